@@ -1,0 +1,4 @@
+pub mod FirstLine
+pub mod LastItems
+pub mod LineByLine
+pub mod Judging

@@ -1,0 +1,50 @@
+-- A text is judged line by line, and the least line that is refused decides.
+use Rattle.std.specs.Prelude.{◌≡◌, ℕ, ◌+◌, List, [], ◌∷◌, ◌++◌, length, Option, Some, None, Result, Ok, Err}
+use Rattle.fab_base.specs.declared.fault.Fault.{Fault}
+use Rattle.fab_base.specs.declared.problem.Problem.{Problem}
+use Rattle.fab_base.specs.Reading.{fault_at}
+
+-- A format judges a line by itself and by the lines before it: `judge before line` is why the line is refused, if it is.
+
+-- no line is refused
+abbrev pub IsFine : {L : Type 0} → (judge : List L → L → Option Problem) → List L → Type 0
+IsFine {L} judge text = (before : List L) (line : L) (after : List L) → text ≡ before ++ line ∷ after → judge before line ≡ None
+
+-- The line of this number, counted from 1, is the first that is refused.
+pub record IsFirstRefusal {L : Type 0} (judge : List L → L → Option Problem) (text : List L) (number : ℕ) (problem : Problem) : Type 0 where
+  pub before : List L
+  pub line : L
+  pub after : List L
+  pub parts : text ≡ before ++ line ∷ after
+  pub counted : number ≡ length before + 1
+  pub fine : IsFine judge before
+  pub refused : judge before line ≡ Some problem
+
+-- the first refusal of a file's text is this fault
+pub record IsFirstFault {L : Type 0} (judge : List L → L → Option Problem) (file : List ℕ) (text : List L) (fault : Fault) : Type 0 where
+  pub number : ℕ
+  pub problem : Problem
+  pub first : IsFirstRefusal judge text number problem
+  pub is : fault ≡ fault_at file number problem
+
+-- ---- The same as a computation, which a reader follows: `after state number line` is the state after a line, or why it
+-- is refused.
+
+-- what a step answers for a line that is judged so, where this is the state after it
+abbrev pub judged : {S : Type 0} → Option Problem → S → Result S Problem
+judged None state = Ok state
+judged (Some problem) state = Err problem
+
+abbrev pub goes_on : {S P : Type 0} → (S → Result S (ℕ × P)) → ℕ → Result S P → Result S (ℕ × P)
+goes_on more number (Ok state) = more state
+goes_on more number (Err problem) = Err (number, problem)
+
+-- the state that lines leave, of which the first has this number, or the least line that is refused
+unfoldable pub read_from : {S P L : Type 0} → (after : S → ℕ → L → Result S P) → S → (number : ℕ) → List L → Result S (ℕ × P)
+read_from after state number [] = Ok state
+read_from after state number (line ∷ rest) = goes_on (λ next. read_from after next (number + 1) rest) number (after state number line)
+
+-- with the file's name
+abbrev pub placed : {S : Type 0} → (file : List ℕ) → Result S (ℕ × Problem) → Result S Fault
+placed file (Ok state) = Ok state
+placed file (Err at) = Err (fault_at file at.0 at.1)

@@ -1,0 +1,13 @@
+//! Texts of lines: how a text is cut into lines and a line into cells, what a name is, and how a reader takes a text line
+//! by line so that its first refusal is that of the least line.
+#![tactic(auto)]
+
+mod cut;
+mod names;
+mod order;
+mod parts;
+
+pub use cut::first_line;
+pub use names::{is_name, is_wire_name};
+pub use order::{LineReader, read_lines};
+pub use parts::{all_cells, uncommented, without_empty};
