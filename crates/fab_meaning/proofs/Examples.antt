@@ -1,11 +1,11 @@
 -- Small expressions and a small text, whose values are known from the standard, computed by the definitions.
 use Rattle.std.proofs.Common.{◌≡◌, ℕ, Bool, true, false, List, [], ◌∷◌, refl, Some, codes, if◌then◌else◌, inr, arith}
 use Rattle.std.specs.Str.{bytes_eq}
-use Rattle.fab_syntax.specs.declared.tree.Op.TheVariants.{And, Xor, Equal, Minus}
+use Rattle.fab_syntax.specs.declared.tree.Op.TheVariants.{Xor, Equal, Minus}
 use Rattle.fab_syntax.specs.declared.tree.Shape.TheVariants.{Scalar, Vector}
 use Rattle.fab_syntax.specs.Plain.{PlainExpr, PlainModule, constant, variable, pick, part, concatenation, complement, operation, conditional, plain_exprs, wire, assign, instance}
 use Rattle.fab_meaning.specs.Value.{value}
-use Rattle.fab_meaning.specs.Points.{Drives, copy, bit_of, point, module_at, width_in, is_input_of}
+use Rattle.fab_meaning.specs.Points.{Drives, copy, bit_of, point, module_at, width_in}
 
 -- `a` is 4'b0011, and every other name is 1'b0
 abbrev names : List ℕ → List Bool
