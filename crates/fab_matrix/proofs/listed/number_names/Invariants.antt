@@ -1,0 +1,10 @@
+use Rattle.std.proofs.Common.{map, take}
+use Rattle.fab_matrix.specs.Numbering.{key_names, IsNumbered}
+use Rattle.fab_matrix.proofs.listed.number_names.Given as goal
+
+-- the pairs so far are numbered
+abbrev pub invariant-loop-pair : goal.invariant-loop-pair
+invariant-loop-pair l = record {
+  outputs : IsNumbered (map (λ pair. pair.0) (take l.pair-index l.pairs)) (key_names l.outputs.keys) (map (λ pair. pair.output) l.numbers.items);
+  inputs : IsNumbered (map (λ pair. pair.1) (take l.pair-index l.pairs)) (key_names l.inputs.keys) (map (λ pair. pair.input) l.numbers.items);
+}

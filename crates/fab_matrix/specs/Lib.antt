@@ -1,0 +1,5 @@
+pub mod Selection
+pub mod Matrix
+pub mod Selects
+pub mod Grouped
+pub mod Numbering

@@ -1,0 +1,15 @@
+//! The switch matrix of a tile, or of a list of pairs, as a Verilog module.
+#![tactic(auto)]
+
+mod expressions;
+mod grouping;
+mod listed;
+mod numbers;
+mod pair;
+
+pub use listed::list_module;
+pub use numbers::matrix_module;
+pub use pair::Pair;
+
+#[cfg(test)]
+mod tests;
