@@ -1,0 +1,263 @@
+//! The command `matrix` from its words to the stored bytes, on a desk and a sink in memory.
+
+use crate::run;
+use fab_base::Status;
+use fab_desk::{MemDesk, MemSink};
+use std::alloc::{AllocError, Global};
+use std::process::Abort;
+use std::test::Fail;
+
+/// Four inputs of one output, by two select bits.
+const DEMO: &str = "\
+module matrix_demo (
+  input A,
+  input B,
+  input C,
+  input D,
+  input [1:0] ConfigBits,
+  output O
+);
+  assign O = (ConfigBits[1:0] == 2'b01) ? B : ((ConfigBits[1:0] == 2'b10) ? C : ((ConfigBits[1:0] == 2'b11) ? D : A));
+endmodule
+";
+
+/// One input and three inputs: the select value 3 gives the first.
+const MIXED: &str = "\
+module matrix_x (
+  input A,
+  input B,
+  input C,
+  input [1:0] ConfigBits,
+  output P,
+  output Q
+);
+  assign P = A;
+  assign Q = (ConfigBits[1:0] == 2'b01) ? B : ((ConfigBits[1:0] == 2'b10) ? C : A);
+endmodule
+";
+
+/// The field of S lies behind that of R, whose first pair comes first; a pair that stands twice counts once.
+const FIELDS: &str = "\
+module matrix_x (
+  input A,
+  input B,
+  input [1:0] ConfigBits,
+  output R,
+  output S
+);
+  assign R = (ConfigBits[0] == 1'b1) ? B : A;
+  assign S = (ConfigBits[1] == 1'b1) ? A : B;
+endmodule
+";
+
+fn words(alloc: Global, line: &str) -> Result<Vec<String>, AllocError> {
+    let mut words = Vec::new(alloc);
+    for word in line.split(' ') {
+        words.push(String::from_str(alloc, word)?)?;
+    }
+    Ok(words)
+}
+
+fn desk_of(alloc: Global, name: &str, list: &[u8], failing: u64) -> Result<MemDesk, Fail> {
+    let mut files = Vec::new(alloc);
+    files.push((
+        String::from_str(alloc, name)?,
+        Vec::from_slice(alloc, list)?,
+    ))?;
+    Ok(MemDesk::new(alloc, files, vec![in alloc; failing]?)?)
+}
+
+#[test]
+fn writes_modules(rt: HostRuntime) -> Result<(), Fail> {
+    let alloc = rt.alloc();
+    let cases = [
+        ("demo.list", "O,A\nO,B\nO,C\nO,D\n", DEMO),
+        ("x.list", "P,A\nQ,A\nQ,B\nQ,C\n", MIXED),
+        (
+            "lists/x.list",
+            "R,A # one\r\n\r\nS , B,,\r\nR,B\r\nS,A\r\nR,A",
+            FIELDS,
+        ),
+        ("Empty.list", "", "module matrix_Empty (\n);\nendmodule\n"),
+        (
+            "Empty.list",
+            "# nothing\n \t\n",
+            "module matrix_Empty (\n);\nendmodule\n",
+        ),
+    ];
+    for (name, list, text) in cases {
+        let mut desk = desk_of(alloc, name, list.as_bytes(), 0)?;
+        let mut out = MemSink::new(alloc, Vec::new(alloc));
+        let mut line = words(alloc, "matrix")?;
+        line.push(String::from_str(alloc, name)?)?;
+        line.push(String::from_str(alloc, "out.v")?)?;
+        assert_eq!(rt; run(alloc, &line, &mut desk, &mut out), Status(0), "{list}");
+        assert_eq!(rt; desk.file("out.v").ok_or("no module")?, text.as_bytes());
+        assert!(rt; out.bytes().is_empty());
+    }
+    Ok(())
+}
+
+/// Runs the command on a list, and checks the status and the report, and that nothing is stored.
+fn refuses(
+    rt: &impl Abort,
+    alloc: Global,
+    list: &[u8],
+    status: u8,
+    report: &str,
+) -> Result<(), Fail> {
+    let mut desk = desk_of(alloc, "x.list", list, 0)?;
+    let mut out = MemSink::new(alloc, Vec::new(alloc));
+    let line = words(alloc, "matrix x.list x.v")?;
+    assert_eq!(rt;
+        run(alloc, &line, &mut desk, &mut out),
+        Status(status),
+        "{report}"
+    );
+    assert_eq!(rt; out.bytes(), report.as_bytes(), "{report}");
+    assert!(rt; desk.file("x.v").is_none());
+    Ok(())
+}
+
+#[test]
+fn refuses_malformed_lines(rt: HostRuntime) -> Result<(), Fail> {
+    let alloc = rt.alloc();
+    let cases: [(&[u8], &str); 16] = [
+        (b"a,b", "malformed x.list:1 name\n"),
+        (b"A", "malformed x.list:1 row\n"),
+        (b"A,B,C\n", "malformed x.list:1 row\n"),
+        (b"a,b,C\n", "malformed x.list:1 row\n"),
+        (b"A,A", "malformed x.list:1 both sides\n"),
+        (b"a,a", "malformed x.list:1 name\n"),
+        (b"A,B\nB,C\n", "malformed x.list:2 both sides\n"),
+        (b"A,B\n\nC,A\n", "malformed x.list:3 both sides\n"),
+        (b"A,B\nC", "malformed x.list:2 row\n"),
+        (b"# a\nA,b # c\nA\n", "malformed x.list:2 name\n"),
+        (b",B\n", "malformed x.list:1 name\n"),
+        (b"1A,B\n", "malformed x.list:1 name\n"),
+        (b"A B,C\n", "malformed x.list:1 name\n"),
+        (b"fab_A,B\n", "malformed x.list:1 name\n"),
+        (b"A,ConfigBits\n", "malformed x.list:1 name\n"),
+        (b"A,B\x00\n", "malformed x.list:1 name\n"),
+    ];
+    for (list, report) in cases {
+        refuses(&rt, alloc, list, 4, report)?;
+    }
+    Ok(())
+}
+
+#[test]
+fn refuses_what_is_not_read_yet(rt: HostRuntime) -> Result<(), Fail> {
+    let alloc = rt.alloc();
+    let mut long = vec![in alloc; b'A'; 65]?;
+    long.extend_from_slice(b",B")?;
+    let cases: [(&[u8], &str); 11] = [
+        (b"\"A\",B\n", "unsupported x.list:1 not yet\n"),
+        (b"[A|B],C\n", "unsupported x.list:1 not yet\n"),
+        (b"A,C]\n", "unsupported x.list:1 not yet\n"),
+        (b"A,B\n{2}A,C\n", "unsupported x.list:2 not yet\n"),
+        (b"A,B}\n", "unsupported x.list:1 not yet\n"),
+        (b"A,B\rC,D\n", "unsupported x.list:1 not yet\n"),
+        (b"A,B\r", "unsupported x.list:1 not yet\n"),
+        (b"A,B\r\r\n", "unsupported x.list:1 not yet\n"),
+        (b"A,\xc3\x84\n", "unsupported x.list:1 not yet\n"),
+        (b" INCLUDE ,a,b,c\n", "unsupported x.list:1 not yet\n"),
+        (long.as_slice(), "unsupported x.list:1 not yet\n"),
+    ];
+    for (list, report) in cases {
+        refuses(&rt, alloc, list, 5, report)?;
+    }
+    let many = vec![in alloc; b'\n'; 257]?;
+    refuses(&rt, alloc, &many, 5, "unsupported x.list:257 not yet\n")
+}
+
+#[test]
+fn reads_up_to_its_bounds(rt: HostRuntime) -> Result<(), Fail> {
+    let alloc = rt.alloc();
+    let mut list = vec![in alloc; b'\n'; 255]?;
+    list.extend_from_slice(&[b'A'; 64])?;
+    list.extend_from_slice(b",B # [\"]{}\xff\r\n")?;
+    let mut desk = desk_of(alloc, "x.list", &list, 0)?;
+    let mut out = MemSink::new(alloc, Vec::new(alloc));
+    let line = words(alloc, "matrix x.list x.v")?;
+    assert_eq!(rt; run(alloc, &line, &mut desk, &mut out), Status(0));
+    assert!(rt; desk.file("x.v").is_some());
+    Ok(())
+}
+
+#[test]
+fn refuses_other_words(rt: HostRuntime) -> Result<(), Fail> {
+    let alloc = rt.alloc();
+    let lines = [
+        "",
+        "matrix",
+        "matrix x.list",
+        "matrix x.list x.v more",
+        "Matrix x.list x.v",
+        "generate x.list x.v",
+        "matrix  x.v",
+        "matrix x.list ",
+        "matrix -x.list x.v",
+        "matrix x.list --",
+        "matrix 1.list x.v",
+        "matrix x.y.list x.v",
+        "matrix lists/ x.v",
+        "matrix .list x.v",
+    ];
+    for line in lines {
+        let mut desk = desk_of(alloc, "x.list", b"", 1)?;
+        let mut out = MemSink::new(alloc, Vec::new(alloc));
+        let line = words(alloc, line)?;
+        assert_eq!(rt; run(alloc, &line, &mut desk, &mut out), Status(1));
+        assert_eq!(rt; out.bytes(), b"usage\n".as_slice());
+        assert_eq!(rt; desk.faults(), (0, 0));
+    }
+    Ok(())
+}
+
+#[test]
+fn passes_the_faults_of_devices_on(rt: HostRuntime) -> Result<(), Fail> {
+    let alloc = rt.alloc();
+    let cases = [
+        ("y.list", 0, 2, "missing x.list\n"),
+        ("x.list", 1, 11, "read fault x.list\n"),
+        ("x.list", 2, 12, "write fault x.v\n"),
+    ];
+    for (name, failing, status, report) in cases {
+        let mut desk = desk_of(alloc, name, b"O,A\n", failing)?;
+        let mut out = MemSink::new(alloc, Vec::new(alloc));
+        let line = words(alloc, "matrix x.list x.v")?;
+        assert_eq!(rt;
+            run(alloc, &line, &mut desk, &mut out),
+            Status(status),
+            "{report}"
+        );
+        assert_eq!(rt; out.bytes(), report.as_bytes());
+        assert!(rt; desk.file("x.v").is_none());
+    }
+    Ok(())
+}
+
+#[test]
+fn keeps_its_status_where_the_report_is_not_taken(rt: HostRuntime) -> Result<(), Fail> {
+    let alloc = rt.alloc();
+    let mut desk = desk_of(alloc, "x.list", b"", 0)?;
+    let mut out = MemSink::new(alloc, vec![in alloc; 1]?);
+    assert_eq!(rt; run(alloc, &[], &mut desk, &mut out), Status(1));
+    assert!(rt; out.bytes().is_empty());
+    Ok(())
+}
+
+#[test]
+fn refuses_a_list_that_is_too_long(rt: HostRuntime) -> Result<(), Fail> {
+    let alloc = rt.alloc();
+    let mut files = Vec::new(alloc);
+    let list = vec![in alloc; b'\n'; 67_108_865]?;
+    files.push((String::from_str(alloc, "x.list")?, list))?;
+    let mut desk = MemDesk::new(alloc, files, Vec::new(alloc))?;
+    let mut out = MemSink::new(alloc, Vec::new(alloc));
+    let line = words(alloc, "matrix x.list x.v")?;
+    assert_eq!(rt; run(alloc, &line, &mut desk, &mut out), Status(3));
+    assert_eq!(rt; out.bytes(), b"too long x.list\n".as_slice());
+    Ok(())
+}
