@@ -5,7 +5,7 @@ use Rattle.std.proofs.lemmas.Bool.{cases_Bool, cases_lt}
 use Rattle.fab_bits.specs.Bits.{number, digits, same_bits}
 use Rattle.fab_bits.proofs.Numbers.{same_bits_digits}
 use Rattle.fab_meaning.specs.Value.{value}
-use Rattle.fab_matrix.specs.Selection.{Name}
+use Rattle.fab_matrix.specs.Names.{Name}
 use Rattle.fab_matrix.specs.Matrix.{field, chain, selection}
 
 -- the input at a select value, counted from i on

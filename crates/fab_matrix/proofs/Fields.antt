@@ -3,8 +3,9 @@ use Rattle.std.proofs.Common.{◌≡◌, ℕ, ◌+◌, ◌<◌, ◌≤◌, Bool,
 use Rattle.std.specs.List.{list_any, take_while}
 use Rattle.std.proofs.lemmas.Bool.{false≢true}
 use Rattle.std.proofs.lemmas.List.Sums.{sum_by-cons, take_while-cons}
-use Rattle.fab_matrix.specs.Selection.{Name, inputs_of, in_order, field_width, field_low, select_bits}
-use Rattle.fab_matrix.proofs.Firsts.{told, any_kept}
+use Rattle.fab_select.specs.Selection.{inputs_of, in_order, field_width, field_low, select_bits}
+use Rattle.fab_matrix.specs.Names.{Name}
+use Rattle.fab_select.proofs.Firsts.{told, any_kept}
 
 module _ {K : Type 0} (same : K → K → Bool) (tells : (a b : K) → Decides (same a b) (a ≡ b)) where
   -- an output with an input is in the order

@@ -8,8 +8,9 @@ use Rattle.std.proofs.lemmas.List.{map-append, map-set, take_more, length-map, g
 use Rattle.std.proofs.lemmas.List.Elements.{filter-append, All-nil, All-cons, All-head, All-tail}
 use Rattle.std.proofs.lemmas.List.Sums.{prefix_len-le-length}
 use Rattle.fab_syntax.specs.Plain.{assign}
-use Rattle.fab_matrix.specs.declared.pair.Pair.{Pair}
-use Rattle.fab_matrix.specs.Selection.{Name, inputs_of, firsts, in_order, field_width, field_low, select_bits}
+use Rattle.fab_select.specs.declared.pair.Pair.{Pair}
+use Rattle.fab_select.specs.Selection.{inputs_of, firsts, in_order, field_width, field_low, select_bits}
+use Rattle.fab_matrix.specs.Names.{Name}
 use Rattle.fab_matrix.specs.Matrix.{selection, output_value, numbered, named}
 use Rattle.fab_matrix.specs.Grouped.{numbers_of, group_at, width_at, low_at, name_at, item_of}
 

@@ -1,4 +1,3 @@
-pub mod Firsts
 pub mod Groups
 pub mod Chains
 pub mod Fields

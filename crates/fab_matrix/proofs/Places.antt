@@ -8,11 +8,11 @@ use Rattle.std.proofs.lemmas.List.Elements.{All-head, All-tail, All-push, All-we
 use Rattle.std.proofs.lemmas.List.Sums.{passes_at_first}
 use Rattle.std.proofs.lemmas.Slice.Eq.{bytes_eq-Decides}
 use Rattle.indexmap.specs.IndexSet.{insert_key}
-use Rattle.fab_matrix.specs.declared.pair.Pair.{Pair}
-use Rattle.fab_matrix.specs.Selection.{Name}
+use Rattle.fab_select.specs.declared.pair.Pair.{Pair}
+use Rattle.fab_matrix.specs.Names.{Name}
 use Rattle.fab_matrix.specs.Grouped.{name_at}
 use Rattle.fab_matrix.specs.Numbering.{key_names, IsNumbered}
-use Rattle.fab_matrix.proofs.Firsts.{firsts_push}
+use Rattle.fab_select.proofs.Firsts.{firsts_push}
 
 -- the names of keys after an insert
 abbrev same_keys : {A : Type 0} → Vec ℕ A → Vec ℕ A → Bool

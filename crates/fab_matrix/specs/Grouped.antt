@@ -2,8 +2,8 @@
 use Rattle.std.specs.Prelude.{ℕ, List, [], Vec, map, filter, length, nat_eq, not, sum_by, take_while, slice_index_or}
 use Rattle.fab_bits.specs.Widths.{select_width}
 use Rattle.fab_syntax.specs.Plain.{PlainItem, assign}
-use Rattle.fab_matrix.specs.declared.pair.Pair.{Pair}
-use Rattle.fab_matrix.specs.Selection.{Name}
+use Rattle.fab_select.specs.declared.pair.Pair.{Pair}
+use Rattle.fab_matrix.specs.Names.{Name}
 use Rattle.fab_matrix.specs.Matrix.{selection}
 
 -- the numbers of the inputs of an output, in the order of its pairs

@@ -1,4 +1,4 @@
-pub mod Selection
+pub mod Names
 pub mod Matrix
 pub mod Selects
 pub mod Grouped

@@ -7,8 +7,9 @@ use Rattle.fab_syntax.specs.declared.tree.Shape.TheVariants.{Scalar, Vector}
 use Rattle.fab_syntax.specs.declared.tree.Op.TheVariants.{Equal}
 use Rattle.fab_syntax.specs.declared.tree.Port.{Port}
 use Rattle.fab_syntax.specs.Plain.{PlainExpr, constant, variable, part, operation, conditional, assign, PlainModule}
-use Rattle.fab_matrix.specs.declared.pair.Pair.{Pair}
-use Rattle.fab_matrix.specs.Selection.{Name, inputs_of, firsts, field_width, field_low, select_bits}
+use Rattle.fab_select.specs.declared.pair.Pair.{Pair}
+use Rattle.fab_select.specs.Selection.{inputs_of, firsts, field_width, field_low, select_bits}
+use Rattle.fab_matrix.specs.Names.{Name}
 
 abbrev pub config_name : Name
 config_name = codes "ConfigBits"

@@ -1,7 +1,8 @@
 -- Names that are numbered in the order in which they first come.
 use Rattle.std.specs.Prelude.{◌≡◌, ◌<◌, ℕ, List, Vec, map, length, All}
 use Rattle.std.specs.Str.{bytes_eq}
-use Rattle.fab_matrix.specs.Selection.{Name, firsts}
+use Rattle.fab_select.specs.Selection.{firsts}
+use Rattle.fab_matrix.specs.Names.{Name}
 use Rattle.fab_matrix.specs.Grouped.{name_at}
 
 -- the keys of a set as names

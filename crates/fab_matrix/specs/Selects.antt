@@ -4,7 +4,8 @@ use Rattle.fab_bits.specs.Bits.{number, first_bits}
 use Rattle.fab_syntax.specs.Plain.{PlainModule}
 use Rattle.fab_meaning.specs.Points.{Path, point, module_at}
 use Rattle.fab_meaning.specs.Settled.{Assignment, IsSettledOn}
-use Rattle.fab_matrix.specs.Selection.{Name, inputs_of, field_width, field_low}
+use Rattle.fab_select.specs.Selection.{inputs_of, field_width, field_low}
+use Rattle.fab_matrix.specs.Names.{Name}
 use Rattle.fab_matrix.specs.Matrix.{config_name}
 
 -- the select value of an output: the number in its field

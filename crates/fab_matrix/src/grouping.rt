@@ -2,12 +2,12 @@
 
 ghost use Rattle.std.specs.Prelude.{◌≡◌, ◌+◌, ◌<◌, ◌≤◌, ◌^◌, ℕ, [], length, map, IfOk, All, sum_by, take, nat_eq, slice_index_or};
 ghost use Rattle.fab_bits.specs.Widths.{select_width};
-ghost use Rattle.fab_matrix.specs.Selection.{firsts};
+ghost use Rattle.fab_select.specs.Selection.{firsts};
 ghost use Rattle.fab_matrix.specs.Grouped.{numbers_of, group_at, width_at, low_at};
 
-use crate::pair::Pair;
 use fab_base::Memory;
 use fab_bits::select_width;
+use fab_select::Pair;
 use indexmap::IndexSet;
 use std::alloc::Global;
 

@@ -5,11 +5,9 @@ mod expressions;
 mod grouping;
 mod listed;
 mod numbers;
-mod pair;
 
 pub use listed::list_module;
 pub use numbers::matrix_module;
-pub use pair::Pair;
 
 #[cfg(test)]
 mod tests;

@@ -10,8 +10,8 @@ ghost use Rattle.fab_matrix.specs.Selects.{Selects};
 ghost use Rattle.fab_matrix.specs.Numbering.{key_names, IsNumbered};
 
 use crate::numbers::matrix_module;
-use crate::pair::Pair;
 use fab_base::{Memory, Name};
+use fab_select::Pair;
 use fab_syntax::Module;
 use indexmap::IndexSet;
 use std::alloc::Global;

@@ -8,8 +8,8 @@ ghost use Rattle.fab_matrix.specs.Grouped.{group_at, width_at, item_of};
 
 use crate::expressions::selection;
 use crate::grouping::{field_of, inputs_by_output, lows_of, order_of};
-use crate::pair::Pair;
 use fab_base::{Memory, Name};
+use fab_select::Pair;
 use fab_syntax::{Item, Module, Port, Shape};
 use indexmap::IndexSet;
 use std::alloc::Global;

@@ -1,7 +1,8 @@
 //! The shape of two small modules, worked out by hand.
 
-use crate::{Pair, list_module, matrix_module};
+use crate::{list_module, matrix_module};
 use fab_base::Name;
+use fab_select::Pair;
 use fab_syntax::{Expr, Item, Module, Shape};
 use std::test::Fail;
 

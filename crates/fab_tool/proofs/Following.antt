@@ -3,7 +3,7 @@ use Rattle.std.proofs.Common.{◌≡◌, ℕ, ◌+◌, List, [], ◌∷◌, ◌+
 use Rattle.fab_lines.specs.Order.{judged}
 use Rattle.fab_lines.specs.Parts.{uncommented, cells}
 use Rattle.fab_lines.proofs.Judging.{Follows}
-use Rattle.fab_matrix.specs.Selection.{firsts}
+use Rattle.fab_select.specs.Selection.{firsts}
 use Rattle.fab_tool.specs.Listing.{Pair, same_pair, is_later, most_lines, not_yet, pairs_in, pairs_on, pairs_of, judge_cells, judge_text, judge}
 use Rattle.fab_tool.specs.Following.{with_pairs, after_line}
 use Rattle.fab_tool.proofs.Pairs.{on_both_sides_firsts, firsts_with_pair}

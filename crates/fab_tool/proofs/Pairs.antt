@@ -3,8 +3,8 @@ use Rattle.std.proofs.Common.{◌≡◌, ℕ, Bool, true, false, ◌&&◌, ◌||
 use Rattle.std.specs.List.{list_any}
 use Rattle.std.specs.Str.{bytes_eq}
 use Rattle.std.proofs.lemmas.Slice.Eq.{bytes_eq-Decides}
-use Rattle.fab_matrix.specs.Selection.{firsts}
-use Rattle.fab_matrix.proofs.Firsts.{told, firsts_push}
+use Rattle.fab_select.specs.Selection.{firsts}
+use Rattle.fab_select.proofs.Firsts.{told, firsts_push}
 use Rattle.fab_tool.specs.Listing.{Pair, same_pair, is_on_both_sides}
 use Rattle.fab_tool.specs.Following.{with_pair}
 

@@ -8,7 +8,7 @@ use Rattle.fab_lines.specs.Order.{IsFine}
 use Rattle.fab_lines.specs.Parts.{uncommented, cells}
 use Rattle.fab_lines.proofs.Judging.{fine_at}
 use Rattle.fab_matrix.specs.Matrix.{config_name, list_matrix, list_outputs}
-use Rattle.fab_matrix.specs.Selection.{firsts}
+use Rattle.fab_select.specs.Selection.{firsts}
 use Rattle.fab_matrix.specs.Selects.{Selects}
 use Rattle.fab_syntax.specs.Plain.{PlainModule}
 use Rattle.fab_syntax.specs.Spelling.{text_bytes}

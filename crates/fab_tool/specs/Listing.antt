@@ -8,7 +8,7 @@ use Rattle.fab_base.specs.declared.problem.Problem.TheVariants as problems
 use Rattle.fab_lines.specs.Names.{is_wire_name}
 use Rattle.fab_lines.specs.Order.{IsFine}
 use Rattle.fab_lines.specs.Parts.{uncommented, cells, all_cells}
-use Rattle.fab_matrix.specs.Selection.{firsts}
+use Rattle.fab_select.specs.Selection.{firsts}
 
 -- an output and an input of a switch matrix, by name
 abbrev pub Pair : Type 0

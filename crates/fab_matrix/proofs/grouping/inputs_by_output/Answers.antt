@@ -1,6 +1,6 @@
 use Rattle.std.proofs.Common.{◌<◌, ◌∙◌, ◌++◌, ◌∷◌, [], ℕ, List, Vec, Global, ap, sym, get_or, length, arith}
 use Rattle.std.proofs.lemmas.List.{length-set, get_or-map}
-use Rattle.fab_matrix.specs.declared.pair.Pair.{Pair}
+use Rattle.fab_select.specs.declared.pair.Pair.{Pair}
 use Rattle.fab_matrix.proofs.Groups.{groups_more}
 use Rattle.fab_matrix.proofs.grouping.inputs_by_output.Goals as goal
 

@@ -2,9 +2,9 @@ use Rattle.std.proofs.Common.{◌∙◌, ap, sym, map, take, nat_eq, get_or}
 use Rattle.std.proofs.lemmas.Bool.Decides.{Decides-eqb}
 use Rattle.std.proofs.lemmas.List.{map_more}
 use Rattle.indexmap.specs.IndexSet.{insert_key}
-use Rattle.fab_matrix.specs.declared.pair.Pair.{Pair}
-use Rattle.fab_matrix.specs.Selection.{firsts}
-use Rattle.fab_matrix.proofs.Firsts.{firsts_push}
+use Rattle.fab_select.specs.declared.pair.Pair.{Pair}
+use Rattle.fab_select.specs.Selection.{firsts}
+use Rattle.fab_select.proofs.Firsts.{firsts_push}
 use Rattle.fab_matrix.proofs.grouping.order_of.Goals as goal
 
 pub loop-pair-preserved : goal.loop-pair-preserved

@@ -1,5 +1,5 @@
 use Rattle.std.proofs.Common.{◌≡◌, map, nat_eq, take}
-use Rattle.fab_matrix.specs.Selection.{firsts}
+use Rattle.fab_select.specs.Selection.{firsts}
 use Rattle.fab_matrix.proofs.grouping.order_of.Given as goal
 
 abbrev pub invariant-loop-pair : goal.invariant-loop-pair

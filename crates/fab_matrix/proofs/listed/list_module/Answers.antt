@@ -1,8 +1,8 @@
 use Rattle.std.proofs.Common.{◌≡◌, ◌<◌, ◌∙◌, length, map, sym, subst}
 use Rattle.std.specs.Str.{bytes_eq}
 use Rattle.fab_syntax.specs.Plain.{PlainModule, plain_module}
-use Rattle.fab_matrix.specs.declared.pair.Pair.{Pair}
-use Rattle.fab_matrix.specs.Selection.{Name}
+use Rattle.fab_select.specs.declared.pair.Pair.{Pair}
+use Rattle.fab_matrix.specs.Names.{Name}
 use Rattle.fab_matrix.specs.Matrix.{list_outputs, list_matrix}
 use Rattle.fab_matrix.specs.Selects.{Selects}
 use Rattle.fab_matrix.proofs.Lists.{All-of_map, numbered_at, list_by_numbers, list_selects}

@@ -1,5 +1,5 @@
-use Rattle.fab_matrix.specs.declared.pair.Pair.{Pair}
-use Rattle.fab_matrix.specs.Selection.{Name}
+use Rattle.fab_select.specs.declared.pair.Pair.{Pair}
+use Rattle.fab_matrix.specs.Names.{Name}
 use Rattle.fab_matrix.specs.Numbering.{key_names}
 use Rattle.fab_matrix.proofs.Places.{pair_numbered}
 use Rattle.fab_matrix.proofs.listed.number_names.Goals as goal

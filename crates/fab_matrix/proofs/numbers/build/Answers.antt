@@ -1,11 +1,12 @@
 use Rattle.std.proofs.Common.{◌≡◌, ◌<◌, ◌≤◌, ◌∙◌, ◌++◌, ℕ, All, ap, sym, subst, map, length, nat_eq, arith, true, false, sum_by}
 use Rattle.std.proofs.lemmas.List.{take_all, get_or_read}
 use Rattle.std.proofs.lemmas.List.Elements.{All-map, All-same}
-use Rattle.fab_matrix.specs.declared.pair.Pair.{Pair}
-use Rattle.fab_matrix.specs.Selection.{firsts, select_bits, Name}
+use Rattle.fab_select.specs.declared.pair.Pair.{Pair}
+use Rattle.fab_select.specs.Selection.{firsts, select_bits}
+use Rattle.fab_matrix.specs.Names.{Name}
 use Rattle.fab_matrix.specs.Matrix.{scalar, config_port, named, numbered}
 use Rattle.fab_matrix.specs.Grouped.{group_at, numbers_of, width_at, item_of}
-use Rattle.fab_matrix.proofs.Firsts.{firsts_all}
+use Rattle.fab_select.proofs.Firsts.{firsts_all}
 use Rattle.fab_matrix.proofs.Groups.{groups_within, names_of_numbered, bits_named, items_named}
 use Rattle.fab_matrix.proofs.numbers.build.Goals as goal
 

@@ -2,8 +2,8 @@ use Rattle.std.proofs.Common.{ℕ, [], All, Contains, sym, subst, get_or, nat_eq
 use Rattle.std.proofs.lemmas.Bool.Decides.{Decides-eqb}
 use Rattle.std.proofs.lemmas.List.Elements.{All-map, Contains-get_or}
 use Rattle.fab_syntax.specs.Plain.{PlainModule}
-use Rattle.fab_matrix.specs.declared.pair.Pair.{Pair}
-use Rattle.fab_matrix.specs.Selection.{Name}
+use Rattle.fab_select.specs.declared.pair.Pair.{Pair}
+use Rattle.fab_matrix.specs.Names.{Name}
 use Rattle.fab_matrix.specs.Matrix.{numbered, named}
 use Rattle.fab_matrix.specs.Selects.{Selects}
 use Rattle.fab_matrix.specs.Grouped.{name_at}

@@ -6,7 +6,7 @@ use Rattle.std.proofs.lemmas.Bool.Decides.{not_from_Decides}
 use Rattle.std.proofs.lemmas.List.Elements.{filter-append, filter_passes, All-nil, All-cons, All-head, All-tail, All-weaker, All-filter, All-from_recursion, recursion_from_All}
 use Rattle.std.proofs.lemmas.Map.Keys.{IsDistinct-head, IsDistinct-tail, IsDistinct-cons, IsDistinct-from_apart}
 use Rattle.indexmap.specs.IndexSet.{insert_key}
-use Rattle.fab_matrix.specs.Selection.{firsts}
+use Rattle.fab_select.specs.Selection.{firsts}
 
 -- what holds of all items holds of those at their first places
 pub firsts_all : {K : Type 0} (P : K → Type 0) (same : K → K → Bool) (xs : List K) → All P xs → All P (firsts same xs)
