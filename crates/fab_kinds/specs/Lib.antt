@@ -1,0 +1,5 @@
+pub mod Pins
+pub mod Lut
+pub mod Pad
+pub mod Mux
+pub mod Kinds
