@@ -1,0 +1,14 @@
+pub mod Members
+pub mod Counts
+pub mod Ranks
+pub mod Settling
+pub mod Levels
+pub mod Meaning
+pub mod Turns
+pub mod Stepping
+pub mod Marks
+pub mod Follows
+pub mod Finds
+pub mod Rounds
+pub mod Examples
+pub mod RunLaw

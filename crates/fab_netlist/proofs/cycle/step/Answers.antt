@@ -1,0 +1,31 @@
+use Rattle.std.proofs.Common.{rules, ◌≡◌, Bool, false, List, sym, subst, ◌∙◌, length, replicate}
+use Rattle.fab_netlist.specs.Plain.{bit_at}
+use Rattle.fab_netlist.specs.Meaning.{Meets}
+use Rattle.fab_netlist.specs.Passes.{placed, start, settled}
+use Rattle.fab_netlist.proofs.Meaning.{settled_meets}
+use Rattle.fab_netlist.proofs.Stepping.{inputs_below, latch_outputs_below, covers_within, latch_inputs_below}
+use Rattle.fab_netlist.proofs.cycle.step.Goals as goal
+
+pub place-requires-clause-below : goal.place-requires-clause-below
+place-requires-clause-below c = inputs_below c.args.netlist.now c.requires.made c.deref.result.now (length c.fill.new.self) (search rules) (search rules)
+
+pub place_held-requires-clause-below : goal.place_held-requires-clause-below
+place_held-requires-clause-below c = latch_outputs_below c.args.netlist.now c.requires.made c.deref-2.result.now (length c.place.new.values) (search rules) (search rules)
+
+pub settle-requires : goal.settle-requires
+settle-requires c = covers_within c.args.netlist.now c.requires.made c.deref-3.result.now (length c.place_held.new.values) (search rules) (search rules)
+
+pub hold-requires-clause-inputs : goal.hold-requires-clause-inputs
+hold-requires-clause-inputs c = latch_inputs_below c.args.netlist.now c.requires.made c.deref-4.result.now (length c.settle.new.values) (search rules) (search rules)
+
+pub returns-clause-meets : goal.returns-clause-meets
+returns-clause-meets c =
+    let filled : c.fill.new.self ≡ replicate (length c.args.netlist.now.nets) false = search rules in
+    let inputs : c.deref.result.now ≡ c.args.netlist.now.inputs = search rules in
+    let latches : c.deref-2.result.now ≡ c.args.netlist.now.latches = search rules in
+    let covers : c.deref-3.result.now ≡ c.args.netlist.now.covers = search rules in
+    let given : c.place.new.values ≡ placed c.args.netlist.now.inputs c.args.inputs.now (replicate (length c.args.netlist.now.nets) false) = c.place.ensures ∙ cc in
+    let begun : c.place_held.new.values ≡ start c.args.netlist.now c.args.inputs.now c.args.held.now = c.place_held.ensures ∙ cc in
+    let done : c.settle.new.values ≡ settled c.args.netlist.now c.args.inputs.now c.args.held.now = c.settle.ensures ∙ cc in
+    subst (λ (values : List Bool). Meets c.args.netlist.now (bit_at c.args.inputs.now) (bit_at c.args.held.now) (bit_at values)) (sym done)
+    (settled_meets c.args.netlist.now c.requires.made c.requires.acyclic c.args.inputs.now c.args.held.now c.requires.inputs c.requires.held)

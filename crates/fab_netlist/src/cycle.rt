@@ -1,0 +1,112 @@
+//! One cycle of a netlist.
+
+ghost use Rattle.std.specs.Prelude.{◌≡◌, ◌<◌, ◌≤◌, ◌^◌, Bool, length, map};
+ghost use Rattle.std.specs.List.{All};
+ghost use Rattle.fab_bits.specs.Bits.{number};
+ghost use Rattle.fab_netlist.specs.Cycles.{HasNoCycle};
+ghost use Rattle.fab_netlist.specs.Meaning.{Meets, cover_value, next_held};
+ghost use Rattle.fab_netlist.specs.Passes.{IsWithin, changes, pass, passes, placed};
+ghost use Rattle.fab_netlist.specs.Plain.{bit_at};
+ghost use Rattle.fab_netlist.specs.WellMade.{IsWellMade};
+
+use crate::netlist::{Cover, Latch, Netlist};
+
+/// The number that the values of nets spell, the first as least significant.
+fn spelled(nets: &[u32], values: &[bool]) -> u32
+    requires four { length nets.now ≤ 4 }
+    requires below { All (λ net. net < length values.now) nets.now }
+    ensures value { result ≡ number (map (bit_at values.now) nets.now) }
+    ensures small { result < 2 ^ length nets.now }
+{
+    match nets.split_first() {
+        None => 0,
+        Some((first, rest)) => u32::from(values[*first as usize]) + 2 * spelled(rest, values),
+    }
+}
+
+fn cover_value(cover: &Cover, values: &[bool]) -> bool
+    requires { IsWithin (length values.now) cover.now }
+    ensures { result ≡ cover_value cover.now (bit_at values.now) }
+{
+    let place = spelled(&cover.inputs, values);
+    (cover.table >> place) % 2 == 1
+}
+
+fn place(nets: &[u32], bits: &[bool], values: &mut [bool])
+    requires fits { length bits.now ≡ length nets.now }
+    requires below { All (λ net. net < length values.old) nets.now }
+    ensures { values.new ≡ placed nets.now bits.now values.old }
+{
+    for (place, net) in nets.iter().enumerate() {
+        values[*net as usize] = bits[place];
+    }
+}
+
+fn place_held(latches: &[Latch], held: &[bool], values: &mut [bool])
+    requires fits { length held.now ≡ length latches.now }
+    requires below { All (λ latch. latch.output < length values.old) latches.now }
+    ensures { values.new ≡ placed (map (λ latch. latch.output) latches.now) held.now values.old }
+{
+    for (place, latch) in latches.iter().enumerate() {
+        values[latch.output as usize] = held[place];
+    }
+}
+
+/// Asks each cover in turn, and tells whether a value changed on the way.
+fn pass(covers: &[Cover], values: &mut [bool]) -> bool
+    requires { All (IsWithin (length values.old)) covers.now }
+    ensures values { values.new ≡ pass covers.now values.old }
+    ensures changed { result ≡ changes covers.now values.old }
+{
+    let mut changed = false;
+    for cover in covers {
+        let value = cover_value(cover, values);
+        let output = cover.output as usize;
+        changed |= values[output] != value;
+        values[output] = value;
+    }
+    changed
+}
+
+/// Passes over the covers until one changes nothing. As many passes as there are covers are enough where no covers form
+/// a cycle, and two where each cover stands behind those that it reads.
+fn settle(covers: &[Cover], values: &mut [bool])
+    requires { All (IsWithin (length values.old)) covers.now }
+    ensures { values.new ≡ passes (length covers.now) covers.now values.old }
+{
+    for _turn in 0..covers.len() {
+        if !pass(covers, values) {
+            return;
+        }
+    }
+}
+
+fn hold(latches: &[Latch], values: &[bool], held: &mut [bool])
+    requires inputs { All (λ latch. latch.input < length values.now) latches.now }
+    requires fits { length held.old ≡ length latches.now }
+    ensures { held.new ≡ map (λ latch. bit_at values.now latch.input) latches.now }
+{
+    for (place, latch) in latches.iter().enumerate() {
+        held[place] = values[latch.input as usize];
+    }
+}
+
+/// One cycle: `values` becomes the assignment of all nets under the values of the inputs and the held values of the
+/// latches, both in their order, and `held` becomes what the latches hold next. It takes no memory. The time is that of one
+/// look at each cover, times the number of passes: two where each cover stands behind those that it reads, and at most as
+/// many as there are covers where they stand the other way round.
+pub fn step(netlist: &Netlist, inputs: &[bool], held: &mut [bool], values: &mut [bool])
+    requires made { IsWellMade netlist.now }
+    requires acyclic { HasNoCycle netlist.now }
+    requires inputs { length inputs.now ≡ length netlist.now.inputs }
+    requires held { length held.old ≡ length netlist.now.latches }
+    requires values { length values.old ≡ length netlist.now.nets }
+    ensures meets { Meets netlist.now (bit_at inputs.now) (bit_at held.old) (bit_at values.new) }
+    ensures next { held.new ≡ next_held netlist.now (bit_at values.new) }
+{
+    values.fill(false);
+    place(&netlist.inputs, inputs, values);
+    place_held(&netlist.latches, held, values);
+    settle(&netlist.covers, values);
+    hold(&netlist.latches, values, held);
+}
