@@ -1,2 +1,13 @@
 pub mod Declared
+pub mod Dependence
+pub mod Loaded
+pub mod Modules
+pub mod Counted
+pub mod SingleDrivers
+pub mod Settling
+pub mod UserSteps
 pub mod Examples
+pub mod RankedExample
+pub mod Words
+pub mod RunExample
+pub mod Clocks

@@ -1,3 +1,10 @@
 pub mod Value
 pub mod Points
 pub mod Settled
+pub mod Runs
+pub mod Reads
+pub mod Activation
+pub mod Loading
+pub mod Sound
+pub mod Ranked
+pub mod Loaded

@@ -1,0 +1,5 @@
+use Rattle.fab_meaning.proofs.Loaded.{loading_stays}
+use Rattle.fab_meaning.proofs.laws.loading_points_stay.Goals as goal
+
+pub returns : goal.returns
+returns c text moments inputs later held after now last idle run s t stream p l = loading_stays text moments inputs later held after now last idle run s t stream p l

@@ -1,0 +1,126 @@
+-- The points that loading sets, and what loading is.
+use Rattle.std.specs.Prelude.{◌≡◌, ◌≢◌, ◌⊎◌, ℕ, Bool, true, ◌||◌, List, [], ◌∷◌, Some, codes}
+use Rattle.std.specs.List.{All}
+use Rattle.fab_syntax.specs.Plain.{PlainExpr, PlainModule}
+use Rattle.fab_meaning.specs.Value.{bit_at}
+use Rattle.fab_meaning.specs.Points.{Path, Point, point, Driver, outside, copy, bit_of, flop, hold, Drives, IsDrivenOutside, module_at, width_in}
+use Rattle.fab_meaning.specs.Settled.{Assignment, IsSettledOn}
+use Rattle.fab_meaning.specs.Reads.{is_declared, reads, next_reads}
+use Rattle.fab_meaning.specs.Runs.{clock_of, clock_name, Moment, IsRunOn}
+
+abbrev pub strobe_name : List ℕ
+strobe_name = codes "WriteStrobe"
+
+abbrev pub data_name : List ℕ
+data_name = codes "WriteData"
+
+-- the inputs of the top that carry words
+pub record IsStream (text : List PlainModule) (p : Point) : Type 0 where
+  pub input : IsDrivenOutside text p outside
+  pub declared : is_declared text p ≡ true
+  pub named : (p.name ≡ clock_name) ⊎ ((p.name ≡ strobe_name) ⊎ (p.name ≡ data_name))
+
+-- a driver whose value other points decide, and what a latch holds
+abbrev pub IsDerived : Driver → Type 0
+IsDerived outside = ⊥
+IsDerived (copy other) = Unit {0}
+IsDerived (bit_of path e bit) = Unit {0}
+IsDerived (flop path clock next bit) = ⊥
+IsDerived (hold path gate e bit) = Unit {0}
+
+-- The least set of declared points that holds these flip-flops, the stream, and each derived point all of whose reads it holds.
+pub data Within (text : List PlainModule) (flops : Point → Bool) : Point → Type 0 where
+  by_flop : {p : Point} → is_declared text p ≡ true → flops p ≡ true → Within text flops p
+  by_stream : {p : Point} → IsStream text p → Within text flops p
+  by_reads : {p : Point} (d : Driver) → is_declared text p ≡ true → Drives text p d → IsDerived d →
+      ((q : Point) → reads text d q ≡ true → Within text flops q) → Within text flops p
+
+-- a flip-flop of the clock CLK whose next value reads points of a set alone
+pub record IsClosedAt (text : List PlainModule) (Has : Point → Type 0) (p : Point) : Type 0 where
+  pub path : Path
+  pub clock : List ℕ
+  pub next : PlainExpr
+  pub bit : ℕ
+  pub drives : Drives text p (flop path clock next bit)
+  pub clocked : clock_of text path clock ≡ Some clock_name
+  pub inside : (q : Point) → next_reads text (flop path clock next bit) q ≡ true → Has q
+
+-- flip-flops of CLK that read, for what they take, the set that they make alone
+abbrev pub IsClosed : List PlainModule → (flops : Point → Bool) → Type 0
+IsClosed text flops = (p : Point) → flops p ≡ true → IsClosedAt text (Within text flops) p
+
+-- Some closed flip-flops lead to the point. The union of closed sets is closed, so these are the points of the greatest.
+abbrev pub IsLoading : List PlainModule → Point → Type 0
+IsLoading text p = (flops : Point → Bool) × IsClosed text flops × Within text flops p
+
+-- ---- loading
+
+-- inputs that offer a word, with bit 0 the least significant
+pub record OffersWord (word : List Bool) (inputs : Assignment) : Type 0 where
+  pub strobe : inputs (point [] strobe_name 0) ≡ true
+  pub bits : (bit : ℕ) → inputs (point [] data_name bit) ≡ bit_at word bit
+
+-- one tick of CLK for each word, while the inputs offer it
+abbrev pub OfferWords : List (List Bool) → List Moment → Type 0
+OfferWords [] [] = Unit {0}
+OfferWords [] (moment ∷ moments) = ⊥
+OfferWords (word ∷ words) [] = ⊥
+OfferWords (word ∷ words) (moment ∷ moments) = OffersWord word moment.inputs × (moment.clock ≡ clock_name) × OfferWords words moments
+
+-- loading words, from what flip-flops and latches of the loading points hold at first to what they hold at last
+pub record Loads (text : List PlainModule) (words : List (List Bool)) (held after : Assignment) : Type 0 where
+  pub moments : List Moment
+  pub offers : OfferWords words moments
+  pub run : IsRunOn (IsLoading text) text moments held after
+
+-- ---- laws
+
+-- Two closed sets of flip-flops are one closed set together.
+abbrev pub UnionIsClosed : Type 0
+UnionIsClosed =
+    (text : List PlainModule) (some others : Point → Bool) → IsClosed text some → IsClosed text others → IsClosed text (λ p. some p || others p)
+
+-- What flip-flops lead to, more of them lead to.
+abbrev pub WithinGrows : Type 0
+WithinGrows =
+    (text : List PlainModule) (some all : Point → Bool) → ((p : Point) → some p ≡ true → all p ≡ true) → (p : Point) → Within text some p → Within text all p
+
+abbrev pub IsSameStream : List PlainModule → (inputs later : Assignment) → Type 0
+IsSameStream text inputs later = (p : Point) → IsStream text p → inputs p ≡ later p
+
+-- a moment with a stream at whose end another clock than CLK ticks
+pub record IsIdle (text : List PlainModule) (inputs : Assignment) (moment : Moment) : Type 0 where
+  pub stream : IsSameStream text inputs moment.inputs
+  pub other : moment.clock ≢ clock_name
+
+-- Ticks of other clocks than CLK change no loading point, while the stream stays.
+abbrev pub LoadingPointsStay : Type 0
+LoadingPointsStay =
+    (text : List PlainModule) (moments : List Moment) (inputs later held after now last : Assignment) →
+    All (IsIdle text inputs) moments → IsRunOn (IsLoading text) text moments held after →
+    IsSettledOn (IsLoading text) text inputs held now → IsSettledOn (IsLoading text) text later after last → IsSameStream text inputs later →
+    (p : Point) → IsLoading text p → now p ≡ last p
+
+-- moment by moment the same clock ticks, and the stream is the same
+abbrev pub AreAlike : List PlainModule → (moments others : List Moment) → Type 0
+AreAlike text [] [] = Unit {0}
+AreAlike text [] (other ∷ others) = ⊥
+AreAlike text (moment ∷ moments) [] = ⊥
+AreAlike text (moment ∷ moments) (other ∷ others) =
+    (moment.clock ≡ other.clock) × IsSameStream text moment.inputs other.inputs × AreAlike text moments others
+
+-- What the loading points hold at first and the stream decide what they hold at last; nothing else of the text matters.
+abbrev pub LoadingRunsAgree : Type 0
+LoadingRunsAgree =
+    (text : List PlainModule) (moments others : List Moment) (held other_held after other_after : Assignment) → AreAlike text moments others →
+    ((p : Point) → IsLoading text p → held p ≡ other_held p) →
+    IsRunOn (IsLoading text) text moments held after → IsRunOn (IsLoading text) text others other_held other_after →
+    (p : Point) → IsLoading text p → after p ≡ other_after p
+
+-- So what the words loaded are, and what the loading points hold at first, decide what they hold at last.
+abbrev pub LoadsAgree : Type 0
+LoadsAgree =
+    (text : List PlainModule) → width_in (module_at text []) clock_name ≡ 1 → width_in (module_at text []) strobe_name ≡ 1 →
+    (words : List (List Bool)) (held other_held after other_after : Assignment) →
+    ((p : Point) → IsLoading text p → held p ≡ other_held p) → Loads text words held after → Loads text words other_held other_after →
+    (p : Point) → IsLoading text p → after p ≡ other_after p
