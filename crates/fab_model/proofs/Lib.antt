@@ -1,0 +1,11 @@
+pub mod Inserts
+pub mod LaidOut
+pub mod Samples
+pub mod Steps
+pub mod Crossings
+pub mod Walks
+pub mod Found
+pub mod Wires
+pub mod Drives
+pub mod Selects
+pub mod Examples

@@ -1,0 +1,9 @@
+pub mod Rows
+pub mod Tiles
+pub mod Numbering
+pub mod Grid
+pub mod Joins
+pub mod Cascade
+pub mod Wires
+pub mod Drive
+pub mod Examples
