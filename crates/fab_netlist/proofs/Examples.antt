@@ -7,7 +7,7 @@ use Rattle.fab_netlist.specs.declared.netlist.Latch.{Latch}
 use Rattle.fab_netlist.specs.Plain.{PlainCover, PlainNetlist, IsAt, cover_at, name_of}
 use Rattle.fab_netlist.specs.WellMade.{IsWellMade, times, driven, read, ports, table_bit}
 use Rattle.fab_netlist.specs.Cycles.{HasNoCycle}
-use Rattle.fab_netlist.specs.Examples.{toggle, round}
+use Rattle.fab_netlist.specs.Examples.{toggle, round, watched}
 use Rattle.fab_netlist.proofs.Members.{in_none, first_or_later, parts_true, any_number, number_any}
 use Rattle.fab_netlist.proofs.Counts.{nowhere_or_at}
 use Rattle.fab_netlist.proofs.Ranks.{rank_no_cycle, places_below, below_in}
@@ -92,6 +92,10 @@ toggle_ports (suc (suc j)) k first second at_j at_k same = absurd (omega (arith,
 -- the toggle is well made
 pub toggle_made : IsWellMade toggle
 toggle_made = made_by_tests toggle (omega arith) refl refl refl refl refl refl refl toggle_ports
+
+-- so is the toggle that is watched
+pub watched_made : IsWellMade watched
+watched_made = made_by_tests watched (omega arith) refl refl refl refl refl refl refl toggle_ports
 
 -- so are the two covers that read each other
 pub round_made : IsWellMade round

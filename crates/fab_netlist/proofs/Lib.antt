@@ -10,5 +10,11 @@ pub mod Marks
 pub mod Follows
 pub mod Finds
 pub mod Rounds
+pub mod Noting
+pub mod Surveying
+pub mod Packs
+pub mod Works
+pub mod Rooms
+pub mod Carried
 pub mod Examples
 pub mod RunLaw

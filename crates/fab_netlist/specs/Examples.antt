@@ -21,3 +21,13 @@ round = record {
   covers = (record { line = 3; inputs = 1 ∷ []; output = 0; table = 43690 }) ∷ (record { line = 5; inputs = 0 ∷ []; output = 1; table = 43690 }) ∷ [];
   latches = [];
 }
+
+-- the toggle, where the cover whose output nothing reads reads what the latch takes
+abbrev pub watched : PlainNetlist
+watched = record {
+  nets = codes "e" ∷ codes "q" ∷ codes "d" ∷ codes "x" ∷ [];
+  inputs = 0 ∷ [];
+  outputs = 1 ∷ [];
+  covers = (record { line = 5; inputs = 0 ∷ 1 ∷ []; output = 2; table = 8738 }) ∷ (record { line = 7; inputs = 2 ∷ []; output = 3; table = 21845 }) ∷ [];
+  latches = (record { input = 2; output = 1; init = 3 }) ∷ [];
+}

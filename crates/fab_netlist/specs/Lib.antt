@@ -5,4 +5,8 @@ pub mod Meaning
 pub mod Passes
 pub mod Kept
 pub mod Search
+pub mod Packed
+pub mod Packing
+pub mod Survey
+pub mod Places
 pub mod Examples

@@ -1,18 +1,24 @@
-//! The netlist of a design after reading and flattening: what it means, one cycle of it, and cycles of covers.
+//! The netlist of a design after reading and flattening: what it means, one cycle of it, cycles of covers, and packing.
 #![tactic(auto)]
 
 ghost use Rattle.fab_netlist.specs.Cycles.{RankMeansNoCycle};
 ghost use Rattle.fab_netlist.specs.Meaning.{AcyclicMeansOne, AcyclicMeansOneRun};
+ghost use Rattle.fab_netlist.specs.Packing.{PackingKeepsMeaning};
 
 mod cycle;
 mod keeping;
+mod net_id;
 mod netlist;
+mod packing;
 mod refusal;
+mod survey;
 mod walk;
 
 pub use cycle::step;
 pub use keeping::kept;
+pub use net_id::NetId;
 pub use netlist::{Cover, Latch, MAX_NETS, Netlist};
+pub use packing::{Cell, Packed, pack};
 pub use refusal::check_acyclic;
 
 /// Covers have a rank exactly where no list of them is a cycle.
@@ -28,6 +34,12 @@ pub fn one_meaning()
 /// Without a cycle of covers, held values and a list of input vectors have exactly one run.
 pub fn one_run()
     ensures { AcyclicMeansOneRun }
+{}
+
+/// The packed netlist of a netlist without a cycle of covers carries values of its own, and no others, and by them it shows
+/// at each output, and in what each latch takes next, what the netlist does.
+pub fn packing_keeps_meaning()
+    ensures { PackingKeepsMeaning }
 {}
 
 #[cfg(test)]

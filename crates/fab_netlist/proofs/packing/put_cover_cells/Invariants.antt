@@ -1,0 +1,8 @@
+use Rattle.std.proofs.Common.{◌≡◌, ◌++◌, drop, map}
+use Rattle.std.specs.List.{filter}
+use Rattle.fab_netlist.specs.Survey.{kept_by}
+use Rattle.fab_netlist.specs.Places.{cell_by}
+use Rattle.fab_netlist.proofs.packing.put_cover_cells.Given as goal
+
+abbrev pub invariant-loop-cover : goal.invariant-loop-cover
+invariant-loop-cover l = l.out.items ++ map (cell_by l.netlist l.survey l.table) (filter (kept_by l.survey) (drop l.cover-index l.netlist.covers)) ≡ l.fn.out.items ++ map (cell_by l.netlist l.survey l.table) (filter (kept_by l.survey) l.netlist.covers)
