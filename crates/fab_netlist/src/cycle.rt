@@ -96,7 +96,6 @@ fn hold(latches: &[Latch], values: &[bool], held: &mut [bool])
 /// look at each cover, times the number of passes: two where each cover stands behind those that it reads, and at most as
 /// many as there are covers where they stand the other way round.
 pub fn step(netlist: &Netlist, inputs: &[bool], held: &mut [bool], values: &mut [bool])
-    requires made { IsWellMade netlist.now }
     requires acyclic { HasNoCycle netlist.now }
     requires inputs { length inputs.now ≡ length netlist.now.inputs }
     requires held { length held.old ≡ length netlist.now.latches }
@@ -104,6 +103,7 @@ pub fn step(netlist: &Netlist, inputs: &[bool], held: &mut [bool], values: &mut 
     ensures meets { Meets netlist.now (bit_at inputs.now) (bit_at held.old) (bit_at values.new) }
     ensures next { held.new ≡ next_held netlist.now (bit_at values.new) }
 {
+    netlist.is_well_made();
     values.fill(false);
     place(&netlist.inputs, inputs, values);
     place_held(&netlist.latches, held, values);

@@ -48,9 +48,9 @@ fn count_marked(covers: &[Cover], marks: &[bool]) -> usize
 /// How many covers are kept where a netlist is packed. A cover is dropped where its output has no reader and is no output
 /// of the netlist; readers are all covers, also dropped ones, and all latches. It takes no memory.
 pub fn kept(netlist: &Netlist) -> u32
-    requires { IsWellMade netlist.now }
     ensures { result ≡ kept netlist.now }
 {
+    netlist.is_well_made();
     let mut read = [false; MAX_NETS];
     mark_cover_inputs(&netlist.covers, &mut read);
     mark_latch_inputs(&netlist.latches, &mut read);

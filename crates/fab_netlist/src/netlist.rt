@@ -1,5 +1,7 @@
 //! Netlists after reading and flattening.
 
+ghost use Rattle.fab_netlist.specs.WellMade.{IsWellMade};
+
 use fab_base::Name;
 use std::marker::Model;
 
@@ -39,7 +41,8 @@ pub struct Latch {
     pub init: u8,
 }
 
-/// A netlist. Contracts see it as a record of lists.
+/// A netlist. Contracts see it as a record of lists. It is well made: each net that something reads is driven, and none is
+/// driven twice.
 #[derive(Debug, Drop)]
 pub struct Netlist {
     /// The names of the nets.
@@ -56,8 +59,20 @@ pub struct Netlist {
 
 impl Model for Netlist {
     ghost use Rattle.fab_netlist.specs.Plain.{PlainNetlist};
+    ghost use Rattle.fab_netlist.specs.WellMade.{IsWellMade};
 
     ghost Value = { PlainNetlist };
 
     ghost view = { λ netlist. record { nets = netlist.nets.items; inputs = netlist.inputs.items; outputs = netlist.outputs.items; covers = netlist.covers.items; latches = netlist.latches.items } };
+
+    ghost invariant = { λ netlist. IsWellMade (record { nets = netlist.nets.items; inputs = netlist.inputs.items; outputs = netlist.outputs.items; covers = netlist.covers.items; latches = netlist.latches.items }) };
+}
+
+impl Netlist {
+    /// States what holds of every netlist, for the calls that rest on it. It does nothing.
+    pub fn is_well_made(&self)
+        ensures { IsWellMade self.now }
+    {
+        let _ = &self.nets;
+    }
 }

@@ -333,9 +333,9 @@ fn check_sites(cells: u32, ports: u32, luts: u32, pads: u32) -> Result<(), Fault
 /// LUT4c where there are more cells than LUT4c, else `Short` of IO where there are more data ports than IO sites. It is
 /// `Memory` where memory was refused. The time is linear in the nets, covers and latches.
 pub fn pack(alloc: Global, netlist: &Netlist, luts: u32, pads: u32) -> Result<Packed, Fault>
-    requires { IsWellMade netlist.now }
     ensures { Gives (λ packed. packed) result (packing netlist.now luts pads) }
 {
+    netlist.is_well_made();
     let survey = Survey::of(alloc, netlist)?;
     let nets = cell_nets(alloc, netlist, &survey)?;
     let ports = netlist.inputs.len() + netlist.outputs.len();

@@ -108,10 +108,10 @@ fn fault_of(alloc: Global, file: &Name, netlist: &Netlist, round: &[u32]) -> Res
 /// The fault is `Unsupported` and names the nets that the covers of a cycle drive, from the cover of the least line on; where
 /// there are several cycles, it may be any of them. It is `Memory` where memory was refused.
 pub fn check_acyclic(alloc: Global, file: &Name, netlist: &Netlist) -> Result<(), Fault>
-    requires { IsWellMade netlist.now }
     ensures acyclic { OnOk result (HasNoCycle netlist.now) }
     ensures refused { IfErr result (λ fault. (fault ≡ faults.Memory) ⊎ NamesCycle file.now netlist.now fault) }
 {
+    netlist.is_well_made();
     match find_cycle(alloc, netlist)? {
         None => Ok(()),
         Some(round) => Err(fault_of(alloc, file, netlist, &round)?),

@@ -7,16 +7,16 @@ use Rattle.fab_netlist.proofs.Stepping.{inputs_below, latch_outputs_below, cover
 use Rattle.fab_netlist.proofs.cycle.step.Goals as goal
 
 pub place-requires-clause-below : goal.place-requires-clause-below
-place-requires-clause-below c = inputs_below c.args.netlist.now c.requires.made c.deref.result.now (length c.fill.new.self) (search rules) (search rules)
+place-requires-clause-below c = inputs_below c.args.netlist.now c.is_well_made.ensures c.deref.result.now (length c.fill.new.self) (search rules) (search rules)
 
 pub place_held-requires-clause-below : goal.place_held-requires-clause-below
-place_held-requires-clause-below c = latch_outputs_below c.args.netlist.now c.requires.made c.deref-2.result.now (length c.place.new.values) (search rules) (search rules)
+place_held-requires-clause-below c = latch_outputs_below c.args.netlist.now c.is_well_made.ensures c.deref-2.result.now (length c.place.new.values) (search rules) (search rules)
 
 pub settle-requires : goal.settle-requires
-settle-requires c = covers_within c.args.netlist.now c.requires.made c.deref-3.result.now (length c.place_held.new.values) (search rules) (search rules)
+settle-requires c = covers_within c.args.netlist.now c.is_well_made.ensures c.deref-3.result.now (length c.place_held.new.values) (search rules) (search rules)
 
 pub hold-requires-clause-inputs : goal.hold-requires-clause-inputs
-hold-requires-clause-inputs c = latch_inputs_below c.args.netlist.now c.requires.made c.deref-4.result.now (length c.settle.new.values) (search rules) (search rules)
+hold-requires-clause-inputs c = latch_inputs_below c.args.netlist.now c.is_well_made.ensures c.deref-4.result.now (length c.settle.new.values) (search rules) (search rules)
 
 pub returns-clause-meets : goal.returns-clause-meets
 returns-clause-meets c =
@@ -28,4 +28,4 @@ returns-clause-meets c =
     let begun : c.place_held.new.values ≡ start c.args.netlist.now c.args.inputs.now c.args.held.now = c.place_held.ensures ∙ cc in
     let done : c.settle.new.values ≡ settled c.args.netlist.now c.args.inputs.now c.args.held.now = c.settle.ensures ∙ cc in
     subst (λ (values : List Bool). Meets c.args.netlist.now (bit_at c.args.inputs.now) (bit_at c.args.held.now) (bit_at values)) (sym done)
-    (settled_meets c.args.netlist.now c.requires.made c.requires.acyclic c.args.inputs.now c.args.held.now c.requires.inputs c.requires.held)
+    (settled_meets c.args.netlist.now c.is_well_made.ensures c.requires.acyclic c.args.inputs.now c.args.held.now c.requires.inputs c.requires.held)

@@ -4,8 +4,5 @@ use Rattle.fab_netlist.specs.Cycles.{HasNoCycle}
 use Rattle.fab_netlist.proofs.Examples.{toggle_made, toggle_no_cycle}
 use Rattle.fab_netlist.proofs.tests.toggles_in_four_cycles.Goals as goal
 
-pub step-requires-clause-made : goal.step-requires-clause-made
-step-requires-clause-made g c = subst IsWellMade (sym c.in_ok-netlist.ensures) toggle_made
-
 pub step-requires-clause-acyclic : goal.step-requires-clause-acyclic
 step-requires-clause-acyclic g c = subst HasNoCycle (sym c.in_ok-netlist.ensures) toggle_no_cycle

@@ -1,0 +1,7 @@
+use Rattle.std.proofs.Common.{rules, subst, sym}
+use Rattle.fab_netlist.specs.WellMade.{IsWellMade}
+use Rattle.fab_netlist.proofs.Examples.{watched_made}
+use Rattle.fab_netlist.proofs.tests.watched.Goals as goal
+
+pub invariant_of-result : goal.invariant_of-result
+invariant_of-result c = subst IsWellMade (sym (search rules)) watched_made
