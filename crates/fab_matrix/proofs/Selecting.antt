@@ -10,7 +10,8 @@ use Rattle.fab_syntax.specs.declared.tree.Shape.TheVariants.{Scalar}
 use Rattle.fab_syntax.specs.declared.tree.Port.{Port}
 use Rattle.fab_syntax.specs.Plain.{PlainItem, PlainModule, assign}
 use Rattle.fab_meaning.specs.Value.{value, bit_at}
-use Rattle.fab_meaning.specs.Points.{Path, point, bit_of, module_at, declared_width}
+use Rattle.fab_syntax.specs.Declarations.{declared_width}
+use Rattle.fab_meaning.specs.Points.{Path, point, bit_of, module_at}
 use Rattle.fab_meaning.specs.Settled.{Assignment, names_at}
 use Rattle.fab_meaning.proofs.Declared.{width_of_scalar, width_passed, bits_of_name}
 use Rattle.fab_select.specs.Selection.{inputs_of, field_width, field_low, select_bits}

@@ -1,7 +1,8 @@
 -- Clocks are led to the top one instance at a time.
 use Rattle.std.proofs.Common.{◌≡◌, ℕ, true, List, [], ◌∷◌, Some, refl, ap, ◌∙◌}
 use Rattle.fab_syntax.specs.Plain.{variable, PlainModule}
-use Rattle.fab_meaning.specs.Points.{Path, Found, instance_in, module_at, is_input, is_input_of}
+use Rattle.fab_syntax.specs.Declarations.{is_input, is_input_of}
+use Rattle.fab_meaning.specs.Points.{Path, Found, instance_in, module_at}
 use Rattle.fab_meaning.specs.Runs.{clock_of, join_named, join_of}
 
 -- an input of the top is its own clock

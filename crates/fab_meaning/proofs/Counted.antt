@@ -3,9 +3,9 @@ use Rattle.std.proofs.Common.{◌≡◌, ◌⊎◌, ℕ, zero, suc, ◌<◌, ◌
 use Rattle.std.specs.Str.{bytes_eq}
 use Rattle.std.proofs.lemmas.Bool.{cases_Bool}
 use Rattle.fab_syntax.specs.Plain.{variable, PlainJoin, PlainItem, wire, reg, assign, latch, clocked, instance, PlainModule}
-use Rattle.fab_meaning.specs.Points.{Path, point, Driver, copy, bit_of, flop, hold, instance_named, module_named, is_input_of}
+use Rattle.fab_syntax.specs.Declarations.{module_named, is_input_of, one_if_same, one_if_variable, times_joined_out, times_driven_by, times_driven, times_instance, times_joined}
+use Rattle.fab_meaning.specs.Points.{Path, point, Driver, copy, bit_of, flop, hold, instance_named}
 use Rattle.fab_meaning.specs.Runs.{join_named}
-use Rattle.fab_meaning.specs.Sound.{one_if_same, one_if_variable, times_joined_out, times_driven_by, times_driven, times_instance, times_joined}
 use Rattle.fab_meaning.proofs.Dependence.{same_name}
 
 pub counts_one : (other name : List ℕ) → other ≡ name → one_if_same other name ≡ 1

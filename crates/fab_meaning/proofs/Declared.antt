@@ -8,7 +8,8 @@ use Rattle.fab_bits.specs.Bits.{first_bits}
 use Rattle.fab_syntax.specs.declared.tree.Shape.TheVariants.{Scalar}
 use Rattle.fab_syntax.specs.declared.tree.Port.{Port}
 use Rattle.fab_syntax.specs.Plain.{PlainItem, PlainModule}
-use Rattle.fab_meaning.specs.Points.{Path, point, module_at, width, width_in, declared_width}
+use Rattle.fab_syntax.specs.Declarations.{width, width_in, declared_width}
+use Rattle.fab_meaning.specs.Points.{Path, point, module_at}
 use Rattle.fab_meaning.specs.Settled.{Assignment, names_at}
 
 -- names that differ are told apart

@@ -9,7 +9,8 @@ use Rattle.fab_bits.specs.Bits.{number}
 use Rattle.fab_bits.proofs.Numbers.{first_bits_same}
 use Rattle.fab_syntax.specs.Plain.{PlainExpr, PlainExprs, constant, variable, pick, part, concatenation, complement, operation, conditional, none, more, PlainModule}
 use Rattle.fab_meaning.specs.Value.{value, concatenated, operated, bit_at}
-use Rattle.fab_meaning.specs.Points.{Path, Point, point, Driver, outside, copy, bit_of, flop, hold, module_at, width_in}
+use Rattle.fab_syntax.specs.Declarations.{width_in}
+use Rattle.fab_meaning.specs.Points.{Path, Point, point, Driver, outside, copy, bit_of, flop, hold, module_at}
 use Rattle.fab_meaning.specs.Settled.{Assignment, names_at, shown}
 use Rattle.fab_meaning.specs.Runs.{clock_of, is_clock, kept}
 use Rattle.fab_meaning.specs.Reads.{mentions, some_mentions, same_path, same_point, expression_reads, reads, next_reads}

@@ -6,7 +6,8 @@ use Rattle.fab_syntax.specs.declared.tree.Op.TheVariants.{Xor, Equal, Minus}
 use Rattle.fab_syntax.specs.declared.tree.Shape.TheVariants.{Scalar, Vector}
 use Rattle.fab_syntax.specs.Plain.{PlainExpr, PlainModule, constant, variable, pick, part, concatenation, complement, operation, conditional, plain_exprs, wire, assign, latch, clocked, instance}
 use Rattle.fab_meaning.specs.Value.{value}
-use Rattle.fab_meaning.specs.Points.{Path, Point, Drives, copy, bit_of, flop, hold, point, module_at, width_in}
+use Rattle.fab_syntax.specs.Declarations.{width_in}
+use Rattle.fab_meaning.specs.Points.{Path, Point, Drives, copy, bit_of, flop, hold, point, module_at}
 use Rattle.fab_meaning.specs.Settled.{Assignment, shown}
 use Rattle.fab_meaning.specs.Runs.{clock_of, kept}
 use Rattle.fab_meaning.specs.Reads.{same_point, expression_reads, reads, next_reads}

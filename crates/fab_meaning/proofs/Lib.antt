@@ -11,3 +11,5 @@ pub mod RankedExample
 pub mod Words
 pub mod RunExample
 pub mod Clocks
+pub mod SoundTexts
+pub mod SoundDrivers

@@ -4,7 +4,8 @@ use Rattle.std.specs.Str.{bytes_eq}
 use Rattle.std.proofs.lemmas.Bool.{cases_Bool}
 use Rattle.std.proofs.lemmas.List.Elements.{All-nil, All-cons, All-head, All-tail}
 use Rattle.fab_syntax.specs.Plain.{PlainModule}
-use Rattle.fab_meaning.specs.Points.{Path, Found, last_of, module_named, instance_in, module_of, module_at}
+use Rattle.fab_syntax.specs.Declarations.{module_named}
+use Rattle.fab_meaning.specs.Points.{Path, Found, last_of, instance_in, module_of, module_at}
 
 -- what holds of all elements holds of one that is there
 pub all_holds : {X : Type 0} (P : X → Type 0) (xs : List X) (x : X) → All P xs → Contains xs x → P x

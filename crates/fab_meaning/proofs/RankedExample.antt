@@ -4,10 +4,11 @@ use Rattle.std.specs.Str.{bytes_eq}
 use Rattle.std.proofs.lemmas.Bool.{cases_Bool, false≢true}
 use Rattle.std.proofs.lemmas.Slice.Eq.{bytes_eq-Decides}
 use Rattle.fab_syntax.specs.Plain.{variable}
-use Rattle.fab_meaning.specs.Points.{Point, point, Driver, bit_of, Drives, is_input}
+use Rattle.fab_syntax.specs.Declarations.{is_input, one_if_same, times_driven}
+use Rattle.fab_meaning.specs.Points.{Point, point, Driver, bit_of, Drives}
 use Rattle.fab_meaning.specs.Settled.{Assignment}
 use Rattle.fab_meaning.specs.Reads.{same_point}
-use Rattle.fab_meaning.specs.Sound.{one_if_same, times_driven, JoinsOnce, DrivesOnce}
+use Rattle.fab_meaning.specs.Sound.{JoinsOnce, DrivesOnce}
 use Rattle.fab_meaning.specs.Ranked.{AreDrivenBy, AreRanked}
 use Rattle.fab_meaning.proofs.Dependence.{same_point_is, same_point_refl, variable_reads}
 use Rattle.fab_meaning.proofs.Modules.{each_all}

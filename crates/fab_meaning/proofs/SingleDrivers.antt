@@ -1,7 +1,8 @@
 -- From counts of names to drivers of points: two drivers of a point come from the same item and, there, from the same join.
 use Rattle.std.proofs.Common.{◌≡◌, ◌⊎◌, ℕ, Bool, true, false, List, [], ◌∷◌, Option, Some, None, All, Contains, refl, sym, ap, ap₂, ◌∙◌, subst, inl, inr, arith}
 use Rattle.fab_syntax.specs.Plain.{PlainExpr, variable, PlainJoin, PlainItem, wire, reg, assign, latch, clocked, instance, PlainModule}
-use Rattle.fab_meaning.specs.Points.{Path, Point, point, Driver, bit_of, module_named, instance_in, module_of, module_at, is_input, is_input_of, JoinDrives, ItemDrives, IsDrivenByItem, Drives}
+use Rattle.fab_syntax.specs.Declarations.{module_named, is_input, is_input_of}
+use Rattle.fab_meaning.specs.Points.{Path, Point, point, Driver, bit_of, instance_in, module_of, module_at, JoinDrives, ItemDrives, IsDrivenByItem, Drives}
 use Rattle.fab_meaning.specs.Runs.{join_of}
 use Rattle.fab_meaning.specs.Sound.{JoinsOnce, DrivesOnce}
 use Rattle.fab_meaning.proofs.Counted.{ItemOwns, items_count, items_one, join_owns, item_owns, instance_found, join_found}

@@ -1,10 +1,8 @@
 -- The points of a text and what drives each of them. A point is one bit of one hierarchical wire or register. Section
 -- numbers are those of IEEE 1364-2005.
-use Rattle.std.specs.Prelude.{◌≡◌, ◌⊎◌, ℕ, Bool, true, false, List, [], ◌∷◌, Contains, find, Option, Some, None, if◌then◌else◌}
+use Rattle.std.specs.Prelude.{◌≡◌, ◌⊎◌, ℕ, Bool, true, false, List, [], ◌∷◌, Contains, Option, Some, None, if◌then◌else◌}
 use Rattle.std.specs.Str.{bytes_eq}
-use Rattle.fab_syntax.specs.declared.tree.Shape.{Shape}
-use Rattle.fab_syntax.specs.declared.tree.Shape.TheVariants.{Scalar, Vector}
-use Rattle.fab_syntax.specs.declared.tree.Port.{Port}
+use Rattle.fab_syntax.specs.Declarations.{module_named, is_input_of}
 use Rattle.fab_syntax.specs.Plain.{PlainExpr, variable, PlainJoin, PlainItem, wire, reg, assign, latch, clocked, instance, PlainModule}
 
 -- an instance of a module, by the names of the instances that lead to it, its own first; the top has no name
@@ -39,9 +37,6 @@ last_of [] = None
 last_of (x ∷ []) = Some x
 last_of (x ∷ y ∷ xs) = last_of (y ∷ xs)
 
-abbrev pub module_named : List PlainModule → List ℕ → Option PlainModule
-module_named text name = find (λ m. bytes_eq m.name name) text
-
 -- an instance among items: the name of its module, and its joins
 pub record Found : Type 0 where
   pub module_name : List ℕ
@@ -65,35 +60,6 @@ module_of text (Some found) = module_named text found.module_name
 abbrev pub module_at : List PlainModule → Path → Option PlainModule
 module_at text [] = last_of text
 module_at text (name ∷ path) = module_of text (instance_in (module_at text path) name)
-
--- ---- declarations (4.2, 4.3, 12.3.3)
-
-abbrev pub width : Shape → ℕ
-width Scalar = 1
-width (Vector n) = n
-
-abbrev pub item_width : List PlainItem → List ℕ → ℕ
-item_width [] name = 0
-item_width (wire shape other ∷ items) name = if bytes_eq other name then width shape else item_width items name
-item_width (reg shape other ∷ items) name = if bytes_eq other name then width shape else item_width items name
-item_width (_ ∷ items) name = item_width items name
-
-abbrev pub declared_width : List Port → List PlainItem → List ℕ → ℕ
-declared_width [] items name = item_width items name
-declared_width (port ∷ ports) items name = if bytes_eq port.name name then width port.shape else declared_width ports items name
-
--- how many bits a name of a module has; 0 where the module does not declare it
-abbrev pub width_in : Option PlainModule → List ℕ → ℕ
-width_in None name = 0
-width_in (Some m) name = declared_width m.ports m.items name
-
-abbrev pub is_input : List Port → List ℕ → Bool
-is_input [] name = false
-is_input (port ∷ ports) name = if bytes_eq port.name name then port.input else is_input ports name
-
-abbrev pub is_input_of : Option PlainModule → List ℕ → Bool
-is_input_of None name = false
-is_input_of (Some m) name = is_input m.ports name
 
 -- ---- drivers
 

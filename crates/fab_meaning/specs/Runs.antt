@@ -3,7 +3,8 @@ use Rattle.std.specs.Prelude.{◌≡◌, ℕ, Bool, false, List, [], ◌∷◌, 
 use Rattle.std.specs.Str.{bytes_eq}
 use Rattle.fab_syntax.specs.Plain.{PlainExpr, variable, PlainJoin, PlainModule}
 use Rattle.fab_meaning.specs.Value.{value, bit_at}
-use Rattle.fab_meaning.specs.Points.{Path, Point, point, Driver, outside, copy, bit_of, flop, hold, Drives, Found, instance_in, module_at, is_input_of}
+use Rattle.fab_syntax.specs.Declarations.{is_input_of}
+use Rattle.fab_meaning.specs.Points.{Path, Point, point, Driver, outside, copy, bit_of, flop, hold, Drives, Found, instance_in, module_at}
 use Rattle.fab_meaning.specs.Settled.{Assignment, names_at, IsSettledOn}
 
 -- ---- the clock of a flip-flop

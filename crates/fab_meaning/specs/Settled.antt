@@ -3,7 +3,8 @@ use Rattle.std.specs.Prelude.{◌≡◌, ℕ, Bool, List, if◌then◌else◌}
 use Rattle.fab_bits.specs.Bits.{first_bits}
 use Rattle.fab_syntax.specs.Plain.{PlainModule}
 use Rattle.fab_meaning.specs.Value.{value, bit_at}
-use Rattle.fab_meaning.specs.Points.{Path, Point, point, Driver, outside, copy, bit_of, flop, hold, Drives, module_at, width_in}
+use Rattle.fab_syntax.specs.Declarations.{width_in}
+use Rattle.fab_meaning.specs.Points.{Path, Point, point, Driver, outside, copy, bit_of, flop, hold, Drives, module_at}
 
 -- a value for each point
 abbrev pub Assignment : Type 0

@@ -3,11 +3,21 @@
 ghost use Rattle.fab_meaning.specs.Loaded.{LoadedBlocksSettle, LoadedPointsStay};
 ghost use Rattle.fab_meaning.specs.Loading.{LoadingPointsStay, LoadingRunsAgree, LoadsAgree, UnionIsClosed, WithinGrows};
 ghost use Rattle.fab_meaning.specs.Ranked.{BlocksSettleOnTexts, TextsSettleOnce};
-ghost use Rattle.fab_meaning.specs.Sound.{EachPointHasOneDriver};
+ghost use Rattle.fab_meaning.specs.Sound.{EachPointHasOneDriver, PointsOfSoundTextsHaveOneDriver, SoundTextsDriveOnce};
 
 /// In a text whose modules drive each name at most once, and their inputs not at all, each point has at most one driver.
 pub fn each_point_has_one_driver()
     ensures { EachPointHasOneDriver }
+{}
+
+/// The modules of a sound text are such.
+pub fn sound_texts_drive_once()
+    ensures { SoundTextsDriveOnce }
+{}
+
+/// In a sound text each declared point has exactly one driver.
+pub fn points_of_sound_texts_have_one_driver()
+    ensures { PointsOfSoundTextsHaveOneDriver }
 {}
 
 /// Two closed sets of flip-flops are one closed set together, and lead to all that each of them leads to. So there is a greatest,

@@ -1,2 +1,4 @@
 pub mod Plain
 pub mod Spelling
+pub mod Declarations
+pub mod Sound
