@@ -151,11 +151,17 @@ module _ (text : List PlainModule) (i : List ℕ) (up : Path) (name : List ℕ) 
       (d : Driver) × Drives text (point (i ∷ up) name bit) d
   driven_by_join above found stands there below is input joined =
       let enters : is_input_of (module_named text found.module_name) joined.0.port ≡ true =
-      ap (λ m. is_input_of m joined.0.port) is ∙ ap (is_input below.ports) joined.2 ∙ input in
-      (bit_of up joined.3.0 bit, inr (record {
-        path = up; module_here = above; item = instance found.module_name i found.joins; stands = stands; holds = there;
-        drives = (joined.0, joined.1, value_drives (is_input_of (module_named text found.module_name) joined.0.port) joined.0.port joined.0.to joined.3.0 enters joined.3.1 joined.2);
-      }))
+      ap (λ m. is_input_of m joined.0.port) is ∙ ap (is_input below.ports) joined.2 ∙ input in (
+        bit_of up joined.3.0 bit,
+        inr (record {
+          path = up;
+          module_here = above;
+          item = instance found.module_name i found.joins;
+          stands = stands;
+          holds = there;
+          drives = (joined.0, joined.1, value_drives (is_input_of (module_named text found.module_name) joined.0.port) joined.0.port joined.0.to joined.3.0 enters joined.3.1 joined.2);
+        }),
+      )
 
   fits_below : (above : PlainModule) (found : Found) → InstanceFits text above (instance found.module_name i found.joins) →
       (below : PlainModule) → module_named text found.module_name ≡ Some below → is_input below.ports name ≡ true → JoinedInput found.joins name

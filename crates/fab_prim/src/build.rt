@@ -1,0 +1,74 @@
+//! Expressions and items by the bytes of their names.
+
+ghost use Rattle.std.specs.Prelude.{◌≡◌, ◌++◌, [], ◌∷◌, map, IfOk, OnOk};
+ghost use Rattle.fab_syntax.specs.Plain.{plain_expr, plain_item, variable, conditional, operation, assign};
+ghost use Rattle.fab_prim.specs.Modules.{config_bit, one_of, flip_flop};
+
+use fab_base::{Memory, Name};
+use fab_syntax::{Expr, Item, Op};
+use std::alloc::Global;
+
+/// All bits of a name.
+pub fn variable(alloc: Global, name: &[u8]) -> Result<Expr, Memory>
+    ensures { IfOk result (λ e. plain_expr e ≡ variable name.now) }
+{
+    Ok(Expr::Var(Name::of(alloc, name)?))
+}
+
+/// A configuration bit.
+pub fn config_bit(alloc: Global, bit: u32) -> Result<Expr, Memory>
+    ensures { IfOk result (λ e. plain_expr e ≡ config_bit bit) }
+{
+    let name = Name::of(alloc, b"ConfigBits")?;
+    Ok(Expr::Part(name, bit, bit))
+}
+
+/// The second expression where the first is 1, else the third.
+pub fn conditional(alloc: Global, test: Expr, yes: Expr, no: Expr) -> Result<Expr, Memory>
+    ensures { IfOk result (λ e. plain_expr e ≡ conditional (plain_expr test) (plain_expr yes) (plain_expr no)) }
+{
+    let test = Box::new(alloc, test)?;
+    let yes = Box::new(alloc, yes)?;
+    Ok(Expr::Cond(test, yes, Box::new(alloc, no)?))
+}
+
+/// The first name where the test is 1, else the second.
+pub fn one_of(alloc: Global, test: Expr, first: &[u8], second: &[u8]) -> Result<Expr, Memory>
+    ensures { IfOk result (λ e. plain_expr e ≡ one_of (plain_expr test) first.now second.now) }
+{
+    let first = variable(alloc, first)?;
+    let second = variable(alloc, second)?;
+    conditional(alloc, test, first, second)
+}
+
+/// An operator of two operands.
+pub fn operation(alloc: Global, op: Op, left: Expr, right: Expr) -> Result<Expr, Memory>
+    ensures { IfOk result (λ e. plain_expr e ≡ operation op (plain_expr left) (plain_expr right)) }
+{
+    let left = Box::new(alloc, left)?;
+    Ok(Expr::Two(op, left, Box::new(alloc, right)?))
+}
+
+/// Adds an assignment.
+pub fn push_assign(
+    alloc: Global,
+    items: &mut Vec<Item>,
+    target: &[u8],
+    value: Expr,
+) -> Result<(), Memory>
+    ensures { OnOk result (map plain_item items.new.items ≡ map plain_item items.old.items ++ assign target.now (plain_expr value) ∷ []) }
+{
+    let target = Name::of(alloc, target)?;
+    items.push(Item::Assign(target, value))?;
+    Ok(())
+}
+
+/// Adds the flip-flop, which takes a value at each tick of UserCLK.
+pub fn push_flip_flop(alloc: Global, items: &mut Vec<Item>, next: Expr) -> Result<(), Memory>
+    ensures { OnOk result (map plain_item items.new.items ≡ map plain_item items.old.items ++ flip_flop (plain_expr next) ∷ []) }
+{
+    let clock = Name::of(alloc, b"UserCLK")?;
+    let target = Name::of(alloc, b"q")?;
+    items.push(Item::Clocked(clock, target, next))?;
+    Ok(())
+}
