@@ -1,0 +1,15 @@
+pub mod Passing
+pub mod Listed
+pub mod Groups
+pub mod Pairs
+pub mod Summed
+pub mod Numbered
+pub mod Kept
+pub mod Placed
+pub mod Firsts
+pub mod Tiles
+pub mod Stepped
+pub mod Spots
+pub mod Selecting
+pub mod Joined
+pub mod BitMaps

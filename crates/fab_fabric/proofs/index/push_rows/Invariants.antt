@@ -1,0 +1,8 @@
+use Rattle.std.proofs.Common.{◌≡◌, ◌++◌, map, drop}
+use Rattle.fab_model.specs.Wires.{plain_row_wires}
+use Rattle.fab_fabric.specs.Index.{plain_wire}
+use Rattle.fab_fabric.proofs.index.push_rows.Given as goal
+
+-- the wires so far and those of the other rows are those of all rows
+abbrev pub invariant-loop-number : goal.invariant-loop-number
+invariant-loop-number l = map plain_wire l.wires.items ++ plain_row_wires l.number (drop l.number l.rows) ≡ map plain_wire l.fn.wires.items ++ plain_row_wires 0 l.rows

@@ -1,0 +1,15 @@
+//! Fabrics: grids of tiles whose wires have numbers, the joins of these wires, and what drives each under configuration
+//! bits.
+#![tactic(auto)]
+
+mod bits;
+mod ends;
+mod fabric;
+mod index;
+mod laws;
+mod wire;
+
+pub use bits::Bits;
+pub use fabric::Fabric;
+pub use laws::wires_are_numbered;
+pub use wire::{Drive, Site, Wire};
