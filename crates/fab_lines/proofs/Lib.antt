@@ -2,3 +2,4 @@ pub mod FirstLine
 pub mod LastItems
 pub mod LineByLine
 pub mod Judging
+pub mod JoinedLines

@@ -3,11 +3,13 @@
 #![tactic(auto)]
 
 mod cut;
+mod joined;
 mod names;
 mod order;
 mod parts;
 
 pub use cut::first_line;
+pub use joined::read_joined_lines;
 pub use names::{is_name, is_wire_name};
 pub use order::{LineReader, read_lines};
 pub use parts::{all_cells, uncommented, without_empty};

@@ -1,0 +1,8 @@
+pub mod Plain
+pub mod Words
+pub mod Covers
+pub mod Context
+pub mod Judge
+pub mod Spelled
+pub mod Keys
+pub mod Following
