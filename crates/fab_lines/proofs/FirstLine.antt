@@ -19,14 +19,14 @@ pub position_or_length : (test : ℕ → Bool) (bytes : List ℕ) → unwrap_or 
 position_or_length test bytes = some_below_or (position_or_len test bytes) (length bytes) (prefix_len-le-length _ bytes)
 
 -- a place that is below the size
-below_where_some : (place size found : ℕ) → cond (ltb place size) (Some place) None ≡ Some found → (found ≡ place) × (found < size)
+pub below_where_some : (place size found : ℕ) → cond (ltb place size) (Some place) None ≡ Some found → (found ≡ place) × (found < size)
 below_where_some place size found so = elim (cases_lt place size) [
   | inl below ↦ let same : Some place ≡ Some found = rw (lt-ltb place size below) at so in let is : found ≡ place = cc in (is, rw is below)
   | inr at_end ↦ let none : None ≡ Some found = rw (le-ltb place size at_end) at so in absurd cc
 ]
 
 -- a place that is not below the size
-size_where_none : (place size : ℕ) → cond (ltb place size) (Some place) None ≡ None → size ≤ place
+pub size_where_none : (place size : ℕ) → cond (ltb place size) (Some place) None ≡ None → size ≤ place
 size_where_none place size so = elim (cases_lt place size) [
   | inl below ↦ let some : Some place ≡ None = rw (lt-ltb place size below) at so in absurd cc
   | inr at_end ↦ at_end

@@ -19,12 +19,12 @@ without_back-fails test [] last fails = rw fails refl
 without_back-fails test (item ∷ items) last fails = ap (before_kept test item) (without_back-fails test items last fails) ∙ before_kept-push test item items last
 
 -- a cell without a byte is empty
-is_empty-none : (cell : List ℕ) → length cell ≤ 0 → is_empty_cell cell ≡ true
+pub is_empty-none : (cell : List ℕ) → length cell ≤ 0 → is_empty_cell cell ≡ true
 is_empty-none [] none = refl
 is_empty-none (byte ∷ cell) none = absurd (omega arith)
 
 -- a cell with a byte is not
-is_empty-some : (cell : List ℕ) → 0 < length cell → is_empty_cell cell ≡ false
+pub is_empty-some : (cell : List ℕ) → 0 < length cell → is_empty_cell cell ≡ false
 is_empty-some [] some = absurd (omega arith)
 is_empty-some (byte ∷ cell) some = search rules
 

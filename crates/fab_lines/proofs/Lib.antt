@@ -3,3 +3,5 @@ pub mod LastItems
 pub mod LineByLine
 pub mod Judging
 pub mod JoinedLines
+pub mod Wholes
+pub mod Digits

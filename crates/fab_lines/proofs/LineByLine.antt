@@ -5,7 +5,7 @@ use Rattle.fab_base.specs.declared.fault.Fault.TheVariants as faults
 use Rattle.fab_base.specs.declared.problem.Problem.{Problem}
 use Rattle.fab_base.specs.declared.problem.Problem.TheVariants as problems
 use Rattle.fab_base.specs.Reading.{Fails, Refuses, IsFaultOr, fault_at}
-use Rattle.fab_lines.specs.Order.{read_from, goes_on, placed}
+use Rattle.fab_lines.specs.Order.{read_from, read_all, goes_on, placed}
 
 -- a line that is taken
 pub read_more : {S P L : Type 0} (after : S → ℕ → L → Result S P) (state next : S) (number : ℕ) (text : List L) (line : L) (rest : List L) (whole : Result S (ℕ × P))
@@ -53,9 +53,43 @@ refuses_or problems.Memory given so = inr refl
 refuses_or problem given so = inl so
 
 -- the fault of a line that is refused is that of the text
-pub fails_at : {S L : Type 0} (after : S → ℕ → L → Result S Problem) (state : S) (number : ℕ) (text : List L) (line : L) (rest : List L) (whole : Result S (ℕ × Problem)) (file : List ℕ) (problem : Problem) (fault : Fault)
-    → text ≡ line ∷ rest → Refuses problem (after state number line) → IsFaultOr fault (fault_at file number problem) → read_from after state number text ≡ whole → Fails fault (placed file whole)
-fails_at after state number text line rest whole file problem fault cut refused which so_far = elim (refuses_or problem (after state number line) refused) [
-  | inl so ↦ fails_or fault (fault_at file number problem) (placed file whole) which (ap (placed file) (read_refused after state number text line rest whole problem cut so so_far))
+fails_given : {S : Type 0} (file : List ℕ) (number : ℕ) (problem : Problem) (fault : Fault) (given : Result S Problem) (whole : Result S (ℕ × Problem)) → (given ≡ Err problem → whole ≡ Err (number, problem))
+    → Refuses problem given → IsFaultOr fault (fault_at file number problem) → Fails fault (placed file whole)
+fails_given file number problem fault given whole is refused which = elim (refuses_or problem given refused) [
+  | inl so ↦ fails_or fault (fault_at file number problem) (placed file whole) which (ap (placed file) (is so))
   | inr memory ↦ only_memory fault (placed file whole) (subst (λ (p : Problem). IsFaultOr fault (fault_at file number p)) memory which)
 ]
+
+pub fails_at : {S L : Type 0} (after : S → ℕ → L → Result S Problem) (state : S) (number : ℕ) (text : List L) (line : L) (rest : List L) (whole : Result S (ℕ × Problem)) (file : List ℕ) (problem : Problem) (fault : Fault)
+    → text ≡ line ∷ rest → Refuses problem (after state number line) → IsFaultOr fault (fault_at file number problem) → read_from after state number text ≡ whole → Fails fault (placed file whole)
+fails_at after state number text line rest whole file problem fault cut refused which so_far =
+    fails_given file number problem fault (after state number line) whole (λ so. read_refused after state number text line rest whole problem cut so so_far) refused which
+
+-- ---- The same where lines have numbers of their own.
+
+-- a line that is taken
+pub all_more : {S P L : Type 0} (after : S → L → Result S P) (number : L → ℕ) (state next : S) (text : List L) (line : L) (rest : List L) (whole : Result S (ℕ × P))
+    → text ≡ line ∷ rest → after state line ≡ Ok next → read_all after number state text ≡ whole → read_all after number next rest ≡ whole
+unfolding read_all
+all_more after number state next text line rest whole cut taken so_far =
+    let one : read_all after number state (line ∷ rest) ≡ read_all after number next rest = ap (goes_on (λ s. read_all after number s rest) (number line)) taken in
+    sym one ∙ ap (read_all after number state) (sym cut) ∙ so_far
+
+-- a line that is refused
+all_refused : {S P L : Type 0} (after : S → L → Result S P) (number : L → ℕ) (state : S) (text : List L) (line : L) (rest : List L) (whole : Result S (ℕ × P)) (problem : P)
+    → text ≡ line ∷ rest → after state line ≡ Err problem → read_all after number state text ≡ whole → whole ≡ Err (number line, problem)
+unfolding read_all
+all_refused after number state text line rest whole problem cut refused so_far =
+    let one : read_all after number state (line ∷ rest) ≡ Err (number line, problem) = ap (goes_on (λ s. read_all after number s rest) (number line)) refused in
+    sym so_far ∙ ap (read_all after number state) cut ∙ one
+
+-- no line more
+pub all_end : {S P L : Type 0} (after : S → L → Result S P) (number : L → ℕ) (state : S) (whole : Result S (ℕ × P)) → read_all after number state [] ≡ whole → whole ≡ Ok state
+unfolding read_all
+all_end after number state whole so_far = sym so_far
+
+-- the fault of a line that is refused is that of the text
+pub all_fails_at : {S L : Type 0} (after : S → L → Result S Problem) (number : L → ℕ) (state : S) (text : List L) (line : L) (rest : List L) (whole : Result S (ℕ × Problem)) (file : List ℕ) (problem : Problem) (fault : Fault)
+    → text ≡ line ∷ rest → Refuses problem (after state line) → IsFaultOr fault (fault_at file (number line) problem) → read_all after number state text ≡ whole → Fails fault (placed file whole)
+all_fails_at after number state text line rest whole file problem fault cut refused which so_far =
+    fails_given file (number line) problem fault (after state line) whole (λ so. all_refused after number state text line rest whole problem cut so so_far) refused which

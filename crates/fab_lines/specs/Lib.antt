@@ -2,3 +2,4 @@ pub mod Names
 pub mod Parts
 pub mod Order
 pub mod Joined
+pub mod Numbers

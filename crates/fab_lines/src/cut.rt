@@ -1,9 +1,10 @@
 //! A text is cut into lines, one after the other.
 
-ghost use Rattle.std.specs.Prelude.{◌≡◌, ◌<◌, ◌∷◌, length};
+ghost use Rattle.std.specs.Prelude.{◌≡◌, ◌<◌, ◌≤◌, ◌∷◌, length, max};
 ghost use Rattle.std.specs.Str.Lines.{lines, strip_carriage_return};
 
 use crate::parts::place;
+use fab_base::MAX_FILE_BYTES;
 
 /// The line without the carriage return that stands before its line feed.
 fn without_return(line: &[u8]) -> &[u8]
@@ -31,6 +32,22 @@ pub fn first_line(bytes: &[u8]) -> (&[u8], &[u8])
     (without_return(line), rest)
 }
 
+/// The number of the last line of a text: 1 where it is empty, else how many lines it has. What is wrong with a text as a
+/// whole is reported there.
+pub fn last_line(bytes: &[u8]) -> u32
+    requires { length bytes.now ≤ MAX_FILE_BYTES }
+    ensures { result ≡ max 1 (length (lines bytes.now)) }
+{
+    let mut count: u32 = 0;
+    let mut rest = bytes;
+    while 0 < rest.len() {
+        let (_, after) = first_line(rest);
+        rest = after;
+        count += 1;
+    }
+    count.max(1)
+}
+
 #[cfg(test)]
 mod tests {
     use super::*;
@@ -47,6 +64,21 @@ mod tests {
         ];
         for (text, line, rest) in cases {
             assert!(rt; first_line(text) == (line, rest));
+        }
+    }
+
+    #[test]
+    fn counts_lines(rt: HostRuntime) {
+        let cases: [(&[u8], u32); 6] = [
+            (b"", 1),
+            (b"one", 1),
+            (b"one\n", 1),
+            (b"one\ntwo", 2),
+            (b"one\r\n\n", 2),
+            (b"\n", 1),
+        ];
+        for (text, last) in cases {
+            assert_eq!(rt; last_line(text), last);
         }
     }
 }

@@ -5,11 +5,13 @@
 mod cut;
 mod joined;
 mod names;
+mod numbers;
 mod order;
 mod parts;
 
-pub use cut::first_line;
+pub use cut::{first_line, last_line};
 pub use joined::read_joined_lines;
 pub use names::{is_name, is_wire_name};
+pub use numbers::capped_number;
 pub use order::{LineReader, read_lines};
-pub use parts::{all_cells, uncommented, without_empty};
+pub use parts::{all_cells, place_or_end, trimmed, uncommented, without_empty};

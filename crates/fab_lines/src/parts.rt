@@ -13,7 +13,8 @@ pub(crate) fn place(bytes: &[u8], sought: u8) -> Option<usize>
     bytes.iter().position(|byte| *byte == sought)
 }
 
-fn place_or_end(bytes: &[u8], sought: u8) -> usize
+/// The place of the first such byte, and the end where there is none.
+pub fn place_or_end(bytes: &[u8], sought: u8) -> usize
     ensures value { result ≡ position_or_len (λ byte. byte == sought) bytes.now }
     ensures within { result ≤ length bytes.now }
 {
@@ -59,7 +60,8 @@ fn without_blanks_at_end(cell: &[u8]) -> &[u8]
     rest
 }
 
-fn trimmed(cell: &[u8]) -> &[u8]
+/// A cell without the blanks and tabs at both ends.
+pub fn trimmed(cell: &[u8]) -> &[u8]
     ensures { result.now ≡ trimmed cell.now }
 {
     without_blanks_at_end(without_blanks_in_front(cell))

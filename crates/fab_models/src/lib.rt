@@ -5,13 +5,11 @@
 mod bodies;
 mod context;
 mod cover;
-mod ending;
 mod judging;
 mod model;
 mod reader;
 mod words;
 
-pub use ending::last_line;
 pub use model::{Body, Model, Statement};
 pub use reader::read_models;
 

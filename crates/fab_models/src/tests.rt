@@ -1,6 +1,6 @@
 //! Small files: what is refused, and what the others spell.
 
-use crate::{Body, Model, Statement, last_line, read_models};
+use crate::{Body, Model, Statement, read_models};
 use fab_base::{MAX_FILE_BYTES, Name};
 use itoa::Buffer;
 use std::alloc::{AllocError, Global};
@@ -344,12 +344,4 @@ fn reads_models(rt: HostRuntime) -> Result<(), Fail> {
         ),
     ];
     check_models(&rt, rt.alloc(), &cases)
-}
-
-#[test]
-fn counts_lines(rt: HostRuntime) {
-    let cases: [(&[u8], u32); 5] = [(b"", 1), (b"\n", 1), (b"a", 1), (b"a\nb", 2), (b"a\n\n", 2)];
-    for (text, line) in cases {
-        assert_eq!(&rt; last_line(text), line);
-    }
 }

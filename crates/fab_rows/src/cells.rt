@@ -1,0 +1,72 @@
+//! The cells of one line.
+
+ghost use Rattle.std.specs.Prelude.{◌≡◌, [], IfOk, map, option_map, take, length, ◌≤◌};
+ghost use Rattle.csv.specs.Machine.{next_record};
+ghost use Rattle.csv.specs.Reading.{default_config, strip_bom};
+ghost use Rattle.csv.specs.Records.{fields_of};
+ghost use Rattle.csv.specs.declared.parser.State.TheVariants as states;
+ghost use Rattle.fab_lines.specs.Parts.{is_empty_cell, trimmed, without_back};
+ghost use Rattle.fab_rows.specs.Rows.{cells_of_line};
+
+use csv::{ByteRecord, Error, ReaderBuilder};
+use fab_base::{Memory, Name};
+use fab_lines::{trimmed, uncommented};
+use std::alloc::Global;
+
+/// The first record of a line that is read alone, if it has one.
+fn first_record(alloc: Global, line: &[u8]) -> Result<Option<ByteRecord>, Error>
+    ensures { IfOk result (λ found. option_map fields_of found
+        ≡ option_map (λ read. read.0) (next_record default_config states.StartRecord [] [] (strip_bom line.now))) }
+{
+    let mut reader = ReaderBuilder::new()
+        .has_headers(false)
+        .from_reader(alloc, line);
+    let mut record = ByteRecord::new(alloc);
+    if reader.read_byte_record(&mut record)? {
+        Ok(Some(record))
+    } else {
+        Ok(None)
+    }
+}
+
+fn trimmed_fields(alloc: Global, found: &ByteRecord) -> Result<Vec<Name>, Memory>
+    ensures { IfOk result (λ cells. cells.items ≡ map trimmed (fields_of found.now)) }
+{
+    let mut cells = Vec::new(alloc);
+    let mut count = 0;
+    while let Some(field) = found.get(count) {
+        cells.push(Name::of(alloc, trimmed(field))?)?;
+        count += 1;
+    }
+    Ok(cells)
+}
+
+/// How many cells are left without the empty ones at the end.
+fn count_kept(cells: &[Name]) -> usize
+    ensures within { result ≤ length cells.now }
+    ensures kept { take result cells.now ≡ without_back is_empty_cell cells.now }
+{
+    let mut count = cells.len();
+    while 0 < count {
+        if 0 < cells[count - 1].bytes().len() {
+            break;
+        }
+        count -= 1;
+    }
+    count
+}
+
+/// The cells of a line. Where csv answers with an error, memory was refused, for the line is there as a whole.
+pub fn cells_of(alloc: Global, line: &[u8]) -> Result<Vec<Name>, Memory>
+    ensures { IfOk result (λ cells. cells.items ≡ cells_of_line line.now) }
+{
+    let Ok(found) = first_record(alloc, uncommented(line)) else {
+        return Err(Memory);
+    };
+    let Some(record) = found else {
+        return Ok(Vec::new(alloc));
+    };
+    let mut cells = trimmed_fields(alloc, &record)?;
+    cells.truncate(count_kept(&cells));
+    Ok(cells)
+}

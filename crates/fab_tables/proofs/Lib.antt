@@ -1,0 +1,5 @@
+pub mod Seen
+pub mod Products
+pub mod Longs
+pub mod Asking
+pub mod Spelled

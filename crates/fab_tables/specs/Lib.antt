@@ -1,0 +1,6 @@
+pub mod Cells
+pub mod Expanding
+pub mod Lists
+pub mod Bodies
+pub mod Following
+pub mod Frames
