@@ -1,0 +1,4 @@
+pub mod Constants
+pub mod Cut
+pub mod Cutting
+pub mod Words

@@ -1,0 +1,5 @@
+pub mod Literals
+pub mod Scanning
+pub mod Spelled
+pub mod Told
+pub mod Tokens
