@@ -1,0 +1,4 @@
+pub mod Declarations
+pub mod Places
+pub mod Evaluation
+pub mod Agreement
