@@ -13,3 +13,4 @@ pub mod Spots
 pub mod Selecting
 pub mod Joined
 pub mod BitMaps
+pub mod Samples

@@ -6,3 +6,4 @@ pub mod Names
 pub mod Drive
 pub mod Index
 pub mod Walks
+pub mod Examples
