@@ -1,9 +1,9 @@
 -- The reader follows the judge of lines: what it keeps is what the lines before spell.
-use Rattle.std.proofs.Common.{◌≡◌, ℕ, ◌+◌, Bool, false, List, [], ◌∷◌, ◌++◌, length, map, filter, Option, Some, None, Ok, refl, sym, ap, subst, ◌∙◌, ◌⊎◌, inl, inr, arith, unwrap_or}
+use Rattle.std.proofs.Common.{◌≡◌, ℕ, ◌+◌, Bool, false, List, [], ◌∷◌, ◌++◌, length, map, filter, Option, Some, None, Ok, refl, sym, ap, subst, ◌∙◌, ◌⊎◌, inl, inr, arith, append-nil, append_assoc, unwrap_or}
 use Rattle.std.specs.List.{list_any, after_last, last_or, enumerate_from}
 use Rattle.std.proofs.lemmas.List.{map_push}
 use Rattle.fab_base.specs.declared.problem.Problem.{Problem}
-use Rattle.fab_lines.specs.Order.{judged}
+use Rattle.fab_lines.specs.Order.{IsFine, judged}
 use Rattle.fab_lines.proofs.Judging.{Follows}
 use Rattle.fab_models.specs.declared.words.Kind.{Kind}
 use Rattle.fab_models.specs.declared.words.Kind.TheVariants as kinds
@@ -137,7 +137,7 @@ length-map [] = refl
 length-map (line ∷ lines) = omega (arith, length-map lines)
 
 -- the state of one line more
-state_more : (front : List (List ℕ)) (line : List ℕ) → judge front line ≡ None → state_after (summary front) (length front + 1) (kind_of (words line)) (words line) ≡ summary (front ++ line ∷ [])
+pub state_more : (front : List (List ℕ)) (line : List ℕ) → judge front line ≡ None → state_after (summary front) (length front + 1) (kind_of (words line)) (words line) ≡ summary (front ++ line ∷ [])
 state_more front line fine =
     let lines = map words front in
     let row : Line = (length front + 1, words line) in
@@ -160,3 +160,14 @@ pub follows_judge : Follows judge after_line summary
 follows_judge = record {
   answers = λ front line fine. judged_same (judge front line) (state_after (summary front) (length front + 1) (kind_of (words line)) (words line)) (summary (front ++ line ∷ [])) (state_more front line);
 }
+
+-- what each line keeps that is not refused holds of lines of which none is refused
+pub each_line : (P : List (List ℕ) → Type 0) → ((front : List (List ℕ)) (line : List ℕ) → judge front line ≡ None → P front → P (front ++ line ∷ []))
+    → P [] → (lines : List (List ℕ)) → IsFine judge lines → P lines
+each_line P more first lines fine = on [] lines fine first
+  where
+    on : (front rest : List (List ℕ)) → IsFine judge (front ++ rest) → P front → P (front ++ rest)
+    on front [] fine so_far = subst P (sym (append-nil front)) so_far
+    on front (line ∷ rest) fine so_far =
+        let same : (front ++ line ∷ []) ++ rest ≡ front ++ line ∷ rest = append_assoc front (line ∷ []) rest in
+        subst P same (on (front ++ line ∷ []) rest (subst (IsFine judge) (sym same) fine) (more front line (fine front line rest refl) so_far))

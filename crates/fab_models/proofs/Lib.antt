@@ -6,3 +6,9 @@ pub mod Models
 pub mod ContextLines
 pub mod ModelLines
 pub mod FollowsLines
+pub mod Ports
+pub mod Repeated
+pub mod Ends
+pub mod KeepsRules
+pub mod RulesOfLines
+pub mod LineOrder

@@ -31,7 +31,7 @@ or_bits a b x y =
     joined false false z = omega arith
 
 -- the bits of either
-or_first_bits : (n : ℕ) (f g : ℕ → Bool) → number (first_bits n (λ i. f i || g i)) ≡ bit_or (number (first_bits n f)) (number (first_bits n g))
+pub or_first_bits : (n : ℕ) (f g : ℕ → Bool) → number (first_bits n (λ i. f i || g i)) ≡ bit_or (number (first_bits n f)) (number (first_bits n g))
 or_first_bits zero f g = refl
 or_first_bits (suc n) f g =
     ap (λ (k : ℕ). bit_number (f 0 || g 0) + 2 * k) (or_first_bits n (λ i. f (suc i)) (λ i. g (suc i)))
@@ -52,7 +52,7 @@ rows_on-push [] row = refl
 rows_on-push (first ∷ rows) row = refl
 
 -- the opposite bits
-opposite_bits : (n : ℕ) (f : ℕ → Bool) → number (first_bits n (λ i. not (f i))) + number (first_bits n f) + 1 ≡ 2 ^ n
+pub opposite_bits : (n : ℕ) (f : ℕ → Bool) → number (first_bits n (λ i. not (f i))) + number (first_bits n f) + 1 ≡ 2 ^ n
 opposite_bits zero f = refl
 opposite_bits (suc n) f = opposite_bit (f 0) (number (first_bits n (λ i. not (f (suc i))))) (number (first_bits n (λ i. f (suc i)))) n (opposite_bits n (λ i. f (suc i)))
   where

@@ -6,3 +6,4 @@ pub mod Judge
 pub mod Spelled
 pub mod Keys
 pub mod Following
+pub mod Rules

@@ -1,6 +1,7 @@
 //! The reader of BLIF files: each line is judged and adds to the models.
 
 ghost use Rattle.std.specs.Prelude.{◌≡◌, ◌≢◌, ◌≤◌, length, IfErr, IfOk, IsErrAnd, IsOkUnless};
+ghost use Rattle.std.specs.Str.Lines.{lines};
 ghost use Rattle.fab_base.specs.declared.fault.Fault.{Fault as PlainFault};
 ghost use Rattle.fab_base.specs.declared.fault.Fault.TheVariants as faults;
 ghost use Rattle.fab_base.specs.Reading.{Answers, Gives, IsFaultOr};
@@ -9,6 +10,7 @@ ghost use Rattle.fab_lines.specs.Order.{IsFine, IsFirstFault};
 ghost use Rattle.fab_models.specs.Following.{State, after_line, read_of};
 ghost use Rattle.fab_models.specs.Judge.{judge};
 ghost use Rattle.fab_models.specs.Plain.{plain_models};
+ghost use Rattle.fab_models.specs.Rules.{AreModels, LinesAscend};
 ghost use Rattle.fab_models.specs.Spelled.{spelled};
 
 use crate::context::{Context, beginning};
@@ -100,6 +102,9 @@ fn read(alloc: Global, file: &Name, bytes: &[u8]) -> Result<Reader, Fault>
 
 /// The models that a BLIF file spells, in the order of their lines. There may be none.
 ///
+/// No cover of theirs has more than 4 inputs, no initial value is past 3, and `.inputs` and `.outputs` of a model name no
+/// port twice, nor one on both sides. The lines of models and statements ascend, and stand within the file.
+///
 /// `Malformed` and `Unsupported` come with the least line that is refused. The reasons are, in the order in which they are
 /// tried on a line, `row`, `number`, `name`, `after end`, `name twice`, `no model` and `cover row`; the constructs are a
 /// word with a leading dot, `wide cover`, `latch type` with the type, and `input and output` with the port.
@@ -107,6 +112,8 @@ pub fn read_models(alloc: Global, file: &Name, bytes: &[u8]) -> Result<Vec<Model
     requires { length bytes.now ≤ MAX_FILE_BYTES }
     ensures fine { IfOk result (λ _. IsFine judge (joined_lines bytes.now)) }
     ensures spelled { IfOk result (λ models. plain_models models.items ≡ spelled (joined_lines bytes.now)) }
+    ensures rules { IfOk result (λ models. AreModels (plain_models models.items)) }
+    ensures ascend { IfOk result (λ models. LinesAscend (plain_models models.items) (length (lines bytes.now))) }
     ensures first { IfErr result (λ fault. fault ≢ faults.Memory → IsFirstFault judge file.now (joined_lines bytes.now) fault) }
     ensures reads { IsFine judge (joined_lines bytes.now) → IsOkUnless result faults.Memory }
     ensures refuses { (fault : PlainFault) → IsFirstFault judge file.now (joined_lines bytes.now) fault → IsErrAnd result (λ given. IsFaultOr given fault) }
