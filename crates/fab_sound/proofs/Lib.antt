@@ -1,0 +1,11 @@
+pub mod Waiting
+pub mod Noting
+pub mod Nets
+pub mod Places
+pub mod Driven
+pub mod Joining
+pub mod Clocking
+pub mod Leading
+pub mod Verdicts
+pub mod Sizing
+pub mod Judging

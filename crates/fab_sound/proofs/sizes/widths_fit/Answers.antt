@@ -1,0 +1,21 @@
+use Rattle.std.proofs.Common.{◌≡◌, true, false}
+use Rattle.std.specs.List.{list_all}
+use Rattle.fab_syntax.specs.Sound.{WidthsFit}
+use Rattle.fab_sound.specs.declared.sizes.Rule.TheVariants.{Widths}
+use Rattle.fab_sound.specs.Checks.{module_passes, library_text}
+use Rattle.fab_sound.proofs.Judging.{widths_says, yes_of, no_of, along_ok}
+use Rattle.fab_sound.proofs.sizes.widths_fit.Goals as goal
+
+pub returns-clause-fits : goal.returns-clause-fits
+returns-clause-fits c =
+    let library = c.args.library.now in
+    let test = list_all (module_passes Widths) library.modules.items in
+    along_ok c.modules_fit.result (λ fits. fits ≡ test) (λ fits. fits ≡ true → WidthsFit (library_text library))
+    (λ fits is. yes_of fits test (WidthsFit (library_text library)) (widths_says library c.requires) is) c.modules_fit.ensures
+
+pub returns-clause-broken : goal.returns-clause-broken
+returns-clause-broken c =
+    let library = c.args.library.now in
+    let test = list_all (module_passes Widths) library.modules.items in
+    along_ok c.modules_fit.result (λ fits. fits ≡ test) (λ fits. fits ≡ false → ¬ WidthsFit (library_text library))
+    (λ fits is. no_of fits test (WidthsFit (library_text library)) (widths_says library c.requires) is) c.modules_fit.ensures
