@@ -1,5 +1,5 @@
 -- One bit is set.
-use Rattle.std.proofs.Common.{◌≡◌, ℕ, ◌<◌, Bool, false, List, [], Vec, length, map, get_or, set, refl, sym, ap, ap₂, ◌∙◌, arith, subst, inl, inr}
+use Rattle.std.proofs.Common.{◌≡◌, ℕ, ◌<◌, Bool, false, List, [], Vec, length, map, get_or, set, refl, sym, ap, ◌∙◌, arith, subst, inl, inr}
 use Rattle.std.proofs.lemmas.Bool.Decides.{eqb_tells}
 use Rattle.std.proofs.lemmas.List.{map-set, length-map, length-set, get_or-set_same, get_or-set_other, get_or-map}
 use Rattle.fab_fabric.specs.Bits.{column_bits, place_bits, plain_bits, bits_of_column, bits_of_columns, HasBit, SetsBit}

@@ -1,16 +1,16 @@
 -- The first wires of places.
-use Rattle.std.proofs.Common.{◌≡◌, ℕ, zero, suc, ◌+◌, ◌*◌, ◌/◌, ◌%◌, ◌<◌, ◌≤◌, ◌^◌, List, [], ◌∷◌, ◌++◌, length, get_or, slice_get, refl, sym, ap, ◌∙◌, arith, subst, Option, Some, None, inl, inr}
+use Rattle.std.proofs.Common.{◌≡◌, ℕ, ◌+◌, ◌*◌, ◌<◌, ◌≤◌, List, [], ◌∷◌, ◌++◌, length, get_or, refl, sym, ap, ◌∙◌, arith, subst, Option, Some, None, inl, inr}
 use Rattle.std.specs.Option.{option_map_or}
 use Rattle.std.proofs.lemmas.Bool.{cases_lt}
-use Rattle.std.proofs.lemmas.List.{get_or_append_left, length-append}
+use Rattle.std.proofs.lemmas.List.{get_or_append_left}
 use Rattle.std.proofs.Math.Seq.{get_or-append_seam}
 use Rattle.std.proofs.lemmas.Option.{slice_get_read, slice_get-get_or}
 use Rattle.fab_model.specs.Tiles.{PlainTile, matrix_names}
 use Rattle.fab_model.specs.Grid.{PlainFabric, tile_at, numbered_type}
 use Rattle.fab_fabric.specs.Sums.{sum_to}
-use Rattle.fab_fabric.specs.Fabric.{fabric_of, IsFabric, IsPlace, wires_at, wire_count}
+use Rattle.fab_fabric.specs.Fabric.{IsFabric, IsPlace, wires_at}
 use Rattle.fab_fabric.specs.Index.{place_wires}
-use Rattle.fab_fabric.proofs.Summed.{no_sum, sum_more, sum_below}
+use Rattle.fab_fabric.proofs.Summed.{sum_more, sum_below}
 use Rattle.fab_fabric.proofs.Numbered.{all_places, wires_of_tile}
 use Rattle.fab_fabric.proofs.Placed.{in_grid, tile_inside}
 

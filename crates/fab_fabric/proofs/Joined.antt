@@ -1,16 +1,16 @@
 -- Joins of wires by number.
-use Rattle.std.proofs.Common.{◌≡◌, ℕ, ◌+◌, ◌^◌, ◌<◌, Bool, true, false, ◌&&◌, cond, List, All, length, get_or, slice_get, refl, sym, ap, ap₂, ◌∙◌, arith, subst, Option, Some, None, option_map, option_and_then, inl, inr}
+use Rattle.std.proofs.Common.{◌≡◌, ℕ, ◌+◌, ◌^◌, ◌<◌, Bool, true, false, ◌&&◌, cond, length, get_or, slice_get, refl, sym, ap, ap₂, ◌∙◌, arith, subst, Option, Some, None, option_map, option_and_then, inl, inr}
 use Rattle.std.specs.Option.{option_map_or, IfSome}
 use Rattle.std.proofs.lemmas.Bool.{cases_Bool}
 use Rattle.std.proofs.lemmas.Option.{same_Some, slice_get_read, slice_get_within}
 use Rattle.std.proofs.lemmas.Grind.{get_or_default_zero}
 use Rattle.fab_model.specs.declared.tiles.WireRow.{WireRow}
 use Rattle.fab_model.specs.Rows.{is_jump, is_named, border_bits, source_bits, dest_bits}
-use Rattle.fab_model.specs.Tiles.{PlainTile, IsTile, matrix_names}
-use Rattle.fab_model.specs.Grid.{PlainFabric, tile_at, AllRows, AreRows}
+use Rattle.fab_model.specs.Tiles.{PlainTile, IsTile}
+use Rattle.fab_model.specs.Grid.{PlainFabric, tile_at, AreRows}
 use Rattle.fab_model.specs.Joins.{RowPlace, Stands}
-use Rattle.fab_model.specs.Cascade.{PlacedRow, placed_row, next_row, previous_row, other_side, passing_bits, walk_to, walk_from, row_join_to, row_join_from, join_to, join_from, IsSourceBit, IsDestBit}
-use Rattle.fab_model.specs.Wires.{PlainWire, source_of, dest_of, HasWire, IsWire, sources_at, dests_at, wires_before_row, wire_number}
+use Rattle.fab_model.specs.Cascade.{PlacedRow, next_row, previous_row, other_side, passing_bits, walk_to, walk_from, row_join_to, row_join_from, join_to, join_from, IsSourceBit, IsDestBit}
+use Rattle.fab_model.specs.Wires.{PlainWire, source_of, dest_of, HasWire, IsWire, sources_at, wires_before_row}
 use Rattle.fab_model.proofs.Walks.{side_bits_is, side_has_name}
 use Rattle.fab_model.proofs.Found.{join_to_joins, join_from_joins, joins_source, joins_dest}
 use Rattle.fab_fabric.specs.Fabric.{AreTiles}
@@ -22,7 +22,7 @@ use Rattle.fab_fabric.specs.declared.index.TileIndex.{TileIndex}
 use Rattle.fab_fabric.specs.Index.{HasIndex, plain_wire}
 use Rattle.fab_fabric.specs.Walks.{place_of, found_bit, placed_at, row_at, HasRow, FindsRow, both_sides}
 use Rattle.fab_fabric.proofs.Numbered.{number_at, number_of_tile, number_within, wires_of_tile, one_wire}
-use Rattle.fab_fabric.proofs.Stepped.{placed, standing, stand, standing_row, next_of, previous_of}
+use Rattle.fab_fabric.proofs.Stepped.{placed, stand, standing_row, next_of, previous_of}
 
 pub are_rows : (fabric : PlainFabric) → AreTiles fabric → AreRows fabric
 are_rows fabric tiles k d few = (tiles k d few).rows

@@ -14,3 +14,4 @@ pub mod Selecting
 pub mod Joined
 pub mod BitMaps
 pub mod Samples
+pub mod Spans

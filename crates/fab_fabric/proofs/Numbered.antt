@@ -1,18 +1,18 @@
 -- The wires of a fabric and their numbers are one to one.
-use Rattle.std.proofs.Common.{◌≡◌, ℕ, zero, suc, ◌+◌, ◌-◌, ◌*◌, ◌/◌, ◌%◌, ◌<◌, ◌≤◌, Bool, true, false, ◌&&◌, length, map, slice_get, refl, sym, ap, ap₂, ◌∙◌, arith, subst, Option, Some, None, inl, inr, nat_lt, List}
+use Rattle.std.proofs.Common.{◌≡◌, ℕ, zero, suc, ◌+◌, ◌*◌, ◌<◌, ◌≤◌, true, false, length, slice_get, refl, sym, ap, ap₂, ◌∙◌, arith, subst, Option, Some, None, inl, inr, nat_lt, List}
 use Rattle.std.specs.Option.{option_map_or}
-use Rattle.std.proofs.lemmas.Bool.{cases_Bool, cases_lt, false≢true}
+use Rattle.std.proofs.lemmas.Bool.{cases_lt}
 use Rattle.std.proofs.lemmas.Bool.Decides.{nat_tests}
 use Rattle.std.proofs.lemmas.List.{length-map}
-use Rattle.std.proofs.lemmas.Nat.{div-mul-add, mod-mul-add, div-add-mod', mul-le}
+use Rattle.std.proofs.lemmas.Nat.{div-mul-add, mod-mul-add}
 use Rattle.std.proofs.lemmas.Option.{same_Some, slice_get_within, slice_get_cases}
 use Rattle.fab_model.specs.Tiles.{PlainTile, tile_wires, wire_name, matrix_names}
-use Rattle.fab_model.specs.Grid.{PlainFabric, tile_at, numbered_type}
+use Rattle.fab_model.specs.Grid.{PlainFabric, tile_at}
 use Rattle.fab_model.specs.Wires.{PlainWire, IsWire, HasWire, plain_wires, wire_number, wire_of}
 use Rattle.fab_model.proofs.Wires.{wire_at_number, number_has_wire, plain_wires_are_wires}
 use Rattle.fab_fabric.specs.Sums.{sum_to}
 use Rattle.fab_fabric.specs.Fabric.{wires_at, column_wires, wire_count}
-use Rattle.fab_fabric.specs.Wires.{wire_index, index_of, IsIndexOf}
+use Rattle.fab_fabric.specs.Wires.{wire_index, IsIndexOf}
 use Rattle.fab_fabric.specs.Index.{place_wires}
 use Rattle.fab_fabric.proofs.Summed.{no_sum, sum_more, sum_below, sum_same, sum_split, one_summand, some_summand}
 

@@ -1,12 +1,9 @@
 -- The tile at a place, as the grid has it.
-use Rattle.std.proofs.Common.{◌≡◌, ℕ, zero, suc, ◌+◌, ◌-◌, ◌*◌, ◌/◌, ◌%◌, ◌<◌, ◌≤◌, Bool, true, false, List, All, length, get_or, slice_get, map, refl, sym, ap, ◌∙◌, arith, subst, Option, Some, None, nat_lt}
-use Rattle.std.specs.Option.{option_map_or}
+use Rattle.std.proofs.Common.{◌≡◌, ℕ, ◌+◌, ◌*◌, ◌/◌, ◌<◌, ◌≤◌, true, false, length, get_or, slice_get, refl, ap, ◌∙◌, arith, Option, Some, None, nat_lt}
 use Rattle.std.proofs.lemmas.Bool.Decides.{nat_tests}
-use Rattle.std.proofs.lemmas.Nat.{div-mul-add, mul-le, div-add-mod'}
-use Rattle.std.proofs.lemmas.Option.{slice_get_read, get_or_from_slice_get, slice_get-get_or}
-use Rattle.fab_model.specs.Tiles.{PlainTile, matrix_names}
+use Rattle.std.proofs.lemmas.Nat.{mul-le, div-add-mod'}
+use Rattle.std.proofs.lemmas.Option.{slice_get_read}
 use Rattle.fab_model.specs.Grid.{PlainFabric, tile_at, numbered_type}
-use Rattle.fab_fabric.specs.Fabric.{fabric_of, IsFabric, IsPlace, wires_at}
 
 -- the place in the grid
 pub in_grid : (x y columns rows : ℕ) → x < columns → y < rows → y * columns + x < columns * rows

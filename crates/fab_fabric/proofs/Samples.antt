@@ -1,5 +1,5 @@
 -- The tiles and fabrics of the tests are tiles and fabrics.
-use Rattle.std.proofs.Common.{◌≡◌, ◌≢◌, ◌<◌, ◌≤◌, ℕ, List, [], ◌∷◌, All, AllPairs, Option, Some, None, length, map, refl, sym, subst, arith, get_or, ap, ◌∙◌, codes, decimal, eqb, ◌++◌}
+use Rattle.std.proofs.Common.{◌≡◌, ◌≢◌, ◌<◌, ◌≤◌, ℕ, List, [], ◌∷◌, All, AllPairs, Option, Some, None, length, map, refl, sym, subst, arith, ap, ◌∙◌, codes, decimal, eqb, ◌++◌}
 use Rattle.std.proofs.lemmas.Bool.{false≢true}
 use Rattle.std.specs.Str.{bytes_eq}
 use Rattle.std.specs.List.{IsDistinct}
@@ -15,23 +15,23 @@ use Rattle.fab_select.specs.Selection.{firsts}
 use Rattle.fab_select.proofs.Firsts.{firsts_distinct}
 use Rattle.fab_model.specs.Rows.{IsWireRow}
 use Rattle.fab_bits.specs.Widths.{select_width}
-use Rattle.fab_model.specs.Tiles.{PlainTile, bare_tile, counted, matrix_names, tile_bits, IsTile, IsPair}
+use Rattle.fab_model.specs.Tiles.{bare_tile, counted, matrix_names, tile_bits, IsTile, IsPair}
 use Rattle.fab_model.specs.Grid.{PlainFabric}
 use Rattle.fab_fabric.specs.Sums.{sum_to}
 use Rattle.fab_fabric.specs.Fabric.{fabric_of, wire_count, IsPlace, HasTable, IsFabric}
 use Rattle.fab_fabric.specs.Examples.{north, tile_of, top, middle, two_types, six_places, pad_rows, pad_bels, pad_pairs, pad_table, pads, lut_rows, lut_bels, lut_pairs, lut_table, lut, three_places}
 
 -- names that are all kept as first ones differ
-names_differ : (names : List (List ℕ)) → firsts bytes_eq names ≡ names → AllPairs (λ first second. first ≢ second) names
+pub names_differ : (names : List (List ℕ)) → firsts bytes_eq names ≡ names → AllPairs (λ first second. first ≢ second) names
 names_differ names same = AllPairs-from_IsDistinct bytes_eq-Decides names (subst (IsDistinct bytes_eq) same (firsts_distinct bytes_eq bytes_eq-Decides names))
 
-no_pairs : {X : Type 0} (R : X → X → Type 0) → AllPairs R []
+pub no_pairs : {X : Type 0} (R : X → X → Type 0) → AllPairs R []
 no_pairs R = λ i j d before inside. absurd (omega (arith, inside))
 
-one_of : {X : Type 0} (R : X → X → Type 0) (x : X) → AllPairs R (x ∷ [])
+pub one_of : {X : Type 0} (R : X → X → Type 0) (x : X) → AllPairs R (x ∷ [])
 one_of R x = AllPairs-cons R x [] (All-nil (R x)) (no_pairs R)
 
-two_of : {X : Type 0} (R : X → X → Type 0) (x y : X) → R x y → AllPairs R (x ∷ y ∷ [])
+pub two_of : {X : Type 0} (R : X → X → Type 0) (x y : X) → R x y → AllPairs R (x ∷ y ∷ [])
 two_of R x y apart = AllPairs-cons R x (y ∷ []) (All-cons (R x) y [] apart (All-nil (R x))) (one_of R y)
 
 -- ---- the column

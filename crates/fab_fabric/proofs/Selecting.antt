@@ -1,7 +1,7 @@
 -- What select bits pick.
-use Rattle.std.proofs.Common.{◌≡◌, ℕ, zero, suc, ◌+◌, ◌-◌, ◌*◌, ◌^◌, ◌<◌, ◌≤◌, Bool, true, false, cond, List, [], ◌∷◌, All, length, map, get_or, slice_get, refl, sym, ap, ap₂, ◌∙◌, arith, subst, Option, Some, None, Vec, option_map, option_and_then, nat_eq, nat_le, nat_lt, inl, inr, pow-suc, pow_mono}
+use Rattle.std.proofs.Common.{◌≡◌, ℕ, zero, suc, ◌+◌, ◌-◌, ◌*◌, ◌^◌, ◌<◌, ◌≤◌, Bool, true, false, List, [], ◌∷◌, All, length, map, get_or, slice_get, refl, sym, ap, ap₂, ◌∙◌, arith, Option, Some, None, Vec, option_map, option_and_then, nat_eq, nat_le, nat_lt, inl, inr, pow-suc, pow_mono}
 use Rattle.std.proofs.lemmas.Bool.{cases_Bool, cases_lt}
-use Rattle.std.proofs.lemmas.Bool.Decides.{nat_tests, eqb_tells}
+use Rattle.std.proofs.lemmas.Bool.Decides.{nat_tests}
 use Rattle.std.proofs.lemmas.List.{nil_from_length, get_or_past}
 use Rattle.std.proofs.lemmas.List.Elements.{All-head, All-tail}
 use Rattle.std.proofs.lemmas.Grind.{get_or_default_zero}

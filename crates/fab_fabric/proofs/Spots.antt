@@ -1,5 +1,5 @@
 -- From wires to places and back.
-use Rattle.std.proofs.Common.{◌≡◌, ℕ, zero, suc, ◌+◌, ◌-◌, ◌*◌, ◌/◌, ◌%◌, ◌<◌, ◌≤◌, Bool, true, false, List, length, get_or, refl, sym, ap, ap₂, ◌∙◌, arith, subst, nat_le, inl, inr}
+use Rattle.std.proofs.Common.{◌≡◌, ℕ, zero, suc, ◌+◌, ◌-◌, ◌*◌, ◌/◌, ◌%◌, ◌<◌, ◌≤◌, true, false, List, length, get_or, sym, ap, ◌∙◌, arith, subst, nat_le, inl, inr}
 use Rattle.std.specs.List.Sorted.{IsPartitionedBy, IsPartitionPoint}
 use Rattle.std.proofs.lemmas.Bool.{cases_lt}
 use Rattle.std.proofs.lemmas.Bool.Decides.{nat_tests}
@@ -13,7 +13,7 @@ use Rattle.fab_fabric.specs.Wires.{wire_index}
 use Rattle.fab_fabric.specs.Index.{place_wires, HasFirsts, IsIndexed}
 use Rattle.fab_fabric.proofs.Summed.{no_sum, sum_more, sum_at_most}
 use Rattle.fab_fabric.proofs.Numbered.{first_of_place, all_places, wired_within}
-use Rattle.fab_fabric.proofs.Placed.{in_columns, column_of}
+use Rattle.fab_fabric.proofs.Placed.{in_columns}
 
 -- ---- from a place to its wires
 

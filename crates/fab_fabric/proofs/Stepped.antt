@@ -1,5 +1,5 @@
 -- Walks from row to row.
-use Rattle.std.proofs.Common.{◌≡◌, ℕ, zero, suc, ◌+◌, ◌-◌, ◌*◌, ◌<◌, ◌≤◌, Bool, true, false, cond, List, length, get_or, take, count_by, slice_get, refl, sym, ap, ap₂, ◌∙◌, arith, subst, Option, Some, None, option_map, option_and_then, nat_eq, nat_lt}
+use Rattle.std.proofs.Common.{◌≡◌, ℕ, zero, suc, ◌+◌, ◌-◌, ◌<◌, ◌≤◌, Bool, true, false, cond, List, length, get_or, take, count_by, slice_get, refl, sym, ap, ap₂, ◌∙◌, arith, subst, Option, Some, None, option_map, option_and_then, nat_eq, nat_lt}
 use Rattle.std.specs.Option.{IfSome}
 use Rattle.std.proofs.lemmas.Bool.Decides.{nat_tests}
 use Rattle.std.proofs.lemmas.Option.{same_Some, slice_get_within, slice_get_read, get_or_from_slice_get}
@@ -9,7 +9,7 @@ use Rattle.fab_model.specs.Rows.{border_bits}
 use Rattle.fab_model.specs.Tiles.{PlainTile}
 use Rattle.fab_model.specs.Grid.{PlainFabric, tile_at}
 use Rattle.fab_model.specs.Joins.{RowPlace, goes, comes}
-use Rattle.fab_model.specs.Cascade.{opposite, step, nth_row, PlacedRow, row_of_tile, placed_row, fitting, partner_in, partner_at, next_row, previous_row, passing_bits, ends_there, walk_to, walk_from}
+use Rattle.fab_model.specs.Cascade.{opposite, step, nth_row, PlacedRow, row_of_tile, placed_row, fitting, partner_at, next_row, previous_row, passing_bits, ends_there, walk_to, walk_from}
 use Rattle.fab_model.proofs.Steps.{map_gives, then_gives, nth_row_is}
 use Rattle.fab_fabric.specs.Wires.{row_place}
 use Rattle.fab_fabric.specs.declared.fabric.joins.RowAt.{RowAt}
@@ -19,7 +19,7 @@ use Rattle.fab_fabric.specs.declared.ends.Side.TheVariants as sides
 use Rattle.fab_fabric.specs.declared.ends.Ends.{Ends}
 use Rattle.fab_fabric.specs.declared.index.TileIndex.{TileIndex}
 use Rattle.fab_fabric.specs.Index.{has_side, HasEnds, HasIndex, ends_of}
-use Rattle.fab_fabric.specs.Walks.{place_of, found_bit, row_at, placed_at, HasRow, FindsRow}
+use Rattle.fab_fabric.specs.Walks.{place_of, row_at, placed_at, HasRow, FindsRow}
 
 -- ---- rows that stand
 

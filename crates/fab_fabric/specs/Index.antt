@@ -1,7 +1,6 @@
 -- What a fabric keeps beside its tile types and its grid, so that calls take no search.
 use Rattle.std.specs.Prelude.{◌≡◌, ◌<◌, ℕ, Bool, ◌*◌, ◌/◌, ◌%◌, List, [], Vec, map, length, take, count_by, slice_get, slice_index_or, Some}
 use Rattle.std.specs.Option.{option_map}
-use Rattle.fab_select.specs.Selection.{inputs_of}
 use Rattle.fab_model.specs.declared.tiles.Dir.{Dir}
 use Rattle.fab_model.specs.declared.tiles.Dir.TheVariants as dirs
 use Rattle.fab_model.specs.declared.tiles.WireRow.{WireRow}

@@ -1,7 +1,6 @@
 -- The wires of a fabric by number: column by column, in a column from the top, and in a tile by matrix name.
-use Rattle.std.specs.Prelude.{◌≡◌, ◌<◌, ℕ, ◌+◌, Option, Some, None}
+use Rattle.std.specs.Prelude.{◌≡◌, ℕ, ◌+◌, Option, None}
 use Rattle.std.specs.Option.{option_map, option_map_or}
-use Rattle.fab_model.specs.Tiles.{PlainTile}
 use Rattle.fab_model.specs.Grid.{PlainFabric, tile_at}
 use Rattle.fab_model.specs.Wires.{PlainWire, HasWire, source_of, dest_of, pin_of, wire_number}
 use Rattle.fab_model.specs.Joins.{RowPlace}

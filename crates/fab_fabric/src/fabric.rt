@@ -145,8 +145,9 @@ impl Fabric {
 
     /// The wire of a matrix name in the tile at a place; none where the place is empty, or the tile has no such name.
     pub fn wire_of(&self, x: u32, y: u32, name: &[u8]) -> Option<Wire>
-        ensures { result ≡ option_map (λ number. numbered_wire (wire_index self.now x y number))
+        ensures named { result ≡ option_map (λ number. numbered_wire (wire_index self.now x y number))
             (option_and_then (λ tile. position (bytes_eq name.now) (matrix_names tile)) (tile_at self.now x y)) }
+        ensures within { IfSome result (λ wire. wire.0 < wire_count self.now) }
     {
         let (tile, _) = self.tile_at(x, y)?;
         let number = tile.number_of(name)?;

@@ -9,7 +9,7 @@ ghost use Rattle.fab_model.specs.Drive.{drive, matrix_drive, constant};
 ghost use Rattle.fab_fabric.specs.Fabric.{wire_count};
 ghost use Rattle.fab_fabric.specs.Wires.{IsIndexOf, wire_index};
 ghost use Rattle.fab_fabric.specs.Bits.{plain_bits};
-ghost use Rattle.fab_fabric.specs.Drive.{numbered_drive};
+ghost use Rattle.fab_fabric.specs.Drive.{numbered_drive, CopiesWithin};
 
 use super::Fabric;
 use super::joins::RowAt;
@@ -23,8 +23,9 @@ impl Fabric {
     /// What drives a wire under configuration bits. Bits that the fabric has and that are not given are false.
     pub fn drive_of(&self, wire: Wire, bits: &Bits) -> Drive
         requires { wire.0 < wire_count self.now }
-        ensures { (x y : ℕ) (plain : PlainWire) → IsIndexOf self.now wire.0 x y plain →
+        ensures drive { (x y : ℕ) (plain : PlainWire) → IsIndexOf self.now wire.0 x y plain →
             result ≡ numbered_drive self.now (drive self.now (plain_bits bits.now) x y plain) }
+        ensures within { CopiesWithin self.now result }
     {
         let (x, y, number) = self.spot(wire);
         match self.tile_wire(x, y, number) {
@@ -37,7 +38,8 @@ impl Fabric {
     // What drives a pin: the switch matrix if it is an input, else its BEL.
     fn pin_drive(&self, x: u32, y: u32, number: u32, bel: usize, pin: u32, bits: &Bits) -> Drive
         requires { IsIndexOf self.now (wire_index self.now x y number) x y (pin_of bel pin) }
-        ensures { result ≡ numbered_drive self.now (drive self.now (plain_bits bits.now) x y (pin_of bel pin)) }
+        ensures drive { result ≡ numbered_drive self.now (drive self.now (plain_bits bits.now) x y (pin_of bel pin)) }
+        ensures within { CopiesWithin self.now result }
     {
         let Some((tile, _)) = self.tile_at(x, y) else {
             return Drive::Zero;
@@ -56,8 +58,9 @@ impl Fabric {
 
     // What drives a matrix output: the input that its select bits pick.
     fn matrix_drive(&self, x: u32, y: u32, output: u32, bits: &Bits) -> Drive
-        ensures { (tile : PlainTile) → tile_at self.now x y ≡ Some tile →
+        ensures drive { (tile : PlainTile) → tile_at self.now x y ≡ Some tile →
             result ≡ numbered_drive self.now (matrix_drive (plain_bits bits.now x y) x y tile output) }
+        ensures within { CopiesWithin self.now result }
     {
         let Some((tile, index)) = self.tile_at(x, y) else {
             return Drive::Zero;
@@ -74,7 +77,8 @@ impl Fabric {
     // What drives a destination bit: the source bit that is joined to it, if it is no constant.
     fn dest_drive(&self, there: RowAt, bit: u64) -> Drive
         requires { HasWire self.now there.x there.y (dest_of there.row bit) }
-        ensures { (bits : ℕ → ℕ → ℕ → Bool) → result ≡ numbered_drive self.now (drive self.now bits there.x there.y (dest_of there.row bit)) }
+        ensures drive { (bits : ℕ → ℕ → ℕ → Bool) → result ≡ numbered_drive self.now (drive self.now bits there.x there.y (dest_of there.row bit)) }
+        ensures within { CopiesWithin self.now result }
     {
         let row = self.row(there);
         if row.dir == Dir::Jump && row.source.is_none() {
@@ -89,7 +93,8 @@ impl Fabric {
 
 // The value of a jump without a source, by the name of its destination.
 fn constant(dest: &Option<Name>) -> Drive
-    ensures { (fabric : PlainFabric) → result ≡ numbered_drive fabric (constant dest.now) }
+    ensures drive { (fabric : PlainFabric) → result ≡ numbered_drive fabric (constant dest.now) }
+    ensures within { (fabric : PlainFabric) → CopiesWithin fabric result }
 {
     match dest {
         Some(name) if name.bytes() == b"VCC".as_slice() => Drive::One,

@@ -29,7 +29,8 @@ impl Fabric {
     /// The matrix input to which a matrix output is joined; none where it is joined to none, and for other wires.
     pub fn join_to(&self, wire: Wire) -> Option<Wire>
         requires { wire.0 < wire_count self.now }
-        ensures { (x y : ℕ) (plain : PlainWire) → IsIndexOf self.now wire.0 x y plain → result ≡ wire_join_to self.now x y plain }
+        ensures join { (x y : ℕ) (plain : PlainWire) → IsIndexOf self.now wire.0 x y plain → result ≡ wire_join_to self.now x y plain }
+        ensures within { IfSome result (λ input. input.0 < wire_count self.now) }
     {
         let (x, y, number) = self.spot(wire);
         let TileWire::Source(row, bit) = self.tile_wire(x, y, number) else {
@@ -42,7 +43,8 @@ impl Fabric {
     /// The matrix output that is joined to a matrix input; none where none is, and for other wires.
     pub fn join_from(&self, wire: Wire) -> Option<Wire>
         requires { wire.0 < wire_count self.now }
-        ensures { (x y : ℕ) (plain : PlainWire) → IsIndexOf self.now wire.0 x y plain → result ≡ wire_join_from self.now x y plain }
+        ensures join { (x y : ℕ) (plain : PlainWire) → IsIndexOf self.now wire.0 x y plain → result ≡ wire_join_from self.now x y plain }
+        ensures within { IfSome result (λ output. output.0 < wire_count self.now) }
     {
         let (x, y, number) = self.spot(wire);
         let TileWire::Dest(row, bit) = self.tile_wire(x, y, number) else {
@@ -171,7 +173,8 @@ impl Fabric {
     // The wire of a destination bit.
     fn dest_wire(&self, at: RowAt, bit: u64) -> Wire
         requires { HasWire self.now at.x at.y (dest_of at.row bit) }
-        ensures { result ≡ numbered_wire (index_of self.now at.x at.y (dest_of at.row bit)) }
+        ensures index { result ≡ numbered_wire (index_of self.now at.x at.y (dest_of at.row bit)) }
+        ensures within { result.0 < wire_count self.now }
     {
         match self.tile_at(at.x, at.y) {
             Some((tile, index)) => {
@@ -185,7 +188,8 @@ impl Fabric {
     /// The wire of a source bit.
     pub fn source_wire(&self, at: RowAt, bit: u64) -> Wire
         requires { HasWire self.now at.x at.y (source_of at.row bit) }
-        ensures { result ≡ numbered_wire (index_of self.now at.x at.y (source_of at.row bit)) }
+        ensures index { result ≡ numbered_wire (index_of self.now at.x at.y (source_of at.row bit)) }
+        ensures within { result.0 < wire_count self.now }
     {
         match self.tile_at(at.x, at.y) {
             Some((_, index)) => self.wire_at(at.x, at.y, (index.starts[at.row] + bit) as u32),

@@ -11,6 +11,8 @@ use fab_base::Name;
 use fab_model::{Bel, Dir, FrameTable, Pair, WireRow};
 use std::test::Fail;
 
+mod spans;
+
 // ---- a column of six tiles, whose wires go four tiles to the north and end in the first
 
 fn named(alloc: Global, name: &[u8]) -> Result<Option<Name>, Memory>

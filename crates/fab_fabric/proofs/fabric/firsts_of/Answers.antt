@@ -1,4 +1,4 @@
-use Rattle.std.proofs.Common.{◌≡◌, ◌<◌, ◌*◌, ◌/◌, ◌%◌, ℕ, sym, ap, ◌∙◌, length, arith}
+use Rattle.std.proofs.Common.{◌≡◌, ◌<◌, ◌*◌, ◌/◌, ◌%◌, sym, ap, ◌∙◌, length, arith}
 use Rattle.fab_fabric.specs.Fabric.{fabric_of, wires_at}
 use Rattle.fab_fabric.specs.Index.{place_wires}
 use Rattle.fab_fabric.proofs.Summed.{no_sum}

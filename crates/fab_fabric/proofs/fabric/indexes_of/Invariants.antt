@@ -1,4 +1,4 @@
-use Rattle.std.proofs.Common.{◌≡◌, ℕ, ◌<◌, length, slice_get, Some}
+use Rattle.std.proofs.Common.{◌≡◌, length}
 use Rattle.fab_fabric.proofs.Kept.{HaveSome}
 use Rattle.fab_fabric.proofs.fabric.indexes_of.Given as goal
 

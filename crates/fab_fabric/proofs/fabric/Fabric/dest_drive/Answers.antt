@@ -7,3 +7,6 @@ row-row-requires c = dest_stands c.args.self.now c.args.there c.args.bit c.requi
 
 pub source_wire-requires : goal.source_wire-requires
 source_wire-requires c = join_departs c.args.self.now c.in-Some.from c.args.there c.in-Some.source c.args.bit c.row_join_from.ensures.are_tiles c.requires (sym c.in-Some.ensures.join)
+
+pub returns-then-is_none-clause-within : goal.returns-then-is_none-clause-within
+returns-then-is_none-clause-within c = c.constant.ensures.within c.args.self.now

@@ -1,4 +1,4 @@
-use Rattle.std.proofs.Common.{◌≡◌, ◌∙◌, ap, sym, None, Some, option_map, subst}
+use Rattle.std.proofs.Common.{◌∙◌, ap, sym, Some, option_map, subst}
 use Rattle.fab_model.specs.Wires.{HasWire}
 use Rattle.fab_fabric.specs.Wires.{wire_join_from, source_wire}
 use Rattle.fab_fabric.specs.Index.{plain_wire}
@@ -6,15 +6,15 @@ use Rattle.fab_fabric.proofs.Stepped.{row_spot}
 use Rattle.fab_fabric.proofs.Joined.{same_at, join_departs, no_from}
 use Rattle.fab_fabric.proofs.fabric.Fabric.join_from.Goals as goal
 
-pub returns-in_default : goal.returns-in_default
-returns-in_default c = λ x y plain is.
+pub returns-in_default-clause-join : goal.returns-in_default-clause-join
+returns-in_default-clause-join c = λ x y plain is.
     let at = c.spot-x.result in
     let fabric = c.args.self.now in
     no_from fabric c.tile_wire.result at.0 at.1 c.in_default.not-Dest
     ∙ same_at (wire_join_from fabric) fabric c.args.wire.0 _ at.0 at.1 x y (plain_wire c.tile_wire.result) plain c.spot-x.ensures.index c.tile_wire.ensures is
 
-pub returns-in_err-there : goal.returns-in_err-there
-returns-in_err-there c = λ x y plain is.
+pub returns-in_err-there-clause-join : goal.returns-in_err-there-clause-join
+returns-in_err-there-clause-join c = λ x y plain is.
     let at = c.spot-x.result in
     let fabric = c.args.self.now in
     c.from_residual.ensures
@@ -29,11 +29,14 @@ source_wire-requires c =
     let has = subst (λ wire. HasWire fabric at.0 at.1 (plain_wire wire)) c.in-Dest.is c.tile_wire.ensures.is_wire in
     join_departs fabric c.in_ok-there.there (row_spot at.0 at.1 c.in-Dest.row) c.in_ok-there.source c.in-Dest.bit c.row_join_from.ensures.are_tiles has (sym c.in_ok-there.ensures.join)
 
-pub returns : goal.returns
-returns c = λ x y plain is.
+pub returns-clause-join : goal.returns-clause-join
+returns-clause-join c = λ x y plain is.
     let at = c.spot-x.result in
     let fabric = c.args.self.now in
-    ap Some c.source_wire.ensures
+    ap Some c.source_wire.ensures.index
     ∙ ap (option_map (source_wire fabric)) c.in_ok-there.ensures.join
     ∙ sym (ap (λ wire. wire_join_from fabric at.0 at.1 (plain_wire wire)) c.in-Dest.is)
     ∙ same_at (wire_join_from fabric) fabric c.args.wire.0 _ at.0 at.1 x y (plain_wire c.tile_wire.result) plain c.spot-x.ensures.index c.tile_wire.ensures is
+
+pub returns-clause-within : goal.returns-clause-within
+returns-clause-within c = c.source_wire.ensures.within

@@ -1,4 +1,4 @@
-use Rattle.std.proofs.Common.{◌≡◌, ◌<◌, ◌+◌, ◌^◌, ◌∙◌, ℕ, List, Bool, Some, sym, ap, subst, length, get_or, false, arith}
+use Rattle.std.proofs.Common.{◌≡◌, ◌<◌, ◌+◌, ◌^◌, ◌∙◌, sym, ap, length, get_or, false, arith}
 use Rattle.std.proofs.lemmas.Option.{same_Some}
 use Rattle.fab_bits.specs.Bits.{number, first_bits}
 use Rattle.fab_model.specs.Tiles.{PlainTile}
@@ -27,8 +27,8 @@ wire_at-requires c =
     let named = picked_named tile kept.is_tile c.args.output inputs c.select_value-value.result c.picked.result inputs_are some c.picked.ensures.early c.picked.ensures.late in
     omega (arith, named, wires_of_tile c.args.self.now c.args.x c.args.y tile c.in-Some.ensures.found.0)
 
-pub returns : goal.returns
-returns c = λ other other_is.
+pub returns-clause-drive : goal.returns-clause-drive
+returns-clause-drive c = λ other other_is.
     let tile = c.in-Some.tile.now in
     let kept = c.in-Some.ensures.found.1 in
     let inputs = c.inputs_of-inputs.result.now in
@@ -43,3 +43,6 @@ returns c = λ other other_is.
     ∙ driven_by_input fabric bits c.args.x c.args.y tile c.args.output inputs c.select_value-value.result c.picked.result c.in-Some.ensures.found.0 kept.is_tile inputs_are some value c.picked.ensures.early
     c.picked.ensures.late
     ∙ ap (λ (t : PlainTile). numbered_drive fabric (matrix_drive bits c.args.x c.args.y t c.args.output)) same
+
+pub returns-clause-within : goal.returns-clause-within
+returns-clause-within c = c.wire_at.ensures.within

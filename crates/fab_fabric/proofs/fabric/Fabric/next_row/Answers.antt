@@ -1,6 +1,5 @@
-use Rattle.std.proofs.Common.{◌≡◌, ◌<◌, ◌≤◌, ℕ, List, arith, refl, sym, ap, length, get_or, slice_get, subst, Option, Some, ◌∙◌}
+use Rattle.std.proofs.Common.{◌≡◌, List, arith, refl, sym, ap, length, get_or, slice_get, subst, Option, Some, ◌∙◌}
 use Rattle.std.proofs.lemmas.Option.{slice_get_read}
-use Rattle.fab_model.specs.Cascade.{PlacedRow}
 use Rattle.fab_model.specs.declared.tiles.WireRow.{WireRow}
 use Rattle.fab_fabric.specs.declared.fabric.joins.RowAt.{RowAt}
 use Rattle.fab_fabric.specs.declared.ends.Side.TheVariants as sides

@@ -1,17 +1,17 @@
-use Rattle.std.proofs.Common.{◌≡◌, ◌<◌, ◌≤◌, ◌∙◌, length, get_or, slice_get, Some, subst, sym, ap, refl, arith}
+use Rattle.std.proofs.Common.{◌≡◌, ◌<◌, ◌≤◌, ◌∙◌, length, get_or, slice_get, Some, sym, ap, refl, arith}
 use Rattle.std.proofs.lemmas.Option.{same_Some, slice_get_read}
 use Rattle.fab_kinds.specs.Pins.{input_count}
 use Rattle.fab_model.specs.declared.tiles.Bel.{Bel}
 use Rattle.fab_model.specs.Tiles.{PlainTile}
-use Rattle.fab_model.specs.Wires.{pin_of, IsWire}
+use Rattle.fab_model.specs.Wires.{pin_of}
 use Rattle.fab_model.proofs.Drives.{output_pin_is_of_bel}
 use Rattle.fab_fabric.specs.Bits.{plain_bits}
 use Rattle.fab_fabric.specs.Drive.{numbered_drive}
 use Rattle.fab_fabric.proofs.Selecting.{matrix_driven, pin_inside, pin_is_output}
 use Rattle.fab_fabric.proofs.fabric.Fabric.pin_drive.Goals as goal
 
-pub returns-then-pin-inputs : goal.returns-then-pin-inputs
-returns-then-pin-inputs c =
+pub returns-then-pin-inputs-clause-drive : goal.returns-then-pin-inputs-clause-drive
+returns-then-pin-inputs-clause-drive c =
     let fabric = c.args.self.now in
     let tile = c.in-Some.tile.now in
     let has = c.requires.is_wire in
@@ -22,7 +22,7 @@ returns-then-pin-inputs c =
     let there : slice_get has.tile.bels c.args.bel ≡ Some bel = slice_get_read has.tile.bels (length has.tile.bels) c.args.bel bel refl inside read in
     let few : c.args.pin < input_count bel.kind = omega (arith, c.if-pin-inputs.true, c.inputs.ensures, ap (λ (b : Bel). input_count b.kind) c.index-bels-bel.is) in
     matrix_driven fabric (plain_bits c.args.bits.now) c.args.x c.args.y c.args.number (pin_of c.args.bel c.args.pin) c.matrix_drive.result c.requires (pin_is_output has.tile c.args.bel c.args.pin bel there few)
-    c.matrix_drive.ensures
+    c.matrix_drive.ensures.drive
 
 pub overflow_cast-site : goal.overflow_cast-site
 overflow_cast-site c =
@@ -32,8 +32,8 @@ overflow_cast-site c =
     let inside = pin_inside has.tile.bels c.args.bel c.args.pin has.is_wire in
     omega (arith, inside, ap (λ (t : PlainTile). length t.bels) same, c.in-Some.ensures.few_bels)
 
-pub returns : goal.returns
-returns c =
+pub returns-clause-drive : goal.returns-clause-drive
+returns-clause-drive c =
     let fabric = c.args.self.now in
     let tile = c.in-Some.tile.now in
     let has = c.requires.is_wire in

@@ -1,4 +1,4 @@
-use Rattle.std.proofs.Common.{◌≡◌, ◌<◌, ◌≤◌, ℕ, List, arith, refl, sym, ap, length, get_or, slice_get, subst, Option, Some, ◌∙◌}
+use Rattle.std.proofs.Common.{◌≡◌, List, arith, refl, sym, ap, length, get_or, slice_get, subst, Option, Some, ◌∙◌}
 use Rattle.std.proofs.lemmas.Option.{slice_get_read}
 use Rattle.fab_model.specs.declared.tiles.Dir.{Dir}
 use Rattle.fab_model.specs.Cascade.{step}

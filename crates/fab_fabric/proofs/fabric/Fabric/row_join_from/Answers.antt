@@ -1,4 +1,3 @@
-use Rattle.std.proofs.Common.{◌≡◌, ◌∙◌, ap, sym, arith}
 use Rattle.fab_fabric.proofs.Joined.{dest_stands}
 use Rattle.fab_fabric.proofs.fabric.Fabric.row_join_from.Goals as goal
 

@@ -1,10 +1,9 @@
-use Rattle.std.proofs.Common.{◌≡◌, ◌≤◌, ◌<◌, ◌-◌, ℕ, List, rules, nat_le, false, true, arith, sym, subst, length, ◌∙◌, ap, get_or}
-use Rattle.std.specs.List.Sorted.{IsPartitionPoint}
+use Rattle.std.proofs.Common.{◌<◌, ◌-◌, rules, nat_le, sym, subst}
 use Rattle.std.proofs.lemmas.List.Sorted.{IsPartitionPoint-from_clause}
 use Rattle.fab_model.specs.Grid.{PlainFabric}
 use Rattle.fab_fabric.specs.Fabric.{wire_count}
 use Rattle.fab_fabric.specs.Index.{HasFirsts}
-use Rattle.fab_fabric.proofs.Spots.{IsLast, firsts_rise, some_begin, last_place, spot_is, first_early}
+use Rattle.fab_fabric.proofs.Spots.{firsts_rise, some_begin, last_place, spot_is, first_early}
 use Rattle.fab_fabric.proofs.fabric.Fabric.spot.Goals as goal
 
 pub overflow_sub-place : goal.overflow_sub-place

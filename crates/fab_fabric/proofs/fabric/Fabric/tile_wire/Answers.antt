@@ -1,4 +1,4 @@
-use Rattle.std.proofs.Common.{◌≡◌, arith, ap, map, length}
+use Rattle.std.proofs.Common.{arith}
 use Rattle.fab_fabric.proofs.Tiles.{wire_inside, wire_found}
 use Rattle.fab_fabric.proofs.fabric.Fabric.tile_wire.Goals as goal
 

@@ -1,5 +1,5 @@
-use Rattle.std.proofs.Common.{◌≡◌, ◌<◌, ◌≤◌, ◌+◌, ◌-◌, ℕ, arith, sym, ap, subst, Option, Some, None, option_map, ◌∙◌, refl}
-use Rattle.fab_model.specs.Cascade.{placed_row, passing_bits, ends_there, walk_from}
+use Rattle.std.proofs.Common.{◌≡◌, ◌<◌, ◌≤◌, ◌+◌, ◌-◌, arith, sym, ap, Some, None, option_map, ◌∙◌}
+use Rattle.fab_model.specs.Cascade.{placed_row, passing_bits, walk_from}
 use Rattle.fab_fabric.specs.Walks.{place_of, found_bit}
 use Rattle.fab_fabric.proofs.Stepped.{start_from, start_stands, past_from, walk_from_ends, begins_here, comes_from_further}
 use Rattle.fab_fabric.proofs.fabric.Fabric.walk_from.Goals as goal

@@ -1,5 +1,5 @@
-use Rattle.std.proofs.Common.{◌≡◌, ◌<◌, ◌≤◌, ◌+◌, ◌-◌, ℕ, arith, sym, ap, subst, Option, Some, None, option_map, ◌∙◌, true, false}
-use Rattle.fab_model.specs.Cascade.{placed_row, passing_bits, ends_there, walk_to}
+use Rattle.std.proofs.Common.{◌≡◌, ◌+◌, ◌-◌, arith, sym, ap, None, option_map, ◌∙◌, true, false}
+use Rattle.fab_model.specs.Cascade.{placed_row, ends_there, walk_to}
 use Rattle.fab_fabric.specs.Walks.{place_of, found_bit}
 use Rattle.fab_fabric.proofs.Stepped.{start_to, start_stands, past_to, walk_to_ends, ends_here, goes_on}
 use Rattle.fab_fabric.proofs.fabric.Fabric.walk_to.Goals as goal

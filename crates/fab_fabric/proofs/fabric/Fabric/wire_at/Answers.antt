@@ -1,7 +1,7 @@
-use Rattle.std.proofs.Common.{◌≡◌, ◌+◌, ◌<◌, ◌≤◌, ℕ, arith, sym, subst, ap, ◌∙◌}
+use Rattle.std.proofs.Common.{◌≤◌, arith, subst, ap}
 use Rattle.fab_model.specs.Grid.{PlainFabric}
 use Rattle.fab_fabric.specs.Fabric.{wire_count}
-use Rattle.fab_fabric.specs.Wires.{wire_index, numbered_wire}
+use Rattle.fab_fabric.specs.Wires.{numbered_wire}
 use Rattle.fab_fabric.proofs.Numbered.{index_within}
 use Rattle.fab_fabric.proofs.Spots.{wire_read}
 use Rattle.fab_fabric.proofs.fabric.Fabric.wire_at.Goals as goal
