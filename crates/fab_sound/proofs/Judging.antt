@@ -13,10 +13,11 @@ use Rattle.fab_syntax.specs.declared.tree.Shape.TheVariants.{Scalar, Vector}
 use Rattle.fab_syntax.specs.Plain.{PlainExpr, PlainExprs, PlainItem, PlainModule, constant, variable, pick, part, concatenation, complement, operation, conditional, none, more, wire, reg, assign, latch, clocked, instance}
 use Rattle.fab_syntax.specs.Declarations.{declared_shape, width_if_any}
 use Rattle.fab_syntax.specs.Sound.{subexpressions, expression_width, parts_width, width_of_name, width_of, IsVectorAnd, SelectFits, OperandsFit, Every, SidesFit, item_expressions, SelectsFit, WidthsFit, IsFirstBroken}
+use Rattle.fab_sound.specs.Narrow.{IsNarrow, AreNarrow}
 use Rattle.fab_sound.specs.declared.sizes.Rule.TheVariants.{Selects, Widths}
 use Rattle.fab_sound.specs.declared.tables.Known.{Known}
 use Rattle.fab_sound.specs.declared.tables.Library.{Library}
-use Rattle.fab_sound.specs.Checks.{found, shape_declared, HasNets, known_module, library_text, IsLibrary, found_width, operand_widths, vector_width, picks_each, holds_part, select_passes, operands_pass, all_selects_pass, all_operands_pass, sides_pass, item_passes, module_passes}
+use Rattle.fab_sound.specs.Checks.{found, shape_declared, HasNets, known_module, library_text, IsLibrary, found_width, operand_widths, vector_width, picks_each, holds_part, select_passes, operands_pass, all_selects_pass, all_operands_pass, sides_pass, item_passes, module_passes, all_narrow, item_narrow, module_narrow}
 use Rattle.fab_sound.proofs.Noting.{Names}
 use Rattle.fab_sound.proofs.Nets.{found_shape}
 
@@ -190,6 +191,19 @@ module _ (S : Type 0) (names : Names S) (m : PlainModule) (has : HasNets names m
       (says_list (all_operands_pass (found_width names)) (Every (OperandsFit m)) (item_expressions item) (λ k d inside. all_operands_says (get_or (item_expressions item) k d)))
       (sides_says item)
 
+  narrow_says : (e : PlainExpr) → Says (nat_lt (expression_width (found_width names) e) (2 ^ 64)) (IsNarrow m e)
+  narrow_says e =
+      says_along (nat_lt (expression_width (found_width names) e) (2 ^ 64)) (nat_lt (width_of m e) (2 ^ 64)) (IsNarrow m e) (ap (λ w. nat_lt w (2 ^ 64)) (width_is e))
+      (says_lt (width_of m e) (2 ^ 64))
+
+  all_narrow_says : (e : PlainExpr) → Says (all_narrow (found_width names) e) (Every (IsNarrow m) e)
+  all_narrow_says e =
+      says_list (λ q. nat_lt (expression_width (found_width names) q) (2 ^ 64)) (IsNarrow m) (subexpressions e) (λ k d inside. narrow_says (get_or (subexpressions e) k d))
+
+  item_narrow_says : (item : PlainItem) → Says (item_narrow names item) (All (Every (IsNarrow m)) (item_expressions item))
+  item_narrow_says item =
+      says_list (all_narrow (found_width names)) (Every (IsNarrow m)) (item_expressions item) (λ k d inside. all_narrow_says (get_or (item_expressions item) k d))
+
 -- ---- the rules
 
 module _ (library : Library) (is : IsLibrary library) where
@@ -214,6 +228,16 @@ module _ (library : Library) (is : IsLibrary library) where
       says_list (item_passes Widths known.names)
       (λ (item : PlainItem). All (Every (OperandsFit (known_module known))) (item_expressions item) × SidesFit (known_module known) item) (known_module known).items
       (λ j q within. item_widths _ known.names (known_module known) (is.nets k d inside) (get_or (known_module known).items j q))))
+
+  pub text_narrow_says : Says (list_all module_narrow library.modules.items) (AreNarrow (library_text library))
+  text_narrow_says =
+      says_map known_module (λ m. All (λ (item : PlainItem). All (Every (IsNarrow m)) (item_expressions item)) m.items)
+      (list_all module_narrow library.modules.items) library.modules.items
+      (says_list module_narrow (λ known. All (λ (item : PlainItem). All (Every (IsNarrow (known_module known))) (item_expressions item)) (known_module known).items)
+      library.modules.items (λ k d inside.
+      let known : Known = get_or library.modules.items k d in
+      says_list (item_narrow known.names) (λ (item : PlainItem). All (Every (IsNarrow (known_module known))) (item_expressions item)) (known_module known).items
+      (λ j q within. item_narrow_says _ known.names (known_module known) (is.nets k d inside) (get_or (known_module known).items j q))))
 
 pub for_reason : (text : List PlainModule) (own reason : Reason) → Some own ≡ Some reason → IsFirstBroken text own → IsFirstBroken text reason
 for_reason text own reason e h = let same : own ≡ reason = cc in subst (λ (r : Reason). IsFirstBroken text r) same h

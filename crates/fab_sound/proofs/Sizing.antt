@@ -14,7 +14,7 @@ use Rattle.fab_syntax.specs.declared.tree.Expr.{Expr, Cat}
 use Rattle.fab_syntax.proofs.Plain.{plain_concatenation}
 use Rattle.fab_syntax.specs.Plain.{PlainExpr, PlainExprs, plain_expr, plain_exprs, constant, variable, pick, part, concatenation, complement, operation, conditional, none, more}
 use Rattle.fab_syntax.specs.Sound.{subexpressions, parts_subexpressions, expression_width, parts_width}
-use Rattle.fab_sound.specs.Checks.{inner_parts, found_width, parts_list, operands, width_over, widths_from, operand_widths, select_passes, operands_pass, all_selects_pass, all_operands_pass}
+use Rattle.fab_sound.specs.Checks.{inner_parts, found_width, parts_list, operands, width_over, widths_from, operand_widths, select_passes, operands_pass, all_selects_pass, all_operands_pass, narrow_over, all_narrow}
 use Rattle.fab_sound.proofs.Noting.{Names}
 use Rattle.fab_sound.proofs.Waiting.{itself_first}
 
@@ -209,6 +209,9 @@ module _ (names : List ℕ → ℕ) (test : PlainExpr → List ℕ → Bool)
   pub all_steps : (e : PlainExpr) → steps_pass names test (subexpressions e) ≡ list_all one (subexpressions e)
   all_steps e = ap (steps_pass names test) (sym (append-nil (subexpressions e))) ∙ whole_steps e [] ∙ and_true (list_all one (subexpressions e))
 
+own_alone : (names : List ℕ → ℕ) (e : PlainExpr) → width_over names e (operand_widths names e) ≡ expression_width names e
+own_alone names e = ap (width_over names e) (sym (append-nil (operand_widths names e))) ∙ own_is names e []
+
 pub all_widths : (names : List ℕ → ℕ) (e : PlainExpr) → widths_from names (subexpressions e) ≡ expression_width names e ∷ []
 all_widths names e = ap (widths_from names) (sym (append-nil (subexpressions e))) ∙ whole_widths names e []
 
@@ -239,3 +242,10 @@ all_selects S names e = all_steps (found_width names) (select_passes names) (sel
 
 pub all_operands : (names : List ℕ → ℕ) (e : PlainExpr) → steps_pass names operands_pass (subexpressions e) ≡ all_operands_pass names e
 all_operands names e = all_steps names operands_pass (operands_local names) e
+
+narrow_local : (names : List ℕ → ℕ) (e : PlainExpr) (ws : List ℕ) → narrow_over names e (operand_widths names e ++ ws) ≡ narrow_over names e (operand_widths names e)
+narrow_local names e ws = ap (λ w. nat_lt w (2 ^ 64)) (own_is names e ws ∙ sym (own_alone names e))
+
+pub all_are_narrow : (names : List ℕ → ℕ) (e : PlainExpr) → steps_pass names (narrow_over names) (subexpressions e) ≡ all_narrow names e
+all_are_narrow names e =
+    all_steps names (narrow_over names) (narrow_local names) e ∙ ap (λ test. list_all test (subexpressions e)) (λ k part. nat_lt (own_alone names part k) (2 ^ 64))

@@ -279,3 +279,17 @@ item_passes rule names item = list_all (expression_passes rule names) (item_expr
 
 abbrev pub module_passes : Rule → Known → Bool
 module_passes rule known = list_all (item_passes rule known.names) (known_module known).items
+
+-- whether an expression is narrower than 2^64, over operands of these widths
+abbrev pub narrow_over : (names : List ℕ → ℕ) → PlainExpr → (widths : List ℕ) → Bool
+narrow_over names e widths = nat_lt (width_over names e widths) (2 ^ 64)
+
+-- whether an expression and all that is in it are
+abbrev pub all_narrow : (names : List ℕ → ℕ) → PlainExpr → Bool
+all_narrow names e = list_all (λ part. nat_lt (expression_width names part) (2 ^ 64)) (subexpressions e)
+
+abbrev pub item_narrow : {S : Type 0} → IndexMap (Bor (List ℕ)) Declared S → PlainItem → Bool
+item_narrow names item = list_all (all_narrow (found_width names)) (item_expressions item)
+
+abbrev pub module_narrow : Known → Bool
+module_narrow known = list_all (item_narrow known.names) (known_module known).items

@@ -7,6 +7,7 @@ ghost use Rattle.fab_base.specs.declared.words.Reason.{Reason};
 ghost use Rattle.fab_syntax.specs.Plain.{plain_text};
 ghost use Rattle.fab_syntax.specs.Sound.{NamesFit, IsSound, IsFirstBroken};
 ghost use Rattle.fab_sound.specs.Checks.{library_text, IsLibrary};
+ghost use Rattle.fab_sound.specs.Narrow.{AreNarrow};
 
 mod clocks;
 mod drivers;
@@ -33,10 +34,11 @@ use std::alloc::Global;
 /// The reason of the first rule that a text breaks: of a name (`NameTwice`, `UnknownName`), a select (`Select`), a width (`Width`), an
 /// instance (`Instance`), a driver (`Drivers`) or a clock (`Clock`). `None` where it is sound.
 ///
-/// Want of memory is also the answer where a width does not fit 64 bits.
+/// Want of memory is also the answer where a width does not fit 64 bits. So every expression of a sound text is narrower than that.
 pub fn check_widths(alloc: Global, text: &Text) -> Result<Option<Reason>, Memory>
     ensures sound { IfOk result (λ found. found ≡ None → IsSound (plain_text text.now)) }
     ensures broken { IfOk result (λ found. (reason : Reason) → found ≡ Some reason → IsFirstBroken (plain_text text.now) reason) }
+    ensures narrow { IfOk result (λ found. found ≡ None → AreNarrow (plain_text text.now)) }
 {
     match name_modules(alloc, &text.modules)? {
         Ok(library) => first_broken(alloc, &library),
@@ -50,6 +52,7 @@ fn first_broken(alloc: Global, library: &Library) -> Result<Option<Reason>, Memo
     requires names { NamesFit (library_text library.now) }
     ensures sound { IfOk result (λ found. found ≡ None → IsSound (library_text library.now)) }
     ensures broken { IfOk result (λ found. (reason : Reason) → found ≡ Some reason → IsFirstBroken (library_text library.now) reason) }
+    ensures narrow { IfOk result (λ found. found ≡ None → AreNarrow (library_text library.now)) }
 {
     if !selects_fit(alloc, library)? {
         return Ok(Some(Reason::Select));

@@ -5,7 +5,8 @@ ghost use Rattle.std.specs.Prelude.{◌≡◌, ◌∷◌, ◌^◌, true, false, 
 ghost use Rattle.std.specs.List.{list_all, sum};
 ghost use Rattle.fab_syntax.specs.Plain.{plain_expr, plain_item};
 ghost use Rattle.fab_syntax.specs.Sound.{expression_width, item_expressions, SelectsFit, WidthsFit};
-ghost use Rattle.fab_sound.specs.Checks.{found, shape_declared, found_width, operands, result_width, width_over, vector_width, picks_each, holds_part, select_passes, operands_pass, all_selects_pass, all_operands_pass, sides_pass, expression_passes, own_sides_pass, item_passes, module_passes, library_text, IsLibrary};
+ghost use Rattle.fab_sound.specs.Narrow.{AreNarrow};
+ghost use Rattle.fab_sound.specs.Checks.{found, shape_declared, found_width, operands, result_width, width_over, vector_width, picks_each, holds_part, select_passes, operands_pass, all_selects_pass, all_operands_pass, sides_pass, expression_passes, own_sides_pass, item_passes, module_passes, narrow_over, all_narrow, item_narrow, module_narrow, library_text, IsLibrary};
 
 use crate::expressions::{expressions, subexpressions};
 use crate::tables::{Declared, Known, Library, shape_of, width_of};
@@ -45,12 +46,14 @@ pub fn widths_fit(alloc: Global, library: &Library) -> Result<bool, Memory>
     requires { IsLibrary library.now }
     ensures fits { IfOk result (λ fits. fits ≡ true → WidthsFit (library_text library.now)) }
     ensures broken { IfOk result (λ fits. fits ≡ false → ¬ WidthsFit (library_text library.now)) }
+    ensures narrow { IfOk result (λ fits. fits ≡ true → AreNarrow (library_text library.now)) }
 {
     modules_fit(alloc, Rule::Widths, library)
 }
 
 fn modules_fit(alloc: Global, rule: Rule, library: &Library) -> Result<bool, Memory>
-    ensures { IfOk result (λ fits. fits ≡ list_all (module_passes rule) library.now.modules.items) }
+    ensures passes { IfOk result (λ fits. fits ≡ list_all (module_passes rule) library.now.modules.items) }
+    ensures narrow { IfOk result (λ fits. fits ≡ true → list_all module_narrow library.now.modules.items ≡ true) }
 {
     for known in &library.modules {
         if !items_fit(alloc, rule, known)? {
@@ -61,7 +64,8 @@ fn modules_fit(alloc: Global, rule: Rule, library: &Library) -> Result<bool, Mem
 }
 
 fn items_fit(alloc: Global, rule: Rule, known: &Known) -> Result<bool, Memory>
-    ensures { IfOk result (λ fits. fits ≡ module_passes rule known.now) }
+    ensures passes { IfOk result (λ fits. fits ≡ module_passes rule known.now) }
+    ensures narrow { IfOk result (λ fits. fits ≡ true → module_narrow known.now ≡ true) }
 {
     for item in &known.module.items {
         if !item_fits(alloc, rule, &known.names, item)? {
@@ -77,7 +81,8 @@ fn item_fits(
     names: &IndexMap<&[u8], Declared>,
     item: &Item,
 ) -> Result<bool, Memory>
-    ensures { IfOk result (λ fits. fits ≡ item_passes rule names.now (plain_item item.now)) }
+    ensures passes { IfOk result (λ fits. fits ≡ item_passes rule names.now (plain_item item.now)) }
+    ensures narrow { IfOk result (λ fits. fits ≡ true → item_narrow names.now (plain_item item.now) ≡ true) }
 {
     let values = expressions(alloc, item)?;
     for value in &values {
@@ -97,7 +102,8 @@ fn expression_fits(
     names: &IndexMap<&[u8], Declared>,
     whole: &Expr,
 ) -> Result<bool, Memory>
-    ensures { IfOk result (λ fits. fits ≡ expression_passes rule names.now (plain_expr whole.now)) }
+    ensures passes { IfOk result (λ fits. fits ≡ expression_passes rule names.now (plain_expr whole.now)) }
+    ensures narrow { OnOk result (all_narrow (found_width names.now) (plain_expr whole.now) ≡ true) }
 {
     let found = measure(alloc, names, whole)?;
     match rule {
@@ -147,6 +153,7 @@ pub fn measure(
     ensures width { IfOk result (λ found. found.width ≡ expression_width (found_width names.now) (plain_expr whole.now)) }
     ensures selects { IfOk result (λ found. found.selects ≡ all_selects_pass names.now (plain_expr whole.now)) }
     ensures operands { IfOk result (λ found. found.operands ≡ all_operands_pass (found_width names.now) (plain_expr whole.now)) }
+    ensures narrow { OnOk result (all_narrow (found_width names.now) (plain_expr whole.now) ≡ true) }
 {
     let mut parts = subexpressions(alloc, whole)?;
     let mut widths = Vec::new(alloc);
@@ -248,8 +255,9 @@ fn take_operands(
     part: &Expr,
     widths: &mut Vec<u64>,
 ) -> Result<(), Memory>
-    ensures { OnOk result (reverse widths.new.items ≡ width_over (found_width names.now) (plain_expr part.now) (reverse widths.old.items)
+    ensures pushed { OnOk result (reverse widths.new.items ≡ width_over (found_width names.now) (plain_expr part.now) (reverse widths.old.items)
         ∷ drop (length (operands (plain_expr part.now))) (reverse widths.old.items)) }
+    ensures narrow { OnOk result (narrow_over (found_width names.now) (plain_expr part.now) (reverse widths.old.items) ≡ true) }
 {
     let own = own_width(names, part, widths)?;
     widths.truncate(widths.len().saturating_sub(operand_count(part)));

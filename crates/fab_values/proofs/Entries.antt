@@ -1,10 +1,11 @@
 -- The map of the declared names finds what their list says.
-use Rattle.std.proofs.Common.{◌≡◌, ℕ, ◌+◌, Bool, true, false, cond, List, [], ◌∷◌, ◌++◌, Vec, map, Option, Some, None, refl, sym, ap, ◌∙◌, inl, inr, arith, subst}
+use Rattle.std.proofs.Common.{◌≡◌, ℕ, suc, ◌+◌, Bool, true, false, cond, not, nat_lt, length, List, [], ◌∷◌, ◌++◌, Vec, map, Option, Some, None, refl, sym, ap, ◌∙◌, inl, inr, arith, subst}
 use Rattle.std.proofs.lemmas.Bool.{cases_Bool}
 use Rattle.std.proofs.lemmas.List.{map-append}
 use Rattle.std.specs.Str.{bytes_eq}
 use Rattle.std.specs.Map.{lookup}
-use Rattle.fab_values.specs.Declarations.{Declaration, width, bits_of, found_from}
+use Rattle.std.specs.List.{position, prefix_len}
+use Rattle.fab_values.specs.Declarations.{Declaration, width, bits_of, found_from, number_of}
 use Rattle.fab_values.specs.Places.{declared, AreFrom}
 use Rattle.fab_values.specs.declared.names.Local.{Local}
 
@@ -26,3 +27,17 @@ pub from_more : {A : Type 0} (first end : ℕ) (entries : List (Vec ℕ A × Loc
     AreFrom first (end + width local.shape) (entries ++ (key, local) ∷ [])
 from_more first end [] key local are starts = (starts ∙ are, ap (λ n. n + width local.shape) are)
 from_more first end (entry ∷ entries) key local are starts = (are.0, from_more (first + width entry.1.shape) end entries key local are.1 starts)
+
+passed_over : {A : Type 0} (name : List ℕ) (entries : List (Vec ℕ A × Local)) →
+    prefix_len (λ key. not (bytes_eq name key.items)) (map (λ entry. entry.0) entries) ≡ prefix_len (λ d. not (bytes_eq name d.name)) (map declared entries)
+passed_over name [] = refl
+passed_over name (entry ∷ entries) = ap (λ n. cond (not (bytes_eq name entry.0.items)) (1 + n) 0) (passed_over name entries)
+
+as_many : {A : Type 0} (entries : List (Vec ℕ A × Local)) → length (map (λ entry. entry.0) entries) ≡ length (map declared entries)
+as_many [] = refl
+as_many (entry ∷ entries) = ap suc (as_many entries)
+
+-- a key stands among the entries where its name stands among the declarations
+pub position_declared : {A : Type 0} (name : List ℕ) (entries : List (Vec ℕ A × Local)) →
+    position (λ key. bytes_eq name key.items) (map (λ entry. entry.0) entries) ≡ number_of (map declared entries) name
+position_declared name entries = λ j. cond (nat_lt (passed_over name entries j) (as_many entries j)) (Some (passed_over name entries j)) None

@@ -1,5 +1,5 @@
 -- The declarations of a module in their order, and the bits and points that they have.
-use Rattle.std.specs.Prelude.{ℕ, zero, suc, ◌+◌, Bool, List, [], ◌∷◌, ◌++◌, map, take, drop, Option, Some, None, if◌then◌else◌}
+use Rattle.std.specs.Prelude.{ℕ, zero, suc, ◌+◌, Bool, List, [], ◌∷◌, ◌++◌, map, take, drop, position, Option, Some, None, if◌then◌else◌}
 use Rattle.std.specs.List.{flat_map}
 use Rattle.std.specs.Str.{bytes_eq}
 use Rattle.fab_syntax.specs.declared.tree.Shape.{Shape}
@@ -42,6 +42,10 @@ found_from first (d ∷ ds) name =
 
 abbrev pub found_in : List Declaration → (name : List ℕ) → Option Local
 found_in ds name = found_from 0 ds name
+
+-- the number of a name among declarations; none where it is not declared
+abbrev pub number_of : List Declaration → (name : List ℕ) → Option ℕ
+number_of ds name = position (λ d. bytes_eq name d.name) ds
 
 -- the bits of a name among those of all declared names; none where it is not declared
 abbrev pub bits_named : List Declaration → List Bool → (name : List ℕ) → List Bool

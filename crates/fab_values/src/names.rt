@@ -1,7 +1,7 @@
 //! The declared names of a module, with the places of their bits.
 
 ghost use Rattle.std.specs.Prelude.{◌≡◌, ◌+◌, ◌<◌, ◌++◌, [], ◌∷◌, IfOk, OnOk, OnErr, None};
-ghost use Rattle.fab_values.specs.Declarations.{bits_of, found_in, width};
+ghost use Rattle.fab_values.specs.Declarations.{bits_of, found_in, number_of, width};
 
 use fab_base::{Memory, Name};
 use fab_syntax::Shape;
@@ -73,6 +73,13 @@ impl Names {
         ensures { result ≡ found_in self.now name.now }
     {
         self.places.get(name).copied()
+    }
+
+    /// The number of a name among the declarations, from 0; none where it is not declared.
+    pub fn number(&self, name: &[u8]) -> Option<usize>
+        ensures { result ≡ number_of self.now name.now }
+    {
+        self.places.get_index_of(name)
     }
 
     /// Declares one more name. Want of memory is also the answer where the bits are too many for 32 bits.

@@ -63,3 +63,8 @@ returns-clause-sound c = λ e.
     let clocks_kept : c.in_ok-clocks_fit.field-0 ≡ true = search rules in
     let clocks = c.in_ok-clocks_fit.ensures.fits clocks_kept in
     record { names = c.requires.names; selects = selects; widths = widths; instances = instances; drivers = drivers; clocks = clocks }
+
+pub returns-clause-narrow : goal.returns-clause-narrow
+returns-clause-narrow c = λ e.
+    let widths_kept : c.in_ok-widths_fit.field-0 ≡ true = search rules in
+    c.in_ok-widths_fit.ensures.narrow widths_kept

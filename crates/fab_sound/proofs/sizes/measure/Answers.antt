@@ -1,8 +1,8 @@
 use Rattle.std.proofs.Common.{◌≡◌, ap, ◌∙◌, sym, [], ◌++◌, get_or, reverse, rules}
 use Rattle.fab_syntax.specs.Plain.{plain_expr}
 use Rattle.fab_syntax.specs.Sound.{subexpressions}
-use Rattle.fab_sound.specs.Checks.{plain_all, found_width, widths_from, select_passes, operands_pass}
-use Rattle.fab_sound.proofs.Sizing.{steps_pass, all_widths, all_selects, all_operands}
+use Rattle.fab_sound.specs.Checks.{plain_all, found_width, widths_from, select_passes, operands_pass, narrow_over}
+use Rattle.fab_sound.proofs.Sizing.{steps_pass, all_widths, all_selects, all_operands, all_are_narrow}
 use Rattle.fab_sound.proofs.sizes.measure.Goals as goal
 
 pub returns-clause-width : goal.returns-clause-width
@@ -28,3 +28,11 @@ returns-clause-operands c =
     let end : c.loop-part.parts.items ≡ [] = search rules in
     let all : at.0 ≡ subexpressions (plain_expr c.args.whole.now) = ap (λ es. plain_all es ++ at.0) (sym end) ∙ at.1 in
     at.4 ∙ ap (steps_pass (found_width c.args.names.now) operands_pass) all ∙ all_operands (found_width c.args.names.now) (plain_expr c.args.whole.now)
+
+pub returns-clause-narrow : goal.returns-clause-narrow
+returns-clause-narrow c =
+    let at = c.loop-part.invariant in
+    let end : c.loop-part.parts.items ≡ [] = search rules in
+    let all : at.0 ≡ subexpressions (plain_expr c.args.whole.now) = ap (λ es. plain_all es ++ at.0) (sym end) ∙ at.1 in
+    let names = found_width c.args.names.now in
+    sym (all_are_narrow names (plain_expr c.args.whole.now)) ∙ ap (steps_pass names (narrow_over names)) (sym all) ∙ at.5

@@ -1,7 +1,7 @@
-use Rattle.std.proofs.Common.{◌≡◌, ◌++◌, List, reverse, vec_len}
+use Rattle.std.proofs.Common.{◌≡◌, ◌++◌, List, reverse, vec_len, true}
 use Rattle.fab_syntax.specs.Plain.{PlainExpr, plain_expr}
 use Rattle.fab_syntax.specs.Sound.{subexpressions}
-use Rattle.fab_sound.specs.Checks.{plain_all, found_width, widths_from, select_passes, operands_pass}
+use Rattle.fab_sound.specs.Checks.{plain_all, found_width, widths_from, select_passes, operands_pass, narrow_over}
 use Rattle.fab_sound.proofs.Sizing.{steps_pass}
 use Rattle.fab_sound.proofs.sizes.measure.Given as goal
 
@@ -12,6 +12,7 @@ invariant-loop-part l =
     × (reverse l.widths.items ≡ widths_from (found_width l.names) done)
     × (l.selects ≡ steps_pass (found_width l.names) (select_passes l.names) done)
     × (l.operands ≡ steps_pass (found_width l.names) operands_pass done)
+    × (steps_pass (found_width l.names) (narrow_over (found_width l.names)) done ≡ true)
 
 abbrev pub decreases-loop-part : goal.decreases-loop-part
 decreases-loop-part l = vec_len l.parts

@@ -11,11 +11,11 @@ returns-clause-fits c =
     let library = c.args.library.now in
     let test = list_all (module_passes Selects) library.modules.items in
     along_ok c.modules_fit.result (λ fits. fits ≡ test) (λ fits. fits ≡ true → SelectsFit (library_text library))
-    (λ fits is. yes_of fits test (SelectsFit (library_text library)) (selects_says library c.requires) is) c.modules_fit.ensures
+    (λ fits is. yes_of fits test (SelectsFit (library_text library)) (selects_says library c.requires) is) c.modules_fit.ensures.passes
 
 pub returns-clause-broken : goal.returns-clause-broken
 returns-clause-broken c =
     let library = c.args.library.now in
     let test = list_all (module_passes Selects) library.modules.items in
     along_ok c.modules_fit.result (λ fits. fits ≡ test) (λ fits. fits ≡ false → ¬ SelectsFit (library_text library))
-    (λ fits is. no_of fits test (SelectsFit (library_text library)) (selects_says library c.requires) is) c.modules_fit.ensures
+    (λ fits is. no_of fits test (SelectsFit (library_text library)) (selects_says library c.requires) is) c.modules_fit.ensures.passes

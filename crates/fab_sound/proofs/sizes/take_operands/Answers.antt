@@ -4,8 +4,8 @@ use Rattle.fab_sound.specs.Checks.{found_width, width_over}
 use Rattle.fab_sound.proofs.Sizing.{stack_step}
 use Rattle.fab_sound.proofs.sizes.take_operands.Goals as goal
 
-pub returns : goal.returns
-returns c =
+pub returns-clause-pushed : goal.returns-clause-pushed
+returns-clause-pushed c =
     let xs = c.args.widths.now.items in
     let e = plain_expr c.args.part.now in
     let names = found_width c.args.names.now in

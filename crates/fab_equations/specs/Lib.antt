@@ -1,0 +1,10 @@
+pub mod Instances
+pub mod Counting
+pub mod Numbers
+pub mod Children
+pub mod Numbering
+pub mod Tables
+pub mod Building
+pub mod Placed
+pub mod Equations
+pub mod Lookups
