@@ -1,0 +1,71 @@
+-- A file with a netlist is not refused: each refusal contradicts what holds of such a file.
+use Rattle.std.proofs.Common.{◌≡◌, ◌≢◌, ◌⊎◌, ℕ, ◌<◌, ◌≤◌, List, ◌∷◌, length, Option, Some, None, inl, inr, refl, sym, ap, ◌∙◌, arith}
+use Rattle.std.proofs.lemmas.Bool.{false≢true}
+use Rattle.fab_base.specs.declared.fault.Fault.{Fault}
+use Rattle.fab_base.specs.declared.fault.Fault.TheVariants as faults
+use Rattle.fab_lines.specs.Joined.{joined_lines}
+use Rattle.fab_lines.specs.Order.{IsFine, IsFirstFault}
+use Rattle.fab_models.specs.Judge.{judge}
+use Rattle.fab_models.specs.Plain.{PlainModel}
+use Rattle.fab_blif.specs.Blif.{IsBlif, RefusesBlif, design_in, last_line, models_in}
+use Rattle.fab_blif.specs.Counting.{RefusesInstances}
+use Rattle.fab_blif.specs.Design.{PlainDesign}
+use Rattle.fab_blif.specs.Judged.{EachHasOne, undriven_line}
+use Rattle.fab_blif.specs.Order.{BreaksFormals, IsRecursive, IsUnknown, NamesDiffer, NoLine, RefusesFormals, RefusesNames, RefusesRecursive, RefusesUnknown}
+use Rattle.fab_blif.specs.Refusals.{AreFineModels, IsFineDesign, RefusesClocks, RefusesDrivers, RefusesFile, RefusesNets, RefusesUndriven, clock_line}
+use Rattle.fab_blif.proofs.Drivers.{once_upto}
+
+none_is_not_some : {X : Type 0} (o : Option X) (x : X) → o ≡ None → o ≡ Some x → ⊥
+none_is_not_some o x none some = cc
+
+line_excluded : (file : List ℕ) (bytes : List ℕ) (fault : Fault) → IsFine judge (joined_lines bytes) → IsFirstFault judge file (joined_lines bytes) fault → ⊥
+line_excluded file bytes fault fine told =
+    let first = told.first in
+    none_is_not_some (judge first.before first.line) told.problem (fine first.before first.line first.after first.parts) first.refused
+
+names_excluded : (file : List ℕ) (last : ℕ) (models : List PlainModel) (fault : Fault) → 0 < length models → NamesDiffer models → fault ≢ faults.Memory → RefusesNames file last models fault → ⊥
+names_excluded file last models fault some differ other refused =
+    elim (refused other) [
+      | inl none ↦ omega (arith, some, ap length none.0)
+      | inr twice ↦ false≢true (sym (differ twice.0 twice.1.within) ∙ twice.1.again)
+    ]
+
+models_excluded : (file : List ℕ) (last : ℕ) (models : List PlainModel) (fault : Fault) → AreFineModels models
+    → RefusesUnknown file models fault
+    ⊎ RefusesRecursive file models fault
+    ⊎ RefusesFormals file models fault
+    ⊎ (NoLine (IsUnknown models) × NoLine (IsRecursive models) × NoLine (BreaksFormals models) × RefusesInstances file last models fault)
+    → ⊥
+models_excluded file last models fault fine (inl unknown) = fine.known unknown.0 unknown.1 unknown.2.0
+models_excluded file last models fault fine (inr (inl recursive)) = fine.finite recursive.1.0 recursive.1.1 recursive.1.2.0
+models_excluded file last models fault fine (inr (inr (inl formals))) = fine.fits formals.2.0 formals.2.1 formals.2.2.0
+models_excluded file last models fault fine (inr (inr (inr many))) = omega (arith, fine.small, many.3.0)
+
+design_excluded : (file : List ℕ) (last : ℕ) (design : PlainDesign) (fault : Fault) → IsFineDesign design
+    → RefusesDrivers file design fault
+    ⊎ (EachHasOne design × RefusesUndriven file design fault)
+    ⊎ (EachHasOne design × (undriven_line design ≡ None) × RefusesNets file last design fault)
+    ⊎ (EachHasOne design × (undriven_line design ≡ None) × (length design.nets ≤ 16384) × RefusesClocks file design fault)
+    → ⊥
+design_excluded file last design fault fine (inl drivers) = once_upto design drivers.0 fine.once drivers.1
+design_excluded file last design fault fine (inr (inl undriven)) = none_is_not_some (undriven_line design) undriven.1.0 fine.driven undriven.1.1
+design_excluded file last design fault fine (inr (inr (inl many))) = omega (arith, fine.small, many.2.0)
+design_excluded file last design fault fine (inr (inr (inr clocks))) = none_is_not_some (clock_line design) clocks.3.0 fine.clocks clocks.3.1
+
+file_excluded : (file bytes : List ℕ) (fault : Fault) → IsBlif bytes → fault ≢ faults.Memory → RefusesFile file (last_line bytes) (models_in bytes) fault → ⊥
+file_excluded file bytes fault is other (inl names) = names_excluded file (last_line bytes) (models_in bytes) fault is.some is.named other names
+file_excluded file bytes fault is other (inr (inl models)) = models_excluded file (last_line bytes) (models_in bytes) fault is.models (models.2 other)
+file_excluded file bytes fault is other (inr (inr design)) = design_excluded file (last_line bytes) (design_in bytes) fault is.design (design.3 other)
+
+pub not_refused : (file bytes : List ℕ) (fault : Fault) → IsBlif bytes → fault ≢ faults.Memory → RefusesBlif file bytes fault → ⊥
+not_refused file bytes fault is other (inl line) = line_excluded file bytes fault is.fine line
+not_refused file bytes fault is other (inr (inl models)) = file_excluded file bytes fault is other models.1
+not_refused file bytes fault is other (inr (inr cycle)) = let named = cycle.5 in is.acyclic (named.0 ∷ named.1) named.2.cycle
+
+-- so what is answered for such a file is no fault but want of memory
+only_memory : (fault : Fault) → (fault ≢ faults.Memory → ⊥) → fault ≡ faults.Memory
+only_memory faults.Memory never = refl
+only_memory fault never = absurd (never (λ same. cc))
+
+pub reads_unless : (file bytes : List ℕ) (fault : Fault) → (fault ≢ faults.Memory → RefusesBlif file bytes fault) → IsBlif bytes → fault ≡ faults.Memory
+reads_unless file bytes fault refused is = only_memory fault (λ other. not_refused file bytes fault is other (refused other))

@@ -1,0 +1,45 @@
+-- What the reader's parts say, put together.
+use Rattle.std.proofs.Common.{◌≡◌, ◌≢◌, ◌⊎◌, ℕ, ◌<◌, List, length, inl, inr, subst}
+use Rattle.fab_base.specs.declared.fault.Fault.{Fault}
+use Rattle.fab_base.specs.declared.fault.Fault.TheVariants as faults
+use Rattle.fab_lines.specs.Joined.{joined_lines}
+use Rattle.fab_lines.specs.Order.{IsFine}
+use Rattle.fab_models.specs.Judge.{judge}
+use Rattle.fab_models.specs.Plain.{PlainModel}
+use Rattle.fab_netlist.specs.Cycles.{HasNoCycle, NamesCycle}
+use Rattle.fab_netlist.specs.Plain.{PlainNetlist}
+use Rattle.fab_blif.specs.Blif.{IsBlif, RefusesBlif, last_line, models_in, netlist_in}
+use Rattle.fab_blif.specs.Design.{design_of}
+use Rattle.fab_blif.specs.Flat.{flat_lines}
+use Rattle.fab_blif.specs.Order.{NamesDiffer}
+use Rattle.fab_blif.specs.Refusals.{AreFineModels, IsFineDesign, RefusesFile}
+
+-- the models of a file whose lines are fine
+pub record IsRead (bytes : List ℕ) (models : List PlainModel) : Type 0 where
+  pub fine : IsFine judge (joined_lines bytes)
+  pub spelled : models ≡ models_in bytes
+
+-- models that are flattened
+pub record IsFlat (models : List PlainModel) : Type 0 where
+  pub some : 0 < length models
+  pub named : NamesDiffer models
+  pub fine : AreFineModels models
+  pub design : IsFineDesign (design_of (flat_lines models))
+
+flat_in : (bytes : List ℕ) (models : List PlainModel) → IsRead bytes models → IsFlat models → IsFlat (models_in bytes)
+flat_in bytes models read flat = subst IsFlat read.spelled flat
+
+pub is_blif : (bytes : List ℕ) (models : List PlainModel) (netlist : PlainNetlist) → IsRead bytes models → IsFlat models → netlist ≡ netlist_in bytes → HasNoCycle netlist → IsBlif bytes
+is_blif bytes models netlist read flat is acyclic =
+    let own = flat_in bytes models read flat in
+    record { fine = read.fine; some = own.some; named = own.named; models = own.fine; design = own.design; acyclic = subst HasNoCycle is acyclic }
+
+pub models_refused : (file bytes : List ℕ) (models : List PlainModel) (fault : Fault) → IsRead bytes models → RefusesFile file (last_line bytes) models fault → RefusesBlif file bytes fault
+models_refused file bytes models fault read refused = inr (inl (read.fine, subst (λ (l : List PlainModel). RefusesFile file (last_line bytes) l fault) read.spelled refused))
+
+pub cycle_refused : (file bytes : List ℕ) (models : List PlainModel) (netlist : PlainNetlist) (fault : Fault) → IsRead bytes models → IsFlat models
+    → netlist ≡ netlist_in bytes → (fault ≡ faults.Memory) ⊎ NamesCycle file netlist fault → fault ≢ faults.Memory → RefusesBlif file bytes fault
+cycle_refused file bytes models netlist fault read flat is (inl memory) some = absurd (some memory)
+cycle_refused file bytes models netlist fault read flat is (inr cycle) some =
+    let own = flat_in bytes models read flat in
+    inr (inr (read.fine, own.some, own.named, own.fine, own.design, subst (λ (n : PlainNetlist). NamesCycle file n fault) is cycle))

@@ -1,0 +1,48 @@
+-- BLIF files as netlists: when a file is one, and the first refusal of another.
+use Rattle.std.specs.Prelude.{◌⊎◌, ℕ, ◌<◌, List, length, max}
+use Rattle.std.specs.Str.Lines.{lines}
+use Rattle.fab_base.specs.declared.fault.Fault.{Fault}
+use Rattle.fab_lines.specs.Joined.{joined_lines}
+use Rattle.fab_lines.specs.Order.{IsFine, IsFirstFault}
+use Rattle.fab_models.specs.Judge.{judge}
+use Rattle.fab_models.specs.Plain.{PlainModel}
+use Rattle.fab_models.specs.Spelled.{spelled}
+use Rattle.fab_netlist.specs.Cycles.{HasNoCycle, NamesCycle}
+use Rattle.fab_netlist.specs.Plain.{PlainNetlist}
+use Rattle.fab_blif.specs.Design.{PlainDesign, design_of, flattened}
+use Rattle.fab_blif.specs.Flat.{flat_lines}
+use Rattle.fab_blif.specs.Order.{NamesDiffer}
+use Rattle.fab_blif.specs.Refusals.{AreFineModels, IsFineDesign, RefusesFile}
+
+-- the models of a file
+abbrev pub models_in : (bytes : List ℕ) → List PlainModel
+models_in bytes = spelled (joined_lines bytes)
+
+-- what its models flatten to
+abbrev pub design_in : (bytes : List ℕ) → PlainDesign
+design_in bytes = design_of (flat_lines (models_in bytes))
+
+abbrev pub netlist_in : (bytes : List ℕ) → PlainNetlist
+netlist_in bytes = flattened (models_in bytes)
+
+-- Where what is wrong with a file as a whole is reported: the number of its lines, and 1 where it is empty.
+abbrev pub last_line : (bytes : List ℕ) → ℕ
+last_line bytes = max 1 (length (lines bytes))
+
+-- A file with a netlist: no line is refused; it has models, and no two of one name; nothing is wrong with those that the
+-- first one uses, nor with the nets and clocks that they flatten to; and no covers read one another round.
+pub record IsBlif (bytes : List ℕ) : Type 0 where
+  pub fine : IsFine judge (joined_lines bytes)
+  pub some : 0 < length (models_in bytes)
+  pub named : NamesDiffer (models_in bytes)
+  pub models : AreFineModels (models_in bytes)
+  pub design : IsFineDesign (design_in bytes)
+  pub acyclic : HasNoCycle (netlist_in bytes)
+
+-- The first refusal of a file: that of its first refused line; where no line is refused, that of its models; and where
+-- these are not refused, a cycle of covers.
+abbrev pub RefusesBlif : (file bytes : List ℕ) → Fault → Type 0
+RefusesBlif file bytes fault =
+    IsFirstFault judge file (joined_lines bytes) fault
+    ⊎ (IsFine judge (joined_lines bytes) × RefusesFile file (last_line bytes) (models_in bytes) fault)
+    ⊎ (IsFine judge (joined_lines bytes) × (0 < length (models_in bytes)) × NamesDiffer (models_in bytes) × AreFineModels (models_in bytes) × IsFineDesign (design_in bytes) × NamesCycle file (netlist_in bytes) fault)

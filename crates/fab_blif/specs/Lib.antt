@@ -1,0 +1,10 @@
+pub mod Flat
+pub mod Design
+pub mod Walk
+pub mod Order
+pub mod Formals
+pub mod Uses
+pub mod Counting
+pub mod Judged
+pub mod Refusals
+pub mod Blif

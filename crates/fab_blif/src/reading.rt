@@ -1,0 +1,39 @@
+//! The reader of BLIF files.
+
+ghost use Rattle.std.specs.Prelude.{◌≡◌, ◌≢◌, ◌≤◌, length, IfErr, IfOk, IsErr, IsOkUnless, OnOk};
+ghost use Rattle.fab_base.specs.declared.fault.Fault.{Fault as PlainFault};
+ghost use Rattle.fab_base.specs.declared.fault.Fault.TheVariants as faults;
+ghost use Rattle.fab_netlist.specs.Cycles.{HasNoCycle};
+ghost use Rattle.fab_blif.specs.Blif.{IsBlif, RefusesBlif, netlist_in};
+
+use crate::flattening::flatten;
+use fab_base::{Fault, MAX_FILE_BYTES, Name};
+use fab_lines::last_line;
+use fab_models::read_models;
+use fab_netlist::{Netlist, check_acyclic};
+use std::alloc::Global;
+
+/// The netlist that a BLIF file spells: that of its first model, with a copy of a model's covers and latches for each
+/// instance of it. Nets are numbered as the flattened text first names them. At most 16,384 nets are read.
+///
+/// What breaks a rule is refused in the order of the rules. `Malformed` and `Unsupported` come with the least line that is
+/// refused by itself or by the lines before it, as `read_models` says, in whichever model it stands. Where no line is, the
+/// models are judged as `flatten` says: no model, two of one name, unknown models, recursive ones, formals, instances above
+/// the limit, drivers, undriven nets, nets above the limit, and clocks. The last refusal is a cycle of covers, as
+/// `check_acyclic` says. A limit, and a file without a model, are refused at the file's last line. `Memory` comes where memory
+/// was refused. So a file with a netlist is read unless memory is refused, and a file with something to refuse is never read.
+pub fn read_blif(alloc: Global, file: &Name, bytes: &[u8]) -> Result<Netlist, Fault>
+    requires { length bytes.now ≤ MAX_FILE_BYTES }
+    ensures fine { OnOk result (IsBlif bytes.now) }
+    ensures netlist { IfOk result (λ netlist. netlist ≡ netlist_in bytes.now) }
+    ensures acyclic { IfOk result HasNoCycle }
+    ensures small { IfOk result (λ netlist. length netlist.nets ≤ 16384) }
+    ensures refused { IfErr result (λ fault. fault ≢ faults.Memory → RefusesBlif file.now bytes.now fault) }
+    ensures reads { IsBlif bytes.now → IsOkUnless result faults.Memory }
+    ensures refuses { (fault : PlainFault) → fault ≢ faults.Memory → RefusesBlif file.now bytes.now fault → IsErr result }
+{
+    let models = read_models(alloc, file, bytes)?;
+    let netlist = flatten(alloc, file, last_line(bytes), &models)?;
+    check_acyclic(alloc, file, &netlist)?;
+    Ok(netlist)
+}
