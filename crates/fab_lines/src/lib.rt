@@ -11,7 +11,7 @@ mod parts;
 
 pub use cut::{first_line, last_line};
 pub use joined::read_joined_lines;
-pub use names::{is_name, is_wire_name};
-pub use numbers::capped_number;
+pub use names::{is_identifier, is_name, is_reserved, is_wire_name};
+pub use numbers::{capped_number, is_number};
 pub use order::{LineReader, read_lines};
 pub use parts::{all_cells, place_or_end, trimmed, uncommented, without_empty};

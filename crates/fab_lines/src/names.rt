@@ -37,7 +37,8 @@ fn has_upper(word: &[u8]) -> bool
     word.iter().any(|byte| is_upper(*byte))
 }
 
-fn is_identifier(word: &[u8]) -> bool
+/// Whether the word has the form of a name, of any length: a letter or `_`, then letters, digits and `_`.
+pub fn is_identifier(word: &[u8]) -> bool
     ensures { result ≡ is_identifier word.now }
 {
     if word.is_empty() {
@@ -46,7 +47,8 @@ fn is_identifier(word: &[u8]) -> bool
     begins_name(word[0]) && is_all_of_name(word)
 }
 
-fn is_reserved(word: &[u8]) -> bool
+/// Whether the generator takes the word for itself: it begins with `fab_` or is `ConfigBits`.
+pub fn is_reserved(word: &[u8]) -> bool
     ensures { result ≡ is_reserved word.now }
 {
     word.starts_with(b"fab_") || word == b"ConfigBits".as_slice()

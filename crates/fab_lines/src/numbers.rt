@@ -16,7 +16,8 @@ fn has_only_digits(word: &[u8]) -> bool
     word.iter().all(|byte| is_digit(*byte))
 }
 
-fn is_number(word: &[u8]) -> bool
+/// Whether the word is decimal digits without a leading zero, of any length.
+pub fn is_number(word: &[u8]) -> bool
     ensures { result ≡ is_number word.now }
 {
     if word.is_empty() {

@@ -1,12 +1,14 @@
 //! The cells of one line.
 
 ghost use Rattle.std.specs.Prelude.{◌≡◌, [], IfOk, map, option_map, take, length, ◌≤◌};
+ghost use Rattle.std.specs.List.{list_all, slice_split};
 ghost use Rattle.csv.specs.Machine.{next_record};
 ghost use Rattle.csv.specs.Reading.{default_config, strip_bom};
 ghost use Rattle.csv.specs.Records.{fields_of};
 ghost use Rattle.csv.specs.declared.parser.State.TheVariants as states;
 ghost use Rattle.fab_lines.specs.Parts.{is_empty_cell, trimmed, without_back};
-ghost use Rattle.fab_rows.specs.Rows.{cells_of_line};
+ghost use Rattle.fab_rows.specs.Plain.{is_comma, is_plain_byte};
+ghost use Rattle.fab_rows.specs.Rows.{cells_of_line, fields_of_line};
 
 use csv::{ByteRecord, Error, ReaderBuilder};
 use fab_base::{Memory, Name};
@@ -56,17 +58,54 @@ fn count_kept(cells: &[Name]) -> usize
     count
 }
 
-/// The cells of a line. Where csv answers with an error, memory was refused, for the line is there as a whole.
+/// The cells without the empty ones at the end.
+fn kept(cells: Vec<Name>) -> Vec<Name>
+    ensures { result.items ≡ without_back is_empty_cell cells.items }
+{
+    let mut cells = cells;
+    cells.truncate(count_kept(&cells));
+    cells
+}
+
+/// Whether no byte of a line is a quote, ends a record or begins a byte order mark.
+fn is_plain(line: &[u8]) -> bool
+    ensures { result ≡ list_all is_plain_byte line.now }
+{
+    line.iter().all(|byte| *byte != b'"' && *byte != b'\r' && *byte != b'\n' && *byte != 0xef)
+}
+
+/// What stands between commas.
+fn between_commas(alloc: Global, line: &[u8]) -> Result<Vec<Name>, Memory>
+    ensures { IfOk result (λ cells. cells.items ≡ map trimmed (slice_split is_comma line.now)) }
+{
+    let mut cells = Vec::new(alloc);
+    for cell in line.split(|byte| *byte == b',') {
+        cells.push(Name::of(alloc, trimmed(cell))?)?;
+    }
+    Ok(cells)
+}
+
+/// The fields that csv finds. Where it answers with an error, memory was refused, for the line is there as a whole.
+fn csv_fields(alloc: Global, line: &[u8]) -> Result<Vec<Name>, Memory>
+    ensures { IfOk result (λ cells. cells.items ≡ map trimmed (fields_of_line line.now)) }
+{
+    let Ok(found) = first_record(alloc, line) else {
+        return Err(Memory);
+    };
+    match found {
+        Some(record) => trimmed_fields(alloc, &record),
+        None => Ok(Vec::new(alloc)),
+    }
+}
+
+/// The cells of a line. A reader of CSV takes a buffer, so it is made only for lines that need one.
+#[tactic(auto, using(crate::proofs::PlainLines::plain_cells))]
 pub fn cells_of(alloc: Global, line: &[u8]) -> Result<Vec<Name>, Memory>
     ensures { IfOk result (λ cells. cells.items ≡ cells_of_line line.now) }
 {
-    let Ok(found) = first_record(alloc, uncommented(line)) else {
-        return Err(Memory);
-    };
-    let Some(record) = found else {
-        return Ok(Vec::new(alloc));
-    };
-    let mut cells = trimmed_fields(alloc, &record)?;
-    cells.truncate(count_kept(&cells));
-    Ok(cells)
+    let text = uncommented(line);
+    if is_plain(text) {
+        return Ok(kept(between_commas(alloc, text)?));
+    }
+    Ok(kept(csv_fields(alloc, text)?))
 }
