@@ -3,3 +3,15 @@ pub mod Products
 pub mod Longs
 pub mod Asking
 pub mod Spelled
+pub mod WholeReads
+pub mod MatrixRules
+pub mod ConfigRules
+pub mod Runs
+pub mod Placing
+pub mod Tabled
+pub mod Wired
+pub mod Chains
+pub mod Entries
+pub mod Items
+pub mod Sides
+pub mod OneTile

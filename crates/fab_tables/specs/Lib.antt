@@ -4,3 +4,7 @@ pub mod Lists
 pub mod Bodies
 pub mod Following
 pub mod Frames
+pub mod Matrix
+pub mod FollowingMatrix
+pub mod Config
+pub mod FollowingConfig

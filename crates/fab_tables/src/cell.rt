@@ -21,7 +21,7 @@ ghost use Rattle.fab_tables.specs.Cells.{
 use fab_lines::{capped_number, place_or_end};
 use std::alloc::{AllocError, Global};
 
-fn has(text: &[u8], sought: u8) -> bool
+pub fn has(text: &[u8], sought: u8) -> bool
     ensures { result ≡ list_any (λ byte. byte == sought) text.now }
 {
     text.iter().any(|byte| *byte == sought)

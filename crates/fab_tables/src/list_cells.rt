@@ -92,7 +92,8 @@ fn judged_names(
     }
 }
 
-fn are_wire_names(names: &[Name]) -> bool
+/// Whether all are names of wires.
+pub fn are_wire_names(names: &[Name]) -> bool
     ensures { result ≡ list_all is_wire_name names.now }
 {
     names.iter().all(|name| is_wire_name(name.bytes()))

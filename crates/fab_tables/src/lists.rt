@@ -28,7 +28,7 @@ fn named_pairs<K: KnownNames>(
     ensures { Answers plain_body result (named_body (K.judge_pairs known.now) outputs.now inputs.now) }
 {
     let pairs = paired(alloc, outputs, inputs)?;
-    if let Some(reason) = known.judge(&pairs) {
+    if let Some(reason) = known.judge(alloc, &pairs)? {
         return Err(Problem::Malformed(reason));
     }
     match long_problem(outputs, inputs) {
