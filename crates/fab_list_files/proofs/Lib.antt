@@ -1,0 +1,5 @@
+pub mod Text
+pub mod Names
+pub mod Rows
+pub mod Once
+pub mod Named

@@ -1,0 +1,5 @@
+pub mod Files
+pub mod Lists
+pub mod Sides
+pub mod Keys
+pub mod Following
