@@ -1,6 +1,7 @@
 pub mod Rows
 pub mod Tiles
 pub mod Numbering
+pub mod Tables
 pub mod Grid
 pub mod Joins
 pub mod Cascade
