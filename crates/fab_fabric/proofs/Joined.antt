@@ -1,5 +1,5 @@
 -- Joins of wires by number.
-use Rattle.std.proofs.Common.{◌≡◌, ℕ, ◌+◌, ◌^◌, ◌<◌, Bool, true, false, ◌&&◌, cond, length, get_or, slice_get, refl, sym, ap, ap₂, ◌∙◌, arith, subst, Option, Some, None, option_map, option_and_then, inl, inr}
+use Rattle.std.proofs.Common.{◌≡◌, ◌↔◌, ℕ, ◌+◌, ◌^◌, ◌<◌, Bool, true, false, ◌&&◌, cond, length, get_or, slice_get, refl, sym, ap, ap₂, ◌∙◌, arith, subst, Option, Some, None, option_map, option_and_then, inl, inr}
 use Rattle.std.specs.Option.{option_map_or, IfSome}
 use Rattle.std.proofs.lemmas.Bool.{cases_Bool}
 use Rattle.std.proofs.lemmas.Option.{same_Some, slice_get_read, slice_get_within}
@@ -10,7 +10,7 @@ use Rattle.fab_model.specs.Tiles.{PlainTile, IsTile}
 use Rattle.fab_model.specs.Grid.{PlainFabric, tile_at, AreRows}
 use Rattle.fab_model.specs.Joins.{RowPlace, Stands}
 use Rattle.fab_model.specs.Cascade.{PlacedRow, next_row, previous_row, other_side, passing_bits, walk_to, walk_from, row_join_to, row_join_from, join_to, join_from, IsSourceBit, IsDestBit}
-use Rattle.fab_model.specs.Wires.{PlainWire, source_of, dest_of, HasWire, IsWire, sources_at, wires_before_row}
+use Rattle.fab_model.specs.Wires.{PlainWire, source_of, dest_of, pin_of, HasWire, IsWire, sources_at, wires_before_row}
 use Rattle.fab_model.proofs.Walks.{side_bits_is, side_has_name}
 use Rattle.fab_model.proofs.Found.{join_to_joins, join_from_joins, joins_source, joins_dest}
 use Rattle.fab_fabric.specs.Fabric.{AreTiles}
@@ -22,7 +22,7 @@ use Rattle.fab_fabric.specs.declared.index.TileIndex.{TileIndex}
 use Rattle.fab_fabric.specs.Index.{HasIndex, plain_wire}
 use Rattle.fab_fabric.specs.Walks.{place_of, found_bit, placed_at, row_at, HasRow, FindsRow, both_sides}
 use Rattle.fab_fabric.proofs.Numbered.{number_at, number_of_tile, number_within, wires_of_tile, one_wire}
-use Rattle.fab_fabric.proofs.Stepped.{placed, stand, standing_row, next_of, previous_of}
+use Rattle.fab_fabric.proofs.Stepped.{placed, stand, standing_row, row_spot, next_of, previous_of}
 
 pub are_rows : (fabric : PlainFabric) → AreTiles fabric → AreRows fabric
 are_rows fabric tiles k d few = (tiles k d few).rows
@@ -197,7 +197,41 @@ no_to fabric (wires.Source row bit) x y other = absurd (other row bit refl)
 no_to fabric (wires.Dest row bit) x y other = refl
 no_to fabric (wires.Pin bel pin) x y other = refl
 
-pub no_from : (fabric : PlainFabric) (wire : TileWire) (x y : ℕ) → ((row bit : ℕ) → wire ≡ wires.Dest row bit → ⊥) → None ≡ wire_join_from fabric x y (plain_wire wire)
-no_from fabric (wires.Source row bit) x y other = refl
-no_from fabric (wires.Dest row bit) x y other = absurd (other row bit refl)
-no_from fabric (wires.Pin bel pin) x y other = refl
+pub no_from : (fabric : PlainFabric) (index x y : ℕ) (plain : PlainWire) → ((at : RowAt) (bit : ℕ) → ◌≡◌ {A = Option (RowAt × ℕ)} None (Some (at, bit)) ↔ IsIndexOf fabric index at.x at.y (dest_of at.row bit)) →
+    IsIndexOf fabric index x y plain → None ≡ wire_join_from fabric x y plain
+no_from fabric index x y (source_of row bit) none is = refl
+no_from fabric index x y (dest_of row bit) none is = absurd (never ((none (row_spot x y row) bit).1 is))
+  where
+    never : ◌≡◌ {A = Option (RowAt × ℕ)} None (Some (row_spot x y row, bit)) → ⊥
+    never e = cc
+no_from fabric index x y (pin_of bel pin) none is = refl
+
+-- a wire is one destination bit, or none
+pub dest_found : (fabric : PlainFabric) (index : ℕ) (here : RowAt) (found : ℕ) → IsIndexOf fabric index here.x here.y (dest_of here.row found) → (at : RowAt) (bit : ℕ) →
+    ◌≡◌ {A = Option (RowAt × ℕ)} (Some (here, found)) (Some (at, bit)) ↔ IsIndexOf fabric index at.x at.y (dest_of at.row bit)
+dest_found fabric index here found is at bit = (
+  (λ same. let e = same_Some (here, found) (at, bit) same in subst (λ (p : RowAt × ℕ). IsIndexOf fabric index p.0.x p.0.y (dest_of p.0.row p.1)) e is),
+  λ other. same_place (one_wire fabric index here.x here.y at.x at.y (dest_of here.row found) (dest_of at.row bit) is other),
+)
+  where
+    same_place : (here.x ≡ at.x) × (here.y ≡ at.y) × (dest_of here.row found ≡ dest_of at.row bit) → ◌≡◌ {A = Option (RowAt × ℕ)} (Some (here, found)) (Some (at, bit))
+    same_place same =
+        let wire = same.2 in
+        let row : here.row ≡ at.row = cc in
+        let place : found ≡ bit = cc in
+        λ j. Some (record { x = same.0 j; y = same.1 j; row = row j }, place j)
+
+pub no_dest_found : (fabric : PlainFabric) (index x y : ℕ) (wire : TileWire) → IsIndexOf fabric index x y (plain_wire wire) → ((row bit : ℕ) → wire ≡ wires.Dest row bit → ⊥) → (at : RowAt) (bit : ℕ) →
+    ◌≡◌ {A = Option (RowAt × ℕ)} None (Some (at, bit)) ↔ IsIndexOf fabric index at.x at.y (dest_of at.row bit)
+no_dest_found fabric index x y wire is none at bit = (
+  (λ e. absurd (never e)),
+  λ other. absurd (no_dest wire none (one_wire fabric index x y at.x at.y (plain_wire wire) (dest_of at.row bit) is other).2),
+)
+  where
+    never : ◌≡◌ {A = Option (RowAt × ℕ)} None (Some (at, bit)) → ⊥
+    never e = cc
+
+    no_dest : (w : TileWire) → ((row bit : ℕ) → w ≡ wires.Dest row bit → ⊥) → plain_wire w ≡ dest_of at.row bit → ⊥
+    no_dest (wires.Source row place) none e = cc
+    no_dest (wires.Dest row place) none e = none row place refl
+    no_dest (wires.Pin bel pin) none e = cc

@@ -18,7 +18,8 @@ use Rattle.fab_bits.specs.Widths.{select_width}
 use Rattle.fab_model.specs.Tiles.{bare_tile, counted, matrix_names, tile_bits, IsTile, IsPair}
 use Rattle.fab_model.specs.Grid.{PlainFabric}
 use Rattle.fab_fabric.specs.Sums.{sum_to}
-use Rattle.fab_fabric.specs.Fabric.{fabric_of, wire_count, IsPlace, HasTable, IsFabric}
+use Rattle.fab_model.specs.Tables.{HasTable}
+use Rattle.fab_fabric.specs.Fabric.{fabric_of, wire_count, IsPlace, IsFabric}
 use Rattle.fab_fabric.specs.Examples.{north, tile_of, top, middle, two_types, six_places, pad_rows, pad_bels, pad_pairs, pad_table, pads, lut_rows, lut_bels, lut_pairs, lut_table, lut, three_places}
 
 -- names that are all kept as first ones differ

@@ -9,7 +9,8 @@ use Rattle.fab_model.specs.declared.tiles.WireRow.{WireRow}
 use Rattle.fab_model.specs.Tiles.{bare_tile, counted, matrix_names, IsTile, IsPair}
 use Rattle.fab_model.specs.Grid.{PlainFabric}
 use Rattle.fab_fabric.specs.Sums.{sum_to}
-use Rattle.fab_fabric.specs.Fabric.{fabric_of, wire_count, IsPlace, HasTable, IsFabric}
+use Rattle.fab_model.specs.Tables.{HasTable}
+use Rattle.fab_fabric.specs.Fabric.{fabric_of, wire_count, IsPlace, IsFabric}
 use Rattle.fab_fabric.specs.Examples.{pass_rows, last_rows, pass, last, five_places, long_rows, long, many_places}
 use Rattle.fab_fabric.proofs.Samples.{names_differ, no_pairs, one_of, two_of}
 

@@ -1,7 +1,8 @@
 -- What tables promise of a fabric.
 use Rattle.std.specs.Prelude.{◌≡◌, ◌≢◌, ◌<◌, ◌≤◌, ℕ, ◌*◌, ◌/◌, All, AllPairs, List, length, Option, Some, None}
 use Rattle.std.specs.Option.{option_map_or}
-use Rattle.fab_model.specs.Tiles.{PlainTile, IsTile, matrix_names, tile_bits}
+use Rattle.fab_model.specs.Tiles.{PlainTile, IsTile, matrix_names}
+use Rattle.fab_model.specs.Tables.{HasTable}
 use Rattle.fab_model.specs.Grid.{PlainFabric, tile_at}
 use Rattle.fab_fabric.specs.Sums.{sum_to}
 
@@ -27,12 +28,6 @@ wire_count fabric = sum_to fabric.columns (column_wires fabric)
 abbrev pub IsPlace : (types : List PlainTile) → Option ℕ → Type 0
 IsPlace types None = Unit {0}
 IsPlace types (Some number) = number < length types
-
--- each configuration bit of a tile has a place of its own: one of 32 bits in one of 20 frames
-pub record HasTable (tile : PlainTile) : Type 0 where
-  pub as_many : length tile.table ≡ tile_bits tile
-  pub in_frames : All (λ place. (place.0 < 20) × (place.1 < 32)) tile.table
-  pub apart : AllPairs (λ first second. first ≢ second) tile.table
 
 pub record IsFabric (fabric : PlainFabric) : Type 0 where
   pub some_columns : 1 ≤ fabric.columns

@@ -23,6 +23,8 @@ use crate::wire::{Site, Wire};
 use fab_base::Memory;
 use fab_kinds::Kind;
 use fab_model::TileType;
+pub use joins::RowAt;
+pub use names::place_name;
 use std::alloc::Global;
 use std::marker::Model;
 
@@ -101,6 +103,13 @@ impl Fabric {
         ensures { result ≡ self.now.rows }
     {
         self.rows
+    }
+
+    /// The places of its grid row by row, from the top: each has the number of a type or is empty.
+    pub fn grid(&self) -> &[Option<u32>]
+        ensures { result.now ≡ self.now.grid }
+    {
+        &self.grid
     }
 
     /// How many wires it has.

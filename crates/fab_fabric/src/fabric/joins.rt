@@ -1,6 +1,6 @@
 //! The joins of a fabric's wires, followed from tile to tile.
 
-ghost use Rattle.std.specs.Prelude.{◌≡◌, ◌<◌, ◌+◌, ◌^◌, ℕ, Some, IfSome, option_map, option_and_then};
+ghost use Rattle.std.specs.Prelude.{◌≡◌, ◌<◌, ◌+◌, ◌^◌, ◌↔◌, ℕ, Some, IfSome, option_map, option_and_then};
 ghost use Rattle.fab_model.specs.declared.tiles.Dir.{Dir};
 ghost use Rattle.fab_model.specs.Rows.{source_bits, dest_bits, border_bits};
 ghost use Rattle.fab_model.specs.Wires.{PlainWire, HasWire, source_of, dest_of};
@@ -9,6 +9,7 @@ ghost use Rattle.fab_model.specs.Grid.{tile_at};
 ghost use Rattle.fab_fabric.specs.Fabric.{AreTiles, wire_count};
 ghost use Rattle.fab_fabric.specs.Wires.{IsIndexOf, wire_join_to, wire_join_from, numbered_wire, index_of};
 ghost use Rattle.fab_fabric.specs.Index.{has_side};
+ghost use Rattle.fab_fabric.specs.declared.fabric.joins.RowAt.{RowAt};
 ghost use Rattle.fab_fabric.specs.Walks.{place_of, found_bit, HasRow, FindsRow, placed_at, row_at, both_sides};
 
 use super::Fabric;
@@ -46,12 +47,22 @@ impl Fabric {
         ensures join { (x y : ℕ) (plain : PlainWire) → IsIndexOf self.now wire.0 x y plain → result ≡ wire_join_from self.now x y plain }
         ensures within { IfSome result (λ output. output.0 < wire_count self.now) }
     {
+        let (there, bit) = self.dest_at(wire)?;
+        let (from, source) = self.row_join_from(there, bit)?;
+        Some(self.source_wire(from, source))
+    }
+
+    /// The destination bit that a wire is; none for other wires.
+    pub fn dest_at(&self, wire: Wire) -> Option<(RowAt, u64)>
+        requires { wire.0 < wire_count self.now }
+        ensures dest { (at : RowAt) (bit : ℕ) → (result ≡ Some (at, bit)) ↔ IsIndexOf self.now wire.0 at.x at.y (dest_of at.row bit) }
+        ensures stands { IfSome result (λ found. HasRow self.now found.0) }
+    {
         let (x, y, number) = self.spot(wire);
-        let TileWire::Dest(row, bit) = self.tile_wire(x, y, number) else {
-            return None;
-        };
-        let (there, source) = self.row_join_from(RowAt { x, y, row }, bit)?;
-        Some(self.source_wire(there, source))
+        match self.tile_wire(x, y, number) {
+            TileWire::Dest(row, bit) => Some((RowAt { x, y, row }, bit)),
+            _ => None,
+        }
     }
 
     // The destination bit to which a source bit is joined.
@@ -131,8 +142,9 @@ impl Fabric {
         self.fitting_row(x, y, Side::Dest, row, before)
     }
 
-    // The row from which the bits of a row come.
-    fn previous_row(&self, here: RowAt) -> Option<RowAt>
+    /// The row from which the bits of a row with a destination come; none where no such row stands next door, or one with another number
+    /// of border bits.
+    pub fn previous_row(&self, here: RowAt) -> Option<RowAt>
         requires { HasRow self.now here }
         ensures { FindsRow self.now result (option_and_then (previous_row self.now) (placed_row self.now (place_of here))) }
     {

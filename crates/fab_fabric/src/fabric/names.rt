@@ -51,7 +51,8 @@ impl Site {
     }
 }
 
-fn place_name(alloc: Global, x: u32, y: u32) -> Result<Vec<u8>, Memory>
+/// How a place is written, as `X1Y2`.
+pub fn place_name(alloc: Global, x: u32, y: u32) -> Result<Vec<u8>, Memory>
     ensures { IfOk result (λ text. text.items ≡ place_name x y) }
 {
     let mut text = Vec::new(alloc);

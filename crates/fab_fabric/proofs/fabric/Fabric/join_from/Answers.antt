@@ -1,42 +1,33 @@
-use Rattle.std.proofs.Common.{◌∙◌, ap, sym, Some, option_map, subst}
-use Rattle.fab_model.specs.Wires.{HasWire}
+use Rattle.std.proofs.Common.{◌∙◌, ap, refl, sym, Some, option_map}
+use Rattle.fab_model.specs.Wires.{dest_of}
 use Rattle.fab_fabric.specs.Wires.{wire_join_from, source_wire}
-use Rattle.fab_fabric.specs.Index.{plain_wire}
-use Rattle.fab_fabric.proofs.Stepped.{row_spot}
 use Rattle.fab_fabric.proofs.Joined.{same_at, join_departs, no_from}
 use Rattle.fab_fabric.proofs.fabric.Fabric.join_from.Goals as goal
 
-pub returns-in_default-clause-join : goal.returns-in_default-clause-join
-returns-in_default-clause-join c = λ x y plain is.
-    let at = c.spot-x.result in
-    let fabric = c.args.self.now in
-    no_from fabric c.tile_wire.result at.0 at.1 c.in_default.not-Dest
-    ∙ same_at (wire_join_from fabric) fabric c.args.wire.0 _ at.0 at.1 x y (plain_wire c.tile_wire.result) plain c.spot-x.ensures.index c.tile_wire.ensures is
-
 pub returns-in_err-there-clause-join : goal.returns-in_err-there-clause-join
-returns-in_err-there-clause-join c = λ x y plain is.
-    let at = c.spot-x.result in
+returns-in_err-there-clause-join c = λ x y plain is. c.from_residual.ensures ∙ no_from c.args.self.now c.args.wire.0 x y plain c.in_err-there.ensures.dest is
+
+pub returns-in_err-from-clause-join : goal.returns-in_err-from-clause-join
+returns-in_err-from-clause-join c = λ x y plain is.
+    let at = c.in_ok-there.there in
     let fabric = c.args.self.now in
-    c.from_residual.ensures
-    ∙ ap (option_map (source_wire fabric)) c.in_err-there.ensures.join
-    ∙ sym (ap (λ wire. wire_join_from fabric at.0 at.1 (plain_wire wire)) c.in-Dest.is)
-    ∙ same_at (wire_join_from fabric) fabric c.args.wire.0 _ at.0 at.1 x y (plain_wire c.tile_wire.result) plain c.spot-x.ensures.index c.tile_wire.ensures is
+    c.from_residual-in_err-from.ensures
+    ∙ ap (option_map (source_wire fabric)) c.in_err-from.ensures.join
+    ∙ same_at (wire_join_from fabric) fabric c.args.wire.0 c.args.wire.0 at.x at.y x y (dest_of at.row c.in_ok-there.bit) plain refl ((c.in_ok-there.ensures.dest at c.in_ok-there.bit).0 refl) is
 
 pub source_wire-requires : goal.source_wire-requires
 source_wire-requires c =
-    let at = c.spot-x.result in
-    let fabric = c.args.self.now in
-    let has = subst (λ wire. HasWire fabric at.0 at.1 (plain_wire wire)) c.in-Dest.is c.tile_wire.ensures.is_wire in
-    join_departs fabric c.in_ok-there.there (row_spot at.0 at.1 c.in-Dest.row) c.in_ok-there.source c.in-Dest.bit c.row_join_from.ensures.are_tiles has (sym c.in_ok-there.ensures.join)
+    let at = c.in_ok-there.there in
+    join_departs c.args.self.now c.in_ok-from.from at c.in_ok-from.source c.in_ok-there.bit c.in_ok-from.ensures.are_tiles ((c.in_ok-there.ensures.dest at c.in_ok-there.bit).0 refl).is_wire
+    (sym c.in_ok-from.ensures.join)
 
 pub returns-clause-join : goal.returns-clause-join
 returns-clause-join c = λ x y plain is.
-    let at = c.spot-x.result in
+    let at = c.in_ok-there.there in
     let fabric = c.args.self.now in
     ap Some c.source_wire.ensures.index
-    ∙ ap (option_map (source_wire fabric)) c.in_ok-there.ensures.join
-    ∙ sym (ap (λ wire. wire_join_from fabric at.0 at.1 (plain_wire wire)) c.in-Dest.is)
-    ∙ same_at (wire_join_from fabric) fabric c.args.wire.0 _ at.0 at.1 x y (plain_wire c.tile_wire.result) plain c.spot-x.ensures.index c.tile_wire.ensures is
+    ∙ ap (option_map (source_wire fabric)) c.in_ok-from.ensures.join
+    ∙ same_at (wire_join_from fabric) fabric c.args.wire.0 c.args.wire.0 at.x at.y x y (dest_of at.row c.in_ok-there.bit) plain refl ((c.in_ok-there.ensures.dest at c.in_ok-there.bit).0 refl) is
 
 pub returns-clause-within : goal.returns-clause-within
 returns-clause-within c = c.source_wire.ensures.within
