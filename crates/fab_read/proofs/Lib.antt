@@ -1,0 +1,14 @@
+pub mod RowByRow
+pub mod Causes
+pub mod Opened
+pub mod Whole
+pub mod Wires
+pub mod Paired
+pub mod Crowds
+pub mod Said
+pub mod Matrices
+pub mod Places
+pub mod TilesOnce
+pub mod RowsOnce
+pub mod FabricsOnce
+pub mod Grids
