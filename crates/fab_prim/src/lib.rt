@@ -9,6 +9,7 @@ mod pad;
 mod ports;
 mod prim;
 
+pub use build::{conditional, operation, push_assign, variable};
 pub use laws::primitives_work;
 pub use lut::Lut4c;
 pub use mux::Mux8;

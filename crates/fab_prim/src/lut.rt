@@ -32,6 +32,8 @@ impl Prim for Lut4c {
         let items = items(alloc)?;
         Ok(Module { name, ports, items })
     }
+
+    fn works(&self) {}
 }
 
 // The items, in the order in which they print.

@@ -23,4 +23,9 @@ pub trait Prim {
     fn module(&self, alloc: Global) -> Result<Module, Memory>
         ensures module { IfOk result (λ m. plain_module m ≡ module_of_kind (kind_of self.now)) }
         ensures works { IfOk result (λ m. PrimitiveWorks (kind_of self.now) (plain_module m)) };
+
+    /// Its law: wherever the module of its kind stands in a text, in each assignment that is settled on the instance's own points the
+    /// output pins, what the flip-flop takes and, of a pad, `I_top` and `T_top` are what the kind says.
+    fn works(&self)
+        ensures { PrimitiveWorks (kind_of self.now) (module_of_kind (kind_of self.now)) };
 }

@@ -1,0 +1,124 @@
+-- The module of a tile: its matrix names as wires, the border bits of its rows, and the instances of its configuration, its switch
+-- matrix and its BELs.
+use Rattle.std.specs.Prelude.{ℕ, zero, suc, ◌+◌, Bool, true, false, not, List, [], ◌∷◌, ◌++◌, map, filter, take, sum_by, nat_eq}
+use Rattle.std.specs.List.{flat_map, enumerate_from}
+use Rattle.fab_kinds.specs.declared.kind.Kind.{Kind}
+use Rattle.fab_kinds.specs.Pins.{input_names, output_names, bit_count}
+use Rattle.fab_syntax.specs.declared.tree.Shape.TheVariants.{Scalar, Vector}
+use Rattle.fab_syntax.specs.declared.tree.Port.{Port}
+use Rattle.fab_syntax.specs.Plain.{PlainJoin, PlainItem, PlainModule, variable, part, wire, instance}
+use Rattle.fab_meaning.specs.Runs.{user_clock_name}
+use Rattle.fab_select.specs.Selection.{select_bits}
+use Rattle.fab_model.specs.declared.tiles.Bel.{Bel}
+use Rattle.fab_model.specs.Tiles.{PlainTile, TileWire, tile_wires, wire_name, matrix_names, is_matrix_output, numbered_pairs, bel_bits, tile_bits}
+use Rattle.fab_matrix.specs.Matrix.{scalar, config_name}
+use Rattle.fab_prim.specs.Ports.{clock_names, top_inputs, top_outputs}
+use Rattle.fab_prim.specs.Modules.{module_name}
+use Rattle.fab_gen_tile.specs.Names.{config_module_name, matrix_module_name, tile_module_name, config_instance_name, matrix_instance_name, bel_instance_name, frame_data_name, frame_strobe_name, bits_name, pad_name, joined, same_join}
+use Rattle.fab_gen_tile.specs.Borders.{border_ports, row_assigns}
+use Rattle.fab_gen_tile.specs.ConfigModule.{frame_ports}
+
+-- ---- ports
+
+-- the ports of a BEL to the outside: a pad has some
+abbrev pub pad_ports : (place : ℕ) → Kind → List Port
+pad_ports place kind =
+    map (λ port. scalar true (pad_name place port)) (top_inputs kind) ++ map (λ port. scalar false (pad_name place port)) (top_outputs kind)
+
+-- those of all BELs, each with its place in the tile
+abbrev pub bels_ports : List Bel → List Port
+bels_ports bels = flat_map (λ placed. pad_ports placed.0 placed.1.kind) (enumerate_from 0 bels)
+
+abbrev pub tile_ports : PlainTile → List Port
+tile_ports tile =
+    scalar true user_clock_name ∷ (frame_ports
+    ++ (flat_map border_ports tile.rows ++ bels_ports tile.bels))
+
+-- ---- configuration and matrix
+
+-- the wire of the configuration bits, where there are any
+abbrev pub bits_wire : (bits : ℕ) → List PlainItem
+bits_wire zero = []
+bits_wire (suc n) = wire (Vector (suc n)) bits_name ∷ []
+
+abbrev pub config_joins : List PlainJoin
+config_joins = same_join frame_data_name ∷ same_join frame_strobe_name ∷ joined config_name (variable bits_name) ∷ []
+
+-- the configuration, where there are bits
+abbrev pub config_instances : PlainTile → (bits : ℕ) → List PlainItem
+config_instances tile zero = []
+config_instances tile (suc n) = instance (config_module_name tile) config_instance_name config_joins ∷ []
+
+-- so many configuration bits from the bit `low` on go to the port of an instance, where there are any
+abbrev pub bits_join : (low bits : ℕ) → List PlainJoin
+bits_join low zero = []
+bits_join low (suc n) = joined config_name (part bits_name (low + n) low) ∷ []
+
+-- whether a wire is on a side of the switch matrix: an output of it, or an input
+abbrev pub is_on_side : (output : Bool) → TileWire → Bool
+is_on_side true candidate = is_matrix_output candidate
+is_on_side false candidate = not (is_matrix_output candidate)
+
+-- the names of a side among wires
+abbrev pub side_names : (output : Bool) → List TileWire → List (List ℕ)
+side_names output wires = map wire_name (filter (is_on_side output) wires)
+
+abbrev pub matrix_inputs : PlainTile → List (List ℕ)
+matrix_inputs tile = side_names false (tile_wires tile)
+
+abbrev pub matrix_outputs : PlainTile → List (List ℕ)
+matrix_outputs tile = side_names true (tile_wires tile)
+
+-- its select bits stand behind those of the BELs
+abbrev pub matrix_joins : PlainTile → List PlainJoin
+matrix_joins tile =
+    map same_join (matrix_inputs tile)
+    ++ (bits_join (bel_bits tile) (select_bits nat_eq (numbered_pairs tile)) ++ map same_join (matrix_outputs tile))
+
+-- the switch matrix, where it has an output
+abbrev pub matrix_instances : PlainTile → (outputs : List (List ℕ)) → List PlainItem
+matrix_instances tile [] = []
+matrix_instances tile (output ∷ outputs) = instance (matrix_module_name tile) matrix_instance_name (matrix_joins tile) ∷ []
+
+-- ---- BELs
+
+-- a pin is joined to its matrix name
+abbrev pub pin_join : Bel → (pin : List ℕ) → PlainJoin
+pin_join bel pin = joined pin (variable (bel.prefix ++ pin))
+
+abbrev pub pad_join : (place : ℕ) → (port : List ℕ) → PlainJoin
+pad_join place port = joined port (variable (pad_name place port))
+
+-- in the order of the ports of the kind's module, with the configuration bits from the bit `low` on
+abbrev pub bel_joins : (place low : ℕ) → Bel → List PlainJoin
+bel_joins place low bel =
+    map (pin_join bel) (input_names bel.kind)
+    ++ (map same_join (clock_names bel.kind)
+    ++ (bits_join low (bit_count bel.kind)
+    ++ (map (pad_join place) (top_inputs bel.kind)
+    ++ (map (pin_join bel) (output_names bel.kind)
+    ++ map (pad_join place) (top_outputs bel.kind)))))
+
+-- the configuration bits of the BELs before this place
+abbrev pub bits_before : List Bel → (place : ℕ) → ℕ
+bits_before bels place = sum_by (λ bel. bit_count bel.kind) (take place bels)
+
+abbrev pub bel_instance : (place low : ℕ) → Bel → PlainItem
+bel_instance place low bel = instance (module_name bel.kind) (bel_instance_name place) (bel_joins place low bel)
+
+abbrev pub bel_instances : List Bel → List PlainItem
+bel_instances bels = map (λ placed. bel_instance placed.0 (bits_before bels placed.0) placed.1) (enumerate_from 0 bels)
+
+-- ---- the module
+
+abbrev pub tile_items : PlainTile → List PlainItem
+tile_items tile =
+    map (wire Scalar) (matrix_names tile)
+    ++ (bits_wire (tile_bits tile)
+    ++ (flat_map row_assigns tile.rows
+    ++ (config_instances tile (tile_bits tile)
+    ++ (matrix_instances tile (matrix_outputs tile)
+    ++ bel_instances tile.bels))))
+
+abbrev pub tile_module : PlainTile → PlainModule
+tile_module tile = record { name = tile_module_name tile; ports = tile_ports tile; items = tile_items tile }

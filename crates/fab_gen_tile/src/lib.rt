@@ -1,0 +1,16 @@
+//! The modules of a tile: its configuration bits, its switch matrix and the tile itself.
+#![tactic(auto)]
+
+mod borders;
+mod config;
+mod joins;
+mod matrix;
+mod names;
+mod tile;
+
+pub use borders::{begin_name, end_name, push_border_name, scalar, side_border};
+pub use config::{config_module, push_vector};
+pub use joins::{joined, same_join};
+pub use matrix::matrix_module;
+pub use names::{letter, pad_name, part, prefixed};
+pub use tile::tile_module;
