@@ -1,0 +1,4 @@
+pub mod Machine
+pub mod Loader
+pub mod Expressions
+pub mod Bounds
