@@ -1,0 +1,15 @@
+pub mod Lists
+pub mod Apart
+pub mod Modules
+pub mod Places
+pub mod Instances
+pub mod Texts
+pub mod Declared
+pub mod TilePorts
+pub mod TopNames
+pub mod TileJoins
+pub mod Between
+pub mod Cascades
+pub mod WireDrives
+pub mod Fabrics
+pub mod SmallFabric

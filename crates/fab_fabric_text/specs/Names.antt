@@ -1,0 +1,49 @@
+-- The names that the generator makes in the top module.
+use Rattle.std.specs.Prelude.{ℕ, List, ◌∷◌, ◌++◌, codes, decimal}
+use Rattle.fab_model.specs.declared.tiles.WireRow.{WireRow}
+use Rattle.fab_fabric.specs.Names.{place_name}
+use Rattle.fab_gen_tile.specs.Names.{border_name, letter}
+
+abbrev pub top_module_name : List ℕ
+top_module_name = codes "eFPGA"
+
+abbrev pub loader_module_name : List ℕ
+loader_module_name = codes "ConfigLoader"
+
+abbrev pub loader_instance_name : List ℕ
+loader_instance_name = codes "fab_loader"
+
+-- ---- ports
+
+abbrev pub loader_clock_name : List ℕ
+loader_clock_name = codes "CLK"
+
+abbrev pub write_strobe_name : List ℕ
+write_strobe_name = codes "WriteStrobe"
+
+abbrev pub write_data_name : List ℕ
+write_data_name = codes "WriteData"
+
+-- the port of a pad to the outside, as X1Y0_A_O_top
+abbrev pub pad_port_name : (x y bel : ℕ) → (port : List ℕ) → List ℕ
+pad_port_name x y bel port = place_name x y ++ (codes "_" ++ letter bel ∷ (codes "_" ++ port))
+
+-- ---- wires
+
+abbrev pub address_name : List ℕ
+address_name = codes "Address"
+
+abbrev pub strobe_name : List ℕ
+strobe_name = codes "Strobe"
+
+-- the frame data of a row of tiles
+abbrev pub row_name : (y : ℕ) → List ℕ
+row_name y = codes "Row" ++ decimal y
+
+-- the frame strobes of a column of tiles
+abbrev pub column_strobe_name : (x : ℕ) → List ℕ
+column_strobe_name x = codes "fab_strobe_" ++ decimal x
+
+-- a border bit that goes out of a row of the tile at a place, as X1Y0_N1BEG_0
+abbrev pub begin_wire_name : (x y : ℕ) → WireRow → (bit : ℕ) → List ℕ
+begin_wire_name x y row bit = place_name x y ++ (codes "_" ++ border_name row.source bit)

@@ -1,0 +1,2 @@
+//! The Verilog text of a fabric, as definitions alone.
+#![tactic(auto)]

@@ -1,0 +1,17 @@
+pub mod Endings
+pub mod Members
+pub mod Widths
+pub mod TileNames
+pub mod TileItems
+pub mod Driven
+pub mod WireNames
+pub mod BorderBits
+pub mod RowValues
+pub mod Latches
+pub mod BitValues
+pub mod PinPorts
+pub mod PinValues
+pub mod NamedPairs
+pub mod MatrixPorts
+pub mod OutputValues
+pub mod Together
