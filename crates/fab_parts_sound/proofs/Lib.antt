@@ -1,0 +1,17 @@
+pub mod Lists
+pub mod Names
+pub mod Counts
+pub mod Fitting
+pub mod Expressions
+pub mod Clocks
+pub mod Flat
+pub mod Primitives
+pub mod FlatNames
+pub mod Configurations
+pub mod Sized
+pub mod Apart
+pub mod LoaderNames
+pub mod Loaders
+pub mod Declared
+pub mod Matrices
+pub mod TileMatrices

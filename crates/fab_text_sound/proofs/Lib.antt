@@ -1,0 +1,17 @@
+pub mod Pairs
+pub mod Ends
+pub mod Sides
+pub mod Standing
+pub mod TopApart
+pub mod TopDeclared
+pub mod Order
+pub mod Matched
+pub mod TopNets
+pub mod TopNamesFit
+pub mod TopItems
+pub mod TopDrivers
+pub mod TopDriven
+pub mod TopFits
+pub mod TextApart
+pub mod TextFits
+pub mod SmallText

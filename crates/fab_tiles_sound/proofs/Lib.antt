@@ -1,0 +1,17 @@
+pub mod Digits
+pub mod Ranks
+pub mod PlainNames
+pub mod Borders
+pub mod Places
+pub mod Apart
+pub mod Shapes
+pub mod Items
+pub mod Standing
+pub mod Joins
+pub mod PortNames
+pub mod Instances
+pub mod Drives
+pub mod Drivers
+pub mod OneDriver
+pub mod ClockUse
+pub mod Fitting
