@@ -1,0 +1,10 @@
+pub mod Lists
+pub mod Numbers
+pub mod Parts
+pub mod Placed
+pub mod Mapped
+pub mod Rows
+pub mod Words
+pub mod Taken
+pub mod Streams
+pub mod ByteWords

@@ -1,0 +1,5 @@
+pub mod Stream
+pub mod Refusals
+pub mod Bytes
+pub mod Placing
+pub mod Taking

@@ -1,0 +1,2 @@
+pub mod SmallFabrics
+pub mod Setting
