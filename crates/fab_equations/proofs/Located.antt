@@ -266,6 +266,11 @@ local_within text number here is name local found =
     let there : found_in (declarations i.here) name ≡ Some local = ap (λ ds. found_in ds name) (sym is.table.names) ∙ sym found in
     omega (arith, is.placed.first, found_within 0 (declarations i.here) name local there, points_within text number i is.placed.is, is.small)
 
+-- the points of an instance end at a number that is counted in 32 bits
+pub points_end : (text : List PlainModule) (number : ℕ) (here : Here) → IsHere text number here → here.placed.first + bits_of here.table.now.names ≤ most_points
+points_end text number here is =
+    omega (arith, is.placed.first, ap bits_of is.table.names, points_within text number is.placed.i is.placed.is, is.small)
+
 pub firsts_here : (text : List PlainModule) (point number : ℕ) (here : Here) → IsPointOf text point number → IsHere text number here →
     (slice_get here.table.now.firsts.items 0 ≡ Some 0) × IsNonDecreasingBy (λ (n : ℕ). n) here.table.now.firsts.items
 firsts_here text point number here of is =

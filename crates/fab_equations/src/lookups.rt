@@ -5,7 +5,7 @@ ghost use Rattle.std.specs.List.Sorted.{IsNonDecreasingBy};
 ghost use Rattle.fab_syntax.specs.Plain.{plain_text};
 ghost use Rattle.fab_values.specs.Declarations.{declarations, bits_of};
 ghost use Rattle.fab_equations.specs.Instances.{Instance, instances, points, expressions};
-ghost use Rattle.fab_equations.specs.Numbering.{IsNumbered};
+ghost use Rattle.fab_equations.specs.Numbering.{IsNumbered, points_before};
 ghost use Rattle.fab_equations.specs.Equations.{IsDriven, DriverFits, IsFound, IsNotFound, IsPlace, IsNoPlace, declared_in, IsClockPoint};
 ghost use Rattle.fab_equations.specs.Lookups.{IsHere, IsPointOf, IsBit, IsInput, IsJoin, IsName, IsClock, IsChildNamed, IsLastAtMost, HasChild, IsChild, IsLocalName};
 
@@ -15,6 +15,7 @@ use crate::placed::PlacedInstance;
 use crate::tables::{LocalDriver, Table};
 use fab_syntax::Expr;
 use fab_values::bits_of_shape;
+use std::ops::Range;
 
 /// An instance and the table of its module.
 #[derive(Clone, Copy)]
@@ -97,6 +98,17 @@ impl<'a> Equations<'a> {
             placed,
             table: &self.tables[placed.module as usize],
         }
+    }
+
+    /// The points of an instance, which follow one another.
+    pub fn points_of(&self, instance: u32) -> Range<u32>
+        requires { instance < length (instances (plain_text self.now)) }
+        ensures { (i : Instance) → IsNumbered (plain_text self.now) instance i →
+            result ≡ record { start = points_before (plain_text self.now) instance; end = points_before (plain_text self.now) instance + bits_of (declarations i.here) } }
+    {
+        let here = self.here(instance);
+        let first = here.placed.first;
+        first..first + here.table.names.bits()
     }
 
     // The bit of a declared name that a point is.

@@ -1,0 +1,39 @@
+-- Loading a sound text has a run, from whatever its flip-flops and latches hold.
+use Rattle.std.specs.Prelude.{◌≡◌, Bool, true, false, List, [], All}
+use Rattle.fab_syntax.specs.Declarations.{is_input_of}
+use Rattle.fab_syntax.specs.Plain.{PlainModule}
+use Rattle.fab_syntax.specs.Sound.{IsSound}
+use Rattle.fab_meaning.specs.Points.{Point, point, module_at}
+use Rattle.fab_meaning.specs.Settled.{Assignment}
+use Rattle.fab_meaning.specs.Runs.{clock_name, user_clock_name, Moment, IsRunOn}
+use Rattle.fab_meaning.specs.Loading.{IsLoading, Loads}
+
+-- a set of points as a test
+pub record Decides (Has : Point → Type 0) (has : Point → Bool) : Type 0 where
+  pub sound : (p : Point) → has p ≡ true → Has p
+  pub whole : (p : Point) → Has p → has p ≡ true
+
+-- Which points of a sound text are its loading points can be told.
+abbrev pub LoadingIsDecided : Type 0
+LoadingIsDecided = (text : List PlainModule) → IsSound text → (has : Point → Bool) × Decides (IsLoading text) has
+
+-- the two clocks are inputs of the top
+pub record HasClocks (text : List PlainModule) : Type 0 where
+  pub loader_clock : is_input_of (module_at text []) clock_name ≡ true
+  pub user_clock : is_input_of (module_at text []) user_clock_name ≡ true
+
+-- the inputs leave CLK at 0
+abbrev pub IsClockLow : Moment → Type 0
+IsClockLow moment = moment.inputs (point [] clock_name 0) ≡ false
+
+-- Whatever is held, there is a run over the loading points through any moments.
+abbrev pub RunsExist : Type 0
+RunsExist =
+    (text : List PlainModule) → IsSound text → HasClocks text → (moments : List Moment) → All IsClockLow moments → (held : Assignment) →
+    (after : Assignment) × IsRunOn (IsLoading text) text moments held after
+
+-- So any words can be loaded.
+abbrev pub LoadsExist : Type 0
+LoadsExist =
+    (text : List PlainModule) → IsSound text → HasClocks text → (words : List (List Bool)) (held : Assignment) →
+    (after : Assignment) × Loads text words held after

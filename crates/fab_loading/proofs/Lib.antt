@@ -1,0 +1,7 @@
+pub mod Ticks
+pub mod Runs
+pub mod Header
+pub mod Addresses
+pub mod Frames
+pub mod Columns
+pub mod Loads

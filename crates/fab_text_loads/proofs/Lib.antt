@@ -1,0 +1,15 @@
+pub mod Drivers
+pub mod Declared
+pub mod Tops
+pub mod Loader
+pub mod TileItems
+pub mod Within
+pub mod Strobes
+pub mod Parts
+pub mod Clocks
+pub mod Named
+pub mod Settled
+pub mod Ticks
+pub mod Runs
+pub mod Stays
+pub mod Together

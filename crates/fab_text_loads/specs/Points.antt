@@ -1,0 +1,31 @@
+-- The loading points of a fabric's text by their names.
+use Rattle.std.specs.Prelude.{◌≡◌, ℕ, List, [], ◌∷◌, ◌++◌, Contains, Some}
+use Rattle.fab_meaning.specs.Points.{Path, Point}
+use Rattle.fab_model.specs.Tiles.{PlainTile, counted}
+use Rattle.fab_model.specs.Grid.{PlainFabric, tile_at}
+use Rattle.fab_gen_tile.specs.Names.{config_instance_name, frame_data_name, frame_strobe_name, bits_name}
+use Rattle.fab_fabric_text.specs.Names.{loader_instance_name, loader_clock_name, write_strobe_name, write_data_name, address_name, strobe_name, row_name, column_strobe_name}
+use Rattle.fab_drives.specs.Points.{place_path}
+
+abbrev pub loader_path : Path
+loader_path = loader_instance_name ∷ []
+
+abbrev pub config_path : (x y : ℕ) → Path
+config_path x y = config_instance_name ∷ place_path x y
+
+-- the top's inputs that carry words, the wires that the loader drives, and the strobes of the columns
+abbrev pub top_names : PlainFabric → List (List ℕ)
+top_names fabric =
+    loader_clock_name ∷ write_strobe_name ∷ write_data_name ∷ address_name ∷ strobe_name
+    ∷ (counted fabric.rows row_name ++ counted fabric.columns column_strobe_name)
+
+-- what a tile has of the frames, and its configuration bits
+abbrev pub tile_names : List (List ℕ)
+tile_names = frame_data_name ∷ frame_strobe_name ∷ bits_name ∷ []
+
+-- The whole loader and all configuration modules are loading points, and what joins them.
+pub data IsLoadingPoint (fabric : PlainFabric) (p : Point) : Type 0 where
+  in_top : p.path ≡ [] → Contains (top_names fabric) p.name → IsLoadingPoint fabric p
+  in_loader : p.path ≡ loader_path → IsLoadingPoint fabric p
+  in_tile : (x y : ℕ) (tile : PlainTile) → tile_at fabric x y ≡ Some tile → p.path ≡ place_path x y → Contains tile_names p.name → IsLoadingPoint fabric p
+  in_configuration : (x y : ℕ) (tile : PlainTile) → tile_at fabric x y ≡ Some tile → p.path ≡ config_path x y → IsLoadingPoint fabric p
