@@ -1,52 +1,61 @@
 -- Which fault ends a command: the first refusal is one, and where nothing is refused none but a device's or memory's comes.
-use Rattle.std.proofs.Common.{◌≡◌, ◌⊎◌, ℕ, List, Option, Some, None, refl, sym, ap, ◌∙◌, inl, inr, arith, subst}
+use Rattle.std.proofs.Common.{◌≡◌, ℕ, List, Option, Some, None, refl, sym, ap, ◌∙◌, inl, inr, subst}
 use Rattle.fab_base.specs.declared.fault.Status.{Status}
 use Rattle.fab_base.specs.declared.fault.Fault.{Fault}
 use Rattle.fab_base.specs.declared.fault.Fault.TheVariants as faults
-use Rattle.fab_base.specs.declared.problem.Problem.{Problem}
-use Rattle.fab_base.specs.declared.problem.Problem.TheVariants as problems
-use Rattle.fab_base.specs.Reading.{IsFaultOr, fault_at}
+use Rattle.fab_base.specs.Reading.{IsFaultOr}
 use Rattle.fab_base.specs.Report.{number_of, status}
 use Rattle.fab_desk.specs.Files.{Map}
-use Rattle.fab_lines.specs.Order.{IsFirstFault}
-use Rattle.fab_lines.proofs.Judging.{fine_not_refused, fault_once}
+use Rattle.fab_flow.specs.Generating.{HasGenerateCause}
+use Rattle.fab_flow.specs.Matrix.{HasMatrixCause}
+use Rattle.fab_flow.proofs.Once as generating
+use Rattle.fab_list_files.proofs.Once.{one_refusal, not_both}
 use Rattle.fab_tool.specs.declared.job.Job.{Job}
-use Rattle.fab_tool.specs.declared.job.Job.TheVariants.{Matrix}
-use Rattle.fab_tool.specs.Listing.{judge}
-use Rattle.fab_tool.specs.Running.{IsFileFault, IsLineFault, IsRefusal, IsReadable, IsReady, HasCause, IsReported, IsOrMemory}
-
--- a line is never refused as a faulty command line
-fault_of_line : (file : List ℕ) (number : ℕ) (problem : Problem) → faults.Usage ≡ fault_at file number problem → ⊥
-fault_of_line file number (problems.Malformed reason) same = cc
-fault_of_line file number (problems.Unsupported construct) same = cc
-fault_of_line file number (problems.Limit quantity value bound) same = cc
-fault_of_line file number problems.Memory same = cc
-
-pub no_usage_of_lines : {file : List ℕ} {text : List (List ℕ)} → IsFirstFault judge file text faults.Usage → ⊥
-no_usage_of_lines {file} first = fault_of_line file first.number first.problem first.is
-
--- a file is refused by one fault
-found_once : (list : List ℕ) (found : Option (List ℕ)) (a b : Fault) → IsFileFault list found a ⊎ IsLineFault list found a → IsFileFault list found b ⊎ IsLineFault list found b → a ≡ b
-found_once list None a b (inl x) (inl y) = x ∙ sym y
-found_once list None a b (inl x) (inr y) = absurd y
-found_once list None a b (inr x) y = absurd x
-found_once list (Some bytes) a b (inl x) (inl y) = x.1 ∙ sym y.1
-found_once list (Some bytes) a b (inl x) (inr y) = absurd (omega arith)
-found_once list (Some bytes) a b (inr x) (inl y) = absurd (omega arith)
-found_once list (Some bytes) a b (inr x) (inr y) = fault_once x.1 y.1
+use Rattle.fab_tool.specs.declared.job.Job.TheVariants.{Matrix, Generate}
+use Rattle.fab_tool.specs.Running.{IsDone, IsRefusal, IsReady, HasCause, IsReported, IsOrMemory}
 
 pub refusal_once : (files : Map) (job : Option Job) (a b : Fault) → IsRefusal files job a → IsRefusal files job b → a ≡ b
 refusal_once files None a b x y = x ∙ sym y
-refusal_once files (Some (Matrix list out)) a b x y = found_once list (files list) a b x y
-
-readable_not_refused : (list : List ℕ) (found : Option (List ℕ)) (fault : Fault) → IsReadable found → IsFileFault list found fault ⊎ IsLineFault list found fault → ⊥
-readable_not_refused list None fault ready x = absurd ready
-readable_not_refused list (Some bytes) fault ready (inl x) = absurd (omega arith)
-readable_not_refused list (Some bytes) fault ready (inr x) = fine_not_refused ready.1 x.1.first
+refusal_once files (Some (Matrix list out)) a b x y = one_refusal files list a b x y
+refusal_once files (Some (Generate fabric out)) a b x y = generating.one_refusal files fabric a b x y
 
 pub ready_not_refused : (files : Map) (job : Option Job) (fault : Fault) → IsReady files job → IsRefusal files job fault → ⊥
 ready_not_refused files None fault ready x = absurd ready
-ready_not_refused files (Some (Matrix list out)) fault ready x = readable_not_refused list (files list) fault ready x
+ready_not_refused files (Some (Matrix list out)) fault ready x = not_both files list ready.0 fault ready.1 x
+ready_not_refused files (Some (Generate fabric out)) fault ready x = generating.not_both files fabric fault ready x
+
+-- why a command of some job ends is why the tool does
+pub cause_of_matrix : (told : Option Map) (list out : List ℕ) (reads writes : Type 0) (given : Fault) → HasMatrixCause told list out reads writes given → HasCause told (Some (Matrix list out)) reads writes given
+cause_of_matrix told list out reads writes faults.Memory cause = tt
+cause_of_matrix told list out reads writes (faults.ReadFault file) cause = (cause.0, refl, cause.1)
+cause_of_matrix told list out reads writes (faults.WriteFault file) cause = cause
+cause_of_matrix told list out reads writes (faults.Missing file) cause = cause
+cause_of_matrix told list out reads writes (faults.TooLong file) cause = cause
+cause_of_matrix told list out reads writes (faults.Malformed place reason) cause = cause
+cause_of_matrix told list out reads writes (faults.Unsupported place construct) cause = cause
+cause_of_matrix told list out reads writes (faults.Limit place quantity value bound) cause = cause
+cause_of_matrix told list out reads writes given cause = absurd cause
+
+pub cause_of_generate : (told : Option Map) (fabric out : List ℕ) (reads writes : Type 0) (given : Fault) → HasGenerateCause told fabric out reads writes given → HasCause told (Some (Generate fabric out)) reads writes given
+cause_of_generate told fabric out reads writes faults.Memory cause = tt
+cause_of_generate told fabric out reads writes (faults.ReadFault file) cause = (cause.0, refl, cause.1)
+cause_of_generate told fabric out reads writes (faults.WriteFault file) cause = cause
+cause_of_generate told fabric out reads writes (faults.Missing file) cause = cause
+cause_of_generate told fabric out reads writes (faults.TooLong file) cause = cause
+cause_of_generate told fabric out reads writes (faults.Malformed place reason) cause = cause
+cause_of_generate told fabric out reads writes (faults.Unsupported place construct) cause = cause
+cause_of_generate told fabric out reads writes (faults.Limit place quantity value bound) cause = cause
+cause_of_generate told fabric out reads writes given cause = absurd cause
+
+-- what is done was ready
+pub done_ready : (files : Map) (after : Option Map) (job : Option Job) → IsDone files after job → IsReady files job
+done_ready files after None done = done
+done_ready files after (Some (Matrix list out)) done = (done.made.pairs, done.made.spelled)
+done_ready files after (Some (Generate fabric out)) done = record {
+  fabric = done.made.fabric;
+  spelled = done.made.spelled;
+  short = done.made.short;
+}
 
 usage_refused : (files : Map) (job : Option Job) (fault : Fault) → job ≡ None → IsRefusal files job fault → faults.Usage ≡ fault
 usage_refused files None fault none x = sym x

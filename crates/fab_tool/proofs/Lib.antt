@@ -1,6 +1,2 @@
-pub mod Cells
-pub mod Pairs
-pub mod Following
 pub mod WordLists
 pub mod Ending
-pub mod Spelled

@@ -7,4 +7,6 @@ use fab_base::Name;
 pub enum Job {
     /// `matrix LIST OUT`: the module of a switch list.
     Matrix(Name, Name),
+    /// `generate FABRIC OUT`: the text of a fabric.
+    Generate(Name, Name),
 }

@@ -2,7 +2,6 @@
 #![tactic(auto)]
 
 mod job;
-mod listing;
 mod running;
 mod words;
 

@@ -50,6 +50,58 @@ module matrix_x (
 endmodule
 ";
 
+/// Four outputs of one input each: of their choices the first changes last.
+const CHOICES: &str = "\
+module matrix_x (
+  input A,
+  input B,
+  input C,
+  input D,
+  output N2BEG0,
+  output N2BEG1,
+  output E2BEG0,
+  output E2BEG1
+);
+  assign N2BEG0 = A;
+  assign N2BEG1 = B;
+  assign E2BEG0 = C;
+  assign E2BEG1 = D;
+endmodule
+";
+
+/// A fabric of two tiles in one row, up to its line 9, within the block of the first.
+const DUO_BEGIN: &str = "\
+FabricBegin
+IO,LOG
+FabricEnd
+ParametersBegin
+ConfigBitMode,frame_based
+ParametersEnd
+TILE,IO
+EAST,E1BEG,1,0,NULL,2
+WEST,NULL,-1,0,W1END,1
+";
+
+/// The lines of that fabric from the tenth on.
+const DUO_REST: &str = "\
+JUMP,NULL,0,0,GND,1
+JUMP,NULL,0,0,VCC,1
+BEL,IO_1_bidirectional_frame_config_pass.v,A_
+BEL,IO_1_bidirectional_frame_config_pass.v,B_
+MATRIX,io.list
+EndTILE
+TILE,LOG
+EAST,NULL,1,0,E1END,2
+WEST,W1BEG,-1,0,NULL,1
+JUMP,J_BEG,0,0,J_END,1
+JUMP,NULL,0,0,GND,1
+JUMP,NULL,0,0,VCC,1
+BEL,LUT4c_frame_config.v,LA_
+MATRIX,log.list
+EndTILE
+# two columns, one row
+";
+
 fn words(alloc: Global, line: &str) -> Result<Vec<String>, AllocError> {
     let mut words = Vec::new(alloc);
     for word in line.split(' ') {
@@ -78,6 +130,8 @@ fn writes_modules(rt: HostRuntime) -> Result<(), Fail> {
             "R,A # one\r\n\r\nS , B,,\r\nR,B\r\nS,A\r\nR,A",
             FIELDS,
         ),
+        ("x.list", "\"P\",A\rB,C\n{3}Q,[A|B|C]\n", MIXED),
+        ("x.list", "[N|E]2BEG[0|1],[A|B|C|D]\n", CHOICES),
         ("Empty.list", "", "module matrix_Empty (\n);\nendmodule\n"),
         (
             "Empty.list",
@@ -98,7 +152,31 @@ fn writes_modules(rt: HostRuntime) -> Result<(), Fail> {
     Ok(())
 }
 
-/// Runs the command on a list, and checks the status and the report, and that nothing is stored.
+/// Runs a command on a file that lies alone, and checks the status and the report, and that nothing is stored.
+fn refuses_file(
+    rt: &impl Abort,
+    alloc: Global,
+    [command, file, output]: [&str; 3],
+    content: &[u8],
+    status: u8,
+    report: &str,
+) -> Result<(), Fail> {
+    let mut desk = desk_of(alloc, file, content, 0)?;
+    let mut out = MemSink::new(alloc, Vec::new(alloc));
+    let mut line = words(alloc, command)?;
+    line.push(String::from_str(alloc, file)?)?;
+    line.push(String::from_str(alloc, output)?)?;
+    assert_eq!(rt;
+        run(alloc, &line, &mut desk, &mut out),
+        Status(status),
+        "{report}"
+    );
+    assert_eq!(rt; out.bytes(), report.as_bytes(), "{report}");
+    assert!(rt; desk.file(output).is_none());
+    Ok(())
+}
+
+/// Runs `matrix` on a list, as `refuses_file` does.
 fn refuses(
     rt: &impl Abort,
     alloc: Global,
@@ -106,17 +184,7 @@ fn refuses(
     status: u8,
     report: &str,
 ) -> Result<(), Fail> {
-    let mut desk = desk_of(alloc, "x.list", list, 0)?;
-    let mut out = MemSink::new(alloc, Vec::new(alloc));
-    let line = words(alloc, "matrix x.list x.v")?;
-    assert_eq!(rt;
-        run(alloc, &line, &mut desk, &mut out),
-        Status(status),
-        "{report}"
-    );
-    assert_eq!(rt; out.bytes(), report.as_bytes(), "{report}");
-    assert!(rt; desk.file("x.v").is_none());
-    Ok(())
+    refuses_file(rt, alloc, ["matrix", "x.list", "x.v"], list, status, report)
 }
 
 #[test]
@@ -147,42 +215,51 @@ fn refuses_malformed_lines(rt: HostRuntime) -> Result<(), Fail> {
 }
 
 #[test]
-fn refuses_what_is_not_read_yet(rt: HostRuntime) -> Result<(), Fail> {
+fn refuses_choices_that_do_not_pair(rt: HostRuntime) -> Result<(), Fail> {
     let alloc = rt.alloc();
-    let mut long = vec![in alloc; b'A'; 65]?;
-    long.extend_from_slice(b",B")?;
-    let cases: [(&[u8], &str); 11] = [
-        (b"\"A\",B\n", "unsupported x.list:1 not yet\n"),
-        (b"[A|B],C\n", "unsupported x.list:1 not yet\n"),
-        (b"A,C]\n", "unsupported x.list:1 not yet\n"),
-        (b"A,B\n{2}A,C\n", "unsupported x.list:2 not yet\n"),
-        (b"A,B}\n", "unsupported x.list:1 not yet\n"),
-        (b"A,B\rC,D\n", "unsupported x.list:1 not yet\n"),
-        (b"A,B\r", "unsupported x.list:1 not yet\n"),
-        (b"A,B\r\r\n", "unsupported x.list:1 not yet\n"),
-        (b"A,\xc3\x84\n", "unsupported x.list:1 not yet\n"),
-        (b" INCLUDE ,a,b,c\n", "unsupported x.list:1 not yet\n"),
-        (long.as_slice(), "unsupported x.list:1 not yet\n"),
+    let cases: [(&[u8], &str); 6] = [
+        (
+            b"[N|E]2BEG[0|1],[A|B|C]\n",
+            "malformed x.list:1 counts differ\n",
+        ),
+        (b"A,B\n{2}A,C\n", "malformed x.list:2 counts differ\n"),
+        (b"A,C]\n", "malformed x.list:1 bracket\n"),
+        (b"{0}A,C\n", "malformed x.list:1 number\n"),
+        (b"A,\xc3\x84\n", "malformed x.list:1 name\n"),
+        (b" INCLUDE ,a,b,c\n", "malformed x.list:1 row\n"),
     ];
     for (list, report) in cases {
-        refuses(&rt, alloc, list, 5, report)?;
+        refuses(&rt, alloc, list, 4, report)?;
     }
-    let many = vec![in alloc; b'\n'; 257]?;
-    refuses(&rt, alloc, &many, 5, "unsupported x.list:257 not yet\n")
+    Ok(())
 }
 
 #[test]
-fn reads_up_to_its_bounds(rt: HostRuntime) -> Result<(), Fail> {
+fn refuses_what_is_over_its_limit(rt: HostRuntime) -> Result<(), Fail> {
     let alloc = rt.alloc();
-    let mut list = vec![in alloc; b'\n'; 255]?;
-    list.extend_from_slice(&[b'A'; 64])?;
-    list.extend_from_slice(b",B # [\"]{}\xff\r\n")?;
-    let mut desk = desk_of(alloc, "x.list", &list, 0)?;
-    let mut out = MemSink::new(alloc, Vec::new(alloc));
-    let line = words(alloc, "matrix x.list x.v")?;
-    assert_eq!(rt; run(alloc, &line, &mut desk, &mut out), Status(0));
-    assert!(rt; desk.file("x.v").is_some());
-    Ok(())
+    let mut long = vec![in alloc; b'A'; 65]?;
+    long.extend_from_slice(b",B")?;
+    refuses(&rt, alloc, &long, 6, "limit x.list:1 name bytes 65 64\n")?;
+    refuses(
+        &rt,
+        alloc,
+        b"{4097}A,{4097}B",
+        6,
+        "limit x.list:1 expanded names 4097 4096\n",
+    )
+}
+
+#[test]
+fn asks_for_included_files(rt: HostRuntime) -> Result<(), Fail> {
+    let alloc = rt.alloc();
+    refuses(&rt, alloc, b"INCLUDE,y.list\nA\n", 2, "missing y.list\n")?;
+    refuses(
+        &rt,
+        alloc,
+        b"A,B\nINCLUDE,x.list\n",
+        6,
+        "limit x.list:2 include depth 9 8\n",
+    )
 }
 
 #[test]
@@ -194,7 +271,8 @@ fn refuses_other_words(rt: HostRuntime) -> Result<(), Fail> {
         "matrix x.list",
         "matrix x.list x.v more",
         "Matrix x.list x.v",
-        "generate x.list x.v",
+        "generate x.csv",
+        "generate -x.csv x.v",
         "matrix  x.v",
         "matrix x.list ",
         "matrix -x.list x.v",
@@ -246,6 +324,57 @@ fn keeps_its_status_where_the_report_is_not_taken(rt: HostRuntime) -> Result<(),
     assert_eq!(rt; run(alloc, &[], &mut desk, &mut out), Status(1));
     assert!(rt; out.bytes().is_empty());
     Ok(())
+}
+
+#[test]
+fn refuses_a_fabric_that_is_cut(rt: HostRuntime) -> Result<(), Fail> {
+    refuses_file(
+        &rt,
+        rt.alloc(),
+        ["generate", "duo.csv", "duo.v"],
+        DUO_BEGIN.as_bytes(),
+        4,
+        "malformed duo.csv:9 end of file\n",
+    )
+}
+
+#[test]
+fn refuses_a_fabric_without_its_list(rt: HostRuntime) -> Result<(), Fail> {
+    let alloc = rt.alloc();
+    let mut duo = Vec::from_slice(alloc, DUO_BEGIN.as_bytes())?;
+    duo.extend_from_slice(DUO_REST.as_bytes())?;
+    refuses_file(
+        &rt,
+        alloc,
+        ["generate", "duo.csv", "duo.v"],
+        &duo,
+        2,
+        "missing io.list\n",
+    )
+}
+
+#[test]
+fn refuses_a_chain_of_flip_flops(rt: HostRuntime) -> Result<(), Fail> {
+    refuses_file(
+        &rt,
+        rt.alloc(),
+        ["generate", "duo.csv", "duo.v"],
+        b"FabricBegin\nIO,LOG\nFabricEnd\nParametersBegin\nConfigBitMode,FlipFlopChain\nParametersEnd\n",
+        5,
+        "unsupported duo.csv:5 FlipFlopChain\n",
+    )
+}
+
+#[test]
+fn refuses_a_fabric_that_includes_itself(rt: HostRuntime) -> Result<(), Fail> {
+    refuses_file(
+        &rt,
+        rt.alloc(),
+        ["generate", "loop.csv", "o.v"],
+        b"INCLUDE,loop.csv\n",
+        6,
+        "limit loop.csv:1 include depth 9 8\n",
+    )
 }
 
 #[test]

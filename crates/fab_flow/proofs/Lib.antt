@@ -1,0 +1,4 @@
+pub mod Ending
+pub mod Once
+pub mod Lengths
+pub mod Spelled

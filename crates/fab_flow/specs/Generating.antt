@@ -1,0 +1,85 @@
+-- What the command `generate` does to the files, and why it ends otherwise.
+use Rattle.std.specs.Prelude.{◌≡◌, ◌≤◌, ◌<◌, ℕ, List, [], ◌∷◌, ◌++◌, length, map, Option, Some}
+use Rattle.std.specs.List.{flat_map}
+use Rattle.fab_base.specs.declared.TheConstants.{MAX_FILE_BYTES}
+use Rattle.fab_base.specs.Reading.{fault_at}
+use Rattle.fab_base.specs.declared.fault.Fault.{Fault}
+use Rattle.fab_base.specs.declared.problem.Problem.TheVariants as problems
+use Rattle.fab_base.specs.declared.words.Quantity.TheVariants as quantities
+use Rattle.fab_desk.specs.Files.{Map, with_file}
+use Rattle.fab_syntax.specs.Plain.{PlainModule}
+use Rattle.fab_syntax.specs.Spelling.{text_bytes}
+use Rattle.fab_syntax.specs.Sound.{IsSound}
+use Rattle.fab_model.specs.Grid.{PlainFabric}
+use Rattle.fab_list_files.specs.Files.{Event, refuses}
+use Rattle.fab_read.specs.Fabrics.{SpellsFabric, MeetsFabric}
+use Rattle.fab_gen_loader.specs.Loader.{IsLoader}
+use Rattle.fab_gen_loader.specs.Expressions.{loader_module}
+use Rattle.fab_prim.specs.Modules.{module_of_kind}
+use Rattle.fab_fabric_text.specs.Top.{top_module}
+use Rattle.fab_fabric_text.specs.Text.{used_kinds, standing_types, tile_modules, fabric_text}
+use Rattle.fab_drives.specs.Drives.{ShowsDrives}
+use Rattle.fab_text_loads.specs.Loads.{LoadsConfigurations}
+use Rattle.fab_flow.specs.Ending.{HasMakingCause}
+
+-- ---- the text of a fabric
+
+abbrev pub generated_text : PlainFabric → List PlainModule
+generated_text fabric = fabric_text fabric (loader_module fabric.rows)
+
+-- its modules but the loader: primitives, tiles and the top
+abbrev pub unloaded_text : PlainFabric → List PlainModule
+unloaded_text fabric = map module_of_kind (used_kinds fabric) ++ (flat_map tile_modules (standing_types fabric) ++ top_module fabric ∷ [])
+
+-- how many bytes these have, printed
+abbrev pub text_length : PlainFabric → ℕ
+text_length fabric = length (text_bytes (unloaded_text fabric))
+
+abbrev pub most_text_bytes : ℕ
+most_text_bytes = 67043328
+
+-- ---- what is done
+
+-- The text is the printed text of the fabric that the file spells. It is sound; in it the loader steps as the machine of words, each wire
+-- of the fabric has the value of what drives it under the configuration bits, and the words of the bitstream of any such bits configure it
+-- so, whatever it held. With its loader it is no longer than a file may be that is read.
+pub record IsFabricText (files : Map) (name text : List ℕ) : Type 0 where
+  pub fabric : PlainFabric
+  pub spelled : SpellsFabric files name fabric
+  pub printed : text ≡ text_bytes (generated_text fabric)
+  pub sound : IsSound (generated_text fabric)
+  pub loader : IsLoader fabric.rows (loader_module fabric.rows)
+  pub drives : ShowsDrives fabric (generated_text fabric)
+  pub loads : LoadsConfigurations fabric (generated_text fabric)
+  pub short : text_length fabric ≤ most_text_bytes
+  pub readable : length text ≤ MAX_FILE_BYTES
+
+-- The files after the command are those before with such a text under the name of the output.
+pub record MakesFabric (files : Map) (after : Option Map) (name out : List ℕ) : Type 0 where
+  pub text : List ℕ
+  pub made : IsFabricText files name text
+  pub stored : after ≡ Some (with_file out text files)
+
+-- ---- the first refusal
+
+-- What the command comes upon: what a reader of the fabric does, and behind it a text that is too long.
+pub data MeetsGenerate (files : Map) (name : List ℕ) : Event → Type 0 where
+  of_files : {event : Event} → MeetsFabric files name event → MeetsGenerate files name event
+  too_long : {fabric : PlainFabric} → SpellsFabric files name fabric → most_text_bytes < text_length fabric
+      → MeetsGenerate files name (refuses (fault_at name 0 (problems.Limit quantities.TextBytes (text_length fabric) most_text_bytes)))
+
+abbrev pub RefusesGenerate : (files : Map) (name : List ℕ) → Fault → Type 0
+RefusesGenerate files name fault = MeetsGenerate files name (refuses fault)
+
+-- nothing is refused
+pub record IsReadyToGenerate (files : Map) (name : List ℕ) : Type 0 where
+  pub fabric : PlainFabric
+  pub spelled : SpellsFabric files name fabric
+  pub short : text_length fabric ≤ most_text_bytes
+
+-- ---- why the command ends with a fault
+
+-- What is refused is what a reader of the fabric comes upon, or behind it a text that is too long.
+abbrev pub HasGenerateCause : (told : Option Map) → (name out : List ℕ) → (reads_rose writes_rose : Type 0) → Fault → Type 0
+HasGenerateCause told name out reads_rose writes_rose fault =
+    HasMakingCause told out reads_rose writes_rose (λ files. MeetsGenerate files name) (λ files. IsReadyToGenerate files name) fault

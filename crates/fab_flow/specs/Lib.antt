@@ -1,0 +1,4 @@
+pub mod Storing
+pub mod Ending
+pub mod Generating
+pub mod Matrix

@@ -1,0 +1,11 @@
+//! The work of commands: what they read, make and store, and why they end otherwise.
+#![tactic(auto)]
+
+mod generating;
+mod matrix;
+mod printing;
+mod storing;
+
+pub use generating::{MOST_TEXT_BYTES, do_generate};
+pub use matrix::do_matrix;
+pub use storing::{store, text_of};

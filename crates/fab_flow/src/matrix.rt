@@ -1,0 +1,47 @@
+//! The command `matrix`: the module of a switch list.
+
+ghost use Rattle.std.specs.Prelude.{◌≡◌, ◌≢◌, ◌<◌, All, IfOk, IfErr, OnOk, OnErr};
+ghost use Rattle.std.specs.Option.{ForSome};
+ghost use Rattle.std.specs.Str.{IsUtf8};
+ghost use Rattle.fab_matrix.specs.Matrix.{config_name};
+ghost use Rattle.fab_flow.specs.Matrix.{module_name, IsModuleOf, MakesMatrix, HasMatrixCause};
+
+use crate::printing::printed_module;
+use crate::storing::store;
+use fab_base::{Fault, Memory, Name};
+use fab_desk::Desk;
+use fab_list_files::read_pairs;
+use fab_matrix::list_module;
+use fab_paths::stem;
+use std::alloc::Global;
+
+/// The name of the module that is made of a list.
+fn module_name(alloc: Global, list: &Name) -> Result<Name, Memory>
+    ensures { IfOk result (λ name. name ≡ module_name list.now) }
+{
+    let mut name = Vec::from_slice(alloc, b"matrix_")?;
+    name.extend_from_slice(stem(list.bytes()))?;
+    Ok(Name::from(name))
+}
+
+/// The printed module of the pairs of a list.
+fn matrix_text(alloc: Global, list: &Name, pairs: &[(Name, Name)]) -> Result<Vec<u8>, Memory>
+    ensures { All (λ pair. pair.1 ≢ config_name) pairs.now → IfOk result (λ text. IsModuleOf list.now pairs.now text.items) }
+{
+    let matrix = list_module(alloc, &module_name(alloc, list)?, pairs)?;
+    printed_module(alloc, matrix)
+}
+
+/// Reads a switch list with the lists that it includes, and stores the module of its pairs under the output's name.
+///
+/// The faults of the list come as `read_pairs` gives them. `WriteFault` names the output. With any fault the files are as before.
+pub fn do_matrix<D: Desk>(alloc: Global, desk: &mut D, list: &Name, out: &Name) -> Result<(), Fault>
+    requires { IsUtf8 out.now }
+    ensures done { ForSome (D.told desk.old) (λ files. OnOk result (MakesMatrix files (D.told desk.new) list.now out.now)) }
+    ensures kept { OnErr result (D.told desk.new ≡ D.told desk.old) }
+    ensures cause { IfErr result (HasMatrixCause (D.told desk.old) list.now out.now (D.reads desk.old < D.reads desk.new) (D.writes desk.old < D.writes desk.new)) }
+{
+    let pairs = read_pairs(alloc, desk, list)?;
+    let text = matrix_text(alloc, list, &pairs)?;
+    store(alloc, desk, out, &text)
+}

@@ -1,0 +1,9 @@
+use Rattle.std.proofs.Common.{◌≡◌, ◌++◌, map, take}
+use Rattle.fab_syntax.specs.Plain.{plain_item}
+use Rattle.fab_fabric_text.specs.Top.{tile_instance}
+use Rattle.fab_gen_top.specs.Standing.{placed_of}
+use Rattle.fab_gen_top.proofs.joins.push_instances.Given as goal
+
+-- those so far
+abbrev pub invariant-loop-place : goal.invariant-loop-place
+invariant-loop-place l = map plain_item l.items.items ≡ map plain_item l.initial.items.items ++ map (tile_instance l.fabric) (map (placed_of l.fabric) (take l.place-index l.places))

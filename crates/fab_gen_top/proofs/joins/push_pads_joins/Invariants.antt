@@ -1,0 +1,9 @@
+use Rattle.std.proofs.Common.{◌≡◌, ◌++◌, map, take}
+use Rattle.std.specs.List.{flat_map, enumerate_from}
+use Rattle.fab_syntax.specs.Plain.{plain_join}
+use Rattle.fab_fabric_text.specs.Top.{pad_joins}
+use Rattle.fab_gen_top.proofs.joins.push_pads_joins.Given as goal
+
+-- those so far
+abbrev pub invariant-loop-number : goal.invariant-loop-number
+invariant-loop-number l = map plain_join l.joins.items ≡ map plain_join l.initial.joins.items ++ flat_map (pad_joins l.place.x l.place.y) (enumerate_from 0 (take l.number l.bels))

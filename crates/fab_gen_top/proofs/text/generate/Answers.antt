@@ -1,0 +1,53 @@
+use Rattle.std.proofs.Common.{◌≡◌, ◌∙◌, ◌++◌, ◌∷◌, [], List, ap, map, refl, subst, sym, append_assoc}
+use Rattle.std.specs.List.{flat_map}
+use Rattle.std.proofs.lemmas.List.{map_push}
+use Rattle.fab_syntax.specs.declared.tree.Module.{Module}
+use Rattle.fab_syntax.specs.Plain.{PlainModule, plain_module}
+use Rattle.fab_prim.specs.Modules.{module_of_kind}
+use Rattle.fab_gen_loader.specs.Loader.{IsLoader}
+use Rattle.fab_gen_loader.specs.Expressions.{loader_module}
+use Rattle.fab_fabric_text.specs.Top.{top_module}
+use Rattle.fab_fabric_text.specs.Text.{used_kinds, standing_types, tile_modules}
+use Rattle.fab_drives.specs.Drives.{ShowsDrives}
+use Rattle.fab_syntax.specs.Sound.{IsSound}
+use Rattle.fab_text_loads.specs.Loads.{LoadsConfigurations}
+use Rattle.fab_gen_top.specs.Standing.{type_of}
+use Rattle.fab_gen_top.proofs.text.generate.Goals as goal
+
+pub returns-clause-text : goal.returns-clause-text
+returns-clause-text c =
+    let fabric = c.args.fabric.now in
+    let used : List PlainModule = map module_of_kind (used_kinds fabric) in
+    let tiles : List PlainModule = flat_map tile_modules (standing_types fabric) in
+    let loader : PlainModule = loader_module fabric.rows in
+    let primitives_made : map plain_module c.push_primitives.new.modules.items ≡ used =
+    c.in_ok-push_primitives.ensures ∙ ap (λ (ms : List Module). map plain_module ms ++ used) c.new-modules.ensures.items in
+    let types_made : map plain_module c.push_types.new.modules.items ≡ used ++ tiles =
+    c.in_ok-push_types.ensures
+    ∙ (λ j. primitives_made j ++ flat_map tile_modules ((ap (map (type_of fabric)) c.deref-2.ensures.value ∙ c.in_ok-standing.ensures.types) j)) in
+    let with_loader : map plain_module c.push.new.self.items ≡ (used ++ tiles) ++ loader ∷ [] =
+    ap (map plain_module) c.in_ok-push.ensures.items
+    ∙ map_push plain_module c.push_types.new.modules.items _
+    ∙ (λ j. types_made j ++ (c.in_ok-loader_module.ensures.module ∙ ap loader_module c.rows.ensures) j ∷ []) in
+    ap (map plain_module) c.in_ok-push-2.ensures.items
+    ∙ map_push plain_module c.push.new.self.items _
+    ∙ (λ j. with_loader j ++ c.in_ok-top_module.ensures j ∷ [])
+    ∙ append_assoc (used ++ tiles) (loader ∷ []) (top_module fabric ∷ [])
+    ∙ append_assoc used tiles (loader ∷ top_module fabric ∷ [])
+
+pub returns-clause-loader : goal.returns-clause-loader
+returns-clause-loader c =
+    subst (λ rows. IsLoader rows (loader_module rows)) c.rows.ensures
+    (subst (IsLoader c.rows.result) c.in_ok-loader_module.ensures.module c.in_ok-loader_module.ensures.loader)
+
+pub returns-clause-drives : goal.returns-clause-drives
+returns-clause-drives c =
+    let fabric = c.args.fabric.now in
+    subst (ShowsDrives fabric) (sym (returns-clause-text c))
+    (c.fabric_texts_show_drives.ensures fabric (loader_module fabric.rows) c.in_ok-standing.ensures.is_fabric c.in_ok-standing.ensures.are_tiles refl)
+
+pub returns-clause-loads : goal.returns-clause-loads
+returns-clause-loads c =
+    let fabric = c.args.fabric.now in
+    subst (λ text. IsSound text → LoadsConfigurations fabric text) (sym (returns-clause-text c))
+    (c.fabric_texts_load.ensures fabric (loader_module fabric.rows) c.in_ok-standing.ensures.is_fabric (returns-clause-loader c))
