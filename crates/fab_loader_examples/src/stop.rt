@@ -1,0 +1,64 @@
+//! What ends the program early.
+
+use fab_base::{Fault, Memory};
+use fab_desk::SinkFault;
+use std::alloc::{AllocError, AllocFailed};
+use std::num::ParseIntError;
+use std::str::Utf8Error;
+
+/// Why the program ended before its work was done.
+#[derive(Debug, Drop)]
+pub enum Stop {
+    /// A file is not there or not as it should be, or memory was refused.
+    Fault(Fault),
+    /// The words are no text of numbers.
+    Words,
+    /// The text does not declare a name that it should.
+    Absent,
+    /// The loading points do not settle.
+    Unsettled,
+    /// Nothing could be printed.
+    Print(SinkFault),
+}
+
+impl From<Fault> for Stop {
+    fn from(fault: Fault) -> Stop {
+        Stop::Fault(fault)
+    }
+}
+
+impl From<SinkFault> for Stop {
+    fn from(fault: SinkFault) -> Stop {
+        Stop::Print(fault)
+    }
+}
+
+impl From<Utf8Error> for Stop {
+    fn from(_: Utf8Error) -> Stop {
+        Stop::Words
+    }
+}
+
+impl From<ParseIntError> for Stop {
+    fn from(_: ParseIntError) -> Stop {
+        Stop::Words
+    }
+}
+
+impl From<Memory> for Stop {
+    fn from(_: Memory) -> Stop {
+        Stop::Fault(Fault::Memory)
+    }
+}
+
+impl From<AllocError> for Stop {
+    fn from(_: AllocError) -> Stop {
+        Stop::Fault(Fault::Memory)
+    }
+}
+
+impl<T: Drop> From<AllocFailed<T>> for Stop {
+    fn from(_: AllocFailed<T>) -> Stop {
+        Stop::Fault(Fault::Memory)
+    }
+}
