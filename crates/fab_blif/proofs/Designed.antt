@@ -9,7 +9,7 @@ use Rattle.indexmap.specs.IndexSet.{insert_key, insert_all}
 use Rattle.fab_blif.specs.declared.design.Use.{Use}
 use Rattle.fab_blif.specs.Flat.{PlainNet, net_eq, Placed, placed_inputs, placed_outputs, placed_clock, copied_clock, placed_cover, placed_latch}
 use Rattle.fab_blif.specs.Design.{PlainDesign, named, number_in, uses, inputs_by, outputs_by, clock_ports_by, covers_by, latches_by, latch_lines, clocks_by, design_of}
-use Rattle.fab_blif.specs.Walk.{numbered, used_at, after, after_all, nothing}
+use Rattle.fab_blif.specs.Walk.{numbered, used_at, clocked, after, after_all, nothing}
 
 -- ---- places in lists that grow
 
@@ -111,7 +111,7 @@ pub record Adds (design next : PlainDesign) (nets : List PlainNet) (placed : Pla
   pub covers : next.covers ≡ design.covers ++ covers_by nets placed
   pub latches : next.latches ≡ design.latches ++ latches_by nets placed
   pub latch_lines : next.latch_lines ≡ design.latch_lines ++ latch_lines placed
-  pub clocks : next.clocks ≡ design.clocks ++ clocks_by placed
+  pub clocks : next.clocks ≡ design.clocks ++ clocks_by nets placed
 
 none_more : {X : Type 0} (xs : List X) → xs ≡ xs ++ []
 none_more xs = sym (append-nil xs)
@@ -181,7 +181,7 @@ adds d (placed_latch line input output control initial) more =
       covers = none_more d.covers;
       latches = λ j. d.latches ++ record { input = in_ j; output = out j; init = initial } ∷ [];
       latch_lines = refl;
-      clocks = refl;
+      clocks = λ j. d.clocks ++ clocked line (record { input = in_ j; output = out j; init = initial }) controls;
     }
 
 -- ---- a text
@@ -197,7 +197,7 @@ grown design text =
       covers = design.covers ++ flat_map (covers_by nets) text;
       latches = design.latches ++ flat_map (latches_by nets) text;
       latch_lines = design.latch_lines ++ flat_map latch_lines text;
-      clocks = design.clocks ++ flat_map clocks_by text;
+      clocks = design.clocks ++ flat_map (clocks_by nets) text;
     }
 
 one_more : {X : Type 0} (now next here : List X) (rest : List X) → next ≡ now ++ here → next ++ rest ≡ now ++ (here ++ rest)
@@ -219,7 +219,7 @@ grown_more design placed text =
       covers = design.covers ++ (covers_by ns placed ++ flat_map (covers_by ns) text);
       latches = design.latches ++ (latches_by ns placed ++ flat_map (latches_by ns) text);
       latch_lines = design.latch_lines ++ (latch_lines placed ++ flat_map latch_lines text);
-      clocks = design.clocks ++ (clocks_by placed ++ flat_map clocks_by text);
+      clocks = design.clocks ++ (clocks_by ns placed ++ flat_map (clocks_by ns) text);
     } in
     let here : grown next text ≡ by nets = λ j. record {
       nets = nets;
@@ -229,7 +229,7 @@ grown_more design placed text =
       covers = one_more design.covers next.covers (covers_by nets placed) (flat_map (covers_by nets) text) a.covers j;
       latches = one_more design.latches next.latches (latches_by nets placed) (flat_map (latches_by nets) text) a.latches j;
       latch_lines = one_more design.latch_lines next.latch_lines (latch_lines placed) (flat_map latch_lines text) a.latch_lines j;
-      clocks = one_more design.clocks next.clocks (clocks_by placed) (flat_map clocks_by text) a.clocks j;
+      clocks = one_more design.clocks next.clocks (clocks_by nets placed) (flat_map (clocks_by nets) text) a.clocks j;
     } in
     here ∙ ap by same
 

@@ -12,7 +12,8 @@ use Rattle.fab_blif.specs.Counting.{RefusesInstances}
 use Rattle.fab_blif.specs.Design.{PlainDesign}
 use Rattle.fab_blif.specs.Judged.{EachHasOne, undriven_line}
 use Rattle.fab_blif.specs.Order.{BreaksFormals, IsRecursive, IsUnknown, NamesDiffer, NoLine, RefusesFormals, RefusesNames, RefusesRecursive, RefusesUnknown}
-use Rattle.fab_blif.specs.Refusals.{AreFineModels, IsFineDesign, RefusesClocks, RefusesDrivers, RefusesFile, RefusesNets, RefusesUndriven, clock_line}
+use Rattle.fab_blif.specs.Refusals.{AreFineModels, IsFineDesign, RefusesClocks, RefusesDrivers, RefusesFile, RefusesNets, RefusesUndriven}
+use Rattle.fab_blif.specs.Clocks.{clock_faults, first_fault}
 use Rattle.fab_blif.proofs.Drivers.{once_upto}
 
 none_is_not_some : {X : Type 0} (o : Option X) (x : X) → o ≡ None → o ≡ Some x → ⊥
@@ -50,7 +51,7 @@ design_excluded : (file : List ℕ) (last : ℕ) (design : PlainDesign) (fault :
 design_excluded file last design fault fine (inl drivers) = once_upto design drivers.0 fine.once drivers.1
 design_excluded file last design fault fine (inr (inl undriven)) = none_is_not_some (undriven_line design) undriven.1.0 fine.driven undriven.1.1
 design_excluded file last design fault fine (inr (inr (inl many))) = omega (arith, fine.small, many.2.0)
-design_excluded file last design fault fine (inr (inr (inr clocks))) = none_is_not_some (clock_line design) clocks.3.0 fine.clocks clocks.3.1
+design_excluded file last design fault fine (inr (inr (inr clocks))) = none_is_not_some (first_fault (clock_faults design)) clocks.3.0 (ap first_fault fine.clocks) clocks.3.1
 
 file_excluded : (file bytes : List ℕ) (fault : Fault) → IsBlif bytes → fault ≢ faults.Memory → RefusesFile file (last_line bytes) (models_in bytes) fault → ⊥
 file_excluded file bytes fault is other (inl names) = names_excluded file (last_line bytes) (models_in bytes) fault is.some is.named other names

@@ -6,8 +6,11 @@ use Rattle.fab_models.specs.Plain.{PlainStatement, PlainModel}
 use Rattle.fab_netlist.proofs.Members.{first_in, later_in}
 use Rattle.fab_blif.specs.Counting.{in_64_bits, instance_and, instances, instances_at, instances_in}
 use Rattle.fab_blif.specs.Flat.{model_names, no_model, statements_of}
-use Rattle.fab_blif.specs.Uses.{inner_of, IsMarked, IsUsed, MarksUsed, Rises, UsesAt}
-use Rattle.fab_blif.proofs.Found.{higher_at, used_inner}
+use Rattle.fab_blif.specs.Uses.{inner_of, IsMarked, IsUsed, MarksUsed, UsesAt}
+use Rattle.fab_blif.specs.Order.{NoLine}
+use Rattle.fab_blif.specs.Rounds.{IsLevel}
+use Rattle.fab_blif.proofs.Levels.{higher_at}
+use Rattle.fab_blif.proofs.Recursions.{used_inner}
 
 -- what a sum told in 64 bits adds
 sum_told : (a b c d : ℕ) → in_64_bits a ≡ in_64_bits c → in_64_bits b ≡ in_64_bits d → in_64_bits (a + b) ≡ in_64_bits (c + d)
@@ -66,7 +69,7 @@ module _ (models : List PlainModel) where
 
   -- ---- models in an order
 
-  module _ (used : List Bool) (ranks : List ℕ) (marked : MarksUsed models used) (ordered : Rises models ranks used) (within : (place : ℕ) → get_or ranks place 0 < length models)
+  module _ (used : List Bool) (ranks : List ℕ) (marked : MarksUsed models used) (ordered : NoLine (IsLevel models ranks)) (within : (place : ℕ) → get_or ranks place 0 < length models)
       (counts : List ℕ) (counted : (place : ℕ) → IsMarked used place →
       get_or counts place 0 ≡ in_64_bits (sum_by (instances_at (model_names models) (λ inner. get_or counts inner 0)) (statements_of models place))) where
     -- what is counted of a model holds, where instances may stand in one another as deep as its rank leaves room for
@@ -79,7 +82,7 @@ module _ (models : List PlainModel) where
         (λ line inner among is.
         let uses : UsesAt models place inner = (line, among, is) in
         counted_at deep inner (used_inner models place inner is_used uses)
-        (omega (arith, enough, higher_at models used ranks marked ordered place inner is_used uses)))
+        (omega (arith, enough, higher_at models ranks ordered place inner is_used uses)))
 
     pub counted_all : get_or counts 0 0 ≡ in_64_bits (instances models)
     unfolding instances

@@ -6,6 +6,8 @@ pub mod Designed
 pub mod Order
 pub mod Searching
 pub mod Found
+pub mod Recursions
+pub mod Levels
 pub mod Instances
 pub mod Fitting
 pub mod Naming
@@ -14,9 +16,9 @@ pub mod Rules
 pub mod Below
 pub mod Ports
 pub mod Counted
+pub mod Clocking
 pub mod WellMade
 pub mod Judging
 pub mod Drivers
-pub mod Clocks
 pub mod Files
 pub mod Excluded

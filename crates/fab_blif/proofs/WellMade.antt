@@ -14,7 +14,9 @@ use Rattle.fab_models.specs.Rules.{AreModels, IsModel, declared_inputs, declared
 use Rattle.fab_blif.specs.declared.design.Use.{Use}
 use Rattle.fab_blif.specs.Flat.{PlainNet, Placed, placed_inputs, placed_outputs, placed_clock, copied_clock, placed_cover, placed_latch, net_eq, no_model, flat_lines, statements_of}
 use Rattle.fab_blif.specs.Design.{PlainClock, PlainDesign, clock_number, clock_ports_by, clocks_by, design_of, is_number, latch_lines, latches_by, nets_of, netlist_of, number_in}
-use Rattle.fab_blif.specs.Judged.{EachHasOne, clock_uses, data_clock_line, inner_drivers, input_ports, input_uses, is_among, is_clock, is_driven, is_of, is_undriven, latch_uses, least_line, least_of, output_uses, readers, undriven_line}
+use Rattle.fab_blif.specs.Clocks.{clock_uses, data_faults, is_clock}
+use Rattle.fab_blif.specs.Judged.{EachHasOne, inner_drivers, input_ports, input_uses, is_among, is_driven, is_of, is_undriven, latch_uses, least_line, least_of, output_uses, readers, undriven_line}
+use Rattle.fab_blif.proofs.Clocking.{no_data}
 use Rattle.fab_blif.proofs.Each.{each_flat, each_joined, each_kept, each_left, each_mapped, each_weaker, of_member, of_place}
 use Rattle.fab_blif.proofs.Rules.{IsFineCover, fine_covers, fine_latches, fine_text}
 use Rattle.fab_blif.proofs.Below.{CoverBelow, IsBelow, IsNamed, LatchBelow, all_named, covers_below, inputs_below, latches_below, name_in, outputs_below}
@@ -115,7 +117,7 @@ names_composed f (u ∷ used) = ap (λ (rest : List (List ℕ)). f u.net ∷ res
 
 -- a port that `.clock` declares is a clock
 port_is_clock : (net : ℕ) (nets : List PlainNet) (text : List Placed) → list_any (is_of net) (flat_map (clock_ports_by nets) text) ≡ true →
-    list_any (is_of net) (clock_uses nets (flat_map clocks_by text)) ≡ true
+    list_any (is_of net) (clock_uses nets (flat_map (clocks_by nets) text)) ≡ true
 port_is_clock net nets [] there = there
 port_is_clock net nets (placed_inputs line names ∷ text) there = port_is_clock net nets text there
 port_is_clock net nets (placed_outputs line names ∷ text) there = port_is_clock net nets text there
@@ -316,17 +318,17 @@ module _ (models : List PlainModel) (given : AreModels models) where
   abbrev IsFineReader : ℕ → Type 0
   IsFineReader net = (not (is_driven design net) ≡ false) × (is_clock design net ≡ false)
 
-  fine_readers : undriven_line design ≡ None → data_clock_line design ≡ None → Each IsFineReader (read netlist)
-  fine_readers driven_all no_data =
+  fine_readers : undriven_line design ≡ None → data_faults (is_clock design) (readers design ++ inner_drivers design) ≡ [] → Each IsFineReader (read netlist)
+  fine_readers driven_all unread =
       subst (Each IsFineReader) reader_nets (each_mapped IsFineReader net_of (readers design) (both (readers design) (no_line (is_undriven design) (readers design) driven_all)
-      (each_left (λ (u : Use). is_clock design u.net ≡ false) (readers design) (inner_drivers design) (no_line (λ (u : Use). is_clock design u.net) (readers design ++ inner_drivers design) no_data))))
+      (each_left (λ (u : Use). is_clock design u.net ≡ false) (readers design) (inner_drivers design) (no_data (is_clock design) (readers design ++ inner_drivers design) unread))))
     where
       both : (used : List Use) → Each (λ (u : Use). is_undriven design u ≡ false) used → Each (λ (u : Use). is_clock design u.net ≡ false) used → Each (λ (u : Use). IsFineReader u.net) used
       both [] first second = tt
       both (u ∷ used) first second = ((first.0, second.0), both used first.1 second.1)
 
-  pub well_made : length nets ≤ 16384 → EachHasOne design → undriven_line design ≡ None → data_clock_line design ≡ None → IsWellMade (netlist_of design)
-  well_made few once driven_all no_data = record {
+  pub well_made : length nets ≤ 16384 → EachHasOne design → undriven_line design ≡ None → data_faults (is_clock design) (readers design ++ inner_drivers design) ≡ [] → IsWellMade (netlist_of design)
+  well_made few once driven_all unread = record {
     small = omega (arith, few, length-map nets (λ (other : PlainNet). other.name));
     driven_below = λ (net : ℕ) here. below_count net (of_member (IsBelow nets) (driven netlist) net all_driven_below here);
     read_below = λ (net : ℕ) here. below_count net (of_member (IsBelow nets) (read netlist) net all_read_below here);
@@ -334,7 +336,7 @@ module _ (models : List PlainModel) (given : AreModels models) where
     repeats = λ (made : PlainCover) here. (of_member IsFineCover design.covers made (fine_covers nets text (fine_text models given)) here).1;
     initials = λ (made : Latch) here. of_member (λ (one : Latch). one.init ≤ 3) design.latches made (fine_latches nets text (fine_text models given)) here;
     driven_once = each_once once;
-    read_driven = λ (net : ℕ) here. (let fine = of_member IsFineReader (read netlist) net (fine_readers driven_all no_data) here in driven_net net (not_false (is_driven design net) fine.0) fine.1);
+    read_driven = λ (net : ℕ) here. (let fine = of_member IsFineReader (read netlist) net (fine_readers driven_all unread) here in driven_net net (not_false (is_driven design net) fine.0) fine.1);
     ports_differ = ports_apart;
   }
     where
@@ -344,7 +346,7 @@ module _ (models : List PlainModel) (given : AreModels models) where
 
 -- the same of a design that is the one of the text
 pub well_made_design : (models : List PlainModel) → AreModels models → (given : PlainDesign) → given ≡ design_of (flat_lines models) →
-    length given.nets ≤ 16384 → EachHasOne given → undriven_line given ≡ None → data_clock_line given ≡ None → IsWellMade (netlist_of given)
-well_made_design models fine given is few once driven_all no_data =
-    subst (λ (d : PlainDesign). length d.nets ≤ 16384 → EachHasOne d → undriven_line d ≡ None → data_clock_line d ≡ None → IsWellMade (netlist_of d)) (sym is)
-    (well_made models fine) few once driven_all no_data
+    length given.nets ≤ 16384 → EachHasOne given → undriven_line given ≡ None → data_faults (is_clock given) (readers given ++ inner_drivers given) ≡ [] → IsWellMade (netlist_of given)
+well_made_design models fine given is few once driven_all unread =
+    subst (λ (d : PlainDesign). length d.nets ≤ 16384 → EachHasOne d → undriven_line d ≡ None → data_faults (is_clock d) (readers d ++ inner_drivers d) ≡ [] → IsWellMade (netlist_of d)) (sym is)
+    (well_made models fine) few once driven_all unread

@@ -25,10 +25,11 @@ nets_of text = insert_all net_eq [] (flat_map named text)
 abbrev pub number_in : List PlainNet → PlainNet → ℕ
 number_in nets net = position_or_len (net_eq net) nets
 
--- A net that a line names as a clock. It has no number where no other line names it.
+-- A net that a line names as a clock, and the latch whose control it is, if it is one. It has no number where no other line names it.
 pub record PlainClock : Type 0 where
   pub line : ℕ
   pub net : PlainNet
+  pub latch : Option Latch
 
 abbrev pub uses : List PlainNet → (line : ℕ) → List PlainNet → List Use
 uses nets line names = map (λ net. record { line = line; net = number_in nets net }) names
@@ -51,8 +52,11 @@ abbrev pub covers_by : List PlainNet → Placed → List PlainCover
 covers_by nets (placed_cover line names output table) = record { line = line; inputs = map (number_in nets) names; output = number_in nets output; table = table } ∷ []
 covers_by nets _ = []
 
+abbrev pub latch_by : List PlainNet → (input output : PlainNet) → (initial : ℕ) → Latch
+latch_by nets input output initial = record { input = number_in nets input; output = number_in nets output; init = initial }
+
 abbrev pub latches_by : List PlainNet → Placed → List Latch
-latches_by nets (placed_latch line input output control initial) = record { input = number_in nets input; output = number_in nets output; init = initial } ∷ []
+latches_by nets (placed_latch line input output control initial) = latch_by nets input output initial ∷ []
 latches_by nets _ = []
 
 abbrev pub latch_lines : Placed → List ℕ
@@ -60,11 +64,11 @@ latch_lines (placed_latch line input output control initial) = line ∷ []
 latch_lines _ = []
 
 -- the clocks that a line names
-abbrev pub clocks_by : Placed → List PlainClock
-clocks_by (placed_clock line net) = record { line = line; net = net } ∷ []
-clocks_by (copied_clock line net) = record { line = line; net = net } ∷ []
-clocks_by (placed_latch line input output control initial) = map (λ net. record { line = line; net = net }) (option_to_list control)
-clocks_by _ = []
+abbrev pub clocks_by : List PlainNet → Placed → List PlainClock
+clocks_by nets (placed_clock line net) = record { line = line; net = net; latch = None } ∷ []
+clocks_by nets (copied_clock line net) = record { line = line; net = net; latch = None } ∷ []
+clocks_by nets (placed_latch line input output control initial) = map (λ net. record { line = line; net = net; latch = Some (latch_by nets input output initial) }) (option_to_list control)
+clocks_by nets _ = []
 
 -- What the lines of a text say of its nets.
 pub record PlainDesign : Type 0 where
@@ -87,7 +91,7 @@ design_by nets text = record {
   covers = flat_map (covers_by nets) text;
   latches = flat_map (latches_by nets) text;
   latch_lines = flat_map latch_lines text;
-  clocks = flat_map clocks_by text;
+  clocks = flat_map (clocks_by nets) text;
 }
 
 abbrev pub design_of : List Placed → PlainDesign

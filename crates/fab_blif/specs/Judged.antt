@@ -1,12 +1,11 @@
--- What is judged of a design: the drivers of its nets, their readers, and its clocks.
-use Rattle.std.specs.Prelude.{ℕ, ◌+◌, ◌<◌, ◌≤◌, Bool, not, ◌&&◌, ◌||◌, List, [], ◌∷◌, ◌++◌, map, min, if◌then◌else◌, nat_eq, nat_le, nat_lt, Option, Some, None}
+-- What is judged of a design: the drivers of its nets, and their readers.
+use Rattle.std.specs.Prelude.{ℕ, ◌+◌, ◌<◌, ◌≤◌, Bool, not, ◌&&◌, ◌||◌, List, [], ◌∷◌, ◌++◌, map, min, if◌then◌else◌, nat_eq, nat_le, Option, Some, None}
 use Rattle.std.specs.List.{list_any, count_by, filter, flat_map, zip}
 use Rattle.fab_netlist.specs.declared.netlist.Latch.{Latch}
 use Rattle.fab_netlist.specs.Plain.{PlainCover}
 use Rattle.fab_blif.specs.declared.design.Use.{Use}
 use Rattle.fab_blif.specs.declared.judge.Driver.{Driver}
-use Rattle.fab_blif.specs.Flat.{PlainNet}
-use Rattle.fab_blif.specs.Design.{PlainClock, PlainDesign, number_in}
+use Rattle.fab_blif.specs.Design.{PlainDesign}
 
 -- ---- what drives nets, and what reads them
 
@@ -108,26 +107,3 @@ is_undriven design used = not (is_driven design used.net)
 -- the least line that reads a net without a driver
 abbrev pub undriven_line : PlainDesign → Option ℕ
 undriven_line design = least_line (is_undriven design) (readers design)
-
--- ---- clocks
-
--- of two uses that of the lesser line; on one line the first
-abbrev pub earlier : Option Use → Use → Use
-earlier None used = used
-earlier (Some before) used = if nat_lt used.line before.line then used else before
-
--- The clocks by number. One that is no net of the design has a number that no net has.
-abbrev pub clock_uses : List PlainNet → List PlainClock → List Use
-clock_uses nets clocks = map (λ clock. record { line = clock.line; net = number_in nets clock.net }) clocks
-
--- the least line that names a clock which nothing drives and which is no input port
-abbrev pub undriven_clock_line : PlainDesign → Option ℕ
-undriven_clock_line design = least_line (is_undriven design) (clock_uses design.nets design.clocks)
-
--- whether a net is one that some line names as a clock
-abbrev pub is_clock : PlainDesign → (net : ℕ) → Bool
-is_clock design net = list_any (is_of net) (clock_uses design.nets design.clocks)
-
--- the least line by which a clock is read as data, or driven by a cover or a latch
-abbrev pub data_clock_line : PlainDesign → Option ℕ
-data_clock_line design = least_line (λ used. is_clock design used.net) (readers design ++ inner_drivers design)

@@ -4,7 +4,9 @@ pub mod Walk
 pub mod Order
 pub mod Formals
 pub mod Uses
+pub mod Rounds
 pub mod Counting
 pub mod Judged
+pub mod Clocks
 pub mod Refusals
 pub mod Blif

@@ -1,5 +1,5 @@
 -- The refusals of models and of their design, in the order in which they are judged.
-use Rattle.std.specs.Prelude.{◌≡◌, ◌≢◌, ◌⊎◌, ℕ, ◌<◌, ◌≤◌, Bool, false, not, List, codes, length, if◌then◌else◌, nat_eq, nat_le, Option, Some, None, find, map, option_and_then}
+use Rattle.std.specs.Prelude.{◌≡◌, ◌≢◌, ◌⊎◌, ℕ, ◌<◌, ◌≤◌, List, [], codes, length, nat_le, Some, None}
 use Rattle.std.specs.List.{filter}
 use Rattle.fab_base.specs.Reading.{fault_at}
 use Rattle.fab_base.specs.declared.fault.Fault.{Fault}
@@ -8,11 +8,15 @@ use Rattle.fab_base.specs.declared.problem.Problem.{Problem}
 use Rattle.fab_base.specs.declared.problem.Problem.TheVariants as problems
 use Rattle.fab_base.specs.declared.words.Quantity.TheVariants as quantities
 use Rattle.fab_base.specs.declared.words.Reason.TheVariants as reasons
+use Rattle.fab_blif.specs.declared.clocks.ClockFault.{ClockFault}
+use Rattle.fab_blif.specs.declared.clocks.WrongClock.{WrongClock}
+use Rattle.fab_blif.specs.declared.clocks.WrongClock.TheVariants as wrongs
 use Rattle.fab_blif.specs.declared.design.Use.{Use}
 use Rattle.fab_models.specs.Plain.{PlainModel}
 use Rattle.fab_blif.specs.Flat.{flat_lines}
 use Rattle.fab_blif.specs.Design.{PlainDesign, design_of}
-use Rattle.fab_blif.specs.Judged.{EachHasOne, clock_uses, data_clock_line, drivers, inner_drivers, input_ports, is_of, least, least_line, least_of, undriven_clock_line, undriven_line}
+use Rattle.fab_blif.specs.Judged.{EachHasOne, drivers, inner_drivers, input_ports, undriven_line}
+use Rattle.fab_blif.specs.Clocks.{clock_faults, first_fault}
 use Rattle.fab_blif.specs.Order.{BreaksFormals, IsRecursive, IsUnknown, NamesDiffer, NoLine, RefusesFormals, RefusesNames, RefusesRecursive, RefusesUnknown}
 use Rattle.fab_blif.specs.Counting.{RefusesInstances, instances}
 
@@ -47,47 +51,22 @@ RefusesNets file last_line design fault = (16384 < length design.nets) × (fault
 
 -- ---- clocks
 
--- the use of the least line, the first of those on it
-abbrev pub first_use : List Use → Option Use
-first_use uses = option_and_then (λ line. find (λ used. nat_eq used.line line) uses) (least (map (λ used. used.line) uses))
-
--- the least line of the uses of another net
-abbrev pub other_line : Option Use → List Use → Option ℕ
-other_line None uses = None
-other_line (Some first) uses = least_line (λ used. not (is_of first.net used)) uses
-
--- The least line that names another clock than the least line that names one. Clocks that are no nets are not told apart
--- here: nothing drives them, and that is refused first.
-abbrev pub second_clock_line : PlainDesign → Option ℕ
-second_clock_line design = other_line (first_use (clock_uses design.nets design.clocks)) (clock_uses design.nets design.clocks)
-
--- the least line on which a clock is refused
-abbrev pub clock_line : PlainDesign → Option ℕ
-clock_line design = least_of (least_of (undriven_clock_line design) (data_clock_line design)) (second_clock_line design)
-
-abbrev pub is_line : Option ℕ → ℕ → Bool
-is_line None line = false
-is_line (Some other) line = nat_eq other line
-
--- What is wrong with a clock on a line: that nothing drives it, else that it is data, else that it is a second one. The first
--- two are told by their least lines.
-abbrev pub clock_problem : (undriven read : Option ℕ) → (line : ℕ) → Problem
-clock_problem undriven read line =
-    if is_line undriven line then problems.Malformed reasons.Undriven
-    else if is_line read line then problems.Unsupported (codes "clock as data")
-    else problems.Unsupported (codes "second clock")
+abbrev pub clock_problem : WrongClock → Problem
+clock_problem wrongs.Undriven = problems.Malformed reasons.Undriven
+clock_problem wrongs.Data = problems.Unsupported (codes "clock as data")
+clock_problem wrongs.Second = problems.Unsupported (codes "second clock")
 
 abbrev pub RefusesClocks : (file : List ℕ) → PlainDesign → Fault → Type 0
-RefusesClocks file design fault = (line : ℕ) × (clock_line design ≡ Some line) × (fault ≡ fault_at file line (clock_problem (undriven_clock_line design) (data_clock_line design) line))
+RefusesClocks file design fault = (told : ClockFault) × (first_fault (clock_faults design) ≡ Some told) × (fault ≡ fault_at file told.line (clock_problem told.wrong))
 
 -- ---- the whole design
 
--- What holds of a design that is not refused. The last of these says that no clock is refused, so there is at most one.
+-- What holds of a design that is not refused. The last of these says that nothing is wrong with a clock, so there is at most one.
 pub record IsFineDesign (design : PlainDesign) : Type 0 where
   pub once : EachHasOne design
   pub driven : undriven_line design ≡ None
   pub small : length design.nets ≤ 16384
-  pub clocks : clock_line design ≡ None
+  pub clocks : clock_faults design ≡ []
 
 -- The first refusal of a design, where memory was not refused.
 abbrev pub RefusesDesign : (file : List ℕ) → (last_line : ℕ) → PlainDesign → Fault → Type 0

@@ -1,6 +1,5 @@
 -- Which models a model uses.
 use Rattle.std.specs.Prelude.{◌≡◌, ◌⊎◌, ◌↔◌, ℕ, zero, suc, ◌++◌, Bool, true, false, if◌then◌else◌, nat_eq, nat_lt, List, [], ◌∷◌, Contains, fold, get_or, position, Option, Some, None}
-use Rattle.std.specs.List.{list_all}
 use Rattle.std.proofs.Math.ListN.{set}
 use Rattle.std.specs.Str.{bytes_eq}
 use Rattle.fab_models.specs.Plain.{PlainBody, instance, PlainModel, PlainStatement}
@@ -63,20 +62,6 @@ marked_all names old statements = fold (marked_by names) old statements
 abbrev pub lines_before : List PlainModel → (marks : List Bool) → (place : ℕ) → List PlainStatement
 lines_before models marks zero = []
 lines_before models marks (suc place) = lines_before models marks place ++ (if get_or marks place false then statements_of models place else [])
-
--- ---- models in an order
-
--- whether the model of which a line is an instance has a higher rank
-abbrev pub rises_to : (ranks : List ℕ) → (rank : ℕ) → (inner : Option ℕ) → Bool
-rises_to ranks rank None = true
-rises_to ranks rank (Some inner) = nat_lt rank (get_or ranks inner 0)
-
-abbrev pub rises : (names : List (List ℕ)) → (ranks : List ℕ) → (rank : ℕ) → PlainStatement → Bool
-rises names ranks rank statement = rises_to ranks rank (inner_of names statement.body)
-
--- the lines of marked models are instances of models of higher ranks than their own
-abbrev pub Rises : List PlainModel → (ranks : List ℕ) → (marks : List Bool) → Type 0
-Rises models ranks marks = (place : ℕ) → IsMarked marks place → list_all (rises (model_names models) ranks (get_or ranks place 0)) (statements_of models place) ≡ true
 
 -- ---- the first line at which something is found
 

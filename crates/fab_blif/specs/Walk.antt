@@ -2,6 +2,7 @@
 use Rattle.std.specs.Prelude.{ℕ, zero, suc, ◌+◌, ◌-◌, List, [], ◌∷◌, ◌++◌, Vec, map, length, drop, fold, flat_map, option_map, Option, Some, None, option_to_list}
 use Rattle.indexmap.specs.IndexSet.{insert_all, insert_key}
 use Rattle.fab_models.specs.Plain.{PlainBody, PlainModel, instance}
+use Rattle.fab_netlist.specs.declared.netlist.Latch.{Latch}
 use Rattle.fab_blif.specs.declared.design.ClockName.{ClockName}
 use Rattle.fab_blif.specs.declared.design.Use.{Use}
 use Rattle.fab_blif.specs.declared.net.Net.{Net}
@@ -15,7 +16,7 @@ abbrev pub plain_nets : List Net → List PlainNet
 plain_nets nets = map plain_net nets
 
 abbrev pub plain_clock : ClockName → PlainClock
-plain_clock name = record { line = name.line; net = plain_net name.net }
+plain_clock name = record { line = name.line; net = plain_net name.net; latch = name.latch }
 
 -- the keys of a set as names
 abbrev pub key_names : {A : Type 0} → List (Vec ℕ A) → List (List ℕ)
@@ -57,7 +58,7 @@ abbrev pub with_outputs : PlainDesign → ℕ → List PlainNet → PlainDesign
 with_outputs design line names = record design { nets = insert_all net_eq design.nets names; outputs = design.outputs ++ used_at line (numbered design.nets names) }
 
 abbrev pub with_clock : PlainDesign → ℕ → PlainNet → PlainDesign
-with_clock design line net = record design { clocks = design.clocks ++ record { line = line; net = net } ∷ [] }
+with_clock design line net = record design { clocks = design.clocks ++ record { line = line; net = net; latch = None } ∷ [] }
 
 abbrev pub with_clock_port : PlainDesign → ℕ → PlainNet → PlainDesign
 with_clock_port design line net = record design { nets = insert_key net_eq design.nets net; clock_ports = design.clock_ports ++ used_at line (number_in design.nets net ∷ []) }
@@ -68,16 +69,20 @@ with_cover design line names output table = record design {
   covers = design.covers ++ record { line = line; inputs = numbered design.nets names; output = number_in (insert_all net_eq design.nets names) output; table = table } ∷ [];
 }
 
-abbrev pub clocked : (line : ℕ) → List PlainNet → List PlainClock
-clocked line nets = map (λ net. record { line = line; net = net }) nets
+abbrev pub clocked : (line : ℕ) → Latch → List PlainNet → List PlainClock
+clocked line latch nets = map (λ net. record { line = line; net = net; latch = Some latch }) nets
 
-abbrev pub with_control : PlainDesign → ℕ → List PlainNet → PlainDesign
-with_control design line nets = record design { nets = insert_all net_eq design.nets nets; clocks = design.clocks ++ clocked line nets }
+abbrev pub with_control : PlainDesign → ℕ → Latch → List PlainNet → PlainDesign
+with_control design line latch nets = record design { nets = insert_all net_eq design.nets nets; clocks = design.clocks ++ clocked line latch nets }
+
+-- a latch where its nets come next
+abbrev pub latch_next : List PlainNet → (input output : PlainNet) → (initial : ℕ) → Latch
+latch_next nets input output initial = record { input = number_in nets input; output = number_in (insert_key net_eq nets input) output; init = initial }
 
 abbrev pub with_latch : PlainDesign → ℕ → PlainNet → PlainNet → ℕ → PlainDesign
 with_latch design line input output initial = record design {
   nets = insert_key net_eq (insert_key net_eq design.nets input) output;
-  latches = design.latches ++ record { input = number_in design.nets input; output = number_in (insert_key net_eq design.nets input) output; init = initial } ∷ [];
+  latches = design.latches ++ latch_next design.nets input output initial ∷ [];
   latch_lines = design.latch_lines ++ line ∷ [];
 }
 
@@ -88,7 +93,7 @@ after design (placed_outputs line names) = with_outputs design line names
 after design (placed_clock line net) = with_clock (with_clock_port design line net) line net
 after design (copied_clock line net) = with_clock design line net
 after design (placed_cover line names output table) = with_cover design line names output table
-after design (placed_latch line input output control initial) = with_control (with_latch design line input output initial) line (option_to_list control)
+after design (placed_latch line input output control initial) = with_control (with_latch design line input output initial) line (latch_next design.nets input output initial) (option_to_list control)
 
 abbrev pub after_all : PlainDesign → List Placed → PlainDesign
 after_all design text = fold after design text

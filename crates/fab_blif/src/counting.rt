@@ -8,8 +8,9 @@ ghost use Rattle.fab_blif.specs.Flat.{model_names, statements_of};
 ghost use Rattle.fab_blif.specs.Uses.{IsMarked, MarksUsed};
 ghost use Rattle.fab_blif.specs.Walk.{key_names};
 
-use crate::ranking::Ranking;
-use crate::soonest::{is_marked, is_ordered};
+use crate::ranking::{Member, Ranking};
+use crate::ranks::is_ordered;
+use crate::soonest::is_marked;
 use crate::uses::instance_of;
 use fab_base::Memory;
 use fab_models::{Model, Statement};
@@ -43,20 +44,20 @@ fn count_model(places: &IndexSet<Vec<u8>>, counts: &[u64], model: &Model) -> u64
     count
 }
 
-/// Counts the instances in models, the last one in an order first.
+/// Counts the instances in models, in an order.
 fn counts_by_order(
     alloc: Global,
     models: &[Model],
     places: &IndexSet<Vec<u8>>,
-    order: &[usize],
+    order: &[Member],
 ) -> Result<Vec<u64>, Memory> {
     let mut counts = vec![in alloc; 0u64; models.len()]?;
-    for place in order.iter().rev() {
-        let Some(model) = models.get(*place) else {
+    for member in order {
+        let Some(model) = models.get(member.place) else {
             continue;
         };
         let count = count_model(places, &counts, model);
-        if let Some(slot) = counts.get_mut(*place) {
+        if let Some(slot) = counts.get_mut(member.place) {
             *slot = count;
         }
     }
@@ -112,7 +113,7 @@ fn count_by_levels(
 
 /// How many instances the flattened text has; 2^64 - 1 where they are more.
 ///
-/// Where models are in order, one pass from the back counts them, and a second one tries the counts. Only models that use one
+/// Where models are in order, one pass counts them, and a second one tries the counts. Only models that use one
 /// another round are in no order, and these are refused before their instances are counted. So the passes of
 /// `count_by_levels`, as many as there are models, are only there to be right whatever the order is.
 pub(crate) fn count_instances(

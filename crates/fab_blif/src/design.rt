@@ -28,6 +28,8 @@ pub(crate) struct Use {
 pub(crate) struct ClockName {
     pub line: u32,
     pub net: Net,
+    /// The latch whose control it is.
+    pub latch: Option<Latch>,
 }
 
 /// What the lines of a text say of its nets.
@@ -173,23 +175,25 @@ fn put_latch(
     input: &Name,
     output: &Name,
     init: u8,
-) -> Result<(), Memory>
+) -> Result<Latch, Memory>
     ensures nets { OnOk result (plain_nets nets.new.keys
         ≡ insert_key net_eq (insert_key net_eq (plain_nets nets.old.keys) (net_in (copy_within outer.now frame.now) input.now)) (net_in (copy_within outer.now frame.now) output.now)) }
-    ensures latches { OnOk result (latches.new.items ≡ latches.old.items ++ record {
+    ensures latches { IfOk result (λ latch. latches.new.items ≡ latches.old.items ++ latch ∷ []) }
+    ensures latch { IfOk result (λ latch. latch ≡ record {
       input = number_in (plain_nets nets.old.keys) (net_in (copy_within outer.now frame.now) input.now);
       output = number_in (insert_key net_eq (plain_nets nets.old.keys) (net_in (copy_within outer.now frame.now) input.now)) (net_in (copy_within outer.now frame.now) output.now);
       init = init;
-    } ∷ []) }
+    }) }
 {
     let input = number_name(alloc, nets, outer, frame, input)?;
     let output = number_name(alloc, nets, outer, frame, output)?;
-    latches.push(Latch {
+    let latch = Latch {
         input,
         output,
         init,
-    })?;
-    Ok(())
+    };
+    latches.push(latch)?;
+    Ok(latch)
 }
 
 fn name_clock(
@@ -199,11 +203,13 @@ fn name_clock(
     frame: &Frame,
     line: u32,
     name: &Name,
+    latch: Option<Latch>,
 ) -> Result<(), Memory>
-    ensures { OnOk result (map plain_clock clocks.new.items ≡ map plain_clock clocks.old.items ++ record { line = line; net = net_in (copy_within outer.now frame.now) name.now } ∷ []) }
+    ensures { OnOk result (map plain_clock clocks.new.items
+        ≡ map plain_clock clocks.old.items ++ record { line = line; net = net_in (copy_within outer.now frame.now) name.now; latch = latch } ∷ []) }
 {
     let net = net_in(alloc, outer, frame, name.bytes())?;
-    clocks.push(ClockName { line, net })?;
+    clocks.push(ClockName { line, net, latch })?;
     Ok(())
 }
 
@@ -215,17 +221,18 @@ fn put_control(
     frame: &Frame,
     line: u32,
     control: &Option<Name>,
+    latch: Latch,
 ) -> Result<(), Memory>
     ensures nets { OnOk result (plain_nets nets.new.keys
         ≡ insert_all net_eq (plain_nets nets.old.keys) (option_to_list (option_map (net_in (copy_within outer.now frame.now)) control.now))) }
     ensures clocks { OnOk result (map plain_clock clocks.new.items
-        ≡ map plain_clock clocks.old.items ++ clocked line (option_to_list (option_map (net_in (copy_within outer.now frame.now)) control.now))) }
+        ≡ map plain_clock clocks.old.items ++ clocked line latch (option_to_list (option_map (net_in (copy_within outer.now frame.now)) control.now))) }
 {
     match control {
         None => Ok(()),
         Some(name) => {
             number_name(alloc, nets, outer, frame, name)?;
-            name_clock(alloc, clocks, outer, frame, line, name)?;
+            name_clock(alloc, clocks, outer, frame, line, name, Some(latch))?;
             Ok(())
         }
     }
@@ -276,7 +283,7 @@ pub(crate) fn put(
                 let net = number_name(alloc, &mut design.nets, outer, frame, name)?;
                 push_uses(&mut design.clock_ports, line, &[net])?;
             }
-            name_clock(alloc, &mut design.clocks, outer, frame, line, name)
+            name_clock(alloc, &mut design.clocks, outer, frame, line, name, None)
         }
         Body::Cover {
             inputs,
@@ -302,7 +309,7 @@ pub(crate) fn put(
             control,
             initial,
         } => {
-            put_latch(
+            let latch = put_latch(
                 alloc,
                 &mut design.nets,
                 &mut design.latches,
@@ -321,6 +328,7 @@ pub(crate) fn put(
                 frame,
                 line,
                 control,
+                latch,
             )?;
             Ok(())
         }

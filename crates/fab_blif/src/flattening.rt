@@ -10,8 +10,9 @@ ghost use Rattle.fab_blif.specs.Order.{NamesDiffer};
 ghost use Rattle.fab_blif.specs.Refusals.{AreFineModels, IsFineDesign, RefusesDesign, RefusesFile};
 ghost use Rattle.fab_blif.specs.Walk.{key_names, plain_nets, plain_clock};
 
+use crate::clocks::refuse_clocks;
 use crate::design::{ClockName, Design, Use};
-use crate::judge::{refuse_clocks, refuse_drivers, refuse_undriven};
+use crate::judge::{refuse_drivers, refuse_undriven};
 use crate::names::places_of;
 use crate::net::Net;
 use crate::refusals::refuse_models;
@@ -119,13 +120,10 @@ fn netlist_of(alloc: Global, design: Design) -> Result<Netlist, Memory>
         clocks,
     } = design;
     let clock = clock_number(&nets, &clocks);
-    Ok(Netlist {
-        nets: names_of(alloc, &nets)?,
-        inputs: data_inputs(alloc, clock, &inputs)?,
-        outputs: nets_of(alloc, &outputs)?,
-        covers,
-        latches,
-    })
+    let nets = names_of(alloc, &nets)?;
+    let inputs = data_inputs(alloc, clock, &inputs)?;
+    let outputs = nets_of(alloc, &outputs)?;
+    Netlist::new(alloc, nets, inputs, outputs, covers, latches)
 }
 
 /// The netlist of the first of the models, with a copy of its covers and latches for each instance of a model.

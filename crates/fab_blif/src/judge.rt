@@ -1,17 +1,14 @@
-//! What is judged of a design: that each net has one driver, that what is read is driven, and that there is one clock.
+//! What is judged of a design: that each net has one driver, and that what is read is driven.
 
-ghost use Rattle.std.specs.Prelude.{◌≡◌, ◌≢◌, ◌++◌, ◌||◌, ◌≤◌, if◌then◌else◌, ℕ, None, Some, not, nat_eq, map, slice_get, false, true, IfErr, IfOk, OnOk, IfNone, IfSome};
+ghost use Rattle.std.specs.Prelude.{◌≡◌, ◌≢◌, ◌++◌, ◌||◌, ◌≤◌, if◌then◌else◌, ℕ, None, Some, not, nat_eq, slice_get, false, true, IfErr, IfOk, OnOk, IfNone, IfSome};
 ghost use Rattle.std.specs.List.{list_any};
 ghost use Rattle.fab_base.specs.declared.fault.Fault.TheVariants as faults;
-ghost use Rattle.fab_blif.specs.Design.{number_in};
-ghost use Rattle.fab_blif.specs.Judged.{EachHasOne, IsSecondIn, clock_uses, data_clock_line, drivers_in, earlier, inner_drivers, input_ports, input_uses, is_among, is_driven, is_inner, is_of, is_port, is_second, latch_uses, least_line, least_of, output_uses, readers, tagged, undriven_clock_line, undriven_line};
-ghost use Rattle.fab_blif.specs.Refusals.{RefusesClocks, RefusesDrivers, RefusesUndriven, clock_line, clock_problem, first_use, is_line, other_line, second_clock_line};
-ghost use Rattle.fab_blif.specs.Walk.{plain_clock, plain_net, plain_nets};
+ghost use Rattle.fab_blif.specs.Judged.{EachHasOne, IsSecondIn, drivers_in, inner_drivers, input_ports, input_uses, is_among, is_driven, is_inner, is_of, is_port, is_second, latch_uses, least_line, least_of, output_uses, readers, tagged, undriven_line};
+ghost use Rattle.fab_blif.specs.Refusals.{RefusesDrivers, RefusesUndriven};
 
-use crate::design::{ClockName, Design, Use, push_uses};
+use crate::design::{Design, Use, push_uses};
 use crate::models::malformed;
-use crate::net::Net;
-use fab_base::{Fault, Memory, Name, Problem, Reason};
+use fab_base::{Fault, Memory, Name, Reason};
 use fab_netlist::{Cover, Latch};
 use indexmap::IndexSet;
 use std::alloc::Global;
@@ -82,7 +79,7 @@ fn put_cover_inputs(uses: &mut Vec<Use>, covers: &[Cover]) -> Result<(), Memory>
 }
 
 /// The covers and latches that drive nets.
-fn inner_drivers(alloc: Global, design: &Design) -> Result<Vec<Use>, Memory>
+pub(crate) fn inner_drivers(alloc: Global, design: &Design) -> Result<Vec<Use>, Memory>
     ensures { IfOk result (λ uses. uses.items ≡ inner_drivers design.now) }
 {
     let mut uses = Vec::new(alloc);
@@ -101,7 +98,7 @@ fn input_ports(alloc: Global, design: &Design) -> Result<Vec<Use>, Memory>
 }
 
 /// What reads nets: covers, latches and output ports.
-fn readers_of(alloc: Global, design: &Design) -> Result<Vec<Use>, Memory>
+pub(crate) fn readers_of(alloc: Global, design: &Design) -> Result<Vec<Use>, Memory>
     ensures { IfOk result (λ uses. uses.items ≡ readers design.now) }
 {
     let mut uses = Vec::new(alloc);
@@ -134,7 +131,7 @@ fn drivers_of(alloc: Global, design: &Design) -> Result<Vec<Driver>, Memory>
     Ok(drivers)
 }
 
-fn is_among(nets: &IndexSet<u32>, net: u32) -> bool
+pub(crate) fn is_among(nets: &IndexSet<u32>, net: u32) -> bool
     ensures { result ≡ is_among nets.now.keys net }
 {
     nets.contains(&net)
@@ -184,7 +181,7 @@ fn second_driver(alloc: Global, drivers: &mut Vec<Driver>) -> Result<Option<u32>
 }
 
 /// The nets that uses name.
-fn nets_in(alloc: Global, uses: &[Use]) -> Result<IndexSet<u32>, Memory>
+pub(crate) fn nets_in(alloc: Global, uses: &[Use]) -> Result<IndexSet<u32>, Memory>
     ensures { IfOk result (λ nets. (net : ℕ) → is_among nets.keys net ≡ list_any (is_of net) uses.now) }
 {
     let mut nets = IndexSet::new(alloc);
@@ -194,7 +191,7 @@ fn nets_in(alloc: Global, uses: &[Use]) -> Result<IndexSet<u32>, Memory>
     Ok(nets)
 }
 
-fn least_of(first: Option<u32>, second: Option<u32>) -> Option<u32>
+pub(crate) fn least_of(first: Option<u32>, second: Option<u32>) -> Option<u32>
     ensures { result ≡ least_of first second }
 {
     match first {
@@ -207,7 +204,7 @@ fn least_of(first: Option<u32>, second: Option<u32>) -> Option<u32>
 }
 
 /// The lesser line, where the second one counts.
-fn with_line(least: Option<u32>, counts: bool, line: u32) -> Option<u32>
+pub(crate) fn with_line(least: Option<u32>, counts: bool, line: u32) -> Option<u32>
     ensures { result ≡ (if counts then least_of least (Some line) else least) }
 {
     if counts {
@@ -215,17 +212,6 @@ fn with_line(least: Option<u32>, counts: bool, line: u32) -> Option<u32>
     } else {
         least
     }
-}
-
-/// The least line of the uses of these nets.
-fn least_within(nets: &IndexSet<u32>, uses: &[Use]) -> Option<u32>
-    ensures { result ≡ least_line (λ used. is_among nets.now.keys used.net) uses.now }
-{
-    let mut least: Option<u32> = None;
-    for used in uses {
-        least = with_line(least, is_among(nets, used.net), used.line);
-    }
-    least
 }
 
 /// The least line of the uses of other nets.
@@ -252,7 +238,7 @@ pub(crate) fn refuse_drivers(alloc: Global, file: &Name, design: &Design) -> Res
 }
 
 /// The nets that have a driver.
-fn driven_nets(alloc: Global, design: &Design) -> Result<IndexSet<u32>, Memory>
+pub(crate) fn driven_nets(alloc: Global, design: &Design) -> Result<IndexSet<u32>, Memory>
     ensures { IfOk result (λ nets. (net : ℕ) → is_among nets.keys net ≡ is_driven design.now net) }
 {
     let mut uses = inner_drivers(alloc, design)?;
@@ -277,162 +263,4 @@ pub(crate) fn refuse_undriven(alloc: Global, file: &Name, design: &Design) -> Re
         None => Ok(()),
         Some(line) => Err(malformed(alloc, file, line, Reason::Undriven)),
     }
-}
-
-fn number_or_len(nets: &IndexSet<Net>, net: &Net) -> usize
-    ensures { result ≡ number_in (plain_nets nets.now.keys) (plain_net net.now) }
-{
-    nets.get_index_of(net).unwrap_or(nets.len())
-}
-
-/// The clocks by number. One that is no net has the number that the next net would have.
-fn clock_uses(alloc: Global, nets: &IndexSet<Net>, clocks: &[ClockName]) -> Result<Vec<Use>, Memory>
-    ensures { IfOk result (λ uses. uses.items ≡ clock_uses (plain_nets nets.now.keys) (map plain_clock clocks.now)) }
-{
-    let mut uses = Vec::new(alloc);
-    for clock in clocks {
-        let Ok(net) = u32::try_from(number_or_len(nets, &clock.net)) else {
-            return Err(Memory);
-        };
-        uses.push(Use {
-            line: clock.line,
-            net,
-        })?;
-    }
-    Ok(uses)
-}
-
-fn clocks_of(alloc: Global, design: &Design) -> Result<Vec<Use>, Memory>
-    ensures { IfOk result (λ uses. uses.items ≡ clock_uses design.now.nets design.now.clocks) }
-{
-    clock_uses(alloc, &design.nets, &design.clocks)
-}
-
-fn undriven_clock_line(alloc: Global, design: &Design) -> Result<Option<u32>, Memory>
-    ensures { IfOk result (λ line. line ≡ undriven_clock_line design.now) }
-{
-    let driven = driven_nets(alloc, design)?;
-    let clocks = clocks_of(alloc, design)?;
-    Ok(least_outside(&driven, &clocks))
-}
-
-/// The uses in which no clock may stand: by readers, and by the covers and latches that drive nets.
-fn data_uses(alloc: Global, design: &Design) -> Result<Vec<Use>, Memory>
-    ensures { IfOk result (λ uses. uses.items ≡ readers design.now ++ inner_drivers design.now) }
-{
-    let mut uses = readers_of(alloc, design)?;
-    uses.extend_from_slice(&inner_drivers(alloc, design)?)?;
-    Ok(uses)
-}
-
-fn data_clock_line(alloc: Global, design: &Design) -> Result<Option<u32>, Memory>
-    ensures { IfOk result (λ line. line ≡ data_clock_line design.now) }
-{
-    let clocks = nets_in(alloc, &clocks_of(alloc, design)?)?;
-    let uses = data_uses(alloc, design)?;
-    Ok(least_within(&clocks, &uses))
-}
-
-/// Of two uses that of the lesser line; on one line the first.
-fn earlier(first: Option<Use>, used: Use) -> Use
-    ensures { result ≡ earlier first used }
-{
-    match first {
-        None => used,
-        Some(before) => {
-            if used.line < before.line {
-                used
-            } else {
-                before
-            }
-        }
-    }
-}
-
-/// The use of the least line, the first of those on it.
-fn first_use(uses: &[Use]) -> Option<Use>
-    ensures { result ≡ first_use uses.now }
-{
-    let mut first: Option<Use> = None;
-    for used in uses {
-        first = Some(earlier(first, *used));
-    }
-    first
-}
-
-fn is_of(net: u32, used: &Use) -> bool
-    ensures { result ≡ is_of net used.now }
-{
-    net == used.net
-}
-
-/// The least line of the uses of another net than that of the first.
-fn other_line(first: Option<Use>, uses: &[Use]) -> Option<u32>
-    ensures { result ≡ other_line first uses.now }
-{
-    match first {
-        None => None,
-        Some(first) => least_other(first.net, uses),
-    }
-}
-
-fn least_other(net: u32, uses: &[Use]) -> Option<u32>
-    ensures { result ≡ least_line (λ used. not (is_of net used)) uses.now }
-{
-    let mut least: Option<u32> = None;
-    for used in uses {
-        least = with_line(least, !is_of(net, used), used.line);
-    }
-    least
-}
-
-fn second_clock_line(alloc: Global, design: &Design) -> Result<Option<u32>, Memory>
-    ensures { IfOk result (λ line. line ≡ second_clock_line design.now) }
-{
-    let clocks = clocks_of(alloc, design)?;
-    Ok(other_line(first_use(&clocks), &clocks))
-}
-
-fn is_line(least: Option<u32>, line: u32) -> bool
-    ensures { result ≡ is_line least line }
-{
-    match least {
-        None => false,
-        Some(other) => other == line,
-    }
-}
-
-/// What is wrong with a clock on a line, where these are the least lines of clocks that nothing drives and of data.
-fn clock_problem(
-    alloc: Global,
-    undriven: Option<u32>,
-    read: Option<u32>,
-    line: u32,
-) -> Result<Problem, Memory>
-    ensures { IfOk result (λ problem. problem ≡ clock_problem undriven read line) }
-{
-    if is_line(undriven, line) {
-        return Ok(Problem::Malformed(Reason::Undriven));
-    }
-    if is_line(read, line) {
-        return Ok(Problem::Unsupported(Name::of(alloc, b"clock as data")?));
-    }
-    Ok(Problem::Unsupported(Name::of(alloc, b"second clock")?))
-}
-
-/// Refuses clocks at the least line on which one is wrong: one that nothing drives and that is no input, `Malformed`,
-/// `undriven`; one that a cover or a latch drives or that something but a latch's control reads, `Unsupported`,
-/// `clock as data`; and a second one, `second clock`. On one line they come in this order.
-pub(crate) fn refuse_clocks(alloc: Global, file: &Name, design: &Design) -> Result<(), Fault>
-    ensures none { OnOk result (clock_line design.now ≡ None) }
-    ensures refused { IfErr result (λ fault. (fault ≢ faults.Memory) → RefusesClocks file.now design.now fault) }
-{
-    let undriven = undriven_clock_line(alloc, design)?;
-    let read = data_clock_line(alloc, design)?;
-    let second = second_clock_line(alloc, design)?;
-    let Some(line) = least_of(least_of(undriven, read), second) else {
-        return Ok(());
-    };
-    let problem = clock_problem(alloc, undriven, read, line)?;
-    Err(problem.at(alloc, file, line))
 }

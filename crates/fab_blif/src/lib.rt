@@ -2,6 +2,7 @@
 //! after a file's last line is judged here.
 #![tactic(auto)]
 
+mod clocks;
 mod counting;
 mod design;
 mod flattening;
@@ -13,7 +14,9 @@ mod models;
 mod names;
 mod net;
 mod ranking;
+mod ranks;
 mod reading;
+mod recursion;
 mod refusals;
 mod soonest;
 mod uses;

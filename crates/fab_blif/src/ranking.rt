@@ -1,6 +1,9 @@
-//! An order of models, each behind those that have instances of it.
+//! An order of used models, and a rank for each. They come from one search, which nothing is proved of: what rests on them is
+//! tried first.
+//!
+//! Models that use one another make a round; a model that no such model uses makes one alone.
 
-ghost use Rattle.std.specs.Prelude.{◌≡◌, ◌<◌, ◌≤◌, ℕ, IfOk, length, slice_index};
+ghost use Rattle.std.specs.Prelude.{◌≡◌, ◌<◌, ℕ, IfOk, slice_index, length};
 
 use crate::uses::instance_of;
 use fab_base::Memory;
@@ -8,109 +11,174 @@ use fab_models::Model;
 use indexmap::IndexSet;
 use std::alloc::Global;
 
-/// An order of used models. Where none is recursive, each stands behind those that have instances of it.
+/// A model, and how many rounds were known before its own.
+#[derive(Clone, Copy)]
+pub(crate) struct Member {
+    pub place: usize,
+    round: usize,
+}
+
+/// An order of used models, and their ranks.
 #[derive(Drop)]
 pub(crate) struct Ranking {
-    /// The places of models, in the order.
-    pub order: Vec<usize>,
-    /// For each model its place in the order; 0 where it has none.
+    /// Used models, round by round, each round behind those that it has instances of.
+    pub order: Vec<Member>,
+    /// For each model a rank, which is 0 where it is not used: one for a round, and lower than those of the rounds that it has
+    /// instances of.
     pub ranks: Vec<usize>,
 }
 
-/// How many lines of used models are instances of each model.
-fn count_lines(
-    alloc: Global,
-    models: &[Model],
-    places: &IndexSet<Vec<u8>>,
-    used: &[bool],
-) -> Result<Vec<usize>, Memory>
-    requires { length models.now ≡ length places.now.keys }
-    ensures { IfOk result (λ lines. length lines.items ≡ length models.now) }
-{
-    let mut lines = vec![in alloc; 0; models.len()]?;
-    for (model, used) in models.iter().zip(used.iter()) {
-        if *used {
-            count_lines_of(model, places, &mut lines);
-        }
-    }
-    Ok(lines)
+/// A model whose lines are gone through.
+#[derive(Clone, Copy)]
+struct Visit {
+    place: usize,
+    /// How many models were open when it was met, with itself.
+    number: usize,
+    /// The line that comes next.
+    next: usize,
 }
 
-fn count_lines_of(model: &Model, places: &IndexSet<Vec<u8>>, lines: &mut [usize])
-    requires { length lines.old ≡ length places.now.keys }
-{
-    for statement in &model.statements {
-        let Some(place) = instance_of(places, &statement.body) else {
-            continue;
+/// A search of the models that the first one uses.
+#[derive(Drop)]
+struct Search {
+    /// Models from the first one on, each of which has an instance of the next one.
+    path: Vec<Visit>,
+    /// Models that were met, whose rounds are not known yet.
+    open: Vec<usize>,
+    /// For each model the least number of an open model that it is known to use, or its own; 0 where it was not met, and
+    /// the greatest number where its round is known.
+    least: Vec<usize>,
+    /// Models whose rounds are known.
+    order: Vec<Member>,
+    /// How many rounds are known.
+    rounds: usize,
+}
+
+fn number_at(numbers: &[usize], place: usize) -> usize {
+    numbers.get(place).copied().unwrap_or(usize::MAX)
+}
+
+fn set_number(numbers: &mut [usize], place: usize, number: usize) {
+    if let Some(slot) = numbers.get_mut(place) {
+        *slot = number;
+    }
+}
+
+impl Search {
+    fn new(alloc: Global, count: usize) -> Result<Search, Memory> {
+        Ok(Search {
+            path: Vec::new(alloc),
+            open: Vec::new(alloc),
+            least: vec![in alloc; 0; count]?,
+            order: Vec::new(alloc),
+            rounds: 0,
+        })
+    }
+
+    /// Begins with the lines of a model.
+    fn meet(&mut self, place: usize) -> Result<(), Memory> {
+        self.open.push(place)?;
+        let number = self.open.len();
+        set_number(&mut self.least, place, number);
+        self.path.push(Visit {
+            place,
+            number,
+            next: 0,
+        })?;
+        Ok(())
+    }
+
+    /// Goes on with the next line of a model.
+    fn go_on(
+        &mut self,
+        models: &[Model],
+        places: &IndexSet<Vec<u8>>,
+        visit: Visit,
+    ) -> Result<(), Memory> {
+        let Some(model) = models.get(visit.place) else {
+            return Ok(());
         };
-        lines[place] = lines[place].saturating_add(1);
-    }
-}
-
-/// Takes a model's lines off the numbers of lines that are left, and lists the models that have none left.
-fn take_lines_off(
-    model: &Model,
-    places: &IndexSet<Vec<u8>>,
-    left: &mut [usize],
-    todo: &mut Vec<usize>,
-) -> Result<(), Memory>
-    requires { length left.old ≡ length places.now.keys }
-{
-    for statement in &model.statements {
-        let Some(place) = instance_of(places, &statement.body) else {
-            continue;
+        let Some(line) = model.statements.get(visit.next) else {
+            return self.leave(visit);
         };
-        left[place] = left[place].saturating_sub(1);
-        if left[place] == 0 {
-            todo.push(place)?;
+        if let Some(inner) = instance_of(places, &line.body) {
+            let least = number_at(&self.least, inner);
+            if least == 0 {
+                // The line is looked at again when the model is done.
+                self.path.push(visit)?;
+                return self.meet(inner);
+            }
+            let least = number_at(&self.least, visit.place).min(least);
+            set_number(&mut self.least, visit.place, least);
         }
+        self.path.push(Visit {
+            next: visit.next + 1,
+            ..visit
+        })?;
+        Ok(())
     }
-    Ok(())
+
+    /// Ends with a model. Where it uses no model that was met before it, its round is that of the open models from it on.
+    fn leave(&mut self, visit: Visit) -> Result<(), Memory> {
+        if number_at(&self.least, visit.place) < visit.number {
+            return Ok(());
+        }
+        let round = self.rounds;
+        while let Some(place) = self.open.pop() {
+            set_number(&mut self.least, place, usize::MAX);
+            self.order.push(Member { place, round })?;
+            if place == visit.place {
+                break;
+            }
+        }
+        self.rounds = round.saturating_add(1);
+        Ok(())
+    }
 }
 
-/// The place of each of so many models in an order; 0 where it has none.
-fn ranks_of(alloc: Global, count: usize, order: &[usize]) -> Result<Vec<usize>, Memory>
+/// At most so many steps a search takes: one for each line and each model, and one more for a model that a line meets.
+fn most_steps(models: &[Model]) -> usize {
+    let mut steps = 0usize;
+    for model in models {
+        steps = steps
+            .saturating_add(model.statements.len())
+            .saturating_add(2);
+    }
+    steps
+}
+
+/// The ranks of so many models.
+fn ranks_of(alloc: Global, count: usize, order: &[Member]) -> Result<Vec<usize>, Memory>
     requires some { 0 < count }
-    requires small { length order.now ≤ count }
     ensures { IfOk result (λ ranks. (place : ℕ) → slice_index ranks.items place < count) }
 {
     let mut ranks = vec![in alloc; 0; count]?;
-    for (rank, place) in order.iter().enumerate() {
-        if let Some(slot) = ranks.get_mut(*place) {
-            *slot = rank;
+    for member in order {
+        if let Some(slot) = ranks.get_mut(member.place) {
+            *slot = count.saturating_sub(member.round.saturating_add(1));
         }
     }
     Ok(ranks)
 }
 
-/// Ranks used models, the first model first. What comes out is tried by `is_ordered`.
+/// Ranks used models.
 pub(crate) fn ranking_of(
     alloc: Global,
     models: &[Model],
     places: &IndexSet<Vec<u8>>,
-    used: &[bool],
 ) -> Result<Ranking, Memory>
     requires some { 0 < length models.now }
-    requires fits { length models.now ≡ length places.now.keys }
     ensures { IfOk result (λ ranking. (place : ℕ) → slice_index ranking.ranks.items place < length models.now) }
 {
-    let mut left = count_lines(alloc, models, places, used)?;
-    let mut order = Vec::new(alloc);
-    let mut todo = Vec::new(alloc);
-    if left[0] == 0 {
-        todo.push(0)?;
-    }
-    // A model is put on the list when all lines that are instances of it are done, so once.
-    for _rank in 0..models.len() {
-        let Some(place) = todo.pop() else {
+    let mut search = Search::new(alloc, models.len())?;
+    search.meet(0)?;
+    for _step in 0..most_steps(models) {
+        let Some(visit) = search.path.pop() else {
             break;
         };
-        let Some(model) = models.get(place) else {
-            break;
-        };
-        order.push(place)?;
-        take_lines_off(model, places, &mut left, &mut todo)?;
+        search.go_on(models, places, visit)?;
     }
+    let order = search.order;
     let ranks = ranks_of(alloc, models.len(), &order)?;
     Ok(Ranking { order, ranks })
 }

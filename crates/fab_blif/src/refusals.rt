@@ -17,8 +17,9 @@ use crate::counting::count_instances;
 use crate::formals::refuse_formals;
 use crate::models::unsupported;
 use crate::ranking::{Ranking, ranking_of};
-use crate::soonest::{is_marked, is_ordered, lines_of, soonest_instance, soonest_unknown};
-use crate::uses::{used_models, uses};
+use crate::recursion::recursion_of;
+use crate::soonest::{lines_of, soonest_unknown};
+use crate::uses::used_models;
 use fab_base::{Fault, Memory, Name, Problem, Quantity};
 use fab_models::Model;
 use indexmap::IndexSet;
@@ -41,49 +42,6 @@ fn unknown_of<'a>(
 {
     let lines = lines_of(alloc, models, used)?;
     Ok(soonest_unknown(places, &lines))
-}
-
-/// The least line at which a used model has an instance of itself, or of a model that uses it.
-fn recursive_of<'a>(
-    alloc: Global,
-    models: &'a [Model],
-    places: &IndexSet<Vec<u8>>,
-    used: &[bool],
-) -> Result<Option<(u32, &'a Name)>, Memory>
-    requires places { key_names places.now.keys ≡ model_names (plain_models models.now) }
-    requires size { length used.now ≡ length models.now }
-    requires used { MarksUsed (plain_models models.now) used.now }
-    ensures { IfOk result (λ found. IsLeastFound (IsRecursive (plain_models models.now)) (option_map (λ at. (at.0, at.1.now)) found)) }
-{
-    let mut found = None;
-    for place in 0..models.len() {
-        if !is_marked(used, place) {
-            continue;
-        }
-        let users = uses(alloc, models, places, place)?;
-        let lines = lines_of(alloc, models, &users)?;
-        found = soonest_instance(places, place, found, &lines);
-    }
-    Ok(found)
-}
-
-/// The same, where an order of the models is tried first.
-fn recursion_of<'a>(
-    alloc: Global,
-    models: &'a [Model],
-    places: &IndexSet<Vec<u8>>,
-    used: &[bool],
-    ranks: &[usize],
-) -> Result<Option<(u32, &'a Name)>, Memory>
-    requires places { key_names places.now.keys ≡ model_names (plain_models models.now) }
-    requires size { length used.now ≡ length models.now }
-    requires used { MarksUsed (plain_models models.now) used.now }
-    ensures { IfOk result (λ found. IsLeastFound (IsRecursive (plain_models models.now)) (option_map (λ at. (at.0, at.1.now)) found)) }
-{
-    if is_ordered(models, places, used, ranks) {
-        return Ok(None);
-    }
-    recursive_of(alloc, models, places, used)
 }
 
 /// Refuses models that the file does not have, and recursive ones.
@@ -126,7 +84,7 @@ pub(crate) fn refuse_models(
     ensures refused { IfErr result (RefusesModels file.now last_line (plain_models models.now)) }
 {
     let used = used_models(alloc, models, places)?;
-    let ranking = ranking_of(alloc, models, places, &used)?;
+    let ranking = ranking_of(alloc, models, places)?;
     refuse_uses(alloc, file, models, places, &used, &ranking.ranks)?;
     refuse_formals(alloc, file, models, places, &used)?;
     refuse_instances(alloc, file, last_line, models, places, &used, &ranking)

@@ -1,14 +1,11 @@
 //! The lines of models, and the least one at which something is found.
 
-ghost use Rattle.std.specs.Prelude.{◌≡◌, ◌++◌, ◌<◌, None, false, true, slice_index, IfOk, OnOk, length, map, option_map, slice_index_or};
+ghost use Rattle.std.specs.Prelude.{◌≡◌, ◌++◌, None, false, IfOk, OnOk, length, map, option_map, slice_index_or};
 ghost use Rattle.fab_models.specs.Plain.{plain_models, plain_statement};
-ghost use Rattle.std.specs.List.{list_all};
-ghost use Rattle.fab_blif.specs.Flat.{model_names};
-ghost use Rattle.fab_blif.specs.Uses.{instance_in, lines_before, sooner, soonest_of, Rises, rises, unknown_in};
+ghost use Rattle.fab_blif.specs.Uses.{instance_in, lines_before, sooner, soonest_of, unknown_in};
 ghost use Rattle.fab_blif.specs.Walk.{key_names};
 
 use crate::names::place_of;
-use crate::uses::instance_of;
 use fab_base::{Memory, Name};
 use fab_models::{Body, Model, Statement};
 use indexmap::IndexSet;
@@ -116,61 +113,14 @@ fn instance_in<'a>(
 pub(crate) fn soonest_instance<'a>(
     places: &IndexSet<Vec<u8>>,
     place: usize,
-    first: Option<(u32, &'a Name)>,
     lines: &[&'a Statement],
 ) -> Option<(u32, &'a Name)>
     ensures { option_map (λ found. (found.0, found.1.now)) result
-        ≡ soonest_of (instance_in (key_names places.now.keys) place) (option_map (λ found. (found.0, found.1.now)) first.entry) (map (λ line. plain_statement line.now) lines.now) }
+        ≡ soonest_of (instance_in (key_names places.now.keys) place) None (map (λ line. plain_statement line.now) lines.now) }
 {
-    let mut found = first;
+    let mut found = None;
     for line in lines {
         found = sooner(found, instance_in(places, place, line));
     }
     found
-}
-
-fn rises(places: &IndexSet<Vec<u8>>, ranks: &[usize], rank: usize, line: &Statement) -> bool
-    ensures { result ≡ rises (key_names places.now.keys) ranks.now rank (plain_statement line.now) }
-{
-    match instance_of(places, &line.body) {
-        None => true,
-        Some(inner) => rank < rank_at(ranks, inner),
-    }
-}
-
-fn rank_at(ranks: &[usize], place: usize) -> usize
-    ensures { result ≡ slice_index ranks.now place }
-{
-    ranks.get(place).copied().unwrap_or(0)
-}
-
-/// Whether the lines of a model are instances of models of higher ranks only.
-fn all_rise(places: &IndexSet<Vec<u8>>, ranks: &[usize], rank: usize, model: &Model) -> bool
-    ensures { result ≡ true → list_all (rises (key_names places.now.keys) ranks.now rank) (map plain_statement model.now.statements.items) ≡ true }
-{
-    for line in &model.statements {
-        if !rises(places, ranks, rank, line) {
-            return false;
-        }
-    }
-    true
-}
-
-/// Whether the lines of marked models are instances of models of higher ranks only, so that none of these is recursive.
-pub(crate) fn is_ordered(
-    models: &[Model],
-    places: &IndexSet<Vec<u8>>,
-    marks: &[bool],
-    ranks: &[usize],
-) -> bool
-    requires places { key_names places.now.keys ≡ model_names (plain_models models.now) }
-    requires size { length marks.now ≡ length models.now }
-    ensures { result ≡ true → Rises (plain_models models.now) ranks.now marks.now }
-{
-    for (place, model) in models.iter().enumerate() {
-        if is_marked(marks, place) && !all_rise(places, ranks, rank_at(ranks, place), model) {
-            return false;
-        }
-    }
-    true
 }

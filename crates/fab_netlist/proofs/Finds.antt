@@ -8,8 +8,9 @@ use Rattle.fab_netlist.specs.declared.walk.Mark.{Mark}
 use Rattle.fab_netlist.specs.declared.walk.Mark.TheVariants as marks
 use Rattle.fab_netlist.specs.Plain.{PlainCover, PlainNetlist, no_cover, cover_at, IsAt}
 use Rattle.fab_netlist.specs.WellMade.{IsWellMade, times, cover_outputs}
-use Rattle.fab_netlist.specs.Cycles.{Reads, Leads, IsCycle, HasNoCycle}
-use Rattle.fab_netlist.specs.Search.{driver_at, HasDrivers, IsDriverTable, mark_at, is_new, IsSearch, IsRound, HasEnded, IsOneCycle}
+use Rattle.fab_netlist.specs.Cycles.{Reads, Leads, IsCycle, IsOneCycle, HasNoCycle}
+use Rattle.fab_netlist.specs.Order.{IsOrder}
+use Rattle.fab_netlist.specs.Search.{driver_at, HasDrivers, IsDriverTable, mark_at, is_new, IsSearch, IsRound, HasEnded, IsListed}
 use Rattle.fab_netlist.proofs.Members.{in_none, first_in}
 use Rattle.fab_netlist.proofs.Counts.{one_place, at_mapped}
 use Rattle.fab_netlist.proofs.Levels.{passing}
@@ -167,6 +168,14 @@ one_more_done netlist old list start left ended done place below =
       | inl same ↦ ended.done place (first_in start [] place (eqb-true start place same))
       | inr differ ↦ ended.stays place (done place (omega (arith, below, eqb-false start place differ)))
     ]
+
+-- where all covers are done, all are listed
+pub all_listed : (netlist : PlainNetlist) (list : List Mark) (order : List ℕ) (count : ℕ) → IsListed netlist list order → ((place : ℕ) → place < count → mark_at list place ≡ marks.Done) → length netlist.covers ≤ count → IsOrder netlist order
+all_listed netlist list order count listed done enough = record { behind = listed.behind; all = λ place small. listed.listed place (done place (omega (arith, small, enough))) }
+
+-- at first none is listed
+pub none_listed : (netlist : PlainNetlist) → IsListed netlist (replicate (length netlist.covers) marks.New) []
+none_listed netlist = record { behind = tt; listed = λ place done. absurd (false≢true (sym (ap is_new (sym (news_at (length netlist.covers) place) ∙ done)))) }
 
 -- where all covers are done, there is no cycle
 pub all_done : (netlist : PlainNetlist) (list : List Mark) (count : ℕ) → IsSearch netlist list [] → ((place : ℕ) → place < count → mark_at list place ≡ marks.Done) → length netlist.covers ≤ count → HasNoCycle netlist

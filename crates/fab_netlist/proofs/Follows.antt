@@ -7,9 +7,10 @@ use Rattle.fab_netlist.specs.declared.walk.Mark.TheVariants as marks
 use Rattle.fab_netlist.specs.Plain.{PlainNetlist, cover_at}
 use Rattle.fab_netlist.specs.WellMade.{times}
 use Rattle.fab_netlist.specs.Cycles.{Reads, Leads, HasNoCycle}
-use Rattle.fab_netlist.specs.Search.{Fine, fine, driver_at, IsDriverTable, mark_at, is_new, is_open, is_done, if_unfinished, first_of, unfinished, IsSearch, IsRound, StaysDone, HasEnded, IsGoing}
+use Rattle.fab_netlist.specs.Search.{Fine, fine, driver_at, IsDriverTable, mark_at, is_new, is_open, is_done, if_unfinished, first_of, unfinished, IsSearch, IsRound, StaysDone, HasEnded, IsGoing, IsListed}
 use Rattle.fab_netlist.proofs.Members.{in_none, first_or_later, first_in, later_in, in_left, in_right}
 use Rattle.fab_netlist.proofs.Counts.{times_joined, member_counts, nowhere_or_at}
+use Rattle.fab_netlist.proofs.Orders.{behind_more}
 
 -- chains of covers, one behind the other
 pub leads_joined : (netlist : PlainNetlist) (first : ℕ) (xs : List ℕ) (middle : ℕ) (ys : List ℕ) (end : ℕ) → Leads netlist first xs middle → Leads netlist middle ys end → Leads netlist first (xs ++ middle ∷ ys) end
@@ -244,6 +245,17 @@ module _ (netlist : PlainNetlist) where
         | inr differ ↦ set_mark_other list place other mark differ ∙ done
       ]
 
+-- covers stay listed where another one is put onto the path
+pub listed_enter : (netlist : PlainNetlist) (list : List Mark) (order : List ℕ) (source : ℕ) → source < length list → IsListed netlist list order → IsListed netlist (set list source marks.Open) order
+listed_enter netlist list order source small before = record {
+  behind = before.behind;
+  listed = λ place done.
+      elim (cases_Bool (nat_eq place source)) [
+        | inl same ↦ absurd (open_not_done (mark_at (set list source marks.Open) place) (set_mark_here list source place marks.Open small same) done)
+        | inr differ ↦ before.listed place (sym (set_mark_other list source place marks.Open differ) ∙ done)
+      ];
+}
+
 -- the last cover of a path
 abbrev pub EndsWith : (path : List ℕ) → (last : ℕ) → Type 0
 EndsWith path last = (0 < length path) × (last ≡ get_or path (length path - 1) 0)
@@ -330,6 +342,18 @@ module _ (netlist : PlainNetlist) (drivers : List (Option ℕ)) (table : IsDrive
           stays = λ place done. stays place (going.stays place done);
           met = λ place here. elim (going.met place here) [ inl before ↦ inl (in_left path (source ∷ []) place before) | inr done ↦ inr (stays place done) ];
         }
+
+    -- the reader is listed where it is done
+    pub listed_leave : (order : List ℕ) → unfinished drivers list (cover_at netlist reader).inputs ≡ None → IsListed netlist list order → IsListed netlist (set list reader marks.Done) (order ++ reader ∷ [])
+    listed_leave order none before = record {
+      behind = behind_more netlist [] order reader before.behind reader_small (λ source reads.
+          inr (before.listed source (none_unfinished drivers list (cover_at netlist reader).inputs none (cover_at netlist source).output source reads.2 (table.all source reads.1))));
+      listed = λ place done.
+          elim (cases_Bool (nat_eq place reader)) [
+            | inl same ↦ in_right order (reader ∷ []) place (first_in reader [] place (sym (eqb-true place reader same)))
+            | inr differ ↦ in_left order (reader ∷ []) place (before.listed place (sym (set_mark_other list reader place marks.Done differ) ∙ done))
+          ];
+    }
 
     -- a cover of the path that the reader reads closes a cycle
     pub going_round : (source : ℕ) → unfinished drivers list (cover_at netlist reader).inputs ≡ Some source → is_open (mark_at list source) ≡ true → IsRound netlist path source

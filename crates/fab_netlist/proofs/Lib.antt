@@ -1,6 +1,7 @@
 pub mod Members
 pub mod Counts
 pub mod Ranks
+pub mod Orders
 pub mod Settling
 pub mod Levels
 pub mod Meaning

@@ -1,16 +1,18 @@
 -- A netlist without a cycle of covers has one assignment for each vector.
 use Rattle.std.proofs.Common.{◌≡◌, ℕ, zero, suc, ◌+◌, ◌<◌, ◌≤◌, Bool, true, false, List, [], ◌∷◌, ◌++◌, map, length, set, replicate, Contains, nat_eq, refl, sym, ap, ◌∙◌, subst, inl, inr, arith, eq-eqb}
-use Rattle.std.proofs.lemmas.List.{length-set, get_or-set_same, get_or-set_other, length-replicate, length-map}
+use Rattle.std.proofs.lemmas.List.{length-set, get_or-set_same, get_or-set_other, get_or_default, length-replicate, length-map}
 use Rattle.fab_bits.specs.Bits.{first_bits}
-use Rattle.fab_netlist.specs.Plain.{PlainCover, PlainNetlist, IsAt, bit_at}
+use Rattle.fab_netlist.specs.Plain.{PlainCover, PlainNetlist, IsAt, bit_at, cover_at, no_cover}
 use Rattle.fab_netlist.specs.WellMade.{times, cover_outputs, latch_outputs, driven, IsWellMade}
 use Rattle.fab_netlist.specs.Meaning.{Meets, HasOneMeaning}
 use Rattle.fab_netlist.specs.Cycles.{HasNoCycle}
+use Rattle.fab_netlist.specs.Order.{IsOrder}
 use Rattle.fab_netlist.specs.Passes.{placed, start, settled}
 use Rattle.fab_netlist.proofs.Members.{first_in, later_in, at_in, mapped_in, in_left, in_right}
 use Rattle.fab_netlist.proofs.Counts.{driven_parts, member_counts, nowhere_or_at}
 use Rattle.fab_netlist.proofs.Ranks.{no_cycle_rank}
-use Rattle.fab_netlist.proofs.Settling.{same_value, passes_settle, passes_other}
+use Rattle.fab_netlist.proofs.Orders.{no_cycle_order}
+use Rattle.fab_netlist.proofs.Settling.{Holds, same_value, asked_settle, asked_other, none_settled}
 use Rattle.fab_netlist.proofs.Levels.{level, levels_fall, level_small}
 
 -- placing bits keeps the length
@@ -98,40 +100,43 @@ module _ (netlist : PlainNetlist) (made : IsWellMade netlist) where
       ∙ placed_length netlist.inputs given (replicate (length netlist.nets) false)
       ∙ length-replicate (length netlist.nets) false
 
-  module _ (none : HasNoCycle netlist) where
-    -- what passes leave is an assignment that the netlist has
-    pub settled_meets : (given held : List Bool) → length given ≡ length netlist.inputs → length held ≡ length netlist.latches → Meets netlist (bit_at given) (bit_at held) (bit_at (settled netlist given held))
-    settled_meets given held given_length held_length =
-        let ranked = no_cycle_rank netlist none in
-        let zeros : List Bool = replicate (length netlist.nets) false in
-        let first : List Bool = placed netlist.inputs given zeros in
-        let begun : List Bool = start netlist given held in
-        let still : (net : ℕ) → times net (cover_outputs netlist.covers) ≡ 0 → bit_at (settled netlist given held) net ≡ bit_at begun net =
-        λ net apart. passes_other (length netlist.covers) netlist.covers begun net apart in
-        record {
-          covers = λ cover here.
-              passes_settle netlist.covers covers_once (level netlist covers_once ranked.0 ranked.1) (levels_fall netlist covers_once ranked.0 ranked.1) (length netlist.covers) 0 begun
-              (λ other member. omega (arith, output_small other member, start_length given held))
-              (λ other member below. absurd (omega arith)) cover here (omega (arith, level_small netlist covers_once ranked.0 ranked.1 cover here));
-          latches = λ place net at.
-              let counts : 1 ≤ times net (latch_outputs netlist) = member_counts net (latch_outputs netlist) (at_in (latch_outputs netlist) place net at) in
-              still net (omega (arith, counts, made.driven_once net, driven_parts netlist net))
-              ∙ placed_at (latch_outputs netlist) held first place net (omega (arith, made.driven_once net, driven_parts netlist net))
-              (held_length ∙ sym (length-map netlist.latches (λ latch. latch.output)))
-              (omega (arith, latch_small net (at_in (latch_outputs netlist) place net at), placed_length netlist.inputs given zeros, length-replicate (length netlist.nets) false)) at;
-          inputs = λ place net at.
-              let counts : 1 ≤ times net netlist.inputs = member_counts net netlist.inputs (at_in netlist.inputs place net at) in
-              still net (omega (arith, counts, made.driven_once net, driven_parts netlist net))
-              ∙ placed_other (latch_outputs netlist) held first net (omega (arith, counts, made.driven_once net, driven_parts netlist net))
-              ∙ placed_at netlist.inputs given zeros place net (omega (arith, made.driven_once net, driven_parts netlist net)) given_length
-              (omega (arith, input_small net (at_in netlist.inputs place net at), length-replicate (length netlist.nets) false)) at;
-          others = λ net apart.
-              still net (omega (arith, apart, driven_parts netlist net))
-              ∙ placed_other (latch_outputs netlist) held first net (omega (arith, apart, driven_parts netlist net))
-              ∙ placed_other netlist.inputs given zeros net (omega (arith, apart, driven_parts netlist net))
-              ∙ zeros_at (length netlist.nets) net;
-        }
+  -- a cover at a place
+  cover_is : (cover : PlainCover) (here : Contains netlist.covers cover) → cover_at netlist here.0 ≡ cover
+  cover_is cover here = get_or_default netlist.covers here.0 no_cover cover here.1 ∙ here.2
 
+  -- what covers that are asked in an order leave is an assignment that the netlist has
+  pub settled_meets : (order : List ℕ) → IsOrder netlist order → (given held : List Bool) → length given ≡ length netlist.inputs → length held ≡ length netlist.latches → Meets netlist (bit_at given) (bit_at held) (bit_at (settled netlist order given held))
+  settled_meets order orders given held given_length held_length =
+      let zeros : List Bool = replicate (length netlist.nets) false in
+      let first : List Bool = placed netlist.inputs given zeros in
+      let begun : List Bool = start netlist given held in
+      let still : (net : ℕ) → times net (cover_outputs netlist.covers) ≡ 0 → bit_at (settled netlist order given held) net ≡ bit_at begun net =
+      λ net apart. asked_other netlist covers_once [] order begun net orders.behind apart in
+      record {
+        covers = λ cover here.
+            subst (λ (one : PlainCover). Holds (settled netlist order given held) one) (cover_is cover here)
+            (asked_settle netlist covers_once [] order begun (λ place small. omega (arith, output_small (cover_at netlist place) (place, small, get_or_default netlist.covers place (cover_at netlist place) no_cover small), start_length given held))
+            orders.behind (none_settled netlist covers_once begun) here.0 (inr (orders.all here.0 here.1)));
+        latches = λ place net at.
+            let counts : 1 ≤ times net (latch_outputs netlist) = member_counts net (latch_outputs netlist) (at_in (latch_outputs netlist) place net at) in
+            still net (omega (arith, counts, made.driven_once net, driven_parts netlist net))
+            ∙ placed_at (latch_outputs netlist) held first place net (omega (arith, made.driven_once net, driven_parts netlist net))
+            (held_length ∙ sym (length-map netlist.latches (λ latch. latch.output)))
+            (omega (arith, latch_small net (at_in (latch_outputs netlist) place net at), placed_length netlist.inputs given zeros, length-replicate (length netlist.nets) false)) at;
+        inputs = λ place net at.
+            let counts : 1 ≤ times net netlist.inputs = member_counts net netlist.inputs (at_in netlist.inputs place net at) in
+            still net (omega (arith, counts, made.driven_once net, driven_parts netlist net))
+            ∙ placed_other (latch_outputs netlist) held first net (omega (arith, counts, made.driven_once net, driven_parts netlist net))
+            ∙ placed_at netlist.inputs given zeros place net (omega (arith, made.driven_once net, driven_parts netlist net)) given_length
+            (omega (arith, input_small net (at_in netlist.inputs place net at), length-replicate (length netlist.nets) false)) at;
+        others = λ net apart.
+            still net (omega (arith, apart, driven_parts netlist net))
+            ∙ placed_other (latch_outputs netlist) held first net (omega (arith, apart, driven_parts netlist net))
+            ∙ placed_other netlist.inputs given zeros net (omega (arith, apart, driven_parts netlist net))
+            ∙ zeros_at (length netlist.nets) net;
+      }
+
+  module _ (none : HasNoCycle netlist) where
     module _ (given held a b : ℕ → Bool) (meets_a : Meets netlist given held a) (meets_b : Meets netlist given held b) where
       -- two assignments agree where no cover drives
       agree_apart : (net : ℕ) → times net (cover_outputs netlist.covers) ≡ 0 → a net ≡ b net
@@ -187,12 +192,13 @@ module _ (netlist : PlainNetlist) (made : IsWellMade netlist) where
   -- there is one assignment, and there are no two
   pub one_meaning : HasNoCycle netlist → HasOneMeaning netlist
   one_meaning none given held =
+      let order = no_cycle_order netlist none in
       let given_bits : List Bool = first_bits (length netlist.inputs) given in
       let held_bits : List Bool = first_bits (length netlist.latches) held in (
         (
-          bit_at (settled netlist given_bits held_bits),
-          meets_given given held (bit_at (settled netlist given_bits held_bits))
-              (settled_meets none given_bits held_bits (first_length (length netlist.inputs) given) (first_length (length netlist.latches) held)),
+          bit_at (settled netlist order.0 given_bits held_bits),
+          meets_given given held (bit_at (settled netlist order.0 given_bits held_bits))
+              (settled_meets order.0 order.1 given_bits held_bits (first_length (length netlist.inputs) given) (first_length (length netlist.latches) held)),
         ),
         λ a b meets_a meets_b net. agree none given held a b meets_a meets_b net,
       )

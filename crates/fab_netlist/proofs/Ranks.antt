@@ -17,12 +17,12 @@ rank_no_cycle netlist ranked [] cycle = cycle
 rank_no_cycle netlist ranked (first ∷ rest) cycle = omega (arith, ranks_fall netlist ranked.0 ranked.1 first rest first cycle)
 
 -- the sum of ranks
-ranks_sum : (ℕ → ℕ) → List ℕ → ℕ
+pub ranks_sum : (ℕ → ℕ) → List ℕ → ℕ
 ranks_sum rank [] = 0
 ranks_sum rank (node ∷ nodes) = rank node + ranks_sum rank nodes
 
 -- no rank is above the sum
-below_sum : (rank : ℕ → ℕ) (nodes : List ℕ) (node : ℕ) → Contains nodes node → rank node ≤ ranks_sum rank nodes
+pub below_sum : (rank : ℕ → ℕ) (nodes : List ℕ) (node : ℕ) → Contains nodes node → rank node ≤ ranks_sum rank nodes
 unfolding ranks_sum
 below_sum rank [] node here = absurd (in_none node here)
 below_sum rank (other ∷ nodes) node here =

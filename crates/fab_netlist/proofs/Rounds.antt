@@ -4,8 +4,7 @@ use Rattle.std.specs.List.{All}
 use Rattle.std.proofs.lemmas.List.{append-nil, drop_more, get_or_default, take-append-drop}
 use Rattle.fab_netlist.specs.Plain.{PlainNetlist}
 use Rattle.fab_netlist.specs.WellMade.{times}
-use Rattle.fab_netlist.specs.Cycles.{Leads, IsCycle, ComesFirst, IsNamed, cycle_words}
-use Rattle.fab_netlist.specs.Search.{IsOneCycle}
+use Rattle.fab_netlist.specs.Cycles.{Leads, IsCycle, IsOneCycle, ComesFirst, IsNamed, cycle_words}
 use Rattle.fab_netlist.proofs.Members.{first_or_later, first_in, later_in, in_left, in_right}
 use Rattle.fab_netlist.proofs.Counts.{times_joined}
 use Rattle.fab_netlist.proofs.Follows.{leads_joined}

@@ -1,12 +1,14 @@
 -- What a step may rely on in a netlist that is well made.
-use Rattle.std.proofs.Common.{◌≡◌, ℕ, ◌<◌, ◌≤◌, List, [], ◌∷◌, ◌++◌, length, get_or, Contains, sym, subst, inl, inr, arith}
+use Rattle.std.proofs.Common.{◌≡◌, ℕ, ◌<◌, ◌≤◌, List, [], ◌∷◌, ◌++◌, length, get_or, Contains, sym, ap, subst, inl, inr, arith}
 use Rattle.std.specs.List.{All, flat_map}
 use Rattle.std.proofs.lemmas.List.{get_or_default}
 use Rattle.fab_netlist.specs.declared.netlist.Latch.{Latch}
 use Rattle.fab_netlist.specs.Plain.{PlainCover, PlainNetlist}
 use Rattle.fab_netlist.specs.WellMade.{IsWellMade, latch_inputs}
+use Rattle.fab_netlist.specs.Order.{IsOrder}
 use Rattle.fab_netlist.specs.Passes.{IsWithin}
 use Rattle.fab_netlist.proofs.Members.{in_none, first_or_later, mapped_in, in_left, in_right}
+use Rattle.fab_netlist.proofs.Orders.{order_within}
 use Rattle.fab_netlist.proofs.Meaning.{output_small, latch_small, input_small}
 
 -- what holds of each member holds of all
@@ -83,3 +85,7 @@ module _ (netlist : PlainNetlist) (made : IsWellMade netlist) where
         inputs_below = all_of (λ net. net < bound) cover.inputs (λ net reads. omega (arith, fits, input_below cover net here reads));
         output_below = omega (arith, fits, output_small netlist made cover here);
       }))
+
+  -- the places of an order are those of covers
+  pub order_below : (covers : List PlainCover) (places : List ℕ) → covers ≡ netlist.covers → IsOrder netlist places → All (λ place. place < length covers) places
+  order_below covers places same orders = all_of (λ place. place < length covers) places (λ place here. omega (arith, ap length same, order_within netlist [] places orders.behind place here))

@@ -1,10 +1,8 @@
 -- One turn of the loops of a cycle.
-use Rattle.std.proofs.Common.{◌≡◌, ℕ, zero, suc, ◌+◌, ◌^◌, ◌<◌, ◌≤◌, Bool, true, false, not, ◌||◌, List, [], ◌∷◌, ◌++◌, map, length, get_or, set, take, drop, refl, sym, ap, ◌∙◌, arith}
+use Rattle.std.proofs.Common.{◌≡◌, ℕ, zero, suc, ◌+◌, ◌^◌, ◌<◌, ◌≤◌, Bool, false, List, [], ◌∷◌, ◌++◌, map, length, get_or, set, take, drop, refl, sym, ap, ◌∙◌, arith}
 use Rattle.std.proofs.lemmas.List.{drop_more, take_more, take_more_set, length-map}
-use Rattle.fab_bits.specs.Bits.{same_bit}
-use Rattle.fab_netlist.specs.Plain.{PlainCover, bit_at}
-use Rattle.fab_netlist.specs.Meaning.{cover_value}
-use Rattle.fab_netlist.specs.Passes.{placed, taken, pass, changes, passes}
+use Rattle.fab_netlist.specs.Plain.{PlainCover, no_cover}
+use Rattle.fab_netlist.specs.Passes.{placed, taken, asked}
 
 -- one more net takes its bit
 pub placed_more : (nets : List ℕ) (bits values : List Bool) (turn d : ℕ) (e : Bool) → turn < length nets → length bits ≡ length nets → placed (drop turn nets) (drop turn bits) values ≡ placed (drop (turn + 1) nets) (drop (turn + 1) bits) (set values (get_or nets turn d) (get_or bits turn e))
@@ -12,13 +10,9 @@ placed_more nets bits values turn d e small fits =
     rw (drop_more nets turn d small, drop_more bits turn e (omega (arith, small, fits))) refl
 
 -- one more cover is asked
-pub pass_more : (covers : List PlainCover) (values : List Bool) (turn : ℕ) (d : PlainCover) → turn < length covers → pass (drop turn covers) values ≡ pass (drop (turn + 1) covers) (taken (get_or covers turn d) values)
-pass_more covers values turn d small = ap (λ rest. pass rest values) (drop_more covers turn d small)
-
--- and may change something
-pub changes_more : (covers : List PlainCover) (values : List Bool) (turn : ℕ) (d : PlainCover) → turn < length covers →
-    changes (drop turn covers) values ≡ (not (same_bit (bit_at values (get_or covers turn d).output) (cover_value (get_or covers turn d) (bit_at values))) || changes (drop (turn + 1) covers) (taken (get_or covers turn d) values))
-changes_more covers values turn d small = ap (λ rest. changes rest values) (drop_more covers turn d small)
+pub asked_more : (covers : List PlainCover) (places : List ℕ) (values : List Bool) (turn d : ℕ) → turn < length places →
+    asked covers (drop turn places) values ≡ asked covers (drop (turn + 1) places) (taken (get_or covers (get_or places turn d) no_cover) values)
+asked_more covers places values turn d small = ap (λ rest. asked covers rest values) (drop_more places turn d small)
 
 -- four bits spell a number below 16
 pub small_power : (power count : ℕ) → power < 2 ^ count → count ≤ 4 → power < 16
@@ -50,11 +44,3 @@ held_more value xs held turn d small fits so_far =
     ∙ ap (λ front. front ++ value (get_or xs turn d) ∷ []) so_far
     ∙ ap (λ bit. take turn (map value xs) ++ bit ∷ []) (sym (get_mapped value xs turn d false small))
     ∙ sym (take_more (map value xs) turn false (omega (arith, small, length-map xs value)))
-
--- a pass that changes something leaves one pass less
-pub passes_on : (most less : ℕ) (covers : List PlainCover) (values : List Bool) → most ≡ suc less → changes covers values ≡ true → passes most covers values ≡ passes less covers (pass covers values)
-passes_on most less covers values count changed = rw (count, changed) refl
-
--- and one that changes nothing is the last
-pub passes_end : (most less : ℕ) (covers : List PlainCover) (values : List Bool) → most ≡ suc less → changes covers values ≡ false → passes most covers values ≡ pass covers values
-passes_end most less covers values count quiet = rw (count, quiet) refl

@@ -22,6 +22,10 @@ abbrev pub IsCycle : PlainNetlist → List ℕ → Type 0
 IsCycle netlist [] = ⊥
 IsCycle netlist (first ∷ rest) = Leads netlist first rest first
 
+-- a cycle in which no cover stands twice
+abbrev pub IsOneCycle : PlainNetlist → List ℕ → Type 0
+IsOneCycle netlist places = IsCycle netlist places × ((place : ℕ) → times place places ≤ 1)
+
 abbrev pub HasNoCycle : PlainNetlist → Type 0
 HasNoCycle netlist = (places : List ℕ) → IsCycle netlist places → ⊥
 

@@ -4,6 +4,7 @@ pub mod Cycles
 pub mod Meaning
 pub mod Passes
 pub mod Kept
+pub mod Order
 pub mod Search
 pub mod Packed
 pub mod Packing

@@ -4,7 +4,8 @@ use Rattle.fab_netlist.specs.declared.walk.Mark.{Mark}
 use Rattle.fab_netlist.specs.declared.walk.Mark.TheVariants as marks
 use Rattle.fab_netlist.specs.Plain.{PlainNetlist, cover_at}
 use Rattle.fab_netlist.specs.WellMade.{times}
-use Rattle.fab_netlist.specs.Cycles.{Reads, IsCycle}
+use Rattle.fab_netlist.specs.Cycles.{Reads}
+use Rattle.fab_netlist.specs.Order.{StandBehind}
 
 -- all that the cover reads leads to no cycle
 pub data Fine (netlist : PlainNetlist) : ℕ → Type 0 where
@@ -80,12 +81,13 @@ pub record HasEnded (netlist : PlainNetlist) (old new : List Mark) (path left : 
   pub stays : StaysDone old new
   pub done : (place : ℕ) → Contains path place → mark_at new place ≡ marks.Done
 
--- a cycle in which no cover stands twice
-abbrev pub IsOneCycle : PlainNetlist → List ℕ → Type 0
-IsOneCycle netlist places = IsCycle netlist places × ((place : ℕ) → times place places ≤ 1)
-
 -- a search under way: these marks and this path came of the old marks and of the path with which it was begun
 pub record IsGoing (netlist : PlainNetlist) (old : List Mark) (begun : List ℕ) (list : List Mark) (path : List ℕ) : Type 0 where
   pub state : IsSearch netlist list path
   pub stays : StaysDone old list
   pub met : (place : ℕ) → Contains begun place → Contains path place ⊎ (mark_at list place ≡ marks.Done)
+
+-- the covers that are done stand in an order, each behind those that it reads
+pub record IsListed (netlist : PlainNetlist) (list : List Mark) (order : List ℕ) : Type 0 where
+  pub behind : StandBehind netlist [] order
+  pub listed : (place : ℕ) → mark_at list place ≡ marks.Done → Contains order place

@@ -5,7 +5,7 @@ ghost use Rattle.std.specs.List.{All};
 ghost use Rattle.fab_bits.specs.Bits.{number};
 ghost use Rattle.fab_netlist.specs.Cycles.{HasNoCycle};
 ghost use Rattle.fab_netlist.specs.Meaning.{Meets, cover_value, next_held};
-ghost use Rattle.fab_netlist.specs.Passes.{IsWithin, changes, pass, passes, placed};
+ghost use Rattle.fab_netlist.specs.Passes.{IsWithin, asked, placed, taken};
 ghost use Rattle.fab_netlist.specs.Plain.{bit_at};
 ghost use Rattle.fab_netlist.specs.WellMade.{IsWellMade};
 
@@ -52,32 +52,23 @@ fn place_held(latches: &[Latch], held: &[bool], values: &mut [bool])
     }
 }
 
-/// Asks each cover in turn, and tells whether a value changed on the way.
-fn pass(covers: &[Cover], values: &mut [bool]) -> bool
-    requires { All (IsWithin (length values.old)) covers.now }
-    ensures values { values.new ≡ pass covers.now values.old }
-    ensures changed { result ≡ changes covers.now values.old }
+/// The output of a cover takes its value.
+fn ask(cover: &Cover, values: &mut [bool])
+    requires { IsWithin (length values.old) cover.now }
+    ensures { values.new ≡ taken cover.now values.old }
 {
-    let mut changed = false;
-    for cover in covers {
-        let value = cover_value(cover, values);
-        let output = cover.output as usize;
-        changed |= values[output] != value;
-        values[output] = value;
-    }
-    changed
+    let value = cover_value(cover, values);
+    values[cover.output as usize] = value;
 }
 
-/// Passes over the covers until one changes nothing. As many passes as there are covers are enough where no covers form
-/// a cycle, and two where each cover stands behind those that it reads.
-fn settle(covers: &[Cover], values: &mut [bool])
-    requires { All (IsWithin (length values.old)) covers.now }
-    ensures { values.new ≡ passes (length covers.now) covers.now values.old }
+/// Asks covers in turn, by their places.
+fn ask_in_turn(covers: &[Cover], places: &[u32], values: &mut [bool])
+    requires within { All (IsWithin (length values.old)) covers.now }
+    requires places { All (λ place. place < length covers.now) places.now }
+    ensures { values.new ≡ asked covers.now places.now values.old }
 {
-    for _turn in 0..covers.len() {
-        if !pass(covers, values) {
-            return;
-        }
+    for place in places {
+        ask(&covers[*place as usize], values);
     }
 }
 
@@ -92,9 +83,8 @@ fn hold(latches: &[Latch], values: &[bool], held: &mut [bool])
 }
 
 /// One cycle: `values` becomes the assignment of all nets under the values of the inputs and the held values of the
-/// latches, both in their order, and `held` becomes what the latches hold next. It takes no memory. The time is that of one
-/// look at each cover, times the number of passes: two where each cover stands behind those that it reads, and at most as
-/// many as there are covers where they stand the other way round.
+/// latches, both in their order, and `held` becomes what the latches hold next. It takes no memory. The time is linear in the
+/// nets, covers and latches: each cover is asked once.
 pub fn step(netlist: &Netlist, inputs: &[bool], held: &mut [bool], values: &mut [bool])
     requires acyclic { HasNoCycle netlist.now }
     requires inputs { length inputs.now ≡ length netlist.now.inputs }
@@ -107,6 +97,6 @@ pub fn step(netlist: &Netlist, inputs: &[bool], held: &mut [bool], values: &mut 
     values.fill(false);
     place(&netlist.inputs, inputs, values);
     place_held(&netlist.latches, held, values);
-    settle(&netlist.covers, values);
+    ask_in_turn(&netlist.covers, netlist.order(), values);
     hold(&netlist.latches, values, held);
 }

@@ -1,8 +1,13 @@
 //! Netlists after reading and flattening.
 
+ghost use Rattle.std.specs.Prelude.{◌≡◌, IfOk, MatchOption};
+ghost use Rattle.fab_netlist.specs.Cycles.{HasNoCycle, IsOneCycle};
+ghost use Rattle.fab_netlist.specs.Order.{IsOrder};
 ghost use Rattle.fab_netlist.specs.WellMade.{IsWellMade};
 
-use fab_base::Name;
+use crate::walk::find_order;
+use fab_base::{Memory, Name};
+use std::alloc::Global;
 use std::marker::Model;
 
 /// How many nets a netlist may have.
@@ -41,8 +46,35 @@ pub struct Latch {
     pub init: u8,
 }
 
+/// What a netlist is made of.
+#[derive(Drop)]
+pub(crate) struct Parts {
+    pub nets: Vec<Name>,
+    pub inputs: Vec<u32>,
+    pub outputs: Vec<u32>,
+    pub covers: Vec<Cover>,
+    pub latches: Vec<Latch>,
+}
+
+impl Model for Parts {
+    ghost use Rattle.fab_netlist.specs.Plain.{PlainNetlist};
+
+    ghost Value = { PlainNetlist };
+
+    ghost view = { λ parts. record { nets = parts.nets.items; inputs = parts.inputs.items; outputs = parts.outputs.items; covers = parts.covers.items; latches = parts.latches.items } };
+}
+
+/// In what order the covers of a netlist may be asked.
+#[derive(Debug, Drop)]
+pub(crate) enum Order {
+    /// The places of all covers, each behind those that it reads.
+    Straight(Vec<u32>),
+    /// There is none: the places of covers of which each reads the next, and the last one the first.
+    Round(Vec<u32>),
+}
+
 /// A netlist. Contracts see it as a record of lists. It is well made: each net that something reads is driven, and none is
-/// driven twice.
+/// driven twice. It keeps an order of its covers, which contracts do not see.
 #[derive(Debug, Drop)]
 pub struct Netlist {
     /// The names of the nets.
@@ -55,24 +87,84 @@ pub struct Netlist {
     pub covers: Vec<Cover>,
     /// The latches; held values stand in their order.
     pub latches: Vec<Latch>,
+    order: Order,
 }
 
 impl Model for Netlist {
     ghost use Rattle.fab_netlist.specs.Plain.{PlainNetlist};
-    ghost use Rattle.fab_netlist.specs.WellMade.{IsWellMade};
+    ghost use Rattle.fab_netlist.specs.Order.{IsSound};
 
     ghost Value = { PlainNetlist };
 
     ghost view = { λ netlist. record { nets = netlist.nets.items; inputs = netlist.inputs.items; outputs = netlist.outputs.items; covers = netlist.covers.items; latches = netlist.latches.items } };
 
-    ghost invariant = { λ netlist. IsWellMade (record { nets = netlist.nets.items; inputs = netlist.inputs.items; outputs = netlist.outputs.items; covers = netlist.covers.items; latches = netlist.latches.items }) };
+    ghost invariant = { λ netlist. IsSound (record { nets = netlist.nets.items; inputs = netlist.inputs.items; outputs = netlist.outputs.items; covers = netlist.covers.items; latches = netlist.latches.items }) netlist.order };
 }
 
 impl Netlist {
+    /// The netlist of these nets, ports, covers and latches, which are well made. It is `Memory` where memory was refused. The
+    /// time is linear: an order of the covers is searched here, once, for `step` and `check_acyclic`.
+    pub fn new(
+        alloc: Global,
+        nets: Vec<Name>,
+        inputs: Vec<u32>,
+        outputs: Vec<u32>,
+        covers: Vec<Cover>,
+        latches: Vec<Latch>,
+    ) -> Result<Netlist, Memory>
+        requires { IsWellMade (record { nets = nets.items; inputs = inputs.items; outputs = outputs.items; covers = covers.items; latches = latches.items }) }
+        ensures { IfOk result (λ netlist. netlist ≡ record { nets = nets.items; inputs = inputs.items; outputs = outputs.items; covers = covers.items; latches = latches.items }) }
+    {
+        let parts = Parts {
+            nets,
+            inputs,
+            outputs,
+            covers,
+            latches,
+        };
+        let order = find_order(alloc, &parts)?;
+        let Parts {
+            nets,
+            inputs,
+            outputs,
+            covers,
+            latches,
+        } = parts;
+        Ok(Netlist {
+            nets,
+            inputs,
+            outputs,
+            covers,
+            latches,
+            order,
+        })
+    }
+
     /// States what holds of every netlist, for the calls that rest on it. It does nothing.
     pub fn is_well_made(&self)
         ensures { IsWellMade self.now }
     {
         let _ = &self.nets;
+    }
+
+    /// The places of all covers, each behind those that it reads.
+    pub(crate) fn order(&self) -> &[u32]
+        requires { HasNoCycle self.now }
+        ensures { IsOrder self.now result.now }
+    {
+        match &self.order {
+            Order::Straight(places) => places.as_slice(),
+            Order::Round(_) => unreachable!(),
+        }
+    }
+
+    /// The places of covers that read one another round, if there are such covers.
+    pub(crate) fn cycle(&self) -> Option<&[u32]>
+        ensures { MatchOption result (HasNoCycle self.now) (λ places. IsOneCycle self.now places.now) }
+    {
+        match &self.order {
+            Order::Straight(_) => None,
+            Order::Round(places) => Some(places.as_slice()),
+        }
     }
 }

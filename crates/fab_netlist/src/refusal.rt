@@ -4,13 +4,11 @@ ghost use Rattle.std.specs.Prelude.{◌≡◌, ◌⊎◌, ◌++◌, ◌<◌, ℕ
 ghost use Rattle.std.specs.List.{All, flat_map};
 ghost use Rattle.fab_base.specs.Report.{spaced};
 ghost use Rattle.fab_base.specs.declared.fault.Fault.TheVariants as faults;
-ghost use Rattle.fab_netlist.specs.Cycles.{ComesFirst, HasNoCycle, NamesCycle, cycle_words};
+ghost use Rattle.fab_netlist.specs.Cycles.{ComesFirst, HasNoCycle, IsOneCycle, NamesCycle, cycle_words};
 ghost use Rattle.fab_netlist.specs.Plain.{cover_at, name_of};
-ghost use Rattle.fab_netlist.specs.Search.{IsOneCycle};
 ghost use Rattle.fab_netlist.specs.WellMade.{IsWellMade};
 
 use crate::netlist::Netlist;
-use crate::walk::find_cycle;
 use fab_base::{Fault, Memory, Name, Place};
 use std::alloc::Global;
 
@@ -106,14 +104,15 @@ fn fault_of(alloc: Global, file: &Name, netlist: &Netlist, round: &[u32]) -> Res
 
 /// Refuses a netlist of which covers form a cycle, each reading the output of the next, and the last one that of the first.
 /// The fault is `Unsupported` and names the nets that the covers of a cycle drive, from the cover of the least line on; where
-/// there are several cycles, it may be any of them. It is `Memory` where memory was refused.
+/// there are several cycles, it may be any of them. It is `Memory` where memory was refused. Nothing is searched here: a netlist
+/// knows its cycle from when it was made.
 pub fn check_acyclic(alloc: Global, file: &Name, netlist: &Netlist) -> Result<(), Fault>
     ensures acyclic { OnOk result (HasNoCycle netlist.now) }
     ensures refused { IfErr result (λ fault. (fault ≡ faults.Memory) ⊎ NamesCycle file.now netlist.now fault) }
 {
     netlist.is_well_made();
-    match find_cycle(alloc, netlist)? {
+    match netlist.cycle() {
         None => Ok(()),
-        Some(round) => Err(fault_of(alloc, file, netlist, &round)?),
+        Some(round) => Err(fault_of(alloc, file, netlist, round)?),
     }
 }

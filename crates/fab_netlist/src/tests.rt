@@ -43,13 +43,10 @@ fn toggle(alloc: Global) -> Result<Netlist, Memory>
         output: 1,
         init: 0,
     };
-    Ok(Netlist {
-        nets,
-        inputs: Vec::from_slice(alloc, &[0])?,
-        outputs: Vec::from_slice(alloc, &[1])?,
-        covers,
-        latches: Vec::from_slice(alloc, &[latch])?,
-    })
+    let inputs = Vec::from_slice(alloc, &[0])?;
+    let outputs = Vec::from_slice(alloc, &[1])?;
+    let latches = Vec::from_slice(alloc, &[latch])?;
+    Netlist::new(alloc, nets, inputs, outputs, covers, latches)
 }
 
 /// The toggle with an initial value of 3, where the cover whose output nothing reads reads what the latch takes.
@@ -69,13 +66,10 @@ fn watched(alloc: Global) -> Result<Netlist, Memory>
         output: 1,
         init: 3,
     };
-    Ok(Netlist {
-        nets,
-        inputs: Vec::from_slice(alloc, &[0])?,
-        outputs: Vec::from_slice(alloc, &[1])?,
-        covers,
-        latches: Vec::from_slice(alloc, &[latch])?,
-    })
+    let inputs = Vec::from_slice(alloc, &[0])?;
+    let outputs = Vec::from_slice(alloc, &[1])?;
+    let latches = Vec::from_slice(alloc, &[latch])?;
+    Netlist::new(alloc, nets, inputs, outputs, covers, latches)
 }
 
 /// Two covers that read each other.
@@ -88,13 +82,14 @@ fn round(alloc: Global) -> Result<Netlist, Memory>
     let mut covers = Vec::new(alloc);
     covers.push(cover(alloc, 3, &[1], 0, 0xAAAA)?)?;
     covers.push(cover(alloc, 5, &[0], 1, 0xAAAA)?)?;
-    Ok(Netlist {
+    Netlist::new(
+        alloc,
         nets,
-        inputs: Vec::new(alloc),
-        outputs: Vec::new(alloc),
+        Vec::new(alloc),
+        Vec::new(alloc),
         covers,
-        latches: Vec::new(alloc),
-    })
+        Vec::new(alloc),
+    )
 }
 
 #[test]

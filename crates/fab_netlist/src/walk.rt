@@ -1,15 +1,16 @@
-//! The search for a cycle of covers: depth first, without recursion. Each cover is met once, and its inputs are looked at
+//! The search for an order of the covers, or for a cycle of them: depth first, without recursion. Each cover is met once, and its inputs are looked at
 //! again each time that one of them is done.
 
-ghost use Rattle.std.specs.Prelude.{◌≡◌, ◌<◌, ◌≤◌, ◌-◌, List, [], Contains, ◌∷◌, IfOk, MatchOption, get_or, length};
+ghost use Rattle.std.specs.Prelude.{◌≡◌, ◌<◌, ◌≤◌, ◌-◌, List, [], Contains, ◌∷◌, IfOk, OnOk, MatchOption, get_or, length};
 ghost use Rattle.std.specs.List.{All};
 ghost use Rattle.std.specs.Option.{ForSome, IfNone, IfSome, OnSome};
 ghost use Rattle.fab_netlist.specs.Plain.{cover_at};
 ghost use Rattle.fab_netlist.specs.Cycles.{HasNoCycle};
-ghost use Rattle.fab_netlist.specs.Search.{HasEnded, IsDriverTable, IsOneCycle, IsRound, IsSearch, if_unfinished, is_done, is_open, unfinished};
+ghost use Rattle.fab_netlist.specs.Order.{IsFound, IsOrder};
+ghost use Rattle.fab_netlist.specs.Search.{HasEnded, IsDriverTable, IsListed, IsRound, IsSearch, if_unfinished, is_done, is_open, unfinished};
 ghost use Rattle.fab_netlist.specs.WellMade.{IsWellMade};
 
-use crate::netlist::Netlist;
+use crate::netlist::{Order, Parts};
 use fab_base::Memory;
 use std::alloc::Global;
 
@@ -45,7 +46,7 @@ impl Mark {
 }
 
 /// For each net the place of the cover that drives it.
-fn driver_table(alloc: Global, netlist: &Netlist) -> Result<Vec<Option<u32>>, Memory>
+fn driver_table(alloc: Global, netlist: &Parts) -> Result<Vec<Option<u32>>, Memory>
     requires { IsWellMade netlist.now }
     ensures { IfOk result (λ drivers. IsDriverTable netlist.now drivers.items) }
 {
@@ -82,12 +83,7 @@ fn unfinished(drivers: &[Option<u32>], marks: &[Mark], nets: &[u32]) -> Option<u
 }
 
 /// The first cover that is not done among those that a cover reads.
-fn next_source(
-    netlist: &Netlist,
-    drivers: &[Option<u32>],
-    marks: &[Mark],
-    reader: u32,
-) -> Option<u32>
+fn next_source(netlist: &Parts, drivers: &[Option<u32>], marks: &[Mark], reader: u32) -> Option<u32>
     requires made { IsWellMade netlist.now }
     requires table { IsDriverTable netlist.now drivers.now }
     requires fits { length marks.now ≡ length netlist.now.covers }
@@ -108,21 +104,25 @@ fn last(path: &[u32]) -> Option<u32>
 /// Goes on from the last cover of the path until the path is empty, or until the last cover reads one of the path, which is
 /// returned.
 fn follow(
-    netlist: &Netlist,
+    netlist: &Parts,
     drivers: &[Option<u32>],
     marks: &mut [Mark],
     path: &mut Vec<u32>,
+    order: &mut Vec<u32>,
 ) -> Result<Option<u32>, Memory>
     requires made { IsWellMade netlist.now }
     requires table { IsDriverTable netlist.now drivers.now }
     requires state { IsSearch netlist.now marks.old path.old.items }
-    ensures { IfOk result (λ met. MatchOption met (HasEnded netlist.now marks.old marks.new path.old.items path.new.items) (IsRound netlist.now path.new.items)) }
+    requires listed { IsListed netlist.now marks.old order.old.items }
+    ensures found { IfOk result (λ met. MatchOption met (HasEnded netlist.now marks.old marks.new path.old.items path.new.items) (IsRound netlist.now path.new.items)) }
+    ensures listed { OnOk result (IsListed netlist.now marks.new order.new.items) }
 {
     while let Some(reader) = last(path) {
         match next_source(netlist, drivers, marks, reader) {
             None => {
                 marks[reader as usize] = Mark::Done;
                 path.pop();
+                order.push(reader)?;
             }
             Some(source) => {
                 if marks[source as usize].is_open() {
@@ -138,42 +138,47 @@ fn follow(
 
 /// Searches from one cover, where the path is empty.
 fn search_from(
-    netlist: &Netlist,
+    netlist: &Parts,
     drivers: &[Option<u32>],
     start: u32,
     marks: &mut [Mark],
     path: &mut Vec<u32>,
+    order: &mut Vec<u32>,
 ) -> Result<Option<u32>, Memory>
     requires made { IsWellMade netlist.now }
     requires table { IsDriverTable netlist.now drivers.now }
     requires within { start < length netlist.now.covers }
     requires empty { path.old.items ≡ [] }
     requires state { IsSearch netlist.now marks.old [] }
-    ensures { IfOk result (λ met. MatchOption met (HasEnded netlist.now marks.old marks.new (start ∷ []) path.new.items) (IsRound netlist.now path.new.items)) }
+    requires listed { IsListed netlist.now marks.old order.old.items }
+    ensures found { IfOk result (λ met. MatchOption met (HasEnded netlist.now marks.old marks.new (start ∷ []) path.new.items) (IsRound netlist.now path.new.items)) }
+    ensures listed { OnOk result (IsListed netlist.now marks.new order.new.items) }
 {
     if marks[start as usize].is_done() {
         return Ok(None);
     }
     path.push(start)?;
     marks[start as usize] = Mark::Open;
-    follow(netlist, drivers, marks, path)
+    follow(netlist, drivers, marks, path, order)
 }
 
 /// Searches from one cover after another, where none was met yet.
 fn search_all(
-    netlist: &Netlist,
+    netlist: &Parts,
     drivers: &[Option<u32>],
     marks: &mut [Mark],
     path: &mut Vec<u32>,
+    order: &mut Vec<u32>,
 ) -> Result<Option<u32>, Memory>
     requires made { IsWellMade netlist.now }
     requires table { IsDriverTable netlist.now drivers.now }
     requires empty { path.old.items ≡ [] }
     requires state { IsSearch netlist.now marks.old [] }
-    ensures { IfOk result (λ met. MatchOption met (HasNoCycle netlist.now) (IsRound netlist.now path.new.items)) }
+    requires listed { IsListed netlist.now marks.old order.old.items }
+    ensures { IfOk result (λ met. MatchOption met (IsOrder netlist.now order.new.items × HasNoCycle netlist.now) (IsRound netlist.now path.new.items)) }
 {
     for start in 0..netlist.covers.len() {
-        let met = search_from(netlist, drivers, start as u32, marks, path)?;
+        let met = search_from(netlist, drivers, start as u32, marks, path, order)?;
         if met.is_some() {
             return Ok(met);
         }
@@ -195,19 +200,20 @@ fn place_in(places: &[u32], sought: u32) -> usize
     0
 }
 
-/// The covers of a cycle, each of which reads the next and the last one the first, if there is one.
-pub(crate) fn find_cycle(alloc: Global, netlist: &Netlist) -> Result<Option<Vec<u32>>, Memory>
+/// An order of the covers, or those of a cycle where there is one.
+pub(crate) fn find_order(alloc: Global, netlist: &Parts) -> Result<Order, Memory>
     requires { IsWellMade netlist.now }
-    ensures { IfOk result (λ found. MatchOption found (HasNoCycle netlist.now) (λ places. IsOneCycle netlist.now places.items)) }
+    ensures { IfOk result (IsFound netlist.now) }
 {
     let drivers = driver_table(alloc, netlist)?;
     let mut marks = vec![in alloc; Mark::New; netlist.covers.len()]?;
     let mut path = Vec::new(alloc);
-    match search_all(netlist, &drivers, &mut marks, &mut path)? {
-        None => Ok(None),
+    let mut order = Vec::with_capacity(alloc, netlist.covers.len())?;
+    match search_all(netlist, &drivers, &mut marks, &mut path, &mut order)? {
+        None => Ok(Order::Straight(order)),
         Some(source) => {
             let (_before, round) = path.split_at(place_in(&path, source));
-            Ok(Some(Vec::from_slice(alloc, round)?))
+            Ok(Order::Round(Vec::from_slice(alloc, round)?))
         }
     }
 }

@@ -3,5 +3,5 @@ use Rattle.fab_netlist.specs.WellMade.{IsWellMade}
 use Rattle.fab_netlist.proofs.Examples.{watched_made}
 use Rattle.fab_netlist.proofs.tests.watched.Goals as goal
 
-pub invariant_of-result : goal.invariant_of-result
-invariant_of-result c = subst IsWellMade (sym (search rules)) watched_made
+pub new-requires : goal.new-requires
+new-requires c = subst IsWellMade (sym (search rules)) watched_made
