@@ -1,0 +1,11 @@
+pub mod Follows
+pub mod WireNames
+pub mod FirstPads
+pub mod Edges
+pub mod Sites
+pub mod Parts
+pub mod Stands
+pub mod CellWords
+pub mod Again
+pub mod ReadBack
+pub mod Printed

@@ -1,0 +1,24 @@
+-- Implementations without where they lie in memory.
+use Rattle.std.specs.Prelude.{ℕ, List}
+use Rattle.fab_fabric.specs.declared.wire.Site.{Site}
+use Rattle.fab_fabric.specs.declared.wire.Wire.{Wire}
+use Rattle.fab_netlist.specs.declared.net_id.NetId.{NetId}
+
+-- a wire and one that it drives
+abbrev pub Edge : Type 0
+Edge = Wire × Wire
+
+-- a port by its name, and its site
+abbrev pub Pad : Type 0
+Pad = List ℕ × Site
+
+pub record PlainTree : Type 0 where
+  pub net : NetId
+  pub edges : List Edge
+
+-- cells are named by their numbers
+pub record PlainImplementation : Type 0 where
+  pub cells : List (ℕ × Site)
+  pub ins : List Pad
+  pub outs : List Pad
+  pub trees : List PlainTree

@@ -1,0 +1,6 @@
+use Rattle.std.proofs.Common.{◌≡◌, ◌++◌, take}
+use Rattle.fab_legal.specs.Kept.{site_at, outs_sinks}
+use Rattle.fab_legal.proofs.sinks.put_outs.Given as goal
+
+abbrev pub invariant-loop-number : goal.invariant-loop-number
+invariant-loop-number l = l.sinks.items ≡ l.fn.sinks.items ++ outs_sinks l.fabric (site_at l.sites) 0 (take l.number l.outputs)

@@ -1,0 +1,14 @@
+pub mod Turns
+pub mod WellMade
+pub mod Lines
+pub mod Steps
+pub mod Nets
+pub mod Sinks
+pub mod Legal
+pub mod Broken
+pub mod Keeping
+pub mod Roots
+pub mod Tables
+pub mod Kept
+pub mod Answers
+pub mod Standing

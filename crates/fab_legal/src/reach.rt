@@ -1,0 +1,174 @@
+//! Which wires of a net are reached along its edges.
+
+ghost use Rattle.std.specs.Prelude.{◌≡◌, ◌<◌, ◌≤◌, ℕ, [], IfOk, IfErr, OnOk, All, MatchOption, Contains, length, map, nat_eq};
+ghost use Rattle.std.specs.List.{position_or_len};
+ghost use Rattle.indexmap.specs.IndexSet.{insert_all};
+ghost use Rattle.fab_implementation.specs.OnFabric.{HasWires};
+ghost use Rattle.fab_legal.specs.Turns.{AreRight, IsFirstWrongAt};
+ghost use Rattle.fab_legal.specs.Nets.{IsRightEntry};
+ghost use Rattle.fab_legal.specs.Tables.{left_number, entered_number, group_at, targets, IsRootSet, IsReachedSet};
+ghost use Rattle.fab_legal.specs.Legal.{HasRightEntries};
+ghost use Rattle.fab_legal.specs.Broken.{IsEdgeItem};
+ghost use Rattle.fab_legal.specs.Answers.{Breaks};
+
+use crate::broken::{CheckFault, broken_by};
+use crate::texts::wire_text;
+use fab_base::Memory;
+use fab_fabric::{Fabric, Wire};
+use fab_implementation::Tree;
+use indexmap::IndexSet;
+use std::alloc::Global;
+
+// The wires that edges enter.
+pub fn entered(alloc: Global, edges: &[(Wire, Wire)]) -> Result<IndexSet<u32>, Memory>
+    ensures { IfOk result (λ set. set.keys ≡ insert_all nat_eq [] (map entered_number edges.now)) }
+{
+    let mut set = IndexSet::new(alloc);
+    for edge in edges {
+        set.insert(edge.1.0)?;
+    }
+    Ok(set)
+}
+
+// The wires from which edges lead.
+fn left(alloc: Global, edges: &[(Wire, Wire)]) -> Result<IndexSet<u32>, Memory>
+    ensures { IfOk result (λ set. set.keys ≡ insert_all nat_eq [] (map left_number edges.now)) }
+{
+    let mut set = IndexSet::new(alloc);
+    for edge in edges {
+        set.insert(edge.0.0)?;
+    }
+    Ok(set)
+}
+
+// The wires from which edges lead and that none enters.
+fn roots(
+    alloc: Global,
+    lefts: &IndexSet<u32>,
+    entered: &IndexSet<u32>,
+) -> Result<IndexSet<u32>, Memory>
+    ensures { IfOk result (λ set. IsRootSet lefts.now.keys entered.now.keys set.keys) }
+{
+    let mut set = IndexSet::new(alloc);
+    for wire in lefts.as_slice() {
+        if entered.contains(wire) {
+            continue;
+        }
+        set.insert(*wire)?;
+    }
+    Ok(set)
+}
+
+// So many empty groups.
+fn no_groups(alloc: Global, count: usize) -> Result<Vec<Vec<u32>>, Memory>
+    ensures len { IfOk result (λ groups. length groups.items ≡ count) }
+    ensures groups { IfOk result (λ groups. (place : ℕ) → group_at groups.items place ≡ []) }
+{
+    let mut groups = Vec::new(alloc);
+    for _place in 0..count {
+        groups.push(Vec::new(alloc))?;
+    }
+    Ok(groups)
+}
+
+// For each wire from which edges lead those that they enter.
+fn groups(
+    alloc: Global,
+    lefts: &IndexSet<u32>,
+    edges: &[(Wire, Wire)],
+) -> Result<Vec<Vec<u32>>, Memory>
+    requires { lefts.now.keys ≡ insert_all nat_eq [] (map left_number edges.now) }
+    ensures len { IfOk result (λ groups. length groups.items ≡ length lefts.now.keys) }
+    ensures groups { IfOk result (λ groups. (place : ℕ) → group_at groups.items place ≡ targets lefts.now.keys edges.now place) }
+{
+    let mut groups = no_groups(alloc, lefts.len())?;
+    for edge in edges {
+        match lefts.get_index_of(&edge.0.0) {
+            Some(place) => groups[place].push(edge.1.0)?,
+            None => unreachable!(),
+        }
+    }
+    Ok(groups)
+}
+
+/// Adds wires to a set.
+pub fn put_all(set: &mut IndexSet<u32>, wires: &[u32]) -> Result<(), Memory>
+    ensures { OnOk result (set.new.keys ≡ insert_all nat_eq set.old.keys wires.now) }
+{
+    for wire in wires {
+        set.insert(*wire)?;
+    }
+    Ok(())
+}
+
+// Adds the wires to which edges lead from a wire.
+fn follow(
+    set: &mut IndexSet<u32>,
+    lefts: &IndexSet<u32>,
+    groups: &[Vec<u32>],
+    wire: u32,
+) -> Result<(), Memory>
+    requires { length groups.now ≡ length lefts.now.keys }
+    ensures { OnOk result (set.new.keys ≡ insert_all nat_eq set.old.keys (group_at groups.now (position_or_len (nat_eq wire) lefts.now.keys))) }
+{
+    match lefts.get_index_of(&wire) {
+        Some(place) => put_all(set, &groups[place]),
+        None => Ok(()),
+    }
+}
+
+// The wires of a net that are reached along its edges.
+fn reached(
+    alloc: Global,
+    edges: &[(Wire, Wire)],
+    entered: &IndexSet<u32>,
+) -> Result<IndexSet<u32>, Memory>
+    requires { entered.now.keys ≡ insert_all nat_eq [] (map entered_number edges.now) }
+    ensures { IfOk result (λ set. IsReachedSet edges.now set.keys) }
+{
+    let lefts = left(alloc, edges)?;
+    let groups = groups(alloc, &lefts, edges)?;
+    let mut set = roots(alloc, &lefts, entered)?;
+    let mut next = 0;
+    while next < set.len() {
+        let wire = set.as_slice()[next];
+        follow(&mut set, &lefts, &groups, wire)?;
+        next += 1;
+    }
+    Ok(set)
+}
+
+// The place of the first edge that enters a wire which an edge before it enters, or which is not reached.
+fn wrong_entry(alloc: Global, edges: &[(Wire, Wire)]) -> Result<Option<usize>, Memory>
+    ensures { IfOk result (λ found. MatchOption found (AreRight (IsRightEntry edges.now) edges.now) (IsFirstWrongAt (IsRightEntry edges.now) edges.now)) }
+{
+    let entered = entered(alloc, edges)?;
+    let reached = reached(alloc, edges, &entered)?;
+    let mut seen: IndexSet<u32> = IndexSet::new(alloc);
+    for (place, edge) in edges.iter().enumerate() {
+        let again = seen.contains(&edge.1.0);
+        if again {
+            return Ok(Some(place));
+        }
+        let is_reached = reached.contains(&edge.1.0);
+        if !is_reached {
+            return Ok(Some(place));
+        }
+        seen.insert(edge.1.0)?;
+    }
+    Ok(None)
+}
+
+/// Each wire that an edge of a net enters is entered once and reached.
+pub fn check_entries(alloc: Global, fabric: &Fabric, trees: &[Tree]) -> Result<(), CheckFault>
+    requires { All (λ tree. All (HasWires fabric.now) tree.edges) trees.now }
+    ensures ok { OnOk result (AreRight HasRightEntries trees.now) }
+    ensures err { IfErr result (Breaks 6 (IsEdgeItem fabric.now HasRightEntries (λ tree. IsRightEntry tree.edges) trees.now)) }
+{
+    for tree in trees {
+        if let Some(place) = wrong_entry(alloc, &tree.edges)? {
+            return Err(broken_by(6, wire_text(alloc, fabric, tree.edges[place].1)?));
+        }
+    }
+    Ok(())
+}

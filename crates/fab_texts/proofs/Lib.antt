@@ -1,0 +1,11 @@
+pub mod Filled
+pub mod Sets
+pub mod Entries
+pub mod ByRows
+pub mod Joining
+pub mod Formats
+pub mod SiteLaws
+pub mod PrintedRows
+pub mod Whole
+pub mod Endings
+pub mod SiteWords

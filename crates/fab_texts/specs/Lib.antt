@@ -1,0 +1,5 @@
+pub mod Rows
+pub mod Printed
+pub mod Places
+pub mod Keys
+pub mod Formats
