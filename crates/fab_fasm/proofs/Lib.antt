@@ -1,0 +1,16 @@
+pub mod Numerals
+pub mod Powers
+pub mod LimbSums
+pub mod FirstPart
+pub mod Following
+pub mod Digits
+pub mod Returns
+pub mod Cutting
+pub mod Written
+pub mod FeatureWords
+pub mod Texts
+pub mod AddressBack
+pub mod ValueBack
+pub mod Clean
+pub mod ReadBack
+pub mod TextBack

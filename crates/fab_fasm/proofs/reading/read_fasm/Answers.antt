@@ -1,0 +1,13 @@
+use Rattle.std.specs.Str.Lines.{lines}
+use Rattle.std.proofs.lemmas.Result.{IfOk-weaker}
+use Rattle.fab_lines.proofs.Judging.{gives_fine, gives_first}
+use Rattle.fab_fasm.proofs.Following.{follows_fasm}
+use Rattle.fab_fasm.proofs.reading.read_fasm.Goals as goal
+
+pub returns-clause-spelled : goal.returns-clause-spelled
+returns-clause-spelled c =
+    IfOk-weaker c.read.result _ _ (λ features read. record { fine = read.0; in_order = read.1 })
+    (gives_fine follows_fasm (λ features. features.items) c.args.file.now (lines c.args.bytes.now) c.read.result c.read.ensures)
+
+pub returns-clause-refusal : goal.returns-clause-refusal
+returns-clause-refusal c = gives_first follows_fasm (λ features. features.items) c.args.file.now (lines c.args.bytes.now) c.read.result c.read.ensures

@@ -1,0 +1,44 @@
+//! What ends the program early.
+
+use fab_base::{Fault, Memory};
+use fab_desk::SinkFault;
+use std::alloc::{AllocError, AllocFailed};
+
+/// Why the program ended before its work was done.
+#[derive(Debug, Drop)]
+pub enum Stop {
+    /// A file is not there or not as it should be, or memory was refused.
+    Fault(Fault),
+    /// Nothing could be printed.
+    Print(SinkFault),
+}
+
+impl From<Fault> for Stop {
+    fn from(fault: Fault) -> Stop {
+        Stop::Fault(fault)
+    }
+}
+
+impl From<SinkFault> for Stop {
+    fn from(fault: SinkFault) -> Stop {
+        Stop::Print(fault)
+    }
+}
+
+impl From<Memory> for Stop {
+    fn from(_: Memory) -> Stop {
+        Stop::Fault(Fault::Memory)
+    }
+}
+
+impl From<AllocError> for Stop {
+    fn from(_: AllocError) -> Stop {
+        Stop::Fault(Fault::Memory)
+    }
+}
+
+impl<T: Drop> From<AllocFailed<T>> for Stop {
+    fn from(_: AllocFailed<T>) -> Stop {
+        Stop::Fault(Fault::Memory)
+    }
+}
