@@ -16,7 +16,8 @@ use Rattle.fab_fabric.specs.Sums.{sum_to}
 use Rattle.fab_fabric.specs.Fabric.{fabric_of, wire_count, IsPlace, IsFabric}
 use Rattle.fab_fabric.specs.Examples.{pad_table, lut_table, pads}
 use Rattle.fab_fabric.proofs.Samples.{two_of, two_tiles_fabric}
-use Rattle.fab_frames_examples.specs.Fabrics.{pads_with, lut_with, types_with, two_places, four_places, far_pad_table, falling_lut_table}
+use Rattle.fab_small_fabric.specs.Tiles.{pads_with, lut_with}
+use Rattle.fab_frames_examples.specs.Fabrics.{types_with, two_places, four_places, far_pad_table, falling_lut_table}
 
 -- ---- tables
 

@@ -1,15 +1,9 @@
 -- The fabrics of the program.
-use Rattle.std.specs.Prelude.{ℕ, List, [], ◌∷◌, Option, Some, None, codes}
+use Rattle.std.specs.Prelude.{ℕ, List, [], ◌∷◌, Option, Some, None}
 use Rattle.fab_model.specs.Tiles.{PlainTile}
-use Rattle.fab_fabric.specs.Examples.{lut_bels, lut_pairs, lut_rows, pad_bels, pad_pairs, pad_rows, tile_with}
+use Rattle.fab_small_fabric.specs.Tiles.{pads_with, lut_with}
 
 -- the tile with pads and the tile with a LUT, with these places of configuration bits
-abbrev pub pads_with : (table : List (ℕ × ℕ)) → PlainTile
-pads_with table = tile_with (codes "IO") pad_rows pad_bels pad_pairs table
-
-abbrev pub lut_with : (table : List (ℕ × ℕ)) → PlainTile
-lut_with table = tile_with (codes "LOG") lut_rows lut_bels lut_pairs table
-
 abbrev pub types_with : (pad_table lut_table : List (ℕ × ℕ)) → List PlainTile
 types_with pad_table lut_table = pads_with pad_table ∷ lut_with lut_table ∷ []
 

@@ -1,13 +1,12 @@
 //! The fabrics whose streams are shown.
 
 ghost use Rattle.std.specs.Prelude.{◌≡◌, IfOk};
-ghost use Rattle.fab_fabric.specs.Examples.{pad_table, lut_table};
 ghost use Rattle.fab_frames_examples.specs.Fabrics.{types_with, two_places, four_places, far_pad_table, falling_lut_table};
 
-use crate::tiles::{lut_with, pads_with};
 use fab_base::Memory;
 use fab_fabric::Fabric;
 use fab_model::TileType;
+use fab_small_fabric::{lut_table, lut_with, pad_table, pads_with};
 use std::alloc::Global;
 
 fn types_with(
@@ -23,46 +22,10 @@ fn types_with(
     Ok(types)
 }
 
-fn pad_table(alloc: Global) -> Result<Vec<(u8, u8)>, Memory>
-    ensures { IfOk result (λ places. places.items ≡ pad_table) }
-{
-    let places = vec![in alloc; (0, 30), (0, 31)]?;
-    Ok(places)
-}
-
 fn far_pad_table(alloc: Global) -> Result<Vec<(u8, u8)>, Memory>
     ensures { IfOk result (λ places. places.items ≡ far_pad_table) }
 {
     let places = vec![in alloc; (19, 0), (0, 31)]?;
-    Ok(places)
-}
-
-fn lut_table(alloc: Global) -> Result<Vec<(u8, u8)>, Memory>
-    ensures { IfOk result (λ places. places.items ≡ lut_table) }
-{
-    let places = vec![in alloc;
-        (0, 11),
-        (0, 12),
-        (0, 13),
-        (0, 14),
-        (0, 15),
-        (0, 16),
-        (0, 17),
-        (0, 18),
-        (0, 19),
-        (0, 20),
-        (0, 21),
-        (0, 22),
-        (0, 23),
-        (0, 24),
-        (0, 25),
-        (0, 26),
-        (0, 27),
-        (0, 28),
-        (0, 29),
-        (0, 30),
-        (0, 31),
-    ]?;
     Ok(places)
 }
 

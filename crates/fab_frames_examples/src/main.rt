@@ -5,7 +5,6 @@ mod cases;
 mod fabrics;
 mod shown;
 mod stop;
-mod tiles;
 
 use cases::{Edit, put_bytes, put_case};
 use fab_desk::{OutSink, Sink};

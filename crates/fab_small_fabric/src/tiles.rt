@@ -1,9 +1,9 @@
 //! The tile types: one with two pads and one with a LUT.
 
 ghost use Rattle.std.specs.Prelude.{◌≡◌, Some, IfOk, All};
-ghost use Rattle.fab_fabric.specs.Examples.{bel_of, lut_bels, lut_pairs, lut_rows, pad_bels, pad_pairs, pad_rows, pair_of, row_of, tile_with};
+ghost use Rattle.fab_fabric.specs.Examples.{bel_of, lut_bels, lut_pairs, lut_rows, lut_table, pad_bels, pad_pairs, pad_rows, pad_table, pair_of, row_of, tile_with};
 ghost use Rattle.fab_model.specs.Tiles.{bare_tile, IsPair, IsTile};
-ghost use Rattle.fab_frames_examples.specs.Fabrics.{pads_with, lut_with};
+ghost use Rattle.fab_small_fabric.specs.Tiles.{pads_with, lut_with};
 
 use fab_base::{Memory, Name};
 use fab_kinds::Kind;
@@ -161,4 +161,42 @@ pub fn lut_with(alloc: Global, places: Vec<(u8, u8)>) -> Result<TileType, Memory
     let pairs = lut_pairs(alloc)?;
     let tile = tile_with(alloc, b"LOG", rows, bels, pairs, places)?;
     Ok(tile)
+}
+
+/// The places of the two configuration bits of a tile with pads that has no table of its own.
+pub fn pad_table(alloc: Global) -> Result<Vec<(u8, u8)>, Memory>
+    ensures { IfOk result (λ places. places.items ≡ pad_table) }
+{
+    let places = vec![in alloc; (0, 30), (0, 31)]?;
+    Ok(places)
+}
+
+/// The places of the 21 configuration bits of a tile with a LUT that has no table of its own.
+pub fn lut_table(alloc: Global) -> Result<Vec<(u8, u8)>, Memory>
+    ensures { IfOk result (λ places. places.items ≡ lut_table) }
+{
+    let places = vec![in alloc;
+        (0, 11),
+        (0, 12),
+        (0, 13),
+        (0, 14),
+        (0, 15),
+        (0, 16),
+        (0, 17),
+        (0, 18),
+        (0, 19),
+        (0, 20),
+        (0, 21),
+        (0, 22),
+        (0, 23),
+        (0, 24),
+        (0, 25),
+        (0, 26),
+        (0, 27),
+        (0, 28),
+        (0, 29),
+        (0, 30),
+        (0, 31),
+    ]?;
+    Ok(places)
 }

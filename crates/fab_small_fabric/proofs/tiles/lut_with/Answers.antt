@@ -5,7 +5,7 @@ use Rattle.fab_model.specs.declared.tiles.Bel.{Bel}
 use Rattle.fab_model.specs.Tiles.{bare_tile, IsTile, IsPair}
 use Rattle.fab_fabric.specs.Examples.{lut_rows, lut_bels}
 use Rattle.fab_fabric.proofs.Samples.{lut_tile, lut_pairs_fit}
-use Rattle.fab_small_fabric.proofs.fabric.lut.Goals as goal
+use Rattle.fab_small_fabric.proofs.tiles.lut_with.Goals as goal
 
 pub tile_with-requires-clause-is_tile : goal.tile_with-requires-clause-is_tile
 tile_with-requires-clause-is_tile c =
