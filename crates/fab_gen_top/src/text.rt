@@ -31,8 +31,8 @@ use fab_text_sound::fabric_texts_are_sound;
 use std::alloc::Global;
 
 /// The whole text of a fabric: the primitives that it uses, the modules of its tile types that stand somewhere, the loader and the
-/// top. In this text each wire of the fabric has the value of what drives it under the configuration bits. Where the types' names are words, it
-/// is sound, and the words of the bitstream of any bits configure it so, whatever it held.
+/// top. In this text each wire of the fabric has the value of what drives it under the configuration bits. Where the names in the types' tables
+/// are identifiers that no module here takes for itself, it is sound, and the words of the bitstream of any bits configure it so, whatever it held.
 ///
 /// The time is linear in the wires, ports and pairs. Want of memory is also the answer where numbers of bits or BELs do not fit.
 pub fn generate(alloc: Global, fabric: &Fabric) -> Result<Text, Memory>

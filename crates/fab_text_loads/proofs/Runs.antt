@@ -34,7 +34,7 @@ use Rattle.fab_text_loads.proofs.Drivers.{latched_by}
 use Rattle.fab_text_loads.proofs.Loader.{HasLoader}
 use Rattle.fab_text_loads.proofs.Named.{latch_there, config_stands, named_are_loading}
 use Rattle.fab_text_loads.proofs.Settled.{latch_place, latch_point, latch_is_shown}
-use Rattle.fab_text_loads.proofs.Ticks.{digits_long, held_is_machine, machine_same, machine_ticks, quiet_ticks, machine_stays}
+use Rattle.fab_text_loads.proofs.Ticks.{digits_long, held_is_machine, machine_same, word_ticks, quiet_ticks, machine_stays}
 
 -- a bit of a tile, whose latch has a place
 pub record HasLatch (fabric : PlainFabric) (x y number : ℕ) : Type 0 where
@@ -128,7 +128,7 @@ module _ (fabric : PlainFabric) (next : NextValues) (text : List PlainModule) (h
 
       machine_turns : (turn : Turn) → IsWordTurn turn → IsTurn turn moment → machine_at between loader_path rows ≡ after_turn rows (machine_at held loader_path rows) turn
       machine_turns (word offered) long (clock, offers) =
-          machine_ticks fabric next text has is keeps moment.inputs held now between settled (ticks_here clock) true offered offers.strobe offers.bits long
+          word_ticks fabric next text has is keeps moment.inputs held now between settled (ticks_here clock) offered offers long
       machine_turns pause long (clock, quiet) = quiet_ticks fabric next text has is keeps moment.inputs held now between settled (ticks_here clock) quiet
       machine_turns other_clock long other = machine_stays fabric next text has moment.clock other held now between ticks
 

@@ -1,5 +1,5 @@
--- A tick of CLK takes the loader's machine a step on, and leaves each latch with what it shows.
-use Rattle.std.proofs.Common.{◌≡◌, ◌≢◌, ℕ, zero, suc, ◌/◌, ◌^◌, ◌<◌, Bool, false, List, [], ◌∷◌, length, get_or, cond, refl, sym, ap, ◌∙◌, subst, inl, inr, arith, All, Contains, slice_index_or}
+-- A tick of CLK takes the machine of the loader a step on, and a tick of another clock leaves it as it is.
+use Rattle.std.proofs.Common.{◌≡◌, ◌≢◌, ℕ, zero, suc, ◌/◌, ◌^◌, ◌<◌, Bool, true, false, List, [], ◌∷◌, length, get_or, cond, refl, sym, ap, ◌∙◌, subst, inl, inr, arith, All, Contains, slice_index_or}
 use Rattle.std.specs.Str.{bytes_eq}
 use Rattle.std.proofs.lemmas.Bool.{cases_Bool}
 use Rattle.std.proofs.lemmas.List.Elements.{All-contains}
@@ -12,7 +12,7 @@ use Rattle.fab_meaning.specs.Value.{value, bit_at}
 use Rattle.fab_meaning.specs.Points.{point, flop}
 use Rattle.fab_meaning.specs.Settled.{Assignment, names_at, IsSettledOn}
 use Rattle.fab_meaning.specs.Runs.{clock_name, is_clock, Ticks}
-use Rattle.fab_meaning.specs.Loading.{data_name, IsLoading}
+use Rattle.fab_meaning.specs.Loading.{data_name, OffersWord, IsLoading}
 use Rattle.fab_model.specs.Tiles.{counted}
 use Rattle.fab_model.specs.Grid.{PlainFabric}
 use Rattle.fab_fabric.specs.Fabric.{IsFabric}
@@ -141,15 +141,14 @@ module _ (fabric : PlainFabric) (next : NextValues) (text : List PlainModule) (h
       (may.words row [] (omega (arith, few, may.as_many))) (row_width rows next row few)) in
       λ j. record { state = state j; count = count j; address = address j; strobe = strobe j; rows = others j }
 
-  -- the machine after the tick, by what the inputs offer
-  pub machine_ticks : (write : Bool) (word : Word) → inputs (point [] write_strobe_name 0) ≡ write → ((bit : ℕ) → inputs (point [] data_name bit) ≡ bit_at word bit) → IsWord word →
-      machine_at after loader_path rows ≡ tick rows (machine_at held loader_path rows) write word
-  machine_ticks write word strobe_is bits_are long =
-      let strobe : now (point loader_path write_strobe_name 0) ≡ write =
-      input_shows fabric next text has is inputs held now settled write_strobe_name 0 (1, omega arith, refl) (1, omega arith, refl) refl refl (omega arith) (omega arith) ∙ strobe_is in
+  -- the machine after the tick, where the inputs offer a word
+  pub word_ticks : (word : Word) → OffersWord word inputs → IsWord word → machine_at after loader_path rows ≡ tick rows (machine_at held loader_path rows) true word
+  word_ticks word offers long =
+      let strobe : now (point loader_path write_strobe_name 0) ≡ true =
+      input_shows fabric next text has is inputs held now settled write_strobe_name 0 (1, omega arith, refl) (1, omega arith, refl) refl refl (omega arith) (omega arith) ∙ offers.strobe in
       let bits : bits_at now loader_path data_name 32 ≡ word =
       first_bits_same 32 (λ bit. now (point loader_path data_name bit)) (λ bit. bit_at word bit)
-      (λ bit few. input_shows fabric next text has is inputs held now settled data_name bit (2, omega arith, refl) (2, omega arith, refl) refl refl few few ∙ bits_are bit)
+      (λ bit few. input_shows fabric next text has is inputs held now settled data_name bit (2, omega arith, refl) (2, omega arith, refl) refl refl few few ∙ offers.bits bit)
       ∙ ap (λ n. first_bits n (λ bit. bit_at word bit)) (sym long)
       ∙ bits_again word in
       machine_steps ∙ (λ j. tick rows (shown_machine j) (strobe j) (bits j))
@@ -162,7 +161,7 @@ module _ (fabric : PlainFabric) (next : NextValues) (text : List PlainModule) (h
       input_shows fabric next text has is inputs held now settled write_strobe_name 0 (1, omega arith, refl) (1, omega arith, refl) refl refl (omega arith) (omega arith) ∙ quiet in
       λ j. tick rows (shown_machine j) (strobe j) (bits_at now loader_path data_name 32)
 
-  -- the machine after the tick
+  -- the machine after the tick, where they offer none
   pub quiet_ticks : inputs (point [] write_strobe_name 0) ≡ false → machine_at after loader_path rows ≡ tick rows (machine_at held loader_path rows) false []
   quiet_ticks quiet = machine_steps ∙ quiet_step quiet
 
