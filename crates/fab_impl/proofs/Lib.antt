@@ -11,4 +11,3 @@ pub mod Spelled
 pub mod CellWords
 pub mod Again
 pub mod ReadBack
-pub mod Printed
