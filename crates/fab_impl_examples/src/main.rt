@@ -1,13 +1,15 @@
 //! Texts of implementations, states and pad constraints as a user has them: those that are read are printed back, and of the
-//! others the report is printed.
+//! others the report is printed. Then the lines on which the entries of a text stand.
 #![tactic(auto)]
 
 mod cases;
+mod entries;
 mod files;
 mod stop;
 mod texts;
 
 use cases::print_cases;
+use entries::print_entries;
 use fab_base::Name;
 use fab_blif::read_blif;
 use fab_desk::{FileDesk, OutSink};
@@ -51,5 +53,6 @@ fn main(rt: HostRuntime) -> Result<(), Stop> {
         Form::Constraints,
         "constraints.cases",
     )?;
+    print_entries(alloc, &mut desk, &mut out, "entries.impl", 4)?;
     Ok(())
 }
