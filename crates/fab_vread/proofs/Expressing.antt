@@ -13,7 +13,7 @@ use Rattle.fab_vread.specs.declared.places.Purpose.{Purpose}
 use Rattle.fab_vread.specs.Expressions as steps
 use Rattle.fab_vread.specs.Expressions.{PlainLevel, Spot, Before, level, nothing, negation, left, parenthesis, brace, index, wanting, named, select, after, completed, kept, with_depth, with_bits, is_this_mark, taken, after_behind, with_over, after_wanting}
 use Rattle.fab_vread.specs.Machine.{Machine, inside, after_token, with_stepped}
-use Rattle.fab_vread.specs.Running.{run, and_take}
+use Rattle.fab_vread.proofs.Running.{run, and_take}
 use Rattle.fab_vread.proofs.Runs.{Watched, IsFine, within, Within, Reads, kept_is, depth_fine, bits_fine, deeper, outer}
 
 -- what follows an operand is no select

@@ -1,3 +1,5 @@
+pub mod Running
+pub mod Printable
 pub mod Levels
 pub mod Runs
 pub mod Expressing
