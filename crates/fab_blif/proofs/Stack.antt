@@ -4,7 +4,8 @@ use Rattle.std.proofs.lemmas.List.{length-append}
 use Rattle.std.proofs.lemmas.Grind.{flat_map-append}
 use Rattle.std.proofs.lemmas.List.Sums.{fold-append}
 use Rattle.fab_models.specs.Plain.{PlainBody, PlainStatement, PlainModel, inputs, outputs, clock, cover, latch, instance}
-use Rattle.fab_blif.specs.Flat.{PlainNet, PlainCopy, Placed, copy_in, joins_in, line_prefix, lines_at, lines_by, lines_of, of_model, place_of_model, statements_of, top_copy}
+use Rattle.fab_blif.specs.Flat.{PlainNet, PlainCopy, Placed, copy_in, joins_in, line_prefix, lines_at, lines_by, lines_of, of_model, top_copy}
+use Rattle.fab_instances.specs.Places.{place_of_model, statements_of}
 use Rattle.fab_blif.specs.Design.{PlainDesign}
 use Rattle.fab_blif.specs.Walk.{PlainFrame, prefix_of, copy_within, frame_lines, stack_lines, entered, new_frame, advanced, with_frames, after, after_all}
 

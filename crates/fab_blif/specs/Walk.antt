@@ -6,7 +6,8 @@ use Rattle.fab_netlist.specs.declared.netlist.Latch.{Latch}
 use Rattle.fab_blif.specs.declared.design.ClockName.{ClockName}
 use Rattle.fab_blif.specs.declared.design.Use.{Use}
 use Rattle.fab_blif.specs.declared.net.Net.{Net}
-use Rattle.fab_blif.specs.Flat.{PlainNet, net_eq, PlainCopy, Placed, placed_inputs, placed_outputs, placed_clock, copied_clock, placed_cover, placed_latch, joins_in, place_of_model, statements_of, lines_of, lines_at, line_prefix}
+use Rattle.fab_blif.specs.Flat.{PlainNet, net_eq, PlainCopy, Placed, placed_inputs, placed_outputs, placed_clock, copied_clock, placed_cover, placed_latch, joins_in, lines_of, lines_at, line_prefix}
+use Rattle.fab_instances.specs.Places.{place_of_model, statements_of}
 use Rattle.fab_blif.specs.Design.{PlainClock, PlainDesign, number_in}
 
 abbrev pub plain_net : Net → PlainNet
@@ -17,10 +18,6 @@ plain_nets nets = map plain_net nets
 
 abbrev pub plain_clock : ClockName → PlainClock
 plain_clock name = record { line = name.line; net = plain_net name.net; latch = name.latch }
-
--- the keys of a set as names
-abbrev pub key_names : {A : Type 0} → List (Vec ℕ A) → List (List ℕ)
-key_names keys = map (λ key. key.items) keys
 
 -- the joins that a map holds
 abbrev pub plain_joins : {A : Type 0} → List (Vec ℕ A × Net) → List (List ℕ × PlainNet)

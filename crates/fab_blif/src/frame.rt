@@ -3,11 +3,13 @@
 ghost use Rattle.std.specs.Prelude.{◌≡◌, ◌<◌, ◌+◌, ◌++◌, [], ℕ, Some, None, IfOk, OnOk, IfSome, IfNone, MatchOption, length, map, decimal, drop, filter_map, option_map, option_to_list, flat_map, position, nat_eq};
 ghost use Rattle.std.specs.Str.{bytes_eq};
 ghost use Rattle.indexmap.specs.IndexMap.{insert_all, insert_entry};
-ghost use Rattle.fab_blif.specs.Flat.{net_in, sides, join_in, joins_in, line_prefix};
+ghost use Rattle.fab_blif.specs.Flat.{net_in, join_in, joins_in, line_prefix};
+ghost use Rattle.fab_instances.specs.Formals.{sides};
 ghost use Rattle.fab_blif.specs.Walk.{plain_net, plain_joins, prefix_of, copy_within};
 
 use crate::net::{Net, copy_of};
 use fab_base::{Memory, Name};
+use fab_instances::sides;
 use indexmap::IndexMap;
 use itoa::Buffer;
 use std::alloc::Global;
@@ -71,22 +73,6 @@ pub(crate) fn net_in(
     match frame.joins.get(name) {
         Some(net) => copy_of(alloc, net),
         None => inner_net(alloc, outer, name),
-    }
-}
-
-fn equals_sign(word: &[u8]) -> Option<usize>
-    ensures { result ≡ position (λ byte. nat_eq byte 61) word.now }
-{
-    word.iter().position(|byte| *byte == b'=')
-}
-
-/// The two sides of a word `formal=actual`.
-pub(crate) fn sides(word: &[u8]) -> Option<(&[u8], &[u8])>
-    ensures { option_map (λ pair. (pair.0.now, pair.1.now)) result ≡ sides word.now }
-{
-    match equals_sign(word) {
-        None => None,
-        Some(place) => Some((&word[..place], &word[place + 1..])),
     }
 }
 

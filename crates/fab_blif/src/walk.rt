@@ -2,13 +2,15 @@
 
 ghost use Rattle.std.specs.Prelude.{◌≡◌, ◌<◌, ◌+◌, ◌-◌, ◌∷◌, ◌++◌, ◌^◌, [], Some, None, IfOk, OnOk, OnSome, MatchOption, length, map, drop};
 ghost use Rattle.fab_models.specs.Plain.{plain_body, plain_models, plain_statement};
-ghost use Rattle.fab_blif.specs.Flat.{flat_lines, lines_by, model_names, place_of_model, statements_of};
-ghost use Rattle.fab_blif.specs.Walk.{advanced, after_all, copy_within, entered, key_names, with_frames};
+ghost use Rattle.fab_blif.specs.Flat.{flat_lines, lines_by};
+ghost use Rattle.fab_instances.specs.Places.{model_names, place_of_model, statements_of};
+ghost use Rattle.fab_blif.specs.Walk.{advanced, after_all, copy_within, entered, with_frames};
+ghost use Rattle.fab_models.specs.Keys.{key_names};
 
 use crate::design::{Design, put};
 use crate::frame::{Frame, joins_in};
-use crate::names::place_of;
 use fab_base::Memory;
+use fab_instances::place_of;
 use fab_models::{Body, Model, Statement};
 use indexmap::{IndexMap, IndexSet};
 use std::alloc::Global;
