@@ -1,6 +1,7 @@
 pub mod Flat
 pub mod Design
 pub mod Walk
+pub mod Frames
 pub mod Judged
 pub mod Clocks
 pub mod Refusals

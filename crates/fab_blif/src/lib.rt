@@ -5,9 +5,9 @@
 mod clocks;
 mod design;
 mod flattening;
-mod frame;
 mod judge;
 mod laws;
+mod model_copy;
 mod net;
 mod reading;
 mod walk;

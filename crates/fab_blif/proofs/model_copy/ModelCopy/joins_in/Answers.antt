@@ -3,13 +3,13 @@ use Rattle.std.specs.Str.{bytes_eq}
 use Rattle.std.proofs.lemmas.List.{at_drop_more}
 use Rattle.indexmap.specs.IndexMap.{insert_all}
 use Rattle.fab_blif.specs.Flat.{join_in, PlainNet}
-use Rattle.fab_blif.specs.Walk.{plain_joins, copy_within}
+use Rattle.fab_blif.specs.Walk.{plain_joins}
 use Rattle.fab_blif.proofs.Joins.{word_joined}
-use Rattle.fab_blif.proofs.frame.joins_in.Goals as goal
+use Rattle.fab_blif.proofs.model_copy.ModelCopy.joins_in.Goals as goal
 
 pub loop-word-preserved : goal.loop-word-preserved
 loop-word-preserved c =
-    let joins = join_in (copy_within c.args.outer.now c.args.frame.now) in
+    let joins = join_in c.args.self.now in
     let words = c.args.words.now in
     let at = c.loop-word.word-index in
     let word = c.word-item.result in
