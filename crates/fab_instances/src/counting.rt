@@ -113,9 +113,9 @@ fn count_by_levels(
 
 /// How many instances the flattened text has; 2^64 - 1 where they are more.
 ///
-/// Where models are in order, one pass counts them, and a second one tries the counts. Only models that use one
-/// another round are in no order, and these are refused before their instances are counted. So the passes of
-/// `count_by_levels`, as many as there are models, are only there to be right whatever the order is.
+/// Where models are in order, one pass counts them, and a second one tries the counts. Only recursive models are in no
+/// order, and these are refused before their instances are counted. So the passes of `count_by_levels`, as many as there
+/// are models, are only there to be right whatever the order is.
 pub(crate) fn count_instances(
     alloc: Global,
     models: &[Model],

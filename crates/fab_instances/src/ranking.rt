@@ -1,7 +1,8 @@
-//! An order of used models, and a rank for each. They come from one search, which nothing is proved of: what rests on them is
-//! tried first.
+//! An order of used models, and a rank for each, by Tarjan's search for strongly connected components. Nothing is proved of
+//! the search: what rests on the order and the ranks is tried first.
 //!
-//! Models that use one another make a round; a model that no such model uses makes one alone.
+//! In the graph of models each leads to those of which it has instances. Models that use one another make a strongly connected
+//! component; a model that does not use itself makes one alone. Tarjan's search finds components in reverse topological order.
 
 ghost use Rattle.std.specs.Prelude.{◌≡◌, ◌<◌, ℕ, IfOk, slice_index, length};
 
@@ -11,20 +12,20 @@ use fab_models::Model;
 use indexmap::IndexSet;
 use std::alloc::Global;
 
-/// A model, and how many rounds were known before its own.
+/// A model, and the number of its component, by the order in which they are found.
 #[derive(Clone, Copy)]
 pub(crate) struct Member {
     pub place: usize,
-    round: usize,
+    component: usize,
 }
 
 /// An order of used models, and their ranks.
 #[derive(Drop)]
 pub(crate) struct Ranking {
-    /// Used models, round by round, each round behind those that it has instances of.
+    /// Used models, component by component, each component behind those that it has instances of.
     pub order: Vec<Member>,
-    /// For each model a rank, which is 0 where it is not used: one for a round, and lower than those of the rounds that it has
-    /// instances of.
+    /// For each model a rank, which is 0 where it is not used: one for a component, and lower than those of the components
+    /// that it has instances of.
     pub ranks: Vec<usize>,
 }
 
@@ -32,8 +33,8 @@ pub(crate) struct Ranking {
 #[derive(Clone, Copy)]
 struct Visit {
     place: usize,
-    /// How many models were open when it was met, with itself.
-    number: usize,
+    /// Tarjan's index: how many models were open when it was met, with itself.
+    index: usize,
     /// The line that comes next.
     next: usize,
 }
@@ -43,15 +44,15 @@ struct Visit {
 struct Search {
     /// Models from the first one on, each of which has an instance of the next one.
     path: Vec<Visit>,
-    /// Models that were met, whose rounds are not known yet.
+    /// Tarjan's stack: models that were met, whose components are not known yet.
     open: Vec<usize>,
-    /// For each model the least number of an open model that it is known to use, or its own; 0 where it was not met, and
-    /// the greatest number where its round is known.
-    least: Vec<usize>,
-    /// Models whose rounds are known.
+    /// For each model its low link: the least index of an open model that it is known to use, or its own; 0 where it was not
+    /// met, and the greatest number where its component is known.
+    low_links: Vec<usize>,
+    /// Models whose components are known.
     order: Vec<Member>,
-    /// How many rounds are known.
-    rounds: usize,
+    /// How many components are known.
+    components: usize,
 }
 
 fn number_at(numbers: &[usize], place: usize) -> usize {
@@ -69,20 +70,20 @@ impl Search {
         Ok(Search {
             path: Vec::new(alloc),
             open: Vec::new(alloc),
-            least: vec![in alloc; 0; count]?,
+            low_links: vec![in alloc; 0; count]?,
             order: Vec::new(alloc),
-            rounds: 0,
+            components: 0,
         })
     }
 
     /// Begins with the lines of a model.
     fn meet(&mut self, place: usize) -> Result<(), Memory> {
         self.open.push(place)?;
-        let number = self.open.len();
-        set_number(&mut self.least, place, number);
+        let index = self.open.len();
+        set_number(&mut self.low_links, place, index);
         self.path.push(Visit {
             place,
-            number,
+            index,
             next: 0,
         })?;
         Ok(())
@@ -102,14 +103,14 @@ impl Search {
             return self.leave(visit);
         };
         if let Some(inner) = instance_of(places, &line.body) {
-            let least = number_at(&self.least, inner);
-            if least == 0 {
+            let low_link = number_at(&self.low_links, inner);
+            if low_link == 0 {
                 // The line is looked at again when the model is done.
                 self.path.push(visit)?;
                 return self.meet(inner);
             }
-            let least = number_at(&self.least, visit.place).min(least);
-            set_number(&mut self.least, visit.place, least);
+            let low_link = number_at(&self.low_links, visit.place).min(low_link);
+            set_number(&mut self.low_links, visit.place, low_link);
         }
         self.path.push(Visit {
             next: visit.next + 1,
@@ -118,20 +119,21 @@ impl Search {
         Ok(())
     }
 
-    /// Ends with a model. Where it uses no model that was met before it, its round is that of the open models from it on.
+    /// Ends with a model. Where it uses no open model that was met before it, it is the root of a component: the open models
+    /// from it on.
     fn leave(&mut self, visit: Visit) -> Result<(), Memory> {
-        if number_at(&self.least, visit.place) < visit.number {
+        if number_at(&self.low_links, visit.place) < visit.index {
             return Ok(());
         }
-        let round = self.rounds;
+        let component = self.components;
         while let Some(place) = self.open.pop() {
-            set_number(&mut self.least, place, usize::MAX);
-            self.order.push(Member { place, round })?;
+            set_number(&mut self.low_links, place, usize::MAX);
+            self.order.push(Member { place, component })?;
             if place == visit.place {
                 break;
             }
         }
-        self.rounds = round.saturating_add(1);
+        self.components = component.saturating_add(1);
         Ok(())
     }
 }
@@ -155,7 +157,7 @@ fn ranks_of(alloc: Global, count: usize, order: &[Member]) -> Result<Vec<usize>,
     let mut ranks = vec![in alloc; 0; count]?;
     for member in order {
         if let Some(slot) = ranks.get_mut(member.place) {
-            *slot = count.saturating_sub(member.round.saturating_add(1));
+            *slot = count.saturating_sub(member.component.saturating_add(1));
         }
     }
     Ok(ranks)

@@ -5,7 +5,7 @@ ghost use Rattle.std.specs.List.{list_all};
 ghost use Rattle.fab_models.specs.Plain.{plain_models, plain_statement};
 ghost use Rattle.fab_instances.specs.Places.{model_names};
 ghost use Rattle.fab_instances.specs.Order.{IsLeastFound, NoLine};
-ghost use Rattle.fab_instances.specs.Rounds.{IsLevel, NeverFalls, level_in, stays};
+ghost use Rattle.fab_instances.specs.Ranks.{IsLevel, NeverFalls, level_in, stays};
 ghost use Rattle.fab_instances.specs.Uses.{MarksUsed, soonest_of};
 ghost use Rattle.fab_models.specs.Keys.{key_names};
 

@@ -1,4 +1,4 @@
--- Models that use one another round, and ranks of models.
+-- Instances of a model in itself, and ranks of models.
 use Rattle.std.specs.Prelude.{◌≡◌, ◌⊎◌, ◌≤◌, ℕ, Bool, true, not, if◌then◌else◌, nat_lt, List, get_or, position, Option, Some, None}
 use Rattle.std.specs.Str.{bytes_eq}
 use Rattle.fab_models.specs.Plain.{PlainBody, PlainModel, PlainStatement, instance}
