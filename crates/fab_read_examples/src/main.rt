@@ -2,6 +2,7 @@
 #![tactic(auto)]
 
 mod cases;
+mod runs;
 mod stop;
 mod summary;
 
