@@ -1,6 +1,6 @@
 pub mod Running
 pub mod Printable
-pub mod Levels
+pub mod Innermost
 pub mod Runs
 pub mod Expressing
 pub mod Placing

@@ -31,7 +31,8 @@ use Rattle.fab_vread.specs.declared.places.Move.TheVariants as moves
 use Rattle.fab_vread.specs.declared.parser.Parser.{Parser}
 use Rattle.fab_vread.specs.declared.parser.State.{State}
 use Rattle.fab_vread.specs.declared.parser.State.TheVariants as states
-use Rattle.fab_vread.specs.Expressions.{PlainLevel, Spot, Effect, Stepped, wanting, nothing, going, ended, plain_levels, plain_reading, refused, is_this_mark, taken}
+use Rattle.fab_vread.specs.Expressions.{PlainLevel, Spot, Effect, Stepped, wanting, nothing, going, ended, plain_reading, refused, is_this_mark, taken}
+use Rattle.fab_vread.specs.OpenLevels.{levels_of}
 use Rattle.fab_vread.specs.Places.{move_of}
 use Rattle.fab_vread.specs.Refusals.{next_line}
 
@@ -63,7 +64,7 @@ plain_parser parser = record {
   items = map plain_item parser.items.items;
   joins = map plain_join parser.joins.items;
   gate = plain_expr parser.gate;
-  state = plain_state parser.state (plain_levels parser.levels.items);
+  state = plain_state parser.state (levels_of parser.levels);
   over = parser.over;
 }
 

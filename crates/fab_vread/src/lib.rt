@@ -3,6 +3,7 @@
 
 mod expressions;
 mod laws;
+mod levels;
 mod parser;
 mod places;
 mod reader;

@@ -11,7 +11,8 @@ ghost use Rattle.fab_vread.specs.Progress.{plain_progress};
 ghost use Rattle.fab_vread.specs.Refusals.{IsRefusal, next_line};
 ghost use Rattle.fab_vread.specs.Machine.{limit, first_progress, line_checked, past, after_lexeme, after_optional, after_char, read_from, is_done, closing, finished, read_of};
 
-use crate::expressions::{MAX_BITS, MAX_DEPTH, Over};
+use crate::expressions::{MAX_BITS, Over};
+use crate::levels::MAX_DEPTH;
 use crate::parser::{Parser, State, put};
 use crate::places::{Header, Place};
 use fab_base::{Fault, MAX_FILE_BYTES, Name, Problem, Quantity, Reason};
