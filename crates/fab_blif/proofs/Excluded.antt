@@ -8,11 +8,12 @@ use Rattle.fab_lines.specs.Order.{IsFine, IsFirstFault}
 use Rattle.fab_models.specs.Judge.{judge}
 use Rattle.fab_models.specs.Plain.{PlainModel}
 use Rattle.fab_blif.specs.Blif.{IsBlif, RefusesBlif, design_in, last_line, models_in}
-use Rattle.fab_blif.specs.Counting.{RefusesInstances}
+use Rattle.fab_instances.specs.Counting.{RefusesInstances}
 use Rattle.fab_blif.specs.Design.{PlainDesign}
 use Rattle.fab_blif.specs.Judged.{EachHasOne, undriven_line}
-use Rattle.fab_blif.specs.Order.{BreaksFormals, IsRecursive, IsUnknown, NamesDiffer, NoLine, RefusesFormals, RefusesNames, RefusesRecursive, RefusesUnknown}
-use Rattle.fab_blif.specs.Refusals.{AreFineModels, IsFineDesign, RefusesClocks, RefusesDrivers, RefusesFile, RefusesNets, RefusesUndriven}
+use Rattle.fab_instances.specs.Order.{BreaksFormals, IsRecursive, IsUnknown, NamesDiffer, NoLine, RefusesFormals, RefusesNames, RefusesRecursive, RefusesUnknown}
+use Rattle.fab_instances.specs.Refusals.{AreFineModels}
+use Rattle.fab_blif.specs.Refusals.{IsFineDesign, RefusesClocks, RefusesDrivers, RefusesFile, RefusesNets, RefusesUndriven}
 use Rattle.fab_blif.specs.Clocks.{clock_faults, first_fault}
 use Rattle.fab_blif.proofs.Drivers.{once_upto}
 

@@ -11,8 +11,9 @@ use Rattle.fab_netlist.specs.Plain.{PlainNetlist}
 use Rattle.fab_blif.specs.Blif.{IsBlif, RefusesBlif, last_line, models_in, netlist_in}
 use Rattle.fab_blif.specs.Design.{design_of}
 use Rattle.fab_blif.specs.Flat.{flat_lines}
-use Rattle.fab_blif.specs.Order.{NamesDiffer}
-use Rattle.fab_blif.specs.Refusals.{AreFineModels, IsFineDesign, RefusesFile}
+use Rattle.fab_instances.specs.Order.{NamesDiffer}
+use Rattle.fab_instances.specs.Refusals.{AreFineModels}
+use Rattle.fab_blif.specs.Refusals.{IsFineDesign, RefusesFile}
 
 -- the models of a file whose lines are fine
 pub record IsRead (bytes : List ℕ) (models : List PlainModel) : Type 0 where

@@ -1,15 +1,13 @@
 -- What the map of a copy's joins holds.
-use Rattle.std.proofs.Common.{◌≡◌, ℕ, Bool, true, false, ◌||◌, if◌then◌else◌, List, [], ◌∷◌, ◌++◌, Vec, Option, Some, None, option_to_list, cond, not, ◌+◌, position, refl, ap, ◌∙◌, inl, inr, find}
-use Rattle.std.specs.List.{cons_option, list_any, position_or_len}
+use Rattle.std.proofs.Common.{◌≡◌, ℕ, List, [], ◌∷◌, Vec, Option, Some, None, option_to_list, refl, ap, inl, inr, find}
+use Rattle.std.specs.List.{cons_option}
 use Rattle.std.specs.Str.{bytes_eq}
 use Rattle.std.specs.Map.{lookup}
 use Rattle.std.proofs.lemmas.Bool.{cases_Bool}
-use Rattle.std.proofs.lemmas.List.{length-map, map-append}
-use Rattle.indexmap.specs.IndexSet.{insert_key}
 use Rattle.indexmap.specs.IndexMap.{insert_entry, insert_all}
 use Rattle.fab_blif.specs.declared.net.Net.{Net}
 use Rattle.fab_blif.specs.Flat.{PlainNet, joined_or}
-use Rattle.fab_blif.specs.Walk.{plain_net, plain_joins, key_names}
+use Rattle.fab_blif.specs.Walk.{plain_net, plain_joins}
 
 -- the joins after one more
 pub joins_of_insert : {A : Type 0} (entries : List (Vec ℕ A × Net)) (formal : Vec ℕ A) (net : Net) →
@@ -40,29 +38,3 @@ pub word_joined : (joins : List (List ℕ × PlainNet)) (join : Option (List ℕ
     insert_all bytes_eq joins (cons_option join more) ≡ insert_all bytes_eq (insert_all bytes_eq joins (option_to_list join)) more
 word_joined joins None more = refl
 word_joined joins (Some join) more = refl
-
--- ---- models by name
-
-first_of_names : {A : Type 0} (name : List ℕ) (keys : List (Vec ℕ A)) → position_or_len (λ key. bytes_eq name key.items) keys ≡ position_or_len (bytes_eq name) (key_names keys)
-first_of_names name [] = refl
-first_of_names name (key ∷ keys) = ap (λ n. cond (not (bytes_eq name key.items)) (1 + n) 0) (first_of_names name keys)
-
--- a key stands where its name stands
-pub place_of_name : {A : Type 0} (name : List ℕ) (keys : List (Vec ℕ A)) → position (λ key. bytes_eq name key.items) keys ≡ position (bytes_eq name) (key_names keys)
-place_of_name {A} name keys = rw (first_of_names name keys, length-map keys (λ (k : Vec ℕ A). k.items)) refl
-
--- ---- names as keys
-
-pub any_of_names : {A : Type 0} (name : List ℕ) (keys : List (Vec ℕ A)) → list_any (λ key. bytes_eq name key.items) keys ≡ list_any (bytes_eq name) (key_names keys)
-any_of_names name [] = refl
-any_of_names name (key ∷ keys) = ap (λ rest. bytes_eq name key.items || rest) (any_of_names name keys)
-
--- the names of keys after one more, where it is told whether it is new
-pub names_of_insert : {A : Type 0} (keys : List (Vec ℕ A)) (key : Vec ℕ A) (name : List ℕ) (added : Bool) → key.items ≡ name → added ≡ not (list_any (bytes_eq name) (key_names keys)) →
-    key_names (insert_key (λ (a b : Vec ℕ A). bytes_eq a.items b.items) keys key) ≡ (if added then key_names keys ++ name ∷ [] else key_names keys)
-names_of_insert {A} keys key name added is tells =
-    let any : list_any (λ (k : Vec ℕ A). bytes_eq key.items k.items) keys ≡ list_any (bytes_eq name) (key_names keys) = any_of_names key.items keys ∙ ap (λ (n : List ℕ). list_any (bytes_eq n) (key_names keys)) is in
-    elim (cases_Bool (list_any (bytes_eq name) (key_names keys))) [
-      | inl t ↦ (let old : added ≡ false = tells ∙ ap not t in rw (any, t, old) refl)
-      | inr f ↦ (let new : added ≡ true = tells ∙ ap not f in rw (any, f, new) (map-append (λ (k : Vec ℕ A). k.items) keys (key ∷ []) ∙ ap (λ (n : List ℕ). key_names keys ++ n ∷ []) is))
-    ]

@@ -3,14 +3,6 @@ pub mod Numbers
 pub mod Lines
 pub mod Stack
 pub mod Designed
-pub mod Order
-pub mod Searching
-pub mod Found
-pub mod Recursions
-pub mod Levels
-pub mod Instances
-pub mod Fitting
-pub mod Naming
 pub mod Each
 pub mod Rules
 pub mod Below

@@ -5,7 +5,7 @@ use Rattle.std.proofs.lemmas.List.{get_or-map, get_or_past, length-map, drop_mor
 use Rattle.fab_models.specs.declared.model.Model.{Model}
 use Rattle.fab_models.specs.declared.model.Statement.{Statement}
 use Rattle.fab_models.specs.Plain.{PlainStatement, PlainModel, plain_model, plain_models, plain_statement}
-use Rattle.fab_blif.specs.Flat.{no_model, statements_of}
+use Rattle.fab_instances.specs.Places.{no_model, statements_of}
 
 -- the lines of a model that is read
 pub statements_met : (models : List Model) (place : ℕ) (model : Model) → place < length models → model ≡ get_or models place model →

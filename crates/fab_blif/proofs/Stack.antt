@@ -1,68 +1,47 @@
 -- Frames in one another: the lines that are left in them, and how many steps they take.
-use Rattle.std.proofs.Common.{◌≡◌, ℕ, zero, suc, ◌+◌, ◌-◌, ◌<◌, ◌≤◌, List, [], ◌∷◌, ◌++◌, length, drop, flat_map, Option, Some, None, option_map, refl, sym, ap, ◌∙◌, arith, append_assoc, append-nil, add_assoc, add_comm}
-use Rattle.std.proofs.lemmas.List.{length-append}
-use Rattle.std.proofs.lemmas.Grind.{flat_map-append}
+use Rattle.std.proofs.Common.{◌≡◌, ℕ, zero, suc, ◌+◌, ◌-◌, ◌<◌, ◌≤◌, List, [], ◌∷◌, ◌++◌, length, drop, flat_map, Option, Some, None, option_map, refl, sym, ap, ◌∙◌, arith, append_assoc, append-nil, add_assoc}
 use Rattle.std.proofs.lemmas.List.Sums.{fold-append}
 use Rattle.fab_models.specs.Plain.{PlainBody, PlainStatement, PlainModel, inputs, outputs, clock, cover, latch, instance}
-use Rattle.fab_blif.specs.Flat.{PlainNet, PlainCopy, Placed, copy_in, joins_in, line_prefix, lines_at, lines_by, lines_of, of_model, place_of_model, statements_of, top_copy}
+use Rattle.fab_instances.specs.Places.{place_of_model, statements_of}
+use Rattle.fab_blif.specs.declared.walk.Frame.{Frame}
+use Rattle.fab_blif.specs.Flat.{PlainCopy, Placed, copy_in, lines_at, lines_by, lines_of, of_model, top_copy}
 use Rattle.fab_blif.specs.Design.{PlainDesign}
-use Rattle.fab_blif.specs.Walk.{PlainFrame, prefix_of, copy_within, frame_lines, stack_lines, entered, new_frame, advanced, with_frames, after, after_all}
+use Rattle.fab_blif.specs.Walk.{after, after_all}
+use Rattle.fab_blif.specs.Frames.{deep_in, frame_lines, stack_lines, entered, new_frame, advanced, with_frames}
 
 module _ (models : List PlainModel) where
-  frame_same : (frame : PlainFrame) (deep deep' depth depth' : ℕ) (prefix prefix' : List ℕ) → deep ≡ deep' → depth ≡ depth' → prefix ≡ prefix' →
-      frame_lines models deep (record { depth = depth; prefix = prefix; joins = frame.joins }) frame ≡ frame_lines models deep' (record { depth = depth'; prefix = prefix'; joins = frame.joins }) frame
-  frame_same frame deep deep' depth depth' prefix prefix' a b p = λ j. frame_lines models (a j) (record { depth = b j; prefix = p j; joins = frame.joins }) frame
-
   -- the lines of a frame that is last come first
-  lines_push : (deep depth : ℕ) (prefix : List ℕ) (frames : List PlainFrame) (frame : PlainFrame) →
-      stack_lines models deep depth prefix (frames ++ frame ∷ [])
-      ≡ frame_lines models (deep - length frames) (record { depth = depth + length frames; prefix = prefix ++ prefix_of frames; joins = frame.joins }) frame ++ stack_lines models deep depth prefix frames
+  pub lines_push : (frames : List Frame) (frame : Frame) → stack_lines models (frames ++ frame ∷ []) ≡ frame_lines models frame ++ stack_lines models frames
   unfolding stack_lines
-  lines_push deep depth prefix [] frame =
-      frame_same frame deep (deep - 0) depth (depth + 0) prefix (prefix ++ []) (omega arith) (omega arith) (sym (append-nil prefix)) ∙ sym (append-nil _)
-  lines_push deep depth prefix (first ∷ frames) frame =
-      let inner = prefix ++ line_prefix first.line in
-      let here = frame_lines models deep (record { depth = depth; prefix = prefix; joins = first.joins }) first in
-      let rest = stack_lines models (deep - 1) (suc depth) inner frames in
-      ap (λ (text : List Placed). text ++ here) (lines_push (deep - 1) (suc depth) inner frames frame)
-      ∙ append_assoc (frame_lines models (deep - 1 - length frames) (record { depth = suc depth + length frames; prefix = inner ++ prefix_of frames; joins = frame.joins }) frame) rest here
-      ∙ ap (λ (text : List Placed). text ++ (rest ++ here))
-      (frame_same frame (deep - 1 - length frames) (deep - suc (length frames)) (suc depth + length frames) (depth + suc (length frames)) (inner ++ prefix_of frames) (prefix ++ (line_prefix first.line ++ prefix_of frames))
-      (omega arith) (omega arith) (append_assoc prefix (line_prefix first.line) (prefix_of frames)))
-
-  abbrev all_lines : (deep : ℕ) → List PlainFrame → List Placed
-  all_lines deep frames = stack_lines models deep 0 [] frames
-
-  pub lines_last : (deep : ℕ) (outer : List PlainFrame) (frame : PlainFrame) →
-      stack_lines models deep 0 [] (outer ++ frame ∷ []) ≡ frame_lines models (deep - length outer) (copy_within outer frame) frame ++ stack_lines models deep 0 [] outer
-  lines_last deep outer frame =
-      lines_push deep 0 [] outer frame
-      ∙ ap (λ (text : List Placed). text ++ all_lines deep outer) (frame_same frame (deep - length outer) (deep - length outer) (0 + length outer) (length outer) (prefix_of outer) (prefix_of outer) refl (omega arith) refl)
+  lines_push [] frame = sym (append-nil (frame_lines models frame))
+  lines_push (first ∷ frames) frame =
+      ap (λ (text : List Placed). text ++ frame_lines models first) (lines_push frames frame)
+      ∙ append_assoc (frame_lines models frame) (stack_lines models frames) (frame_lines models first)
 
   -- a frame without lines
-  pub lines_done : (deep : ℕ) (outer : List PlainFrame) (frame : PlainFrame) → drop frame.next (statements_of models frame.model) ≡ [] →
-      stack_lines models deep 0 [] (outer ++ frame ∷ []) ≡ stack_lines models deep 0 [] outer
-  lines_done deep outer frame none =
-      lines_last deep outer frame
-      ∙ ap (λ (lines : List PlainStatement). flat_map (lines_at models (lines_of models (deep - length outer - 1)) (copy_within outer frame)) lines ++ all_lines deep outer) none
+  pub lines_done : (outer : List Frame) (frame : Frame) → drop frame.next (statements_of models frame.model) ≡ [] → stack_lines models (outer ++ frame ∷ []) ≡ stack_lines models outer
+  lines_done outer frame none =
+      lines_push outer frame
+      ∙ ap (λ (lines : List PlainStatement). flat_map (lines_at models (lines_of models (deep_in models frame.copy.depth)) frame.copy) lines ++ stack_lines models outer) none
 
   -- what an instance that is gone into stands for
-  abbrev inner_lines : (deep : ℕ) → PlainCopy → (line : ℕ) → Option PlainFrame → List Placed
-  inner_lines deep copy line None = []
-  inner_lines deep copy line (Some frame) = frame_lines models deep (record { depth = suc copy.depth; prefix = copy.prefix ++ line_prefix line; joins = frame.joins }) frame
-
-  less_one : (deep : ℕ) → suc deep - 1 ≡ deep
-  less_one deep = omega arith
+  abbrev inner_lines : Option Frame → List Placed
+  inner_lines None = []
+  inner_lines (Some frame) = frame_lines models frame
 
   abbrev put_lines : PlainCopy → (line : ℕ) → PlainBody → List Placed
   put_lines copy line body = lines_by [] (λ _ _. []) copy line body
 
-  found_lines : (deep : ℕ) (copy : PlainCopy) (line : ℕ) (words : List (List ℕ)) (place : Option ℕ) →
-      of_model (lines_of models (suc deep) (copy_in copy line words)) place ≡ inner_lines (suc deep) copy line (option_map (new_frame (joins_in copy words)) place)
+  -- a level deeper
+  less_deep : (deep depth : ℕ) → suc deep ≡ deep_in models depth → deep ≡ deep_in models (suc depth)
+  less_deep deep depth is = omega (arith, is)
+
+  found_lines : (deep : ℕ) (copy : PlainCopy) (line : ℕ) (words : List (List ℕ)) (place : Option ℕ) → suc deep ≡ deep_in models copy.depth →
+      of_model (lines_of models (suc deep) (copy_in copy line words)) place ≡ inner_lines (option_map (new_frame (copy_in copy line words)) place)
   unfolding lines_of
-  found_lines deep copy line words None = refl
-  found_lines deep copy line words (Some place) =
-      ap (λ (d : ℕ). flat_map (lines_at models (lines_of models d) (copy_in copy line words)) (statements_of models place)) (sym (less_one deep))
+  found_lines deep copy line words None is = refl
+  found_lines deep copy line words (Some place) is =
+      ap (λ (d : ℕ). flat_map (lines_at models (lines_of models d) (copy_in copy line words)) (statements_of models place)) (less_deep deep copy.depth is)
 
   nothing_found : (copy : PlainCopy) (line : ℕ) (words : List (List ℕ)) (place : Option ℕ) → of_model (lines_of models zero (copy_in copy line words)) place ≡ []
   unfolding lines_of
@@ -70,72 +49,57 @@ module _ (models : List PlainModel) where
   nothing_found copy line words (Some place) = refl
 
   -- what a line of a model is noted as, and what it stands for if it is an instance
-  line_parts : (deep : ℕ) (copy : PlainCopy) (line : ℕ) (body : PlainBody) →
-      lines_by models (lines_of models deep) copy line body ≡ put_lines copy line body ++ inner_lines deep copy line (entered models deep copy body)
-  line_parts zero copy line (inputs names) = sym (append-nil _)
-  line_parts zero copy line (outputs names) = sym (append-nil _)
-  line_parts zero copy line (clock name) = refl
-  line_parts zero copy line (cover names output table) = refl
-  line_parts zero copy line (latch input output control initial) = refl
-  line_parts zero copy line (instance name words) = nothing_found copy line words (place_of_model models name)
-  line_parts (suc deep) copy line (inputs names) = sym (append-nil _)
-  line_parts (suc deep) copy line (outputs names) = sym (append-nil _)
-  line_parts (suc deep) copy line (clock name) = refl
-  line_parts (suc deep) copy line (cover names output table) = refl
-  line_parts (suc deep) copy line (latch input output control initial) = refl
-  line_parts (suc deep) copy line (instance name words) = found_lines deep copy line words (place_of_model models name)
+  line_parts : (deep : ℕ) (copy : PlainCopy) (line : ℕ) (body : PlainBody) → deep ≡ deep_in models copy.depth →
+      lines_by models (lines_of models deep) copy line body ≡ put_lines copy line body ++ inner_lines (entered models deep copy line body)
+  line_parts zero copy line (inputs names) is = sym (append-nil _)
+  line_parts zero copy line (outputs names) is = sym (append-nil _)
+  line_parts zero copy line (clock name) is = refl
+  line_parts zero copy line (cover names output table) is = refl
+  line_parts zero copy line (latch input output control initial) is = refl
+  line_parts zero copy line (instance name words) is = nothing_found copy line words (place_of_model models name)
+  line_parts (suc deep) copy line (inputs names) is = sym (append-nil _)
+  line_parts (suc deep) copy line (outputs names) is = sym (append-nil _)
+  line_parts (suc deep) copy line (clock name) is = refl
+  line_parts (suc deep) copy line (cover names output table) is = refl
+  line_parts (suc deep) copy line (latch input output control initial) is = refl
+  line_parts (suc deep) copy line (instance name words) is = found_lines deep copy line words (place_of_model models name) is
 
   -- the lines of frames behind the next one
-  inner_last : (deep : ℕ) (outer : List PlainFrame) (frame : PlainFrame) (line : ℕ) (inner : Option PlainFrame) →
-      stack_lines models deep 0 [] (with_frames outer (advanced frame line) inner)
-      ≡ inner_lines (deep - (length outer + 1)) (copy_within outer frame) line inner ++ stack_lines models deep 0 [] (outer ++ advanced frame line ∷ [])
-  inner_last deep outer frame line None = refl
-  inner_last deep outer frame line (Some inner) =
-      lines_last deep (outer ++ advanced frame line ∷ []) inner
-      ∙ ap (λ (text : List Placed). text ++ all_lines deep (outer ++ advanced frame line ∷ []))
-      (frame_same inner (deep - length (outer ++ advanced frame line ∷ [])) (deep - (length outer + 1)) (length (outer ++ advanced frame line ∷ [])) (suc (length outer))
-      (prefix_of (outer ++ advanced frame line ∷ [])) (prefix_of outer ++ line_prefix line)
-      (omega (arith, length-append outer (advanced frame line ∷ []))) (omega (arith, length-append outer (advanced frame line ∷ [])))
-      (flat_map-append (λ (f : PlainFrame). line_prefix f.line) outer (advanced frame line ∷ []) ∙ ap (λ (text : List ℕ). prefix_of outer ++ text) (append-nil (line_prefix line))))
+  inner_last : (outer : List Frame) (frame : Frame) (inner : Option Frame) → stack_lines models (with_frames outer frame inner) ≡ inner_lines inner ++ stack_lines models (outer ++ frame ∷ [])
+  inner_last outer frame None = refl
+  inner_last outer frame (Some inner) = lines_push (outer ++ frame ∷ []) inner
 
-  less_both : (deep length : ℕ) → deep - length - 1 ≡ deep - (length + 1)
-  less_both deep length = omega arith
-
-  pub lines_next : (deep : ℕ) (outer : List PlainFrame) (frame : PlainFrame) (statement : PlainStatement) →
+  pub lines_next : (outer : List Frame) (frame : Frame) (statement : PlainStatement) →
       drop frame.next (statements_of models frame.model) ≡ statement ∷ drop (frame.next + 1) (statements_of models frame.model) →
-      stack_lines models deep 0 [] (outer ++ frame ∷ [])
-      ≡ put_lines (copy_within outer frame) statement.line statement.body
-      ++ stack_lines models deep 0 [] (with_frames outer (advanced frame statement.line) (entered models (deep - (length outer + 1)) (copy_within outer frame) statement.body))
-  lines_next deep outer frame statement next =
-      let copy = copy_within outer frame in
-      let after = advanced frame statement.line in
-      let lines : ℕ → PlainStatement → List Placed = λ d. lines_at models (lines_of models d) copy in
-      let rest = drop (frame.next + 1) (statements_of models frame.model) in
-      let less = deep - (length outer + 1) in
-      let e = entered models less copy statement.body in
+      stack_lines models (outer ++ frame ∷ [])
+      ≡ put_lines frame.copy statement.line statement.body
+      ++ stack_lines models (with_frames outer (advanced frame) (entered models (deep_in models frame.copy.depth) frame.copy statement.line statement.body))
+  lines_next outer frame statement next =
+      let copy = frame.copy in
+      let less = deep_in models copy.depth in
+      let lines : PlainStatement → List Placed = lines_at models (lines_of models less) copy in
+      let e = entered models less copy statement.line statement.body in
       let put = put_lines copy statement.line statement.body in
-      let inner = inner_lines less copy statement.line e in
-      let left = flat_map (lines less) rest in
-      let last : stack_lines models deep 0 [] (outer ++ after ∷ []) ≡ left ++ all_lines deep outer =
-      lines_last deep outer after ∙ ap (λ (d : ℕ). flat_map (lines d) rest ++ all_lines deep outer) (less_both deep (length outer)) in
-      lines_last deep outer frame
-      ∙ ap (λ (d : ℕ). flat_map (lines d) (drop frame.next (statements_of models frame.model)) ++ all_lines deep outer) (less_both deep (length outer))
-      ∙ ap (λ (list : List PlainStatement). flat_map (lines less) list ++ all_lines deep outer) next
-      ∙ ap (λ (text : List Placed). (text ++ left) ++ all_lines deep outer) (line_parts less copy statement.line statement.body)
-      ∙ ap (λ (text : List Placed). text ++ all_lines deep outer) (append_assoc put inner left)
-      ∙ append_assoc put (inner ++ left) (all_lines deep outer)
-      ∙ ap (λ (text : List Placed). put ++ text) (append_assoc inner left (all_lines deep outer) ∙ ap (λ (text : List Placed). inner ++ text) (sym last) ∙ sym (inner_last deep outer frame statement.line e))
+      let inner = inner_lines e in
+      let left = flat_map lines (drop (frame.next + 1) (statements_of models frame.model)) in
+      let all = stack_lines models outer in
+      lines_push outer frame
+      ∙ ap (λ (list : List PlainStatement). flat_map lines list ++ all) next
+      ∙ ap (λ (text : List Placed). (text ++ left) ++ all) (line_parts less copy statement.line statement.body refl)
+      ∙ ap (λ (text : List Placed). text ++ all) (append_assoc put inner left)
+      ∙ append_assoc put (inner ++ left) all
+      ∙ ap (λ (text : List Placed). put ++ text) (append_assoc inner left all ∙ ap (λ (text : List Placed). inner ++ text) (sym (lines_push outer (advanced frame))) ∙ sym (inner_last outer (advanced frame) e))
 
   -- a design after a line
-  pub design_next : (deep : ℕ) (outer : List PlainFrame) (frame : PlainFrame) (statement : PlainStatement) (design : PlainDesign) →
+  pub design_next : (outer : List Frame) (frame : Frame) (statement : PlainStatement) (design : PlainDesign) →
       drop frame.next (statements_of models frame.model) ≡ statement ∷ drop (frame.next + 1) (statements_of models frame.model) →
-      after_all (after_all design (lines_by [] (λ _ _. []) (copy_within outer frame) statement.line statement.body))
-      (stack_lines models deep 0 [] (with_frames outer (advanced frame statement.line) (entered models (deep - (length outer + 1)) (copy_within outer frame) statement.body)))
-      ≡ after_all design (stack_lines models deep 0 [] (outer ++ frame ∷ []))
-  design_next deep outer frame statement design next =
-      sym (fold-append after design (put_lines (copy_within outer frame) statement.line statement.body)
-      (stack_lines models deep 0 [] (with_frames outer (advanced frame statement.line) (entered models (deep - (length outer + 1)) (copy_within outer frame) statement.body))))
-      ∙ ap (λ (text : List Placed). after_all design text) (sym (lines_next deep outer frame statement next))
+      after_all (after_all design (lines_by [] (λ _ _. []) frame.copy statement.line statement.body))
+      (stack_lines models (with_frames outer (advanced frame) (entered models (deep_in models frame.copy.depth) frame.copy statement.line statement.body)))
+      ≡ after_all design (stack_lines models (outer ++ frame ∷ []))
+  design_next outer frame statement design next =
+      sym (fold-append after design (put_lines frame.copy statement.line statement.body)
+      (stack_lines models (with_frames outer (advanced frame) (entered models (deep_in models frame.copy.depth) frame.copy statement.line statement.body))))
+      ∙ ap (λ (text : List Placed). after_all design text) (sym (lines_next outer frame statement next))
 
   -- ---- how many steps are left
 
@@ -158,75 +122,71 @@ module _ (models : List PlainModel) where
   work_of zero place = 0
   work_of (suc deep) place = 1 + total (line_work (work_of deep)) (statements_of models place)
 
-  abbrev frame_work : (deep : ℕ) → PlainFrame → ℕ
-  frame_work deep frame = 1 + total (line_work (work_of (deep - 1))) (drop frame.next (statements_of models frame.model))
+  abbrev frame_work : Frame → ℕ
+  frame_work frame = 1 + total (line_work (work_of (deep_in models frame.copy.depth))) (drop frame.next (statements_of models frame.model))
 
-  unfoldable pub stack_work : (deep : ℕ) → List PlainFrame → ℕ
-  stack_work deep [] = 0
-  stack_work deep (frame ∷ frames) = stack_work (deep - 1) frames + frame_work deep frame
+  unfoldable pub stack_work : List Frame → ℕ
+  stack_work [] = 0
+  stack_work (frame ∷ frames) = stack_work frames + frame_work frame
 
-  work_push : (deep : ℕ) (frames : List PlainFrame) (frame : PlainFrame) → stack_work deep (frames ++ frame ∷ []) ≡ frame_work (deep - length frames) frame + stack_work deep frames
+  work_push : (frames : List Frame) (frame : Frame) → stack_work (frames ++ frame ∷ []) ≡ frame_work frame + stack_work frames
   unfolding stack_work
-  work_push deep [] frame = let same : deep - 0 ≡ deep = omega arith in ap (λ (d : ℕ). 0 + frame_work d frame) (sym same) ∙ add_comm 0 (frame_work (deep - 0) frame)
-  work_push deep (first ∷ frames) frame =
-      let same : deep - 1 - length frames ≡ deep - suc (length frames) = omega arith in
-      ap (λ (n : ℕ). n + frame_work deep first) (work_push (deep - 1) frames frame)
-      ∙ add_assoc (frame_work (deep - 1 - length frames) frame) (stack_work (deep - 1) frames) (frame_work deep first)
-      ∙ ap (λ (d : ℕ). frame_work d frame + (stack_work (deep - 1) frames + frame_work deep first)) same
+  work_push [] frame = omega arith
+  work_push (first ∷ frames) frame =
+      ap (λ (n : ℕ). n + frame_work first) (work_push frames frame)
+      ∙ add_assoc (frame_work frame) (stack_work frames) (frame_work first)
 
   -- a frame without lines is one step
-  pub work_done : (deep : ℕ) (outer : List PlainFrame) (frame : PlainFrame) → stack_work deep outer < stack_work deep (outer ++ frame ∷ [])
-  work_done deep outer frame = omega (arith, work_push deep outer frame)
+  pub work_done : (outer : List Frame) (frame : Frame) → stack_work outer < stack_work (outer ++ frame ∷ [])
+  work_done outer frame = omega (arith, work_push outer frame)
 
-  abbrev inner_work : (deep : ℕ) → Option PlainFrame → ℕ
-  inner_work deep None = 0
-  inner_work deep (Some frame) = frame_work deep frame
+  abbrev inner_work : Option Frame → ℕ
+  inner_work None = 0
+  inner_work (Some frame) = frame_work frame
 
-  found_work : (deep : ℕ) (joins : List (List ℕ × PlainNet)) (place : Option ℕ) → of_place (work_of (suc deep)) place ≡ inner_work (suc deep) (option_map (new_frame joins) place)
+  found_work : (deep : ℕ) (copy : PlainCopy) (line : ℕ) (words : List (List ℕ)) (place : Option ℕ) → suc deep ≡ deep_in models copy.depth →
+      of_place (work_of (suc deep)) place ≡ inner_work (option_map (new_frame (copy_in copy line words)) place)
   unfolding work_of
-  found_work deep joins None = refl
-  found_work deep joins (Some place) = ap (λ (d : ℕ). 1 + total (line_work (work_of d)) (statements_of models place)) (sym (less_one deep))
+  found_work deep copy line words None is = refl
+  found_work deep copy line words (Some place) is = ap (λ (d : ℕ). 1 + total (line_work (work_of d)) (statements_of models place)) (less_deep deep copy.depth is)
 
-  body_parts : (deep : ℕ) (copy : PlainCopy) (body : PlainBody) → inner_work deep (entered models deep copy body) ≤ body_work (work_of deep) body
-  body_parts zero copy body = omega arith
-  body_parts (suc deep) copy (inputs names) = omega arith
-  body_parts (suc deep) copy (outputs names) = omega arith
-  body_parts (suc deep) copy (clock name) = omega arith
-  body_parts (suc deep) copy (cover names output table) = omega arith
-  body_parts (suc deep) copy (latch input output control initial) = omega arith
-  body_parts (suc deep) copy (instance name words) = omega (arith, found_work deep (joins_in copy words) (place_of_model models name))
+  body_parts : (deep : ℕ) (copy : PlainCopy) (line : ℕ) (body : PlainBody) → deep ≡ deep_in models copy.depth → inner_work (entered models deep copy line body) ≤ body_work (work_of deep) body
+  body_parts zero copy line body is = omega arith
+  body_parts (suc deep) copy line (inputs names) is = omega arith
+  body_parts (suc deep) copy line (outputs names) is = omega arith
+  body_parts (suc deep) copy line (clock name) is = omega arith
+  body_parts (suc deep) copy line (cover names output table) is = omega arith
+  body_parts (suc deep) copy line (latch input output control initial) is = omega arith
+  body_parts (suc deep) copy line (instance name words) is = omega (arith, found_work deep copy line words (place_of_model models name) is)
 
-  inner_pushed : (deep : ℕ) (outer : List PlainFrame) (frame : PlainFrame) (line : ℕ) (inner : Option PlainFrame) →
-      stack_work deep (with_frames outer (advanced frame line) inner) ≡ inner_work (deep - (length outer + 1)) inner + stack_work deep (outer ++ advanced frame line ∷ [])
-  inner_pushed deep outer frame line None = omega arith
-  inner_pushed deep outer frame line (Some inner) =
-      let same : length (outer ++ advanced frame line ∷ []) ≡ length outer + 1 = length-append outer (advanced frame line ∷ []) in
-      work_push deep (outer ++ advanced frame line ∷ []) inner
-      ∙ ap (λ (n : ℕ). frame_work (deep - n) inner + stack_work deep (outer ++ advanced frame line ∷ [])) same
+  inner_pushed : (outer : List Frame) (frame : Frame) (inner : Option Frame) → stack_work (with_frames outer frame inner) ≡ inner_work inner + stack_work (outer ++ frame ∷ [])
+  inner_pushed outer frame None = omega arith
+  inner_pushed outer frame (Some inner) = work_push (outer ++ frame ∷ []) inner
 
   -- a line is one step
-  pub work_next : (deep : ℕ) (outer : List PlainFrame) (frame : PlainFrame) (statement : PlainStatement) →
+  pub work_next : (outer : List Frame) (frame : Frame) (statement : PlainStatement) →
       drop frame.next (statements_of models frame.model) ≡ statement ∷ drop (frame.next + 1) (statements_of models frame.model) →
-      stack_work deep (with_frames outer (advanced frame statement.line) (entered models (deep - (length outer + 1)) (copy_within outer frame) statement.body))
-      < stack_work deep (outer ++ frame ∷ [])
-  work_next deep outer frame statement next =
-      let copy = copy_within outer frame in
-      let less = deep - (length outer + 1) in
-      let e = entered models less copy statement.body in
-      let inner : inner_work less e ≤ body_work (work_of less) statement.body = body_parts less copy statement.body in
-      let pushed : stack_work deep (with_frames outer (advanced frame statement.line) e) ≡ inner_work less e + stack_work deep (outer ++ advanced frame statement.line ∷ []) = inner_pushed deep outer frame statement.line e in
-      let now : stack_work deep (outer ++ frame ∷ []) ≡ (1 + ((1 + body_work (work_of less) statement.body) + total (line_work (work_of less)) (drop (frame.next + 1) (statements_of models frame.model)))) + stack_work deep outer =
-      work_push deep outer frame
-      ∙ ap (λ (d : ℕ). (1 + total (line_work (work_of d)) (drop frame.next (statements_of models frame.model))) + stack_work deep outer) (less_both deep (length outer))
-      ∙ ap (λ (list : List PlainStatement). (1 + total (line_work (work_of less)) list) + stack_work deep outer) next in
-      let then_ : stack_work deep (outer ++ advanced frame statement.line ∷ []) ≡ (1 + total (line_work (work_of less)) (drop (frame.next + 1) (statements_of models frame.model))) + stack_work deep outer =
-      work_push deep outer (advanced frame statement.line)
-      ∙ ap (λ (d : ℕ). (1 + total (line_work (work_of d)) (drop (frame.next + 1) (statements_of models frame.model))) + stack_work deep outer) (less_both deep (length outer)) in
+      stack_work (with_frames outer (advanced frame) (entered models (deep_in models frame.copy.depth) frame.copy statement.line statement.body))
+      < stack_work (outer ++ frame ∷ [])
+  work_next outer frame statement next =
+      let copy = frame.copy in
+      let less = deep_in models copy.depth in
+      let e = entered models less copy statement.line statement.body in
+      let inner : inner_work e ≤ body_work (work_of less) statement.body = body_parts less copy statement.line statement.body refl in
+      let pushed : stack_work (with_frames outer (advanced frame) e) ≡ inner_work e + stack_work (outer ++ advanced frame ∷ []) = inner_pushed outer (advanced frame) e in
+      let now : stack_work (outer ++ frame ∷ []) ≡ (1 + ((1 + body_work (work_of less) statement.body) + total (line_work (work_of less)) (drop (frame.next + 1) (statements_of models frame.model)))) + stack_work outer =
+      work_push outer frame
+      ∙ ap (λ (list : List PlainStatement). (1 + total (line_work (work_of less)) list) + stack_work outer) next in
+      let then_ : stack_work (outer ++ advanced frame ∷ []) ≡ (1 + total (line_work (work_of less)) (drop (frame.next + 1) (statements_of models frame.model))) + stack_work outer =
+      work_push outer (advanced frame) in
       omega (arith, inner, pushed, now, then_)
 
   -- ---- the beginning
 
-  pub lines_begun : (deep : ℕ) → 0 < deep → stack_lines models deep 0 [] (new_frame [] 0 ∷ []) ≡ lines_of models deep top_copy 0
+  begun : (deep : ℕ) → deep ≡ length models → 0 < deep → stack_lines models (new_frame top_copy 0 ∷ []) ≡ lines_of models deep top_copy 0
   unfolding stack_lines lines_of
-  lines_begun zero some = absurd (omega arith)
-  lines_begun (suc deep) some = ap (λ (d : ℕ). flat_map (lines_at models (lines_of models d) top_copy) (statements_of models 0)) (less_one deep)
+  begun zero is some = absurd (omega arith)
+  begun (suc deep) is some = ap (λ (d : ℕ). flat_map (lines_at models (lines_of models d) top_copy) (statements_of models 0)) (let same : deep_in models 0 ≡ deep = omega (arith, is) in same)
+
+  pub lines_begun : 0 < length models → stack_lines models (new_frame top_copy 0 ∷ []) ≡ lines_of models (length models) top_copy 0
+  lines_begun some = begun (length models) refl some

@@ -12,7 +12,8 @@ use Rattle.fab_netlist.proofs.Counts.{at_mapped, driven_parts, times_joined}
 use Rattle.fab_models.specs.Plain.{PlainModel}
 use Rattle.fab_models.specs.Rules.{AreModels, IsModel, declared_inputs, declared_outputs}
 use Rattle.fab_blif.specs.declared.design.Use.{Use}
-use Rattle.fab_blif.specs.Flat.{PlainNet, Placed, placed_inputs, placed_outputs, placed_clock, copied_clock, placed_cover, placed_latch, net_eq, no_model, flat_lines, statements_of}
+use Rattle.fab_blif.specs.Flat.{PlainNet, Placed, placed_inputs, placed_outputs, placed_clock, copied_clock, placed_cover, placed_latch, net_eq, flat_lines}
+use Rattle.fab_instances.specs.Places.{no_model, statements_of}
 use Rattle.fab_blif.specs.Design.{PlainClock, PlainDesign, clock_number, clock_ports_by, clocks_by, design_of, is_number, latch_lines, latches_by, nets_of, netlist_of, number_in}
 use Rattle.fab_blif.specs.Clocks.{clock_uses, data_faults, is_clock}
 use Rattle.fab_blif.specs.Judged.{EachHasOne, inner_drivers, input_ports, input_uses, is_among, is_driven, is_of, is_undriven, latch_uses, least_line, least_of, output_uses, readers, undriven_line}

@@ -11,8 +11,9 @@ use Rattle.fab_netlist.specs.Cycles.{HasNoCycle, NamesCycle}
 use Rattle.fab_netlist.specs.Plain.{PlainNetlist}
 use Rattle.fab_blif.specs.Design.{PlainDesign, design_of, flattened}
 use Rattle.fab_blif.specs.Flat.{flat_lines}
-use Rattle.fab_blif.specs.Order.{NamesDiffer}
-use Rattle.fab_blif.specs.Refusals.{AreFineModels, IsFineDesign, RefusesFile}
+use Rattle.fab_instances.specs.Order.{NamesDiffer}
+use Rattle.fab_instances.specs.Refusals.{AreFineModels}
+use Rattle.fab_blif.specs.Refusals.{IsFineDesign, RefusesFile}
 
 -- the models of a file
 abbrev pub models_in : (bytes : List ℕ) → List PlainModel

@@ -1,9 +1,11 @@
 -- The flattened text of a list of models: the covers, latches and ports of the first one, where each instance of a model is
 -- replaced by a copy of that model's covers and latches.
-use Rattle.std.specs.Prelude.{ℕ, zero, suc, ◌+◌, Bool, List, [], ◌∷◌, ◌++◌, map, length, take, drop, get_or, position, find, flat_map, filter_map, decimal, nat_eq, ◌&&◌, Option, Some, None, option_map}
+use Rattle.std.specs.Prelude.{ℕ, zero, suc, Bool, List, [], ◌∷◌, ◌++◌, map, length, find, flat_map, filter_map, decimal, nat_eq, ◌&&◌, Option, Some, None, option_map}
 use Rattle.std.specs.Str.{bytes_eq}
 use Rattle.indexmap.specs.IndexMap.{insert_all}
 use Rattle.fab_models.specs.Plain.{PlainBody, PlainStatement, PlainModel, inputs, outputs, clock, cover, latch, instance}
+use Rattle.fab_instances.specs.Formals.{sides}
+use Rattle.fab_instances.specs.Places.{place_of_model, statements_of}
 
 -- A net of the flattened text: in how many instances it lies, and its whole name. That name is the line of each of these
 -- instances, the outermost first, with `/` behind it, and then the name that the model's lines use. Names alone do not tell
@@ -34,10 +36,6 @@ joined_or (Some join) net = join.1
 abbrev pub net_in : PlainCopy → List ℕ → PlainNet
 net_in copy name = joined_or (find (λ join. bytes_eq name join.0) copy.joins) (record { depth = copy.depth; name = copy.prefix ++ name })
 
--- the two sides of a word `formal=actual`, which is cut at its first `=`
-abbrev pub sides : List ℕ → Option (List ℕ × List ℕ)
-sides word = option_map (λ place. (take place word, drop (place + 1) word)) (position (λ byte. nat_eq byte 61) word)
-
 -- what a word of an instance in a copy joins
 abbrev pub join_in : PlainCopy → List ℕ → Option (List ℕ × PlainNet)
 join_in copy word = option_map (λ pair. (pair.0, net_in copy pair.1)) (sides word)
@@ -53,21 +51,6 @@ line_prefix line = decimal line ++ 47 ∷ []
 -- the copy that an instance on a line of a copy makes
 abbrev pub copy_in : PlainCopy → (line : ℕ) → (words : List (List ℕ)) → PlainCopy
 copy_in copy line words = record { depth = suc copy.depth; prefix = copy.prefix ++ line_prefix line; joins = joins_in copy words }
-
--- ---- models by their places
-
-abbrev pub no_model : PlainModel
-no_model = record { line = 0; name = []; statements = [] }
-
-abbrev pub statements_of : List PlainModel → ℕ → List PlainStatement
-statements_of models place = (get_or models place no_model).statements
-
-abbrev pub model_names : List PlainModel → List (List ℕ)
-model_names models = map (λ model. model.name) models
-
--- where the model of a name stands
-abbrev pub place_of_model : List PlainModel → List ℕ → Option ℕ
-place_of_model models name = position (bytes_eq name) (model_names models)
 
 -- ---- lines
 

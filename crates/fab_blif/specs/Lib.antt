@@ -1,11 +1,7 @@
 pub mod Flat
 pub mod Design
 pub mod Walk
-pub mod Order
-pub mod Formals
-pub mod Uses
-pub mod Rounds
-pub mod Counting
+pub mod Frames
 pub mod Judged
 pub mod Clocks
 pub mod Refusals

@@ -1,4 +1,4 @@
--- The refusals of models and of their design, in the order in which they are judged.
+-- The refusals of a design, and those of the models of a file, in the order in which they are judged.
 use Rattle.std.specs.Prelude.{◌≡◌, ◌≢◌, ◌⊎◌, ℕ, ◌<◌, ◌≤◌, List, [], codes, length, nat_le, Some, None}
 use Rattle.std.specs.List.{filter}
 use Rattle.fab_base.specs.Reading.{fault_at}
@@ -17,8 +17,8 @@ use Rattle.fab_blif.specs.Flat.{flat_lines}
 use Rattle.fab_blif.specs.Design.{PlainDesign, design_of}
 use Rattle.fab_blif.specs.Judged.{EachHasOne, drivers, inner_drivers, input_ports, undriven_line}
 use Rattle.fab_blif.specs.Clocks.{clock_faults, first_fault}
-use Rattle.fab_blif.specs.Order.{BreaksFormals, IsRecursive, IsUnknown, NamesDiffer, NoLine, RefusesFormals, RefusesNames, RefusesRecursive, RefusesUnknown}
-use Rattle.fab_blif.specs.Counting.{RefusesInstances, instances}
+use Rattle.fab_instances.specs.Order.{NamesDiffer, RefusesNames}
+use Rattle.fab_instances.specs.Refusals.{AreFineModels, RefusesModels}
 
 -- ---- two drivers
 
@@ -75,24 +75,6 @@ RefusesDesign file last_line design fault = (fault ≢ faults.Memory) →
     ⊎ (EachHasOne design × RefusesUndriven file design fault)
     ⊎ (EachHasOne design × (undriven_line design ≡ None) × RefusesNets file last_line design fault)
     ⊎ (EachHasOne design × (undriven_line design ≡ None) × (length design.nets ≤ 16384) × RefusesClocks file design fault)
-
--- ---- models before they are flattened
-
--- What holds of models that are not refused before they are flattened. Only lines of models that the first one uses are judged.
-pub record AreFineModels (models : List PlainModel) : Type 0 where
-  pub known : NoLine (IsUnknown models)
-  pub finite : NoLine (IsRecursive models)
-  pub fits : NoLine (BreaksFormals models)
-  pub small : instances models ≤ 16384
-
--- The first refusal of models before they are flattened, where memory was not refused: an unknown model, a recursive one,
--- formals, or too many instances.
-abbrev pub RefusesModels : (file : List ℕ) → (last_line : ℕ) → List PlainModel → Fault → Type 0
-RefusesModels file last_line models fault = (fault ≢ faults.Memory) →
-    RefusesUnknown file models fault
-    ⊎ RefusesRecursive file models fault
-    ⊎ RefusesFormals file models fault
-    ⊎ (NoLine (IsUnknown models) × NoLine (IsRecursive models) × NoLine (BreaksFormals models) × RefusesInstances file last_line models fault)
 
 -- ---- the models of a file
 

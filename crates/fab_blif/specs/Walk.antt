@@ -1,12 +1,11 @@
--- The flattened text as it is gone through, a line at a time.
-use Rattle.std.specs.Prelude.{ℕ, zero, suc, ◌+◌, ◌-◌, List, [], ◌∷◌, ◌++◌, Vec, map, length, drop, fold, flat_map, option_map, Option, Some, None, option_to_list}
+-- What is known of the flattened text after one line of it after another.
+use Rattle.std.specs.Prelude.{ℕ, List, [], ◌∷◌, ◌++◌, Vec, map, fold, Some, None, option_to_list}
 use Rattle.indexmap.specs.IndexSet.{insert_all, insert_key}
-use Rattle.fab_models.specs.Plain.{PlainBody, PlainModel, instance}
 use Rattle.fab_netlist.specs.declared.netlist.Latch.{Latch}
 use Rattle.fab_blif.specs.declared.design.ClockName.{ClockName}
 use Rattle.fab_blif.specs.declared.design.Use.{Use}
 use Rattle.fab_blif.specs.declared.net.Net.{Net}
-use Rattle.fab_blif.specs.Flat.{PlainNet, net_eq, PlainCopy, Placed, placed_inputs, placed_outputs, placed_clock, copied_clock, placed_cover, placed_latch, joins_in, place_of_model, statements_of, lines_of, lines_at, line_prefix}
+use Rattle.fab_blif.specs.Flat.{PlainNet, net_eq, Placed, placed_inputs, placed_outputs, placed_clock, copied_clock, placed_cover, placed_latch}
 use Rattle.fab_blif.specs.Design.{PlainClock, PlainDesign, number_in}
 
 abbrev pub plain_net : Net → PlainNet
@@ -18,28 +17,9 @@ plain_nets nets = map plain_net nets
 abbrev pub plain_clock : ClockName → PlainClock
 plain_clock name = record { line = name.line; net = plain_net name.net; latch = name.latch }
 
--- the keys of a set as names
-abbrev pub key_names : {A : Type 0} → List (Vec ℕ A) → List (List ℕ)
-key_names keys = map (λ key. key.items) keys
-
 -- the joins that a map holds
 abbrev pub plain_joins : {A : Type 0} → List (Vec ℕ A × Net) → List (List ℕ × PlainNet)
 plain_joins entries = map (λ entry. (entry.0.items, plain_net entry.1)) entries
-
--- A model that is gone through: the place of the next line, and the line of the instance that was last gone into.
-pub record PlainFrame : Type 0 where
-  pub model : ℕ
-  pub next : ℕ
-  pub line : ℕ
-  pub joins : List (List ℕ × PlainNet)
-
--- what stands in front of the names of inner nets, within frames
-abbrev pub prefix_of : List PlainFrame → List ℕ
-prefix_of frames = flat_map (λ frame. line_prefix frame.line) frames
-
--- the copy that is gone through in a frame, within others
-abbrev pub copy_within : List PlainFrame → PlainFrame → PlainCopy
-copy_within outer frame = record { depth = length outer; prefix = prefix_of outer; joins = frame.joins }
 
 -- ---- nets by number as they come
 
@@ -100,40 +80,3 @@ after_all design text = fold after design text
 
 abbrev pub nothing : PlainDesign
 nothing = record { nets = []; inputs = []; outputs = []; clock_ports = []; covers = []; latches = []; latch_lines = []; clocks = [] }
-
--- ---- frames in one another, the outermost first
-
--- the lines that are left in a frame
-abbrev pub frame_lines : List PlainModel → (deep : ℕ) → PlainCopy → PlainFrame → List Placed
-frame_lines models deep copy frame = flat_map (lines_at models (lines_of models (deep - 1)) copy) (drop frame.next (statements_of models frame.model))
-
--- the lines that are left in frames: those of the innermost come first
-unfoldable pub stack_lines : List PlainModel → (deep depth : ℕ) → (prefix : List ℕ) → List PlainFrame → List Placed
-stack_lines models deep depth prefix [] = []
-stack_lines models deep depth prefix (frame ∷ frames) =
-    stack_lines models (deep - 1) (suc depth) (prefix ++ line_prefix frame.line) frames
-    ++ frame_lines models deep (record { depth = depth; prefix = prefix; joins = frame.joins }) frame
-
--- ---- going into an instance
-
--- the frame of a model that is gone into
-abbrev pub new_frame : List (List ℕ × PlainNet) → ℕ → PlainFrame
-new_frame joins place = record { model = place; next = 0; line = 0; joins = joins }
-
--- the frame of the instance that a line is, if it is one, where instances may stand this deep in the copy
-abbrev pub entered : List PlainModel → (deep : ℕ) → PlainCopy → PlainBody → Option PlainFrame
-entered models zero copy body = None
-entered models (suc deep) copy (instance name words) = option_map (new_frame (joins_in copy words)) (place_of_model models name)
-entered models (suc deep) copy _ = None
-
--- a frame behind its next line
-abbrev pub advanced : PlainFrame → (line : ℕ) → PlainFrame
-advanced frame line = record { model = frame.model; next = frame.next + 1; line = line; joins = frame.joins }
-
-abbrev pub with_inner : List PlainFrame → Option PlainFrame → List PlainFrame
-with_inner frames None = frames
-with_inner frames (Some inner) = frames ++ inner ∷ []
-
--- frames, a frame within them, and the one within that, if there is one
-abbrev pub with_frames : List PlainFrame → PlainFrame → Option PlainFrame → List PlainFrame
-with_frames outer frame inner = with_inner (outer ++ frame ∷ []) inner

@@ -4,10 +4,10 @@ ghost use Rattle.std.specs.Prelude.{◌≡◌, ◌++◌, ◌∷◌, [], Some, No
 ghost use Rattle.indexmap.specs.IndexSet.{insert_all, insert_key};
 ghost use Rattle.fab_models.specs.Plain.{plain_body, plain_models};
 ghost use Rattle.fab_blif.specs.Design.{number_in};
-ghost use Rattle.fab_blif.specs.Flat.{net_eq, net_in, lines_by};
-ghost use Rattle.fab_blif.specs.Walk.{plain_net, plain_nets, plain_clock, copy_within, numbered, used_at, clocked, after_all};
+ghost use Rattle.fab_blif.specs.Flat.{net_eq, net_in, clock_at, if_top, lines_by, placed_inputs, placed_outputs};
+ghost use Rattle.fab_blif.specs.Walk.{plain_net, plain_nets, plain_clock, numbered, used_at, after_all, latch_next, with_control, with_cover, with_latch};
 
-use crate::frame::{Frame, net_in};
+use crate::model_copy::ModelCopy;
 use crate::net::Net;
 use fab_base::{Memory, Name};
 use fab_models::{Body, Statement};
@@ -82,30 +82,28 @@ fn number_of(nets: &mut IndexSet<Net>, net: Net) -> Result<u32, Memory>
 fn number_name(
     alloc: Global,
     nets: &mut IndexSet<Net>,
-    outer: &[Frame],
-    frame: &Frame,
+    copy: &ModelCopy,
     name: &Name,
 ) -> Result<u32, Memory>
-    ensures nets { OnOk result (plain_nets nets.new.keys ≡ insert_key net_eq (plain_nets nets.old.keys) (net_in (copy_within outer.now frame.now) name.now)) }
-    ensures number { IfOk result (λ number. number ≡ number_in (plain_nets nets.old.keys) (net_in (copy_within outer.now frame.now) name.now)) }
+    ensures nets { OnOk result (plain_nets nets.new.keys ≡ insert_key net_eq (plain_nets nets.old.keys) (net_in copy.now name.now)) }
+    ensures number { IfOk result (λ number. number ≡ number_in (plain_nets nets.old.keys) (net_in copy.now name.now)) }
 {
-    let net = net_in(alloc, outer, frame, name.bytes())?;
+    let net = copy.net_in(alloc, name.bytes())?;
     number_of(nets, net)
 }
 
 fn number_names(
     alloc: Global,
     nets: &mut IndexSet<Net>,
-    outer: &[Frame],
-    frame: &Frame,
+    copy: &ModelCopy,
     names: &[Name],
 ) -> Result<Vec<u32>, Memory>
-    ensures nets { OnOk result (plain_nets nets.new.keys ≡ insert_all net_eq (plain_nets nets.old.keys) (map (net_in (copy_within outer.now frame.now)) names.now)) }
-    ensures numbers { IfOk result (λ numbers. numbers.items ≡ numbered (plain_nets nets.old.keys) (map (net_in (copy_within outer.now frame.now)) names.now)) }
+    ensures nets { OnOk result (plain_nets nets.new.keys ≡ insert_all net_eq (plain_nets nets.old.keys) (map (net_in copy.now) names.now)) }
+    ensures numbers { IfOk result (λ numbers. numbers.items ≡ numbered (plain_nets nets.old.keys) (map (net_in copy.now) names.now)) }
 {
     let mut numbers = Vec::new(alloc);
     for name in names {
-        numbers.push(number_name(alloc, nets, outer, frame, name)?)?;
+        numbers.push(number_name(alloc, nets, copy, name)?)?;
     }
     Ok(numbers)
 }
@@ -119,219 +117,167 @@ pub(crate) fn push_uses(uses: &mut Vec<Use>, line: u32, numbers: &[u32]) -> Resu
     Ok(())
 }
 
-fn put_ports(
-    alloc: Global,
-    nets: &mut IndexSet<Net>,
-    ports: &mut Vec<Use>,
-    outer: &[Frame],
-    frame: &Frame,
-    line: u32,
-    names: &[Name],
-) -> Result<(), Memory>
-    ensures nets { OnOk result (plain_nets nets.new.keys ≡ insert_all net_eq (plain_nets nets.old.keys) (map (net_in (copy_within outer.now frame.now)) names.now)) }
-    ensures ports { OnOk result (ports.new.items ≡ ports.old.items ++ used_at line (numbered (plain_nets nets.old.keys) (map (net_in (copy_within outer.now frame.now)) names.now))) }
-{
-    let numbers = number_names(alloc, nets, outer, frame, names)?;
-    push_uses(ports, line, &numbers)
-}
-
-fn put_cover(
-    alloc: Global,
-    nets: &mut IndexSet<Net>,
-    covers: &mut Vec<Cover>,
-    outer: &[Frame],
-    frame: &Frame,
-    line: u32,
-    names: &[Name],
-    name: &Name,
-    table: u16,
-) -> Result<(), Memory>
-    ensures nets { OnOk result (plain_nets nets.new.keys
-        ≡ insert_key net_eq (insert_all net_eq (plain_nets nets.old.keys) (map (net_in (copy_within outer.now frame.now)) names.now)) (net_in (copy_within outer.now frame.now) name.now)) }
-    ensures covers { OnOk result (covers.new.items ≡ covers.old.items ++ record {
-      line = line;
-      inputs = numbered (plain_nets nets.old.keys) (map (net_in (copy_within outer.now frame.now)) names.now);
-      output = number_in (insert_all net_eq (plain_nets nets.old.keys) (map (net_in (copy_within outer.now frame.now)) names.now)) (net_in (copy_within outer.now frame.now) name.now);
-      table = table;
-    } ∷ []) }
-{
-    let inputs = number_names(alloc, nets, outer, frame, names)?;
-    let output = number_name(alloc, nets, outer, frame, name)?;
-    covers.push(Cover {
-        line,
-        inputs,
-        output,
-        table,
-    })?;
-    Ok(())
-}
-
-fn put_latch(
-    alloc: Global,
-    nets: &mut IndexSet<Net>,
-    latches: &mut Vec<Latch>,
-    outer: &[Frame],
-    frame: &Frame,
-    input: &Name,
-    output: &Name,
-    init: u8,
-) -> Result<Latch, Memory>
-    ensures nets { OnOk result (plain_nets nets.new.keys
-        ≡ insert_key net_eq (insert_key net_eq (plain_nets nets.old.keys) (net_in (copy_within outer.now frame.now) input.now)) (net_in (copy_within outer.now frame.now) output.now)) }
-    ensures latches { IfOk result (λ latch. latches.new.items ≡ latches.old.items ++ latch ∷ []) }
-    ensures latch { IfOk result (λ latch. latch ≡ record {
-      input = number_in (plain_nets nets.old.keys) (net_in (copy_within outer.now frame.now) input.now);
-      output = number_in (insert_key net_eq (plain_nets nets.old.keys) (net_in (copy_within outer.now frame.now) input.now)) (net_in (copy_within outer.now frame.now) output.now);
-      init = init;
-    }) }
-{
-    let input = number_name(alloc, nets, outer, frame, input)?;
-    let output = number_name(alloc, nets, outer, frame, output)?;
-    let latch = Latch {
-        input,
-        output,
-        init,
-    };
-    latches.push(latch)?;
-    Ok(latch)
-}
-
 fn name_clock(
     alloc: Global,
     clocks: &mut Vec<ClockName>,
-    outer: &[Frame],
-    frame: &Frame,
+    copy: &ModelCopy,
     line: u32,
     name: &Name,
     latch: Option<Latch>,
 ) -> Result<(), Memory>
     ensures { OnOk result (map plain_clock clocks.new.items
-        ≡ map plain_clock clocks.old.items ++ record { line = line; net = net_in (copy_within outer.now frame.now) name.now; latch = latch } ∷ []) }
+        ≡ map plain_clock clocks.old.items ++ record { line = line; net = net_in copy.now name.now; latch = latch } ∷ []) }
 {
-    let net = net_in(alloc, outer, frame, name.bytes())?;
+    let net = copy.net_in(alloc, name.bytes())?;
     clocks.push(ClockName { line, net, latch })?;
     Ok(())
 }
 
-fn put_control(
-    alloc: Global,
-    nets: &mut IndexSet<Net>,
-    clocks: &mut Vec<ClockName>,
-    outer: &[Frame],
-    frame: &Frame,
-    line: u32,
-    control: &Option<Name>,
-    latch: Latch,
-) -> Result<(), Memory>
-    ensures nets { OnOk result (plain_nets nets.new.keys
-        ≡ insert_all net_eq (plain_nets nets.old.keys) (option_to_list (option_map (net_in (copy_within outer.now frame.now)) control.now))) }
-    ensures clocks { OnOk result (map plain_clock clocks.new.items
-        ≡ map plain_clock clocks.old.items ++ clocked line latch (option_to_list (option_map (net_in (copy_within outer.now frame.now)) control.now))) }
-{
-    match control {
-        None => Ok(()),
-        Some(name) => {
-            number_name(alloc, nets, outer, frame, name)?;
-            name_clock(alloc, clocks, outer, frame, line, name, Some(latch))?;
-            Ok(())
+impl Design {
+    /// Notes input ports, which only the first model declares.
+    fn put_inputs(
+        &mut self,
+        alloc: Global,
+        copy: &ModelCopy,
+        line: u32,
+        names: &[Name],
+    ) -> Result<(), Memory>
+        ensures { OnOk result (self.new ≡ after_all self.old (if_top copy.now.depth (placed_inputs line (map (net_in copy.now) names.now)))) }
+    {
+        if copy.depth == 0 {
+            let numbers = number_names(alloc, &mut self.nets, copy, names)?;
+            push_uses(&mut self.inputs, line, &numbers)?;
         }
+        Ok(())
     }
-}
 
-/// Notes what a line of a model says, unless it is an instance.
-pub(crate) fn put(
-    alloc: Global,
-    design: &mut Design,
-    outer: &[Frame],
-    frame: &Frame,
-    statement: &Statement,
-) -> Result<(), Memory>
-    ensures { OnOk result (design.new ≡ after_all design.old (lines_by [] (λ _ _. []) (copy_within outer.now frame.now) statement.now.line (plain_body statement.now.body))) }
-{
-    let line = statement.line;
-    match &statement.body {
-        Body::Inputs(names) => {
-            if outer.len() == 0 {
-                put_ports(
-                    alloc,
-                    &mut design.nets,
-                    &mut design.inputs,
-                    outer,
-                    frame,
-                    line,
-                    names,
-                )?;
-            }
-            Ok(())
+    /// Notes output ports, which only the first model declares.
+    fn put_outputs(
+        &mut self,
+        alloc: Global,
+        copy: &ModelCopy,
+        line: u32,
+        names: &[Name],
+    ) -> Result<(), Memory>
+        ensures { OnOk result (self.new ≡ after_all self.old (if_top copy.now.depth (placed_outputs line (map (net_in copy.now) names.now)))) }
+    {
+        if copy.depth == 0 {
+            let numbers = number_names(alloc, &mut self.nets, copy, names)?;
+            push_uses(&mut self.outputs, line, &numbers)?;
         }
-        Body::Outputs(names) => {
-            if outer.len() == 0 {
-                put_ports(
-                    alloc,
-                    &mut design.nets,
-                    &mut design.outputs,
-                    outer,
-                    frame,
-                    line,
-                    names,
-                )?;
-            }
-            Ok(())
+        Ok(())
+    }
+
+    /// Notes a clock, which is a port of the first model.
+    fn put_clock(
+        &mut self,
+        alloc: Global,
+        copy: &ModelCopy,
+        line: u32,
+        name: &Name,
+    ) -> Result<(), Memory>
+        ensures { OnOk result (self.new ≡ after_all self.old (clock_at copy.now.depth line (net_in copy.now name.now) ∷ [])) }
+    {
+        if copy.depth == 0 {
+            let net = number_name(alloc, &mut self.nets, copy, name)?;
+            push_uses(&mut self.clock_ports, line, &[net])?;
         }
-        Body::Clock(name) => {
-            if outer.len() == 0 {
-                let net = number_name(alloc, &mut design.nets, outer, frame, name)?;
-                push_uses(&mut design.clock_ports, line, &[net])?;
-            }
-            name_clock(alloc, &mut design.clocks, outer, frame, line, name, None)
-        }
-        Body::Cover {
+        name_clock(alloc, &mut self.clocks, copy, line, name, None)
+    }
+
+    fn put_cover(
+        &mut self,
+        alloc: Global,
+        copy: &ModelCopy,
+        line: u32,
+        inputs: &[Name],
+        output: &Name,
+        table: u16,
+    ) -> Result<(), Memory>
+        ensures { OnOk result (self.new ≡ with_cover self.old line (map (net_in copy.now) inputs.now) (net_in copy.now output.now) table) }
+    {
+        let inputs = number_names(alloc, &mut self.nets, copy, inputs)?;
+        let output = number_name(alloc, &mut self.nets, copy, output)?;
+        self.covers.push(Cover {
+            line,
             inputs,
             output,
             table,
-        } => {
-            put_cover(
-                alloc,
-                &mut design.nets,
-                &mut design.covers,
-                outer,
-                frame,
-                line,
-                inputs,
-                output,
-                *table,
-            )?;
-            Ok(())
-        }
-        Body::Latch {
+        })?;
+        Ok(())
+    }
+
+    fn put_latch(
+        &mut self,
+        alloc: Global,
+        copy: &ModelCopy,
+        line: u32,
+        input: &Name,
+        output: &Name,
+        init: u8,
+    ) -> Result<Latch, Memory>
+        ensures latch { IfOk result (λ latch. latch ≡ latch_next self.old.nets (net_in copy.now input.now) (net_in copy.now output.now) init) }
+        ensures design { OnOk result (self.new ≡ with_latch self.old line (net_in copy.now input.now) (net_in copy.now output.now) init) }
+    {
+        let input = number_name(alloc, &mut self.nets, copy, input)?;
+        let output = number_name(alloc, &mut self.nets, copy, output)?;
+        let latch = Latch {
             input,
             output,
-            control,
-            initial,
-        } => {
-            let latch = put_latch(
-                alloc,
-                &mut design.nets,
-                &mut design.latches,
-                outer,
-                frame,
+            init,
+        };
+        self.latches.push(latch)?;
+        self.latch_lines.push(line)?;
+        Ok(latch)
+    }
+
+    /// Notes the control of a latch, if it has one.
+    fn put_control(
+        &mut self,
+        alloc: Global,
+        copy: &ModelCopy,
+        line: u32,
+        latch: Latch,
+        control: &Option<Name>,
+    ) -> Result<(), Memory>
+        ensures { OnOk result (self.new ≡ with_control self.old line latch (option_to_list (option_map (net_in copy.now) control.now))) }
+    {
+        let Some(name) = control else {
+            return Ok(());
+        };
+        number_name(alloc, &mut self.nets, copy, name)?;
+        name_clock(alloc, &mut self.clocks, copy, line, name, Some(latch))
+    }
+
+    /// Notes what a line of a copy of a model says, unless it is an instance.
+    pub(crate) fn put(
+        &mut self,
+        alloc: Global,
+        copy: &ModelCopy,
+        statement: &Statement,
+    ) -> Result<(), Memory>
+        ensures { OnOk result (self.new ≡ after_all self.old (lines_by [] (λ _ _. []) copy.now statement.now.line (plain_body statement.now.body))) }
+    {
+        let line = statement.line;
+        match &statement.body {
+            Body::Inputs(names) => self.put_inputs(alloc, copy, line, names),
+            Body::Outputs(names) => self.put_outputs(alloc, copy, line, names),
+            Body::Clock(name) => self.put_clock(alloc, copy, line, name),
+            Body::Cover {
+                inputs,
+                output,
+                table,
+            } => self.put_cover(alloc, copy, line, inputs, output, *table),
+            Body::Latch {
                 input,
                 output,
-                *initial,
-            )?;
-            design.latch_lines.push(line)?;
-            put_control(
-                alloc,
-                &mut design.nets,
-                &mut design.clocks,
-                outer,
-                frame,
-                line,
                 control,
-                latch,
-            )?;
-            Ok(())
+                initial,
+            } => {
+                let latch = self.put_latch(alloc, copy, line, input, output, *initial)?;
+                self.put_control(alloc, copy, line, latch, control)
+            }
+            Body::Instance(_, _) => Ok(()),
         }
-        Body::Instance(_, _) => Ok(()),
     }
 }

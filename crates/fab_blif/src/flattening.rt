@@ -3,21 +3,23 @@
 ghost use Rattle.std.specs.Prelude.{◌≡◌, ◌<◌, ◌≤◌, Some, None, IfErr, IfOk, OnOk, length, map, option_and_then, position, slice_get};
 ghost use Rattle.fab_models.specs.Plain.{plain_models};
 ghost use Rattle.fab_blif.specs.Design.{data_inputs, design_of, flattened, is_number, netlist_of};
-ghost use Rattle.fab_blif.specs.Flat.{flat_lines, model_names, net_eq};
+ghost use Rattle.fab_blif.specs.Flat.{flat_lines, net_eq};
+ghost use Rattle.fab_instances.specs.Places.{model_names};
 ghost use Rattle.fab_models.specs.Rules.{AreModels};
 ghost use Rattle.fab_netlist.specs.WellMade.{IsWellMade};
-ghost use Rattle.fab_blif.specs.Order.{NamesDiffer};
-ghost use Rattle.fab_blif.specs.Refusals.{AreFineModels, IsFineDesign, RefusesDesign, RefusesFile};
-ghost use Rattle.fab_blif.specs.Walk.{key_names, plain_nets, plain_clock};
+ghost use Rattle.fab_instances.specs.Order.{NamesDiffer};
+ghost use Rattle.fab_instances.specs.Refusals.{AreFineModels};
+ghost use Rattle.fab_blif.specs.Refusals.{IsFineDesign, RefusesDesign, RefusesFile};
+ghost use Rattle.fab_models.specs.Keys.{key_names};
+ghost use Rattle.fab_blif.specs.Walk.{plain_nets, plain_clock};
 
 use crate::clocks::refuse_clocks;
 use crate::design::{ClockName, Design, Use};
 use crate::judge::{refuse_drivers, refuse_undriven};
-use crate::names::places_of;
 use crate::net::Net;
-use crate::refusals::refuse_models;
 use crate::walk::take_all;
 use fab_base::{Fault, Memory, Name, Problem, Quantity};
+use fab_instances::index_models;
 use fab_models::Model;
 use fab_netlist::{MAX_NETS, Netlist};
 use indexmap::IndexSet;
@@ -146,8 +148,7 @@ pub fn flatten(
     ensures models { OnOk result (AreFineModels (plain_models models.now)) }
     ensures refused { IfErr result (RefusesFile file.now last_line (plain_models models.now)) }
 {
-    let places = places_of(alloc, file, last_line, models)?;
-    refuse_models(alloc, file, last_line, models, &places)?;
+    let places = index_models(alloc, file, last_line, models)?;
     let design = design_of(alloc, models, &places)?;
     refuse_design(alloc, file, last_line, &design)?;
     Ok(netlist_of(alloc, design)?)

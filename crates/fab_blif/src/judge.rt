@@ -7,8 +7,8 @@ ghost use Rattle.fab_blif.specs.Judged.{EachHasOne, IsSecondIn, drivers_in, inne
 ghost use Rattle.fab_blif.specs.Refusals.{RefusesDrivers, RefusesUndriven};
 
 use crate::design::{Design, Use, push_uses};
-use crate::models::malformed;
 use fab_base::{Fault, Memory, Name, Reason};
+use fab_instances::malformed;
 use fab_netlist::{Cover, Latch};
 use indexmap::IndexSet;
 use std::alloc::Global;

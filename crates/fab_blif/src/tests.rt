@@ -60,59 +60,6 @@ fn flattens_in_order(rt: HostRuntime) -> Result<(), Fail> {
 }
 
 #[test]
-fn refuses_models_in_order(rt: HostRuntime) -> Result<(), Fail> {
-    let cases = [
-        ("", "malformed f.blif:99 no model\n"),
-        (
-            ".model t\n.subckt n\n.model m\n.subckt o\n.model m\n",
-            "malformed f.blif:5 name twice\n",
-        ),
-        (
-            ".model t\n.subckt m\n.model u\n.subckt x\n.model m\n.subckt n\n",
-            "unsupported f.blif:6 model n\n",
-        ),
-        (
-            ".model t\n.subckt m x\n.model m\n.subckt n\n.model n\n.subckt m\n",
-            "unsupported f.blif:4 recursive model n\n",
-        ),
-        (
-            ".model t\n.names a\n.names a\n.subckt m y=a\n.model m\n.inputs x\n",
-            "malformed f.blif:4 formal\n",
-        ),
-    ];
-    for (text, report_text) in cases {
-        assert_eq!(rt; report(rt.alloc(), text)?.bytes(), report_text.as_bytes());
-    }
-    Ok(())
-}
-
-#[test]
-fn refuses_words_of_instances(rt: HostRuntime) -> Result<(), Fail> {
-    let cases = [
-        (
-            ".model t\n.subckt m x=a x=b\n.model m\n.inputs x\n",
-            "malformed f.blif:2 formal\n",
-        ),
-        (
-            ".model t\n.subckt m x=a\n.subckt m x=\n.model m\n.inputs x\n",
-            "malformed f.blif:3 formal\n",
-        ),
-        (
-            ".model t\n.subckt m x=a\n.subckt n x=a\n.model m\n.inputs x\n.model n\n.outputs y\n",
-            "malformed f.blif:3 formal\n",
-        ),
-        (
-            ".model t\n.inputs a=b\n.subckt m x=a=b\n.model m\n.clock x\n.model u\n.subckt m y=a\n",
-            "a=b ",
-        ),
-    ];
-    for (text, report_text) in cases {
-        assert_eq!(rt; report(rt.alloc(), text)?.bytes(), report_text.as_bytes());
-    }
-    Ok(())
-}
-
-#[test]
 fn refuses_drivers_in_order(rt: HostRuntime) -> Result<(), Fail> {
     let cases = [
         (
@@ -169,17 +116,5 @@ fn refuses_clocks_in_order(rt: HostRuntime) -> Result<(), Fail> {
     for (text, report_text) in cases {
         assert_eq!(rt; report(rt.alloc(), text)?.bytes(), report_text.as_bytes());
     }
-    Ok(())
-}
-
-/// 2^15 - 2 instances in few lines.
-#[test]
-fn counts_before_it_copies(rt: HostRuntime) -> Result<(), Fail> {
-    let text =
-        ".model a\n.subckt b\n.subckt b\n.model b\n.subckt c\n.subckt c\n.model c\n.subckt d\n.subckt d\n.model d\n.subckt e\n.subckt e\n.model e\n.subckt f\n.subckt f\n.model f\n.subckt g\n.subckt g\n.model g\n.subckt h\n.subckt h\n.model h\n.subckt i\n.subckt i\n.model i\n.subckt j\n.subckt j\n.model j\n.subckt k\n.subckt k\n.model k\n.subckt l\n.subckt l\n.model l\n.subckt m\n.subckt m\n.model m\n.subckt n\n.subckt n\n.model n\n.subckt o\n.subckt o\n.model o\n";
-    assert_eq!(rt;
-        report(rt.alloc(), text)?.bytes(),
-        b"limit f.blif:99 instances 32766 16384\n".as_slice()
-    );
     Ok(())
 }

@@ -2,16 +2,29 @@
 
 ghost use Rattle.std.specs.Prelude.{◌≡◌, ◌<◌, ◌+◌, ◌-◌, ◌∷◌, ◌++◌, ◌^◌, [], Some, None, IfOk, OnOk, OnSome, MatchOption, length, map, drop};
 ghost use Rattle.fab_models.specs.Plain.{plain_body, plain_models, plain_statement};
-ghost use Rattle.fab_blif.specs.Flat.{flat_lines, lines_by, model_names, place_of_model, statements_of};
-ghost use Rattle.fab_blif.specs.Walk.{advanced, after_all, copy_within, entered, key_names, with_frames};
+ghost use Rattle.fab_blif.specs.Flat.{flat_lines, lines_by};
+ghost use Rattle.fab_instances.specs.Places.{model_names, place_of_model, statements_of};
+ghost use Rattle.fab_blif.specs.Walk.{after_all};
+ghost use Rattle.fab_blif.specs.Frames.{advanced, deep_in, entered, with_frames};
+ghost use Rattle.fab_models.specs.Keys.{key_names};
 
-use crate::design::{Design, put};
-use crate::frame::{Frame, joins_in};
-use crate::names::place_of;
+use crate::design::Design;
+use crate::model_copy::ModelCopy;
 use fab_base::Memory;
+use fab_instances::place_of;
 use fab_models::{Body, Model, Statement};
-use indexmap::{IndexMap, IndexSet};
+use indexmap::IndexSet;
 use std::alloc::Global;
+
+/// A copy of a model that is gone through.
+#[derive(Drop)]
+struct Frame {
+    /// The place of the model in the file.
+    model: usize,
+    /// The place of the model's next line.
+    next: usize,
+    copy: ModelCopy,
+}
 
 /// The next line of a frame's model.
 fn next_line<'a>(models: &'a [Model], frame: &Frame) -> Option<&'a Statement>
@@ -27,23 +40,22 @@ fn next_line<'a>(models: &'a [Model], frame: &Frame) -> Option<&'a Statement>
     }
 }
 
-/// The frame of the instance that a line is, if it is one. Instances stand in one another no deeper than there are models;
-/// deeper ones, which only recursive models have, are passed over.
+/// The frame of the instance that a line of a copy is, if it is one. Instances stand in one another no deeper than there are
+/// models; deeper ones, which only recursive models have, are passed over.
 fn enter(
     alloc: Global,
     models: &[Model],
     places: &IndexSet<Vec<u8>>,
-    outer: &[Frame],
-    frame: &Frame,
-    body: &Body,
+    copy: &ModelCopy,
+    line: &Statement,
 ) -> Result<Option<Frame>, Memory>
     requires places { key_names places.now.keys ≡ model_names (plain_models models.now) }
-    ensures { IfOk result (λ inner. inner ≡ entered (plain_models models.now) (length models.now - (length outer.now + 1)) (copy_within outer.now frame.now) (plain_body body.now)) }
+    ensures { IfOk result (λ inner. inner ≡ entered (plain_models models.now) (length models.now - (copy.now.depth + 1)) copy.now line.now.line (plain_body line.now.body)) }
 {
-    let Body::Instance(name, words) = body else {
+    let Body::Instance(name, words) = &line.body else {
         return Ok(None);
     };
-    if models.len() <= outer.len() || models.len() - outer.len() == 1 {
+    if models.len() <= copy.depth || models.len() - copy.depth == 1 {
         return Ok(None);
     }
     match place_of(places, name) {
@@ -51,27 +63,20 @@ fn enter(
         Some(model) => Ok(Some(Frame {
             model,
             next: 0,
-            line: 0,
-            joins: joins_in(alloc, outer, frame, words)?,
+            copy: copy.copy_in(alloc, line.line, words)?,
         })),
     }
 }
 
-fn advanced(frame: Frame, line: u32) -> Frame
+fn advanced(frame: Frame) -> Frame
     requires { frame.next + 1 < 2 ^ 64 }
-    ensures { result ≡ advanced frame line }
+    ensures { result ≡ advanced frame }
 {
-    let Frame {
-        model,
-        next,
-        joins,
-        ..
-    } = frame;
+    let Frame { model, next, copy } = frame;
     Frame {
         model,
         next: next + 1,
-        line,
-        joins,
+        copy,
     }
 }
 
@@ -100,13 +105,13 @@ fn take_line(
 ) -> Result<(), Memory>
     requires places { key_names places.now.keys ≡ model_names (plain_models models.now) }
     requires room { frame.next + 1 < 2 ^ 64 }
-    ensures design { OnOk result (design.new ≡ after_all design.old (lines_by [] (λ _ _. []) (copy_within stack.old.items frame) line.now.line (plain_body line.now.body))) }
-    ensures stack { OnOk result (stack.new.items ≡ with_frames stack.old.items (advanced frame line.now.line)
-        (entered (plain_models models.now) (length models.now - (length stack.old.items + 1)) (copy_within stack.old.items frame) (plain_body line.now.body))) }
+    ensures design { OnOk result (design.new ≡ after_all design.old (lines_by [] (λ _ _. []) frame.copy line.now.line (plain_body line.now.body))) }
+    ensures stack { OnOk result (stack.new.items ≡ with_frames stack.old.items (advanced frame)
+        (entered (plain_models models.now) (length models.now - (frame.copy.depth + 1)) frame.copy line.now.line (plain_body line.now.body))) }
 {
-    put(alloc, design, stack, &frame, line)?;
-    let inner = enter(alloc, models, places, stack, &frame, &line.body)?;
-    push_frames(stack, advanced(frame, line.line), inner)
+    design.put(alloc, &frame.copy, line)?;
+    let inner = enter(alloc, models, places, &frame.copy, line)?;
+    push_frames(stack, advanced(frame), inner)
 }
 
 /// Takes all lines of the flattened text.
@@ -124,8 +129,7 @@ pub(crate) fn take_all(
     stack.push(Frame {
         model: 0,
         next: 0,
-        line: 0,
-        joins: IndexMap::new(alloc),
+        copy: ModelCopy::top(alloc),
     })?;
     while let Some(frame) = stack.pop() {
         match next_line(models, &frame) {

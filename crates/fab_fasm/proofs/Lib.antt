@@ -1,6 +1,7 @@
 pub mod Numerals
 pub mod Powers
 pub mod LimbSums
+pub mod FirstDigits
 pub mod FirstPart
 pub mod Following
 pub mod Digits

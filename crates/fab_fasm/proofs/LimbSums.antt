@@ -62,10 +62,10 @@ pub rest_stays : (limbs old : List ℕ) (place limb : ℕ) → place < length li
 rest_stays limbs old place limb below within same =
     drop-set-lt (place + 1) limbs place limb (omega arith) ∙ cc (drop_more limbs place 0 below, drop_more old place 0 within)
 
--- a sum of a limb times a digit's base and what is carried
-pub sum_bound : (limb radix carry : ℕ) → limb < 2 ^ 32 → radix ≤ 16 → carry ≤ 16 → limb * radix + carry ≤ 2 ^ 36
-sum_bound limb radix carry small few less =
-    let product : limb * radix ≤ (2 ^ 32 - 1) * 16 = mul-le limb radix (2 ^ 32 - 1) 16 (omega arith) few in
+-- a sum of a limb times what digits have and what is carried
+pub sum_bound : (limb scale carry : ℕ) → limb < 2 ^ 32 → scale < 2 ^ 32 → carry < 2 ^ 32 → limb * scale + carry < 2 ^ 64
+sum_bound limb scale carry small few less =
+    let product : limb * scale ≤ (2 ^ 32 - 1) * (2 ^ 32 - 1) = mul-le limb scale (2 ^ 32 - 1) (2 ^ 32 - 1) (omega arith) (omega arith) in
     omega arith
 
 -- ---- a number of limbs against a power of two
@@ -87,7 +87,7 @@ narrow_short limbs whole bits small few less =
     omega arith
 
 -- a number is judged by what stands above some weight
-above_weight : (low weight high power : ℕ) → low < weight → ltb (low + weight * high) (weight * power) ≡ ltb high power
+pub above_weight : (low weight high power : ℕ) → low < weight → ltb (low + weight * high) (weight * power) ≡ ltb high power
 above_weight low weight high power below = elim (cases_lt high power) [
   | inl less ↦
       let product : weight * (high + 1) ≤ weight * power = mul-le-mul_left weight (omega arith) in

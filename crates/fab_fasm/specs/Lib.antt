@@ -4,4 +4,5 @@ pub mod Values
 pub mod Fasm
 pub mod Printing
 pub mod Limbs
+pub mod Leading
 pub mod Plain

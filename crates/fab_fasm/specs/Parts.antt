@@ -50,7 +50,7 @@ abbrev pub is_bare : (sign : ℕ) (annotated : Bool) (byte : ℕ) → Bool
 is_bare sign annotated byte = not annotated && (byte == sign)
 
 -- Whether a carriage return stands in a text outside annotations, and before the comment. The text may begin inside an
--- annotation.
+-- annotation. Before the comment each `{` counts as the beginning of one, also where none can stand.
 unfoldable pub has_return : (annotated : Bool) (text : List ℕ) → Bool
 has_return annotated [] = false
 has_return annotated (byte ∷ rest) =

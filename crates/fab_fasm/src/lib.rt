@@ -3,6 +3,7 @@
 
 mod address;
 mod feature;
+mod leading;
 mod limbs;
 mod line;
 mod literal;

@@ -119,7 +119,8 @@ fn room(width: Option<u64>, bits: u64) -> u64
     }
 }
 
-fn is_narrow(number: u128, bits: u64) -> bool
+/// Whether a number is less than 2 to the number of these bits.
+pub fn is_narrow(number: u128, bits: u64) -> bool
     ensures { result ≡ nat_lt number (2 ^ bits) }
 {
     MOST_BITS <= bits || number >> bits == 0

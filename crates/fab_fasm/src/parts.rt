@@ -1,13 +1,13 @@
 //! A line is cut from left to right: blanks, single signs, and runs of bytes that belong together.
 
 ghost use Rattle.std.specs.Prelude.{◌≡◌, ◌==◌, false, not, option_map, position};
-ghost use Rattle.std.specs.List.{list_all};
-ghost use Rattle.fab_lines.specs.Names.{begins_name, is_identifier, is_of_name};
+ghost use Rattle.fab_lines.specs.Names.{begins_name, is_of_name};
 ghost use Rattle.fab_lines.specs.Parts.{is_blank};
 ghost use Rattle.fab_fasm.specs.Parts.{after_byte, has_return, is_annotated, is_bare, is_feature, is_of_feature, is_over, parted, run, tail_fault, unblanked};
 ghost use Rattle.fab_fasm.specs.Values.{is_of_value};
 
 use fab_base::Reason;
+use fab_lines::is_identifier;
 
 fn is_blank(byte: u8) -> bool
     ensures { result ≡ is_blank byte }
@@ -48,7 +48,8 @@ fn is_bare(sign: u8, annotated: bool, byte: u8) -> bool
     !annotated && byte == sign
 }
 
-/// Whether a carriage return stands in a line outside its annotations and its comment.
+/// Whether a carriage return stands in a line outside braces and its comment. Here each `{` before the comment begins braces,
+/// also one where no annotation can stand.
 pub fn has_return(text: &[u8]) -> bool
     ensures { result ≡ has_return false text.now }
 {
@@ -143,21 +144,6 @@ pub fn value_run(text: &[u8]) -> (&[u8], &[u8])
     ensures rest { result.1.now ≡ (run is_of_value text.now).1 }
 {
     text.split_at(value_end(text).unwrap_or(text.len()))
-}
-
-fn is_all_of_name(word: &[u8]) -> bool
-    ensures { result ≡ list_all is_of_name word.now }
-{
-    word.iter().all(|byte| is_of_name(*byte))
-}
-
-fn is_identifier(word: &[u8]) -> bool
-    ensures { result ≡ is_identifier word.now }
-{
-    if word.is_empty() {
-        return false;
-    }
-    begins_name(word[0]) && is_all_of_name(word)
 }
 
 /// Whether a word is names that are joined by dots.

@@ -1,10 +1,9 @@
 //! Small FASM texts, many in one file: each begins with `@` and its name, and goes on up to the next `@`.
 
-use crate::files::fetch;
 use crate::shown::shown;
-use crate::stop::Stop;
 use fab_base::{Fault, MAX_FILE_BYTES, Name};
 use fab_desk::{Desk, Sink};
+use fab_examples::{Stop, fetch};
 use fab_fasm::read_fasm;
 use fab_lines::first_line;
 use std::alloc::Global;

@@ -2,13 +2,11 @@
 #![tactic(auto)]
 
 mod cases;
-mod files;
 mod shown;
-mod stop;
 
 use cases::print_cases;
 use fab_desk::{FileDesk, OutSink};
-use stop::Stop;
+use fab_examples::Stop;
 
 fn main(rt: HostRuntime) -> Result<(), Stop> {
     let alloc = rt.alloc();

@@ -9,17 +9,16 @@ use Rattle.fab_base.specs.declared.words.Quantity.TheVariants as quantities
 use Rattle.fab_desk.specs.Files.{Map, with_file}
 use Rattle.fab_syntax.specs.Plain.{PlainModule}
 use Rattle.fab_syntax.specs.Spelling.{text_bytes}
-use Rattle.fab_syntax.specs.Sound.{IsSound}
 use Rattle.fab_model.specs.Grid.{PlainFabric}
 use Rattle.fab_list_files.specs.Files.{Event, refuses}
 use Rattle.fab_read.specs.Fabrics.{SpellsFabric, MeetsFabric}
-use Rattle.fab_gen_loader.specs.Loader.{IsLoader}
 use Rattle.fab_gen_loader.specs.Expressions.{loader_module}
 use Rattle.fab_prim.specs.Modules.{module_of_kind}
 use Rattle.fab_fabric_text.specs.Top.{top_module}
 use Rattle.fab_fabric_text.specs.Text.{used_kinds, standing_types, tile_modules, fabric_text}
 use Rattle.fab_drives.specs.Drives.{ShowsDrives}
 use Rattle.fab_text_loads.specs.Loads.{LoadsConfigurations}
+use Rattle.fab_text_loads.specs.Texts.{IsFabricText}
 use Rattle.fab_flow.specs.Ending.{HasMakingCause}
 
 -- ---- the text of a fabric
@@ -40,15 +39,14 @@ most_text_bytes = 67043328
 
 -- ---- what is done
 
--- The text is the printed text of the fabric that the file spells. It is sound; in it the loader steps as the machine of words, each wire
--- of the fabric has the value of what drives it under the configuration bits, and the words of the bitstream of any such bits configure it
--- so, whatever it held. With its loader it is no longer than a file may be that is read.
-pub record IsFabricText (files : Map) (name text : List ℕ) : Type 0 where
+-- The bytes are the printed text of the fabric that the file spells. In it each wire of the fabric has the value of what drives it under the
+-- configuration bits, and the words of the bitstream of any such bits configure it so, whatever it held. With its loader it is no longer than a
+-- file may be that is read.
+pub record IsGeneratedText (files : Map) (name text : List ℕ) : Type 0 where
   pub fabric : PlainFabric
   pub spelled : SpellsFabric files name fabric
   pub printed : text ≡ text_bytes (generated_text fabric)
-  pub sound : IsSound (generated_text fabric)
-  pub loader : IsLoader fabric.rows (loader_module fabric.rows)
+  pub is_text : IsFabricText fabric (generated_text fabric)
   pub drives : ShowsDrives fabric (generated_text fabric)
   pub loads : LoadsConfigurations fabric (generated_text fabric)
   pub short : text_length fabric ≤ most_text_bytes
@@ -57,7 +55,7 @@ pub record IsFabricText (files : Map) (name text : List ℕ) : Type 0 where
 -- The files after the command are those before with such a text under the name of the output.
 pub record MakesFabric (files : Map) (after : Option Map) (name out : List ℕ) : Type 0 where
   pub text : List ℕ
-  pub made : IsFabricText files name text
+  pub made : IsGeneratedText files name text
   pub stored : after ≡ Some (with_file out text files)
 
 -- ---- the first refusal

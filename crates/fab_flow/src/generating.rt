@@ -8,12 +8,10 @@ ghost use Rattle.fab_base.specs.declared.fault.Fault.TheVariants as faults;
 ghost use Rattle.fab_base.specs.declared.problem.Problem.TheVariants as problems;
 ghost use Rattle.fab_base.specs.declared.words.Quantity.TheVariants as quantities;
 ghost use Rattle.fab_syntax.specs.Spelling.{text_bytes};
-ghost use Rattle.fab_syntax.specs.Sound.{IsSound};
 ghost use Rattle.fab_gen_tile.specs.Words.{IsNamed};
-ghost use Rattle.fab_gen_loader.specs.Loader.{IsLoader};
-ghost use Rattle.fab_gen_loader.specs.Expressions.{loader_module};
 ghost use Rattle.fab_drives.specs.Drives.{ShowsDrives};
 ghost use Rattle.fab_text_loads.specs.Loads.{LoadsConfigurations};
+ghost use Rattle.fab_text_loads.specs.Texts.{IsFabricText};
 ghost use Rattle.fab_flow.specs.Generating.{generated_text, text_length, most_text_bytes, MakesFabric, HasGenerateCause};
 
 use crate::printing::printed_module;
@@ -25,23 +23,19 @@ use fab_gen_loader::loader_module;
 use fab_gen_top::generate;
 use fab_read::read_fabric;
 use fab_syntax::print;
-use fab_text_sound::fabric_texts_are_sound;
 use std::alloc::Global;
 
 /// The most bytes of the text of a fabric without the module of its loader. With that module the text is no longer than a file may
 /// be that is read.
-pub const MOST_TEXT_BYTES: u64 = 67_043_328;
+const MOST_TEXT_BYTES: u64 = 67_043_328;
 
 /// The printed text of a fabric.
 fn printed_text(alloc: Global, fabric: &Fabric) -> Result<Vec<u8>, Memory>
     ensures printed { IfOk result (λ text. text.items ≡ text_bytes (generated_text fabric.now)) }
-    ensures sound { OnOk result (All IsNamed fabric.now.types → IsSound (generated_text fabric.now)) }
-    ensures loader { OnOk result (IsLoader fabric.now.rows (loader_module fabric.now.rows)) }
+    ensures is_text { OnOk result (All IsNamed fabric.now.types → IsFabricText fabric.now (generated_text fabric.now)) }
     ensures drives { OnOk result (ShowsDrives fabric.now (generated_text fabric.now)) }
     ensures loads { OnOk result (All IsNamed fabric.now.types → LoadsConfigurations fabric.now (generated_text fabric.now)) }
 {
-    let _types = fabric.types();
-    fabric_texts_are_sound();
     let text = generate(alloc, fabric)?;
     print(alloc, &text)
 }
@@ -52,6 +46,7 @@ fn unloaded_length(alloc: Global, fabric: &Fabric, text: &[u8]) -> Result<u64, M
     ensures length { IfOk result (λ bytes. bytes ≡ text_length fabric.now) }
     ensures loader { IfOk result (λ bytes. length text.now ≤ bytes + 65536) }
 {
+    // what is promised of the rows is a clause of this call
     let _types = fabric.types();
     let loader = loader_module(alloc, fabric.rows())?;
     let printed = printed_module(alloc, loader)?;
@@ -74,7 +69,7 @@ fn check_length(alloc: Global, fabric: &Name, bytes: u64) -> Result<(), Fault>
 /// Reads a fabric with all files that its file names, and stores its text under the output's name: the primitives, the modules of
 /// its tiles, the loader and the top.
 ///
-/// The faults of the fabric's files come as `read_fabric` gives them. A text that has more than `MOST_TEXT_BYTES` bytes without its loader is
+/// The faults of the fabric's files come as `read_fabric` gives them. A text that has more than 67043328 bytes without its loader is
 /// refused behind them, by the limit of `text bytes` at line 0 of the fabric file. `WriteFault` names the output. With any fault the files are as before.
 pub fn do_generate<D: Desk>(
     alloc: Global,

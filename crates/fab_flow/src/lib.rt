@@ -6,6 +6,5 @@ mod matrix;
 mod printing;
 mod storing;
 
-pub use generating::{MOST_TEXT_BYTES, do_generate};
+pub use generating::do_generate;
 pub use matrix::do_matrix;
-pub use storing::{store, text_of};

@@ -11,7 +11,7 @@ use std::alloc::Global;
 use std::str;
 
 /// The text of a name that is UTF-8.
-pub fn text_of(name: &Name) -> &str
+fn text_of(name: &Name) -> &str
     requires { IsUtf8 name.now }
     ensures { result.now ≡ name.now }
 {
@@ -22,7 +22,12 @@ pub fn text_of(name: &Name) -> &str
 }
 
 /// Puts a text under a file's name. `WriteFault` names the file where the device fails; besides it only want of memory comes.
-pub fn store<D: Desk>(alloc: Global, desk: &mut D, file: &Name, text: &[u8]) -> Result<(), Fault>
+pub(crate) fn store<D: Desk>(
+    alloc: Global,
+    desk: &mut D,
+    file: &Name,
+    text: &[u8],
+) -> Result<(), Fault>
     requires { IsUtf8 file.now }
     ensures reads { D.reads desk.new ≡ D.reads desk.old }
     ensures ok { OnOk result (D.told desk.new ≡ option_map (with_file file.now text.now) (D.told desk.old)) }

@@ -1,9 +1,9 @@
 //! Words of a stream with edits, and what is read of them.
 
 use crate::shown::bits_text;
-use crate::stop::Stop;
 use fab_base::{Fault, MAX_FILE_BYTES, Memory, Name};
 use fab_desk::Sink;
+use fab_examples::Stop;
 use fab_fabric::Fabric;
 use fab_frames::{bits_of, frames, to_bytes, to_words};
 use std::alloc::Global;

@@ -4,16 +4,15 @@
 mod cases;
 mod fabrics;
 mod shown;
-mod stop;
 
 use cases::{Edit, put_bytes, put_case};
 use fab_desk::{OutSink, Sink};
+use fab_examples::Stop;
 use fab_fabric::{Bits, Fabric};
 use fab_frames::frames;
 use fabrics::{duo, scattered};
 use shown::{set_all, words_text};
 use std::alloc::Global;
-use stop::Stop;
 
 // Words of the fabric of two tiles that are no stream, each with the report of the first that is wrong.
 fn put_refusals<S: Sink>(

@@ -4,16 +4,16 @@ ghost use Rattle.std.specs.Prelude.{◌≡◌, ◌<◌, ◌||◌, ◌++◌, [], 
 ghost use Rattle.std.specs.List.{flat_map, list_any};
 ghost use Rattle.std.specs.Option.{option_map_or};
 ghost use Rattle.fab_syntax.specs.Plain.{plain_module, plain_text};
-ghost use Rattle.fab_syntax.specs.Sound.{IsSound};
 ghost use Rattle.fab_prim.specs.Modules.{module_of_kind};
 ghost use Rattle.fab_model.specs.Tiles.{tile_bits};
 ghost use Rattle.fab_fabric.specs.Fabric.{IsFabric, AreTiles};
 ghost use Rattle.fab_gen_tile.specs.TileModule.{matrix_outputs};
-ghost use Rattle.fab_gen_loader.specs.Loader.{IsLoader};
+ghost use Rattle.fab_gen_tile.specs.Words.{IsNamed};
 ghost use Rattle.fab_gen_loader.specs.Expressions.{loader_module};
 ghost use Rattle.fab_fabric_text.specs.Text.{standing_types, same_kind, used_kinds, matrix_modules, config_modules, tile_modules, fabric_text};
 ghost use Rattle.fab_drives.specs.Drives.{ShowsDrives};
 ghost use Rattle.fab_text_loads.specs.Loads.{LoadsConfigurations};
+ghost use Rattle.fab_text_loads.specs.Texts.{IsFabricText};
 ghost use Rattle.fab_gen_top.specs.Standing.{type_of, AreStanding};
 
 use crate::top::top_module;
@@ -27,18 +27,19 @@ use fab_model::{Bel, TileType};
 use fab_prim::{IoPad, Lut4c, Mux8, Prim};
 use fab_syntax::{Module, Text};
 use fab_text_loads::fabric_texts_load;
+use fab_text_sound::fabric_texts_are_sound;
 use std::alloc::Global;
 
 /// The whole text of a fabric: the primitives that it uses, the modules of its tile types that stand somewhere, the loader and the
-/// top. In this text each wire of the fabric has the value of what drives it under the configuration bits; and where it is sound, the words
-/// of the bitstream of any bits configure it so, whatever it held.
+/// top. In this text each wire of the fabric has the value of what drives it under the configuration bits. Where the names in the types' tables
+/// are identifiers that no module here takes for itself, it is sound, and the words of the bitstream of any bits configure it so, whatever it held.
 ///
 /// The time is linear in the wires, ports and pairs. Want of memory is also the answer where numbers of bits or BELs do not fit.
 pub fn generate(alloc: Global, fabric: &Fabric) -> Result<Text, Memory>
     ensures text { IfOk result (λ text. plain_text text ≡ fabric_text fabric.now (loader_module fabric.now.rows)) }
-    ensures loader { IfOk result (λ text. IsLoader fabric.now.rows (loader_module fabric.now.rows)) }
+    ensures is_text { IfOk result (λ text. All IsNamed fabric.now.types → IsFabricText fabric.now (plain_text text)) }
     ensures drives { IfOk result (λ text. ShowsDrives fabric.now (plain_text text)) }
-    ensures loads { IfOk result (λ text. IsSound (plain_text text) → LoadsConfigurations fabric.now (plain_text text)) }
+    ensures loads { IfOk result (λ text. All IsNamed fabric.now.types → LoadsConfigurations fabric.now (plain_text text)) }
 {
     let standing = standing_types(alloc, fabric)?;
     let mut modules = Vec::new(alloc);
@@ -47,6 +48,7 @@ pub fn generate(alloc: Global, fabric: &Fabric) -> Result<Text, Memory>
     modules.push(loader_module(alloc, fabric.rows())?)?;
     modules.push(top_module(alloc, fabric)?)?;
     fabric_texts_show_drives();
+    fabric_texts_are_sound();
     fabric_texts_load();
     Ok(Text { modules })
 }

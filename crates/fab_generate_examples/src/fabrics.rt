@@ -4,9 +4,9 @@ ghost use Rattle.std.specs.Prelude.{◌≤◌, IfOk, length};
 
 use crate::modules::put_modules;
 use crate::reading::put_again;
-use crate::stop::Stop;
 use fab_base::{MAX_FILE_BYTES, Name};
 use fab_desk::{Desk, MemDesk, Sink};
+use fab_examples::Stop;
 use fab_flow::do_generate;
 use fab_lines::first_line;
 use fab_list_files::fetch;

@@ -5,11 +5,10 @@
 mod fabrics;
 mod modules;
 mod reading;
-mod stop;
 
 use fab_desk::{FileDesk, OutSink};
+use fab_examples::Stop;
 use fabrics::{put_demo, put_fabric};
-use stop::Stop;
 
 fn main(rt: HostRuntime) -> Result<(), Stop> {
     let alloc = rt.alloc();

@@ -1,7 +1,7 @@
 //! Modules of a text beside those that were written out.
 
-use crate::stop::Stop;
 use fab_desk::Sink;
+use fab_examples::Stop;
 use std::alloc::{AllocError, Global};
 
 /// What ends a module.

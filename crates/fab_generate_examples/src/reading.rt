@@ -2,9 +2,9 @@
 
 ghost use Rattle.std.specs.Prelude.{◌≤◌, length};
 
-use crate::stop::Stop;
 use fab_base::{MAX_FILE_BYTES, Name};
 use fab_desk::Sink;
+use fab_examples::Stop;
 use fab_sound::check_widths;
 use fab_syntax::print;
 use fab_vread::read;

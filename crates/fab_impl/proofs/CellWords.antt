@@ -1,4 +1,4 @@
--- Cells that are written are words, and are read.
+-- Cells that are written are read.
 use Rattle.std.proofs.Common.{◌≡◌, ℕ, zero, suc, ◌+◌, ◌/◌, ◌%◌, ◌^◌, ◌<◌, ◌≤◌, Bool, true, ◌||◌, List, [], ◌∷◌, ◌++◌, length, get_or, Some, refl, ap, ◌∙◌, inl, inr, arith, decimal, length-append}
 use Rattle.std.specs.Prelude.{not, ◌==◌, nat_le}
 use Rattle.std.specs.List.{list_all}
@@ -10,8 +10,6 @@ use Rattle.std.proofs.lemmas.List.{get_or_append_left}
 use Rattle.std.proofs.lemmas.Fmt.{decimal_digit, decimal_step, decimal_is_IsNumeral}
 use Rattle.std.proofs.lemmas.Str.Parse.{digit_from_value}
 use Rattle.fab_lines.specs.Numbers.{is_digit, is_number, number_of}
-use Rattle.fab_texts.specs.Rows.{is_filled}
-use Rattle.fab_texts.specs.Printed.{is_word_byte, is_word, ends_line, is_last_word}
 use Rattle.fab_impl.specs.Names.{cell_text, cell_of, most_cell}
 
 -- what holds of each digit holds of all digits
@@ -21,9 +19,6 @@ digits_pass test (byte ∷ digits) passes all = and_from (test byte) (list_all t
 
 digit_byte : (byte : ℕ) → digit_value byte < 10 → is_digit byte ≡ true
 digit_byte byte below = let range = digit_from_value byte below in grind (arith, nat_tests)
-
-word_byte : (byte : ℕ) → digit_value byte < 10 → is_word_byte byte ≡ true
-word_byte byte below = let range = digit_from_value byte below in grind (arith, nat_tests)
 
 small : (cell : ℕ) → cell ≤ most_cell → cell < 2 ^ 64
 small cell few = omega arith
@@ -67,25 +62,3 @@ cell_again cell few =
     let value : number_of (decimal cell) ≡ cell = (decimal_is_IsNumeral cell below).1 in
     let fits : nat_le cell most_cell ≡ true = le-leb cell most_cell few in
     rw (number, value, fits) refl
-
--- a cell can stand at the end of a line
-pub cell_last_word : (cell : ℕ) → cell ≤ most_cell → is_last_word (cell_text cell) ≡ true
-cell_last_word cell few =
-    let numeral = decimal_is_IsNumeral cell (small cell few) in
-    let bytes : list_all is_word_byte (decimal cell) ≡ true = digits_pass is_word_byte (decimal cell) word_byte numeral.0.1 in
-    let filled : not (length (cell_text cell) == 0) ≡ true = grind (arith, nat_tests) in
-    let word : is_word (cell_text cell) ≡ true = and_from (is_filled (cell_text cell)) (list_all is_word_byte (cell_text cell)) filled bytes in
-    and_from (is_word (cell_text cell)) (ends_line (cell_text cell)) word (ends (decimal cell) numeral.0.0 numeral.0.1)
-  where
-    -- the last of some digits is no carriage return
-    last_digit : (digits : List ℕ) (place : ℕ) → place < length digits → AllDigits 10 digits → digit_value (get_or digits place 0) < 10
-    last_digit [] place below all = absurd (omega (arith, below))
-    last_digit (byte ∷ digits) zero below all = all.0
-    last_digit (byte ∷ digits) (suc place) below all = last_digit digits place (omega (arith, below)) all.1
-
-    ends : (digits : List ℕ) → 0 < length digits → AllDigits 10 digits → ends_line (99 ∷ digits) ≡ true
-    ends [] some all = absurd (omega (arith, some))
-    ends (byte ∷ digits) some all =
-        let last = last_digit (byte ∷ digits) (length digits) (omega arith) all in
-        let range = digit_from_value (get_or (byte ∷ digits) (length digits) 0) last in
-        grind (arith, nat_tests)

@@ -5,7 +5,9 @@ pub mod Edges
 pub mod Sites
 pub mod Parts
 pub mod Stands
+pub mod LineForms
+pub mod WordsRead
+pub mod Spelled
 pub mod CellWords
 pub mod Again
 pub mod ReadBack
-pub mod Printed

@@ -43,7 +43,7 @@ site_found : (fabric : PlainFabric) (found : Option Site) (site : Site) → opti
 site_found fabric None site so = absurd cc
 site_found fabric (Some found) site so = site_by fabric found site (kind_at fabric found) refl so
 
-then_some : {A B : Type 0} (o : Option A) (f : A → Option B) (y : B) → (o >>= f) ≡ Some y → (x : A) × (o ≡ Some x) × (f x ≡ Some y)
+pub then_some : {A B : Type 0} (o : Option A) (f : A → Option B) (y : B) → (o >>= f) ≡ Some y → (x : A) × (o ≡ Some x) × (f x ≡ Some y)
 then_some None f y h = absurd cc
 then_some (Some x) f y h = (x, refl, h)
 

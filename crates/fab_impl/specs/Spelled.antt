@@ -14,7 +14,7 @@ use Rattle.fab_implementation.specs.OnFabric.{IsOnFabric}
 use Rattle.fab_texts.specs.Rows.{Word, PlainRow, words_of}
 use Rattle.fab_texts.specs.Places.{site_text}
 use Rattle.fab_texts.specs.Formats.{text_format}
-use Rattle.fab_texts.specs.Printed.{rows_text, is_last_word}
+use Rattle.fab_texts.specs.Printed.{rows_text, is_row}
 use Rattle.fab_impl.specs.Names.{cell_text, wire_text, most_cell}
 use Rattle.fab_impl.specs.Kinds.{has_ended}
 use Rattle.fab_impl.specs.Lines.{Cell, Known, known, take}
@@ -90,19 +90,11 @@ pub record Spells (fabric : PlainFabric) (rows : List PlainRow) (it : PlainImple
   pub lines : words_of rows ≡ implementation_lines fabric it
   pub nameable : IsNameable fabric it
 
--- the words of the wires that edges name
-abbrev pub edge_words : PlainFabric → Edge → List Word
-edge_words fabric edge = wire_text fabric edge.0 ∷ wire_text fabric edge.1 ∷ []
-
-abbrev pub wire_words : PlainFabric → PlainImplementation → List Word
-wire_words fabric it = flat_map (λ tree. flat_map (edge_words fabric) tree.edges) it.trees
-
--- An implementation that a text can spell: nameable, and its ports and the wires of its edges are words, also at the end of a
--- line. A matrix name may have any bytes, so not each wire of a fabric is one.
+-- An implementation that its own text spells: nameable, and each of its lines is a row of words. In an implementation that is
+-- made in code a port may have any bytes, and so may a matrix name in a tile.
 pub record HasSpelling (fabric : PlainFabric) (it : PlainImplementation) : Type 0 where
   pub nameable : IsNameable fabric it
-  pub words : list_all is_last_word (ports (it.ins ++ it.outs)) ≡ true
-  pub wires : list_all is_last_word (wire_words fabric it) ≡ true
+  pub rows : list_all is_row (implementation_lines fabric it) ≡ true
 
 -- ---- the refusals of texts
 

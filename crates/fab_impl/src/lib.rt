@@ -1,4 +1,4 @@
-//! The texts of implementations.
+//! The texts of a design on a fabric: implementations, and with them what `fab_state` reads and prints, states and pad constraints.
 #![tactic(auto)]
 
 mod entries;
@@ -9,6 +9,7 @@ mod names;
 mod reader;
 mod writer;
 
+pub use fab_state::{State, print_state, read_pcf, read_state};
 pub use fab_texts::entry_line;
 pub use laws::spelled_implementations_are_read;
 pub use reader::read_impl;

@@ -12,7 +12,7 @@ ghost use Rattle.fab_impl.specs.declared.kind.Kind.TheVariants.{NetZero, NetOne,
 ghost use Rattle.fab_impl.specs.FirstPlaces.{first_place};
 ghost use Rattle.fab_impl.specs.Names.{cell_of, wire_of};
 ghost use Rattle.fab_impl.specs.Lines.{cell_net_at, input_at, known, nothing, set_cells, set_ins, set_outs, set_trees, take, take_header, take_kind, with_cell, with_net, with_pad, with_wires};
-ghost use Rattle.fab_impl.specs.Spelled.{InputsWithin, cut_short, implementation_format, implementation_of};
+ghost use Rattle.fab_impl.specs.Spelled.{InputsWithin, Spells, cut_short, implementation_format, implementation_of};
 
 use crate::entries::{
     take_cell, take_cell_net, take_edge, take_input, take_input_net, take_net, take_output,
@@ -232,7 +232,8 @@ pub fn read_impl(
     fabric: &Fabric,
 ) -> Result<Implementation, Fault>
     requires { length bytes.now ≤ MAX_FILE_BYTES }
-    ensures spelled { IfOk result (λ it. IsWhole (implementation_format fabric.now) (rows_of bytes.now) × (it ≡ implementation_of (known fabric.now (words_of (rows_of bytes.now))))) }
+    ensures spells { IfOk result (Spells fabric.now (rows_of bytes.now)) }
+    ensures said { IfOk result (λ it. IsWhole (implementation_format fabric.now) (rows_of bytes.now) × (it ≡ implementation_of (known fabric.now (words_of (rows_of bytes.now))))) }
     ensures on_fabric { IfOk result (IsOnFabric fabric.now) }
     ensures inputs { IfOk result InputsWithin }
     ensures reads { IsWhole (implementation_format fabric.now) (rows_of bytes.now) → IsOkUnless result faults.Memory }

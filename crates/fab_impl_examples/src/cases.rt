@@ -1,9 +1,8 @@
 //! Small texts, many in one file: each begins with `@` and its name, and goes on up to the next `@`.
 
-use crate::files::fetch;
-use crate::stop::Stop;
 use crate::texts::{Form, Texts};
 use fab_desk::{Desk, Sink};
+use fab_examples::{Stop, fetch};
 use fab_lines::first_line;
 use std::alloc::Global;
 

@@ -1,19 +1,18 @@
 //! Texts of implementations, states and pad constraints as a user has them: those that are read are printed back, and of the
-//! others the report is printed.
+//! others the report is printed. Then the lines on which the entries of a text stand.
 #![tactic(auto)]
 
 mod cases;
-mod files;
-mod stop;
+mod entries;
 mod texts;
 
 use cases::print_cases;
+use entries::print_entries;
 use fab_base::Name;
 use fab_blif::read_blif;
 use fab_desk::{FileDesk, OutSink};
+use fab_examples::{Stop, fetch};
 use fab_small_fabric::small_fabric;
-use files::fetch;
-use stop::Stop;
 use texts::{Form, Texts};
 
 fn main(rt: HostRuntime) -> Result<(), Stop> {
@@ -51,5 +50,6 @@ fn main(rt: HostRuntime) -> Result<(), Stop> {
         Form::Constraints,
         "constraints.cases",
     )?;
+    print_entries(alloc, &mut desk, &mut out, "entries.impl", 4)?;
     Ok(())
 }

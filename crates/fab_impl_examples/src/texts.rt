@@ -4,10 +4,9 @@ ghost use Rattle.std.specs.Prelude.{◌≤◌, length};
 
 use fab_base::{Fault, MAX_FILE_BYTES, Memory, Name};
 use fab_fabric::Fabric;
-use fab_impl::{print_impl, read_impl};
+use fab_impl::{print_impl, print_state, read_impl, read_pcf, read_state};
 use fab_implementation::Fixed;
 use fab_netlist::Netlist;
-use fab_state::{print_state, read_pcf, read_state};
 use itoa::Buffer;
 use std::alloc::Global;
 
@@ -26,7 +25,8 @@ pub struct Texts<'a> {
     pub netlist: &'a Netlist,
 }
 
-fn put_number(out: &mut Vec<u8>, number: u32) -> Result<(), Memory> {
+/// A blank and a number.
+pub fn put_number(out: &mut Vec<u8>, number: u32) -> Result<(), Memory> {
     out.push(b' ')?;
     out.extend_from_slice(Buffer::new().format(number).as_bytes())?;
     Ok(())

@@ -3,10 +3,9 @@
 ghost use Rattle.fab_legal.specs.WellMade.{IsWellMadePacked};
 
 use crate::design::Design;
-use crate::files::fetch;
-use crate::stop::Stop;
 use fab_base::{Fault, MAX_FILE_BYTES, Name};
 use fab_desk::{Desk, Sink};
+use fab_examples::{Stop, fetch};
 use fab_lines::first_line;
 use std::alloc::Global;
 

@@ -5,14 +5,13 @@
 mod cases;
 mod design;
 mod files;
-mod stop;
 
 use cases::print_cases;
 use design::Design;
 use fab_desk::{FileDesk, OutSink};
+use fab_examples::Stop;
 use fab_small_fabric::small_fabric;
 use files::read_design;
-use stop::Stop;
 
 fn main(rt: HostRuntime) -> Result<(), Stop> {
     let alloc = rt.alloc();

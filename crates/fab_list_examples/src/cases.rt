@@ -1,9 +1,9 @@
 //! Small lists, many in one file. A case begins with `%` and its title; each of its files begins with `@` and its name, and the first is
 //! the list. All goes on up to the next of these signs.
 
-use crate::stop::Stop;
 use fab_base::{Fault, Name};
 use fab_desk::{Desk, MemDesk, Sink};
+use fab_examples::Stop;
 use fab_lines::first_line;
 use fab_list_files::{fetch, read_pairs};
 use std::alloc::{AllocError, Global};

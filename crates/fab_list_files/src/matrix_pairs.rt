@@ -119,10 +119,10 @@ impl MatrixPairs {
     }
 
     /// The pairs.
-    pub fn pairs(&self, alloc: Global) -> Result<Vec<(Name, Name)>, Memory>
-        ensures { IfOk result (λ pairs. pairs.items ≡ self.now) }
+    pub fn into_pairs(self, alloc: Global) -> Result<Vec<(Name, Name)>, Memory>
+        ensures { IfOk result (λ pairs. pairs.items ≡ self) }
     {
-        self.pairs.pairs(alloc)
+        self.pairs.into_pairs(alloc)
     }
 }
 

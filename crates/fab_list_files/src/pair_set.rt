@@ -52,13 +52,14 @@ impl PairSet {
     }
 
     /// The pairs.
-    pub fn pairs(&self, alloc: Global) -> Result<Vec<(Name, Name)>, Memory>
-        ensures { IfOk result (λ pairs. pairs.items ≡ self.now) }
+    pub fn into_pairs(self, alloc: Global) -> Result<Vec<(Name, Name)>, Memory>
+        ensures { IfOk result (λ pairs. pairs.items ≡ self) }
     {
-        let mut pairs = Vec::new(alloc);
-        for key in self.keys.as_slice() {
-            pairs.push((Name::of(alloc, &key.0)?, Name::of(alloc, &key.1)?))?;
-        }
-        Ok(pairs)
+        Ok(
+            self.keys
+                .into_iter()
+                .map(|(output, input)| (Name::from(output), Name::from(input)))
+                .collect(alloc)?,
+        )
     }
 }

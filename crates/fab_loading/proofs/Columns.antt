@@ -11,10 +11,10 @@ use Rattle.fab_meaning.specs.Value.{bit_at}
 use Rattle.fab_fabric.specs.Fabric.{IsFabric}
 use Rattle.fab_gen_loader.specs.Machine.{Machine, Word}
 use Rattle.fab_frames.specs.Stream.{Part, of_row, address_word, row_word, frame_parts, column_parts, word_of}
-use Rattle.fab_loading.specs.Latches.{LatchPlace, after_words, is_open, latch_shows, latch_after}
+use Rattle.fab_loading.specs.Latches.{LatchPlace, is_open, latch_shows}
 use Rattle.fab_loading.specs.Streams.{IsLatchPlace}
 use Rattle.fab_loading.proofs.Addresses.{address_column, address_bit, address_goes_on}
-use Rattle.fab_loading.proofs.Runs.{after_both, latch_after_both}
+use Rattle.fab_loading.proofs.Runs.{after_words, latch_after_words, after_both, latch_after_both}
 use Rattle.fab_loading.proofs.Frames.{HasFrame, has_frame, frame_holds}
 
 abbrev pub part_word : PlainFabric → PlainBits → Part → Word
@@ -24,7 +24,7 @@ part_word fabric bits part = digits 32 (word_of fabric bits part)
 pub record Leaves (fabric : PlainFabric) (bits : PlainBits) (place : LatchPlace) (change : Bool → Bool) (parts : List Part) : Type 0 where
   pub returns : (machine : Machine) → machine.state ≡ 1 → (after_words fabric.rows machine (map (part_word fabric bits) parts)).state ≡ 1
   pub shows : (machine : Machine) (held : Bool) → machine.state ≡ 1 →
-      latch_shows (after_words fabric.rows machine (map (part_word fabric bits) parts)) place (latch_after fabric.rows machine place held (map (part_word fabric bits) parts))
+      latch_shows (after_words fabric.rows machine (map (part_word fabric bits) parts)) place (latch_after_words fabric.rows machine place held (map (part_word fabric bits) parts))
       ≡ change (latch_shows machine place held)
 
 abbrev pub Keeps : PlainFabric → PlainBits → LatchPlace → List Part → Type 0
@@ -57,8 +57,8 @@ module _ (fabric : PlainFabric) (bits : PlainBits) (place : LatchPlace) where
             ∙ ap (λ next. next.state) (after_both fabric.rows machine front_words back_words)
             ∙ other.returns (between machine) (one.returns machine is);
         shows = λ machine held is.
-            let now = latch_after fabric.rows machine place held front_words in
-            ap (λ ws. latch_shows (after_words fabric.rows machine ws) place (latch_after fabric.rows machine place held ws)) words
+            let now = latch_after_words fabric.rows machine place held front_words in
+            ap (λ ws. latch_shows (after_words fabric.rows machine ws) place (latch_after_words fabric.rows machine place held ws)) words
             ∙ ap₂ (λ next h. latch_shows next place h) (after_both fabric.rows machine front_words back_words) (latch_after_both fabric.rows machine place held front_words back_words)
             ∙ other.shows (between machine) now (one.returns machine is)
             ∙ ap second (one.shows machine held is);
@@ -119,8 +119,8 @@ module _ (fabric : PlainFabric) (bits : PlainBits) (place : LatchPlace) (is_fabr
               ap (λ ws. (after_words fabric.rows machine ws).state) frame_words ∙ frame_is.state;
           shows = λ machine held is.
               let frame_is = has_frame fabric.rows few is_fabric.some_rows machine is address goes_on rows in
-              ap (λ ws. latch_shows (after_words fabric.rows machine ws) place (latch_after fabric.rows machine place held ws)) frame_words
-              ∙ shown (after_words fabric.rows machine words) (latch_after fabric.rows machine place held words) frame_is
+              ap (λ ws. latch_shows (after_words fabric.rows machine ws) place (latch_after_words fabric.rows machine place held ws)) frame_words
+              ∙ shown (after_words fabric.rows machine words) (latch_after_words fabric.rows machine place held words) frame_is
               ∙ ap change (frame_holds fabric.rows few is_fabric.some_rows machine is address goes_on rows place held);
         }
 

@@ -3,7 +3,8 @@ use Rattle.std.proofs.Common.{◌≡◌, ℕ, zero, suc, ◌+◌, ◌%◌, ◌<�
 use Rattle.std.proofs.lemmas.Bool.{ne_eqb, eq-eqb}
 use Rattle.fab_model.specs.Tiles.{counted}
 use Rattle.fab_gen_loader.specs.Machine.{Machine, Word, end_bit, tick, with_row}
-use Rattle.fab_loading.specs.Latches.{LatchPlace, after_words, latch_shows, latch_after}
+use Rattle.fab_loading.specs.Latches.{LatchPlace, latch_shows}
+use Rattle.fab_loading.proofs.Runs.{after_words, latch_after_words}
 use Rattle.fab_loading.proofs.Ticks.{address_tick, row_tick, turn_row, other_row}
 
 -- the loader before the words of the last rows
@@ -90,14 +91,14 @@ closed : (machine : Machine) (place : LatchPlace) (held : Bool) → machine.stro
 closed machine place held is = rw is refl
 
 rows_hold : (rows left : ℕ) (words : ℕ → Word) (machine : Machine) (place : LatchPlace) (held : Bool) → rows < 32 → 1 ≤ left → left ≤ rows → AwaitsRows left machine →
-    latch_after rows machine place held (counted left words) ≡ held
+    latch_after_words rows machine place held (counted left words) ≡ held
 unfolding counted
 rows_hold rows zero words machine place held few some within awaits = absurd (omega arith)
 rows_hold rows (suc zero) words machine place held few some within awaits = closed machine place held awaits.strobe
 rows_hold rows (suc (suc left)) words machine place held few some within awaits =
     let more = λ (place : ℕ). words (suc place) in
     let next = with_next_row rows machine (words 0) in
-    ap₂ (λ m h. latch_after rows m place h (counted (suc left) more)) (next_row rows machine (words 0) left awaits) (closed machine place held awaits.strobe)
+    ap₂ (λ m h. latch_after_words rows m place h (counted (suc left) more)) (next_row rows machine (words 0) left awaits) (closed machine place held awaits.strobe)
     ∙ rows_hold rows (suc left) more next place held few (omega arith) (omega arith) (awaits_next rows machine (words 0) left few within awaits)
 
 -- ---- a frame
@@ -128,8 +129,8 @@ module _ (rows : ℕ) (few : rows < 32) (some : 1 ≤ rows) (machine : Machine) 
       subst (HasFrame rows address words) (sym (ap (λ m. after_words rows m (counted rows words)) address_taken)) frame
 
   -- a latch keeps what it showed before
-  pub frame_holds : (place : LatchPlace) (held : Bool) → latch_after rows machine place held (address ∷ counted rows words) ≡ latch_shows machine place held
+  pub frame_holds : (place : LatchPlace) (held : Bool) → latch_after_words rows machine place held (address ∷ counted rows words) ≡ latch_shows machine place held
   frame_holds place held =
       let shown = latch_shows machine place held in
-      ap (λ m. latch_after rows m place shown (counted rows words)) address_taken
+      ap (λ m. latch_after_words rows m place shown (counted rows words)) address_taken
       ∙ rows_hold rows rows words (with_address rows machine address) place shown few some (omega arith) awaits_all

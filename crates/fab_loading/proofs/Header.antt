@@ -6,9 +6,8 @@ use Rattle.std.proofs.lemmas.List.{map-append}
 use Rattle.fab_bits.specs.Bits.{number, digits}
 use Rattle.fab_gen_loader.specs.Machine.{Machine, Word, wake_word, end_bit, tick, with_row}
 use Rattle.fab_frames.specs.Stream.{waiting_word, waiting_words, synchronizing_words, header}
-use Rattle.fab_loading.specs.Latches.{after_words}
 use Rattle.fab_loading.proofs.Ticks.{address_tick, row_tick, waiting_tick}
-use Rattle.fab_loading.proofs.Runs.{after_both}
+use Rattle.fab_loading.proofs.Runs.{after_words, after_both}
 
 -- ---- waiting words
 

@@ -5,3 +5,4 @@ pub mod Addresses
 pub mod Frames
 pub mod Columns
 pub mod Loads
+pub mod Turns

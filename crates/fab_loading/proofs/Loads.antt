@@ -1,4 +1,4 @@
--- What all words of a bitstream leave.
+-- What all words of a bitstream leave that come one a tick.
 use Rattle.std.proofs.Common.{◌≡◌, ℕ, ◌<◌, ◌∙◌, Bool, true, false, List, [], ◌∷◌, ◌++◌, Some, map, refl, ap, ap₂, arith}
 use Rattle.std.specs.List.{flat_map}
 use Rattle.std.specs.Option.{option_map_or}
@@ -11,10 +11,10 @@ use Rattle.fab_fabric.specs.Fabric.{IsFabric}
 use Rattle.fab_gen_loader.specs.Machine.{Machine, Word, tick}
 use Rattle.fab_frames.specs.Stream.{Part, fixed, waiting_word, header, column_parts, word_of, parts, stream, bit_placed_at, word_bit}
 use Rattle.fab_frames.proofs.Words.{bit_of_word}
-use Rattle.fab_loading.specs.Latches.{LatchPlace, IsMachine, after_words, latch_shows, latch_after}
-use Rattle.fab_loading.specs.Streams.{stream_words, IsLatchPlace, IsLoaded}
+use Rattle.fab_loading.specs.Latches.{LatchPlace, IsMachine, latch_shows}
+use Rattle.fab_loading.specs.Streams.{stream_words, IsLatchPlace}
 use Rattle.fab_loading.proofs.Ticks.{address_tick}
-use Rattle.fab_loading.proofs.Runs.{after_both, latch_after_both}
+use Rattle.fab_loading.proofs.Runs.{after_words, latch_after_words, after_both, latch_after_both}
 use Rattle.fab_loading.proofs.Header.{header_wakes}
 use Rattle.fab_loading.proofs.Columns.{part_word, own_bit, columns_set}
 
@@ -58,6 +58,13 @@ own_bit_is fabric bits place number low placed =
 
 -- ---- the loader and a latch after all words
 
+pub record IsLoadedByWords (fabric : PlainFabric) (bits : PlainBits) (machine : Machine) : Type 0 where
+  pub state : (after_words fabric.rows machine (stream_words fabric bits)).state ≡ 0
+  pub strobe : (after_words fabric.rows machine (stream_words fabric bits)).strobe ≡ false
+  pub latches : (place : LatchPlace) (number : ℕ) (held : Bool) → IsLatchPlace fabric place →
+      bit_placed_at fabric place.x place.y place.frame place.bit ≡ Some number →
+      latch_after_words fabric.rows machine place held (stream_words fabric bits) ≡ bits place.x place.y number
+
 -- each fabric has this one
 abbrev first_place : LatchPlace
 first_place = record { x = 0; y = 0; frame = 0; bit = 0 }
@@ -89,21 +96,21 @@ module _ (fabric : PlainFabric) (bits : PlainBits) (machine : Machine) (is_fabri
       ∙ after_both fabric.rows woken (column_words fabric bits) (last_word ∷ [])
       ∙ after_last
 
-  latch_after_all : (place : LatchPlace) (held : Bool) → latch_after fabric.rows machine place held (stream_words fabric bits)
-      ≡ latch_shows filled place (latch_after fabric.rows woken place (latch_after fabric.rows machine place held header_words) (column_words fabric bits))
+  latch_after_all : (place : LatchPlace) (held : Bool) → latch_after_words fabric.rows machine place held (stream_words fabric bits)
+      ≡ latch_shows filled place (latch_after_words fabric.rows woken place (latch_after_words fabric.rows machine place held header_words) (column_words fabric bits))
   latch_after_all place held =
-      let before = latch_after fabric.rows machine place held header_words in
-      ap (latch_after fabric.rows machine place held) (words_are fabric bits)
+      let before = latch_after_words fabric.rows machine place held header_words in
+      ap (latch_after_words fabric.rows machine place held) (words_are fabric bits)
       ∙ latch_after_both fabric.rows machine place held header_words (column_words fabric bits ++ last_word ∷ [])
       ∙ latch_after_both fabric.rows woken place before (column_words fabric bits) (last_word ∷ [])
 
-  pub loaded : IsLoaded fabric bits machine
-  loaded = record {
+  pub loaded_by_words : IsLoadedByWords fabric bits machine
+  loaded_by_words = record {
     state = ap (λ next. next.state) after_all;
     strobe = ap (λ next. next.strobe) after_all;
     latches = λ place number held within placed.
         let sets = columns_set fabric bits place is_fabric within in
         latch_after_all place held
-        ∙ sets.shows woken (latch_after fabric.rows machine place held header_words) takes_address
+        ∙ sets.shows woken (latch_after_words fabric.rows machine place held header_words) takes_address
         ∙ own_bit_is fabric bits place number within.bit placed;
   }

@@ -1,9 +1,11 @@
 //! A fabric from its file.
 
-ghost use Rattle.std.specs.Prelude.{◌≡◌, ◌<◌, ◌≤◌, None, All, IfOk, IfErr};
+ghost use Rattle.std.specs.Prelude.{◌≡◌, ◌<◌, ◌≤◌, None, All, IfOk, IfErr, IsOkUnless};
 ghost use Rattle.std.specs.Option.{ForSome};
+ghost use Rattle.fab_base.specs.declared.fault.Fault.TheVariants as faults;
 ghost use Rattle.fab_blocks.specs.Reading.{IsGrid, IsReading};
 ghost use Rattle.fab_list_files.specs.Files.{HasReadCause};
+ghost use Rattle.fab_model.specs.Grid.{PlainFabric};
 ghost use Rattle.fab_model.specs.Tables.{HasTable};
 ghost use Rattle.fab_read.specs.Fabrics.{column_count, grid_fabric, strange_line, SpellsFabric, MeetsFabric};
 
@@ -31,12 +33,7 @@ fn column_count(lines: &[GridLine]) -> u32
 /// The most wires of a fabric.
 const MOST_WIRES: u64 = 1_048_576;
 
-/// The fabric that a fabric file spells with all files that it names.
-///
-/// `Missing`, `TooLong` and `ReadFault` come for each file that is asked for: the fabric file, those that INCLUDE and `Tile` rows name, and at
-/// the end of a tile's block its matrix file and its configuration table, of which the table may be absent. `Malformed`, `Unsupported` and
-/// `Limit` come with the first row that is refused. Behind all rows come `grid`, `tile` at the line of the grid, and the limit of `wires`.
-pub fn read_fabric<D: Desk>(alloc: Global, desk: &mut D, name: &Name) -> Result<Fabric, Fault>
+fn read<D: Desk>(alloc: Global, desk: &mut D, name: &Name) -> Result<Fabric, Fault>
     ensures told { D.told desk.new ≡ D.told desk.old }
     ensures writes { D.writes desk.new ≡ D.writes desk.old }
     ensures reads { D.reads desk.old ≤ D.reads desk.new }
@@ -65,4 +62,21 @@ pub fn read_fabric<D: Desk>(alloc: Global, desk: &mut D, name: &Name) -> Result<
         return Err(Problem::Limit(Quantity::Wires, wires, MOST_WIRES).at(alloc, name, last));
     }
     Ok(Fabric::new(alloc, types, columns, grid)?)
+}
+
+/// The fabric that a fabric file spells with all files that it names. A file that spells a fabric is read, unless the device fails or
+/// memory is refused.
+///
+/// `Missing`, `TooLong` and `ReadFault` come for each file that is asked for: the fabric file, those that INCLUDE and `Tile` rows name, and at
+/// the end of a tile's block its matrix file and its configuration table, of which the table may be absent. `Malformed`, `Unsupported` and
+/// `Limit` come with the first row that is refused. Behind all rows come `grid`, `tile` at the line of the grid, and the limit of `wires`.
+pub fn read_fabric<D: Desk>(alloc: Global, desk: &mut D, name: &Name) -> Result<Fabric, Fault>
+    ensures told { D.told desk.new ≡ D.told desk.old }
+    ensures writes { D.writes desk.new ≡ D.writes desk.old }
+    ensures reads { D.reads desk.old ≤ D.reads desk.new }
+    ensures spelled { ForSome (D.told desk.old) (λ files. IfOk result (SpellsFabric files name.now)) }
+    ensures complete { ForSome (D.told desk.old) (λ files. (fabric : PlainFabric) → SpellsFabric files name.now fabric → D.reads desk.new ≡ D.reads desk.old → IsOkUnless result faults.Memory) }
+    ensures cause { IfErr result (HasReadCause (D.told desk.old) (D.reads desk.old < D.reads desk.new) (λ files. MeetsFabric files name.now)) }
+{
+    read(alloc, desk, name)
 }

@@ -38,7 +38,7 @@ fn read_list<D: Desk>(
     let names = MatrixNames::new(alloc, tile)?;
     let mut listed = TilePairs::new(alloc, &names);
     read_list_file(alloc, desk, &mut listed, left, file)?;
-    let pairs = listed.pairs(alloc)?;
+    let pairs = listed.into_pairs(alloc)?;
     Ok(numbered(alloc, &names, &pairs)?)
 }
 

@@ -75,10 +75,10 @@ impl<'n, 't> TilePairs<'n, 't> {
     }
 
     /// The pairs.
-    pub fn pairs(&self, alloc: Global) -> Result<Vec<(Name, Name)>, Memory>
-        ensures { IfOk result (λ pairs. pairs.items ≡ self.now.pairs) }
+    pub fn into_pairs(self, alloc: Global) -> Result<Vec<(Name, Name)>, Memory>
+        ensures { IfOk result (λ pairs. pairs.items ≡ self.entry.pairs) }
     {
-        self.pairs.pairs(alloc)
+        self.pairs.into_pairs(alloc)
     }
 }
 

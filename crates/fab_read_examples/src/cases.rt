@@ -2,10 +2,10 @@
 //! beside the program that its desk has, with `^` files that are too long, and with `!` a call of the desk that fails. Each of its own files
 //! begins with `@` and its name, and goes on up to the next of these signs.
 
-use crate::stop::Stop;
 use crate::summary::summary;
 use fab_base::{Fault, MAX_FILE_BYTES, Name};
 use fab_desk::{Desk, MemDesk, Sink};
+use fab_examples::Stop;
 use fab_lines::{capped_number, first_line};
 use fab_list_files::fetch;
 use fab_read::read_fabric;

@@ -2,12 +2,12 @@
 #![tactic(auto)]
 
 mod cases;
-mod stop;
+mod runs;
 mod summary;
 
 use cases::print_cases;
 use fab_desk::{FileDesk, OutSink};
-use stop::Stop;
+use fab_examples::Stop;
 
 fn main(rt: HostRuntime) -> Result<(), Stop> {
     let alloc = rt.alloc();

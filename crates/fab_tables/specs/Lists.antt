@@ -1,5 +1,5 @@
 -- What the rows of a switch list say, and why a row is refused.
-use Rattle.std.specs.Prelude.{◌≡◌, ℕ, ◌==◌, ◌||◌, ◌&&◌, Bool, true, false, List, [], ◌∷◌, ◌++◌, map, max, not, nat_lt, length, codes, option_map, if◌then◌else◌, Option, Some, None, Result, Ok, Err}
+use Rattle.std.specs.Prelude.{◌≡◌, ℕ, ◌==◌, ◌||◌, ◌&&◌, Bool, false, List, [], ◌∷◌, ◌++◌, not, nat_lt, length, codes, option_map, if◌then◌else◌, Option, Some, None, Result, Ok, Err}
 use Rattle.std.specs.List.{list_all, find, flat_map, zip}
 use Rattle.std.specs.Str.{bytes_eq}
 use Rattle.std.specs.Str.Lossy.{utf8_valid_len}
@@ -10,6 +10,7 @@ use Rattle.fab_base.specs.declared.problem.Problem.{Problem}
 use Rattle.fab_base.specs.declared.problem.Problem.TheVariants as problems
 use Rattle.fab_lines.specs.Names.{is_wire_name}
 use Rattle.fab_lines.specs.Order.{Format, IsWhole}
+use Rattle.fab_paths.specs.Paths.{file_of}
 use Rattle.fab_rows.specs.Rows.{PlainRow}
 use Rattle.fab_tables.specs.Cells.{has_bad_number, is_cell_byte, has_brackets, names, count}
 
@@ -109,7 +110,7 @@ named_body judge outputs inputs =
 abbrev pub pairs_body : (judge : List Pair → Option Reason) (output input : List ℕ) → Result PlainBody Problem
 pairs_body judge output input = asked (cells_problem output input) (named_body judge (names_of_cell output input output) (names_of_cell output input input))
 
--- a path is UTF-8
+-- an INCLUDE row by itself: its path is UTF-8
 abbrev pub include_body : (path : List ℕ) → Result PlainBody Problem
 include_body path = if utf8_valid_len path == length path then Ok (IncludeOf path) else Err (problems.Malformed reasons.Name)
 
@@ -126,21 +127,35 @@ body_of judge _ = Err (problems.Malformed reasons.Row)
 abbrev pub nothing_known : List Pair → Option Reason
 nothing_known pairs = None
 
+-- an INCLUDE row, where this is the file that its path means
+abbrev pub included : (path : List ℕ) → Option (List ℕ) → Result PlainBody Problem
+included path None = Err (problems.Malformed reasons.Name)
+included path (Some other) = Ok (IncludeOf path)
+
+-- what a row says that stands in this file: the path of an INCLUDE row has to be one there
+abbrev pub placed_body : (file : List ℕ) → Result PlainBody Problem → Result PlainBody Problem
+placed_body file (Ok (PairsOf pairs)) = Ok (PairsOf pairs)
+placed_body file (Ok (IncludeOf path)) = included path (file_of file path)
+placed_body file (Err problem) = Err problem
+
+abbrev pub row_body : (file : List ℕ) (cells : List (List ℕ)) → Result PlainBody Problem
+row_body file cells = placed_body file (body_of nothing_known cells)
+
 abbrev pub refusal_of : {X : Type 0} → Result X Problem → Option Problem
 refusal_of (Ok value) = None
 refusal_of (Err problem) = Some problem
 
-abbrev pub list_format : Format PlainRow
-list_format = record { number = λ row. row.line; judge = λ before row. refusal_of (body_of nothing_known row.cells); ending = λ rows. None }
+abbrev pub list_format : (file : List ℕ) → Format PlainRow
+list_format file = record { number = λ row. row.line; judge = λ before row. refusal_of (row_body file row.cells); ending = λ rows. None }
 
 abbrev pub row_with : (line : ℕ) → Result PlainBody Problem → List PlainListRow
 row_with line (Ok body) = record { line = line; body = body } ∷ []
 row_with line (Err problem) = []
 
-abbrev pub listed : PlainRow → List PlainListRow
-listed row = row_with row.line (body_of nothing_known row.cells)
+abbrev pub listed : (file : List ℕ) → PlainRow → List PlainListRow
+listed file row = row_with row.line (row_body file row.cells)
 
--- no row is refused, and these are the rows with what they say
-pub record SpellsList (rows : List PlainRow) (list : List PlainListRow) : Type 0 where
-  pub whole : IsWhole list_format rows
-  pub in_order : list ≡ flat_map listed rows
+-- no row of the file is refused, and these are the rows with what they say
+pub record SpellsList (file : List ℕ) (rows : List PlainRow) (list : List PlainListRow) : Type 0 where
+  pub whole : IsWhole (list_format file) rows
+  pub in_order : list ≡ flat_map (listed file) rows

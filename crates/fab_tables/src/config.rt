@@ -160,10 +160,7 @@ fn bits_in(alloc: Global, ranges: &[u8], count: usize, tile_bits: u32) -> Result
     ensures { Answers (λ bits. bits.items) result
         (judged (option_map problems.Malformed (or_else (range_reason ranges.now count) (outside_reason tile_bits (listed_bits ranges.now)))) (listed_bits ranges.now)) }
 {
-    let items = match items_in(alloc, ranges, count) {
-        Ok(items) => items,
-        Err(problem) => return Err(problem),
-    };
+    let items = items_in(alloc, ranges, count)?;
     match listed_bits(alloc, &items, tile_bits)? {
         Some(bits) => Ok(bits),
         None => Err(Problem::Malformed(Reason::Bit)),
@@ -215,13 +212,8 @@ fn take_behind(
     }
     let frame = frame_in(frames, cell_at(cells, 1))?;
     let ones = ones_in(alloc, cell_at(cells, 3), cell_at(cells, 2))?;
-    let bits = match bits_in(alloc, cell_at(cells, 4), ones.len(), tile_bits) {
-        Ok(bits) => bits,
-        Err(problem) => return Err(problem),
-    };
-    if let Err(problem) = push_entries(entries, frame, &bits, &ones) {
-        return Err(problem);
-    }
+    let bits = bits_in(alloc, cell_at(cells, 4), ones.len(), tile_bits)?;
+    push_entries(entries, frame, &bits, &ones)?;
     frames.push(frame)?;
     Ok(())
 }

@@ -197,10 +197,7 @@ fn take_output(
     ensures { Answers (λ _. record { tile = names.now; inputs = Some inputs.now; outputs = key_names outputs.new.keys; pairs = pairs.new.items }) result
         (behind_inputs (record { tile = names.now; inputs = Some inputs.now; outputs = key_names outputs.old.keys; pairs = pairs.old.items }) inputs.now cells.now) }
 {
-    let output = match output_in(names, inputs.len(), outputs, cells) {
-        Ok(output) => output,
-        Err(problem) => return Err(problem),
-    };
+    let output = output_in(names, inputs.len(), outputs, cells)?;
     push_pairs(pairs, output, inputs, cells_behind(cells))?;
     insert_name(alloc, outputs, output_of(cells))?;
     Ok(())
@@ -220,13 +217,9 @@ fn take_cells(
     if let Some(inputs) = inputs {
         return take_output(alloc, names, inputs, outputs, pairs, cells);
     }
-    match take_inputs(alloc, names, cells_behind(cells)) {
-        Ok(numbers) => {
-            *inputs = Some(numbers);
-            Ok(())
-        }
-        Err(problem) => Err(problem),
-    }
+    let numbers = take_inputs(alloc, names, cells_behind(cells))?;
+    *inputs = Some(numbers);
+    Ok(())
 }
 
 /// What the rows so far say: the inputs once the first row is taken, the outputs that have a row, and their pairs.

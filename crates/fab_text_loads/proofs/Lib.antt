@@ -12,4 +12,5 @@ pub mod Settled
 pub mod Ticks
 pub mod Runs
 pub mod Stays
+pub mod Written
 pub mod Together

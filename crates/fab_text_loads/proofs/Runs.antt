@@ -1,14 +1,15 @@
--- Loading words takes the machine and the latches through them, and so to the configuration.
-use Rattle.std.proofs.Common.{◌≡◌, ℕ, zero, suc, ◌+◌, ◌*◌, ◌<◌, Bool, true, false, List, [], ◌∷◌, length, refl, ap, ◌∙◌, subst, arith, Some, All}
+-- Writing words takes the machine and the latches through the turns of their moments, and so to the configuration.
+use Rattle.std.proofs.Common.{◌≡◌, ℕ, zero, suc, ◌+◌, ◌*◌, ◌<◌, Bool, true, false, List, [], ◌∷◌, length, refl, sym, ap, ◌∙◌, subst, arith, Some, All}
+use Rattle.std.specs.List.{AllZip}
 use Rattle.std.specs.Option.{option_and_then}
-use Rattle.std.proofs.lemmas.List.Elements.{All-head, All-tail, All-map, All-contains}
+use Rattle.std.proofs.lemmas.List.Elements.{All-nil, All-cons, All-head, All-tail, All-map, All-contains}
 use Rattle.std.proofs.lemmas.Option.{slice_get-get_or}
 use Rattle.fab_bits.specs.Bits.{bit_number, number, digits, first_bits}
 use Rattle.fab_syntax.specs.Plain.{PlainModule, part}
 use Rattle.fab_meaning.specs.Points.{point, hold}
 use Rattle.fab_meaning.specs.Settled.{Assignment, IsSettledOn}
 use Rattle.fab_meaning.specs.Runs.{clock_name, Ticks, Moment, IsRunOn}
-use Rattle.fab_meaning.specs.Loading.{IsLoading, OfferWords, OffersWord, Loads}
+use Rattle.fab_meaning.specs.Loading.{IsLoading}
 use Rattle.fab_model.specs.Tables.{HasTable}
 use Rattle.fab_model.specs.Tiles.{PlainTile, tile_bits}
 use Rattle.fab_model.specs.Grid.{PlainFabric, tile_at}
@@ -18,7 +19,6 @@ use Rattle.fab_frames.specs.Stream.{stream, placed_bit, bit_placed_at}
 use Rattle.fab_frames.proofs.Placed.{placed_at}
 use Rattle.fab_gen_tile.specs.Names.{frame_data_name, frame_strobe_name, latch_name}
 use Rattle.fab_gen_tile.specs.ConfigModule.{config_module}
-use Rattle.fab_gen_loader.specs.Machine.{Word, tick}
 use Rattle.fab_gen_loader.specs.Loader.{NextValues, loader_of, state_name, machine_at}
 use Rattle.fab_tile_drives.proofs.Driven.{declared_at}
 use Rattle.fab_tile_drives.proofs.Latches.{latch_width}
@@ -26,15 +26,15 @@ use Rattle.fab_drives.specs.Points.{ShowsBits}
 use Rattle.fab_drives.proofs.Lists.{all_of}
 use Rattle.fab_drives.proofs.Modules.{tile_of_types}
 use Rattle.fab_drives.proofs.Places.{in_grid}
-use Rattle.fab_loading.specs.Latches.{IsWord, after_words, latch_shows, latch_after}
+use Rattle.fab_loading.specs.Latches.{IsWord, Turn, word, pause, other_clock, words_of, after_turn, after_turns, latch_shows, latch_after}
 use Rattle.fab_loading.specs.Streams.{stream_words, StreamsLoad, TicksKeepMachines}
 use Rattle.fab_text_loads.specs.Points.{loader_path, config_path, in_loader, in_configuration}
-use Rattle.fab_text_loads.specs.Loads.{IsConfigured}
+use Rattle.fab_text_loads.specs.Loads.{IsTurn, Writes, IsConfigured}
 use Rattle.fab_text_loads.proofs.Drivers.{latched_by}
 use Rattle.fab_text_loads.proofs.Loader.{HasLoader}
 use Rattle.fab_text_loads.proofs.Named.{latch_there, config_stands, named_are_loading}
 use Rattle.fab_text_loads.proofs.Settled.{latch_place, latch_point, latch_is_shown}
-use Rattle.fab_text_loads.proofs.Ticks.{digits_long, held_is_machine, machine_same, machine_ticks}
+use Rattle.fab_text_loads.proofs.Ticks.{digits_long, held_is_machine, machine_same, word_ticks, quiet_ticks, machine_stays}
 
 -- a bit of a tile, whose latch has a place
 pub record HasLatch (fabric : PlainFabric) (x y number : ℕ) : Type 0 where
@@ -44,12 +44,26 @@ pub record HasLatch (fabric : PlainFabric) (x y number : ℕ) : Type 0 where
   pub few_frames : (latch_place x y tile number).frame < 20
   pub few_bits : (latch_place x y tile number).bit < 32
 
--- the machine and the latches have gone through words
-record HasTaken (fabric : PlainFabric) (words : List Word) (held after : Assignment) : Type 0 where
-  machine : machine_at after loader_path fabric.rows ≡ after_words fabric.rows (machine_at held loader_path fabric.rows) words
+-- the machine and the latches have gone through turns
+record HasTaken (fabric : PlainFabric) (turns : List Turn) (held after : Assignment) : Type 0 where
+  machine : machine_at after loader_path fabric.rows ≡ after_turns fabric.rows (machine_at held loader_path fabric.rows) turns
   latches : (x y number : ℕ) (latch : HasLatch fabric x y number) →
       after (latch_point x y number)
-      ≡ latch_after fabric.rows (machine_at held loader_path fabric.rows) (latch_place x y latch.tile number) (held (latch_point x y number)) words
+      ≡ latch_after fabric.rows (machine_at held loader_path fabric.rows) (latch_place x y latch.tile number) (held (latch_point x y number)) turns
+
+-- a word is of 32 bits
+abbrev IsWordTurn : Turn → Type 0
+IsWordTurn (word offered) = IsWord offered
+IsWordTurn pause = Unit {0}
+IsWordTurn other_clock = Unit {0}
+
+-- the words of turns are such
+words_fit : (turns : List Turn) → All IsWord (words_of turns) → All IsWordTurn turns
+words_fit [] long = All-nil IsWordTurn
+words_fit (word offered ∷ turns) long =
+    All-cons IsWordTurn (word offered) turns (All-head IsWord offered (words_of turns) long) (words_fit turns (All-tail IsWord offered (words_of turns) long))
+words_fit (pause ∷ turns) long = All-cons IsWordTurn pause turns tt (words_fit turns long)
+words_fit (other_clock ∷ turns) long = All-cons IsWordTurn other_clock turns tt (words_fit turns long)
 
 module _ (fabric : PlainFabric) (next : NextValues) (text : List PlainModule) (has : HasLoader fabric next text) (is : IsFabric fabric) where
   abbrev rows : ℕ
@@ -107,35 +121,42 @@ module _ (fabric : PlainFabric) (next : NextValues) (text : List PlainModule) (h
   -- ---- a run
 
   module _ (keeps : TicksKeepMachines) where
-    taken_one : (word : Word) (words : List Word) (moment : Moment) (held now between after : Assignment) → IsWord word → OffersWord word moment.inputs → moment.clock ≡ clock_name →
-        IsSettledOn (IsLoading text) text moment.inputs held now → Ticks (IsLoading text) text moment.clock held now between → HasTaken fabric words between after →
-        HasTaken fabric (word ∷ words) held after
-    taken_one word words moment held now between after long offers clock settled ticks later =
-        let ticks_here : Ticks (IsLoading text) text clock_name held now between = subst (λ clock. Ticks (IsLoading text) text clock held now between) clock ticks in
-        let steps : machine_at between loader_path rows ≡ tick rows (machine_at held loader_path rows) true word =
-        machine_ticks fabric next text has is keeps moment.inputs held now between settled ticks_here true word offers.strobe offers.bits long in
-        record {
-          machine = later.machine ∙ ap (λ machine. after_words rows machine words) steps;
-          latches = λ x y number latch.
-              let place = latch_place x y latch.tile number in
-              let keeps_it : between (latch_point x y number) ≡ latch_shows (machine_at held loader_path rows) place (held (latch_point x y number)) =
-              latch_ticks x y number latch moment.clock held now between ticks ∙ latch_now x y number latch moment.inputs held now settled in
-              later.latches x y number latch
-              ∙ (λ j. latch_after rows (steps j) place (keeps_it j) words);
-        }
+    module _ (moment : Moment) (held now between : Assignment)
+        (settled : IsSettledOn (IsLoading text) text moment.inputs held now) (ticks : Ticks (IsLoading text) text moment.clock held now between) where
+      ticks_here : moment.clock ≡ clock_name → Ticks (IsLoading text) text clock_name held now between
+      ticks_here clock = subst (λ clock. Ticks (IsLoading text) text clock held now between) clock ticks
 
-    taken : (words : List Word) (moments : List Moment) (held after : Assignment) → All IsWord words → OfferWords words moments → IsRunOn (IsLoading text) text moments held after →
-        HasTaken fabric words held after
-    taken [] [] held after long offers run = record {
+      machine_turns : (turn : Turn) → IsWordTurn turn → IsTurn turn moment → machine_at between loader_path rows ≡ after_turn rows (machine_at held loader_path rows) turn
+      machine_turns (word offered) long (clock, offers) =
+          word_ticks fabric next text has is keeps moment.inputs held now between settled (ticks_here clock) offered offers long
+      machine_turns pause long (clock, quiet) = quiet_ticks fabric next text has is keeps moment.inputs held now between settled (ticks_here clock) quiet
+      machine_turns other_clock long other = machine_stays fabric next text has moment.clock other held now between ticks
+
+      taken_one : (turn : Turn) (turns : List Turn) (after : Assignment) → IsWordTurn turn → IsTurn turn moment → HasTaken fabric turns between after → HasTaken fabric (turn ∷ turns) held after
+      taken_one turn turns after long is_turn later =
+          let steps = machine_turns turn long is_turn in
+          record {
+            machine = later.machine ∙ ap (λ machine. after_turns rows machine turns) steps;
+            latches = λ x y number latch.
+                let place = latch_place x y latch.tile number in
+                let keeps_it : between (latch_point x y number) ≡ latch_shows (machine_at held loader_path rows) place (held (latch_point x y number)) =
+                latch_ticks x y number latch moment.clock held now between ticks ∙ latch_now x y number latch moment.inputs held now settled in
+                later.latches x y number latch
+                ∙ (λ j. latch_after rows (steps j) place (keeps_it j) turns);
+          }
+
+    taken : (turns : List Turn) (moments : List Moment) (held after : Assignment) → All IsWordTurn turns → AllZip IsTurn turns moments → IsRunOn (IsLoading text) text moments held after →
+        HasTaken fabric turns held after
+    taken [] [] held after long are_turns run = record {
       machine = machine_same rows next after held (λ name bit listed few. run (point loader_path name bit)
           (named_are_loading fabric next text has (point loader_path name bit) (in_loader refl) (declared_at text loader_path (loader_of rows next) name bit has.stands few)));
       latches = λ x y number latch. run (latch_point x y number) (latch_loads x y number latch);
     }
-    taken [] (moment ∷ moments) held after long offers run = absurd offers
-    taken (word ∷ words) [] held after long offers run = absurd offers
-    taken (word ∷ words) (moment ∷ moments) held after long offers (now, between, settled, low, ticks, rest) =
-        taken_one word words moment held now between after (All-head IsWord word words long) offers.0 offers.1 settled ticks
-        (taken words moments between after (All-tail IsWord word words long) offers.2 rest)
+    taken [] (moment ∷ moments) held after long are_turns run = absurd are_turns
+    taken (turn ∷ turns) [] held after long are_turns run = absurd are_turns
+    taken (turn ∷ turns) (moment ∷ moments) held after long are_turns (now, between, settled, low, ticks, rest) =
+        taken_one moment held now between settled ticks turn turns after (All-head IsWordTurn turn turns long) are_turns.0
+        (taken turns moments between after (All-tail IsWordTurn turn turns long) are_turns.1 rest)
 
     -- ---- the configuration
 
@@ -149,13 +170,14 @@ module _ (fabric : PlainFabric) (next : NextValues) (text : List PlainModule) (h
         let rest : number (first_bits n (λ i. f (suc i))) ≡ 0 = omega (arith, none) in
         zero_bits n (λ i. f (suc i)) rest bit (omega (arith, few))
 
-    pub loading_configures : StreamsLoad → (bits : PlainBits) (held after : Assignment) → Loads text (stream_words fabric bits) held after → IsConfigured fabric bits after
+    pub writing_configures : StreamsLoad → (bits : PlainBits) (moments : List Moment) (held after : Assignment) → Writes (stream_words fabric bits) moments →
+        IsRunOn (IsLoading text) text moments held after → IsConfigured fabric bits after
     unfolding has_latch
-    loading_configures streams_load bits held after loads =
-        let words = stream_words fabric bits in
-        let loaded = streams_load fabric bits (machine_at held loader_path rows) is (held_is_machine rows held) in
-        let long : All IsWord words = All-map IsWord (digits 32) (stream fabric bits) (all_of (λ (n : ℕ). IsWord (digits 32 n)) (stream fabric bits) (digits_long 32)) in
-        let through = taken words loads.moments held after long loads.offers loads.run in
+    writing_configures streams_load bits moments held after writes run =
+        let loaded = streams_load fabric bits (machine_at held loader_path rows) writes.turns is (held_is_machine rows held) writes.written in
+        let long : All IsWord (words_of writes.turns) =
+        subst (All IsWord) (sym writes.written) (All-map IsWord (digits 32) (stream fabric bits) (all_of (λ (n : ℕ). IsWord (digits 32 n)) (stream fabric bits) (digits_long 32))) in
+        let through = taken writes.turns moments held after (words_fit writes.turns long) writes.each run in
         record {
           state = zero_bits 2 (λ bit. after (point loader_path state_name bit)) (ap (λ machine. machine.state) through.machine ∙ loaded.state);
           strobe = ap (λ machine. machine.strobe) through.machine ∙ loaded.strobe;

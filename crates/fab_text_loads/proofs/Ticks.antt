@@ -1,5 +1,9 @@
--- A tick of CLK takes the loader's machine a step on, and leaves each latch with what it shows.
-use Rattle.std.proofs.Common.{◌≡◌, ℕ, zero, suc, ◌/◌, ◌^◌, ◌<◌, Bool, false, List, [], ◌∷◌, length, get_or, cond, refl, sym, ap, ◌∙◌, subst, arith, All, Contains, slice_index_or}
+-- A tick of CLK takes the machine of the loader a step on, and a tick of another clock leaves it as it is.
+use Rattle.std.proofs.Common.{◌≡◌, ◌≢◌, ℕ, zero, suc, ◌/◌, ◌^◌, ◌<◌, Bool, true, false, List, [], ◌∷◌, length, get_or, cond, refl, sym, ap, ◌∙◌, subst, inl, inr, arith, All, Contains, slice_index_or}
+use Rattle.std.specs.Str.{bytes_eq}
+use Rattle.std.proofs.lemmas.Bool.{cases_Bool}
+use Rattle.std.proofs.lemmas.List.Elements.{All-contains}
+use Rattle.std.proofs.lemmas.Slice.Eq.{bytes_eq-Decides}
 use Rattle.fab_bits.specs.Bits.{number, digits, first_bits}
 use Rattle.fab_bits.proofs.Numbers.{length_first_bits, first_bits_same, get_first_bits}
 use Rattle.fab_frames.proofs.Numbers.{digits_number, number_digits, number_below}
@@ -8,7 +12,7 @@ use Rattle.fab_meaning.specs.Value.{value, bit_at}
 use Rattle.fab_meaning.specs.Points.{point, flop}
 use Rattle.fab_meaning.specs.Settled.{Assignment, names_at, IsSettledOn}
 use Rattle.fab_meaning.specs.Runs.{clock_name, is_clock, Ticks}
-use Rattle.fab_meaning.specs.Loading.{data_name, IsLoading}
+use Rattle.fab_meaning.specs.Loading.{data_name, OffersWord, IsLoading}
 use Rattle.fab_model.specs.Tiles.{counted}
 use Rattle.fab_model.specs.Grid.{PlainFabric}
 use Rattle.fab_fabric.specs.Fabric.{IsFabric}
@@ -22,7 +26,7 @@ use Rattle.fab_tile_drives.proofs.Endings.{all_counted}
 use Rattle.fab_loading.specs.Latches.{IsWord, IsMachine}
 use Rattle.fab_loading.specs.Streams.{TicksKeepMachines}
 use Rattle.fab_text_loads.specs.Points.{loader_path, in_loader}
-use Rattle.fab_text_loads.proofs.Loader.{HasLoader, strobe_register_width, register_names, all_registers, row_register, loader_clock}
+use Rattle.fab_text_loads.proofs.Loader.{HasLoader, strobe_register_width, register_names, all_registers, row_register, IsFlop, registers_are_flops, loader_clock}
 use Rattle.fab_text_loads.proofs.Named.{named_are_loading}
 use Rattle.fab_text_loads.proofs.Settled.{register_shows, input_shows}
 
@@ -137,28 +141,31 @@ module _ (fabric : PlainFabric) (next : NextValues) (text : List PlainModule) (h
       (may.words row [] (omega (arith, few, may.as_many))) (row_width rows next row few)) in
       λ j. record { state = state j; count = count j; address = address j; strobe = strobe j; rows = others j }
 
-  -- the machine after the tick, by what the inputs offer
-  pub machine_ticks : (write : Bool) (word : Word) → inputs (point [] write_strobe_name 0) ≡ write → ((bit : ℕ) → inputs (point [] data_name bit) ≡ bit_at word bit) → IsWord word →
-      machine_at after loader_path rows ≡ tick rows (machine_at held loader_path rows) write word
-  machine_ticks write word strobe_is bits_are long =
-      let strobe : now (point loader_path write_strobe_name 0) ≡ write =
-      input_shows fabric next text has is inputs held now settled write_strobe_name 0 (1, omega arith, refl) (1, omega arith, refl) refl refl (omega arith) (omega arith) ∙ strobe_is in
+  -- the machine after the tick, where the inputs offer a word
+  pub word_ticks : (word : Word) → OffersWord word inputs → IsWord word → machine_at after loader_path rows ≡ tick rows (machine_at held loader_path rows) true word
+  word_ticks word offers long =
+      let strobe : now (point loader_path write_strobe_name 0) ≡ true =
+      input_shows fabric next text has is inputs held now settled write_strobe_name 0 (1, omega arith, refl) (1, omega arith, refl) refl refl (omega arith) (omega arith) ∙ offers.strobe in
       let bits : bits_at now loader_path data_name 32 ≡ word =
       first_bits_same 32 (λ bit. now (point loader_path data_name bit)) (λ bit. bit_at word bit)
-      (λ bit few. input_shows fabric next text has is inputs held now settled data_name bit (2, omega arith, refl) (2, omega arith, refl) refl refl few few ∙ bits_are bit)
+      (λ bit few. input_shows fabric next text has is inputs held now settled data_name bit (2, omega arith, refl) (2, omega arith, refl) refl refl few few ∙ offers.bits bit)
       ∙ ap (λ n. first_bits n (λ bit. bit_at word bit)) (sym long)
       ∙ bits_again word in
       machine_steps ∙ (λ j. tick rows (shown_machine j) (strobe j) (bits j))
 
   -- ---- no word is written
 
-  module _ (quiet : inputs (point [] write_strobe_name 0) ≡ false) (strobe_low : held (point loader_path strobe_register_name 0) ≡ false) where
-    quiet_step : stepped ≡ record (machine_at held loader_path rows) { strobe = false }
-    quiet_step =
-        let strobe : now (point loader_path write_strobe_name 0) ≡ false =
-        input_shows fabric next text has is inputs held now settled write_strobe_name 0 (1, omega arith, refl) (1, omega arith, refl) refl refl (omega arith) (omega arith) ∙ quiet in
-        λ j. tick rows (shown_machine j) (strobe j) (bits_at now loader_path data_name 32)
+  quiet_step : inputs (point [] write_strobe_name 0) ≡ false → stepped ≡ tick rows (machine_at held loader_path rows) false []
+  quiet_step quiet =
+      let strobe : now (point loader_path write_strobe_name 0) ≡ false =
+      input_shows fabric next text has is inputs held now settled write_strobe_name 0 (1, omega arith, refl) (1, omega arith, refl) refl refl (omega arith) (omega arith) ∙ quiet in
+      λ j. tick rows (shown_machine j) (strobe j) (bits_at now loader_path data_name 32)
 
+  -- the machine after the tick, where they offer none
+  pub quiet_ticks : inputs (point [] write_strobe_name 0) ≡ false → machine_at after loader_path rows ≡ tick rows (machine_at held loader_path rows) false []
+  quiet_ticks quiet = machine_steps ∙ quiet_step quiet
+
+  module _ (quiet : inputs (point [] write_strobe_name 0) ≡ false) (strobe_low : held (point loader_path strobe_register_name 0) ≡ false) where
     abbrev pub Stays : List ℕ → Type 0
     Stays name = (bit : ℕ) → bit < width_of (loader_of rows next) name → after (point loader_path name bit) ≡ held (point loader_path name bit)
 
@@ -169,7 +176,7 @@ module _ (fabric : PlainFabric) (next : NextValues) (text : List PlainModule) (h
     state_stays bit few =
         let f : ℕ → Bool = λ bit. held (point loader_path state_name bit) in
         after_takes state_name (digits 2 stepped.state) bit takes_here.state few
-        ∙ ap (λ (m : Machine). bit_at (digits 2 m.state) bit) quiet_step
+        ∙ ap (λ (m : Machine). bit_at (digits 2 m.state) bit) (quiet_step quiet)
         ∙ ap (λ bits. bit_at bits bit) (digits_again 2 f)
         ∙ get_first_bits 2 f bit false (omega (arith, few, state_width rows next))
 
@@ -177,14 +184,14 @@ module _ (fabric : PlainFabric) (next : NextValues) (text : List PlainModule) (h
     count_stays bit few =
         let f : ℕ → Bool = λ bit. held (point loader_path count_name bit) in
         after_takes count_name (digits 5 stepped.count) bit takes_here.count few
-        ∙ ap (λ (m : Machine). bit_at (digits 5 m.count) bit) quiet_step
+        ∙ ap (λ (m : Machine). bit_at (digits 5 m.count) bit) (quiet_step quiet)
         ∙ ap (λ bits. bit_at bits bit) (digits_again 5 f)
         ∙ get_first_bits 5 f bit false (omega (arith, few, count_width rows next))
 
     address_stays : Stays address_name
     address_stays bit few =
         after_takes address_name stepped.address bit takes_here.address few
-        ∙ ap (λ (m : Machine). bit_at m.address bit) quiet_step
+        ∙ ap (λ (m : Machine). bit_at m.address bit) (quiet_step quiet)
         ∙ get_first_bits 32 (λ bit. held (point loader_path address_name bit)) bit false (omega (arith, few, address_width rows next))
 
     strobe_stays : Stays strobe_register_name
@@ -192,17 +199,43 @@ module _ (fabric : PlainFabric) (next : NextValues) (text : List PlainModule) (h
         let first : 0 ≡ bit = omega (arith, few, strobe_register_width rows next) in
         subst (λ bit. after (point loader_path strobe_register_name bit) ≡ held (point loader_path strobe_register_name bit)) first
         (after_takes strobe_register_name (stepped.strobe ∷ []) 0 takes_here.strobe (omega (arith, strobe_register_width rows next))
-        ∙ ap (λ (m : Machine). m.strobe) quiet_step
+        ∙ ap (λ (m : Machine). m.strobe) (quiet_step quiet)
         ∙ sym strobe_low)
 
     row_stays : (row : ℕ) → row < rows → Stays (row_name row)
     row_stays row within bit few =
         let f : ℕ → Bool = λ bit. held (point loader_path (row_name row) bit) in
         after_takes (row_name row) (slice_index_or stepped.rows row []) bit (takes_here.each_row row within) few
-        ∙ ap (λ (m : Machine). bit_at (slice_index_or m.rows row []) bit) quiet_step
+        ∙ ap (λ (m : Machine). bit_at (slice_index_or m.rows row []) bit) (quiet_step quiet)
         ∙ ap (λ bits. bit_at bits bit) (get_counted rows (λ row. bits_at held loader_path (row_name row) 32) row [] within)
         ∙ get_first_bits 32 f bit false (omega (arith, few, row_width rows next row within))
 
     -- then the registers stay as they are
     pub registers_stay : All Stays (register_names rows)
     registers_stay = all_registers Stays rows state_stays count_stays address_stays strobe_stays row_stays
+
+-- ---- a tick of another clock
+
+module _ (fabric : PlainFabric) (next : NextValues) (text : List PlainModule) (has : HasLoader fabric next text)
+    (clock : List ℕ) (other : clock ≢ clock_name) (held now after : Assignment) (ticks : Ticks (IsLoading text) text clock held now after) where
+  other_clock : bytes_eq clock_name clock ≡ false
+  other_clock =
+      elim (cases_Bool (bytes_eq clock_name clock)) [
+        | inl same ↦ absurd (other (sym ((bytes_eq-Decides clock_name clock).0 same)))
+        | inr differs ↦ differs
+      ]
+
+  register_keeps : (name : List ℕ) (bit : ℕ) → Contains (register_names fabric.rows) name → bit < width_of (loader_of fabric.rows next) name →
+      after (point loader_path name bit) ≡ held (point loader_path name bit)
+  register_keeps name bit listed few =
+      let p = point loader_path name bit in
+      let is_flop : IsFlop text name = All-contains (IsFlop text) (register_names fabric.rows) name (registers_are_flops fabric next text has) listed in
+      let taken = bit_at (value (names_at text now loader_path) is_flop.0) bit in
+      ticks p (flop loader_path clock_name is_flop.0 bit)
+      (named_are_loading fabric next text has p (in_loader refl) (declared_at text loader_path (loader_of fabric.rows next) name bit has.stands few)) (is_flop.1 bit)
+      ∙ ap (λ found. cond (is_clock clock found) taken (held p)) (loader_clock fabric next text has)
+      ∙ ap (λ ticked. cond ticked taken (held p)) other_clock
+
+  -- the machine stays
+  pub machine_stays : machine_at after loader_path fabric.rows ≡ machine_at held loader_path fabric.rows
+  machine_stays = machine_same fabric.rows next after held register_keeps

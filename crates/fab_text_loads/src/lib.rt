@@ -1,24 +1,23 @@
 //! The law of loading: the words of a bitstream configure the text of a fabric, whatever its flip-flops and latches held.
 #![tactic(auto)]
 
+ghost use Rattle.std.specs.Prelude.{List};
 ghost use Rattle.fab_syntax.specs.Plain.{PlainModule};
-ghost use Rattle.fab_syntax.specs.Sound.{IsSound};
 ghost use Rattle.fab_model.specs.Grid.{PlainFabric};
 ghost use Rattle.fab_fabric.specs.Fabric.{IsFabric};
-ghost use Rattle.fab_gen_loader.specs.Loader.{IsLoader};
-ghost use Rattle.fab_fabric_text.specs.Text.{fabric_text};
 ghost use Rattle.fab_text_loads.specs.Loads.{LoadsConfigurations};
+ghost use Rattle.fab_text_loads.specs.Texts.{IsFabricText};
 
 use fab_load_runs::loading_runs_exist;
 use fab_loading::{streams_load, ticks_keep_machines};
-use fab_meaning::laws::loading_runs_agree;
+use fab_meaning::laws::{loading_points_stay, loading_runs_agree};
 
 /// In the text of a fabric, with any loader that steps by the table, the words of the bitstream of any bits load these bits.
 pub fn fabric_texts_load()
-    ensures { (fabric : PlainFabric) (loader : PlainModule) → IsFabric fabric → IsLoader fabric.rows loader →
-        IsSound (fabric_text fabric loader) → LoadsConfigurations fabric (fabric_text fabric loader) }
+    ensures { (fabric : PlainFabric) (text : List PlainModule) → IsFabric fabric → IsFabricText fabric text → LoadsConfigurations fabric text }
 {
     loading_runs_agree();
+    loading_points_stay();
     loading_runs_exist();
     ticks_keep_machines();
     streams_load();

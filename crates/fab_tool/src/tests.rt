@@ -1,4 +1,4 @@
-//! The command `matrix` from its words to the stored bytes, on a desk and a sink in memory.
+//! The commands from their words to the stored bytes, on a desk and a sink in memory.
 
 use crate::run;
 use fab_base::Status;
@@ -100,6 +100,43 @@ BEL,LUT4c_frame_config.v,LA_
 MATRIX,log.list
 EndTILE
 # two columns, one row
+";
+
+/// A whole fabric: a row of pads and a look-up table.
+const SMALL: &str = "\
+FabricBegin
+PADS,LOGIC
+FabricEnd
+TILE,PADS
+EAST,E2BEG,1,0,NULL,1
+WEST,NULL,-1,0,W2END,1
+JUMP,NULL,0,0,GND,1
+JUMP,NULL,0,0,VCC,1
+BEL,IO_1_bidirectional_frame_config_pass.v,A_
+MATRIX,pads.list
+EndTILE
+TILE,LOGIC
+EAST,NULL,1,0,E2END,1
+WEST,W2BEG,-1,0,NULL,1
+JUMP,NULL,0,0,GND,1
+JUMP,NULL,0,0,VCC,1
+BEL,LUT4c_frame_config.v,L_
+MATRIX,logic.list
+EndTILE
+";
+
+const PADS: &str = "\
+E2BEG0,A_O
+A_I,W2END0
+{2}A_T,[GND0|VCC0]
+";
+
+const LOGIC: &str = "\
+L_I[0|1|2|3],{4}E2END0
+L_Ci,GND0
+L_SR,GND0
+L_EN,VCC0
+{2}W2BEG0,[L_O|L_Co]
 ";
 
 fn words(alloc: Global, line: &str) -> Result<Vec<String>, AllocError> {
@@ -323,6 +360,29 @@ fn keeps_its_status_where_the_report_is_not_taken(rt: HostRuntime) -> Result<(),
     let mut out = MemSink::new(alloc, vec![in alloc; 1]?);
     assert_eq!(rt; run(alloc, &[], &mut desk, &mut out), Status(1));
     assert!(rt; out.bytes().is_empty());
+    Ok(())
+}
+
+#[test]
+fn stores_the_text_of_a_fabric(rt: HostRuntime) -> Result<(), Fail> {
+    let alloc = rt.alloc();
+    let mut files = Vec::new(alloc);
+    for (name, content) in [
+        ("small.csv", SMALL),
+        ("pads.list", PADS),
+        ("logic.list", LOGIC),
+    ] {
+        files.push((
+            String::from_str(alloc, name)?,
+            Vec::from_slice(alloc, content.as_bytes())?,
+        ))?;
+    }
+    let mut desk = MemDesk::new(alloc, files, Vec::new(alloc))?;
+    let mut out = MemSink::new(alloc, Vec::new(alloc));
+    let line = words(alloc, "generate small.csv out.v")?;
+    assert_eq!(rt; run(alloc, &line, &mut desk, &mut out), Status(0));
+    assert!(rt; out.bytes().is_empty());
+    assert!(rt; !desk.file("out.v").ok_or("no text")?.is_empty());
     Ok(())
 }
 

@@ -24,7 +24,7 @@ use Rattle.fab_vread.specs.declared.expressions.Over.{Over}
 use Rattle.fab_vread.specs.Expressions.{PlainLevel, Spot, Behind, wanting, named, select, high, colon, low, after, operand, branch, whole, completed, taken, after_behind, after_whole, with_over}
 use Rattle.fab_vread.specs.Places.{move_of}
 use Rattle.fab_vread.specs.Machine.{Machine, PlainState, outside, inside, first_machine, after_token, after_token_at, with_stepped, with_value, valued, made, read_of}
-use Rattle.fab_vread.specs.Running.{run, and_next}
+use Rattle.fab_vread.proofs.Running.{run, and_next}
 use Rattle.fab_vread.proofs.Runs.{both}
 use Rattle.fab_vread.proofs.Recognized.{recognized_tree}
 use Rattle.fab_vread.proofs.Placing.{text_accepted}
@@ -151,18 +151,7 @@ spelled_read file bytes modules s =
     let told = spelled_told bytes s.tokens s.spelled in
     text_read file bytes a.final (ap (λ ts. run first_machine ts) told ∙ a.runs) exact.1 a.done ∙ ap Ok exact.0
 
-abbrev given_text : List PlainModule → Result (List PlainModule) Fault
-given_text modules = Ok modules
-
-same_text : (these those : List PlainModule) → given_text these ≡ given_text those → these ≡ those
-same_text these those e = cc
-
--- bytes spell at most one text
-pub text_is_one : (bytes : List ℕ) (these those : List PlainModule) → SpellsText 300 128 bytes these → SpellsText 300 128 bytes those → these ≡ those
-text_is_one bytes these those p q =
-    let a = spelled_read [] bytes these p in
-    let b = spelled_read [] bytes those q in
-    same_text these those (sym a ∙ b)
-
-pub printed_read : (file : List ℕ) (modules : List PlainModule) → IsPrintableText modules → read_of file (text_bytes modules) ≡ Ok modules
-printed_read file modules printable = spelled_read file (text_bytes modules) modules (texts_form modules printable)
+-- what is printed is read
+pub printed_read : (file bytes : List ℕ) (modules : List PlainModule) → IsPrintableText modules → bytes ≡ text_bytes modules → read_of file bytes ≡ Ok modules
+printed_read file bytes modules printable same =
+    spelled_read file bytes modules (subst (λ b. SpellsText 300 128 b modules) (sym same) (texts_form modules printable))

@@ -195,9 +195,9 @@ module _ (bound : ℕ) (enough : 300 ≤ bound) where
   taken_fine over ls (wanting before) t few = wanting_fine over ls before t (omega arith)
   taken_fine over ls (named before n) t few = name_fine over ls before n t (is_this_mark 91 t) refl (omega arith)
   taken_fine over ls (select before n) (Number number) few = λ fine. (fine, (omega arith, refl))
-  taken_fine over ls (select before n) (Mark byte) few = wanting_fine over (level before (index n) ∷ ls) nothing (Mark byte) (omega arith)
-  taken_fine over ls (select before n) (Identifier name) few = wanting_fine over (level before (index n) ∷ ls) nothing (Identifier name) (omega arith)
-  taken_fine over ls (select before n) (Constant bits) few = wanting_fine over (level before (index n) ∷ ls) nothing (Constant bits) (omega arith)
+  taken_fine over ls (select before n) (Mark byte) few = wanting_fine over (steps.kept_level (length ls) before (index n) ∷ ls) nothing (Mark byte) (omega arith)
+  taken_fine over ls (select before n) (Identifier name) few = wanting_fine over (steps.kept_level (length ls) before (index n) ∷ ls) nothing (Identifier name) (omega arith)
+  taken_fine over ls (select before n) (Constant bits) few = wanting_fine over (steps.kept_level (length ls) before (index n) ∷ ls) nothing (Constant bits) (omega arith)
   taken_fine over ls (select before n) (Keyword keyword) few = tt
   taken_fine over ls (select before n) (Operator op) few = tt
   taken_fine over ls (select before n) Arrow few = tt

@@ -6,10 +6,13 @@ use Rattle.fab_base.specs.declared.fault.Fault.TheVariants as faults
 use Rattle.fab_base.specs.Reading.{Gives}
 use Rattle.fab_syntax.specs.declared.tree.Text.{Text}
 use Rattle.fab_syntax.specs.Plain.{PlainModule, plain_text}
+use Rattle.fab_syntax.specs.Spelling.{text_bytes}
 use Rattle.fab_grammar.specs.Grammar.{SpellsText}
+use Rattle.fab_grammar.specs.Printable.{IsPrintableText}
 use Rattle.fab_vread.specs.Machine.{read_of}
 use Rattle.fab_vread.specs.Refusals.{IsRefusal}
-use Rattle.fab_vread.proofs.Accepting.{read_spelled, spelled_read}
+use Rattle.fab_vread.proofs.Accepting.{read_spelled, spelled_read, printed_read}
+use Rattle.fab_vread.proofs.Printable.{spelled_printable}
 use Rattle.fab_vread.proofs.Refusing.{text_refused}
 
 pub found_of : (file bytes : List ℕ) (result : Result Text Fault) → Gives plain_text result (read_of file bytes) →
@@ -20,6 +23,16 @@ found_of file bytes (Err fault) h = tt
 pub only_of : (file bytes : List ℕ) (result : Result Text Fault) → Gives plain_text result (read_of file bytes) →
     (modules : List PlainModule) → SpellsText 300 128 bytes modules → Gives plain_text result (Ok modules)
 only_of file bytes result h modules s = subst (λ given. Gives plain_text result given) (spelled_read file bytes modules s) h
+
+pub printable_of : (file bytes : List ℕ) (result : Result Text Fault) → Gives plain_text result (read_of file bytes) →
+    IfOk result (λ text. IsPrintableText (plain_text text))
+printable_of file bytes (Ok text) h = spelled_printable bytes (plain_text text) (read_spelled file bytes (plain_text text) h)
+printable_of file bytes (Err fault) h = tt
+
+pub printed_of : (file bytes : List ℕ) (result : Result Text Fault) → Gives plain_text result (read_of file bytes) →
+    (modules : List PlainModule) → IsPrintableText modules → bytes ≡ text_bytes modules → Gives plain_text result (Ok modules)
+printed_of file bytes result h modules printable same =
+    subst (λ given. Gives plain_text result given) (printed_read file bytes modules printable same) h
 
 abbrev Told : (file bytes : List ℕ) → Fault → Type 0
 Told file bytes fault = (fault ≡ faults.Memory) ⊎ IsRefusal file bytes fault

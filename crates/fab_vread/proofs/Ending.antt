@@ -22,7 +22,7 @@ use Rattle.fab_vread.specs.Expressions as steps
 use Rattle.fab_vread.specs.Expressions.{PlainLevel, Spot, Before, Behind, Opened, parenthesis, brace, index, nothing, negation, left, test, choice, wanting, named, select, high, colon, low, after, operand, branch, whole, completed, kept, with_bits, is_this_mark, after_behind, after_whole, with_over, taken}
 use Rattle.fab_vread.specs.Places.{move_of}
 use Rattle.fab_vread.specs.Machine.{Machine, PlainState, outside, inside, after_token, at_start, begun, closed, declared, instanced, joined, with_item, with_gate, with_latch, with_stepped}
-use Rattle.fab_vread.specs.Running.{run, and_next}
+use Rattle.fab_vread.proofs.Running.{run, and_next}
 
 -- some name
 abbrev some_name : List ℕ

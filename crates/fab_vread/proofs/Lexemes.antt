@@ -6,8 +6,7 @@ use Rattle.fab_tokens.specs.declared.scanner.Scan.{Scan}
 use Rattle.fab_tokens.specs.declared.scanner.Scan.TheVariants as scans
 use Rattle.fab_tokens.specs.Scanning.{Lexeme, after_byte, at_end}
 use Rattle.fab_tokens.specs.Told.{tokens_from, tokens_of}
-use Rattle.fab_vread.specs.Machine.{next_line}
-use Rattle.fab_vread.specs.Refusals.{on_line, lexemes_from, lexemes_of, tokens_in}
+use Rattle.fab_vread.specs.Refusals.{next_line, on_line, lexemes_from, lexemes_of, tokens_in}
 
 on_line_tokens : (line : ℕ) (o : Option Token) (more : List Lexeme) → tokens_in (on_line line o ++ more) ≡ option_to_list o ++ tokens_in more
 on_line_tokens line None more = refl

@@ -1,4 +1,6 @@
-pub mod Levels
+pub mod Running
+pub mod Printable
+pub mod Innermost
 pub mod Runs
 pub mod Expressing
 pub mod Placing

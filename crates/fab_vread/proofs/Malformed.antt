@@ -85,9 +85,9 @@ wanting_plain ls over before Unknown = refl
 
 select_plain : (ls : List PlainLevel) (over : Option Over) (before : Before) (n : List ℕ) (t : Token) → Plainly (steps.after_select ls over before n t)
 select_plain ls over before n (Number number) = tt
-select_plain ls over before n (Mark byte) = wanting_plain (level before (index n) ∷ ls) over nothing (Mark byte)
-select_plain ls over before n (Identifier name) = wanting_plain (level before (index n) ∷ ls) over nothing (Identifier name)
-select_plain ls over before n (Constant bits) = wanting_plain (level before (index n) ∷ ls) over nothing (Constant bits)
+select_plain ls over before n (Mark byte) = wanting_plain (steps.kept_level (length ls) before (index n) ∷ ls) over nothing (Mark byte)
+select_plain ls over before n (Identifier name) = wanting_plain (steps.kept_level (length ls) before (index n) ∷ ls) over nothing (Identifier name)
+select_plain ls over before n (Constant bits) = wanting_plain (steps.kept_level (length ls) before (index n) ∷ ls) over nothing (Constant bits)
 select_plain ls over before n (Keyword keyword) = refl
 select_plain ls over before n (Operator op) = refl
 select_plain ls over before n Arrow = refl

@@ -26,7 +26,7 @@ use Rattle.fab_vread.specs.declared.places.Place.TheVariants as places
 use Rattle.fab_vread.specs.Expressions.{Stepped, Effect, going, ended, nothing, wanting, taken, refused}
 use Rattle.fab_vread.specs.Places.{move_of, to}
 use Rattle.fab_vread.specs.Machine.{Machine, PlainState, outside, inside, first_machine, after_token, with_stepped, with_effect, declared, made, is_done}
-use Rattle.fab_vread.specs.Running.{run, and_take}
+use Rattle.fab_vread.proofs.Running.{run, and_take}
 use Rattle.fab_vread.proofs.Runs.{Watched, both, depth_alone, IsFine, AreFew, within, behind, Within, Reads}
 use Rattle.fab_vread.proofs.Expressing.{Begins, expression_begins, expression_read}
 

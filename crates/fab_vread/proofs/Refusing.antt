@@ -13,9 +13,9 @@ use Rattle.fab_tokens.specs.declared.token.Token.{Token}
 use Rattle.fab_tokens.specs.declared.scanner.Scan.{Scan}
 use Rattle.fab_tokens.specs.Scanning.{Lexeme, after_byte, at_end}
 use Rattle.fab_vread.specs.declared.expressions.Over.{Over}
-use Rattle.fab_vread.specs.Machine.{Machine, Progress, after_token, first_machine, is_done, limit, past, line_checked, with_machine, located, and_go, after_lexeme, after_optional, behind_byte, next_line, read_from, unless_over, closing, first_progress, read_of}
-use Rattle.fab_vread.specs.Running.{run}
-use Rattle.fab_vread.specs.Refusals.{lexeme, on_line, lexemes_from, lexemes_of, last_line_from, last_line, tokens_in, BeginsWithin, IsAbove, UpTo, by_token, by_end, by_limit, Refused}
+use Rattle.fab_vread.specs.Machine.{Machine, Progress, after_token, first_machine, is_done, limit, past, line_checked, with_machine, located, and_go, after_lexeme, after_optional, behind_byte, read_from, unless_over, closing, first_progress, read_of}
+use Rattle.fab_vread.proofs.Running.{run}
+use Rattle.fab_vread.specs.Refusals.{next_line, lexeme, on_line, lexemes_from, lexemes_of, last_line_from, last_line, tokens_in, BeginsWithin, IsAbove, UpTo, by_token, by_end, by_limit, Refused}
 use Rattle.fab_vread.proofs.Bytes.{further, further_is}
 use Rattle.fab_vread.proofs.Viable.{taken_begins, taken_within, within_fine, text_done, done_text, over_above}
 use Rattle.fab_vread.proofs.Wrong.{token_wrong, token_unfit, token_behind}

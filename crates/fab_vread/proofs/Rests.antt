@@ -145,6 +145,15 @@ module _ (deepest widest : ℕ) (K : List Token → Type 0) where
   unshown over (Ok given) ts h = h
   unshown over (Err problem) ts h = h
 
+  -- what may follow does not depend on what is kept of expressions
+  after_kept : (count : ℕ) (M : List Token → Type 0) (room : ℕ) (before : Before) (ts : List Token) → After widest M room (steps.kept_before count before) ts →
+      After widest M room before ts
+  after_kept count M room nothing ts h = h
+  after_kept count M room negation ts h = h
+  after_kept count M room (left op e) ts h = h
+  after_kept count M room (test c) ts h = h
+  after_kept count M room (choice c a) ts h = h
+
   -- behind an operand the spot is the one behind it
   after_is : (ls : List PlainLevel) (before : Before) (e : PlainExpr) (ts : List Token) → Inside ls (after (completed before e)) ts →
       (room : ℕ) × (length ls + room ≡ deepest) × After widest (Whole widest K room ls) room before ts
@@ -245,11 +254,11 @@ module _ (deepest widest : ℕ) (K : List Token → Type 0) where
         | inl x ↦ (let i = x.1 in
             let o = i.opened in
             let b = begun_of i.room _ ts i.follows in
-            let y = parted i.room (λ us. After widest (Whole widest K (suc i.room) ls) (suc i.room) before us) (parts ++ e ∷ []) b.made b.behind in (
+            let y = parted i.room (λ us. After widest (Whole widest K (suc i.room) ls) (suc i.room) (steps.kept_before (length ls) before) us) _ b.made b.behind in (
               i.room,
               omega arith,
               at_mark (λ t. Closing widest (λ us. After widest (Whole widest K (suc i.room) ls) (suc i.room) before us) i.room (brace parts) (t ∷ ts)) byte 44 x.0
-                  (by_comma y.2 y.3),
+                  (by_comma y.2 (after_kept (length ls) (Whole widest K (suc i.room) ls) (suc i.room) before _ y.3)),
             ))
         | inr h2 ↦ elim (if_either (λ r. AfterShown r ts) (byte == 125) _ _ h2) [
           | inl x ↦ (let y = outer_after ls before (trees.concatenation (plain_exprs (parts ++ e ∷ []))) ts few x.1 in
@@ -371,14 +380,22 @@ module _ (deepest widest : ℕ) (K : List Token → Type 0) where
         | inl x ↦ (let i = x.1 in
             let o = i.opened in
             let b = begun_of i.room _ ts i.follows in
-            let y = parenthesized i.room (λ us. After widest (Whole widest K (suc i.room) ls) (suc i.room) before us) b.made b.behind in
-            (suc i.room, omega arith, at_mark (λ t. Wanting widest (Whole widest K (suc i.room) ls) (suc i.room) before (t ∷ ts)) byte 40 x.0 (begins y.2 y.3)))
+            let y = parenthesized i.room (λ us. After widest (Whole widest K (suc i.room) ls) (suc i.room) (steps.kept_before (length ls) before) us) b.made b.behind in (
+              suc i.room,
+              omega arith,
+              at_mark (λ t. Wanting widest (Whole widest K (suc i.room) ls) (suc i.room) before (t ∷ ts)) byte 40 x.0
+                  (begins y.2 (after_kept (length ls) (Whole widest K (suc i.room) ls) (suc i.room) before _ y.3)),
+            ))
         | inr h2 ↦ elim (if_either (λ r. AfterStep r ts) (byte == 123) _ _ h2) [
           | inl x ↦ (let i = x.1 in
               let o = i.opened in
               let b = begun_of i.room _ ts i.follows in
-              let y = parted i.room (λ us. After widest (Whole widest K (suc i.room) ls) (suc i.room) before us) [] b.made b.behind in
-              (suc i.room, omega arith, at_mark (λ t. Wanting widest (Whole widest K (suc i.room) ls) (suc i.room) before (t ∷ ts)) byte 123 x.0 (begins (grammar.concatenation y.2) y.3)))
+              let y = parted i.room (λ us. After widest (Whole widest K (suc i.room) ls) (suc i.room) (steps.kept_before (length ls) before) us) _ b.made b.behind in (
+                suc i.room,
+                omega arith,
+                at_mark (λ t. Wanting widest (Whole widest K (suc i.room) ls) (suc i.room) before (t ∷ ts)) byte 123 x.0
+                    (begins (grammar.concatenation y.2) (after_kept (length ls) (Whole widest K (suc i.room) ls) (suc i.room) before _ y.3)),
+              ))
           | inr h3 ↦ elim (if_either (λ r. AfterStep r ts) ((byte == 126) && steps.is_nothing before) _ _ h3) [
             | inl x ↦ (let b = both_true (byte == 126) (steps.is_nothing before) x.0 in negation_step over ls before byte ts b.0 b.1 x.1)
             | inr n ↦ absurd n
@@ -409,14 +426,14 @@ module _ (deepest widest : ℕ) (K : List Token → Type 0) where
   low_colon M l (its_end k) = its_low l k
 
   select_step : (over : Option Over) (ls : List PlainLevel) (before : Before) (n : List ℕ) (t : Token) (ts : List Token) → IsNarrow t →
-      AfterStep (after_wanting (level before (index n) ∷ ls) over nothing t) ts → Inside ls (select before n) (t ∷ ts)
+      AfterStep (after_wanting (steps.kept_level (length ls) before (index n) ∷ ls) over nothing t) ts → Inside ls (select before n) (t ∷ ts)
   unfolding Wants
   select_step over ls before n t ts narrow h =
-      let x = wanting_step over (level before (index n) ∷ ls) nothing t ts narrow h in
+      let x = wanting_step over (steps.kept_level (length ls) before (index n) ∷ ls) nothing t ts narrow h in
       let o = x.1 in
       let b = begun_of x.0 _ (t ∷ ts) x.2 in
-      let y = indexed x.0 (λ us. After widest (Whole widest K (suc x.0) ls) (suc x.0) before us) n b.made b.behind in
-      record { room = x.0; opened = omega arith; follows = picks y.1 y.2 }
+      let y = indexed x.0 (λ us. After widest (Whole widest K (suc x.0) ls) (suc x.0) (steps.kept_before (length ls) before) us) _ b.made b.behind in
+      record { room = x.0; opened = omega arith; follows = picks y.1 (after_kept (length ls) (Whole widest K (suc x.0) ls) (suc x.0) before _ y.2) }
 
   high_step : (over : Option Over) (ls : List PlainLevel) (before : Before) (n : List ℕ) (number byte : ℕ) (ts : List Token) → suc (length ls) ≤ deepest →
       AfterStep (steps.inside ls over (steps.after_high before n number (Mark byte))) ts → Inside ls (high before n number) (Mark byte ∷ ts)

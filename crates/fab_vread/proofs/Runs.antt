@@ -10,7 +10,7 @@ use Rattle.fab_vread.specs.declared.places.Purpose.{Purpose}
 use Rattle.fab_vread.specs.declared.places.Place.{Place}
 use Rattle.fab_vread.specs.Expressions.{PlainLevel, Spot, kept, with_depth, with_bits}
 use Rattle.fab_vread.specs.Machine.{Machine, outside, inside, after_token}
-use Rattle.fab_vread.specs.Running.{and_take, run}
+use Rattle.fab_vread.proofs.Running.{and_take, run}
 
 -- inside an expression
 abbrev pub within : Machine → Purpose → Option Over → List PlainLevel → Spot → List Token → Result Machine Problem

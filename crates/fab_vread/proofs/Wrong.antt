@@ -23,7 +23,7 @@ use Rattle.fab_vread.specs.Expressions.{PlainLevel, Spot, Behind, nothing, wanti
 use Rattle.fab_vread.specs.Places as moving
 use Rattle.fab_vread.specs.Places.{move_of, to, item_move, edge_move, port_start}
 use Rattle.fab_vread.specs.Machine.{Machine, PlainState, outside, inside, first_machine, after_token, after_token_at, with_stepped, with_value, valued, made}
-use Rattle.fab_vread.specs.Running.{run, and_next, and_take}
+use Rattle.fab_vread.proofs.Running.{run, and_next, and_take}
 use Rattle.fab_vread.specs.Refusals.{BeginsText, Leads, an_item, a_port, an_edge, IsLacking, IsWrong, lacking, unfit}
 use Rattle.fab_vread.proofs.Runs.{run_on}
 use Rattle.fab_vread.proofs.Viable.{taken_begins, refused_begins}

@@ -1,3 +1,4 @@
+-- The machine that reads, for private contracts alone: no public clause cites it.
 -- How an expression is read, token by token.
 use Rattle.std.specs.Prelude.{ℕ, Bool, true, false, List, [], ◌∷◌, ◌++◌, ◌==◌, ◌&&◌, nat_lt, length, map, reverse, if◌then◌else◌, Option, Some, None, Result, Ok, Err}
 use Rattle.fab_base.specs.declared.problem.Problem.{Problem}
@@ -9,13 +10,18 @@ use Rattle.fab_tokens.specs.declared.token.Token.{Token}
 use Rattle.fab_tokens.specs.declared.token.Token.TheVariants as tokens
 use Rattle.fab_vread.specs.declared.expressions.Over.{Over}
 use Rattle.fab_vread.specs.declared.expressions.Over.TheVariants as overs
-use Rattle.fab_vread.specs.declared.expressions.Wanted.{Wanted}
-use Rattle.fab_vread.specs.declared.expressions.Wanted.TheVariants as wants
+use Rattle.fab_vread.specs.declared.levels.Wanted.{Wanted}
+use Rattle.fab_vread.specs.declared.levels.Wanted.TheVariants as wants
 use Rattle.fab_vread.specs.declared.expressions.Read.{Read}
 use Rattle.fab_vread.specs.declared.expressions.Read.TheVariants as reads
-use Rattle.fab_vread.specs.declared.expressions.Bracket.{Bracket}
-use Rattle.fab_vread.specs.declared.expressions.Bracket.TheVariants as brackets
-use Rattle.fab_vread.specs.declared.expressions.Level.{Level}
+use Rattle.fab_vread.specs.declared.levels.Bracket.{Bracket}
+use Rattle.fab_vread.specs.declared.levels.Bracket.TheVariants as brackets
+use Rattle.fab_vread.specs.declared.levels.Level.{Level}
+use Rattle.fab_vread.specs.declared.levels.PassedWanted.{PassedWanted}
+use Rattle.fab_vread.specs.declared.levels.PassedWanted.TheVariants as passed_wants
+use Rattle.fab_vread.specs.declared.levels.PassedBracket.{PassedBracket}
+use Rattle.fab_vread.specs.declared.levels.PassedBracket.TheVariants as passed_brackets
+use Rattle.fab_vread.specs.declared.levels.Passed.{Passed}
 use Rattle.fab_vread.specs.declared.expressions.Reading.{Reading}
 use Rattle.fab_vread.specs.declared.expressions.Reading.TheVariants as readings
 use Rattle.fab_vread.specs.declared.expressions.Outcome.{Outcome}
@@ -79,8 +85,31 @@ plain_bracket brackets.Parenthesis = parenthesis
 plain_bracket (brackets.Brace parts) = brace (map plain_expr parts.items)
 plain_bracket (brackets.Index name) = index name
 
+abbrev pub level : Before → Opened → PlainLevel
+level before bracket = record { before = before; bracket = bracket }
+
 abbrev pub plain_level : Level → PlainLevel
-plain_level level = record { before = plain_wanted level.before; bracket = plain_bracket level.bracket }
+plain_level inner = level (plain_wanted inner.before) (plain_bracket inner.bracket)
+
+-- in a bracket that is too deep an empty constant stands for each expression
+abbrev pub plain_passed_wanted : PassedWanted → Before
+plain_passed_wanted passed_wants.Nothing = nothing
+plain_passed_wanted passed_wants.Complement = negation
+plain_passed_wanted (passed_wants.Left op) = left op (constant [])
+plain_passed_wanted passed_wants.Test = test (constant [])
+plain_passed_wanted passed_wants.Choice = choice (constant []) (constant [])
+
+abbrev pub plain_passed_bracket : PassedBracket → Opened
+plain_passed_bracket passed_brackets.Parenthesis = parenthesis
+plain_passed_bracket passed_brackets.Brace = brace []
+plain_passed_bracket passed_brackets.Index = index []
+
+abbrev pub plain_passed : Passed → PlainLevel
+plain_passed inner = level (plain_passed_wanted inner.before) (plain_passed_bracket inner.bracket)
+
+-- brackets that are open, the innermost first
+unfoldable pub plain_levels : List Level → List Passed → List PlainLevel
+plain_levels kept passed = reverse (map plain_level kept ++ map plain_passed passed)
 
 abbrev pub plain_reading : Reading → Spot
 plain_reading (readings.Wanting w) = wanting (plain_wanted w)
@@ -118,12 +147,25 @@ abbrev pub with_bits : Option Over → (bits : ℕ) → Option Over
 with_bits None bits = if nat_lt 128 bits then Some (overs.Bits bits) else None
 with_bits (Some over) bits = Some over
 
--- brackets that are open, the innermost first
-unfoldable pub plain_levels : List Level → List PlainLevel
-plain_levels levels = reverse (map plain_level levels)
+-- an expression inside more brackets than the bound is not kept: the text is refused
+abbrev pub kept : (outside : ℕ) → PlainExpr → PlainExpr
+kept outside e = if nat_lt outside 300 then e else constant []
 
-abbrev pub level : Before → Opened → PlainLevel
-level before bracket = record { before = before; bracket = bracket }
+-- nor is what stands before and in a bracket that is too deep
+abbrev pub kept_before : (outside : ℕ) → Before → Before
+kept_before outside nothing = nothing
+kept_before outside negation = negation
+kept_before outside (left op e) = left op (kept outside e)
+kept_before outside (test e) = test (kept outside e)
+kept_before outside (choice c a) = choice (kept outside c) (kept outside a)
+
+abbrev pub kept_bracket : (outside : ℕ) → Opened → Opened
+kept_bracket outside parenthesis = parenthesis
+kept_bracket outside (brace parts) = brace (if nat_lt outside 300 then parts else [])
+kept_bracket outside (index name) = index (if nat_lt outside 300 then name else [])
+
+abbrev pub kept_level : (outside : ℕ) → Before → Opened → PlainLevel
+kept_level outside before bracket = level (kept_before outside before) (kept_bracket outside bracket)
 
 -- what a token leaves of an expression
 pub record Stepped : Type 0 where
@@ -136,7 +178,7 @@ stepped levels over effect = record { levels = levels; over = over; effect = eff
 
 abbrev pub opened : List PlainLevel → Option Over → Before → Opened → Stepped
 opened levels over before bracket =
-    stepped (level before bracket ∷ levels) (with_depth over (length levels)) (going (wanting nothing))
+    stepped (kept_level (length levels) before bracket ∷ levels) (with_depth over (length levels)) (going (wanting nothing))
 
 abbrev pub is_nothing : Before → Bool
 is_nothing nothing = true
@@ -160,10 +202,6 @@ after_wanting levels over before (tokens.Constant bits) =
 after_wanting levels over before (tokens.Mark byte) = wanting_mark levels over before byte
 after_wanting levels over before _ = refused
 
--- an expression inside more brackets than the bound is not kept: the text is refused
-abbrev pub kept : (outside : ℕ) → PlainExpr → PlainExpr
-kept outside e = if nat_lt outside 300 then e else constant []
-
 -- what a token leaves of an expression where it opens no bracket and is no constant
 pub record Shown : Type 0 where
   pub levels : List PlainLevel
@@ -174,7 +212,7 @@ shown levels effect = record { levels = levels; effect = effect }
 
 abbrev pub close_brace : List PlainLevel → Before → List PlainExpr → ℕ → Result Shown Problem
 close_brace levels before parts byte =
-    if byte == 44 then Ok (shown (level before (brace parts) ∷ levels) (going (wanting nothing)))
+    if byte == 44 then Ok (shown (kept_level (length levels) before (brace parts) ∷ levels) (going (wanting nothing)))
     else if byte == 125 then Ok (shown levels (after_operand before (concatenation (plain_exprs parts))))
     else refused
 
@@ -219,7 +257,7 @@ after_name levels over before name token =
 
 abbrev pub after_select : List PlainLevel → Option Over → Before → (name : List ℕ) → Token → Result Stepped Problem
 after_select levels over before name (tokens.Number n) = Ok (stepped levels over (going (high before name n)))
-after_select levels over before name token = after_wanting (level before (index name) ∷ levels) over nothing token
+after_select levels over before name token = after_wanting (kept_level (length levels) before (index name) ∷ levels) over nothing token
 
 abbrev pub after_high : Before → (name : List ℕ) → ℕ → Token → Result Effect Problem
 after_high before name n (tokens.Mark byte) =

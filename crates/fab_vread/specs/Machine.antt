@@ -1,5 +1,6 @@
+-- The machine that reads, for private contracts alone: no public clause cites it.
 -- How the tree of a text is built, token by token.
-use Rattle.std.specs.Prelude.{ℕ, ◌+◌, Bool, true, false, List, [], ◌∷◌, ◌++◌, ◌==◌, ◌&&◌, nat_lt, length, map, if◌then◌else◌, Option, Some, None, Result, Ok, Err}
+use Rattle.std.specs.Prelude.{ℕ, Bool, true, false, List, [], ◌∷◌, ◌++◌, ◌==◌, ◌&&◌, nat_lt, length, map, if◌then◌else◌, Option, Some, None, Result, Ok, Err}
 use Rattle.fab_base.specs.declared.problem.Problem.{Problem}
 use Rattle.fab_base.specs.declared.problem.Problem.TheVariants as problems
 use Rattle.fab_base.specs.declared.fault.Fault.{Fault}
@@ -30,8 +31,10 @@ use Rattle.fab_vread.specs.declared.places.Move.TheVariants as moves
 use Rattle.fab_vread.specs.declared.parser.Parser.{Parser}
 use Rattle.fab_vread.specs.declared.parser.State.{State}
 use Rattle.fab_vread.specs.declared.parser.State.TheVariants as states
-use Rattle.fab_vread.specs.Expressions.{PlainLevel, Spot, Effect, Stepped, wanting, nothing, going, ended, plain_levels, plain_reading, refused, is_this_mark, taken}
+use Rattle.fab_vread.specs.Expressions.{PlainLevel, Spot, Effect, Stepped, wanting, nothing, going, ended, plain_reading, refused, is_this_mark, taken}
+use Rattle.fab_vread.specs.OpenLevels.{levels_of}
 use Rattle.fab_vread.specs.Places.{move_of}
+use Rattle.fab_vread.specs.Refusals.{next_line}
 
 -- where the next token stands: outside expressions, or in one with these brackets open
 pub data PlainState : Type 0 where
@@ -61,7 +64,7 @@ plain_parser parser = record {
   items = map plain_item parser.items.items;
   joins = map plain_join parser.joins.items;
   gate = plain_expr parser.gate;
-  state = plain_state parser.state (plain_levels parser.levels.items);
+  state = plain_state parser.state (levels_of parser.levels);
   over = parser.over;
 }
 
@@ -210,9 +213,6 @@ after_lexeme file p token =
 abbrev pub after_optional : (file : List ℕ) → Progress → Option Token → Result Progress Fault
 after_optional file p None = Ok p
 after_optional file p (Some token) = after_lexeme file p token
-
-abbrev pub next_line : ℕ → (byte : ℕ) → ℕ
-next_line line byte = if byte == 10 then line + 1 else line
 
 abbrev pub behind_byte : Progress → Scan → (byte : ℕ) → Progress
 behind_byte p scan byte = record p { scan = scan; last = p.line; line = next_line p.line byte }

@@ -1,3 +1,4 @@
+-- The machine that reads, for private contracts alone: no public clause cites it.
 -- What a token outside an expression does.
 use Rattle.std.specs.Prelude.{ℕ, ◌+◌, List, ◌==◌, nat_lt, if◌then◌else◌, Result, Ok, Err}
 use Rattle.fab_base.specs.declared.problem.Problem.{Problem}

@@ -1,3 +1,4 @@
+-- The machine that reads, for private contracts alone: no public clause cites it.
 -- How far a text has been read, as plain data.
 use Rattle.fab_vread.specs.declared.reader.Reader.{Reader}
 use Rattle.fab_vread.specs.Machine.{Progress, plain_parser}

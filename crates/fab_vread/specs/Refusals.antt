@@ -1,5 +1,5 @@
 -- Why a text is refused, and where, by the grammar alone: the first token with which no text begins, or the first line above a limit.
-use Rattle.std.specs.Prelude.{◌≡◌, ◌⊎◌, ℕ, ◌<◌, true, List, [], ◌∷◌, ◌++◌, length, map, All, Option, Some, None, nat_lt, if◌then◌else◌}
+use Rattle.std.specs.Prelude.{◌≡◌, ◌⊎◌, ℕ, ◌<◌, ◌+◌, true, List, [], ◌∷◌, ◌++◌, ◌==◌, length, map, All, Option, Some, None, nat_lt, if◌then◌else◌}
 use Rattle.fab_base.specs.declared.problem.Problem.{Problem}
 use Rattle.fab_base.specs.declared.problem.Problem.TheVariants as problems
 use Rattle.fab_base.specs.declared.words.Reason.TheVariants as reasons
@@ -16,9 +16,12 @@ use Rattle.fab_tokens.specs.declared.scanner.Step.{Step}
 use Rattle.fab_tokens.specs.Scanning.{Lexeme, after_byte, at_end}
 use Rattle.fab_grammar.specs.Words.{is_foreign}
 use Rattle.fab_grammar.specs.Grammar.{Modules}
-use Rattle.fab_vread.specs.Machine.{next_line}
 
 -- ---- tokens with their lines
+
+-- the line of the byte behind this one
+abbrev pub next_line : ℕ → (byte : ℕ) → ℕ
+next_line line byte = if byte == 10 then line + 1 else line
 
 abbrev pub lexeme : (line : ℕ) → Token → Lexeme
 lexeme line token = record { token = token; line = line }

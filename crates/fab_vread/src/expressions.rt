@@ -1,17 +1,16 @@
 //! Expressions, read token by token. Brackets that are open stand in a list, so that no text is too deep for the reader.
 
-ghost use Rattle.std.specs.Prelude.{◌≡◌, ◌∷◌, [], Ok, map, length, IfOk, OnOk, MatchOption};
+ghost use Rattle.std.specs.Prelude.{◌≡◌, Ok, map, length, IfOk};
 ghost use Rattle.fab_base.specs.Reading.{Answers};
 ghost use Rattle.fab_syntax.specs.Plain.{plain_expr};
-ghost use Rattle.fab_vread.specs.Expressions.{plain_wanted, plain_read, plain_bracket, plain_level, plain_levels, plain_reading, plain_outcome, stepped, shown, refused, opened, completed, after_operand, with_depth, with_bits, wanting_mark, after_wanting, kept, close_brace, close_by, close, after_whole, after_single, is_this_mark, after_behind, after_name, after_select, after_high, after_colon, after_low, taken};
+ghost use Rattle.fab_vread.specs.OpenLevels.{levels_of};
+ghost use Rattle.fab_vread.specs.Expressions.{plain_wanted, plain_read, plain_bracket, plain_level, plain_reading, plain_outcome, stepped, shown, refused, opened, completed, after_operand, with_depth, with_bits, wanting_mark, after_wanting, kept, close_brace, close_by, close, after_whole, after_single, is_this_mark, after_behind, after_name, after_select, after_high, after_colon, after_low, taken};
 
+use crate::levels::{Bracket, Level, Levels, Wanted, no_expression};
 use fab_base::{Memory, Name, Problem, Quantity, Reason};
-use fab_syntax::{Expr, Op, Word};
+use fab_syntax::Expr;
 use fab_tokens::Token;
 use std::alloc::Global;
-
-/// The greatest number of brackets that are open in one expression.
-pub(crate) const MAX_DEPTH: usize = 300;
 
 /// The greatest number of bits of a constant.
 pub(crate) const MAX_BITS: usize = 128;
@@ -25,16 +24,6 @@ pub(crate) enum Over {
     Bits(u64),
 }
 
-/// What stands before an operand that is to come.
-#[derive(Drop)]
-pub(crate) enum Wanted {
-    Nothing,
-    Complement,
-    Left(Op, Expr),
-    Test(Expr),
-    Choice(Expr, Expr),
-}
-
 /// What has been read after an operand.
 #[derive(Drop)]
 pub(crate) enum Read {
@@ -44,23 +33,6 @@ pub(crate) enum Read {
     Branch(Expr, Expr),
     /// An expression to which nothing can be added.
     Whole(Expr),
-}
-
-/// A bracket that is open.
-#[derive(Drop)]
-pub(crate) enum Bracket {
-    Parenthesis,
-    /// A concatenation and its parts so far.
-    Brace(Vec<Expr>),
-    /// The select of a name.
-    Index(Name),
-}
-
-/// A bracket that is open, and what stands before it.
-#[derive(Drop)]
-pub(crate) struct Level {
-    pub before: Wanted,
-    pub bracket: Bracket,
 }
 
 /// How far an expression has been read inside its innermost bracket.
@@ -121,10 +93,10 @@ fn after_operand(alloc: Global, before: Wanted, operand: Expr) -> Result<Outcome
     Ok(Outcome::More(Reading::After(complete(alloc, before, operand)?)))
 }
 
-fn with_depth(over: Option<Over>, count: usize) -> Option<Over>
-    ensures { result ≡ with_depth over count }
+fn with_depth(over: Option<Over>, levels: &Levels) -> Option<Over>
+    ensures { result ≡ with_depth over (length (levels_of levels.now)) }
 {
-    if count < MAX_DEPTH {
+    if levels.has_room() {
         over
     } else {
         Some(Over::Depth)
@@ -140,50 +112,28 @@ fn with_bits(over: Option<Over>, bits: usize) -> Option<Over>
     }
 }
 
-#[tactic(auto, using(crate::proofs::Levels::levels_push))]
-fn push_level(levels: &mut Vec<Level>, level: Level) -> Result<(), Memory>
-    ensures { OnOk result (plain_levels levels.new.items ≡ plain_level level ∷ plain_levels levels.old.items) }
-{
-    levels.push(level)?;
-    Ok(())
-}
-
-#[tactic(auto, using(crate::proofs::Levels::levels_push, crate::proofs::Levels::levels_none))]
-fn pop_level(levels: &mut Vec<Level>) -> Option<Level>
-    ensures { MatchOption result (plain_levels levels.old.items ≡ [] × plain_levels levels.new.items ≡ []) (λ level. plain_levels levels.old.items ≡ plain_level level ∷ plain_levels levels.new.items) }
-{
-    levels.pop()
-}
-
-#[tactic(auto, using(crate::proofs::Levels::length_levels))]
-fn count_levels(levels: &[Level]) -> usize
-    ensures { result ≡ length (plain_levels levels.now) }
-{
-    levels.len()
-}
-
 fn open(
-    levels: &mut Vec<Level>,
+    levels: &mut Levels,
     over: &mut Option<Over>,
     before: Wanted,
     bracket: Bracket,
 ) -> Result<Outcome, Problem>
-    ensures { Answers (λ outcome. stepped (plain_levels levels.new.items) over.new (plain_outcome outcome)) result (Ok (opened (plain_levels levels.old.items) over.old (plain_wanted before) (plain_bracket bracket))) }
+    ensures { Answers (λ outcome. stepped (levels_of levels.new) over.new (plain_outcome outcome)) result (Ok (opened (levels_of levels.old) over.old (plain_wanted before) (plain_bracket bracket))) }
 {
-    *over = with_depth(*over, count_levels(levels));
-    push_level(levels, Level { before, bracket })?;
+    *over = with_depth(*over, levels);
+    levels.push(Level { before, bracket })?;
     Ok(Outcome::More(Reading::Wanting(Wanted::Nothing)))
 }
 
 /// A mark where an operand is to come: a bracket that opens, or `~` where nothing stands before it.
 fn take_wanting_mark(
-    levels: &mut Vec<Level>,
+    levels: &mut Levels,
     over: &mut Option<Over>,
     alloc: Global,
     before: Wanted,
     byte: u8,
 ) -> Result<Outcome, Problem>
-    ensures { Answers (λ outcome. stepped (plain_levels levels.new.items) over.new (plain_outcome outcome)) result (wanting_mark (plain_levels levels.old.items) over.old (plain_wanted before) byte) }
+    ensures { Answers (λ outcome. stepped (levels_of levels.new) over.new (plain_outcome outcome)) result (wanting_mark (levels_of levels.old) over.old (plain_wanted before) byte) }
 {
     if byte == b'(' {
         return open(levels, over, before, Bracket::Parenthesis);
@@ -198,13 +148,13 @@ fn take_wanting_mark(
 }
 
 fn take_wanting(
-    levels: &mut Vec<Level>,
+    levels: &mut Levels,
     over: &mut Option<Over>,
     alloc: Global,
     before: Wanted,
     token: Token,
 ) -> Result<Outcome, Problem>
-    ensures { Answers (λ outcome. stepped (plain_levels levels.new.items) over.new (plain_outcome outcome)) result (after_wanting (plain_levels levels.old.items) over.old (plain_wanted before) token) }
+    ensures { Answers (λ outcome. stepped (levels_of levels.new) over.new (plain_outcome outcome)) result (after_wanting (levels_of levels.old) over.old (plain_wanted before) token) }
 {
     match token {
         Token::Identifier(name) => Ok(Outcome::More(Reading::Named(before, name))),
@@ -218,34 +168,31 @@ fn take_wanting(
 }
 
 /// An expression inside more brackets than the bound is not kept, so that no tree is too deep.
-fn kept(alloc: Global, outside: usize, expr: Expr) -> Expr
-    ensures { plain_expr result ≡ kept outside (plain_expr expr) }
+fn kept(alloc: Global, levels: &Levels, expr: Expr) -> Expr
+    ensures { plain_expr result ≡ kept (length (levels_of levels.now)) (plain_expr expr) }
 {
-    if outside < MAX_DEPTH {
+    if levels.has_room() {
         expr
     } else {
-        Expr::Const(Word::from(Vec::new(alloc)))
+        no_expression(alloc)
     }
 }
 
 #[tactic(auto, using(fab_syntax::proofs::Plain::plain_concatenation))]
 fn close_brace(
-    levels: &mut Vec<Level>,
+    levels: &mut Levels,
     alloc: Global,
     before: Wanted,
     parts: Vec<Expr>,
     byte: u8,
 ) -> Result<Outcome, Problem>
-    ensures { Answers (λ outcome. shown (plain_levels levels.new.items) (plain_outcome outcome)) result (close_brace (plain_levels levels.old.items) (plain_wanted before) (map plain_expr parts.items) byte) }
+    ensures { Answers (λ outcome. shown (levels_of levels.new) (plain_outcome outcome)) result (close_brace (levels_of levels.old) (plain_wanted before) (map plain_expr parts.items) byte) }
 {
     if byte == b',' {
-        push_level(
-            levels,
-            Level {
-                before,
-                bracket: Bracket::Brace(parts),
-            },
-        )?;
+        levels.push(Level {
+            before,
+            bracket: Bracket::Brace(parts),
+        })?;
         return Ok(Outcome::More(Reading::Wanting(Wanted::Nothing)));
     }
     if byte == b'}' {
@@ -255,13 +202,13 @@ fn close_brace(
 }
 
 fn close_by(
-    levels: &mut Vec<Level>,
+    levels: &mut Levels,
     alloc: Global,
     level: Level,
     expr: Expr,
     byte: u8,
 ) -> Result<Outcome, Problem>
-    ensures { Answers (λ outcome. shown (plain_levels levels.new.items) (plain_outcome outcome)) result (close_by (plain_levels levels.old.items) (plain_wanted level.before) (plain_bracket level.bracket) (plain_expr expr) byte) }
+    ensures { Answers (λ outcome. shown (levels_of levels.new) (plain_outcome outcome)) result (close_by (levels_of levels.old) (plain_wanted level.before) (plain_bracket level.bracket) (plain_expr expr) byte) }
 {
     let Level { before, bracket } = level;
     match bracket {
@@ -278,17 +225,17 @@ fn close_by(
 }
 
 fn close(
-    levels: &mut Vec<Level>,
+    levels: &mut Levels,
     alloc: Global,
     level: Level,
     expr: Expr,
     token: &Token,
 ) -> Result<Outcome, Problem>
-    ensures { Answers (λ outcome. shown (plain_levels levels.new.items) (plain_outcome outcome)) result (close (plain_levels levels.old.items) (plain_level level) (plain_expr expr) token.now) }
+    ensures { Answers (λ outcome. shown (levels_of levels.new) (plain_outcome outcome)) result (close (levels_of levels.old) (plain_level level) (plain_expr expr) token.now) }
 {
     match token {
         Token::Mark(byte) => {
-            let expr = kept(alloc, count_levels(levels), expr);
+            let expr = kept(alloc, levels, expr);
             close_by(levels, alloc, level, expr, *byte)
         }
         _ => refused(),
@@ -297,26 +244,26 @@ fn close(
 
 /// A token behind an expression to which nothing can be added: it closes the innermost bracket or ends the expression.
 fn take_whole(
-    levels: &mut Vec<Level>,
+    levels: &mut Levels,
     alloc: Global,
     expr: Expr,
     token: Token,
 ) -> Result<Outcome, Problem>
-    ensures { Answers (λ outcome. shown (plain_levels levels.new.items) (plain_outcome outcome)) result (after_whole (plain_levels levels.old.items) (plain_expr expr) token) }
+    ensures { Answers (λ outcome. shown (levels_of levels.new) (plain_outcome outcome)) result (after_whole (levels_of levels.old) (plain_expr expr) token) }
 {
-    match pop_level(levels) {
+    match levels.pop(alloc) {
         None => Ok(Outcome::End(expr, token)),
         Some(level) => close(levels, alloc, level, expr, &token),
     }
 }
 
 fn take_single(
-    levels: &mut Vec<Level>,
+    levels: &mut Levels,
     alloc: Global,
     expr: Expr,
     token: Token,
 ) -> Result<Outcome, Problem>
-    ensures { Answers (λ outcome. shown (plain_levels levels.new.items) (plain_outcome outcome)) result (after_single (plain_levels levels.old.items) (plain_expr expr) token) }
+    ensures { Answers (λ outcome. shown (levels_of levels.new) (plain_outcome outcome)) result (after_single (levels_of levels.old) (plain_expr expr) token) }
 {
     match token {
         Token::Operator(op) => Ok(Outcome::More(Reading::Wanting(Wanted::Left(op, expr)))),
@@ -335,12 +282,12 @@ pub(crate) fn is_mark(token: &Token, mark: u8) -> bool
 }
 
 fn take_read(
-    levels: &mut Vec<Level>,
+    levels: &mut Levels,
     alloc: Global,
     read: Read,
     token: Token,
 ) -> Result<Outcome, Problem>
-    ensures { Answers (λ outcome. shown (plain_levels levels.new.items) (plain_outcome outcome)) result (after_behind (plain_levels levels.old.items) (plain_read read) token) }
+    ensures { Answers (λ outcome. shown (levels_of levels.new) (plain_outcome outcome)) result (after_behind (levels_of levels.old) (plain_read read) token) }
 {
     match read {
         Read::Operand(expr) => take_single(levels, alloc, expr, token),
@@ -353,17 +300,17 @@ fn take_read(
 }
 
 fn take_named(
-    levels: &mut Vec<Level>,
+    levels: &mut Levels,
     over: &mut Option<Over>,
     alloc: Global,
     before: Wanted,
     name: Name,
     token: Token,
 ) -> Result<Outcome, Problem>
-    ensures { Answers (λ outcome. stepped (plain_levels levels.new.items) over.new (plain_outcome outcome)) result (after_name (plain_levels levels.old.items) over.old (plain_wanted before) name token) }
+    ensures { Answers (λ outcome. stepped (levels_of levels.new) over.new (plain_outcome outcome)) result (after_name (levels_of levels.old) over.old (plain_wanted before) name token) }
 {
     if is_mark(&token, b'[') {
-        *over = with_depth(*over, count_levels(levels));
+        *over = with_depth(*over, levels);
         return Ok(Outcome::More(Reading::Select(before, name)));
     }
     let read = complete(alloc, before, Expr::Var(name))?;
@@ -371,25 +318,22 @@ fn take_named(
 }
 
 fn take_select(
-    levels: &mut Vec<Level>,
+    levels: &mut Levels,
     over: &mut Option<Over>,
     alloc: Global,
     before: Wanted,
     name: Name,
     token: Token,
 ) -> Result<Outcome, Problem>
-    ensures { Answers (λ outcome. stepped (plain_levels levels.new.items) over.new (plain_outcome outcome)) result (after_select (plain_levels levels.old.items) over.old (plain_wanted before) name token) }
+    ensures { Answers (λ outcome. stepped (levels_of levels.new) over.new (plain_outcome outcome)) result (after_select (levels_of levels.old) over.old (plain_wanted before) name token) }
 {
     match token {
         Token::Number(number) => Ok(Outcome::More(Reading::High(before, name, number))),
         token => {
-            push_level(
-                levels,
-                Level {
-                    before,
-                    bracket: Bracket::Index(name),
-                },
-            )?;
+            levels.push(Level {
+                before,
+                bracket: Bracket::Index(name),
+            })?;
             take_wanting(levels, over, alloc, Wanted::Nothing, token)
         }
     }
@@ -439,13 +383,13 @@ fn take_low(
 /// Takes the next token of an expression, the brackets that are open, and what is above its bound so far.
 #[tactic(auto, unfolding(crate::specs::Expressions::taken))]
 pub(crate) fn take(
-    levels: &mut Vec<Level>,
+    levels: &mut Levels,
     over: &mut Option<Over>,
     alloc: Global,
     reading: Reading,
     token: Token,
 ) -> Result<Outcome, Problem>
-    ensures { Answers (λ outcome. stepped (plain_levels levels.new.items) over.new (plain_outcome outcome)) result (taken (plain_levels levels.old.items) over.old (plain_reading reading) token) }
+    ensures { Answers (λ outcome. stepped (levels_of levels.new) over.new (plain_outcome outcome)) result (taken (levels_of levels.old) over.old (plain_reading reading) token) }
 {
     match reading {
         Reading::Wanting(before) => take_wanting(levels, over, alloc, before, token),

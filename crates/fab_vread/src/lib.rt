@@ -3,9 +3,10 @@
 
 mod expressions;
 mod laws;
+mod levels;
 mod parser;
 mod places;
 mod reader;
 
-pub use laws::{lexemes_are_tokens, printed_texts_are_read, refusals_are_one, trees_are_one};
+pub use laws::{lexemes_are_tokens, refusals_are_one, spelled_texts_are_printable};
 pub use reader::read;

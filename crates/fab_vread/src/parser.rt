@@ -2,14 +2,16 @@
 
 ghost use Rattle.std.specs.Prelude.{◌≡◌, ◌++◌, ◌∷◌, [], map, OnOk};
 ghost use Rattle.fab_base.specs.Reading.{Answers};
-ghost use Rattle.fab_vread.specs.Expressions.{plain_levels, plain_reading, wanting, nothing};
+ghost use Rattle.fab_vread.specs.OpenLevels.{levels_of};
+ghost use Rattle.fab_vread.specs.Expressions.{plain_reading, wanting, nothing};
 ghost use Rattle.fab_syntax.specs.Plain.{plain_expr, plain_option, plain_join, plain_item, plain_module};
 ghost use Rattle.fab_vread.specs.Machine.{plain_parser, with_port, with_item_at, with_module, declared, closed, joined, instanced, with_gate, with_latch, with_value, valued, begun, moved, after_token, first_machine};
 
-use crate::expressions::{Level, Outcome, Over, Reading, Wanted, is_mark, refused, take};
+use crate::expressions::{Outcome, Over, Reading, is_mark, refused, take};
+use crate::levels::{Levels, Wanted, no_expression};
 use crate::places::{Header, Joins, Kind, Move, Place, Process, Purpose, move_of};
 use fab_base::{Memory, Name, Problem};
-use fab_syntax::{Expr, Item, Join, Module, Port, Shape, Word};
+use fab_syntax::{Expr, Item, Join, Module, Port, Shape};
 use fab_tokens::Token;
 use std::alloc::Global;
 use std::mem;
@@ -36,7 +38,7 @@ pub(crate) struct Parser {
     /// The gate of the latch in progress; a constant without bits where there is none.
     pub gate: Expr,
     /// The brackets of the expression in progress that are open.
-    pub levels: Vec<Level>,
+    pub levels: Levels,
     pub state: State,
     /// What is above its bound.
     pub over: Option<Over>,
@@ -78,17 +80,9 @@ fn push_module(modules: &mut Vec<Module>, whole: Module) -> Result<(), Memory>
     Ok(())
 }
 
-/// No bracket is open.
-#[tactic(auto, unfolding(crate::specs::Expressions::plain_levels))]
-fn close_all(levels: &mut Vec<Level>)
-    ensures { plain_levels levels.new.items ≡ [] }
-{
-    levels.clear();
-}
-
 impl Parser {
     /// Before the first token.
-    #[tactic(auto, unfolding(crate::specs::Machine::first_machine, crate::specs::Expressions::plain_levels))]
+    #[tactic(auto, unfolding(crate::specs::Machine::first_machine))]
     pub(crate) fn new(alloc: Global) -> Parser
         ensures { plain_parser result ≡ first_machine }
     {
@@ -98,8 +92,8 @@ impl Parser {
             ports: Vec::new(alloc),
             items: Vec::new(alloc),
             joins: Vec::new(alloc),
-            gate: Expr::Const(Word::from(Vec::new(alloc))),
-            levels: Vec::new(alloc),
+            gate: no_expression(alloc),
+            levels: Levels::new(alloc),
             state: State::Outside(Place::Header(Header::Start)),
             over: None,
         }
@@ -189,8 +183,7 @@ impl Parser {
     fn end_latch(&mut self, alloc: Global, target: Name, value: Expr) -> Result<(), Problem>
         ensures { Answers (λ _. plain_parser self.new) result (Ok (with_latch (plain_parser self.old) target (plain_expr value))) }
     {
-        let none = Expr::Const(Word::from(Vec::new(alloc)));
-        let gate = mem::replace(&mut self.gate, none);
+        let gate = mem::replace(&mut self.gate, no_expression(alloc));
         self.add_item(Item::Latch(target, gate, value), Place::Item)
     }
 
@@ -231,7 +224,7 @@ impl Parser {
         reading: Reading,
         token: Token,
     ) -> Result<(), Problem>
-        ensures { Answers (λ _. plain_parser self.new) result (valued (plain_parser self.old) purpose (plain_levels self.old.levels.items) (plain_reading reading) token) }
+        ensures { Answers (λ _. plain_parser self.new) result (valued (plain_parser self.old) purpose (levels_of self.old.levels) (plain_reading reading) token) }
     {
         match take(&mut self.levels, &mut self.over, alloc, reading, token)? {
             Outcome::More(reading) => {
@@ -246,7 +239,7 @@ impl Parser {
     fn begin(&mut self, purpose: Purpose)
         ensures { plain_parser self.new ≡ begun (plain_parser self.old) purpose }
     {
-        close_all(&mut self.levels);
+        self.levels.clear();
         put(
             &mut self.state,
             State::Inside(purpose, Reading::Wanting(Wanted::Nothing)),
@@ -257,7 +250,7 @@ impl Parser {
     fn begin_by(&mut self, alloc: Global, purpose: Purpose, token: Token) -> Result<(), Problem>
         ensures { Answers (λ _. plain_parser self.new) result (valued (plain_parser self.old) purpose [] (wanting nothing) token) }
     {
-        close_all(&mut self.levels);
+        self.levels.clear();
         self.take_value(alloc, purpose, Reading::Wanting(Wanted::Nothing), token)
     }
 

@@ -4,12 +4,15 @@ ghost use Rattle.std.specs.Prelude.{◌≡◌, ◌⊎◌, ◌≤◌, ◌<◌, �
 ghost use Rattle.std.specs.Result.{IfErr};
 ghost use Rattle.fab_base.specs.Reading.{Gives, fault_at, IsFaultOr};
 ghost use Rattle.fab_syntax.specs.Plain.{PlainModule, plain_text};
+ghost use Rattle.fab_syntax.specs.Spelling.{text_bytes};
 ghost use Rattle.fab_grammar.specs.Grammar.{SpellsText};
+ghost use Rattle.fab_grammar.specs.Printable.{IsPrintableText};
 ghost use Rattle.fab_vread.specs.Progress.{plain_progress};
-ghost use Rattle.fab_vread.specs.Refusals.{IsRefusal};
-ghost use Rattle.fab_vread.specs.Machine.{limit, first_progress, line_checked, past, after_lexeme, after_optional, next_line, after_char, read_from, is_done, closing, finished, read_of};
+ghost use Rattle.fab_vread.specs.Refusals.{IsRefusal, next_line};
+ghost use Rattle.fab_vread.specs.Machine.{limit, first_progress, line_checked, past, after_lexeme, after_optional, after_char, read_from, is_done, closing, finished, read_of};
 
-use crate::expressions::Over;
+use crate::expressions::{MAX_BITS, Over};
+use crate::levels::MAX_DEPTH;
 use crate::parser::{Parser, State, put};
 use crate::places::{Header, Place};
 use fab_base::{Fault, MAX_FILE_BYTES, Name, Problem, Quantity, Reason};
@@ -36,8 +39,12 @@ fn limit(over: Over) -> Problem
     ensures { result ≡ limit over }
 {
     match over {
-        Over::Depth => Problem::Limit(Quantity::ExpressionDepth, 301, 300),
-        Over::Bits(bits) => Problem::Limit(Quantity::LiteralBits, bits, 128),
+        Over::Depth => Problem::Limit(
+            Quantity::ExpressionDepth,
+            MAX_DEPTH as u64 + 1,
+            MAX_DEPTH as u64,
+        ),
+        Over::Bits(bits) => Problem::Limit(Quantity::LiteralBits, bits, MAX_BITS as u64),
     }
 }
 
@@ -188,13 +195,15 @@ fn read_text(alloc: Global, file: &Name, bytes: &[u8]) -> Result<Text, Fault>
 /// where it stands, at its line (at the last line where the text ends too early): Unsupported for a word of Verilog that
 /// the profile lacks, in the first place of an item or a port or in that of the edge, and Malformed `token` for any other.
 /// Where a line above a bound holds no such token, Limit `expression depth` comes at that line, or else `literal bits` with
-/// the bits of the first constant that has too many.
+/// the bits of the first constant that has too many. What `print` gives of a printable text is read as that text, and
+/// each text that is read is printable.
 pub fn read(alloc: Global, file: &Name, bytes: &[u8]) -> Result<Text, Fault>
     requires { length bytes.now ≤ MAX_FILE_BYTES }
     ensures found { IfOk result (λ text. SpellsText 300 128 bytes.now (plain_text text)) }
     ensures only { (modules : List PlainModule) → SpellsText 300 128 bytes.now modules → Gives plain_text result (Ok modules) }
+    ensures printable { IfOk result (λ text. IsPrintableText (plain_text text)) }
+    ensures printed { (modules : List PlainModule) → IsPrintableText modules → bytes.now ≡ text_bytes modules → Gives plain_text result (Ok modules) }
     ensures refused { IfErr result (λ fault. (fault ≡ Fault.Memory) ⊎ IsRefusal file.now bytes.now fault) }
-    ensures exact { Gives plain_text result (read_of file.now bytes.now) }
 {
     read_text(alloc, file, bytes)
 }

@@ -45,3 +45,12 @@ pub fn print_cases<D: Desk, S: Sink>(
     }
     Ok(())
 }
+
+/// Prints the report of a line of a million brackets that open, a text that is too large to lie beside the program.
+pub fn print_deep_line<S: Sink>(alloc: Global, out: &mut S) -> Result<(), Stop> {
+    let mut text = Vec::from_slice(alloc, b"module m ();\nassign a =\n")?;
+    text.extend_from_slice(&vec![in alloc; b'('; 1_000_000]?)?;
+    text.extend_from_slice(b"\nb")?;
+    out.put(&shown(alloc, b"a_million_brackets", &text)?)?;
+    Ok(())
+}

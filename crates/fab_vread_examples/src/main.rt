@@ -5,7 +5,7 @@ mod cases;
 mod files;
 mod stop;
 
-use cases::print_cases;
+use cases::{print_cases, print_deep_line};
 use fab_desk::{FileDesk, OutSink};
 use stop::Stop;
 
@@ -14,5 +14,6 @@ fn main(rt: HostRuntime) -> Result<(), Stop> {
     let mut desk = FileDesk::new(&rt);
     let mut out = OutSink::new(&rt);
     print_cases(alloc, &mut desk, &mut out, "again.cases")?;
-    print_cases(alloc, &mut desk, &mut out, "refused.cases")
+    print_cases(alloc, &mut desk, &mut out, "refused.cases")?;
+    print_deep_line(alloc, &mut out)
 }

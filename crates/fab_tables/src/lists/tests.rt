@@ -4,10 +4,12 @@ use super::*;
 use std::test::Fail;
 
 /// The bytes of a list, and the report of its fault.
-const FAULTY: [(&[u8], &str); 6] = [
+const FAULTY: [(&[u8], &str); 8] = [
     (b"O\n", "malformed x.list:1 row\n"),
     (b"A{2},B\n", "malformed x.list:1 number\n"),
     (b"a,[X\n", "malformed x.list:1 name\n"),
+    (b"INCLUDE,.\n", "malformed x.list:1 name\n"),
+    (b"A,B\nINCLUDE,a/..\n", "malformed x.list:2 name\n"),
     (b"A,B\nA],B\n", "malformed x.list:2 bracket\n"),
     (b"[A|B],C\n", "malformed x.list:1 counts differ\n"),
     (

@@ -1,13 +1,13 @@
 use Rattle.std.proofs.Common.{map}
 use Rattle.indexmap.specs.IndexSet.{insert_all}
 use Rattle.fab_blif.specs.Flat.{net_eq, net_in}
-use Rattle.fab_blif.specs.Walk.{plain_nets, copy_within, numbered}
+use Rattle.fab_blif.specs.Walk.{plain_nets, numbered}
 use Rattle.fab_blif.proofs.Numbers.{nets_more, numbers_more}
 use Rattle.fab_blif.proofs.design.number_names.Goals as goal
 
 pub loop-name-preserved : goal.loop-name-preserved
 loop-name-preserved c =
-    let net = net_in (copy_within c.args.outer.now c.args.frame.now) in
+    let net = net_in c.args.copy.now in
     let names = c.args.names.now in
     let old = plain_nets c.loop-name.nets.keys in
     let new = plain_nets c.number_name.new.nets.keys in

@@ -1,4 +1,4 @@
-use Rattle.std.proofs.Common.{◌≡◌, ◌++◌, ℕ, ◌<◌, List, length, inl, inr, subst, arith}
+use Rattle.std.proofs.Common.{◌≡◌, ◌++◌, ℕ, ◌<◌, ◌⊎◌, List, length, inl, inr, subst, arith}
 use Rattle.std.proofs.lemmas.List.{length-map}
 use Rattle.std.proofs.lemmas.Result.{err_from_is_err_and}
 use Rattle.fab_base.specs.declared.fault.Fault.{Fault}
@@ -10,8 +10,9 @@ use Rattle.fab_blif.specs.Judged.{inner_drivers, is_driven, readers}
 use Rattle.fab_blif.specs.Clocks.{clock_uses, data_faults, first_use, is_clock, named_faults}
 use Rattle.fab_blif.specs.Design.{PlainDesign, design_of}
 use Rattle.fab_blif.specs.Flat.{flat_lines}
-use Rattle.fab_blif.specs.Order.{NamesDiffer}
-use Rattle.fab_blif.specs.Refusals.{AreFineModels, RefusesDesign, RefusesFile, RefusesModels}
+use Rattle.fab_instances.specs.Order.{NamesDiffer, RefusesNames}
+use Rattle.fab_instances.specs.Refusals.{AreFineModels, RefusesModels}
+use Rattle.fab_blif.specs.Refusals.{RefusesDesign, RefusesFile}
 use Rattle.fab_blif.proofs.flattening.flatten.Goals as goal
 
 pub netlist_of-requires : goal.netlist_of-requires
@@ -23,22 +24,24 @@ netlist_of-requires c =
     well_made_design (plain_models c.args.models.now) c.requires design c.in_ok-design.ensures judged.small judged.once judged.driven unread
 
 -- the refusal of models or of their design is one of their file
-models_refused : (file : List ℕ) (last_line : ℕ) (models : List Model) (fault : Fault) → 0 < length models → NamesDiffer (plain_models models) →
-    RefusesModels file last_line (plain_models models) fault → RefusesFile file last_line (plain_models models) fault
-models_refused file last_line models fault some differ refused = inr (inl (omega (arith, some, length-map models plain_model), differ, refused))
+models_refused : (file : List ℕ) (last_line : ℕ) (models : List Model) (fault : Fault) →
+    RefusesNames file last_line (plain_models models) fault ⊎ ((0 < length models) × NamesDiffer (plain_models models) × RefusesModels file last_line (plain_models models) fault) →
+    RefusesFile file last_line (plain_models models) fault
+models_refused file last_line models fault (inl names) = inl names
+models_refused file last_line models fault (inr refused) = inr (inl (omega (arith, refused.0, length-map models plain_model), refused.1, refused.2))
 
 design_refused : (file : List ℕ) (last_line : ℕ) (models : List Model) (design : PlainDesign) (fault : Fault) → design ≡ design_of (flat_lines (plain_models models)) → 0 < length models → NamesDiffer (plain_models models) →
     AreFineModels (plain_models models) → RefusesDesign file last_line design fault → RefusesFile file last_line (plain_models models) fault
 design_refused file last_line models design fault is some differ fine refused =
     inr (inr (omega (arith, some, length-map models plain_model), differ, fine, subst (λ (given : PlainDesign). RefusesDesign file last_line given fault) is refused))
 
-pub returns-in_err-refuse_models-clause-refused : goal.returns-in_err-refuse_models-clause-refused
-returns-in_err-refuse_models-clause-refused c =
-    let told = err_from_is_err_and c.from_residual-in_err-refuse_models.result c.from_residual-in_err-refuse_models.ensures.1 in
-    rw (told.1, told.2) (models_refused c.args.file.now c.args.last_line c.args.models.now c.in_err-refuse_models.field-0.0 c.in_ok-places.ensures.some c.in_ok-places.ensures.differ c.in_err-refuse_models.ensures.refused)
+pub returns-in_err-places-clause-refused : goal.returns-in_err-places-clause-refused
+returns-in_err-places-clause-refused c =
+    let told = err_from_is_err_and c.from_residual.result c.from_residual.ensures.1 in
+    rw (told.1, told.2) (models_refused c.args.file.now c.args.last_line c.args.models.now c.in_err-places.field-0.0 c.in_err-places.ensures.refused)
 
 pub returns-in_err-refuse_design-clause-refused : goal.returns-in_err-refuse_design-clause-refused
 returns-in_err-refuse_design-clause-refused c =
     let told = err_from_is_err_and c.from_residual-in_err-refuse_design.result c.from_residual-in_err-refuse_design.ensures.1 in
-    rw (told.1, told.2) (design_refused c.args.file.now c.args.last_line c.args.models.now c.in_ok-design.design c.in_err-refuse_design.field-0.0 c.in_ok-design.ensures c.in_ok-places.ensures.some c.in_ok-places.ensures.differ
-    c.in_ok-refuse_models.ensures.fine c.in_err-refuse_design.ensures.refused)
+    rw (told.1, told.2) (design_refused c.args.file.now c.args.last_line c.args.models.now c.in_ok-design.design c.in_err-refuse_design.field-0.0 c.in_ok-design.ensures c.in_ok-places.ensures.named.0 c.in_ok-places.ensures.named.1
+    c.in_ok-places.ensures.fine c.in_err-refuse_design.ensures.refused)

@@ -2,7 +2,7 @@ use Rattle.std.proofs.Common.{◌≡◌, ◌≤◌, ◌<◌, ◌∙◌, length, 
 use Rattle.std.proofs.lemmas.Result.{IfOk-weaker, IfErr-weaker, err_from_is_err_and}
 use Rattle.fab_desk.specs.Files.{Map, with_file}
 use Rattle.fab_read.specs.Fabrics.{MeetsFabric}
-use Rattle.fab_flow.specs.Generating.{most_text_bytes, IsFabricText, MeetsGenerate, of_files, IsReadyToGenerate}
+use Rattle.fab_flow.specs.Generating.{most_text_bytes, IsGeneratedText, MeetsGenerate, of_files, IsReadyToGenerate}
 use Rattle.fab_fabric_names.proofs.Readings.{spelled_are_named}
 use Rattle.fab_flow.proofs.Ending.{cause_of_read, cause_of_length, cause_of_store}
 use Rattle.fab_flow.proofs.generating.do_generate.Goals as goal
@@ -37,12 +37,11 @@ returns-clause-done g c = λ files is.
     let short = c.in_ok-check_length.ensures.short in
     let loader = c.in_ok-bytes.ensures.loader in
     let same = ap length c.deref.ensures.value in
-    let made : IsFabricText files c.args.fabric.now text = record {
+    let made : IsGeneratedText files c.args.fabric.now text = record {
       fabric = fabric;
       spelled = spelled;
       printed = c.in_ok-text.ensures.printed;
-      sound = c.in_ok-text.ensures.sound (spelled_are_named files c.args.fabric.now fabric spelled);
-      loader = c.in_ok-text.ensures.loader;
+      is_text = c.in_ok-text.ensures.is_text (spelled_are_named files c.args.fabric.now fabric spelled);
       drives = c.in_ok-text.ensures.drives;
       loads = c.in_ok-text.ensures.loads (spelled_are_named files c.args.fabric.now fabric spelled);
       short = subst (λ n. n ≤ most_text_bytes) counted short;

@@ -5,12 +5,12 @@ use Rattle.fab_syntax.specs.declared.tree.Module.{Module}
 use Rattle.fab_syntax.specs.Plain.{PlainModule, plain_module}
 use Rattle.fab_prim.specs.Modules.{module_of_kind}
 use Rattle.fab_gen_loader.specs.Loader.{IsLoader}
+use Rattle.fab_gen_loader.specs.Bounds.{IsSmall}
 use Rattle.fab_gen_loader.specs.Expressions.{loader_module}
 use Rattle.fab_fabric_text.specs.Top.{top_module}
 use Rattle.fab_fabric_text.specs.Text.{used_kinds, standing_types, tile_modules}
 use Rattle.fab_drives.specs.Drives.{ShowsDrives}
 use Rattle.fab_syntax.specs.Sound.{IsSound}
-use Rattle.fab_text_loads.specs.Loads.{LoadsConfigurations}
 use Rattle.fab_gen_top.specs.Standing.{type_of}
 use Rattle.fab_gen_top.proofs.text.generate.Goals as goal
 
@@ -35,10 +35,19 @@ returns-clause-text c =
     ∙ append_assoc (used ++ tiles) (loader ∷ []) (top_module fabric ∷ [])
     ∙ append_assoc used tiles (loader ∷ top_module fabric ∷ [])
 
-pub returns-clause-loader : goal.returns-clause-loader
-returns-clause-loader c =
-    subst (λ rows. IsLoader rows (loader_module rows)) c.rows.ensures
-    (subst (IsLoader c.rows.result) c.in_ok-loader_module.ensures.module c.in_ok-loader_module.ensures.loader)
+pub returns-clause-is_text : goal.returns-clause-is_text
+returns-clause-is_text c named =
+    let fabric = c.args.fabric.now in
+    let standing = c.in_ok-standing.ensures in
+    let made = c.in_ok-loader_module.ensures in
+    let loader_is = made.module ∙ ap loader_module c.rows.ensures in
+    record {
+      loader = loader_module fabric.rows;
+      is_loader = subst (λ rows. IsLoader rows (loader_module fabric.rows)) c.rows.ensures (subst (IsLoader c.rows.result) loader_is made.loader);
+      small = subst IsSmall loader_is made.small;
+      is = returns-clause-text c;
+      sound = subst IsSound (sym (returns-clause-text c)) (c.fabric_texts_are_sound.ensures fabric standing.is_fabric standing.are_tiles named);
+    }
 
 pub returns-clause-drives : goal.returns-clause-drives
 returns-clause-drives c =
@@ -47,7 +56,6 @@ returns-clause-drives c =
     (c.fabric_texts_show_drives.ensures fabric (loader_module fabric.rows) c.in_ok-standing.ensures.is_fabric c.in_ok-standing.ensures.are_tiles refl)
 
 pub returns-clause-loads : goal.returns-clause-loads
-returns-clause-loads c =
+returns-clause-loads c named =
     let fabric = c.args.fabric.now in
-    subst (λ text. IsSound text → LoadsConfigurations fabric text) (sym (returns-clause-text c))
-    (c.fabric_texts_load.ensures fabric (loader_module fabric.rows) c.in_ok-standing.ensures.is_fabric (returns-clause-loader c))
+    c.fabric_texts_load.ensures fabric _ c.in_ok-standing.ensures.is_fabric (returns-clause-is_text c named)

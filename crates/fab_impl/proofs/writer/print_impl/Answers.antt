@@ -3,7 +3,6 @@ use Rattle.std.proofs.lemmas.Result.{IfOk-weaker}
 use Rattle.fab_texts.specs.Rows.{rows_of, words_of}
 use Rattle.fab_texts.proofs.PrintedRows.{rows_again}
 use Rattle.fab_impl.specs.Spelled.{implementation_lines}
-use Rattle.fab_impl.proofs.Printed.{implementation_rows}
 use Rattle.fab_impl.proofs.ReadBack.{spelled_is_read}
 use Rattle.fab_impl.proofs.writer.print_impl.Goals as goal
 
@@ -12,7 +11,7 @@ returns-clause-spells c =
     let fabric = c.args.fabric.now in
     let it = c.args.implementation.now in
     IfOk-weaker c.print.result _ _ (λ text is has. record {
-      lines = ap (λ (bytes : List ℕ). words_of (rows_of bytes)) is ∙ rows_again (implementation_lines fabric it) (implementation_rows fabric c.types-types.ensures.is_fabric it has);
+      lines = ap (λ (bytes : List ℕ). words_of (rows_of bytes)) is ∙ rows_again (implementation_lines fabric it) has.rows;
       nameable = has.nameable;
     }) c.print.ensures.text
 

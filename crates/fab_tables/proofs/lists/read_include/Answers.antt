@@ -1,4 +1,4 @@
-use Rattle.std.proofs.Common.{◌≡◌, ◌∙◌, sym, ap, eq-eqb, length, refl}
+use Rattle.std.proofs.Common.{◌∙◌, sym, eq-eqb, length, refl}
 use Rattle.std.specs.Str.Lossy.{utf8_valid_len}
 use Rattle.fab_tables.proofs.Longs.{whole_utf8}
 use Rattle.fab_tables.proofs.lists.read_include.Goals as goal

@@ -1,6 +1,0 @@
-use Rattle.fab_models.specs.Plain.{plain_models}
-use Rattle.fab_blif.proofs.Instances.{AreCounts}
-use Rattle.fab_blif.proofs.counting.count_by_levels.Given as goal
-
-abbrev pub invariant-loop-level : goal.invariant-loop-level
-invariant-loop-level l = AreCounts (plain_models l.models) l._level l.counts.items

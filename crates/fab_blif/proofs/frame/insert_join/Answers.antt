@@ -1,7 +1,0 @@
-use Rattle.std.proofs.Common.{◌∙◌, ap, Global}
-use Rattle.fab_blif.specs.Walk.{plain_joins}
-use Rattle.fab_blif.proofs.Joins.{joins_of_insert}
-use Rattle.fab_blif.proofs.frame.insert_join.Goals as goal
-
-pub returns : goal.returns
-returns c = ap (plain_joins {A = Global}) c.in_ok-insert.ensures.entries ∙ joins_of_insert c.args.joins.now.entries c.args.formal c.args.net

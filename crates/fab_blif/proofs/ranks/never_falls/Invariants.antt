@@ -1,8 +1,0 @@
-use Rattle.std.proofs.Common.{◌<◌, ℕ}
-use Rattle.fab_models.specs.Plain.{plain_models}
-use Rattle.fab_blif.specs.Uses.{IsMarked}
-use Rattle.fab_blif.proofs.Levels.{AllStay}
-use Rattle.fab_blif.proofs.ranks.never_falls.Given as goal
-
-abbrev pub invariant-loop-place : goal.invariant-loop-place
-invariant-loop-place l = (before : ℕ) → before < l.place → IsMarked l.used before → AllStay (plain_models l.models) l.ranks before

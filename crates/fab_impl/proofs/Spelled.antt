@@ -1,0 +1,366 @@
+-- The lines of a text that is read are those of its implementation.
+use Rattle.std.proofs.Common.{◌≡◌, ℕ, ◌<◌, ◌≤◌, Bool, true, false, cond, List, [], ◌∷◌, ◌++◌, map, get_or, Option, Some, None, Ok, refl, sym, ap, subst, ◌∙◌, arith, append_assoc, append-nil, codes}
+use Rattle.std.specs.Prelude.{not, nat_lt, nat_le}
+use Rattle.std.specs.List.{AllByRecursion, flat_map}
+use Rattle.std.specs.Str.{bytes_eq}
+use Rattle.std.proofs.lemmas.Bool.{and_parts, leb-true}
+use Rattle.std.proofs.lemmas.Grind.{flat_map-append}
+use Rattle.std.proofs.lemmas.List.{map_push}
+use Rattle.std.proofs.lemmas.List.Concat.{flat_map-cons}
+use Rattle.std.proofs.lemmas.List.Quantifiers.{position-Some}
+use Rattle.fab_base.specs.declared.words.Reason.TheVariants as reasons
+use Rattle.fab_model.specs.Grid.{PlainFabric}
+use Rattle.fab_fabric.specs.declared.wire.Site.{Site}
+use Rattle.fab_fabric.specs.declared.wire.Wire.{Wire}
+use Rattle.fab_netlist.specs.declared.net_id.NetId.{NetId}
+use Rattle.fab_netlist.specs.declared.net_id.NetId.TheVariants as nets
+use Rattle.fab_implementation.specs.Plain.{Edge, Pad, PlainTree, PlainImplementation}
+use Rattle.fab_lines.specs.Order.{IsFine, IsWhole}
+use Rattle.fab_texts.specs.Rows.{Word, PlainRow, word_at, words_of}
+use Rattle.fab_texts.specs.Formats.{refused}
+use Rattle.fab_texts.proofs.Formats.{each_line}
+use Rattle.fab_impl.specs.declared.kind.Kind.{Kind}
+use Rattle.fab_impl.specs.declared.kind.Kind.TheVariants as kinds
+use Rattle.fab_impl.specs.Names.{cell_of, cell_text, site_in, wire_of, wire_text, most_cell}
+use Rattle.fab_impl.specs.FirstPlaces.{ports, first_place}
+use Rattle.fab_impl.specs.Kinds.{kind_of, section, is_header, is_end, may_follow, has_ended}
+use Rattle.fab_impl.specs.Lines.{Cell, Known, nothing, known, take, take_kind, set_cells, set_ins, set_outs, set_trees, cell_at, pad_at, input_at, cell_net_at, with_net, with_last, with_edge, with_wires}
+use Rattle.fab_impl.specs.Spelled.{header, cell_line, pad_line, net_line, edge_line, tree_lines, ending, inner_lines, implementation_lines, IsNamed, Spells, implementation_of, implementation_format, cut_short}
+use Rattle.fab_impl.proofs.Follows.{keeps}
+use Rattle.fab_impl.proofs.LineForms.{IsForm, form_of, equal_words}
+use Rattle.fab_impl.proofs.WordsRead.{cell_read, site_read, wire_read}
+use Rattle.fab_impl.proofs.Stands.{text_stands, is_on_fabric}
+
+-- ---- lists
+
+all_push : {X : Type 0} (P : X → Type 0) (xs : List X) (y : X) → AllByRecursion P xs → P y → AllByRecursion P (xs ++ y ∷ [])
+all_push P [] y all is = (is, tt)
+all_push P (x ∷ xs) y all is = (all.0, all_push P xs y all.1 is)
+
+all_last : {X : Type 0} (P : X → Type 0) (change : X → X) (xs : List X) → ((x : X) → P x → P (change x)) → AllByRecursion P xs → AllByRecursion P (with_last change xs)
+all_last P change [] keep all = tt
+all_last P change (x ∷ []) keep all = (keep x all.0, tt)
+all_last P change (x ∷ y ∷ more) keep all = (all.0, all_last P change (y ∷ more) keep all.1)
+
+no_more : {X : Type 0} (a : List X) → ((a ++ []) ++ []) ++ [] ≡ a
+no_more a = append-nil ((a ++ []) ++ []) ∙ append-nil (a ++ []) ∙ append-nil a
+
+-- an item more of the first of four lists, of which the others are empty
+more_first : {X : Type 0} (a longer b c d : List X) (x : X) → b ≡ [] → c ≡ [] → d ≡ [] → longer ≡ a ++ x ∷ [] → (a ++ b ++ c ++ d) ++ x ∷ [] ≡ longer ++ b ++ c ++ d
+more_first {X} a longer b c d x no_b no_c no_d is =
+    rw (no_b, no_c, no_d, is) (ap (λ (l : List X). l ++ x ∷ []) (no_more a) ∙ sym (no_more (a ++ x ∷ [])))
+
+more_second : {X : Type 0} (a b longer c d new_d : List X) (x : X) → c ≡ [] → d ≡ [] → new_d ≡ [] → longer ≡ b ++ x ∷ [] → (a ++ b ++ c ++ d) ++ x ∷ [] ≡ a ++ longer ++ c ++ new_d
+more_second {X} a b longer c d new_d x no_c no_d no_new is =
+    rw (no_c, no_d, no_new, is) (ap (λ (l : List X). l ++ x ∷ []) (append-nil ((a ++ b) ++ []) ∙ append-nil (a ++ b)) ∙ append_assoc a b (x ∷ [])
+    ∙ sym (append-nil ((a ++ (b ++ x ∷ [])) ++ []) ∙ append-nil (a ++ (b ++ x ∷ []))))
+
+more_third : {X : Type 0} (a b c longer d : List X) (x : X) → d ≡ [] → longer ≡ c ++ x ∷ [] → (a ++ b ++ c ++ d) ++ x ∷ [] ≡ a ++ b ++ longer ++ d
+more_third {X} a b c longer d x no_d is =
+    rw (no_d, is) (ap (λ (l : List X). l ++ x ∷ []) (append-nil ((a ++ b) ++ c)) ∙ append_assoc (a ++ b) c (x ∷ []) ∙ sym (append-nil ((a ++ b) ++ (c ++ x ∷ []))))
+
+more_fourth : {X : Type 0} (a b c d longer : List X) (x : X) → longer ≡ d ++ x ∷ [] → (a ++ b ++ c ++ d) ++ x ∷ [] ≡ a ++ b ++ c ++ longer
+more_fourth {X} a b c d longer x is = append_assoc (a ++ b ++ c) d (x ∷ []) ∙ ap (λ (l : List X). (a ++ b ++ c) ++ l) (sym is)
+
+-- ---- the lines so far
+
+-- the section of the last line
+abbrev section_of : Option Kind → ℕ
+section_of None = 0
+section_of (Some last) = section last
+
+abbrev so_far : PlainFabric → Option Kind → PlainImplementation → List (List Word)
+so_far fabric None it = []
+so_far fabric (Some last) it = cond (is_end last) (implementation_lines fabric it) (header ∷ inner_lines fabric it)
+
+-- what sections that have not begun hold
+record Later (section : ℕ) (it : PlainImplementation) : Type 0 where
+  cells : section < 1 → it.cells ≡ []
+  ins : section < 2 → it.ins ≡ []
+  outs : section < 3 → it.outs ≡ []
+  trees : section < 4 → it.trees ≡ []
+
+record Holds (old : Known) (done : List (List Word)) : Type 0 where
+  lines : done ≡ so_far old.fabric old.last (implementation_of old)
+  later : Later (section_of old.last) (implementation_of old)
+  cells : AllByRecursion (λ cell. cell.0 ≤ most_cell) old.cells
+  nets : AllByRecursion (λ tree. IsNamed old.ins tree.net) old.trees
+
+-- where a line may follow that is not the first
+record Begun (last : Option Kind) (kind : Kind) : Type 0 where
+  lines : (fabric : PlainFabric) (it : PlainImplementation) → so_far fabric last it ≡ header ∷ inner_lines fabric it
+  up : section_of last ≤ section kind
+
+begun : (last : Option Kind) (kind : Kind) → has_ended last ≡ false → may_follow last kind ≡ true → is_header kind ≡ false → Begun last kind
+begun None kind opened follows other = absurd cc
+begun (Some last) kind opened follows other =
+    let both = and_parts (nat_lt 0 (section kind)) (nat_le (section last) (section kind)) follows in
+    record {
+      lines = λ fabric it. ap (λ (ended : Bool). cond ended (implementation_lines fabric it) (header ∷ inner_lines fabric it)) opened;
+      up = leb-true (section last) (section kind) both.1;
+    }
+
+first_line : (last : Option Kind) → may_follow last kinds.Header ≡ true → last ≡ None
+first_line None follows = refl
+first_line (Some last) follows = absurd cc
+
+-- ---- trees
+
+bare_lines : (fabric : PlainFabric) (ins : List Pad) (trees : List PlainTree) (net : NetId) → flat_map (tree_lines fabric ins) (with_net trees net) ≡ flat_map (tree_lines fabric ins) trees ++ net_line ins net ∷ []
+bare_lines fabric ins trees net =
+    let bare : PlainTree = record { net = net; edges = [] } in
+    flat_map-append (tree_lines fabric ins) trees (bare ∷ [])
+    ∙ ap (λ (l : List (List Word)). flat_map (tree_lines fabric ins) trees ++ l) (flat_map-cons (tree_lines fabric ins) bare [] ∙ append-nil (net_line ins net ∷ []))
+
+longer_lines : (fabric : PlainFabric) (ins : List Pad) (tree : PlainTree) (more : List PlainTree) (edge : Edge)
+    → flat_map (tree_lines fabric ins) (with_last (with_edge edge) (tree ∷ more)) ≡ flat_map (tree_lines fabric ins) (tree ∷ more) ++ edge_line fabric edge ∷ []
+longer_lines fabric ins tree [] edge =
+    flat_map-cons (tree_lines fabric ins) (with_edge edge tree) [] ∙ append-nil (tree_lines fabric ins (with_edge edge tree))
+    ∙ ap (λ (l : List (List Word)). net_line ins tree.net ∷ l) (map_push (edge_line fabric) tree.edges edge)
+    ∙ ap (λ (l : List (List Word)). l ++ edge_line fabric edge ∷ []) (sym (flat_map-cons (tree_lines fabric ins) tree [] ∙ append-nil (tree_lines fabric ins tree)))
+longer_lines fabric ins tree (next ∷ more) edge =
+    flat_map-cons (tree_lines fabric ins) tree (with_last (with_edge edge) (next ∷ more))
+    ∙ ap (λ (l : List (List Word)). tree_lines fabric ins tree ++ l) (longer_lines fabric ins next more edge)
+    ∙ sym (append_assoc (tree_lines fabric ins tree) (flat_map (tree_lines fabric ins) (next ∷ more)) (edge_line fabric edge ∷ []))
+    ∙ ap (λ (l : List (List Word)). l ++ edge_line fabric edge ∷ []) (sym (flat_map-cons (tree_lines fabric ins) tree (next ∷ more)))
+
+-- ---- what was taken of a line
+
+cell_taken : (old next : Known) (cell : Option ℕ) (site : Option Site) → set_cells old (cell_at old.cells cell site) ≡ Ok next
+    → (c : ℕ) × (s : Site) × (cell ≡ Some c) × (site ≡ Some s) × (record old { last = Some kinds.Cell; cells = old.cells ++ (c, s) ∷ [] } ≡ next)
+cell_taken old next None site so = absurd cc
+cell_taken old next (Some cell) None so = absurd cc
+cell_taken old next (Some cell) (Some site) so = (cell, site, refl, refl, cc)
+
+in_taken : (old next : Known) (port : Word) (site : Option Site) → set_ins old (pad_at old.ins port site) ≡ Ok next → (s : Site) × (site ≡ Some s) × (record old { last = Some kinds.In; ins = old.ins ++ (port, s) ∷ [] } ≡ next)
+in_taken old next port None so = absurd cc
+in_taken old next port (Some site) so = (site, refl, cc)
+
+out_taken : (old next : Known) (port : Word) (site : Option Site) → set_outs old (pad_at old.outs port site) ≡ Ok next → (s : Site) × (site ≡ Some s) × (record old { last = Some kinds.Out; outs = old.outs ++ (port, s) ∷ [] } ≡ next)
+out_taken old next port None so = absurd cc
+out_taken old next port (Some site) so = (site, refl, cc)
+
+input_taken : (old next : Known) (found : Option ℕ) → set_trees old kinds.NetIn (input_at old.trees found) ≡ Ok next → (place : ℕ) × (found ≡ Some place) × (record old { last = Some kinds.NetIn; trees = with_net old.trees (nets.In place) } ≡ next)
+input_taken old next None so = absurd cc
+input_taken old next (Some place) so = (place, refl, cc)
+
+cell_net_taken : (old next : Known) (found : Option ℕ) → set_trees old kinds.NetCell (cell_net_at old.trees found) ≡ Ok next → (cell : ℕ) × (found ≡ Some cell) × (record old { last = Some kinds.NetCell; trees = with_net old.trees (nets.Cell cell) } ≡ next)
+cell_net_taken old next None so = absurd cc
+cell_net_taken old next (Some cell) so = (cell, refl, cc)
+
+edge_taken : (old next : Known) (trees : List PlainTree) (from to : Option Wire) → set_trees old kinds.Edge (with_wires trees from to) ≡ Ok next
+    → (tree : PlainTree) × (more : List PlainTree) × (f : Wire) × (t : Wire) × (trees ≡ tree ∷ more) × (from ≡ Some f) × (to ≡ Some t) × (record old { last = Some kinds.Edge; trees = with_last (with_edge (f, t)) (tree ∷ more) } ≡ next)
+edge_taken old next [] from to so = absurd cc
+edge_taken old next (tree ∷ more) None to so = absurd cc
+edge_taken old next (tree ∷ more) (Some from) None so = absurd cc
+edge_taken old next (tree ∷ more) (Some from) (Some to) so = (tree, more, from, to, refl, refl, refl, cc)
+
+header_taken : (old next : Known) (version : Word) (right : Bool) → bytes_eq version (codes "1") ≡ right → cond right (Ok (record old { last = Some kinds.Header })) (refused reasons.Number) ≡ Ok next
+    → (version ≡ codes "1") × (record old { last = Some kinds.Header } ≡ next)
+header_taken old next version true is so = (equal_words version (codes "1") is, cc)
+header_taken old next version false is so = absurd cc
+
+-- ---- one line more
+
+module _ (old : Known) (done : List (List Word)) (holds : Holds old done) where
+  abbrev it : PlainImplementation
+  it = implementation_of old
+
+  -- a line behind those so far
+  behind : (kind : Kind) (line : List Word) (longer : List (List Word)) → Begun old.last kind → inner_lines old.fabric it ++ line ∷ [] ≡ longer → done ++ line ∷ [] ≡ header ∷ longer
+  behind kind line longer starts is =
+      ap (λ (l : List (List Word)). l ++ line ∷ []) (holds.lines ∙ starts.lines old.fabric it) ∙ ap (λ (l : List (List Word)). header ∷ l) is
+
+  header_step : may_follow old.last kinds.Header ≡ true → Holds (record old { last = Some kinds.Header }) (done ++ header ∷ [])
+  header_step follows =
+      let none = first_line old.last follows in
+      let first : section_of old.last ≡ 0 = ap section_of none in
+      let before : done ≡ [] = holds.lines ∙ ap (λ (last : Option Kind). so_far old.fabric last it) none in
+      let no_cells = holds.later.cells (omega (arith, first)) in
+      let no_ins = holds.later.ins (omega (arith, first)) in
+      let no_outs = holds.later.outs (omega (arith, first)) in
+      let no_trees = holds.later.trees (omega (arith, first)) in
+      let empty : inner_lines old.fabric it ≡ [] =
+      ap (λ (l : List Cell). map cell_line l ++ map (pad_line (codes "in")) old.ins ++ map (pad_line (codes "out")) old.outs ++ flat_map (tree_lines old.fabric old.ins) old.trees) no_cells
+      ∙ ap (λ (l : List Pad). map (pad_line (codes "in")) l ++ map (pad_line (codes "out")) old.outs ++ flat_map (tree_lines old.fabric old.ins) old.trees) no_ins
+      ∙ ap (λ (l : List Pad). map (pad_line (codes "out")) l ++ flat_map (tree_lines old.fabric old.ins) old.trees) no_outs
+      ∙ ap (flat_map (tree_lines old.fabric old.ins)) no_trees in
+      record {
+        lines = ap (λ (l : List (List Word)). l ++ header ∷ []) before ∙ ap (λ (l : List (List Word)). header ∷ l) (sym empty);
+        later = record { cells = λ few. no_cells; ins = λ few. no_ins; outs = λ few. no_outs; trees = λ few. no_trees };
+        cells = holds.cells;
+        nets = holds.nets;
+      }
+
+  cell_step : (cell : Cell) → Begun old.last kinds.Cell → cell.0 ≤ most_cell → Holds (record old { last = Some kinds.Cell; cells = old.cells ++ cell ∷ [] }) (done ++ cell_line cell ∷ [])
+  cell_step cell starts few =
+      let no_ins = holds.later.ins (omega (arith, starts.up)) in
+      let no_outs = holds.later.outs (omega (arith, starts.up)) in
+      let no_trees = holds.later.trees (omega (arith, starts.up)) in
+      record {
+        lines = behind kinds.Cell (cell_line cell) (inner_lines old.fabric (record it { cells = old.cells ++ cell ∷ [] })) starts
+            (more_first (map cell_line old.cells) (map cell_line (old.cells ++ cell ∷ [])) (map (pad_line (codes "in")) old.ins) (map (pad_line (codes "out")) old.outs) (flat_map (tree_lines old.fabric old.ins) old.trees) (cell_line cell)
+            (ap (map (pad_line (codes "in"))) no_ins) (ap (map (pad_line (codes "out"))) no_outs) (ap (flat_map (tree_lines old.fabric old.ins)) no_trees) (map_push cell_line old.cells cell));
+        later = record { cells = λ below. absurd (omega (arith, below)); ins = λ below. no_ins; outs = λ below. no_outs; trees = λ below. no_trees };
+        cells = all_push (λ (c : Cell). c.0 ≤ most_cell) old.cells cell holds.cells few;
+        nets = holds.nets;
+      }
+
+  in_step : (pad : Pad) → Begun old.last kinds.In → Holds (record old { last = Some kinds.In; ins = old.ins ++ pad ∷ [] }) (done ++ pad_line (codes "in") pad ∷ [])
+  in_step pad starts =
+      let no_outs = holds.later.outs (omega (arith, starts.up)) in
+      let no_trees = holds.later.trees (omega (arith, starts.up)) in
+      let longer = old.ins ++ pad ∷ [] in
+      record {
+        lines = behind kinds.In (pad_line (codes "in") pad) (inner_lines old.fabric (record it { ins = longer })) starts
+            (more_second (map cell_line old.cells) (map (pad_line (codes "in")) old.ins) (map (pad_line (codes "in")) longer) (map (pad_line (codes "out")) old.outs) (flat_map (tree_lines old.fabric old.ins) old.trees) (flat_map (tree_lines old.fabric longer) old.trees) (pad_line (codes "in") pad)
+            (ap (map (pad_line (codes "out"))) no_outs) (ap (flat_map (tree_lines old.fabric old.ins)) no_trees) (ap (flat_map (tree_lines old.fabric longer)) no_trees) (map_push (pad_line (codes "in")) old.ins pad));
+        later = record { cells = λ below. absurd (omega (arith, below)); ins = λ below. absurd (omega (arith, below)); outs = λ below. no_outs; trees = λ below. no_trees };
+        cells = holds.cells;
+        nets = subst (λ (trees : List PlainTree). AllByRecursion (λ tree. IsNamed longer tree.net) trees) (sym no_trees) tt;
+      }
+
+  out_step : (pad : Pad) → Begun old.last kinds.Out → Holds (record old { last = Some kinds.Out; outs = old.outs ++ pad ∷ [] }) (done ++ pad_line (codes "out") pad ∷ [])
+  out_step pad starts =
+      let no_trees = holds.later.trees (omega (arith, starts.up)) in
+      record {
+        lines = behind kinds.Out (pad_line (codes "out") pad) (inner_lines old.fabric (record it { outs = old.outs ++ pad ∷ [] })) starts
+            (more_third (map cell_line old.cells) (map (pad_line (codes "in")) old.ins) (map (pad_line (codes "out")) old.outs) (map (pad_line (codes "out")) (old.outs ++ pad ∷ [])) (flat_map (tree_lines old.fabric old.ins) old.trees) (pad_line (codes "out") pad)
+            (ap (flat_map (tree_lines old.fabric old.ins)) no_trees) (map_push (pad_line (codes "out")) old.outs pad));
+        later = record { cells = λ below. absurd (omega (arith, below)); ins = λ below. absurd (omega (arith, below)); outs = λ below. absurd (omega (arith, below)); trees = λ below. no_trees };
+        cells = holds.cells;
+        nets = holds.nets;
+      }
+
+  -- a line of the nets
+  trees_step : (kind : Kind) (trees : List PlainTree) (line : List Word) → section kind ≡ 4 → is_end kind ≡ false → Begun old.last kind
+      → flat_map (tree_lines old.fabric old.ins) trees ≡ flat_map (tree_lines old.fabric old.ins) old.trees ++ line ∷ [] → AllByRecursion (λ tree. IsNamed old.ins tree.net) trees
+      → Holds (record old { last = Some kind; trees = trees }) (done ++ line ∷ [])
+  trees_step kind trees line fourth goes_on starts is named = record {
+    lines = behind kind line (inner_lines old.fabric (record it { trees = trees })) starts
+        (more_fourth (map cell_line old.cells) (map (pad_line (codes "in")) old.ins) (map (pad_line (codes "out")) old.outs) (flat_map (tree_lines old.fabric old.ins) old.trees) (flat_map (tree_lines old.fabric old.ins) trees) line is)
+        ∙ ap (λ (ended : Bool). cond ended (implementation_lines old.fabric (record it { trees = trees })) (header ∷ inner_lines old.fabric (record it { trees = trees }))) (sym goes_on);
+    later = record { cells = λ below. absurd (omega (arith, below, fourth)); ins = λ below. absurd (omega (arith, below, fourth)); outs = λ below. absurd (omega (arith, below, fourth)); trees = λ below. absurd (omega (arith, below, fourth)) };
+    cells = holds.cells;
+    nets = named;
+  }
+
+  net_step : (kind : Kind) (net : NetId) → section kind ≡ 4 → is_end kind ≡ false → Begun old.last kind → IsNamed old.ins net → Holds (record old { last = Some kind; trees = with_net old.trees net }) (done ++ net_line old.ins net ∷ [])
+  net_step kind net fourth goes_on starts named =
+      trees_step kind (with_net old.trees net) (net_line old.ins net) fourth goes_on starts (bare_lines old.fabric old.ins old.trees net)
+      (all_push (λ (tree : PlainTree). IsNamed old.ins tree.net) old.trees (record { net = net; edges = [] }) holds.nets named)
+
+  edge_step : (tree : PlainTree) (more : List PlainTree) (edge : Edge) → Begun old.last kinds.Edge → old.trees ≡ tree ∷ more
+      → Holds (record old { last = Some kinds.Edge; trees = with_last (with_edge edge) (tree ∷ more) }) (done ++ edge_line old.fabric edge ∷ [])
+  edge_step tree more edge starts is =
+      trees_step kinds.Edge (with_last (with_edge edge) (tree ∷ more)) (edge_line old.fabric edge) refl refl starts
+      (longer_lines old.fabric old.ins tree more edge ∙ ap (λ (trees : List PlainTree). flat_map (tree_lines old.fabric old.ins) trees ++ edge_line old.fabric edge ∷ []) (sym is))
+      (all_last (λ (t : PlainTree). IsNamed old.ins t.net) (with_edge edge) (tree ∷ more) (λ t named. named) (subst (λ (trees : List PlainTree). AllByRecursion (λ t. IsNamed old.ins t.net) trees) is holds.nets))
+
+  end_step : Begun old.last kinds.End → Holds (record old { last = Some kinds.End }) (done ++ ending ∷ [])
+  end_step starts = record {
+    lines = behind kinds.End ending (inner_lines old.fabric it ++ ending ∷ []) starts refl;
+    later = record { cells = λ below. absurd (omega (arith, below)); ins = λ below. absurd (omega (arith, below)); outs = λ below. absurd (omega (arith, below)); trees = λ below. absurd (omega (arith, below)) };
+    cells = holds.cells;
+    nets = holds.nets;
+  }
+
+  as_written : (next made : Known) (line written : List Word) → line ≡ written → made ≡ next → Holds made (done ++ written ∷ []) → Holds next (done ++ line ∷ [])
+  as_written next made line written is same step = subst (λ (k : Known). Holds k (done ++ line ∷ [])) same (subst (λ (l : List Word). Holds made (done ++ l ∷ [])) (sym is) step)
+
+  -- an input that is found by its port is named by it
+  input_named : (port : Word) (place : ℕ) → first_place old.ins port ≡ Some place → (port ≡ get_or (ports old.ins) place []) × IsNamed old.ins (nets.In place)
+  input_named port place found =
+      let stands = position-Some (bytes_eq port) (ports old.ins) place [] found in
+      let same = equal_words port (get_or (ports old.ins) place []) stands.1 in
+      (same, ap (first_place old.ins) (sym same) ∙ found)
+
+  kind_step : (next : Known) (kind : Kind) (line : List Word) → IsForm kind line → has_ended old.last ≡ false → may_follow old.last kind ≡ true → take_kind old kind line ≡ Ok next → Holds next (done ++ line ∷ [])
+  kind_step next kinds.Header line form opened follows so =
+      let taken = header_taken old next (word_at line 1) (bytes_eq (word_at line 1) (codes "1")) refl so in
+      as_written next (record old { last = Some kinds.Header }) line header (form ∙ ap (λ (w : Word). codes "fabulous-impl" ∷ w ∷ []) taken.0) taken.1 (header_step follows)
+  kind_step next kinds.Cell line form opened follows so =
+      let taken = cell_taken old next (cell_of (word_at line 1)) (site_in old.fabric (word_at line 2)) so in
+      let cell = cell_read (word_at line 1) taken.0 taken.2 in
+      let site = site_read old.fabric (word_at line 2) taken.1 taken.3 in
+      as_written next (record old { last = Some kinds.Cell; cells = old.cells ++ (taken.0, taken.1) ∷ [] }) line (cell_line (taken.0, taken.1))
+      (form ∙ ap (λ (w : Word). codes "cell" ∷ w ∷ word_at line 2 ∷ []) cell.0 ∙ ap (λ (w : Word). codes "cell" ∷ cell_text taken.0 ∷ w ∷ []) site) taken.4
+      (cell_step (taken.0, taken.1) (begun old.last kinds.Cell opened follows refl) cell.1)
+  kind_step next kinds.In line form opened follows so =
+      let taken = in_taken old next (word_at line 2) (site_in old.fabric (word_at line 3)) so in
+      let pad : Pad = (word_at line 2, taken.0) in
+      as_written next (record old { last = Some kinds.In; ins = old.ins ++ pad ∷ [] }) line (pad_line (codes "in") pad)
+      (form ∙ ap (λ (w : Word). codes "pad" ∷ codes "in" ∷ word_at line 2 ∷ w ∷ []) (site_read old.fabric (word_at line 3) taken.0 taken.1)) taken.2
+      (in_step pad (begun old.last kinds.In opened follows refl))
+  kind_step next kinds.Out line form opened follows so =
+      let taken = out_taken old next (word_at line 2) (site_in old.fabric (word_at line 3)) so in
+      let pad : Pad = (word_at line 2, taken.0) in
+      as_written next (record old { last = Some kinds.Out; outs = old.outs ++ pad ∷ [] }) line (pad_line (codes "out") pad)
+      (form ∙ ap (λ (w : Word). codes "pad" ∷ codes "out" ∷ word_at line 2 ∷ w ∷ []) (site_read old.fabric (word_at line 3) taken.0 taken.1)) taken.2
+      (out_step pad (begun old.last kinds.Out opened follows refl))
+  kind_step next kinds.NetZero line form opened follows so =
+      let same : record old { last = Some kinds.NetZero; trees = with_net old.trees nets.Zero } ≡ next = cc in
+      as_written next (record old { last = Some kinds.NetZero; trees = with_net old.trees nets.Zero }) line (net_line old.ins nets.Zero) form same (net_step kinds.NetZero nets.Zero refl refl (begun old.last kinds.NetZero opened follows refl) tt)
+  kind_step next kinds.NetOne line form opened follows so =
+      let same : record old { last = Some kinds.NetOne; trees = with_net old.trees nets.One } ≡ next = cc in
+      as_written next (record old { last = Some kinds.NetOne; trees = with_net old.trees nets.One }) line (net_line old.ins nets.One) form same (net_step kinds.NetOne nets.One refl refl (begun old.last kinds.NetOne opened follows refl) tt)
+  kind_step next kinds.NetIn line form opened follows so =
+      let taken = input_taken old next (first_place old.ins (word_at line 2)) so in
+      let named = input_named (word_at line 2) taken.0 taken.1 in
+      as_written next (record old { last = Some kinds.NetIn; trees = with_net old.trees (nets.In taken.0) }) line (net_line old.ins (nets.In taken.0))
+      (form ∙ ap (λ (w : Word). codes "net" ∷ codes "in" ∷ w ∷ []) named.0) taken.2
+      (net_step kinds.NetIn (nets.In taken.0) refl refl (begun old.last kinds.NetIn opened follows refl) named.1)
+  kind_step next kinds.NetCell line form opened follows so =
+      let taken = cell_net_taken old next (cell_of (word_at line 2)) so in
+      let cell = cell_read (word_at line 2) taken.0 taken.1 in
+      as_written next (record old { last = Some kinds.NetCell; trees = with_net old.trees (nets.Cell taken.0) }) line (net_line old.ins (nets.Cell taken.0))
+      (form ∙ ap (λ (w : Word). codes "net" ∷ codes "cell" ∷ w ∷ []) cell.0) taken.2
+      (net_step kinds.NetCell (nets.Cell taken.0) refl refl (begun old.last kinds.NetCell opened follows refl) cell.1)
+  kind_step next kinds.Edge line form opened follows so =
+      let taken = edge_taken old next old.trees (wire_of old.fabric (word_at line 1)) (wire_of old.fabric (word_at line 2)) so in
+      let edge : Edge = (taken.2, taken.3) in
+      as_written next (record old { last = Some kinds.Edge; trees = with_last (with_edge edge) (taken.0 ∷ taken.1) }) line (edge_line old.fabric edge)
+      (form ∙ ap (λ (w : Word). codes "edge" ∷ w ∷ word_at line 2 ∷ []) (wire_read old.fabric (word_at line 1) taken.2 taken.5)
+      ∙ ap (λ (w : Word). codes "edge" ∷ wire_text old.fabric taken.2 ∷ w ∷ []) (wire_read old.fabric (word_at line 2) taken.3 taken.6)) taken.7
+      (edge_step taken.0 taken.1 edge (begun old.last kinds.Edge opened follows refl) taken.4)
+  kind_step next kinds.End line form opened follows so =
+      let same : record old { last = Some kinds.End } ≡ next = cc in
+      as_written next (record old { last = Some kinds.End }) line ending form same (end_step (begun old.last kinds.End opened follows refl))
+  kind_step next kinds.Other line form opened follows so = absurd cc
+
+  line_by : (next : Known) (line : List Word) (ended follows : Bool) → has_ended old.last ≡ ended → may_follow old.last (kind_of line) ≡ follows
+      → cond ended (refused reasons.AfterEnd) (cond (not follows) (refused reasons.Row) (take_kind old (kind_of line) line)) ≡ Ok next → Holds next (done ++ line ∷ [])
+  line_by next line true follows is may so = absurd cc
+  line_by next line false false is may so = absurd cc
+  line_by next line false true is may so = kind_step next (kind_of line) line (form_of line) is may so
+
+  line_step : (next : Known) (line : List Word) → take old line ≡ Ok next → Holds next (done ++ line ∷ [])
+  line_step next line so = line_by next line (has_ended old.last) (may_follow old.last (kind_of line)) refl refl so
+
+-- ---- a whole text
+
+nothing_holds : (fabric : PlainFabric) → Holds (nothing fabric) []
+nothing_holds fabric = record { lines = refl; later = record { cells = λ few. refl; ins = λ few. refl; outs = λ few. refl; trees = λ few. refl }; cells = tt; nets = tt }
+
+text_holds : (fabric : PlainFabric) (rows : List PlainRow) → IsFine (implementation_format fabric).judge rows → Holds (known fabric (words_of rows)) (words_of rows)
+text_holds fabric rows fine = each_line (known fabric) take cut_short (λ lines. Holds (known fabric lines) lines)
+    (λ front line next so holds. subst (λ (k : Known). Holds k (front ++ line ∷ [])) ((keeps fabric).more front line next so) (line_step (known fabric front) front holds next line so)) (nothing_holds fabric) rows fine
+
+ended_lines : (fabric : PlainFabric) (last : Option Kind) (it : PlainImplementation) → has_ended last ≡ true → so_far fabric last it ≡ implementation_lines fabric it
+ended_lines fabric None it is = absurd cc
+ended_lines fabric (Some last) it is = ap (λ (ended : Bool). cond ended (implementation_lines fabric it) (header ∷ inner_lines fabric it)) is
+
+has_come : (old : Known) (ended : Bool) → has_ended old.last ≡ ended → cut_short old ≡ None → has_ended old.last ≡ true
+has_come old true is none = is
+has_come old false is none = (let cut = rw is at none in absurd cc)
+
+-- a whole text spells what it says
+pub whole_spells : (fabric : PlainFabric) (rows : List PlainRow) → IsWhole (implementation_format fabric) rows → Spells fabric rows (implementation_of (known fabric (words_of rows)))
+whole_spells fabric rows whole =
+    let old = known fabric (words_of rows) in
+    let holds = text_holds fabric rows whole.fine in
+    let stands = text_stands fabric rows whole.fine in
+    record {
+      lines = holds.lines ∙ ended_lines old.fabric old.last (implementation_of old) (has_come old (has_ended old.last) refl whole.ends) ∙ ap (λ (f : PlainFabric). implementation_lines f (implementation_of old)) stands.same;
+      nameable = record { on_fabric = is_on_fabric fabric old stands; cells = holds.cells; nets = holds.nets };
+    }

@@ -1,0 +1,10 @@
+pub mod Keys
+pub mod Members
+pub mod Order
+pub mod Searching
+pub mod Found
+pub mod Recursions
+pub mod Levels
+pub mod Instances
+pub mod Naming
+pub mod Fitting

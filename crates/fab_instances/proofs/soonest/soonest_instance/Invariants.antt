@@ -1,0 +1,9 @@
+use Rattle.std.proofs.Common.{◌≡◌, None, map, option_map, take}
+use Rattle.fab_models.specs.Plain.{plain_statement}
+use Rattle.fab_instances.specs.Uses.{soonest_of, instance_in}
+use Rattle.fab_models.specs.Keys.{key_names}
+use Rattle.fab_instances.proofs.soonest.soonest_instance.Given as goal
+
+abbrev pub invariant-loop-line : goal.invariant-loop-line
+invariant-loop-line l = option_map (λ found. (found.0, found.1.now)) l.found
+    ≡ soonest_of (instance_in (key_names l.places.keys) l.place) None (map (λ line. plain_statement line.now) (take l.line-index l.lines))
