@@ -1,9 +1,8 @@
 //! Small Verilog texts, many in one file: each begins with `%` and its name, and goes on up to the next `%`.
 
-use crate::files::fetch;
-use crate::stop::Stop;
 use fab_base::{Fault, MAX_FILE_BYTES, Memory, Name};
 use fab_desk::{Desk, Sink};
+use fab_examples::{Stop, fetch};
 use fab_lines::first_line;
 use fab_syntax::{Text, print};
 use fab_vread::read;

@@ -2,12 +2,10 @@
 #![tactic(auto)]
 
 mod cases;
-mod files;
-mod stop;
 
 use cases::{print_cases, print_deep_line};
 use fab_desk::{FileDesk, OutSink};
-use stop::Stop;
+use fab_examples::Stop;
 
 fn main(rt: HostRuntime) -> Result<(), Stop> {
     let alloc = rt.alloc();
