@@ -1,5 +1,5 @@
 -- The first of the things at the least line, as `min_by_key` picks it.
-use Rattle.std.proofs.Common.{◌≡◌, ◌⊎◌, ℕ, ◌<◌, ◌≤◌, Bool, true, false, List, [], ◌∷◌, map, min, find, nat_eq, fold, Option, Some, None, Ordering, Less, Equal, Greater, Bor, option_map, option_and_then, refl, sym, ap, subst, ◌∙◌, inl, inr, arith}
+use Rattle.std.proofs.Common.{◌≡◌, ◌⊎◌, ℕ, ◌<◌, ◌≤◌, true, false, List, [], ◌∷◌, map, min, find, nat_eq, fold, Option, Some, None, Ordering, Less, Equal, Greater, Bor, option_map, option_and_then, refl, sym, ap, subst, ◌∙◌, inl, inr, arith}
 use Rattle.std.specs.Ordering.{MatchOrdering, nat_cmp, min_by_ordering}
 use Rattle.std.specs.Fn.{CalledAt, Mut}
 use Rattle.std.specs.Iterator.{KeyTurn, PicksMinByKey}
