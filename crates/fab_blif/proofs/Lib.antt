@@ -8,6 +8,7 @@ pub mod Rules
 pub mod Below
 pub mod Ports
 pub mod Counted
+pub mod Least
 pub mod Clocking
 pub mod WellMade
 pub mod Judging

@@ -1,17 +1,17 @@
 //! What is judged of the clocks of a design: that there is one, that it is driven, and that it is no data.
 
-ghost use Rattle.std.specs.Prelude.{◌≡◌, ◌≢◌, ◌++◌, if◌then◌else◌, ℕ, None, Some, nat_eq, map, find, not, [], IfErr, IfOk, OnOk};
+ghost use Rattle.std.specs.Prelude.{◌≡◌, ◌≢◌, ◌++◌, if◌then◌else◌, ℕ, None, Some, map, not, [], IfErr, IfOk, OnOk};
 ghost use Rattle.std.specs.List.{list_any};
 ghost use Rattle.fab_base.specs.declared.fault.Fault.TheVariants as faults;
 ghost use Rattle.fab_blif.specs.declared.clocks.WrongClock.TheVariants as wrongs;
 ghost use Rattle.fab_blif.specs.Clocks.{clock_faults, clock_uses, data_faults, faults_at, first_fault, first_use, is_clock, is_other, latch_data, named_faults, wrong_by};
 ghost use Rattle.fab_blif.specs.Design.{number_in};
-ghost use Rattle.fab_blif.specs.Judged.{inner_drivers, is_among, is_driven, least, readers};
+ghost use Rattle.fab_blif.specs.Judged.{inner_drivers, is_among, is_driven, readers};
 ghost use Rattle.fab_blif.specs.Refusals.{RefusesClocks, clock_problem};
 ghost use Rattle.fab_blif.specs.Walk.{plain_clock, plain_net, plain_nets};
 
 use crate::design::{ClockName, Design, Use};
-use crate::judge::{driven_nets, inner_drivers, is_among, least_of, nets_in, readers_of};
+use crate::judge::{driven_nets, inner_drivers, is_among, nets_in, readers_of};
 use crate::net::Net;
 use fab_base::{Fault, Memory, Name, Problem, Reason};
 use fab_netlist::Latch;
@@ -78,35 +78,11 @@ fn clock_uses(alloc: Global, nets: &IndexSet<Net>, clocks: &[ClockName]) -> Resu
     Ok(uses)
 }
 
-fn least_use(uses: &[Use]) -> Option<u32>
-    ensures { result ≡ least (map (λ used. used.line) uses.now) }
-{
-    let mut least: Option<u32> = None;
-    for used in uses {
-        least = least_of(least, Some(used.line));
-    }
-    least
-}
-
-fn use_at(uses: &[Use], line: u32) -> Option<Use>
-    ensures { result ≡ find (λ used. nat_eq used.line line) uses.now }
-{
-    for used in uses {
-        if used.line == line {
-            return Some(*used);
-        }
-    }
-    None
-}
-
 /// The use of the least line, the first of those on it.
 fn first_use(uses: &[Use]) -> Option<Use>
     ensures { result ≡ first_use uses.now }
 {
-    match least_use(uses) {
-        None => None,
-        Some(line) => use_at(uses, line),
-    }
+    uses.iter().min_by_key(|used| used.line).copied()
 }
 
 fn clocking_of(alloc: Global, design: &Design) -> Result<Clocking, Memory>
@@ -229,35 +205,11 @@ fn clock_faults(alloc: Global, design: &Design) -> Result<Vec<ClockFault>, Memor
     Ok(faults)
 }
 
-fn least_fault(faults: &[ClockFault]) -> Option<u32>
-    ensures { result ≡ least (map (λ fault. fault.line) faults.now) }
-{
-    let mut least: Option<u32> = None;
-    for fault in faults {
-        least = least_of(least, Some(fault.line));
-    }
-    least
-}
-
-fn fault_at(faults: &[ClockFault], line: u32) -> Option<ClockFault>
-    ensures { result ≡ find (λ fault. nat_eq fault.line line) faults.now }
-{
-    for fault in faults {
-        if fault.line == line {
-            return Some(*fault);
-        }
-    }
-    None
-}
-
 /// What is wrong on the least line, the first of what is wrong on it.
 fn first_fault(faults: &[ClockFault]) -> Option<ClockFault>
     ensures { result ≡ first_fault faults.now }
 {
-    match least_fault(faults) {
-        None => None,
-        Some(line) => fault_at(faults, line),
-    }
+    faults.iter().min_by_key(|fault| fault.line).copied()
 }
 
 fn clock_problem(alloc: Global, wrong: WrongClock) -> Result<Problem, Memory>

@@ -191,7 +191,7 @@ pub(crate) fn nets_in(alloc: Global, uses: &[Use]) -> Result<IndexSet<u32>, Memo
     Ok(nets)
 }
 
-pub(crate) fn least_of(first: Option<u32>, second: Option<u32>) -> Option<u32>
+fn least_of(first: Option<u32>, second: Option<u32>) -> Option<u32>
     ensures { result ≡ least_of first second }
 {
     match first {
@@ -204,7 +204,7 @@ pub(crate) fn least_of(first: Option<u32>, second: Option<u32>) -> Option<u32>
 }
 
 /// The lesser line, where the second one counts.
-pub(crate) fn with_line(least: Option<u32>, counts: bool, line: u32) -> Option<u32>
+fn with_line(least: Option<u32>, counts: bool, line: u32) -> Option<u32>
     ensures { result ≡ (if counts then least_of least (Some line) else least) }
 {
     if counts {

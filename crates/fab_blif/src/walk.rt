@@ -5,7 +5,7 @@ ghost use Rattle.fab_models.specs.Plain.{plain_body, plain_models, plain_stateme
 ghost use Rattle.fab_blif.specs.Flat.{flat_lines, lines_by};
 ghost use Rattle.fab_instances.specs.Places.{model_names, place_of_model, statements_of};
 ghost use Rattle.fab_blif.specs.Walk.{after_all};
-ghost use Rattle.fab_blif.specs.Frames.{advanced, deep_in, entered, with_frames};
+ghost use Rattle.fab_blif.specs.Frames.{advanced, entered, with_frames};
 ghost use Rattle.fab_models.specs.Keys.{key_names};
 
 use crate::design::Design;

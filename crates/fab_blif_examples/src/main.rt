@@ -1,15 +1,16 @@
 //! BLIF files as a user has them: small ones, whose netlists and reports are printed, and designs that Yosys mapped, which
-//! are run beside the outputs that Icarus gave for their Verilog.
+//! are run beside the outputs that Icarus gave for their Verilog. A few small ones are packed too.
 #![tactic(auto)]
 
 mod cases;
 mod designs;
 mod files;
+mod packed;
 mod shown;
 mod stop;
 mod table;
 
-use cases::print_cases;
+use cases::{Printed, print_cases};
 use designs::run_design;
 use fab_desk::{FileDesk, OutSink};
 use stop::Stop;
@@ -29,7 +30,8 @@ fn main(rt: HostRuntime) -> Result<(), Stop> {
         "limits.cases",
         "worked.cases",
     ] {
-        print_cases(alloc, &mut desk, &mut out, file)?;
+        print_cases(alloc, &mut desk, &mut out, file, Printed::Netlist)?;
     }
+    print_cases(alloc, &mut desk, &mut out, "packed.cases", Printed::Packed)?;
     Ok(())
 }

@@ -8,7 +8,7 @@ use std::alloc::Global;
 /// A netlist of more nets is shown by their number alone.
 const MOST_NETS: usize = 64;
 
-fn put_number(out: &mut Vec<u8>, number: u64) -> Result<(), Memory> {
+pub fn put_number(out: &mut Vec<u8>, number: u64) -> Result<(), Memory> {
     out.push(b' ')?;
     out.extend_from_slice(Buffer::new().format(number).as_bytes())?;
     Ok(())
@@ -21,7 +21,7 @@ fn put_nets(out: &mut Vec<u8>, nets: &[u32]) -> Result<(), Memory> {
     Ok(())
 }
 
-fn put_names(out: &mut Vec<u8>, names: &[Name]) -> Result<(), Memory> {
+pub fn put_names(out: &mut Vec<u8>, names: &[Name]) -> Result<(), Memory> {
     for name in names {
         out.push(b' ')?;
         out.extend_from_slice(name.bytes())?;
