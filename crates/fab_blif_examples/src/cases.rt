@@ -1,12 +1,11 @@
 //! Small BLIF files, many in one file: each begins with `@` and its name, and goes on up to the next `@`.
 
-use crate::files::fetch;
 use crate::packed::shown_packed;
 use crate::shown::shown;
-use crate::stop::Stop;
 use fab_base::{Fault, MAX_FILE_BYTES, Name};
 use fab_blif::read_blif;
 use fab_desk::{Desk, Sink};
+use fab_examples::{Stop, fetch};
 use fab_lines::first_line;
 use fab_netlist::{Netlist, pack};
 use std::alloc::Global;

@@ -3,12 +3,11 @@
 ghost use Rattle.std.specs.Prelude.{◌≡◌, ◌≤◌, IfOk, length};
 ghost use Rattle.fab_netlist.specs.Cycles.{HasNoCycle};
 
-use crate::files::fetch;
-use crate::stop::Stop;
 use crate::table::{Table, read_table};
 use fab_base::{Fault, Name, Place, Reason};
 use fab_blif::read_blif;
 use fab_desk::{Desk, Sink};
+use fab_examples::{Stop, fetch};
 use fab_netlist::{Netlist, pack, step};
 use std::alloc::Global;
 

@@ -4,16 +4,14 @@
 
 mod cases;
 mod designs;
-mod files;
 mod packed;
 mod shown;
-mod stop;
 mod table;
 
 use cases::{Printed, print_cases};
 use designs::run_design;
 use fab_desk::{FileDesk, OutSink};
-use stop::Stop;
+use fab_examples::Stop;
 
 fn main(rt: HostRuntime) -> Result<(), Stop> {
     let alloc = rt.alloc();
