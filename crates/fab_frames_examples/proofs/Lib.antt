@@ -1,2 +1,0 @@
-pub mod SmallFabrics
-pub mod Setting
