@@ -54,6 +54,3 @@ pub fn read_pairs<D: Desk>(
 {
     read(alloc, desk, name)
 }
-
-#[cfg(test)]
-mod tests;
