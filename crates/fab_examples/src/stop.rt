@@ -3,6 +3,7 @@
 use fab_base::{Fault, Memory};
 use fab_desk::SinkFault;
 use std::alloc::{AllocError, AllocFailed};
+use std::num::ParseIntError;
 use std::str::Utf8Error;
 
 /// Why a program ended before its work was done.
@@ -12,6 +13,8 @@ pub enum Stop {
     Fault(Fault),
     /// A text is not UTF-8.
     Text,
+    /// A file of the program, or what is made of it, is not as the program expects it.
+    Data,
     /// Nothing could be printed.
     Print(SinkFault),
 }
@@ -31,6 +34,12 @@ impl From<SinkFault> for Stop {
 impl From<Utf8Error> for Stop {
     fn from(_: Utf8Error) -> Stop {
         Stop::Text
+    }
+}
+
+impl From<ParseIntError> for Stop {
+    fn from(_: ParseIntError) -> Stop {
+        Stop::Data
     }
 }
 
