@@ -15,6 +15,3 @@ pub use words::{Quantity, Reason};
 
 /// The longest file that is read: 64 MiB.
 pub const MAX_FILE_BYTES: usize = 67_108_864;
-
-#[cfg(test)]
-mod tests;

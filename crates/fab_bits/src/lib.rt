@@ -34,29 +34,3 @@ pub fn digits(alloc: Global, width: u32, number: u32) -> Result<Vec<bool>, Alloc
     }
     Ok(bits)
 }
-
-#[cfg(test)]
-mod tests {
-    use super::*;
-    use std::test::Fail;
-
-    #[test]
-    fn selects_and_writes_numbers(rt: HostRuntime) -> Result<(), Fail> {
-        for (n, width) in [
-            (0, 0),
-            (1, 0),
-            (2, 1),
-            (3, 2),
-            (4, 2),
-            (5, 3),
-            (256, 8),
-            (257, 9),
-        ] {
-            assert_eq!(rt; select_width(n), width, "at {n}");
-        }
-        assert_eq!(rt; select_width(u32::MAX), 32);
-        let six = digits(rt.alloc(), 4, 6)?;
-        assert_eq!(rt; six.as_slice(), [false, true, true, false].as_slice());
-        Ok(())
-    }
-}

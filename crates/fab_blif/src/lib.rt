@@ -15,6 +15,3 @@ mod walk;
 pub use flattening::flatten;
 pub use laws::refused_blif_has_no_netlist;
 pub use reading::read_blif;
-
-#[cfg(test)]
-mod tests;

@@ -13,8 +13,6 @@ pub mod laws;
 mod lookups;
 mod placed;
 mod tables;
-#[cfg(test)]
-mod tests;
 
 pub use driver::{Declared, Driver, Source};
 pub use equations::{Equations, MOST_POINTS, elaborate};

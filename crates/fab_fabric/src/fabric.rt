@@ -15,8 +15,6 @@ ghost use Rattle.fab_fabric.specs.Index.{plain_wire, place_wires, HasIndex, Have
 mod drives;
 mod joins;
 mod names;
-#[cfg(test)]
-mod tests;
 
 use crate::index::{TileIndex, TileWire};
 use crate::wire::{Site, Wire};

@@ -16,6 +16,3 @@ mod value;
 pub use feature::Feature;
 pub use printing::print_fasm;
 pub use reading::read_fasm;
-
-#[cfg(test)]
-mod tests;

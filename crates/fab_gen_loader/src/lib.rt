@@ -6,6 +6,3 @@ mod loader;
 mod names;
 
 pub use loader::loader_module;
-
-#[cfg(test)]
-mod tests;

@@ -9,7 +9,7 @@ use fab_desk::{Desk, MemDesk, Sink};
 use fab_examples::Stop;
 use fab_flow::do_generate;
 use fab_lines::first_line;
-use fab_list_files::fetch;
+use fab_files::fetch;
 use std::alloc::{AllocError, Global};
 use std::str;
 

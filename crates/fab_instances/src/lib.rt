@@ -18,6 +18,3 @@ pub use faults::malformed;
 pub use formals::sides;
 pub use names::place_of;
 pub use refusals::index_models;
-
-#[cfg(test)]
-mod tests;

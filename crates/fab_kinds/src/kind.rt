@@ -112,6 +112,3 @@ impl Kind {
         }
     }
 }
-
-#[cfg(test)]
-mod tests;

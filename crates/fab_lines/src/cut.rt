@@ -47,38 +47,3 @@ pub fn last_line(bytes: &[u8]) -> u32
     }
     count.max(1)
 }
-
-#[cfg(test)]
-mod tests {
-    use super::*;
-
-    #[test]
-    fn cuts_the_first_line(rt: HostRuntime) {
-        let cases: [(&[u8], &[u8], &[u8]); 6] = [
-            (b"one\ntwo\n", b"one", b"two\n"),
-            (b"one\r\ntwo", b"one", b"two"),
-            (b"one\r", b"one\r", b""),
-            (b"one", b"one", b""),
-            (b"\ntwo", b"", b"two"),
-            (b"one\r\r\n", b"one\r", b""),
-        ];
-        for (text, line, rest) in cases {
-            assert!(rt; first_line(text) == (line, rest));
-        }
-    }
-
-    #[test]
-    fn counts_lines(rt: HostRuntime) {
-        let cases: [(&[u8], u32); 6] = [
-            (b"", 1),
-            (b"one", 1),
-            (b"one\n", 1),
-            (b"one\ntwo", 2),
-            (b"one\r\n\n", 2),
-            (b"\n", 1),
-        ];
-        for (text, last) in cases {
-            assert_eq!(rt; last_line(text), last);
-        }
-    }
-}

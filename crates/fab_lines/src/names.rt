@@ -68,32 +68,3 @@ pub fn is_wire_name(word: &[u8]) -> bool
 {
     is_identifier(word) && has_upper(word) && !is_reserved(word)
 }
-
-#[cfg(test)]
-mod tests {
-    use super::*;
-
-    #[test]
-    fn knows_names(rt: HostRuntime) {
-        let longest = [b'A'; 64];
-        let too_long = [b'A'; 65];
-        let cases: [(&[u8], bool, bool); 12] = [
-            (b"", false, false),
-            (b"_", true, false),
-            (b"A", true, true),
-            (b"a", true, false),
-            (b"1A", false, false),
-            (b"A1", true, true),
-            (b"A-B", false, false),
-            (b"fab_A", true, false),
-            (b"ConfigBits", true, false),
-            (b"ConfigBits0", true, true),
-            (&longest, true, true),
-            (&too_long, false, true),
-        ];
-        for (word, name, wire_name) in cases {
-            assert_eq!(rt; is_name(word), name);
-            assert_eq!(rt; is_wire_name(word), wire_name);
-        }
-    }
-}

@@ -50,26 +50,3 @@ pub fn capped_number(word: &[u8]) -> Option<u64>
     }
     Some(capped_value(word))
 }
-
-#[cfg(test)]
-mod tests {
-    use super::*;
-
-    #[test]
-    fn reads_numbers(rt: HostRuntime) {
-        let cases: [(&[u8], Option<u64>); 9] = [
-            (b"0", Some(0)),
-            (b"40", Some(40)),
-            (b"18446744073709551615", Some(u64::MAX)),
-            (b"1000000000000000000000000", Some(u64::MAX)),
-            (b"", None),
-            (b"00", None),
-            (b"+1", None),
-            (b"-0", None),
-            (b"1 ", None),
-        ];
-        for (word, number) in cases {
-            assert_eq!(rt; capped_number(word), number);
-        }
-    }
-}

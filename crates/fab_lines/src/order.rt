@@ -45,6 +45,3 @@ pub fn read_lines<R: LineReader>(
     }
     Ok(reader)
 }
-
-#[cfg(test)]
-mod tests;

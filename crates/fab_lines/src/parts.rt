@@ -101,32 +101,3 @@ pub fn without_empty<'a, 'b>(cells: &'a [&'b [u8]]) -> &'a [&'b [u8]]
     let (kept, _) = cells.split_at(count_kept(cells));
     kept
 }
-
-#[cfg(test)]
-mod tests {
-    use super::*;
-    use std::test::Fail;
-
-    #[test]
-    fn cuts_cells(rt: HostRuntime) -> Result<(), Fail> {
-        let cases: [(&[u8], &[&[u8]], usize); 5] = [
-            (b"A , B,,", &[b"A", b"B", b"", b""], 2),
-            (b",B", &[b"", b"B"], 2),
-            (b" \t", &[b""], 0),
-            (b"a,,b", &[b"a", b"", b"b"], 3),
-            (b"\ta b\t,", &[b"a b", b""], 1),
-        ];
-        for (line, cells, kept) in cases {
-            let found = all_cells(rt.alloc(), line)?;
-            assert!(rt; found.as_slice() == cells);
-            assert_eq!(rt; without_empty(&found).len(), kept);
-        }
-        Ok(())
-    }
-
-    #[test]
-    fn drops_the_comment(rt: HostRuntime) {
-        assert!(rt; uncommented(b"A,B # to C # D") == b"A,B ".as_slice());
-        assert!(rt; uncommented(b"A,B") == b"A,B".as_slice());
-    }
-}

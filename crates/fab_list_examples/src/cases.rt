@@ -5,7 +5,8 @@ use fab_base::{Fault, Name};
 use fab_desk::{Desk, MemDesk, Sink};
 use fab_examples::Stop;
 use fab_lines::first_line;
-use fab_list_files::{fetch, read_pairs};
+use fab_files::fetch;
+use fab_list_files::read_pairs;
 use std::alloc::{AllocError, Global};
 use std::str;
 

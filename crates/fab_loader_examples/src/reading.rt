@@ -6,7 +6,7 @@ use crate::stop::Stop;
 use fab_base::{MAX_FILE_BYTES, Name};
 use fab_desk::{Desk, MemDesk};
 use fab_flow::do_generate;
-use fab_list_files::fetch;
+use fab_files::fetch;
 use fab_syntax::Text;
 use fab_vread::read;
 use std::alloc::Global;

@@ -8,6 +8,3 @@ mod numbers;
 
 pub use listed::list_module;
 pub use numbers::matrix_module;
-
-#[cfg(test)]
-mod tests;

@@ -274,6 +274,3 @@ fn bel_bits(bels: &[Bel]) -> Result<u32, Memory>
     }
     Ok(bits)
 }
-
-#[cfg(test)]
-mod tests;

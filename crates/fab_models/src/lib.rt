@@ -12,6 +12,3 @@ mod words;
 
 pub use model::{Body, Model, Statement};
 pub use reader::read_models;
-
-#[cfg(test)]
-mod tests;

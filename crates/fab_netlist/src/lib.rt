@@ -41,6 +41,3 @@ pub fn one_run()
 pub fn packing_keeps_meaning()
     ensures { PackingKeepsMeaning }
 {}
-
-#[cfg(test)]
-mod tests;

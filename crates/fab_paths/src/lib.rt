@@ -6,6 +6,3 @@ mod resolving;
 
 pub use parts::stem;
 pub use resolving::resolve;
-
-#[cfg(test)]
-mod tests;

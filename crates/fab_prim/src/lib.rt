@@ -15,6 +15,3 @@ pub use lut::Lut4c;
 pub use mux::Mux8;
 pub use pad::IoPad;
 pub use prim::Prim;
-
-#[cfg(test)]
-mod tests;

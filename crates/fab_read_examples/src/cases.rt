@@ -7,7 +7,7 @@ use fab_base::{Fault, MAX_FILE_BYTES, Name};
 use fab_desk::{Desk, MemDesk, Sink};
 use fab_examples::Stop;
 use fab_lines::{capped_number, first_line};
-use fab_list_files::fetch;
+use fab_files::fetch;
 use fab_read::read_fabric;
 use std::alloc::{AllocError, Global};
 use std::str;

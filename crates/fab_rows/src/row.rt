@@ -46,6 +46,3 @@ pub fn rows(alloc: Global, bytes: &[u8]) -> Result<Vec<Row>, Memory>
     }
     Ok(rows)
 }
-
-#[cfg(test)]
-mod tests;

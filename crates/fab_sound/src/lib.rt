@@ -17,8 +17,6 @@ mod laws;
 mod names;
 mod sizes;
 mod tables;
-#[cfg(test)]
-mod tests;
 
 use crate::clocks::clocks_fit;
 use crate::drivers::drivers_fit;

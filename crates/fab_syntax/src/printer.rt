@@ -303,6 +303,3 @@ pub fn print(alloc: Global, text: &Text) -> Result<Vec<u8>, Memory>
     }
     Ok(out)
 }
-
-#[cfg(test)]
-mod tests;

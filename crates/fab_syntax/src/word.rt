@@ -42,17 +42,3 @@ impl From<Vec<bool>> for Word {
         Word { bits }
     }
 }
-
-#[cfg(test)]
-mod tests {
-    use super::*;
-    use std::test::Fail;
-
-    #[test]
-    fn gives_its_bits_back(rt: HostRuntime) -> Result<(), Fail> {
-        let word = Word::from(vec![in rt.alloc(); true, false, false]?);
-        assert_eq!(rt; word.bits(), [true, false, false].as_slice());
-        assert_eq!(rt; word.into_vec().as_slice(), [true, false, false].as_slice());
-        Ok(())
-    }
-}

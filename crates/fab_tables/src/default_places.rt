@@ -24,29 +24,3 @@ pub fn default_table(alloc: Global, bits: u32) -> Result<FrameTable, Memory>
     }
     Ok(FrameTable::from(places))
 }
-
-#[cfg(test)]
-mod tests {
-    use super::*;
-    use std::test::Fail;
-
-    #[test]
-    fn fills_frames(rt: HostRuntime) -> Result<(), Fail> {
-        let cases: [(u32, usize, (u8, u8)); 7] = [
-            (2, 0, (0, 30)),
-            (2, 1, (0, 31)),
-            (21, 0, (0, 11)),
-            (21, 20, (0, 31)),
-            (154, 153, (0, 31)),
-            (154, 0, (4, 6)),
-            (640, 0, (19, 0)),
-        ];
-        for (bits, bit, place) in cases {
-            assert!(rt; bits <= MAX_BITS);
-            let table = default_table(rt.alloc(), bits)?;
-            assert_eq!(rt; table.places().len(), bits as usize);
-            assert_eq!(rt; table.places().get(bit).copied(), Some(place));
-        }
-        Ok(())
-    }
-}

@@ -22,6 +22,3 @@ pub use list_row::{ListBody, ListRow};
 pub use lists::{read_list, read_list_row};
 pub use matrix::read_matrix_csv;
 pub use matrix_names::MatrixNames;
-
-#[cfg(test)]
-mod tests;

@@ -176,6 +176,3 @@ pub fn read_list(alloc: Global, file: &Name, bytes: &[u8]) -> Result<Vec<ListRow
 {
     read(alloc, file, bytes)
 }
-
-#[cfg(test)]
-mod tests;

@@ -207,6 +207,3 @@ pub fn read(alloc: Global, file: &Name, bytes: &[u8]) -> Result<Text, Fault>
 {
     read_text(alloc, file, bytes)
 }
-
-#[cfg(test)]
-mod tests;
