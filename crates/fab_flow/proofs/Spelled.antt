@@ -11,7 +11,8 @@ use Rattle.fab_matrix.specs.Selects.{Selects}
 use Rattle.fab_syntax.specs.Plain.{PlainModule}
 use Rattle.fab_syntax.specs.Spelling.{text_bytes}
 use Rattle.fab_tables.specs.Lists.{Pair}
-use Rattle.fab_flow.specs.Matrix.{module_name, IsModuleOf}
+use Rattle.fab_flow.specs.Storing.{PlainOutput, output}
+use Rattle.fab_flow.specs.Matrix.{module_name, IsModuleOf, MakesMatrix}
 
 not_config : (name : List ℕ) → is_wire_name name ≡ true → name ≢ config_name
 not_config name wire same =
@@ -31,3 +32,11 @@ module_of_pairs list text name pairs m named is printed selects =
       printed = printed ∙ ap (λ (x : PlainModule). text_bytes (x ∷ [])) same;
       selects = subst (λ (x : PlainModule). Selects bytes_eq x (list_outputs pairs) pairs) same selects;
     }
+
+-- what the command makes of the pairs that its list spells
+pub matrix_made : (files : Map) (list out text : List ℕ) (pairs given : List Pair) (outputs : List PlainOutput) → SpellsPairs files list pairs → given ≡ pairs
+    → (All (λ pair. pair.1 ≢ config_name) given → IsModuleOf list given text) → outputs ≡ output out text ∷ [] → MakesMatrix files list out outputs
+matrix_made files list out text pairs given outputs spelled same made are =
+    let module_is : IsModuleOf list pairs text =
+    subst (λ (ps : List Pair). All (λ pair. pair.1 ≢ config_name) ps → IsModuleOf list ps text) same made (inputs_apart files list pairs spelled) in
+    record { text = text; made = record { pairs = pairs; spelled = spelled; made = module_is }; outputs_are = are }

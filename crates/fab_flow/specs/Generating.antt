@@ -1,16 +1,17 @@
 -- What the command `generate` does to the files, and why it ends otherwise.
-use Rattle.std.specs.Prelude.{◌≡◌, ◌≤◌, ◌<◌, ℕ, List, [], ◌∷◌, ◌++◌, length, map, Option, Some}
+use Rattle.std.specs.Prelude.{◌≡◌, ◌≤◌, ◌<◌, ℕ, List, [], ◌∷◌, ◌++◌, length, map, Option}
 use Rattle.std.specs.List.{flat_map}
 use Rattle.fab_base.specs.declared.TheConstants.{MAX_FILE_BYTES}
 use Rattle.fab_base.specs.Reading.{fault_at}
 use Rattle.fab_base.specs.declared.fault.Fault.{Fault}
 use Rattle.fab_base.specs.declared.problem.Problem.TheVariants as problems
 use Rattle.fab_base.specs.declared.words.Quantity.TheVariants as quantities
-use Rattle.fab_desk.specs.Files.{Map, with_file}
+use Rattle.fab_desk.specs.Files.{Map}
 use Rattle.fab_syntax.specs.Plain.{PlainModule}
 use Rattle.fab_syntax.specs.Spelling.{text_bytes}
 use Rattle.fab_model.specs.Grid.{PlainFabric}
-use Rattle.fab_list_files.specs.Files.{Event, refuses}
+use Rattle.fab_files.specs.Files.{Event}
+use Rattle.fab_files.specs.Stages.{MeetsBehind, MeetsLast}
 use Rattle.fab_read.specs.Fabrics.{SpellsFabric, MeetsFabric}
 use Rattle.fab_gen_loader.specs.Expressions.{loader_module}
 use Rattle.fab_prim.specs.Modules.{module_of_kind}
@@ -19,7 +20,8 @@ use Rattle.fab_fabric_text.specs.Text.{used_kinds, standing_types, tile_modules,
 use Rattle.fab_drives.specs.Drives.{ShowsDrives}
 use Rattle.fab_text_loads.specs.Loads.{LoadsConfigurations}
 use Rattle.fab_text_loads.specs.Texts.{IsFabricText}
-use Rattle.fab_flow.specs.Ending.{HasMakingCause}
+use Rattle.fab_flow.specs.Storing.{PlainOutput, output}
+use Rattle.fab_flow.specs.Ending.{HasCause}
 
 -- ---- the text of a fabric
 
@@ -52,22 +54,22 @@ pub record IsGeneratedText (files : Map) (name text : List ℕ) : Type 0 where
   pub short : text_length fabric ≤ most_text_bytes
   pub readable : length text ≤ MAX_FILE_BYTES
 
--- The files after the command are those before with such a text under the name of the output.
-pub record MakesFabric (files : Map) (after : Option Map) (name out : List ℕ) : Type 0 where
+-- The one output of the command is such a text.
+pub record MakesFabric (files : Map) (name out : List ℕ) (outputs : List PlainOutput) : Type 0 where
   pub text : List ℕ
   pub made : IsGeneratedText files name text
-  pub stored : after ≡ Some (with_file out text files)
+  pub outputs_are : outputs ≡ output out text ∷ []
 
 -- ---- the first refusal
 
--- What the command comes upon: what a reader of the fabric does, and behind it a text that is too long.
-pub data MeetsGenerate (files : Map) (name : List ℕ) : Event → Type 0 where
-  of_files : {event : Event} → MeetsFabric files name event → MeetsGenerate files name event
-  too_long : {fabric : PlainFabric} → SpellsFabric files name fabric → most_text_bytes < text_length fabric
-      → MeetsGenerate files name (refuses (fault_at name 0 (problems.Limit quantities.TextBytes (text_length fabric) most_text_bytes)))
+-- the text has too many bytes, which is told at line 0 of the fabric file
+pub record IsTooLong (name : List ℕ) (fabric : PlainFabric) (fault : Fault) : Type 0 where
+  pub long : most_text_bytes < text_length fabric
+  pub is : fault ≡ fault_at name 0 (problems.Limit quantities.TextBytes (text_length fabric) most_text_bytes)
 
-abbrev pub RefusesGenerate : (files : Map) (name : List ℕ) → Fault → Type 0
-RefusesGenerate files name fault = MeetsGenerate files name (refuses fault)
+-- What the command comes upon: what a reader of the fabric does, and behind it a text that is too long.
+abbrev pub MeetsGenerate : (files : Map) (name : List ℕ) → Event → Type 0
+MeetsGenerate files name event = MeetsBehind (SpellsFabric files name) (MeetsFabric files name) (λ fabric. MeetsLast (IsTooLong name fabric)) event
 
 -- nothing is refused
 pub record IsReadyToGenerate (files : Map) (name : List ℕ) : Type 0 where
@@ -77,7 +79,10 @@ pub record IsReadyToGenerate (files : Map) (name : List ℕ) : Type 0 where
 
 -- ---- why the command ends with a fault
 
--- What is refused is what a reader of the fabric comes upon, or behind it a text that is too long.
-abbrev pub HasGenerateCause : (told : Option Map) → (name out : List ℕ) → (reads_rose writes_rose : Type 0) → Fault → Type 0
-HasGenerateCause told name out reads_rose writes_rose fault =
-    HasMakingCause told out reads_rose writes_rose (λ files. MeetsGenerate files name) (λ files. IsReadyToGenerate files name) fault
+-- absent, too long, malformed, unsupported and over a limit
+abbrev pub generate_refusals : List ℕ
+generate_refusals = 2 ∷ 3 ∷ 4 ∷ 5 ∷ 6 ∷ []
+
+abbrev pub HasGenerateCause : (told : Option Map) → (name : List ℕ) → (reads_rose writes_rose : Type 0) → Fault → Type 0
+HasGenerateCause told name reads_rose writes_rose fault =
+    HasCause told reads_rose writes_rose (λ files. MeetsGenerate files name) (λ files. IsReadyToGenerate files name) generate_refusals fault

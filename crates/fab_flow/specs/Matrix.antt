@@ -1,15 +1,16 @@
 -- What the command `matrix` does to the files, and why it ends otherwise.
-use Rattle.std.specs.Prelude.{◌≡◌, ℕ, List, [], ◌∷◌, ◌++◌, codes, Option, Some}
+use Rattle.std.specs.Prelude.{◌≡◌, ℕ, List, [], ◌∷◌, ◌++◌, codes, Option}
 use Rattle.std.specs.Str.{bytes_eq}
 use Rattle.fab_base.specs.declared.fault.Fault.{Fault}
-use Rattle.fab_desk.specs.Files.{Map, with_file}
+use Rattle.fab_desk.specs.Files.{Map}
 use Rattle.fab_paths.specs.Paths.{stem}
 use Rattle.fab_syntax.specs.Spelling.{text_bytes}
 use Rattle.fab_tables.specs.Lists.{Pair}
 use Rattle.fab_list_files.specs.Sides.{SpellsPairs, MeetsPairs}
 use Rattle.fab_matrix.specs.Matrix.{list_matrix, list_outputs}
 use Rattle.fab_matrix.specs.Selects.{Selects}
-use Rattle.fab_flow.specs.Ending.{HasMakingCause}
+use Rattle.fab_flow.specs.Storing.{PlainOutput, output}
+use Rattle.fab_flow.specs.Ending.{HasCause}
 
 -- ---- what is done
 
@@ -29,11 +30,11 @@ pub record IsTextOf (files : Map) (list text : List ℕ) : Type 0 where
   pub spelled : SpellsPairs files list pairs
   pub made : IsModuleOf list pairs text
 
--- The files after the command are those before with such a text under the name of the output.
-pub record MakesMatrix (files : Map) (after : Option Map) (list out : List ℕ) : Type 0 where
+-- The one output of the command is such a text.
+pub record MakesMatrix (files : Map) (list out : List ℕ) (outputs : List PlainOutput) : Type 0 where
   pub text : List ℕ
   pub made : IsTextOf files list text
-  pub stored : after ≡ Some (with_file out text files)
+  pub outputs_are : outputs ≡ output out text ∷ []
 
 -- ---- why the command ends with a fault
 
@@ -41,7 +42,11 @@ pub record MakesMatrix (files : Map) (after : Option Map) (list out : List ℕ) 
 abbrev pub IsReadyForMatrix : (files : Map) (list : List ℕ) → Type 0
 IsReadyForMatrix files list = (pairs : List Pair) × SpellsPairs files list pairs
 
+-- absent, too long, malformed, unsupported and over a limit
+abbrev pub matrix_refusals : List ℕ
+matrix_refusals = 2 ∷ 3 ∷ 4 ∷ 5 ∷ 6 ∷ []
+
 -- What is refused is what a reader of the list comes upon.
-abbrev pub HasMatrixCause : (told : Option Map) → (list out : List ℕ) → (reads_rose writes_rose : Type 0) → Fault → Type 0
-HasMatrixCause told list out reads_rose writes_rose fault =
-    HasMakingCause told out reads_rose writes_rose (λ files. MeetsPairs files list) (λ files. IsReadyForMatrix files list) fault
+abbrev pub HasMatrixCause : (told : Option Map) → (list : List ℕ) → (reads_rose writes_rose : Type 0) → Fault → Type 0
+HasMatrixCause told list reads_rose writes_rose fault =
+    HasCause told reads_rose writes_rose (λ files. MeetsPairs files list) (λ files. IsReadyForMatrix files list) matrix_refusals fault

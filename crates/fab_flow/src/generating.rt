@@ -1,8 +1,8 @@
 //! The command `generate`: the text of a fabric, from the files that spell it.
 
-ghost use Rattle.std.specs.Prelude.{◌≡◌, ◌<◌, ◌≤◌, ◌+◌, ◌⊎◌, All, length, IfOk, IfErr, OnOk, OnErr};
-ghost use Rattle.std.specs.Option.{ForSome};
+ghost use Rattle.std.specs.Prelude.{◌≡◌, ◌<◌, ◌≤◌, ◌+◌, ◌⊎◌, All, length, IfOk, IfErr, OnOk};
 ghost use Rattle.std.specs.Str.{IsUtf8};
+ghost use Rattle.fab_base.specs.declared.TheConstants.{MAX_FILE_BYTES};
 ghost use Rattle.fab_base.specs.Reading.{fault_at};
 ghost use Rattle.fab_base.specs.declared.fault.Fault.TheVariants as faults;
 ghost use Rattle.fab_base.specs.declared.problem.Problem.TheVariants as problems;
@@ -12,10 +12,11 @@ ghost use Rattle.fab_gen_tile.specs.Words.{IsNamed};
 ghost use Rattle.fab_drives.specs.Drives.{ShowsDrives};
 ghost use Rattle.fab_text_loads.specs.Loads.{LoadsConfigurations};
 ghost use Rattle.fab_text_loads.specs.Texts.{IsFabricText};
-ghost use Rattle.fab_flow.specs.Generating.{generated_text, text_length, most_text_bytes, MakesFabric, HasGenerateCause};
+ghost use Rattle.fab_flow.specs.Generating.{generated_text, text_length, most_text_bytes, IsTooLong, MakesFabric, HasGenerateCause};
+ghost use Rattle.fab_flow.specs.Storing.{IsDone, Leaves};
 
 use crate::printing::printed_module;
-use crate::storing::store;
+use crate::storing::{one_output, store_all};
 use fab_base::{Fault, Memory, Name, Problem, Quantity};
 use fab_desk::Desk;
 use fab_fabric::Fabric;
@@ -66,6 +67,22 @@ fn check_length(alloc: Global, fabric: &Name, bytes: u64) -> Result<(), Fault>
     Ok(())
 }
 
+/// The printed text of a fabric, where it is not too long.
+fn fabric_text(alloc: Global, name: &Name, fabric: &Fabric) -> Result<Vec<u8>, Fault>
+    ensures printed { IfOk result (λ text. text.items ≡ text_bytes (generated_text fabric.now)) }
+    ensures is_text { OnOk result (All IsNamed fabric.now.types → IsFabricText fabric.now (generated_text fabric.now)) }
+    ensures drives { OnOk result (ShowsDrives fabric.now (generated_text fabric.now)) }
+    ensures loads { OnOk result (All IsNamed fabric.now.types → LoadsConfigurations fabric.now (generated_text fabric.now)) }
+    ensures short { OnOk result (text_length fabric.now ≤ most_text_bytes) }
+    ensures readable { IfOk result (λ text. length text.items ≤ MAX_FILE_BYTES) }
+    ensures long { IfErr result (λ fault. (fault ≡ faults.Memory) ⊎ IsTooLong name.now fabric.now fault) }
+{
+    let text = printed_text(alloc, fabric)?;
+    let bytes = unloaded_length(alloc, fabric, &text)?;
+    check_length(alloc, name, bytes)?;
+    Ok(text)
+}
+
 /// Reads a fabric with all files that its file names, and stores its text under the output's name: the primitives, the modules of
 /// its tiles, the loader and the top.
 ///
@@ -78,13 +95,12 @@ pub fn do_generate<D: Desk>(
     out: &Name,
 ) -> Result<(), Fault>
     requires { IsUtf8 out.now }
-    ensures done { ForSome (D.told desk.old) (λ files. OnOk result (MakesFabric files (D.told desk.new) fabric.now out.now)) }
-    ensures kept { OnErr result (D.told desk.new ≡ D.told desk.old) }
-    ensures cause { IfErr result (HasGenerateCause (D.told desk.old) fabric.now out.now (D.reads desk.old < D.reads desk.new) (D.writes desk.old < D.writes desk.new)) }
+    ensures done { OnOk result (IsDone (λ files. MakesFabric files fabric.now out.now) (D.told desk.old) (D.told desk.new)) }
+    ensures leaves { IfErr result (Leaves (λ files. MakesFabric files fabric.now out.now) (D.told desk.old) (D.told desk.new)) }
+    ensures cause { IfErr result (HasGenerateCause (D.told desk.old) fabric.now (D.reads desk.old < D.reads desk.new) (D.writes desk.old < D.writes desk.new)) }
 {
     let read = read_fabric(alloc, desk, fabric)?;
-    let text = printed_text(alloc, &read)?;
-    let bytes = unloaded_length(alloc, &read, &text)?;
-    check_length(alloc, fabric, bytes)?;
-    store(alloc, desk, out, &text)
+    let text = fabric_text(alloc, fabric, &read)?;
+    let outputs = one_output(alloc, out, text)?;
+    store_all(alloc, desk, &outputs)
 }

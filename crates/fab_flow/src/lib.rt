@@ -8,3 +8,4 @@ mod storing;
 
 pub use generating::do_generate;
 pub use matrix::do_matrix;
+pub use storing::Output;

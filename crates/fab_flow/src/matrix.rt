@@ -1,13 +1,13 @@
 //! The command `matrix`: the module of a switch list.
 
-ghost use Rattle.std.specs.Prelude.{◌≡◌, ◌≢◌, ◌<◌, All, IfOk, IfErr, OnOk, OnErr};
-ghost use Rattle.std.specs.Option.{ForSome};
+ghost use Rattle.std.specs.Prelude.{◌≡◌, ◌≢◌, ◌<◌, All, IfOk, IfErr, OnOk};
 ghost use Rattle.std.specs.Str.{IsUtf8};
 ghost use Rattle.fab_matrix.specs.Matrix.{config_name};
 ghost use Rattle.fab_flow.specs.Matrix.{module_name, IsModuleOf, MakesMatrix, HasMatrixCause};
+ghost use Rattle.fab_flow.specs.Storing.{IsDone, Leaves};
 
 use crate::printing::printed_module;
-use crate::storing::store;
+use crate::storing::{one_output, store_all};
 use fab_base::{Fault, Memory, Name};
 use fab_desk::Desk;
 use fab_list_files::read_pairs;
@@ -37,11 +37,12 @@ fn matrix_text(alloc: Global, list: &Name, pairs: &[(Name, Name)]) -> Result<Vec
 /// The faults of the list come as `read_pairs` gives them. `WriteFault` names the output. With any fault the files are as before.
 pub fn do_matrix<D: Desk>(alloc: Global, desk: &mut D, list: &Name, out: &Name) -> Result<(), Fault>
     requires { IsUtf8 out.now }
-    ensures done { ForSome (D.told desk.old) (λ files. OnOk result (MakesMatrix files (D.told desk.new) list.now out.now)) }
-    ensures kept { OnErr result (D.told desk.new ≡ D.told desk.old) }
-    ensures cause { IfErr result (HasMatrixCause (D.told desk.old) list.now out.now (D.reads desk.old < D.reads desk.new) (D.writes desk.old < D.writes desk.new)) }
+    ensures done { OnOk result (IsDone (λ files. MakesMatrix files list.now out.now) (D.told desk.old) (D.told desk.new)) }
+    ensures leaves { IfErr result (Leaves (λ files. MakesMatrix files list.now out.now) (D.told desk.old) (D.told desk.new)) }
+    ensures cause { IfErr result (HasMatrixCause (D.told desk.old) list.now (D.reads desk.old < D.reads desk.new) (D.writes desk.old < D.writes desk.new)) }
 {
     let pairs = read_pairs(alloc, desk, list)?;
     let text = matrix_text(alloc, list, &pairs)?;
-    store(alloc, desk, out, &text)
+    let outputs = one_output(alloc, out, text)?;
+    store_all(alloc, desk, &outputs)
 }

@@ -1,6 +1,4 @@
-pub mod Text
 pub mod Names
 pub mod Rows
 pub mod Once
 pub mod Named
-pub mod Complete

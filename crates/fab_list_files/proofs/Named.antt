@@ -1,5 +1,5 @@
 -- The names of a list are names of wires.
-use Rattle.std.proofs.Common.{◌≡◌, ◌-◌, ℕ, Bool, true, false, ◌&&◌, ◌||◌, ◌++◌, not, List, [], ◌∷◌, Option, Some, None, Result, Ok, Err, All, option_map, refl, sym, ap, ◌∙◌, subst, inl, inr, codes, if◌then◌else◌}
+use Rattle.std.proofs.Common.{◌≡◌, ℕ, Bool, true, false, ◌&&◌, ◌||◌, ◌++◌, not, List, [], ◌∷◌, Option, Some, None, Result, Ok, Err, All, option_map, refl, subst, inl, inr, codes, if◌then◌else◌}
 use Rattle.std.specs.List.{list_any, list_all, find, zip}
 use Rattle.std.specs.Str.{bytes_eq}
 use Rattle.std.proofs.lemmas.Bool.{cases_Bool}
@@ -10,10 +10,10 @@ use Rattle.fab_base.specs.declared.problem.Problem.{Problem}
 use Rattle.fab_base.specs.declared.problem.Problem.TheVariants as problems
 use Rattle.fab_desk.specs.Files.{Map}
 use Rattle.fab_lines.specs.Names.{is_wire_name}
-use Rattle.fab_rows.specs.Rows.{PlainRow, rows_of}
+use Rattle.fab_rows.specs.Rows.{PlainRow}
 use Rattle.fab_tables.specs.Cells.{has_bad_number, is_cell_byte}
 use Rattle.fab_tables.specs.Lists.{Pair, PlainBody, PairsOf, IncludeOf, asked, cells_problem, weighed_problem, names_of_cell, named_body, pairs_body, include_body, two_cells, body_of, long_problem, is_long, size, sizes_problem}
-use Rattle.fab_list_files.specs.Lists.{Knowledge, Deed, adds, opens, opened_file, deed_of_body, deed_of, same_pair, with_pair, with_pairs, most_open, depth_limit, ReadsList, ends, adds_pairs, opens_file}
+use Rattle.fab_list_files.specs.Lists.{Knowledge, Deed, adds, opens, opened_file, deed_of_body, same_pair, with_pair, with_pairs, depth_limit, ReadsList, ends, adds_pairs, opens_file}
 use Rattle.fab_list_files.specs.Sides.{on_both_sides, HasWireNames, SpellsPairs}
 
 -- ---- what was asked and not refused

@@ -1,11 +1,11 @@
 -- Sets of names and of pairs, and counts by name.
-use Rattle.std.proofs.Common.{◌≡◌, ℕ, ◌+◌, Bool, true, false, cond, ◌&&◌, ◌||◌, List, [], ◌∷◌, ◌++◌, Vec, Option, Some, None, map, filter, length, take, fold, append-nil, refl, sym, ap, ◌∙◌, inl, inr, unwrap_or, arith, add-one, get_or, ◌<◌}
+use Rattle.std.proofs.Common.{◌≡◌, ℕ, ◌+◌, Bool, true, false, cond, ◌&&◌, ◌||◌, List, [], ◌∷◌, ◌++◌, Vec, Option, Some, None, map, filter, length, take, append-nil, refl, sym, ap, ◌∙◌, inl, inr, unwrap_or, arith, get_or, ◌<◌}
 use Rattle.std.specs.List.{list_any}
 use Rattle.std.specs.Str.{bytes_eq}
 use Rattle.std.specs.Map.{lookup}
 use Rattle.std.specs.Option.{SomeIff}
 use Rattle.std.proofs.lemmas.Bool.{cases_Bool}
-use Rattle.std.proofs.lemmas.List.{map-append, map_push, length-append, take_more}
+use Rattle.std.proofs.lemmas.List.{map-append, length-append, take_more}
 use Rattle.std.proofs.lemmas.List.Elements.{filter-append}
 use Rattle.std.proofs.lemmas.List.Sums.{fold-append}
 use Rattle.std.proofs.lemmas.Slice.Eq.{bytes_eq-Decides}
@@ -15,7 +15,7 @@ use Rattle.fab_select.specs.Selection.{inputs_of}
 use Rattle.fab_select.proofs.Firsts.{told}
 use Rattle.fab_tables.specs.Lists.{Pair}
 use Rattle.fab_list_files.specs.Lists.{same_pair, with_pair, with_pairs}
-use Rattle.fab_list_files.specs.Sides.{has_output, has_input, crosses, input_count}
+use Rattle.fab_list_files.specs.Sides.{crosses, input_count}
 use Rattle.fab_list_files.specs.Keys.{key_names, key_pairs, crosses_sides, PlainSides, HasSides}
 
 -- ---- sets of pairs

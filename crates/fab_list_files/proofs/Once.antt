@@ -1,5 +1,5 @@
 -- A list is read in one way, and has one first refusal.
-use Rattle.std.proofs.Common.{◌≡◌, ◌-◌, ◌<◌, ℕ, zero, suc, arith, List, [], ◌∷◌, Option, Some, None, Result, Ok, Err, refl, sym, ap, ◌∙◌, subst}
+use Rattle.std.proofs.Common.{◌≡◌, ◌-◌, ◌<◌, ℕ, zero, suc, arith, List, [], ◌∷◌, Some, None, Result, Ok, Err, refl, sym, ap, ◌∙◌}
 use Rattle.std.specs.Str.{bytes_eq}
 use Rattle.fab_base.specs.declared.fault.Fault.{Fault}
 use Rattle.fab_base.specs.declared.problem.Problem.{Problem}
@@ -7,10 +7,10 @@ use Rattle.fab_base.specs.Reading.{fault_at}
 use Rattle.fab_desk.specs.Files.{Map}
 use Rattle.fab_rows.specs.Rows.{PlainRow, rows_of}
 use Rattle.fab_tables.specs.Lists.{Pair}
-use Rattle.fab_list_files.specs.Files.{handed_out, last_line, Event, asks, refuses, MeetsFile}
-use Rattle.fab_list_files.specs.Lists.{Knowledge, Deed, adds, opens, deed_of, with_pairs, most_open, ReadsList, ends, adds_pairs, opens_file, MeetsList, bad_row, asks_for, no_file, inside, behind_pairs, behind_file, ReadsListFile, MeetsListFile, of_file, of_rows}
+use Rattle.fab_files.specs.Files.{handed_out, last_line, refuses}
+use Rattle.fab_list_files.specs.Lists.{Knowledge, Deed, adds, opens, deed_of, with_pairs, most_open, ReadsList, ends, adds_pairs, opens_file, MeetsList, bad_row, no_file, inside, behind_pairs, behind_file, ReadsListFile, MeetsListFile, of_file, of_rows}
 use Rattle.fab_list_files.proofs.Rows.{opens_some_left}
-use Rattle.fab_list_files.specs.Sides.{on_both_sides, crowd, crowd_limit, SpellsPairs, MeetsPairs, of_list, of_crowd, RefusesPairs}
+use Rattle.fab_list_files.specs.Sides.{on_both_sides, crowd, crowd_limit, SpellsPairs, of_list, of_crowd, RefusesPairs}
 
 -- What the rows of a text come to, or for what they are refused. `inner` answers for the files that the rows open.
 abbrev Reader : Type 0

@@ -1,7 +1,6 @@
 -- From row to row of a list.
-use Rattle.std.proofs.Common.{◌≡◌, ◌<◌, ◌-◌, ◌==◌, ◌⊎◌, ℕ, zero, suc, Bool, true, false, List, [], ◌∷◌, Option, Some, None, Result, Ok, Err, refl, sym, ap, ◌∙◌, ◌+◌, subst, inl, inr, arith, length, get_or, drop, add-one}
+use Rattle.std.proofs.Common.{◌≡◌, ◌<◌, ◌-◌, ℕ, zero, suc, List, [], ◌∷◌, Option, Some, None, Result, Ok, Err, sym, ◌∙◌, ◌+◌, subst, inl, inr, arith, length, get_or, drop, add-one}
 use Rattle.std.proofs.Math.Seq.{drop-cons}
-use Rattle.std.specs.Option.{ForSome}
 use Rattle.fab_base.specs.declared.fault.Fault.{Fault}
 use Rattle.fab_base.specs.declared.fault.Fault.TheVariants as faults
 use Rattle.fab_base.specs.declared.words.Quantity.{Quantity}
@@ -9,10 +8,10 @@ use Rattle.fab_base.specs.declared.problem.Problem.{Problem}
 use Rattle.fab_base.specs.declared.problem.Problem.TheVariants as problems
 use Rattle.fab_base.specs.Reading.{fault_at, IsFaultOr, Refuses}
 use Rattle.fab_desk.specs.Files.{Map}
-use Rattle.fab_rows.specs.Rows.{PlainRow, rows_of}
+use Rattle.fab_rows.specs.Rows.{PlainRow}
 use Rattle.fab_tables.specs.Lists.{Pair, PlainBody, PairsOf, IncludeOf, body_of}
-use Rattle.fab_list_files.specs.Files.{handed_out, Event, asks, refuses, HasReadCause, MeetsFile}
-use Rattle.fab_list_files.specs.Lists.{Knowledge, Deed, adds, opens, opened_file, deed_of_body, deed_of, with_pairs, ReadsList, ends, adds_pairs, opens_file, MeetsList, bad_row, asks_for, no_file, inside, behind_pairs, behind_file, ReadsListFile, MeetsListFile, of_file, of_rows}
+use Rattle.fab_files.specs.Files.{Event, asks, refuses, HasReadCause, MeetsFile}
+use Rattle.fab_list_files.specs.Lists.{Knowledge, adds, opens, opened_file, deed_of_body, deed_of, with_pairs, ReadsList, ends, adds_pairs, opens_file, MeetsList, bad_row, asks_for, no_file, inside, behind_pairs, behind_file, ReadsListFile, MeetsListFile, of_file, of_rows}
 use Rattle.fab_list_files.specs.Following.{Leads, MeetsRow, LeadsOn}
 
 -- what is left of items begins with the next

@@ -3,7 +3,7 @@ use Rattle.std.specs.Prelude.{ℕ, List, ◌∷◌, ◌≤◌}
 use Rattle.fab_desk.specs.Files.{Map}
 use Rattle.fab_rows.specs.Rows.{PlainRow}
 use Rattle.fab_tables.specs.Lists.{Pair}
-use Rattle.fab_list_files.specs.Files.{Event}
+use Rattle.fab_files.specs.Files.{Event}
 use Rattle.fab_list_files.specs.Lists.{Knowledge, Deed, adds, opens, ReadsList, MeetsList}
 use Rattle.fab_list_files.specs.declared.listing.RowDeed.{RowDeed}
 use Rattle.fab_list_files.specs.declared.listing.RowDeed.TheVariants as deeds

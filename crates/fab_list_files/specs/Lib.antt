@@ -1,4 +1,3 @@
-pub mod Files
 pub mod Lists
 pub mod Sides
 pub mod Keys

@@ -14,7 +14,7 @@ use Rattle.fab_desk.specs.Files.{Map}
 use Rattle.fab_paths.specs.Paths.{file_of}
 use Rattle.fab_rows.specs.Rows.{PlainRow, rows_of}
 use Rattle.fab_tables.specs.Lists.{Pair, PlainBody, PairsOf, IncludeOf, body_of}
-use Rattle.fab_list_files.specs.Files.{handed_out, Event, asks, refuses, MeetsFile}
+use Rattle.fab_files.specs.Files.{handed_out, Event, asks, refuses, MeetsFile}
 
 -- ---- pairs so far
 

@@ -5,7 +5,6 @@ mod crowd;
 mod laws;
 mod listing;
 mod matrix_pairs;
-mod outside;
 mod pair_set;
 mod pairs;
 
@@ -14,6 +13,5 @@ pub use laws::{
     listed_names_are_wire_names, lists_are_spelled_once, spelled_lists_are_not_refused,
 };
 pub use listing::{ListState, MOST_OPEN, read_list_file};
-pub use outside::{fetch, fetch_if_there};
 pub use pair_set::PairSet;
 pub use pairs::read_pairs;

@@ -5,13 +5,13 @@ ghost use Rattle.std.specs.Option.{ForSome};
 ghost use Rattle.fab_base.specs.Reading.{Answers};
 ghost use Rattle.fab_rows.specs.Rows.{rows_of};
 ghost use Rattle.fab_tables.specs.Lists.{Pair};
-ghost use Rattle.fab_list_files.specs.Files.{HasReadCause};
+ghost use Rattle.fab_files.specs.Files.{HasReadCause};
 ghost use Rattle.fab_list_files.specs.Lists.{Knowledge, with_pairs, opened, deed_of, ReadsList, MeetsList, ReadsListFile, MeetsListFile};
 ghost use Rattle.fab_list_files.specs.Following.{plain_deed, MayOpen, Leads, MeetsRow};
 
-use crate::outside::fetch;
 use fab_base::{Fault, MAX_FILE_BYTES, Memory, Name, Problem, Quantity, Reason};
 use fab_desk::Desk;
+use fab_files::fetch;
 use fab_paths::resolve;
 use fab_rows::{Row, rows};
 use fab_tables::{KnownNames, ListBody, read_list_row};

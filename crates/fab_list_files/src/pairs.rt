@@ -4,15 +4,15 @@ ghost use Rattle.std.specs.Prelude.{◌≡◌, ◌<◌, ◌≤◌, List, IfOk, I
 ghost use Rattle.std.specs.Option.{ForSome};
 ghost use Rattle.fab_base.specs.declared.fault.Fault.TheVariants as faults;
 ghost use Rattle.fab_tables.specs.Lists.{Pair};
-ghost use Rattle.fab_list_files.specs.Files.{HasReadCause};
+ghost use Rattle.fab_files.specs.Files.{HasReadCause};
 ghost use Rattle.fab_list_files.specs.Sides.{SpellsPairs, MeetsPairs};
 
 use crate::crowd::{MOST_INPUTS, find_crowd};
 use crate::listing::{MOST_OPEN, take_rows};
 use crate::matrix_pairs::MatrixPairs;
-use crate::outside::fetch;
 use fab_base::{Fault, Name, Problem, Quantity};
 use fab_desk::Desk;
+use fab_files::fetch;
 use fab_lines::last_line;
 use std::alloc::Global;
 

@@ -8,7 +8,7 @@ use Rattle.fab_base.specs.declared.problem.Problem.TheVariants as problems
 use Rattle.fab_desk.specs.Files.{Map}
 use Rattle.fab_lines.specs.Order.{Format, IsTextFault}
 use Rattle.fab_rows.specs.Rows.{PlainRow}
-use Rattle.fab_list_files.specs.Files.{Event, refuses, HasReadCause}
+use Rattle.fab_files.specs.Files.{Event, refuses, HasReadCause}
 
 module _ (told : Option Map) (rose : Type 0) (meets : Map → Event → Type 0) where
   at_place : (file : List ℕ) (line : ℕ) (problem : Problem) → ((files : Map) → told ≡ Some files → meets files (refuses (fault_at file line problem))) → HasReadCause told rose meets (fault_at file line problem)

@@ -4,7 +4,7 @@ use Rattle.fab_base.specs.declared.problem.Problem.{Problem}
 use Rattle.fab_base.specs.Reading.{fault_at}
 use Rattle.fab_desk.specs.Files.{Map}
 use Rattle.fab_rows.specs.Rows.{PlainRow}
-use Rattle.fab_list_files.specs.Files.{Event, refuses}
+use Rattle.fab_files.specs.Files.{Event, refuses}
 use Rattle.fab_blocks.specs.Blocks.{PlainBlock}
 use Rattle.fab_blocks.specs.Reading.{PlainReading, PlainHolder}
 use Rattle.fab_blocks.specs.Saying.{said_of}

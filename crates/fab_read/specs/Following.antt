@@ -6,7 +6,7 @@ use Rattle.fab_rows.specs.Rows.{PlainRow}
 use Rattle.fab_select.specs.declared.pair.Pair.{Pair as NumberPair}
 use Rattle.fab_model.specs.Tiles.{PlainTile, with_pairs}
 use Rattle.fab_tables.specs.Lists.{Pair}
-use Rattle.fab_list_files.specs.Files.{last_line, Event}
+use Rattle.fab_files.specs.Files.{last_line, Event}
 use Rattle.fab_blocks.specs.Blocks.{PlainBlock, bare}
 use Rattle.fab_blocks.specs.Reading.{PlainReading, PlainHolder, HasRoom, with_type}
 use Rattle.fab_blocks.specs.declared.mode.Mode.TheVariants as modes

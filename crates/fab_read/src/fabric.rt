@@ -4,7 +4,7 @@ ghost use Rattle.std.specs.Prelude.{◌≡◌, ◌<◌, ◌≤◌, None, All, If
 ghost use Rattle.std.specs.Option.{ForSome};
 ghost use Rattle.fab_base.specs.declared.fault.Fault.TheVariants as faults;
 ghost use Rattle.fab_blocks.specs.Reading.{IsGrid, IsReading};
-ghost use Rattle.fab_list_files.specs.Files.{HasReadCause};
+ghost use Rattle.fab_files.specs.Files.{HasReadCause};
 ghost use Rattle.fab_model.specs.Grid.{PlainFabric};
 ghost use Rattle.fab_model.specs.Tables.{HasTable};
 ghost use Rattle.fab_read.specs.Fabrics.{column_count, grid_fabric, strange_line, SpellsFabric, MeetsFabric};

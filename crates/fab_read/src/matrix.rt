@@ -2,14 +2,15 @@
 
 ghost use Rattle.std.specs.Prelude.{◌≡◌, ◌<◌, ◌≤◌, All, IfOk, IfErr, Some, true, false, option_copied};
 ghost use Rattle.std.specs.Option.{ForSome};
-ghost use Rattle.fab_list_files.specs.Files.{HasReadCause};
+ghost use Rattle.fab_files.specs.Files.{HasReadCause};
 ghost use Rattle.fab_model.specs.Tiles.{IsPair};
 ghost use Rattle.fab_read.specs.Tiles.{is_table, ReadsMatrix, MeetsMatrix};
 
 use crate::tile_pairs::{TilePairs, numbered};
 use fab_base::{Fault, Name};
 use fab_desk::Desk;
-use fab_list_files::{fetch, read_list_file};
+use fab_files::fetch;
+use fab_list_files::read_list_file;
 use fab_model::{Pair, TileType};
 use fab_tables::{MatrixNames, read_matrix_csv};
 use std::alloc::Global;

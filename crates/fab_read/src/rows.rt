@@ -6,7 +6,7 @@ ghost use Rattle.fab_base.specs.Reading.{Answers};
 ghost use Rattle.fab_blocks.specs.Reading.{HasRoom};
 ghost use Rattle.fab_blocks.specs.Saying.{said_of};
 ghost use Rattle.fab_blocks.specs.declared.mode.Mode.TheVariants as modes;
-ghost use Rattle.fab_list_files.specs.Files.{HasReadCause};
+ghost use Rattle.fab_files.specs.Files.{HasReadCause};
 ghost use Rattle.fab_model.specs.Tables.{HasTable};
 ghost use Rattle.fab_rows.specs.Rows.{rows_of};
 ghost use Rattle.fab_read.specs.Rows.{is_left_open, ReadsRows, MeetsRows, MeetsRowsFile};
@@ -17,8 +17,8 @@ use crate::tile::{End, read_tile};
 use fab_base::{Fault, MAX_FILE_BYTES, Problem, Reason};
 use fab_blocks::{Block, Holder, Reading, Said};
 use fab_desk::Desk;
+use fab_files::fetch;
 use fab_lines::last_line;
-use fab_list_files::fetch;
 use fab_rows::{Row, rows};
 use std::alloc::Global;
 

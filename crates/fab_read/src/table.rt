@@ -2,14 +2,14 @@
 
 ghost use Rattle.std.specs.Prelude.{◌≡◌, ◌<◌, ◌≤◌, IfOk, IfErr, Some, option_copied};
 ghost use Rattle.std.specs.Option.{ForSome};
-ghost use Rattle.fab_list_files.specs.Files.{HasReadCause};
+ghost use Rattle.fab_files.specs.Files.{HasReadCause};
 ghost use Rattle.fab_model.specs.Tables.{HasTable};
 ghost use Rattle.fab_model.specs.Tiles.{tile_bits, with_table};
 ghost use Rattle.fab_read.specs.Tiles.{table_file, HasDefaultPlaces, ReadsTable, MeetsTable};
 
 use fab_base::{Fault, Memory, Name};
 use fab_desk::Desk;
-use fab_list_files::fetch_if_there;
+use fab_files::fetch_if_there;
 use fab_model::{FrameTable, TileType};
 use fab_paths::resolve;
 use fab_tables::{MAX_BITS, default_table, read_config_table};

@@ -4,7 +4,7 @@ ghost use Rattle.std.specs.Prelude.{◌≡◌, ◌<◌, ◌≤◌, ℕ, All, Non
 ghost use Rattle.std.specs.Option.{ForSome};
 ghost use Rattle.fab_base.specs.Reading.{Answers};
 ghost use Rattle.fab_blocks.specs.Blocks.{bare};
-ghost use Rattle.fab_list_files.specs.Files.{HasReadCause};
+ghost use Rattle.fab_files.specs.Files.{HasReadCause};
 ghost use Rattle.fab_list_files.specs.Sides.{crowd, input_count, most_inputs};
 ghost use Rattle.fab_model.specs.Tables.{HasTable};
 ghost use Rattle.fab_model.specs.Tiles.{pair_numbers, tile_bits, with_pairs, IsPair};

@@ -1,102 +1,304 @@
 -- Which fault ends a command: the first refusal is one, and where nothing is refused none but a device's or memory's comes.
-use Rattle.std.proofs.Common.{◌≡◌, ℕ, List, Option, Some, None, refl, sym, ap, ◌∙◌, inl, inr, subst}
+use Rattle.std.proofs.Common.{◌≡◌, ◌≢◌, ◌⊎◌, ◌<◌, ◌≤◌, ℕ, Bool, true, false, List, [], ◌∷◌, Option, Some, None, refl, sym, ap, ◌∙◌, inl, inr, subst, arith, nat_eq}
+use Rattle.std.specs.List.{list_any}
+use Rattle.std.proofs.lemmas.Bool.{cases_Bool}
 use Rattle.fab_base.specs.declared.fault.Status.{Status}
 use Rattle.fab_base.specs.declared.fault.Fault.{Fault}
 use Rattle.fab_base.specs.declared.fault.Fault.TheVariants as faults
 use Rattle.fab_base.specs.Reading.{IsFaultOr}
 use Rattle.fab_base.specs.Report.{number_of, status}
 use Rattle.fab_desk.specs.Files.{Map}
-use Rattle.fab_flow.specs.Generating.{HasGenerateCause}
-use Rattle.fab_flow.specs.Matrix.{HasMatrixCause}
+use Rattle.fab_files.specs.Files.{refuses}
+use Rattle.fab_flow.specs.Storing.{IsDone, Leaves}
+use Rattle.fab_flow.specs.Ending.{IsRefused, HasCause}
+use Rattle.fab_flow.specs.Generating.{generate_refusals}
+use Rattle.fab_flow.specs.Matrix.{matrix_refusals}
 use Rattle.fab_flow.proofs.Once as generating
 use Rattle.fab_list_files.proofs.Once.{one_refusal, not_both}
 use Rattle.fab_tool.specs.declared.job.Job.{Job}
 use Rattle.fab_tool.specs.declared.job.Job.TheVariants.{Matrix, Generate}
-use Rattle.fab_tool.specs.Running.{IsDone, IsRefusal, IsReady, HasCause, IsReported, IsOrMemory}
+use Rattle.fab_tool.specs.Running.{Makes, Meets, IsReady, refusals, Call, DoesJob, RefusesJob, IsJobReady, JobHasCause, JobLeaves, IsReported, IsExplained, IsOrMemory, answers, IsAnswered}
 
-pub refusal_once : (files : Map) (job : Option Job) (a b : Fault) → IsRefusal files job a → IsRefusal files job b → a ≡ b
-refusal_once files None a b x y = x ∙ sym y
-refusal_once files (Some (Matrix list out)) a b x y = one_refusal files list a b x y
-refusal_once files (Some (Generate fabric out)) a b x y = generating.one_refusal files fabric a b x y
+-- ---- each command has one first refusal, or is ready
 
-pub ready_not_refused : (files : Map) (job : Option Job) (fault : Fault) → IsReady files job → IsRefusal files job fault → ⊥
-ready_not_refused files None fault ready x = absurd ready
-ready_not_refused files (Some (Matrix list out)) fault ready x = not_both files list ready.0 fault ready.1 x
-ready_not_refused files (Some (Generate fabric out)) fault ready x = generating.not_both files fabric fault ready x
+refused_once : (job : Job) (files : Map) (a b : Fault) → Meets job files (refuses a) → Meets job files (refuses b) → number_of a ≡ number_of b
+refused_once (Matrix list out) files a b x y = ap number_of (one_refusal files list a b x y)
+refused_once (Generate fabric out) files a b x y = ap number_of (generating.one_refusal files fabric a b x y)
 
--- why a command of some job ends is why the tool does
-pub cause_of_matrix : (told : Option Map) (list out : List ℕ) (reads writes : Type 0) (given : Fault) → HasMatrixCause told list out reads writes given → HasCause told (Some (Matrix list out)) reads writes given
-cause_of_matrix told list out reads writes faults.Memory cause = tt
-cause_of_matrix told list out reads writes (faults.ReadFault file) cause = (cause.0, refl, cause.1)
-cause_of_matrix told list out reads writes (faults.WriteFault file) cause = cause
-cause_of_matrix told list out reads writes (faults.Missing file) cause = cause
-cause_of_matrix told list out reads writes (faults.TooLong file) cause = cause
-cause_of_matrix told list out reads writes (faults.Malformed place reason) cause = cause
-cause_of_matrix told list out reads writes (faults.Unsupported place construct) cause = cause
-cause_of_matrix told list out reads writes (faults.Limit place quantity value bound) cause = cause
-cause_of_matrix told list out reads writes given cause = absurd cause
-
-pub cause_of_generate : (told : Option Map) (fabric out : List ℕ) (reads writes : Type 0) (given : Fault) → HasGenerateCause told fabric out reads writes given → HasCause told (Some (Generate fabric out)) reads writes given
-cause_of_generate told fabric out reads writes faults.Memory cause = tt
-cause_of_generate told fabric out reads writes (faults.ReadFault file) cause = (cause.0, refl, cause.1)
-cause_of_generate told fabric out reads writes (faults.WriteFault file) cause = cause
-cause_of_generate told fabric out reads writes (faults.Missing file) cause = cause
-cause_of_generate told fabric out reads writes (faults.TooLong file) cause = cause
-cause_of_generate told fabric out reads writes (faults.Malformed place reason) cause = cause
-cause_of_generate told fabric out reads writes (faults.Unsupported place construct) cause = cause
-cause_of_generate told fabric out reads writes (faults.Limit place quantity value bound) cause = cause
-cause_of_generate told fabric out reads writes given cause = absurd cause
+not_refused : (job : Job) (files : Map) (fault : Fault) → IsReady job files → Meets job files (refuses fault) → ⊥
+not_refused (Matrix list out) files fault ready x = not_both files list ready.0 fault ready.1 x
+not_refused (Generate fabric out) files fault ready x = generating.not_both files fabric fault ready x
 
 -- what is done was ready
-pub done_ready : (files : Map) (after : Option Map) (job : Option Job) → IsDone files after job → IsReady files job
-done_ready files after None done = done
-done_ready files after (Some (Matrix list out)) done = (done.made.pairs, done.made.spelled)
-done_ready files after (Some (Generate fabric out)) done = record {
-  fabric = done.made.fabric;
-  spelled = done.made.spelled;
-  short = done.made.short;
+done_ready : (job : Job) (files : Map) (told after : Option Map) → told ≡ Some files → IsDone (Makes job) told after → IsReady job files
+done_ready (Matrix list out) files told after is done = let made = (done.made files is).made in (made.pairs, made.spelled)
+done_ready (Generate fabric out) files told after is done = let made = (done.made files is).made in record { fabric = made.fabric; spelled = made.spelled; short = made.short }
+
+-- ---- the fault behind an end
+
+-- a refusal, a device that failed, or memory
+data Kind (told : Option Map) (reads writes : Type 0) (job : Job) (fault : Fault) : Type 0 where
+  memory : fault ≡ faults.Memory → Kind told reads writes job fault
+  read : (number_of fault ≡ status 11) → reads → Kind told reads writes job fault
+  write : (number_of fault ≡ status 12) → writes → ((files : Map) → told ≡ Some files → IsReady job files) → Kind told reads writes job fault
+  refused : IsRefused told (Meets job) (refusals job) fault → Kind told reads writes job fault
+
+kind_of : (told : Option Map) (reads writes : Type 0) (job : Job) (fault : Fault) → HasCause told reads writes (Meets job) (IsReady job) (refusals job) fault → Kind told reads writes job fault
+kind_of told reads writes job faults.Memory cause = memory refl
+kind_of told reads writes job (faults.ReadFault file) cause = read refl cause.0
+kind_of told reads writes job (faults.WriteFault file) cause = write refl cause.0 cause.1
+kind_of told reads writes job faults.Usage cause = refused cause
+kind_of told reads writes job (faults.Missing file) cause = refused cause
+kind_of told reads writes job (faults.TooLong file) cause = refused cause
+kind_of told reads writes job (faults.Malformed place reason) cause = refused cause
+kind_of told reads writes job (faults.Unsupported place construct) cause = refused cause
+kind_of told reads writes job (faults.Limit place quantity value bound) cause = refused cause
+kind_of told reads writes job (faults.Short kind need have) cause = refused cause
+kind_of told reads writes job (faults.NoPath net wire placement) cause = refused cause
+kind_of told reads writes job (faults.Overused wire first second placement) cause = refused cause
+kind_of told reads writes job (faults.Illegal rule item) cause = refused cause
+
+no_such : (numbers : List ℕ) (n other : ℕ) → list_any (nat_eq other) numbers ≡ false → list_any (nat_eq n) numbers ≡ true → n ≢ other
+no_such numbers n other absent is same = absurd (let no : false ≡ true = sym absent ∙ subst (λ m. list_any (nat_eq m) numbers ≡ true) same is in cc)
+
+-- no refusal has the number of a fault of words, of a device or of memory
+other_number : (job : Job) (n : ℕ) → list_any (nat_eq n) (refusals job) ≡ true → (n ≢ 0) × (n ≢ 1) × (n ≢ 11) × (n ≢ 12) × (n ≢ 13)
+other_number (Matrix list out) n is =
+    (no_such matrix_refusals n 0 refl is, no_such matrix_refusals n 1 refl is, no_such matrix_refusals n 11 refl is, no_such matrix_refusals n 12 refl is, no_such matrix_refusals n 13 refl is)
+other_number (Generate fabric out) n is =
+    (no_such generate_refusals n 0 refl is, no_such generate_refusals n 1 refl is, no_such generate_refusals n 11 refl is, no_such generate_refusals n 12 refl is, no_such generate_refusals n 13 refl is)
+
+-- a number stands behind another one too
+any_behind : (n m : ℕ) (numbers : List ℕ) → list_any (nat_eq n) numbers ≡ true → list_any (nat_eq n) (m ∷ numbers) ≡ true
+any_behind n m numbers is = elim (cases_Bool (nat_eq n m)) [ inl t ↦ rw t refl | inr f ↦ rw f is ]
+
+-- statuses of two numbers
+above : (m n : ℕ) → n < m → status m ≡ status n → ⊥
+above m n less is = let same : m ≡ n = ap (λ (s : Status). s.0) is in omega (arith, same, less)
+
+below : (m n : ℕ) → m < n → status m ≡ status n → ⊥
+below m n less is = let same : m ≡ n = ap (λ (s : Status). s.0) is in omega (arith, same, less)
+
+positive : (fault : Fault) → 1 ≤ (number_of fault).0
+positive faults.Usage = omega arith
+positive (faults.Missing file) = omega arith
+positive (faults.TooLong file) = omega arith
+positive (faults.Malformed place reason) = omega arith
+positive (faults.Unsupported place construct) = omega arith
+positive (faults.Limit place quantity value bound) = omega arith
+positive (faults.Short kind need have) = omega arith
+positive (faults.NoPath net wire placement) = omega arith
+positive (faults.Overused wire first second placement) = omega arith
+positive (faults.Illegal rule item) = omega arith
+positive (faults.ReadFault file) = omega arith
+positive (faults.WriteFault file) = omega arith
+positive faults.Memory = omega arith
+
+zero_is_none : (fault : Fault) → number_of fault ≡ status 0 → ⊥
+zero_is_none fault is =
+    let some = positive fault in
+    let none : (number_of fault).0 ≡ 0 = ap (λ (s : Status). s.0) is in
+    omega (arith, some, none)
+
+-- a command leaves the files as they were, unless it ends with 12 or 13
+left_as_was : (job : Job) (told after : Option Map) (fault : Fault) (n : ℕ) → n ≤ 11 → number_of fault ≡ status n → Leaves (Makes job) told after fault → after ≡ told
+left_as_was job told after (faults.WriteFault file) n few is leaves = absurd (let same : 12 ≡ n = ap (λ (s : Status). s.0) is in omega (arith, same, few))
+left_as_was job told after faults.Memory n few is leaves = absurd (let same : 13 ≡ n = ap (λ (s : Status). s.0) is in omega (arith, same, few))
+left_as_was job told after faults.Usage n few is leaves = leaves
+left_as_was job told after (faults.Missing file) n few is leaves = leaves
+left_as_was job told after (faults.TooLong file) n few is leaves = leaves
+left_as_was job told after (faults.Malformed place reason) n few is leaves = leaves
+left_as_was job told after (faults.Unsupported place construct) n few is leaves = leaves
+left_as_was job told after (faults.Limit place quantity value bound) n few is leaves = leaves
+left_as_was job told after (faults.Short kind need have) n few is leaves = leaves
+left_as_was job told after (faults.NoPath net wire placement) n few is leaves = leaves
+left_as_was job told after (faults.Overused wire first second placement) n few is leaves = leaves
+left_as_was job told after (faults.Illegal rule item) n few is leaves = leaves
+left_as_was job told after (faults.ReadFault file) n few is leaves = leaves
+
+-- ---- what the status says
+
+-- the status is the fault's number, or 13
+status_is : (fault : Fault) (answer : Status) (old new : Option (List ℕ)) (failed : Type 0) → IsReported fault answer old new failed → IsOrMemory answer (number_of fault)
+status_is fault answer old new failed (inl r) = inl r.0
+status_is fault answer old new failed (inr r) = inr r.0
+
+-- a status of a job's fault that is none of 1, 11, 12 and 13 comes of a refusal
+module _ (job : Job) (told after : Option Map) (reads writes : Type 0) (fault : Fault) (answer : Status) (cause : HasCause told reads writes (Meets job) (IsReady job) (refusals job) fault) (due : IsOrMemory answer (number_of fault)) where
+  -- the number of a status that is due
+  number : (n : ℕ) → n ≢ 13 → answer ≡ status n → number_of fault ≡ status n
+  number n other is = elim due [ inl d ↦ sym d ∙ is | inr m ↦ absurd (other (ap (λ (s : Status). s.0) (sym is ∙ m))) ]
+
+  refusal_is_not : (n : ℕ) → IsRefused told (Meets job) (refusals job) fault → number_of fault ≡ status n → list_any (nat_eq n) (refusals job) ≡ true
+  refusal_is_not n why is = subst (λ (s : Status). list_any (nat_eq s.0) (refusals job) ≡ true) is why.possible
+
+  job_not_usage : answer ≡ status 1 → ⊥
+  job_not_usage is = by_kind (kind_of told reads writes job fault cause)
+    where
+      own : number_of fault ≡ status 1
+      own = number 1 (λ e. omega (arith, e)) is
+
+      by_kind : Kind told reads writes job fault → ⊥
+      by_kind (memory m) = above 13 1 (omega arith) (ap number_of (sym m) ∙ own)
+      by_kind (read r _) = above 11 1 (omega arith) (sym r ∙ own)
+      by_kind (write w _ _) = above 12 1 (omega arith) (sym w ∙ own)
+      by_kind (refused r) = (other_number job 1 (refusal_is_not 1 r own)).1 refl
+
+  job_read : answer ≡ status 11 → reads
+  job_read is = by_kind (kind_of told reads writes job fault cause)
+    where
+      own : number_of fault ≡ status 11
+      own = number 11 (λ e. omega (arith, e)) is
+
+      by_kind : Kind told reads writes job fault → reads
+      by_kind (memory m) = absurd (above 13 11 (omega arith) (ap number_of (sym m) ∙ own))
+      by_kind (read _ rose) = rose
+      by_kind (write w _ _) = absurd (above 12 11 (omega arith) (sym w ∙ own))
+      by_kind (refused r) = absurd ((other_number job 11 (refusal_is_not 11 r own)).2 refl)
+
+  job_write : answer ≡ status 12 → writes
+  job_write is = by_kind (kind_of told reads writes job fault cause)
+    where
+      own : number_of fault ≡ status 12
+      own = number 12 (λ e. omega (arith, e)) is
+
+      by_kind : Kind told reads writes job fault → writes
+      by_kind (memory m) = absurd (above 13 12 (omega arith) (ap number_of (sym m) ∙ own))
+      by_kind (read r _) = absurd (below 11 12 (omega arith) (sym r ∙ own))
+      by_kind (write _ rose _) = rose
+      by_kind (refused r) = absurd ((other_number job 12 (refusal_is_not 12 r own)).3 refl)
+
+  -- the first refusal is the answer, where no read failed
+  job_refuses : (files : Map) (first : Fault) → told ≡ Some files → Meets job files (refuses first) → (reads → ⊥) → IsOrMemory answer (number_of first)
+  job_refuses files first is meets calm = by_kind (kind_of told reads writes job fault cause)
+    where
+      by_kind : Kind told reads writes job fault → IsOrMemory answer (number_of first)
+      by_kind (memory m) = inr (elim due [ inl d ↦ d ∙ ap number_of m | inr e ↦ e ])
+      by_kind (read _ rose) = absurd (calm rose)
+      by_kind (write _ _ ready) = absurd (not_refused job files first (ready files is) meets)
+      by_kind (refused r) = elim due [ inl d ↦ inl (d ∙ refused_once job files fault first (r.met files is) meets) | inr e ↦ inr e ]
+
+  -- and 0 where nothing is refused: then a fault is want of memory alone
+  job_completes : (files : Map) → told ≡ Some files → IsReady job files → (reads → ⊥) → (writes → ⊥) → IsOrMemory answer (status 0)
+  job_completes files is ready calm still = by_kind (kind_of told reads writes job fault cause)
+    where
+      by_kind : Kind told reads writes job fault → IsOrMemory answer (status 0)
+      by_kind (memory m) = inr (elim due [ inl d ↦ d ∙ ap number_of m | inr e ↦ e ])
+      by_kind (read _ rose) = absurd (calm rose)
+      by_kind (write _ rose _) = absurd (still rose)
+      by_kind (refused r) = absurd (not_refused job files fault ready (r.met files is))
+
+  job_possible : list_any (nat_eq answer.0) (answers (Some job)) ≡ true
+  job_possible = elim due [
+    | inl d ↦ subst (λ (s : Status). list_any (nat_eq s.0) (answers (Some job)) ≡ true) (sym d) (by_kind (kind_of told reads writes job fault cause))
+    | inr m ↦ subst (λ (s : Status). list_any (nat_eq s.0) (answers (Some job)) ≡ true) (sym m) refl
+  ]
+    where
+      behind : (n : ℕ) (numbers : List ℕ) → list_any (nat_eq n) numbers ≡ true → list_any (nat_eq n) (0 ∷ 11 ∷ 12 ∷ 13 ∷ numbers) ≡ true
+      behind n numbers is = any_behind n 0 (11 ∷ 12 ∷ 13 ∷ numbers) (any_behind n 11 (12 ∷ 13 ∷ numbers) (any_behind n 12 (13 ∷ numbers) (any_behind n 13 numbers is)))
+
+      by_kind : Kind told reads writes job fault → list_any (nat_eq (number_of fault).0) (answers (Some job)) ≡ true
+      by_kind (memory m) = subst (λ (f : Fault). list_any (nat_eq (number_of f).0) (answers (Some job)) ≡ true) (sym m) refl
+      by_kind (read r _) = subst (λ (s : Status). list_any (nat_eq s.0) (answers (Some job)) ≡ true) (sym r) refl
+      by_kind (write w _ _) = subst (λ (s : Status). list_any (nat_eq s.0) (answers (Some job)) ≡ true) (sym w) refl
+      by_kind (refused r) = behind (number_of fault).0 (refusals job) r.possible
+
+-- ---- the whole
+
+-- the call that ended with a fault
+pub fault_answered : (call : Call) (fault : Fault) (answer : Status) → JobHasCause call.job call.told (call.reads < call.reads_after) (call.writes < call.writes_after) fault
+    → JobLeaves call.job call.told call.told_after fault → IsReported fault answer call.put call.put_after (call.failed < call.failed_after) → IsAnswered call answer
+fault_answered call fault answer cause leaves reported = record {
+  done = λ zero. absurd (not_zero zero);
+  silent = λ zero. absurd (not_zero zero);
+  kept = λ n _ few is. kept_in call.job n few is leaves;
+  explained = λ _. record { fault = fault; cause = cause; leaves = leaves; reported = reported };
+  only_usage = λ is. only_usage_in call.job is cause;
+  usage = λ none. usage_in call.job none cause;
+  refuses = λ files first told meets calm. refuses_in call.job files first told meets (λ rose. omega (arith, calm, rose)) cause;
+  completes = λ files told ready calm still. completes_in call.job files told ready (λ rose. omega (arith, calm, rose)) (λ rose. omega (arith, still, rose)) cause;
+  read_fault = λ is. read_in call.job is cause;
+  write_fault = λ is. write_in call.job is cause;
+  possible = possible_in call.job cause;
 }
+  where
+    due : IsOrMemory answer (number_of fault)
+    due = status_is fault answer call.put call.put_after (call.failed < call.failed_after) reported
 
-usage_refused : (files : Map) (job : Option Job) (fault : Fault) → job ≡ None → IsRefusal files job fault → faults.Usage ≡ fault
-usage_refused files None fault none x = sym x
-usage_refused files (Some job) fault none x = absurd cc
+    not_zero : answer ≡ status 0 → ⊥
+    not_zero zero = elim due [ inl d ↦ zero_is_none fault (sym d ∙ zero) | inr m ↦ (above 13 0 (omega arith) (sym m ∙ zero)) ]
 
--- the fault behind an end is the first refusal, where no read failed
-caused : (files : Map) (job : Option Job) (reads writes : Type 0) (given fault : Fault) → (reads → ⊥) → HasCause (Some files) job reads writes given → IsRefusal files job fault → IsFaultOr given fault
-caused files job reads writes faults.Memory fault calm cause x = inl refl
-caused files job reads writes faults.Usage fault calm cause x = inr (usage_refused files job fault cause x)
-caused files job reads writes (faults.ReadFault file) fault calm cause x = absurd (calm cause.0)
-caused files job reads writes (faults.WriteFault file) fault calm cause x = absurd (ready_not_refused files job fault (cause.2 files refl) x)
-caused files job reads writes given fault calm cause x = inr (refusal_once files job given fault (cause files refl) x)
+    reads : Type 0
+    reads = call.reads < call.reads_after
 
-usage_not_ready : (files : Map) (job : Option Job) → job ≡ None → IsReady files job → ⊥
-usage_not_ready files None none ready = ready
-usage_not_ready files (Some job) none ready = cc
+    writes : Type 0
+    writes = call.writes < call.writes_after
 
--- and where nothing is refused and no device failed, it is want of memory
-only_memory : (files : Map) (job : Option Job) (reads writes : Type 0) (given : Fault) → (reads → ⊥) → (writes → ⊥) → HasCause (Some files) job reads writes given → IsReady files job → given ≡ faults.Memory
-only_memory files job reads writes faults.Memory calm still cause ready = refl
-only_memory files job reads writes faults.Usage calm still cause ready = absurd (usage_not_ready files job cause ready)
-only_memory files job reads writes (faults.ReadFault file) calm still cause ready = absurd (calm cause.0)
-only_memory files job reads writes (faults.WriteFault file) calm still cause ready = absurd (still cause.0)
-only_memory files job reads writes given calm still cause ready = absurd (ready_not_refused files job given ready (cause files refl))
+    of_words : (f : Fault) → (f ≡ faults.Usage) ⊎ (f ≡ faults.Memory) → IsOrMemory (number_of f) (status 1)
+    of_words f (inl u) = inl (ap number_of u)
+    of_words f (inr m) = inr (ap number_of m)
 
-due : (given fault : Fault) (answer : Status) (old new : Option (List ℕ)) (failed : Type 0) → IsReported given answer old new failed → IsFaultOr given fault → IsOrMemory answer (number_of fault)
-due given fault answer old new failed (inl r) (inl m) = inr (r.0 ∙ ap number_of m)
-due given fault answer old new failed (inl r) (inr e) = inl (r.0 ∙ ap number_of e)
-due given fault answer old new failed (inr r) x = inr r.0
+    kept_in : (job : Option Job) (n : ℕ) → n ≤ 11 → answer ≡ status n → JobLeaves job call.told call.told_after fault → call.told_after ≡ call.told
+    kept_in None n few is l = l
+    kept_in (Some job) n few is l =
+        left_as_was job call.told call.told_after fault n few
+        (elim due [ inl d ↦ sym d ∙ is | inr m ↦ absurd (let same : n ≡ 13 = ap (λ (s : Status). s.0) (sym is ∙ m) in omega (arith, same, few)) ]) l
 
--- the status is that of the first refusal, where no read failed
-pub refuses : (told : Option Map) (files : Map) (job : Option Job) (reads writes : Type 0) (given fault : Fault) (answer : Status) (old new : Option (List ℕ)) (failed : Type 0)
-    → told ≡ Some files → (reads → ⊥) → HasCause told job reads writes given → IsReported given answer old new failed → IsRefusal files job fault → IsOrMemory answer (number_of fault)
-refuses told files job reads writes given fault answer old new failed is calm cause reported x =
-    due given fault answer old new failed reported (caused files job reads writes given fault calm (subst (λ (t : Option Map). HasCause t job reads writes given) is cause) x)
+    only_usage_in : (job : Option Job) → answer ≡ status 1 → JobHasCause job call.told reads writes fault → job ≡ None
+    only_usage_in None is c = refl
+    only_usage_in (Some job) is c = absurd (job_not_usage job call.told call.told_after reads writes fault answer c due is)
 
--- and 13 where nothing is refused and no device failed
-pub completes : (told : Option Map) (files : Map) (job : Option Job) (reads writes : Type 0) (given : Fault) (answer : Status) (old new : Option (List ℕ)) (failed : Type 0)
-    → told ≡ Some files → (reads → ⊥) → (writes → ⊥) → HasCause told job reads writes given → IsReported given answer old new failed → IsReady files job → IsOrMemory answer (status 0)
-completes told files job reads writes given answer old new failed is calm still cause reported ready =
-    elim (due given faults.Memory answer old new failed reported (inl (only_memory files job reads writes given calm still (subst (λ (t : Option Map). HasCause t job reads writes given) is cause) ready))) [
-      | inl m ↦ inr m
-      | inr m ↦ inr m
+    usage_in : (job : Option Job) → job ≡ None → JobHasCause job call.told reads writes fault → IsOrMemory answer (status 1)
+    usage_in None none c = elim due [ inl d ↦ subst (λ (s : Status). IsOrMemory s (status 1)) (sym d) (of_words fault c) | inr m ↦ inr m ]
+    usage_in (Some job) none c = absurd cc
+
+    refuses_in : (job : Option Job) (files : Map) (first : Fault) → call.told ≡ Some files → RefusesJob job files first → (reads → ⊥) → JobHasCause job call.told reads writes fault → IsOrMemory answer (number_of first)
+    refuses_in None files first told meets calm c = subst (λ (f : Fault). IsOrMemory answer (number_of f)) (sym meets) (usage_in None refl c)
+    refuses_in (Some job) files first told meets calm c = job_refuses job call.told call.told_after reads writes fault answer c due files first told meets calm
+
+    completes_in : (job : Option Job) (files : Map) → call.told ≡ Some files → IsJobReady job files → (reads → ⊥) → (writes → ⊥) → JobHasCause job call.told reads writes fault → IsOrMemory answer (status 0)
+    completes_in None files told ready calm still c = absurd ready
+    completes_in (Some job) files told ready calm still c = job_completes job call.told call.told_after reads writes fault answer c due files told ready calm still
+
+    read_in : (job : Option Job) → answer ≡ status 11 → JobHasCause job call.told reads writes fault → reads
+    read_in None is c = absurd (elim (usage_in None refl c) [ inl u ↦ (below 1 11 (omega arith) (sym u ∙ is)) | inr m ↦ (above 13 11 (omega arith) (sym m ∙ is)) ])
+    read_in (Some job) is c = job_read job call.told call.told_after reads writes fault answer c due is
+
+    write_in : (job : Option Job) → answer ≡ status 12 → JobHasCause job call.told reads writes fault → writes
+    write_in None is c = absurd (elim (usage_in None refl c) [ inl u ↦ (below 1 12 (omega arith) (sym u ∙ is)) | inr m ↦ (above 13 12 (omega arith) (sym m ∙ is)) ])
+    write_in (Some job) is c = job_write job call.told call.told_after reads writes fault answer c due is
+
+    possible_in : (job : Option Job) → JobHasCause job call.told reads writes fault → list_any (nat_eq answer.0) (answers job) ≡ true
+    possible_in None c = elim (usage_in None refl c) [
+      | inl u ↦ subst (λ (s : Status). list_any (nat_eq s.0) (answers None) ≡ true) (sym u) refl
+      | inr m ↦ subst (λ (s : Status). list_any (nat_eq s.0) (answers None) ≡ true) (sym m) refl
     ]
+    possible_in (Some job) c = job_possible job call.told call.told_after reads writes fault answer c due
+
+-- the call that did its job
+pub job_answered : (call : Call) → DoesJob call.job call.told call.told_after → call.put_after ≡ call.put → IsAnswered call (status 0)
+job_answered call done silent = record {
+  done = λ _. done;
+  silent = λ _. silent;
+  kept = λ n some _ is. absurd (let same : 0 ≡ n = ap (λ (s : Status). s.0) is in omega (arith, same, some));
+  explained = λ other. absurd (other refl);
+  only_usage = λ is. absurd (below 0 1 (omega arith) (is));
+  usage = λ none. absurd (job_is call.job none done);
+  refuses = λ files fault told meets _. absurd (done_apart call.job files fault told meets done);
+  completes = λ files told ready _ _. inl refl;
+  read_fault = λ is. absurd (below 0 11 (omega arith) (is));
+  write_fault = λ is. absurd (below 0 12 (omega arith) (is));
+  possible = possible_in call.job done;
+}
+  where
+    job_is : (job : Option Job) → job ≡ None → DoesJob job call.told call.told_after → ⊥
+    job_is None none d = d
+    job_is (Some job) none d = cc
+
+    done_apart : (job : Option Job) (files : Map) (fault : Fault) → call.told ≡ Some files → RefusesJob job files fault → DoesJob job call.told call.told_after → ⊥
+    done_apart None files fault told meets d = d
+    done_apart (Some job) files fault told meets d = not_refused job files fault (done_ready job files call.told call.told_after told d) meets
+
+    possible_in : (job : Option Job) → DoesJob job call.told call.told_after → list_any (nat_eq 0) (answers job) ≡ true
+    possible_in None d = absurd d
+    possible_in (Some job) d = refl

@@ -1,63 +1,86 @@
--- What the commands do to the files and put out, and why they end otherwise.
-use Rattle.std.specs.Prelude.{◌≡◌, ◌⊎◌, ℕ, List, ◌++◌, take, IsSome, Option, Some, None}
+-- What a call of the program does to the files, what it puts out, and why it ends otherwise.
+use Rattle.std.specs.Prelude.{◌≡◌, ◌≢◌, ◌⊎◌, ◌<◌, ◌≤◌, ℕ, true, List, [], ◌∷◌, ◌++◌, take, nat_eq, Option, Some, None}
+use Rattle.std.specs.List.{list_any}
 use Rattle.std.specs.Option.{ForSome}
 use Rattle.fab_base.specs.declared.fault.Status.{Status}
 use Rattle.fab_base.specs.declared.fault.Fault.{Fault}
 use Rattle.fab_base.specs.declared.fault.Fault.TheVariants as faults
-use Rattle.fab_base.specs.Report.{number_of, report}
+use Rattle.fab_base.specs.Report.{number_of, report, status}
 use Rattle.fab_desk.specs.Files.{Map}
-use Rattle.fab_flow.specs.Generating.{MakesFabric, MeetsGenerate, RefusesGenerate, IsReadyToGenerate}
-use Rattle.fab_flow.specs.Matrix.{MakesMatrix, IsReadyForMatrix}
-use Rattle.fab_list_files.specs.Files.{asks}
-use Rattle.fab_list_files.specs.Sides.{MeetsPairs, RefusesPairs}
+use Rattle.fab_files.specs.Files.{Event, refuses}
+use Rattle.fab_flow.specs.Storing.{PlainOutput, IsDone, Leaves}
+use Rattle.fab_flow.specs.Ending.{HasCause}
+use Rattle.fab_flow.specs.Generating.{MakesFabric, MeetsGenerate, IsReadyToGenerate, generate_refusals}
+use Rattle.fab_flow.specs.Matrix.{MakesMatrix, IsReadyForMatrix, matrix_refusals}
+use Rattle.fab_list_files.specs.Sides.{MeetsPairs}
 use Rattle.fab_tool.specs.declared.job.Job.{Job}
 use Rattle.fab_tool.specs.declared.job.Job.TheVariants.{Matrix, Generate}
 
--- ---- what is done
+-- ---- the commands
 
-abbrev pub IsDone : (files : Map) (after : Option Map) → Option Job → Type 0
-IsDone files after None = ⊥
-IsDone files after (Some (Matrix list out)) = MakesMatrix files after list out
-IsDone files after (Some (Generate fabric out)) = MakesFabric files after fabric out
+-- the outputs that a command makes of the files
+abbrev pub Makes : Job → (files : Map) → List PlainOutput → Type 0
+Makes (Matrix list out) files outputs = MakesMatrix files list out outputs
+Makes (Generate fabric out) files outputs = MakesFabric files fabric out outputs
 
--- ---- the first refusal
-
--- the words come first, then the files of the command with those that they name
-abbrev pub IsRefusal : (files : Map) → Option Job → Fault → Type 0
-IsRefusal files None fault = fault ≡ faults.Usage
-IsRefusal files (Some (Matrix list out)) fault = RefusesPairs files list fault
-IsRefusal files (Some (Generate fabric out)) fault = RefusesGenerate files fabric fault
+-- what it comes upon before anything is refused: files that it asks for, and its first refusal
+abbrev pub Meets : Job → (files : Map) → Event → Type 0
+Meets (Matrix list out) files event = MeetsPairs files list event
+Meets (Generate fabric out) files event = MeetsGenerate files fabric event
 
 -- nothing is refused
-abbrev pub IsReady : (files : Map) → Option Job → Type 0
-IsReady files None = ⊥
-IsReady files (Some (Matrix list out)) = IsReadyForMatrix files list
-IsReady files (Some (Generate fabric out)) = IsReadyToGenerate files fabric
+abbrev pub IsReady : Job → (files : Map) → Type 0
+IsReady (Matrix list out) files = IsReadyForMatrix files list
+IsReady (Generate fabric out) files = IsReadyToGenerate files fabric
 
--- ---- why a command ends with a fault
+-- the numbers of the faults for which it refuses
+abbrev pub refusals : Job → List ℕ
+refusals (Matrix list out) = matrix_refusals
+refusals (Generate fabric out) = generate_refusals
 
--- the command asks for the file before anything is refused
-abbrev pub AsksFor : (files : Map) → Option Job → (file : List ℕ) → Type 0
-AsksFor files None file = ⊥
-AsksFor files (Some (Matrix list out)) file = MeetsPairs files list (asks file)
-AsksFor files (Some (Generate fabric out)) file = MeetsGenerate files fabric (asks file)
+-- ---- one call of the program
 
-abbrev pub Writes : Option Job → (file : List ℕ) → Type 0
-Writes None file = ⊥
-Writes (Some (Matrix list out)) file = file ≡ out
-Writes (Some (Generate fabric out)) file = file ≡ out
+-- The job that the words spell, if they spell one; what the desk tells of its files, and how many of its reads and writes failed so far; what was put to the
+-- sink, and how many of its calls failed so far: each when the call begins, and when it ends.
+pub record Call : Type 0 where
+  pub job : Option Job
+  pub told : Option Map
+  pub told_after : Option Map
+  pub reads : ℕ
+  pub reads_after : ℕ
+  pub writes : ℕ
+  pub writes_after : ℕ
+  pub put : Option (List ℕ)
+  pub put_after : Option (List ℕ)
+  pub failed : ℕ
+  pub failed_after : ℕ
 
--- Usage comes of the words alone. A fault of the device comes only where the device's count of faults rose: a failed read
--- names a file that the command asks for before anything is refused, and a failed write the file of the call, where nothing
--- is refused. Every other fault but want of memory is the first refusal of the files that the desk tells.
-abbrev pub HasCause : (told : Option Map) → Option Job → (reads_rose writes_rose : Type 0) → Fault → Type 0
-HasCause told job reads_rose writes_rose faults.Memory = Unit {0}
-HasCause told job reads_rose writes_rose faults.Usage = job ≡ None
-HasCause told job reads_rose writes_rose (faults.ReadFault file) = reads_rose × IsSome job × ForSome told (λ files. AsksFor files job file)
-HasCause told job reads_rose writes_rose (faults.WriteFault file) = writes_rose × Writes job file × ForSome told (λ files. IsReady files job)
-HasCause told job reads_rose writes_rose fault = ForSome told (λ files. IsRefusal files job fault)
+-- ---- status 0
 
--- ---- what is put
+abbrev pub DoesJob : Option Job → (told after : Option Map) → Type 0
+DoesJob None told after = ⊥
+DoesJob (Some job) told after = IsDone (Makes job) told after
+
+-- ---- any other status
+
+-- the words come first, then what the command comes upon
+abbrev pub RefusesJob : Option Job → (files : Map) → Fault → Type 0
+RefusesJob None files fault = fault ≡ faults.Usage
+RefusesJob (Some job) files fault = Meets job files (refuses fault)
+
+abbrev pub IsJobReady : Option Job → (files : Map) → Type 0
+IsJobReady None files = ⊥
+IsJobReady (Some job) files = IsReady job files
+
+-- why a job ends with a fault
+abbrev pub JobHasCause : Option Job → (told : Option Map) → (reads_rose writes_rose : Type 0) → Fault → Type 0
+JobHasCause None told reads_rose writes_rose fault = (fault ≡ faults.Usage) ⊎ (fault ≡ faults.Memory)
+JobHasCause (Some job) told reads_rose writes_rose fault = HasCause told reads_rose writes_rose (Meets job) (IsReady job) (refusals job) fault
+
+-- and what it leaves
+abbrev pub JobLeaves : Option Job → (told after : Option Map) → Fault → Type 0
+JobLeaves None told after fault = after ≡ told
+JobLeaves (Some job) told after fault = Leaves (Makes job) told after fault
 
 -- the text was appended, or a front of it where the sink failed
 abbrev pub IsPut : (old : List ℕ) (new : Option (List ℕ)) (text : List ℕ) (put_failed : Type 0) → Type 0
@@ -70,11 +93,40 @@ IsReported fault status old new put_failed =
     ⊎ ((status ≡ number_of faults.Memory) × (new ≡ old))
 
 -- the one fault behind a status other than 0
-pub record IsExplained (told : Option Map) (job : Option Job) (reads_rose writes_rose : Type 0) (status : Status) (old new : Option (List ℕ)) (put_failed : Type 0) : Type 0 where
+pub record IsExplained (call : Call) (answer : Status) : Type 0 where
   pub fault : Fault
-  pub cause : HasCause told job reads_rose writes_rose fault
-  pub reported : IsReported fault status old new put_failed
+  pub cause : JobHasCause call.job call.told (call.reads < call.reads_after) (call.writes < call.writes_after) fault
+  pub leaves : JobLeaves call.job call.told call.told_after fault
+  pub reported : IsReported fault answer call.put call.put_after (call.failed < call.failed_after)
 
 -- the status is the one that is due, unless memory was refused
 abbrev pub IsOrMemory : Status → (due : Status) → Type 0
 IsOrMemory status due = (status ≡ due) ⊎ (status ≡ number_of faults.Memory)
+
+-- the statuses with which a job may end
+abbrev pub answers : Option Job → List ℕ
+answers None = 1 ∷ 13 ∷ []
+answers (Some job) = 0 ∷ 11 ∷ 12 ∷ 13 ∷ refusals job
+
+-- ---- the whole
+
+-- What holds of each call of the program and its status.
+pub record IsAnswered (call : Call) (answer : Status) : Type 0 where
+  -- with 0 exactly the outputs of the job are stored, and nothing is put out
+  pub done : answer ≡ status 0 → DoesJob call.job call.told call.told_after
+  pub silent : answer ≡ status 0 → call.put_after ≡ call.put
+  -- with 1 to 11 the files are as before; with 12 the outputs before the one that failed stand, and with 13 the first ones, maybe none (`leaves` of `explained`)
+  pub kept : (n : ℕ) → 1 ≤ n → n ≤ 11 → answer ≡ status n → call.told_after ≡ call.told
+  -- with any other status than 0 there is one fault behind it, which has its cause and is reported
+  pub explained : answer ≢ status 0 → IsExplained call answer
+  -- 1 comes exactly where the words are no form
+  pub only_usage : answer ≡ status 1 → call.job ≡ None
+  pub usage : call.job ≡ None → IsOrMemory answer (status 1)
+  -- where no device fails, the first refusal is the answer, and 0 where nothing is refused
+  pub refuses : (files : Map) (fault : Fault) → call.told ≡ Some files → RefusesJob call.job files fault → call.reads_after ≡ call.reads → IsOrMemory answer (number_of fault)
+  pub completes : (files : Map) → call.told ≡ Some files → IsJobReady call.job files → call.reads_after ≡ call.reads → call.writes_after ≡ call.writes → IsOrMemory answer (status 0)
+  -- 11 comes only where a read failed in this call, and 12 only where a write did
+  pub read_fault : answer ≡ status 11 → call.reads < call.reads_after
+  pub write_fault : answer ≡ status 12 → call.writes < call.writes_after
+  -- on any desk, also one that does not tell its files, a job ends with one of its own statuses
+  pub possible : list_any (nat_eq answer.0) (answers call.job) ≡ true

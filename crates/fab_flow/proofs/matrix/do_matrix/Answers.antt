@@ -1,36 +1,32 @@
-use Rattle.std.proofs.Common.{◌≡◌, ◌≢◌, ◌<◌, ◌∙◌, List, All, ap, subst, option_map, arith}
-use Rattle.std.proofs.lemmas.Result.{IfOk-weaker, IfErr-weaker}
-use Rattle.fab_desk.specs.Files.{with_file}
-use Rattle.fab_matrix.specs.Matrix.{config_name}
-use Rattle.fab_tables.specs.Lists.{Pair}
+use Rattle.std.proofs.Common.{◌∙◌, ap, map, arith}
+use Rattle.std.proofs.lemmas.Result.{IfErr-weaker, on_ok_weaker}
 use Rattle.fab_list_files.specs.Sides.{MeetsPairs}
-use Rattle.fab_flow.specs.Matrix.{IsModuleOf, IsTextOf, IsReadyForMatrix}
-use Rattle.fab_flow.proofs.Ending.{cause_of_store}
-use Rattle.fab_flow.proofs.Spelled.{inputs_apart}
+use Rattle.fab_flow.specs.Storing.{plain_output}
+use Rattle.fab_flow.specs.Matrix.{MakesMatrix, IsReadyForMatrix, matrix_refusals}
+use Rattle.fab_flow.proofs.Ending.{cause_of_store, leaves_of_store, done_of_store}
+use Rattle.fab_flow.proofs.Spelled.{matrix_made}
 use Rattle.fab_flow.proofs.matrix.do_matrix.Goals as goal
 
 pub returns-clause-done : goal.returns-clause-done
-returns-clause-done g c = λ files is.
+returns-clause-done g c =
     let list = c.args.list.now in
-    let pairs = c.in_ok-pairs.pairs.items in
-    let text = c.in_ok-text.text.items in
-    let spelled = c.in_ok-pairs.ensures.spelled files is in
-    let same : c.deref.result.now ≡ pairs = c.deref.ensures.value in
-    let made : IsModuleOf list pairs text =
-    subst (λ (ps : List Pair). All (λ pair. pair.1 ≢ config_name) ps → IsModuleOf list ps text) same c.in_ok-text.ensures (inputs_apart files list pairs spelled) in
-    let whole : IsTextOf files list text = record { pairs = pairs; spelled = spelled; made = made } in
-    IfOk-weaker c.store.result _ _ (λ _ stored. record {
-      text = text;
-      made = whole;
-      stored = stored ∙ (λ j. option_map (with_file c.args.out.now (c.deref-2.ensures.value j)) (c.in_ok-pairs.ensures.told j)) ∙ ap (option_map (with_file c.args.out.now text)) is;
-    }) c.store.ensures.ok
+    let outputs = map plain_output c.deref-2.result.now in
+    on_ok_weaker c.store_all.result (λ stored. done_of_store (λ files. MakesMatrix files list c.args.out.now) (g.D.Desk.told c.args.desk.now) outputs (g.D.Desk.told c.read_pairs.new.desk) (g.D.Desk.told c.store_all.new.desk)
+    (λ files is. matrix_made files list c.args.out.now c.in_ok-text.text.items c.in_ok-pairs.pairs.items c.deref.result.now outputs (c.in_ok-pairs.ensures.spelled files is) c.deref.ensures.value c.in_ok-text.ensures
+    (ap (map plain_output) c.deref-2.ensures.value ∙ c.in_ok-outputs.ensures.are))
+    c.in_ok-pairs.ensures.told stored) c.store_all.ensures.done
+
+pub returns-clause-leaves : goal.returns-clause-leaves
+returns-clause-leaves g c =
+    let list = c.args.list.now in
+    let outputs = map plain_output c.deref-2.result.now in
+    IfErr-weaker c.store_all.result _ _ (λ fault stopped. leaves_of_store (λ files. MakesMatrix files list c.args.out.now) (g.D.Desk.told c.args.desk.now) outputs (g.D.Desk.told c.read_pairs.new.desk) (g.D.Desk.told c.store_all.new.desk) _ fault
+    (λ files is. matrix_made files list c.args.out.now c.in_ok-text.text.items c.in_ok-pairs.pairs.items c.deref.result.now outputs (c.in_ok-pairs.ensures.spelled files is) c.deref.ensures.value c.in_ok-text.ensures
+    (ap (map plain_output) c.deref-2.ensures.value ∙ c.in_ok-outputs.ensures.are))
+    c.in_ok-pairs.ensures.told stopped) c.store_all.ensures.stopped
 
 pub returns-clause-cause : goal.returns-clause-cause
 returns-clause-cause g c =
-    let writes = g.D.Desk.writes in
     let wrote = c.in_ok-pairs.ensures.writes in
-    IfErr-weaker c.store.result _ _ (λ fault cause.
-    cause_of_store (g.D.Desk.told c.args.desk.now) c.args.out.now (g.D.Desk.reads c.args.desk.now < g.D.Desk.reads c.store.new.desk) (writes c.args.desk.now < writes c.store.new.desk)
-    (λ files. MeetsPairs files c.args.list.now) (λ files. IsReadyForMatrix files c.args.list.now) (writes c.read_pairs.new.desk < writes c.store.new.desk) fault
-    (λ files is. (c.in_ok-pairs.pairs.items, c.in_ok-pairs.ensures.spelled files is)) (λ rose. omega (arith, rose, wrote)) cause)
-    c.store.ensures.fault
+    IfErr-weaker c.store_all.result _ _ (λ fault stopped. cause_of_store (g.D.Desk.told c.args.desk.now) _ _ (λ files. MeetsPairs files c.args.list.now) (λ files. IsReadyForMatrix files c.args.list.now) matrix_refusals
+    (map plain_output c.deref-2.result.now) _ _ _ fault (λ files is. (c.in_ok-pairs.pairs.items, c.in_ok-pairs.ensures.spelled files is)) (λ rose. omega (arith, rose, wrote)) stopped) c.store_all.ensures.stopped

@@ -1,4 +1,4 @@
-use Rattle.std.proofs.Common.{◌≡◌, ◌+◌, ◌^◌, ◌∙◌, ℕ, Option, Result, Some, Ok, ap, arith, unwrap_or}
+use Rattle.std.proofs.Common.{◌+◌, ◌^◌, ◌∙◌, ap, unwrap_or}
 use Rattle.std.specs.Str.{bytes_eq}
 use Rattle.std.specs.Map.{lookup}
 use Rattle.fab_list_files.proofs.Names.{counted_more, one_more}

@@ -1,11 +1,11 @@
-use Rattle.std.proofs.Common.{◌≡◌, ◌<◌, ◌-◌, ◌+◌, ◌∙◌, ℕ, List, drop, Ok, Some, sym, ap, refl, subst, arith}
+use Rattle.std.proofs.Common.{◌≡◌, ◌<◌, ◌-◌, ◌+◌, ◌∙◌, ℕ, List, drop, Ok, Some, ap, refl, subst, arith}
 use Rattle.std.proofs.lemmas.List.{drop_all}
 use Rattle.std.proofs.lemmas.Result.{IfOk-weaker, IfErr-weaker, err_from_is_err_and}
 use Rattle.fab_base.specs.Reading.{IsFaultOr, fault_at}
 use Rattle.fab_rows.specs.Rows.{PlainRow, rows_of}
-use Rattle.fab_list_files.specs.Files.{MeetsFile, handed_out}
+use Rattle.fab_files.specs.Files.{MeetsFile, handed_out}
 use Rattle.fab_desk.specs.Files.{Map}
-use Rattle.fab_list_files.specs.Lists.{deed_of, adds, opens, Knowledge, ReadsList, MeetsList, ReadsListFile, MeetsListFile, of_file, of_rows}
+use Rattle.fab_list_files.specs.Lists.{deed_of, Knowledge, ReadsList, MeetsList, MeetsListFile, of_file, of_rows}
 use Rattle.fab_list_files.specs.Following.{Leads, MeetsRow}
 use Rattle.fab_list_files.proofs.Rows.{cause_weaker, cause_at, adds_lead, opens_lead, opens_meets, bad_meets, leads_further, leads_to_end, leads_to_event, drop_next}
 use Rattle.fab_list_files.proofs.listing.+list.Goals as goal

@@ -1,4 +1,4 @@
-use Rattle.std.proofs.Common.{◌≡◌, ◌<◌, ◌∙◌, ℕ, List, [], Option, Ok, Some, sym, ap, refl, subst, arith}
+use Rattle.std.proofs.Common.{◌≡◌, ◌<◌, ◌∙◌, ℕ, List, [], Ok, Some, sym, ap, refl, subst, arith}
 use Rattle.std.specs.Str.{bytes_eq}
 use Rattle.std.proofs.lemmas.Result.{err_from_is_err_and}
 use Rattle.fab_base.specs.declared.words.Quantity.TheVariants as quantities
@@ -6,7 +6,7 @@ use Rattle.fab_base.specs.Reading.{IsFaultOr, fault_at}
 use Rattle.fab_desk.specs.Files.{Map}
 use Rattle.fab_rows.specs.Rows.{rows_of}
 use Rattle.fab_tables.specs.Lists.{Pair}
-use Rattle.fab_list_files.specs.Files.{MeetsFile, handed_out, last_line}
+use Rattle.fab_files.specs.Files.{MeetsFile, handed_out, last_line}
 use Rattle.fab_list_files.specs.Lists.{most_open, ReadsList, MeetsList, ReadsListFile, of_file, of_rows}
 use Rattle.fab_list_files.specs.Sides.{on_both_sides, crowd, crowd_limit, most_inputs, MeetsPairs, of_list, of_crowd}
 use Rattle.fab_list_files.proofs.Rows.{cause_weaker, limit_cause}

@@ -1,6 +1,6 @@
 use Rattle.std.proofs.Common.{◌<◌, arith}
 use Rattle.fab_list_files.specs.Sides.{MeetsPairs}
-use Rattle.fab_list_files.proofs.Complete.{ok_unless_memory}
+use Rattle.fab_files.proofs.Complete.{ok_unless_memory}
 use Rattle.fab_list_files.proofs.Once.{not_both}
 use Rattle.fab_list_files.proofs.pairs.read_pairs.Goals as goal
 

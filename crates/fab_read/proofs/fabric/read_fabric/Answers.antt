@@ -1,5 +1,5 @@
 use Rattle.std.proofs.Common.{◌<◌, arith}
-use Rattle.fab_list_files.proofs.Complete.{ok_unless_memory}
+use Rattle.fab_files.proofs.Complete.{ok_unless_memory}
 use Rattle.fab_read.specs.Fabrics.{MeetsFabric}
 use Rattle.fab_read.proofs.FabricsOnce.{not_refused}
 use Rattle.fab_read.proofs.fabric.read_fabric.Goals as goal

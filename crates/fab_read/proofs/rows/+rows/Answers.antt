@@ -10,7 +10,7 @@ use Rattle.fab_blocks.specs.declared.mode.Said.TheVariants as said
 use Rattle.fab_desk.specs.Files.{Map}
 use Rattle.fab_model.specs.Tables.{HasTable}
 use Rattle.fab_rows.specs.Rows.{PlainRow, rows_of}
-use Rattle.fab_list_files.specs.Files.{MeetsFile, handed_out, last_line}
+use Rattle.fab_files.specs.Files.{MeetsFile, handed_out, last_line}
 use Rattle.fab_list_files.proofs.Rows.{cause_weaker, cause_at, drop_next}
 use Rattle.fab_read.specs.Rows.{end_at, is_left_open, ReadsRows, MeetsRows, MeetsRowsFile, of_file, of_rows, of_end}
 use Rattle.fab_read.specs.Tiles.{End, MeetsTile}

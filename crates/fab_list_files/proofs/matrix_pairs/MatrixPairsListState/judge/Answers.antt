@@ -1,4 +1,4 @@
-use Rattle.std.proofs.Common.{◌≡◌, ◌∙◌, ◌||◌, Bool, true, false, Option, Some, None, [], refl, sym, subst, if◌then◌else◌}
+use Rattle.std.proofs.Common.{◌≡◌, ◌∙◌, ◌||◌, true, false, [], refl, sym, subst}
 use Rattle.std.specs.List.{list_any}
 use Rattle.fab_list_files.specs.Keys.{HasSides}
 use Rattle.fab_list_files.specs.Sides.{crosses}

@@ -1,5 +1,5 @@
 -- The text of a name.
-use Rattle.std.proofs.Common.{◌≡◌, ℕ, Bool, true, false, Bor, List, Option, Some, None, Result, Ok, Err, option_map, inl, inr, refl, ap, if◌then◌else◌}
+use Rattle.std.proofs.Common.{◌≡◌, ℕ, true, Bor, List, Some, None, Result, Ok, Err, option_map, inl, inr, refl, ap, if◌then◌else◌}
 use Rattle.std.specs.Prelude.{MatchResult}
 use Rattle.std.specs.Result.{result_ok}
 use Rattle.std.specs.Str.{IsUtf8, is_utf8}

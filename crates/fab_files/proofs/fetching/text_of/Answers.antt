@@ -1,7 +1,7 @@
 use Rattle.std.proofs.Common.{◌∙◌, ap, option_map, Some, None, if◌then◌else◌}
 use Rattle.std.specs.Str.{is_utf8}
-use Rattle.fab_list_files.proofs.Text.{text_shown}
-use Rattle.fab_list_files.proofs.outside.text_of.Goals as goal
+use Rattle.fab_files.proofs.Text.{text_shown}
+use Rattle.fab_files.proofs.fetching.text_of.Goals as goal
 
 pub returns : goal.returns
 returns c =

@@ -3,7 +3,7 @@
 ghost use Rattle.std.specs.Prelude.{◌≡◌, ◌<◌, ◌≤◌, Ok, Some, None, IfOk, IfErr, IfSome, option_map, vec_len, if◌then◌else◌};
 ghost use Rattle.std.specs.Option.{ForSome};
 ghost use Rattle.std.specs.Str.{is_utf8};
-ghost use Rattle.fab_list_files.specs.Files.{handed_out, handed_out_if_there, HasReadCause, MeetsFile, MeetsIfThere};
+ghost use Rattle.fab_files.specs.Files.{handed_out, handed_out_if_there, HasReadCause, MeetsFile, MeetsIfThere};
 
 use fab_base::{Fault, MAX_FILE_BYTES, Name};
 use fab_desk::{Desk, DeskFault};

@@ -3,7 +3,7 @@ use Rattle.std.proofs.Common.{◌≡◌, Option, Some, Result, Ok, Err, IfErr, I
 use Rattle.fab_base.specs.declared.fault.Fault.{Fault}
 use Rattle.fab_base.specs.declared.fault.Fault.TheVariants as faults
 use Rattle.fab_desk.specs.Files.{Map}
-use Rattle.fab_list_files.specs.Files.{Event, refuses, HasReadCause}
+use Rattle.fab_files.specs.Files.{Event, refuses, HasReadCause}
 
 module _ (told : Option Map) (rose : Type 0) (meets : Map → Event → Type 0) (files : Map) (is : told ≡ Some files) (still : rose → ⊥) (fine : (fault : Fault) → meets files (refuses fault) → ⊥) where
   memory_alone : (fault : Fault) → HasReadCause told rose meets fault → fault ≡ faults.Memory

@@ -1,0 +1,25 @@
+use Rattle.std.proofs.Common.{◌≡◌, ◌<◌, ◌∙◌, ap, sym, subst, Option, Some}
+use Rattle.std.proofs.Common.{OnOk, IfErr}
+use Rattle.fab_tool.specs.declared.job.Job.{Job}
+use Rattle.fab_tool.specs.Running.{DoesJob, JobLeaves, JobHasCause}
+use Rattle.fab_tool.proofs.running.perform.Goals as goal
+
+pub returns-in-Matrix-clause-done : goal.returns-in-Matrix-clause-done
+returns-in-Matrix-clause-done g c =
+    subst (λ (job : Option Job). OnOk c.do_matrix.result (DoesJob job (g.D.Desk.told c.args.desk.now) (g.D.Desk.told c.do_matrix.new.desk)))
+    (sym (c.in_ok-list.ensures.job ∙ ap (λ (job : Job). Some job) c.in-Matrix.is)) c.do_matrix.ensures.done
+
+pub returns-in-Matrix-clause-leaves : goal.returns-in-Matrix-clause-leaves
+returns-in-Matrix-clause-leaves g c =
+    subst (λ (job : Option Job). IfErr c.do_matrix.result (JobLeaves job (g.D.Desk.told c.args.desk.now) (g.D.Desk.told c.do_matrix.new.desk)))
+    (sym (c.in_ok-list.ensures.job ∙ ap (λ (job : Job). Some job) c.in-Matrix.is)) c.do_matrix.ensures.leaves
+
+pub returns-in-Generate-clause-done : goal.returns-in-Generate-clause-done
+returns-in-Generate-clause-done g c =
+    subst (λ (job : Option Job). OnOk c.do_generate.result (DoesJob job (g.D.Desk.told c.args.desk.now) (g.D.Desk.told c.do_generate.new.desk)))
+    (sym (c.in_ok-list.ensures.job ∙ ap (λ (job : Job). Some job) c.in-Generate.is)) c.do_generate.ensures.done
+
+pub returns-in-Generate-clause-leaves : goal.returns-in-Generate-clause-leaves
+returns-in-Generate-clause-leaves g c =
+    subst (λ (job : Option Job). IfErr c.do_generate.result (JobLeaves job (g.D.Desk.told c.args.desk.now) (g.D.Desk.told c.do_generate.new.desk)))
+    (sym (c.in_ok-list.ensures.job ∙ ap (λ (job : Job). Some job) c.in-Generate.is)) c.do_generate.ensures.leaves
