@@ -1,0 +1,2 @@
+//! Placements and routes on a fabric: definitions, and what follows from them.
+#![tactic(auto)]
