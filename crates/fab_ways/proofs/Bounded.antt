@@ -1,22 +1,17 @@
 -- Lower bounds fall by no more than 1 over each edge.
-use Rattle.std.proofs.Common.{◌≡◌, ℕ, ◌+◌, ◌-◌, ◌*◌, ◌/◌, ◌<◌, ◌≤◌, Bool, true, false, not, List, Option, Some, None, is_some, option_map, option_and_then, slice_get, refl, sym, ap, ap₂, ◌∙◌, subst, inl, inr, arith, add-mul}
-use Rattle.std.proofs.lemmas.Bool.{false≢true}
+use Rattle.std.proofs.Common.{◌≡◌, ℕ, ◌+◌, ◌-◌, ◌*◌, ◌/◌, ◌<◌, ◌≤◌, not, Some, sym, ap, ◌∙◌, subst, inl, inr, arith, add-mul}
 use Rattle.std.proofs.lemmas.Nat.{div_below}
 use Rattle.std.proofs.Math.Nat.{lt-div-mul-add}
-use Rattle.std.proofs.lemmas.Option.{same_Some, slice_get-map}
 use Rattle.fab_select.specs.declared.pair.Pair.{Pair}
-use Rattle.fab_model.specs.declared.tiles.WireRow.{WireRow}
-use Rattle.fab_model.specs.Tiles.{IsPair, TileWire, source_bit, tile_wires, is_matrix_output}
-use Rattle.fab_model.specs.Wires.{PlainWire, source_of, dest_of, pin_of, wire_of, plain_wires}
-use Rattle.fab_model.specs.Joins.{RowPlace}
+use Rattle.fab_model.specs.Tiles.{IsPair, is_matrix_output}
+use Rattle.fab_model.specs.Wires.{PlainWire, source_of, dest_of, pin_of}
 use Rattle.fab_model.specs.Cascade.{join_to}
-use Rattle.fab_model.specs.Grid.{PlainFabric, tile_at}
-use Rattle.fab_model.proofs.Wires.{wire_at_number, plain_wires_are_wires}
+use Rattle.fab_model.specs.Grid.{PlainFabric}
 use Rattle.fab_fabric.specs.Fabric.{AreTiles, wires_at, wire_count}
 use Rattle.fab_fabric.specs.Wires.{wire_index, IsIndexOf, row_place, dest_wire, wire_join_to}
 use Rattle.fab_fabric.specs.declared.wire.Wire.{Wire}
 use Rattle.fab_fabric.specs.declared.fabric.joins.RowAt.{RowAt}
-use Rattle.fab_fabric.proofs.Numbered.{index_within, some_place, some_item, wired_within, wires_of_tile, wires_are_named, wire_with_number, number_at, number_of_tile, number_within, wire_within}
+use Rattle.fab_fabric.proofs.Numbered.{index_within, wired_within, wires_of_tile, number_at, number_within, wire_within}
 use Rattle.fab_fabric.proofs.Pairs.{passes_named}
 use Rattle.fab_fabric.proofs.Joined.{join_lands}
 use Rattle.fab_legal.specs.Steps.{IsPaired, IsJoined, IsStep}

@@ -1,13 +1,10 @@
 -- The edges of a wire are the steps of the fabric from it.
-use Rattle.std.proofs.Common.{◌≡◌, ℕ, zero, suc, ◌+◌, ◌-◌, ◌<◌, Bool, true, false, not, if◌then◌else◌, List, [], ◌∷◌, ◌++◌, map, filter, length, get_or, Contains, Option, Some, None, nat_eq, nat_le, nat_lt, option_to_list, option_and_then, slice_get, refl, sym, ap, ◌∙◌, subst, inl, inr, arith, eq-eqb, eqb-true}
-use Rattle.std.specs.List.{flat_map, list_any}
+use Rattle.std.proofs.Common.{◌≡◌, ℕ, ◌+◌, ◌-◌, ◌<◌, Bool, true, false, not, if◌then◌else◌, List, [], ◌∷◌, map, filter, length, get_or, Contains, Option, Some, nat_eq, nat_le, nat_lt, option_to_list, option_and_then, slice_get, refl, sym, ap, ◌∙◌, subst, inl, inr, arith, eq-eqb, eqb-true}
+use Rattle.std.specs.List.{flat_map}
 use Rattle.std.proofs.lemmas.Bool.{cases_Bool, cases_lt, false≢true, le-leb, lt-ltb, lt-leb, le-ltb, and_left, and_right}
-use Rattle.std.proofs.lemmas.Bool.Decides.{Decides-eqb}
 use Rattle.std.proofs.lemmas.Option.{same_Some, slice_get_cases}
 use Rattle.std.proofs.lemmas.List.{length-map}
 use Rattle.fab_select.specs.declared.pair.Pair.{Pair}
-use Rattle.fab_select.specs.Selection.{firsts}
-use Rattle.fab_select.proofs.Firsts.{firsts_all, firsts_hold}
 use Rattle.fab_model.specs.Tiles.{PlainTile, IsTile, IsPair, TileWire, counted, matrix_names, tile_wires, wire_name, wire_passes, is_matrix_output}
 use Rattle.fab_model.specs.Wires.{PlainWire, plain_wires}
 use Rattle.fab_model.specs.Grid.{PlainFabric, tile_at}
@@ -15,8 +12,7 @@ use Rattle.fab_fabric.specs.Fabric.{AreTiles, wires_at}
 use Rattle.fab_fabric.specs.Wires.{wire_index, numbered_wire, wire_join_to}
 use Rattle.fab_fabric.specs.declared.wire.Wire.{Wire}
 use Rattle.fab_fabric.proofs.Numbered.{one_place, some_place, one_wire, some_item, wired_tile, wired_within, wires_of_tile, wires_are_named, wire_with_number}
-use Rattle.fab_netlist.proofs.Members.{in_none, first_or_later, first_in, in_left, in_right, mapped_in, any_gives}
-use Rattle.fab_netlist.proofs.Stepping.{all_of}
+use Rattle.fab_netlist.proofs.Members.{first_in, in_left, in_right, mapped_in}
 use Rattle.fab_legal.specs.Steps.{IsPaired, IsJoined, IsStep}
 use Rattle.fab_legal.proofs.Members.{in_either, from_mapped}
 use Rattle.fab_legal.proofs.Pins.{is_tile_at}

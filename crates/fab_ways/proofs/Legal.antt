@@ -1,6 +1,6 @@
 -- The last trees of a run that leaves no shared wire are legal.
-use Rattle.std.proofs.Common.{◌≡◌, ◌⊎◌, ℕ, ◌+◌, ◌*◌, ◌<◌, ◌≤◌, Bool, true, List, [], ◌∷◌, ◌++◌, map, filter, length, get_or, take, drop, AllPairs, Contains, refl, sym, ap, ◌∙◌, subst, inl, inr, arith, append-nil, mul-le-mul_right, take-append-drop, eqb-true, eq-eqb}
-use Rattle.std.proofs.lemmas.Bool.{cases_Bool, cases_lt, false≢true}
+use Rattle.std.proofs.Common.{◌≡◌, ◌⊎◌, ℕ, ◌+◌, ◌*◌, ◌<◌, ◌≤◌, true, List, [], ◌∷◌, ◌++◌, map, filter, length, get_or, take, drop, AllPairs, Contains, refl, sym, ap, ◌∙◌, subst, inl, inr, arith, append-nil, mul-le-mul_right, take-append-drop, eqb-true, eq-eqb}
+use Rattle.std.proofs.lemmas.Bool.{cases_lt, false≢true}
 use Rattle.std.proofs.lemmas.List.{map-append, drop_more, get_or_default, length-take-le, get_or-take}
 use Rattle.fab_model.specs.Grid.{PlainFabric}
 use Rattle.fab_fabric.specs.Wires.{numbered_wire}
@@ -10,7 +10,7 @@ use Rattle.fab_netlist.specs.declared.net_id.NetId.TheVariants as ids
 use Rattle.fab_netlist.specs.WellMade.{times}
 use Rattle.fab_netlist.specs.Packed.{PlainPacked}
 use Rattle.fab_netlist.specs.Plain.{IsAt}
-use Rattle.fab_netlist.proofs.Members.{in_none, first_or_later, first_in, later_in, in_left, in_right, mapped_in}
+use Rattle.fab_netlist.proofs.Members.{in_none, first_in, in_left, in_right, mapped_in}
 use Rattle.fab_netlist.proofs.Counts.{times_joined, member_counts}
 use Rattle.fab_implementation.specs.Plain.{Edge, Pad, PlainTree, PlainImplementation}
 use Rattle.fab_legal.specs.Turns.{AreRight}
@@ -26,7 +26,7 @@ use Rattle.fab_legal.proofs.Members.{in_either, from_mapped}
 use Rattle.fab_legal.proofs.ReachSearch.{entered_as, entered_wire}
 use Rattle.fab_legal.proofs.SinkLaw.{sinks_are_required, sink_known}
 use Rattle.fab_ways.specs.Placing.{same_net}
-use Rattle.fab_ways.specs.Routing.{Paths, has, AreGrown, wires_of, nets, sinks_of, users, others, negotiated, IsRound, LeavesShared, past_of, Run}
+use Rattle.fab_ways.specs.Routing.{Paths, has, AreGrown, wires_of, nets, sinks_of, others, negotiated, IsRound, LeavesShared, past_of, Run}
 use Rattle.fab_ways.specs.Trees.{edges_of, by_line, trees_of, with_trees}
 use Rattle.fab_ways.specs.Routing.Run.{begins, goes}
 use Rattle.fab_ways.specs.Laws.{UnsharedIsLegal, MappingIsLegal}

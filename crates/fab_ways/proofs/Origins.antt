@@ -17,7 +17,7 @@ use Rattle.fab_fabric.specs.declared.wire.Wire.{Wire}
 use Rattle.fab_fabric.specs.declared.fabric.joins.RowAt.{RowAt}
 use Rattle.fab_fabric.proofs.Numbered.{one_place, some_place, one_wire, some_item, wired_tile, wires_of_tile, wires_are_named, wire_with_number}
 use Rattle.fab_fabric.proofs.Joined.{are_rows, join_lands, join_departs}
-use Rattle.fab_netlist.proofs.Members.{in_none, first_or_later, first_in, in_left, in_right, mapped_in}
+use Rattle.fab_netlist.proofs.Members.{first_in, in_left, in_right, mapped_in}
 use Rattle.fab_legal.specs.Steps.{IsPaired, IsJoined, IsStep}
 use Rattle.fab_legal.proofs.Members.{in_either, from_mapped}
 use Rattle.fab_ways.specs.Edges.{outputs_of, swapped, turned_pairs, wire_at, join_before, origins_in, origins_at, origins}
