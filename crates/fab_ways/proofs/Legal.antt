@@ -56,7 +56,7 @@ last_round fabric packed i {rounds} {last} (goes {rounds = before} {old = old} n
 
 -- ---- tests of nets
 
-same_net_is : (a b : NetId) → same_net a b ≡ true → a ≡ b
+pub same_net_is : (a b : NetId) → same_net a b ≡ true → a ≡ b
 same_net_is ids.Zero ids.Zero e = refl
 same_net_is ids.Zero ids.One e = absurd (false≢true e)
 same_net_is ids.Zero (ids.In k) e = absurd (false≢true e)
