@@ -25,7 +25,8 @@ use Rattle.fab_ways.specs.Routing.{Path, MayBegin, Walk, IsRound, Run, LeavesSha
 use Rattle.fab_ways.specs.Routing.Run.{begins, goes}
 use Rattle.fab_nodes.specs.Nodes.{Numbering, AreNodes}
 use Rattle.fab_nodes.specs.Nets.{AreGoals, AreNets, wire_paths, wire_trees, net_sinks}
-use Rattle.fab_nodes.specs.Laws.{NodeRunsAreRuns, CutOffHasNoWalk}
+use Rattle.fab_ways.proofs.Legal.{unshared_is_legal}
+use Rattle.fab_nodes.specs.Laws.{NodeRunsAreRuns, UnsharedNodesAreLegal, CutOffHasNoWalk}
 use Rattle.fab_nodes.proofs.Trees.{IsWireTree, no_wires, ArePins, grown_tree}
 use Rattle.fab_nodes.proofs.WalkLaw.{ArePrices, are_grown, comes_over}
 use Rattle.fab_nodes.proofs.Users.{take_trees, drop_trees, AreWireTrees, take_are, drop_are, all_are, none_are, node_users, output_users, HaveWires, node_past, output_past, used_low, IsNodeWire, as_input, as_output, shared_kind}
@@ -220,6 +221,13 @@ node_runs_are_runs fabric packed placement graph numbering node_nets all last ti
         shared_wire fabric packed placement graph numbering node_nets tiles made placed nodes are last wired_run.last_is,
       ),
     )
+
+pub unshared_nodes_are_legal : UnsharedNodesAreLegal
+unshared_nodes_are_legal fabric packed fixed placement graph numbering node_nets all last tiles made placed constraints nodes are run some unshared =
+    let both = node_runs_are_runs fabric packed placement graph numbering node_nets all last tiles made placed nodes are run in
+    let sinks = net_sinks fabric packed placement in
+    unshared_is_legal fabric packed fixed placement (map (wire_trees numbering sinks) all) (wire_trees numbering sinks last) made placed constraints both.0
+    (omega (arith, some, length-map all (wire_trees numbering sinks))) (λ shared. unshared (both.1.0 shared))
 
 -- the goals of a sink at a place
 goals_at : (fabric : PlainFabric) (graph : Graph) (numbering : Numbering) (sinks : List ℕ) (goals : List (List ℕ)) → AreGoals fabric graph numbering sinks goals → (place sink : ℕ) → IsAt sinks place sink →

@@ -1,17 +1,19 @@
 -- What routing over nodes says of routing over wires.
-use Rattle.std.specs.Prelude.{◌≡◌, ◌↔◌, ℕ, ◌+◌, ◌<◌, ◌≤◌, List, [], map, Contains}
+use Rattle.std.specs.Prelude.{◌≡◌, ◌↔◌, ℕ, ◌+◌, ◌<◌, ◌≤◌, List, [], map, Contains, length}
 use Rattle.fab_model.specs.Grid.{PlainFabric}
 use Rattle.fab_fabric.specs.Fabric.{AreTiles}
 use Rattle.fab_netlist.specs.declared.net_id.NetId.{NetId}
 use Rattle.fab_netlist.specs.Plain.{IsAt}
 use Rattle.fab_netlist.specs.Packed.{PlainPacked}
-use Rattle.fab_implementation.specs.Plain.{PlainImplementation}
+use Rattle.fab_implementation.specs.Plain.{Pad, PlainImplementation}
 use Rattle.fab_legal.specs.WellMade.{IsWellMadePacked}
-use Rattle.fab_legal.specs.Legal.{ArePlaced}
+use Rattle.fab_legal.specs.Lines.{ConstraintsHold}
+use Rattle.fab_legal.specs.Legal.{ArePlaced, IsLegal}
 use Rattle.fab_legal.specs.Sinks.{packed_net}
 use Rattle.fab_search.specs.Walks.{Graph}
 use Rattle.fab_rounds.specs.Rounds as rounds
 use Rattle.fab_ways.specs.Routing.{Path, Paths, Walk, MayBegin, Run, LeavesShared, nets, sinks_of}
+use Rattle.fab_ways.specs.Trees.{trees_of, with_trees}
 use Rattle.fab_nodes.specs.Nodes.{Numbering, AreNodes}
 use Rattle.fab_nodes.specs.Nets.{AreNets, wire_trees, net_sinks}
 use Rattle.fab_nodes.specs.Tables.{Places, AreWithin, Hop, HasHops, left_to, IsTested, IsLowAtGoals}
@@ -25,6 +27,16 @@ NodeRunsAreRuns =
     AreNodes fabric graph numbering → AreNets fabric packed placement graph numbering node_nets → rounds.Run graph node_nets all last →
     Run fabric packed placement (map (wire_trees numbering (net_sinks fabric packed placement)) all) (wire_trees numbering (net_sinks fabric packed placement) last)
     × (LeavesShared (wire_trees numbering (net_sinks fabric packed placement) last) ↔ rounds.LeavesShared last)
+
+-- so where no node is shared, the trees of wires are legal on a placement that keeps the rules of sites
+abbrev pub UnsharedNodesAreLegal : Type 0
+UnsharedNodesAreLegal =
+    (fabric : PlainFabric) (packed : PlainPacked) (fixed : List Pad) (placement : PlainImplementation) (graph : Graph) (numbering : Numbering) (node_nets : List rounds.Net)
+    (all : List (List Paths)) (last : List Paths) →
+    AreTiles fabric → IsWellMadePacked packed → ArePlaced fabric packed placement → ConstraintsHold fixed placement →
+    AreNodes fabric graph numbering → AreNets fabric packed placement graph numbering node_nets → rounds.Run graph node_nets all last →
+    0 < length all → (rounds.LeavesShared last → ⊥) →
+    IsLegal fabric packed fixed (with_trees placement (trees_of packed placement (wire_trees numbering (net_sinks fabric packed placement) last)))
 
 -- a sink that is cut off from the roots of its net over the nodes is cut off over the wires
 abbrev pub CutOffHasNoWalk : Type 0
