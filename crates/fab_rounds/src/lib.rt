@@ -1,2 +1,12 @@
-//! Rounds of nets over a graph.
+//! Negotiated rounds over a graph of nodes: nets grow trees by walks of least price, at prices that rise where trees share nodes.
 #![tactic(auto)]
+
+mod counts;
+mod grow;
+mod net;
+mod round;
+mod tree;
+
+pub use net::{CutOff, Net, Sink};
+pub use round::run_round;
+pub use tree::{Round, Tree};

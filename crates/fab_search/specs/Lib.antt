@@ -1,1 +1,5 @@
 pub mod Walks
+pub mod Queue
+pub mod Scene
+pub mod State
+pub mod Tables

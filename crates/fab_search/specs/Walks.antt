@@ -1,5 +1,5 @@
 -- Walks in a graph, what they pay, and which are least.
-use Rattle.std.specs.Prelude.{◌≡◌, ℕ, ◌+◌, ◌*◌, ◌≤◌, Bool, false, nat_eq, if◌then◌else◌, List, [], ◌∷◌}
+use Rattle.std.specs.Prelude.{◌≡◌, ℕ, ◌+◌, ◌*◌, ◌≤◌, Bool, false, nat_eq, if◌then◌else◌, List, [], ◌∷◌, ◌++◌}
 use Rattle.std.specs.List.{Contains, list_any}
 
 -- a graph on the numbers below a bound
@@ -34,3 +34,9 @@ pub record IsLeastTo (graph : Graph) (tree starts : List ℕ) (price : ℕ → �
 -- no walk comes to a goal
 abbrev pub HasNoWalk : Graph → (tree starts goals : List ℕ) → Type 0
 HasNoWalk graph tree starts goals = (goal : ℕ) (path : List ℕ) → Contains goals goal → Walk graph tree starts goal path → ⊥
+
+-- a tree grows by a least walk to one of the goals
+pub record AddsLeast (graph : Graph) (roots : List ℕ) (price : ℕ → ℕ) (goals old new : List ℕ) : Type 0 where
+  pub path : List ℕ
+  pub is : new ≡ old ++ path
+  pub least : IsLeastTo graph old (old ++ roots) price goals path

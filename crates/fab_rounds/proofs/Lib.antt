@@ -1,0 +1,5 @@
+pub mod Parts
+pub mod Grown
+pub mod Counting
+pub mod Sinks
+pub mod Passes

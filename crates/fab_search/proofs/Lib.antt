@@ -1,0 +1,17 @@
+pub mod Far
+pub mod Near
+pub mod Queues
+pub mod Members
+pub mod Reading
+pub mod Noting
+pub mod Taking
+pub mod Offering
+pub mod Settling
+pub mod Paying
+pub mod Least
+pub mod Seeding
+pub mod Relaxing
+pub mod Turning
+pub mod Noted
+pub mod Keeping
+pub mod Finding
