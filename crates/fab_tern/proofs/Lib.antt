@@ -1,0 +1,4 @@
+pub mod Known
+pub mod Picks
+pub mod Drivers
+pub mod Ranks

@@ -1,0 +1,5 @@
+pub mod Operators
+pub mod Values
+pub mod Shown
+pub mod Laws
+pub mod Ranks
