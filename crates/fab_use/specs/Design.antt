@@ -95,10 +95,13 @@ pub data IsPadPoint (fabric : PlainFabric) (implementation : PlainImplementation
 
 -- ---- all of them
 
--- those that have names
+-- those that the implementation uses beside the configuration
+abbrev pub IsSourced : PlainFabric → PlainPacked → PlainImplementation → Point → Type 0
+IsSourced fabric packed implementation p = IsRoutePoint fabric implementation p ⊎ (IsCellPoint packed implementation p ⊎ IsPadPoint fabric implementation p)
+
+-- all that have names
 abbrev pub IsOfDesign : PlainFabric → PlainPacked → PlainImplementation → Point → Type 0
-IsOfDesign fabric packed implementation p =
-    IsConfigurationPoint fabric p ⊎ (IsRoutePoint fabric implementation p ⊎ (IsCellPoint packed implementation p ⊎ IsPadPoint fabric implementation p))
+IsOfDesign fabric packed implementation p = IsConfigurationPoint fabric p ⊎ IsSourced fabric packed implementation p
 
 -- and all loading points, of which the inner ones of the loader have the names that its text gives them
 abbrev pub IsDesignPoint : PlainFabric → List PlainModule → PlainPacked → PlainImplementation → Point → Type 0
