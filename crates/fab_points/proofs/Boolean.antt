@@ -1,24 +1,18 @@
 -- Where what a source reads is known, so is what it gives; and so settled points have the values of their sources.
-use Rattle.std.proofs.Common.{◌≡◌, ℕ, suc, ◌^◌, ◌<◌, ◌≤◌, Bool, true, false, not, List, [], ◌∷◌, length, map, refl, sym, ap, ◌∙◌, arith, Contains, lt-ltb, pow_mono, if◌then◌else◌}
-use Rattle.std.proofs.lemmas.Bool.{or_left, or_right}
+use Rattle.std.proofs.Common.{◌≡◌, suc, ◌^◌, ◌<◌, ◌≤◌, Bool, true, false, not, List, [], ◌∷◌, length, map, refl, sym, ap, ◌∙◌, arith, Contains, pow_mono}
 use Rattle.fab_bits.specs.Bits.{number, first_bits}
 use Rattle.fab_bits.proofs.Numbers.{get_first_bits}
 use Rattle.fab_systems.specs.Ternary.{Tern, no, yes, unknown, known}
-use Rattle.fab_syntax.specs.Plain.{PlainExpr, PlainModule}
-use Rattle.fab_syntax.specs.Declarations.{width_in}
-use Rattle.fab_meaning.specs.Points.{Path, Point, point, Driver, outside, copy, bit_of, flop, hold, Drives, module_at}
-use Rattle.fab_meaning.specs.Settled.{Assignment, IsSettledOn, names_at, shown}
-use Rattle.fab_meaning.specs.Value.{value, bit_at}
-use Rattle.fab_meaning.specs.Reads.{reads, expression_reads, is_declared}
+use Rattle.fab_syntax.specs.Plain.{PlainModule}
+use Rattle.fab_meaning.specs.Points.{Point, Driver, Drives}
+use Rattle.fab_meaning.specs.Settled.{Assignment, IsSettledOn, shown}
 use Rattle.fab_meaning.specs.Sound.{HasOneDriver}
-use Rattle.fab_meaning.proofs.Dependence.{same_path_refl, same_point_refl}
 use Rattle.fab_netlist.specs.WellMade.{table_bit}
-use Rattle.fab_tern.specs.Operators.{tern_at, inverse, entry}
-use Rattle.fab_tern.specs.Values.{tern_value}
-use Rattle.fab_tern.proofs.Known.{known_at, known_value, known_entry}
+use Rattle.fab_tern.specs.Operators.{inverse, entry}
+use Rattle.fab_tern.proofs.Known.{known_entry}
 use Rattle.fab_use.specs.Sources as sources
 use Rattle.fab_use.specs.Sources.{Source, source_value, source_reads}
-use Rattle.fab_tern.specs.Shown.{Terns, tern_names, through, tern_shown}
+use Rattle.fab_tern.specs.Shown.{Terns}
 use Rattle.fab_points.specs.Shown.{table_terns, tern_source, Shown}
 use Rattle.fab_tern.proofs.Drivers.{driver_known}
 use Rattle.fab_points.proofs.Entries.{number_small}

@@ -1,5 +1,5 @@
 -- Destination bits of rows, and the way of a border bit from tile to tile.
-use Rattle.std.proofs.Common.{◌≡◌, ℕ, ◌+◌, ◌-◌, ◌<◌, ◌≤◌, true, false, List, [], ◌∷◌, slice_get, refl, sym, ap, ◌∙◌, subst, arith, Option, Some, None, Contains}
+use Rattle.std.proofs.Common.{◌≡◌, ℕ, ◌+◌, ◌-◌, ◌<◌, ◌≤◌, true, false, List, [], ◌∷◌, slice_get, refl, sym, ap, ◌∙◌, subst, arith, Some, Contains}
 use Rattle.std.proofs.lemmas.List.Elements.{All-contains}
 use Rattle.fab_syntax.specs.Plain.{PlainExpr, variable, constant, assign, PlainModule}
 use Rattle.fab_meaning.specs.Points.{Path, point, bit_of}
@@ -8,10 +8,9 @@ use Rattle.fab_model.specs.declared.tiles.WireRow.{WireRow}
 use Rattle.fab_model.specs.Rows.{is_jump, is_named, border_bits, source_bits, dest_bits, bit_name, IsWireRow}
 use Rattle.fab_model.specs.Tiles.{PlainTile, IsTile}
 use Rattle.fab_model.specs.Grid.{PlainFabric, AreRows}
-use Rattle.fab_model.specs.Cascade.{PlacedRow, previous_row, passing_bits, opposite}
-use Rattle.fab_model.specs.Joins.{comes, goes}
+use Rattle.fab_model.specs.Cascade.{PlacedRow, previous_row, passing_bits}
 use Rattle.fab_model.specs.Wires.{PlainWire, source_of, dest_of, IsWire}
-use Rattle.fab_model.proofs.Crossings.{IsPlaced, standing_is_wire_row, partner_is, goes_from}
+use Rattle.fab_model.proofs.Crossings.{IsPlaced}
 use Rattle.fab_fabric.specs.Names.{place_name}
 use Rattle.fab_gen_tile.specs.Names.{tile_module_name, begin_name, end_name}
 use Rattle.fab_gen_tile.specs.Borders.{side_border, fixed_bit, dest_value}
@@ -23,7 +22,7 @@ use Rattle.fab_tile_drives.proofs.Members.{contains_at}
 use Rattle.fab_tile_drives.proofs.TileNames.{name_wide, end_wide}
 use Rattle.fab_tile_drives.proofs.TileItems.{assign_there}
 use Rattle.fab_tile_drives.proofs.WireNames.{name_there, source_name, dest_name, source_exists}
-use Rattle.fab_tile_drives.proofs.BorderBits.{dest_within, source_within, passing_within, beginning_within, passing_there, beginning_there, dest_there, jump_source}
+use Rattle.fab_tile_drives.proofs.BorderBits.{dest_within, passing_within, beginning_within, passing_there, beginning_there, dest_there, jump_source}
 use Rattle.fab_drives.proofs.Places.{placed_tile}
 use Rattle.fab_drives.proofs.Instances.{tile_instance_there}
 use Rattle.fab_drives.proofs.Texts.{HasFabric}

@@ -3,7 +3,7 @@ use Rattle.std.proofs.Common.{◌≡◌, ℕ, ◌<◌, true, false, List, [], �
 use Rattle.std.specs.List.{flat_map, enumerate_from}
 use Rattle.std.specs.Option.{option_map_or}
 use Rattle.std.proofs.lemmas.Bool.{cases_Bool}
-use Rattle.std.proofs.lemmas.List.Elements.{All-cons, All-append, All-map, All-weaker, Contains-append_right, Contains-append_cases}
+use Rattle.std.proofs.lemmas.List.Elements.{All-cons, All-append, All-map, All-weaker, Contains-append_right}
 use Rattle.fab_kinds.specs.declared.kind.Kind.{Kind}
 use Rattle.fab_kinds.specs.declared.kind.Kind.TheVariants as kinds
 use Rattle.fab_kinds.specs.Pins.{input_names, pin_names}
@@ -16,14 +16,11 @@ use Rattle.fab_meaning.proofs.Modules.{each_all}
 use Rattle.fab_matrix.specs.Matrix.{scalar}
 use Rattle.fab_model.specs.declared.tiles.WireRow.{WireRow}
 use Rattle.fab_model.specs.declared.tiles.Bel.{Bel}
-use Rattle.fab_model.specs.Rows.{is_jump}
 use Rattle.fab_model.specs.Tiles.{PlainTile, wire_name, is_matrix_output, IsTile}
-use Rattle.fab_model.specs.Wires.{PlainWire, dest_of, pin_of, pin_count, wire_number, IsWire, IsMatrixOutput}
+use Rattle.fab_model.specs.Wires.{PlainWire, dest_of, pin_of, pin_count, wire_number, IsWire}
 use Rattle.fab_model.specs.Grid.{PlainFabric, tile_at, AreRows, AllRows}
 use Rattle.fab_model.specs.Cascade.{PlacedRow, previous_row}
-use Rattle.fab_model.specs.Joins.{comes}
 use Rattle.fab_model.proofs.Wires.{wire_at_number}
-use Rattle.fab_model.proofs.Crossings.{IsPlaced}
 use Rattle.fab_fabric.specs.Fabric.{AreTiles}
 use Rattle.fab_fabric.specs.declared.wire.Site.{Site}
 use Rattle.fab_netlist.specs.Packed.{PlainCell, PlainPacked}
@@ -33,7 +30,7 @@ use Rattle.fab_legal.specs.Legal.{IsLegal}
 use Rattle.fab_prim.specs.Ports.{top_name, top_inputs, top_outputs}
 use Rattle.fab_prim.specs.Modules.{flip_flop_name, module_of_kind}
 use Rattle.fab_gen_tile.specs.Names.{begin_name, end_name, pad_name, vector, matrix_instance_name}
-use Rattle.fab_gen_tile.specs.Borders.{side_border, border_ports}
+use Rattle.fab_gen_tile.specs.Borders.{border_ports}
 use Rattle.fab_gen_tile.specs.ConfigModule.{frame_ports}
 use Rattle.fab_gen_tile.specs.TileModule.{is_on_side, pad_ports, bels_ports, tile_ports, tile_items, tile_module, matrix_inputs, matrix_outputs}
 use Rattle.fab_gen_tile.specs.MatrixModule.{matrix_module, numbered_outputs}
@@ -66,10 +63,7 @@ use Rattle.fab_points.proofs.Bels.{bel_stands}
 use Rattle.fab_points.proofs.Pads.{all_border_ports, all_pad_ports, outside_port}
 use Rattle.fab_systems.specs.Ternary.{no}
 use Rattle.fab_meaning.specs.Settled.{Assignment}
-use Rattle.fab_model.proofs.Crossings.{placed, standing_is_wire_row}
-use Rattle.fab_fabric.specs.Wires.{row_place}
-use Rattle.fab_legal.specs.Lines.{IsCell, IsInput, IsOutput}
-use Rattle.fab_tile_drives.proofs.BorderBits.{dest_within, passing_within}
+use Rattle.fab_model.proofs.Crossings.{placed}
 use Rattle.fab_tern.specs.Shown.{Terns}
 use Rattle.fab_points.proofs.Ways.{row_before, way_comes}
 use Rattle.fab_points.proofs.Places.{tree_wire, index_wire, outputs_there, SiteBel, site_tile, site_bel, cell_kind, in_kind, out_kind, pad_kind}

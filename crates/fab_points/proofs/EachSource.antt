@@ -1,6 +1,6 @@
 -- Each design point shows its source.
-use Rattle.std.proofs.Common.{◌≡◌, ℕ, ◌<◌, false, ◌&&◌, List, ◌++◌, codes, length, refl, sym, ap, ◌∙◌, subst, inl, inr, arith, Option, Some, None, is_some, slice_get, nat_eq, Contains, lt-ltb}
-use Rattle.std.proofs.lemmas.List.Elements.{All-contains, Contains-append_cases}
+use Rattle.std.proofs.Common.{◌≡◌, ℕ, ◌<◌, false, ◌&&◌, List, codes, length, refl, sym, ap, ◌∙◌, subst, arith, Option, Some, None, is_some, slice_get, nat_eq, Contains, lt-ltb}
+use Rattle.std.proofs.lemmas.List.Elements.{All-contains}
 use Rattle.fab_kinds.specs.declared.kind.Kind.TheVariants as kinds
 use Rattle.fab_kinds.specs.Pins.{input_names, output_names, pin_names, bit_count}
 use Rattle.fab_systems.specs.Ternary.{known}
@@ -12,8 +12,7 @@ use Rattle.fab_model.specs.Tiles.{PlainTile, IsTile}
 use Rattle.fab_model.specs.Wires.{dest_of}
 use Rattle.fab_model.specs.Grid.{PlainFabric, tile_at, AreRows, AllRows}
 use Rattle.fab_model.specs.Drive.{PlainBits}
-use Rattle.fab_model.specs.Cascade.{PlacedRow, placed_row, previous_row}
-use Rattle.fab_model.proofs.Crossings.{IsPlaced, placed, standing_is_wire_row}
+use Rattle.fab_model.specs.Cascade.{PlacedRow, placed_row}
 use Rattle.std.proofs.lemmas.List.Elements.{All-weaker}
 use Rattle.fab_fabric.specs.Wires.{row_place}
 use Rattle.fab_fabric.specs.Fabric.{IsFabric, AreTiles}
@@ -23,11 +22,9 @@ use Rattle.fab_netlist.specs.Packed.{PlainCell, PlainPacked}
 use Rattle.fab_implementation.specs.Plain.{Pad, PlainImplementation}
 use Rattle.fab_implementation.specs.OnFabric.{kind_at}
 use Rattle.fab_legal.specs.WellMade.{IsWellMadeCell, IsWellMadePacked}
-use Rattle.fab_legal.specs.Lines.{IsCell, IsInput, IsOutput}
 use Rattle.fab_legal.specs.Legal.{IsLegal}
 use Rattle.fab_prim.specs.Ports.{config_name, top_name, top_inputs, top_outputs}
 use Rattle.fab_prim.specs.Modules.{flip_flop_name, module_of_kind}
-use Rattle.fab_gen_tile.specs.Borders.{side_border}
 use Rattle.fab_gen_loader.specs.Loader.{loader_of}
 use Rattle.fab_fabric_text.specs.Text.{fabric_text}
 use Rattle.fab_tile_drives.specs.Stands.{bel_path, wire_point}
@@ -41,7 +38,7 @@ use Rattle.fab_use.specs.Design.{IsTreeWire, IsBound}
 use Rattle.fab_use.specs.Configuring.{Configures, cell_bit}
 use Rattle.fab_use.specs.Sources as sources
 use Rattle.fab_use.specs.Sources.{Source, HasSource, index_points, output_source}
-use Rattle.fab_use.specs.Ways.{IsTreeWay, end_port}
+use Rattle.fab_use.specs.Ways.{end_port}
 use Rattle.fab_tern.specs.Shown.{Terns}
 use Rattle.fab_points.specs.Shown.{Shown}
 use Rattle.fab_points.specs.Known.{KnowsBits}

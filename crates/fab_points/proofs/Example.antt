@@ -1,5 +1,5 @@
 -- A small design keeps all that the laws ask for.
-use Rattle.std.proofs.Common.{◌≡◌, ◌≢◌, ◌⊎◌, ℕ, zero, suc, ◌+◌, ◌%◌, ◌/◌, ◌^◌, ◌<◌, ◌≤◌, Bool, true, false, List, [], ◌∷◌, codes, length, take, get_or, refl, sym, ap, ◌∙◌, subst, inl, inr, arith, Option, Some, None, nat_eq, nat_lt, All, AllPairs, Contains, if◌then◌else◌}
+use Rattle.std.proofs.Common.{◌≡◌, ◌⊎◌, ℕ, zero, suc, ◌%◌, ◌^◌, ◌<◌, Bool, true, false, List, [], ◌∷◌, codes, length, take, get_or, refl, sym, ap, ◌∙◌, subst, inl, inr, arith, Some, None, nat_eq, nat_lt, All, Contains, if◌then◌else◌}
 use Rattle.std.specs.Str.{bytes_eq}
 use Rattle.std.proofs.Math.Nat.{zero-div}
 use Rattle.std.proofs.lemmas.Bool.{cases_Bool}

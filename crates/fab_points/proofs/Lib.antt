@@ -13,6 +13,7 @@ pub mod Loading
 pub mod Origins
 pub mod Covers
 pub mod ReadPoints
+pub mod Sourced
 pub mod Declares
 pub mod Configuration
 pub mod Configured

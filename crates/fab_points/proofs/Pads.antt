@@ -1,5 +1,5 @@
 -- What comes to pads from the top, and what goes from them to the top.
-use Rattle.std.proofs.Common.{◌≡◌, ◌≢◌, ◌⊎◌, ℕ, ◌<◌, Bool, true, false, List, [], ◌∷◌, ◌++◌, codes, map, get_or, slice_get, refl, sym, ap, ◌∙◌, subst, inl, inr, arith, Some, All, Contains}
+use Rattle.std.proofs.Common.{◌≡◌, ◌≢◌, ◌⊎◌, ℕ, true, false, List, [], ◌∷◌, ◌++◌, codes, map, get_or, slice_get, refl, sym, ap, ◌∙◌, subst, inl, inr, arith, Some, All, Contains}
 use Rattle.std.specs.List.{flat_map, enumerate_from}
 use Rattle.std.proofs.lemmas.List.Elements.{All-nil, All-cons, All-append, All-contains, Contains-append_left, Contains-append_right, Contains-get_or}
 use Rattle.fab_kinds.specs.declared.kind.Kind.{Kind}

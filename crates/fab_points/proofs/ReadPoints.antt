@@ -1,5 +1,5 @@
 -- Pad points have sources, and what a source reads is a design point.
-use Rattle.std.proofs.Common.{◌≡◌, ◌⊎◌, ℕ, zero, suc, ◌+◌, ◌-◌, ◌<◌, ◌≤◌, true, false, List, [], ◌∷◌, ◌++◌, codes, length, map, take, drop, get_or, refl, sym, ap, ◌∙◌, subst, inl, inr, arith, Option, Some, None, is_some, slice_get, All, Contains, if◌then◌else◌}
+use Rattle.std.proofs.Common.{◌≡◌, ◌⊎◌, ℕ, zero, suc, ◌+◌, ◌-◌, ◌<◌, ◌≤◌, true, List, [], ◌∷◌, ◌++◌, codes, length, map, take, drop, get_or, refl, sym, ap, ◌∙◌, subst, inl, inr, arith, Option, Some, None, is_some, slice_get, All, Contains, if◌then◌else◌}
 use Rattle.std.proofs.lemmas.Bool.{false≢true, lt-ltb, le-ltb}
 use Rattle.std.proofs.lemmas.List.{get_or_default}
 use Rattle.std.proofs.lemmas.List.Elements.{All-nil, All-cons, All-contains, Contains-append_left, Contains-append_right, Contains-append_cases}
@@ -10,7 +10,7 @@ use Rattle.fab_meaning.proofs.Modules.{each_all}
 use Rattle.fab_model.specs.declared.tiles.WireRow.{WireRow}
 use Rattle.fab_model.specs.Rows.{is_jump, is_named, border_bits}
 use Rattle.fab_model.specs.Tiles.{PlainTile}
-use Rattle.fab_model.specs.Wires.{PlainWire, source_of, dest_of, pin_of, IsMatrixOutput}
+use Rattle.fab_model.specs.Wires.{PlainWire, source_of, dest_of, pin_of}
 use Rattle.fab_model.specs.Grid.{PlainFabric, tile_at}
 use Rattle.fab_model.specs.Joins.{RowPlace}
 use Rattle.fab_model.specs.Cascade.{PlacedRow, placed_row, previous_row, passing_bits, walk_from, join_from, row_join_from}
@@ -21,11 +21,10 @@ use Rattle.fab_fabric.specs.Wires.{IsIndexOf, row_place}
 use Rattle.fab_fabric.specs.declared.wire.Site.{Site}
 use Rattle.fab_netlist.specs.declared.net_id.NetId.TheVariants as ids
 use Rattle.fab_netlist.specs.Packed.{PlainCell, PlainPacked}
-use Rattle.fab_implementation.specs.Plain.{Edge, Pad, PlainTree, PlainImplementation}
-use Rattle.fab_implementation.specs.OnFabric.{kind_at}
-use Rattle.fab_legal.specs.Lines.{IsCell, IsInput, IsOutput}
+use Rattle.fab_implementation.specs.Plain.{Pad, PlainImplementation}
+use Rattle.fab_legal.specs.Lines.{IsOutput}
 use Rattle.fab_legal.specs.WellMade.{IsWellMadeCell, IsWellMadePacked, output_name}
-use Rattle.fab_legal.specs.Nets.{Net, zero_net, one_net, net_of, left_wires, entered_wires}
+use Rattle.fab_legal.specs.Nets.{Net, zero_net, one_net}
 use Rattle.fab_legal.specs.Sinks.{Required, packed_net, cell_input, latch_enable, latch_reset, output_shown}
 use Rattle.fab_legal.specs.Steps.{pin_wire}
 use Rattle.fab_legal.specs.Legal.{IsLegal}
@@ -33,25 +32,16 @@ use Rattle.fab_legal.proofs.Members.{from_mapped}
 use Rattle.fab_legal.proofs.Once.{known_thing}
 use Rattle.fab_prim.specs.Ports.{top_name}
 use Rattle.fab_prim.specs.Modules.{flip_flop_name}
-use Rattle.fab_gen_tile.specs.TileModule.{matrix_outputs}
-use Rattle.fab_tile_drives.proofs.Members.{contains_at, contains_map}
+use Rattle.fab_tile_drives.proofs.Members.{contains_at}
 use Rattle.fab_drives.specs.Points.{end_bit, wire_between, begin_bit, before}
 use Rattle.fab_use.specs.Design as design
-use Rattle.fab_use.specs.Sites.{site_path, bel_point, port_point, top_point, pin_point}
+use Rattle.fab_use.specs.Sites.{bel_point, port_point, top_point, pin_point}
 use Rattle.fab_use.specs.Design.{IsTreeWire, IsRoutePoint, IsBound, required_pins, IsCellPoint, input_pad, output_pad, IsPadPoint}
 use Rattle.fab_use.specs.Ways as ways
 use Rattle.fab_use.specs.Sources as sources
 use Rattle.fab_use.specs.Sources.{Source, source_reads, HasSource, index_points, output_source}
 use Rattle.fab_use.specs.Ways.{Passes, IsTreeWay, end_port}
-use Rattle.std.specs.Option.{option_map_or, option_and_then}
-use Rattle.fab_model.specs.Tiles.{is_matrix_output}
-use Rattle.fab_model.specs.Cascade.{opposite}
-use Rattle.fab_model.specs.Joins.{comes, goes}
-use Rattle.fab_model.specs.Wires.{wire_number, IsWire}
-use Rattle.fab_model.proofs.Wires.{wire_at_number}
-use Rattle.fab_model.proofs.Crossings.{partner_is}
-use Rattle.fab_tile_drives.proofs.WireNames.{at_number}
-use Rattle.fab_tile_drives.proofs.MatrixPorts.{side_there}
+use Rattle.std.specs.Option.{option_and_then}
 use Rattle.fab_points.proofs.Places.{index_wire, tree_wire, dest_few, outputs_there, site_tile, cell_kind, in_kind, out_kind, left_tree}
 use Rattle.fab_points.proofs.Ways.{before_placed}
 use Rattle.fab_points.proofs.Covers.{way_through, tree_sourced, dest_join, way_walk, required_tree, in_turned, out_turned}
@@ -255,7 +245,7 @@ module _ (fabric : PlainFabric) (packed : PlainPacked) (fixed : List Pad) (imple
       required_tree fabric packed fixed implementation are legal (packed_net packed net) site kinds.Lut4c pin tile
       (cell_input bound.listed bound.cell_is (few, get_or_default cell.inputs pin net ids.Zero few)) (cell_kind fabric packed fixed implementation legal number site cell bound) (omega arith) there
 
-  used_pin : (number : ℕ) (site : Site) (cell : PlainCell) (k : ℕ) (name : List ℕ) → IsBound packed implementation number site cell → k < length cell.inputs → slice_get (input_names kinds.Lut4c) k ≡ Some name →
+  pub used_pin : (number : ℕ) (site : Site) (cell : PlainCell) (k : ℕ) (name : List ℕ) → IsBound packed implementation number site cell → k < length cell.inputs → slice_get (input_names kinds.Lut4c) k ≡ Some name →
       Has (bel_point site name)
   used_pin number site cell k name bound few is =
       cell_point (bel_point site name) (design.at_pin bound
@@ -283,19 +273,19 @@ module _ (fabric : PlainFabric) (packed : PlainPacked) (fixed : List Pad) (imple
 
   -- ---- pads
 
-  in_pad : (port : List ℕ) (site : Site) (k : ℕ) (p : Point) → Contains implementation.ins (port, site) →
+  pub in_pad : (port : List ℕ) (site : Site) (k : ℕ) (p : Point) → Contains implementation.ins (port, site) →
       ((tile : PlainTile) → slice_get (input_pad tile site) k ≡ Some p) → Has p
   in_pad port site k p listed is =
       let at = in_tile port site listed in
       pad_point p (design.of_input listed at.1 (contains_at (input_pad at.0 site) k p (is at.0)))
 
-  out_pad : (port : List ℕ) (site : Site) (k : ℕ) (p : Point) → Contains implementation.outs (port, site) →
+  pub out_pad : (port : List ℕ) (site : Site) (k : ℕ) (p : Point) → Contains implementation.outs (port, site) →
       ((tile : PlainTile) → slice_get (output_pad tile site) k ≡ Some p) → Has p
   out_pad port site k p listed is =
       let at = out_tile port site listed in
       pad_point p (design.of_output listed at.1 (contains_at (output_pad at.0 site) k p (is at.0)))
 
-  either_pad : (port : List ℕ) (site : Site) (j k : ℕ) (p : Point) → Contains (implementation.ins ++ implementation.outs) (port, site) →
+  pub either_pad : (port : List ℕ) (site : Site) (j k : ℕ) (p : Point) → Contains (implementation.ins ++ implementation.outs) (port, site) →
       ((tile : PlainTile) → slice_get (input_pad tile site) j ≡ Some p) → ((tile : PlainTile) → slice_get (output_pad tile site) k ≡ Some p) → Has p
   either_pad port site j k p listed in_is out_is =
       elim (Contains-append_cases implementation.ins implementation.outs (port, site) listed) [

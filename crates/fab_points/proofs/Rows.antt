@@ -2,7 +2,7 @@
 use Rattle.std.proofs.Common.{◌≡◌, ◌⊎◌, ℕ, zero, suc, ◌+◌, ◌<◌, ◌≤◌, false, List, [], ◌∷◌, ◌++◌, codes, length, map, get_or, refl, sym, ap, ◌∙◌, subst, inl, inr, arith, Option, Some, None, All, Contains}
 use Rattle.std.proofs.lemmas.Bool.{cases_Bool, cases_lt, false≢true}
 use Rattle.std.proofs.lemmas.List.{get_or_default}
-use Rattle.std.proofs.lemmas.List.Elements.{All-nil, All-cons, All-append, All-contains, Contains-append_left, Contains-append_right, Contains-append_cases}
+use Rattle.std.proofs.lemmas.List.Elements.{All-nil, All-cons, All-append, All-contains, Contains-append_left, Contains-append_right}
 use Rattle.fab_kinds.specs.declared.kind.Kind.TheVariants as kinds
 use Rattle.fab_meaning.specs.Points.{Point, point}
 use Rattle.fab_meaning.proofs.Modules.{each_all}
@@ -40,10 +40,9 @@ use Rattle.fab_use.specs.Design as design
 use Rattle.fab_use.specs.Sites.{bel_point}
 use Rattle.fab_use.specs.Design.{IsTreeWire, IsSourced, IsRoutePoint, IsBound, required_pins, IsCellPoint, input_pad, output_pad, IsPadPoint}
 use Rattle.fab_use.specs.Ways as ways
-use Rattle.fab_use.specs.Sources as sources
 use Rattle.fab_use.specs.Sources.{Source, HasSource}
 use Rattle.fab_use.specs.Ways.{Passes, IsTreeWay}
-use Rattle.fab_points.proofs.Places.{one_tile, site_tile}
+use Rattle.fab_points.proofs.Places.{one_tile}
 use Rattle.fab_points.proofs.Ways.{side_in_border, way_comes}
 use Rattle.fab_points.proofs.Covers.{way_through, route_sourced, cell_sourced}
 use Rattle.fab_points.proofs.ReadPoints.{pad_sourced, in_tile, out_tile}

@@ -1,7 +1,5 @@
 -- What is shown through an item of a module, by the ternary values of its names.
-use Rattle.std.proofs.Common.{◌≡◌, ℕ, zero, suc, ◌<◌, Bool, true, false, List, ◌∷◌, map, refl, ap, ◌∙◌, arith, Some, Contains}
-use Rattle.fab_bits.specs.Bits.{first_bits}
-use Rattle.fab_systems.specs.Ternary.{Tern, known}
+use Rattle.std.proofs.Common.{◌≡◌, ℕ, ◌<◌, true, false, List, ◌∷◌, refl, ap, ◌∙◌, Some, Contains}
 use Rattle.fab_syntax.specs.Plain.{PlainExpr, variable, PlainJoin, assign, instance, PlainModule}
 use Rattle.fab_syntax.specs.Declarations.{module_named, width_in, is_input}
 use Rattle.fab_meaning.specs.Points.{Path, point, bit_of, copy, module_at}

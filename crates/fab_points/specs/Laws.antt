@@ -50,6 +50,12 @@ DesignIsCovered =
     IsFabricText fabric text → IsWellMadePacked packed → IsLegal fabric packed fixed implementation → (p : Point) → IsOfDesign fabric packed implementation p →
     IsLoading text p ⊎ ((s : Source) × HasSource fabric packed implementation p s × All (IsSourced fabric packed implementation) (source_reads s) × (length (source_reads s) ≤ 4))
 
+-- Each point with a source is a route, cell or pad point.
+abbrev pub SourcesAreOfDesign : Type 0
+SourcesAreOfDesign =
+    (fabric : PlainFabric) (packed : PlainPacked) (fixed : List Pad) (implementation : PlainImplementation) → AreTiles fabric → IsWellMadePacked packed →
+    IsLegal fabric packed fixed implementation → (p : Point) (s : Source) → HasSource fabric packed implementation p s → IsSourced fabric packed implementation p
+
 -- Each design point is declared.
 abbrev pub DesignIsDeclared : Type 0
 DesignIsDeclared =

@@ -14,6 +14,7 @@ ghost use Rattle.fab_points.specs.Laws.{
   RegistersTick,
   SourcesAgree,
   SourcesAreKnown,
+  SourcesAreOfDesign,
   SourcesShow,
 };
 
@@ -39,6 +40,11 @@ pub fn configuration_goes()
 /// Each named point of a design is a loading point, or has a source that reads route, cell and pad points alone.
 pub fn design_is_covered()
     ensures { DesignIsCovered }
+{}
+
+/// Each point with a source is a route, cell or pad point, so sources tell exactly the named points beside the configuration.
+pub fn sources_are_of_design()
+    ensures { SourcesAreOfDesign }
 {}
 
 /// Each design point is declared.

@@ -1,5 +1,5 @@
 -- Operators on known bits, and so the value of an expression over known names, are known.
-use Rattle.std.proofs.Common.{◌≡◌, ℕ, zero, suc, ◌+◌, ◌-◌, ◌*◌, Bool, true, false, not, ◌&&◌, ◌||◌, List, [], ◌∷◌, ◌++◌, map, length, take, drop, slice_range, slice_index_or, Option, Some, None, option_map, if◌then◌else◌, refl, sym, ap, ap₂, ◌∙◌, arith}
+use Rattle.std.proofs.Common.{◌≡◌, ℕ, zero, suc, ◌+◌, ◌-◌, ◌*◌, Bool, true, false, not, ◌&&◌, ◌||◌, List, [], ◌∷◌, ◌++◌, map, take, drop, slice_range, Some, option_map, if◌then◌else◌, refl, sym, ap, ap₂, ◌∙◌, arith}
 use Rattle.std.specs.Str.{bytes_eq}
 use Rattle.std.proofs.lemmas.Bool.{or_left, or_right}
 use Rattle.std.proofs.lemmas.List.{map-append}
@@ -10,7 +10,7 @@ use Rattle.fab_syntax.specs.Plain.{PlainExpr, PlainExprs, constant, variable, pi
 use Rattle.fab_meaning.specs.Value.{value, concatenated, operated, bit_at}
 use Rattle.fab_meaning.specs.Reads.{mentions, some_mentions}
 use Rattle.fab_meaning.proofs.Dependence.{same_name}
-use Rattle.fab_systems.specs.Ternary.{Tern, no, yes, unknown, known}
+use Rattle.fab_systems.specs.Ternary.{Tern, no, yes, known}
 use Rattle.fab_tern.specs.Operators.{tern_at, inverse, both, either, differs, each_tern, same_terns, bools, minus_of, tern_operated, one_of, evens, odds, entry}
 use Rattle.fab_tern.specs.Values.{tern_value, tern_concatenated}
 

@@ -1,5 +1,5 @@
 -- Entries of tables at indices of which some bits are unknown, and select chains of which some inputs are.
-use Rattle.std.proofs.Common.{◌≡◌, ◌≢◌, ℕ, zero, suc, ◌+◌, ◌-◌, ◌*◌, ◌^◌, ◌<◌, ◌≤◌, Bool, true, false, List, [], ◌∷◌, map, length, get_or, nat_eq, nat_lt, lt-ltb, le-ltb, if◌then◌else◌, refl, sym, ap, ap₂, ◌∙◌, subst, inl, inr, arith, slice_range}
+use Rattle.std.proofs.Common.{◌≡◌, ◌≢◌, ℕ, suc, ◌+◌, ◌-◌, ◌*◌, ◌^◌, ◌<◌, ◌≤◌, Bool, true, false, List, [], ◌∷◌, map, length, nat_eq, nat_lt, lt-ltb, le-ltb, refl, ap, ap₂, ◌∙◌, subst, inl, inr, arith, slice_range}
 use Rattle.std.proofs.lemmas.Bool.Decides.{eqb_tells}
 use Rattle.std.proofs.lemmas.Bool.{cases_Bool, cases_lt}
 use Rattle.fab_bits.specs.Bits.{number, digits, same_bits}
@@ -7,8 +7,8 @@ use Rattle.fab_bits.proofs.Numbers.{same_bits_digits}
 use Rattle.fab_meaning.specs.Value.{value, bit_at}
 use Rattle.fab_matrix.specs.Names.{Name}
 use Rattle.fab_matrix.specs.Matrix.{config_name, field, chain}
-use Rattle.fab_systems.specs.Ternary.{Tern, no, yes, unknown, known, IsBelow}
-use Rattle.fab_tern.specs.Operators.{tern_at, agreed, same_terns, one_of, evens, odds, entry}
+use Rattle.fab_systems.specs.Ternary.{Tern, no, yes, unknown, known}
+use Rattle.fab_tern.specs.Operators.{agreed, same_terns, one_of, evens, odds, entry}
 use Rattle.fab_tern.specs.Values.{tern_value}
 use Rattle.fab_tern.specs.Laws.{Fits, at_from}
 use Rattle.fab_tern.proofs.Known.{known_at, evens_map, odds_map, even_at, odd_at, known_same, known_range}
