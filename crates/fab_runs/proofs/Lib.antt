@@ -1,0 +1,10 @@
+pub mod Edges
+pub mod Trees
+pub mod Roots
+pub mod Cells
+pub mod CellOrder
+pub mod EachPoint
+pub mod Values
+pub mod Carried
+pub mod Rules
+pub mod Ranks

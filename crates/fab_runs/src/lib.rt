@@ -1,0 +1,26 @@
+//! What a legal implementation does where each of its points shows its source, and that a text which is loaded with it runs its netlist. Each
+//! function does nothing: its contract is a law.
+#![tactic(auto)]
+
+ghost use Rattle.fab_runs.specs.Carrying.{SourcesCarry};
+ghost use Rattle.fab_runs.specs.Ranking.{DesignHasOrder, DesignRanks, RulesRank};
+
+/// Where each design point has the value of its source, bound pads show the nets of the netlist, and flip-flops take what its latches take.
+pub fn sources_carry()
+    ensures { SourcesCarry }
+{}
+
+/// Points with sources have rules in an order: each reads only points that come before it.
+pub fn design_has_order()
+    ensures { DesignHasOrder }
+{}
+
+/// Rules in an order rank the points of a set.
+pub fn rules_rank()
+    ensures { RulesRank }
+{}
+
+/// Points with sources have ranks, each above those of the points that a source of it reads.
+pub fn design_ranks()
+    ensures { DesignRanks }
+{}
