@@ -25,11 +25,11 @@ use Rattle.fab_runs.specs.Carrying.{MeetsSources, TakesNext, SourcesCarry}
 use Rattle.fab_runs.proofs.Values as v
 
 -- the initial value of the cell of a latch
-latched : (netlist : PlainNetlist) (work : Work) (latch : ℕ) → latch_of work ≡ Some latch → (cell_of netlist work).latch ≡ Some (latch_at netlist latch).init
+pub latched : (netlist : PlainNetlist) (work : Work) (latch : ℕ) → latch_of work ≡ Some latch → (cell_of netlist work).latch ≡ Some (latch_at netlist latch).init
 latched netlist (of_cover cover l) latch is = ap (option_map (λ place. (latch_at netlist place).init)) is
 latched netlist (of_latch place) latch is = (let e : place ≡ latch = cc in ap (λ place. Some (latch_at netlist place).init) e)
 
-within : (netlist : PlainNetlist) (work : Work) (latch : ℕ) → IsWork netlist work → latch_of work ≡ Some latch → latch < length (latch_inputs netlist)
+pub within : (netlist : PlainNetlist) (work : Work) (latch : ℕ) → IsWork netlist work → latch_of work ≡ Some latch → latch < length (latch_inputs netlist)
 within netlist (of_cover cover l) latch made is = (pair_at netlist cover latch (made.1 ∙ is)).0
 within netlist (of_latch place) latch made is =
     let e : place ≡ latch = cc in

@@ -8,3 +8,10 @@ pub mod Values
 pub mod Carried
 pub mod Rules
 pub mod Ranks
+pub mod LatchCells
+pub mod Start
+pub mod Laws
+pub mod DesignRank
+pub mod Instants
+pub mod CyclesRun
+pub mod Headline

@@ -91,7 +91,7 @@ rules_rank fabric packed implementation rules has given stand listed apart close
 
 -- ---- ranks of a design
 
-all_by : {X : Type 0} (P : X → Type 0) (xs : List X) → ((x : X) → Contains xs x → P x) → All P xs
+pub all_by : {X : Type 0} (P : X → Type 0) (xs : List X) → ((x : X) → Contains xs x → P x) → All P xs
 all_by P [] each = All-nil P
 all_by P (x ∷ xs) each = All-cons P x xs (each x (first_in x xs x refl)) (all_by P xs (λ y among. each y (later_in x xs y among)))
 

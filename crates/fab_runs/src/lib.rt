@@ -2,8 +2,16 @@
 //! function does nothing: its contract is a law.
 #![tactic(auto)]
 
+ghost use Rattle.fab_use.specs.Headline.{LegalDesignsRun};
 ghost use Rattle.fab_runs.specs.Carrying.{SourcesCarry};
 ghost use Rattle.fab_runs.specs.Ranking.{DesignHasOrder, DesignRanks, RulesRank};
+
+use fab_netlist::one_run;
+use fab_points::{
+    configuration_goes, design_is_declared, design_is_listed, design_settles_by_sources,
+    ranked_design_settles_once, registers_tick,
+};
+use fab_text_loads::fabric_texts_load;
 
 /// Where each design point has the value of its source, bound pads show the nets of the netlist, and flip-flops take what its latches take.
 pub fn sources_carry()
@@ -24,3 +32,17 @@ pub fn rules_rank()
 pub fn design_ranks()
     ensures { DesignRanks }
 {}
+
+/// In each text of a fabric, the bitstream of configuration bits that are those of a legal implementation runs its netlist.
+pub fn legal_designs_run()
+    ensures { LegalDesignsRun }
+{
+    fabric_texts_load();
+    configuration_goes();
+    design_is_declared();
+    design_is_listed();
+    design_settles_by_sources();
+    registers_tick();
+    ranked_design_settles_once();
+    one_run();
+}
