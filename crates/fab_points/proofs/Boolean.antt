@@ -1,5 +1,6 @@
 -- Where what a source reads is known, so is what it gives; and so settled points have the values of their sources.
 use Rattle.std.proofs.Common.{◌≡◌, suc, ◌^◌, ◌<◌, ◌≤◌, Bool, true, false, not, List, [], ◌∷◌, length, map, refl, sym, ap, ◌∙◌, arith, Contains, pow_mono}
+use Rattle.std.proofs.lemmas.List.{length-map}
 use Rattle.fab_bits.specs.Bits.{number, first_bits}
 use Rattle.fab_bits.proofs.Numbers.{get_first_bits}
 use Rattle.fab_systems.specs.Ternary.{Tern, no, yes, unknown, known}
@@ -29,14 +30,10 @@ module _ (text : List PlainModule) (inputs held now : Assignment) (t : Terns) wh
       let rest : map t qs ≡ map known (map now qs) = map_known qs (λ r there. each r (suc there.0, omega (arith, there.1), there.2)) in
       λ j. here j ∷ rest j
 
-  long_map : (qs : List Point) → length (map now qs) ≡ length qs
-  long_map [] = refl
-  long_map (q ∷ qs) = ap suc (long_map qs)
-
   few_bits : (qs : List Point) → length qs ≤ 4 → number (map now qs) < 16
   few_bits qs few =
       let small : number (map now qs) < 2 ^ length (map now qs) = number_small (map now qs) in
-      let most : 2 ^ length (map now qs) ≤ 2 ^ 4 = pow_mono {i = length (map now qs)} {j = 4} (omega (arith, few, long_map qs)) in
+      let most : 2 ^ length (map now qs) ≤ 2 ^ 4 = pow_mono {i = length (map now qs)} {j = 4} (omega (arith, few, length-map qs now)) in
       omega arith
 
   pub source_known : (p : Point) (s : Source) → length (source_reads s) ≤ 4 → ((q : Point) → Contains (source_reads s) q → t q ≡ known (now q)) →

@@ -63,8 +63,7 @@ use Rattle.fab_text_loads.proofs.Within.{AreWithin, expression_within, only_name
 use Rattle.fab_text_loads.proofs.Named.{config_stands, named_are_loading}
 use Rattle.fab_use.specs.Configuration.{NamedBits, named_bits, if_some_bits, frame_names, top_configuration, loader_configuration, bits_configuration, matrix_configuration, bel_configuration, tile_configuration, configuration, IsConfigurationPoint}
 use Rattle.fab_points.proofs.Loading.{loads, instance_loads, has_loader}
-use Rattle.fab_points.proofs.Origins.{passing_plain}
-use Rattle.fab_points.proofs.Places.{outputs_there}
+use Rattle.fab_points.proofs.Places.{outputs_there, passing_plain}
 
 -- a counted register is found with its shape
 reg_found : (shape : Shape) (f : ℕ → List ℕ) (rest : List PlainItem) (n i : ℕ) → i < n → item_shape (counted n (λ k. reg shape (f k)) ++ rest) (f i) ≡ Some shape

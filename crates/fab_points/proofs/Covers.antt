@@ -1,7 +1,7 @@
 -- Each route, cell and pad point has a source.
 use Rattle.std.proofs.Common.{◌≡◌, ℕ, zero, suc, ◌+◌, ◌-◌, ◌<◌, true, false, List, [], ◌∷◌, codes, length, take, refl, sym, ap, ◌∙◌, subst, inl, inr, arith, Option, Some, None, is_some, option_map, option_and_then, slice_get, nat_lt, Contains, if◌then◌else◌}
 use Rattle.std.specs.Option.{option_map_or}
-use Rattle.std.proofs.lemmas.Bool.{cases_Bool, cases_lt, false≢true, lt-ltb}
+use Rattle.std.proofs.lemmas.Bool.{cases_Bool, cases_lt, false≢true}
 use Rattle.std.proofs.lemmas.List.Elements.{All-contains, Contains-append_cases}
 use Rattle.fab_kinds.specs.declared.kind.Kind.{Kind}
 use Rattle.fab_kinds.specs.declared.kind.Kind.TheVariants as kinds
@@ -37,8 +37,9 @@ use Rattle.fab_use.specs.Ways as ways
 use Rattle.fab_use.specs.Sources as sources
 use Rattle.fab_use.specs.Sources.{Source, HasSource}
 use Rattle.fab_use.specs.Ways.{Passes, IsTreeWay, end_port}
-use Rattle.fab_points.proofs.Places.{tree_wire, placed_there, site_tile, site_bel, cell_kind, in_kind, out_kind}
-use Rattle.fab_points.proofs.Origins.{ByPair, ByJoin, Origin, by_pair, by_join, by_constant, by_cell, by_port, origin, pin_index, counted_there}
+use Rattle.fab_points.proofs.Places.{tree_wire, placed_there, site_tile, site_bel, cell_kind, in_kind, out_kind, counted_there}
+use Rattle.fab_points.proofs.Ways.{walk_on}
+use Rattle.fab_points.proofs.Origins.{ByPair, ByJoin, Origin, by_pair, by_join, by_constant, by_cell, by_port, origin, pin_index}
 
 -- ---- what is no matrix output
 
@@ -190,18 +191,13 @@ module _ (fabric : PlainFabric) (packed : PlainPacked) (fixed : List Pad) (imple
           | inr past ↦ (_, sources.beginning (n - passing_bits previous.row) (way at n passes) is (omega arith))
         ]
 
-    walk_on : (fuel : ℕ) (previous : PlacedRow) (n : ℕ) (found : RowPlace × ℕ) → walk_from fabric fuel (Some previous) n ≡ Some found → n < passing_bits previous.row →
-        (less : ℕ) × (walk_from fabric less (previous_row fabric previous) (n + previous.row.count) ≡ Some found)
-    walk_on zero previous n found walk few = cc
-    walk_on (suc fuel) previous n found walk few = (let passes = lt-ltb n (passing_bits previous.row) few in (fuel, rw passes at walk))
-
     on_way_sourced : (fuel : ℕ) (at : PlacedRow) (n : ℕ) (found : RowPlace × ℕ) (p : Point) → Passes fabric here bit at n →
         walk_from fabric fuel (previous_row fabric at) n ≡ Some found → IsOnWay fabric at n p → Sourced p
     on_way_sourced fuel at n found p passes walk end_bit = end_sourced fuel at n found (previous_row fabric at) refl passes walk
     on_way_sourced fuel at n found p passes walk (wire_between is) = (_, sources.across (way at n passes) is)
     on_way_sourced fuel at n found p passes walk (begin_bit {here} {previous} is) = begin_sourced at previous n is passes
     on_way_sourced fuel at n found p passes walk (before {here} {previous} is few rest) =
-        let on = walk_on fuel previous n found (ap (λ o. walk_from fabric fuel o n) (sym is) ∙ walk) few in
+        let on = walk_on fabric fuel previous n found (ap (λ o. walk_from fabric fuel o n) (sym is) ∙ walk) few in
         on_way_sourced on.0 previous (n + previous.row.count) found p (ways.came passes is few) on.1 rest
 
     pub between_sourced : (p : Point) → IsOnWay fabric here bit p → Sourced p

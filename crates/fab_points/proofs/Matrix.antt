@@ -1,11 +1,11 @@
 -- The ports of matrices: an output shows its picked input, an input its wire, and a wire that is an output its port.
-use Rattle.std.proofs.Common.{◌≡◌, ◌≢◌, ◌⊎◌, ℕ, zero, suc, ◌+◌, ◌-◌, ◌^◌, ◌<◌, ◌≤◌, Bool, true, false, not, List, [], ◌∷◌, ◌++◌, length, map, filter, slice_get, get_or, refl, sym, ap, ◌∙◌, subst, inl, inr, arith, Option, Some, None, option_map, option_and_then, nat_eq, All, Contains, le-ltb}
+use Rattle.std.proofs.Common.{◌≡◌, ◌≢◌, ℕ, zero, suc, ◌+◌, ◌-◌, ◌^◌, ◌<◌, ◌≤◌, Bool, true, false, not, List, [], ◌∷◌, ◌++◌, length, map, filter, slice_get, get_or, refl, sym, ap, ◌∙◌, subst, inl, inr, arith, Option, Some, None, option_and_then, nat_eq, All, Contains, le-ltb}
 use Rattle.std.specs.Option.{option_map_or}
-use Rattle.std.proofs.lemmas.Bool.{cases_Bool, cases_lt, false≢true, eqb-true}
+use Rattle.std.proofs.lemmas.Bool.{cases_Bool, cases_lt, eqb-true}
 use Rattle.std.proofs.lemmas.Bool.Decides.{Decides-eqb, nat_tests}
 use Rattle.std.proofs.lemmas.List.{length-map, get_or_past}
 use Rattle.std.proofs.lemmas.List.Elements.{All-map, All-filter, All-weaker, All-contains, Contains-append_left, Contains-append_right}
-use Rattle.std.proofs.lemmas.Option.{slice_get-map, get_or_from_slice_get}
+use Rattle.std.proofs.lemmas.Option.{get_or_from_slice_get}
 use Rattle.fab_bits.specs.Bits.{number, first_bits}
 use Rattle.fab_bits.specs.Widths.{select_width}
 use Rattle.fab_bits.proofs.Least.{select_enough, some_width}
@@ -21,10 +21,10 @@ use Rattle.fab_matrix.specs.Names.{Name}
 use Rattle.fab_matrix.specs.Matrix.{config_name, field, selection, output_value}
 use Rattle.fab_matrix.proofs.Fields.{field_within}
 use Rattle.fab_model.specs.Tiles.{PlainTile, TileWire, tile_wires, wire_name, matrix_names, is_matrix_output, numbered_pairs, IsPair, IsTile, wire_passes, bel_bits, output_field}
-use Rattle.fab_model.specs.Wires.{PlainWire, wire_of, IsWire, IsMatrixOutput, plain_wires, wire_number}
+use Rattle.fab_model.specs.Wires.{PlainWire, IsWire, IsMatrixOutput, plain_wires, wire_number}
 use Rattle.fab_model.specs.Drive as drive
 use Rattle.fab_model.specs.Drive.{input_at}
-use Rattle.fab_model.proofs.Wires.{wire_at_number, plain_wires_are_wires}
+use Rattle.fab_model.proofs.Wires.{wire_at_number}
 use Rattle.fab_gen_tile.specs.Names.{matrix_module_name, matrix_instance_name, same_join}
 use Rattle.fab_gen_tile.specs.TileModule.{is_on_side, matrix_inputs, matrix_outputs, bits_join, matrix_joins, tile_module}
 use Rattle.fab_gen_tile.specs.MatrixModule.{numbered_outputs, named_pairs, matrix_module}
@@ -49,6 +49,7 @@ use Rattle.fab_tern.specs.Shown.{Terns, first_terns, tern_names}
 use Rattle.fab_points.specs.Shown.{Shown}
 use Rattle.fab_points.specs.Known.{KnowsTile}
 use Rattle.fab_tern.proofs.Drivers.{first_terns_known}
+use Rattle.fab_points.proofs.Places.{passing_plain}
 use Rattle.fab_points.proofs.Shown.{terns_of_name, variable_tern, shown_assigned, shown_in, shown_out}
 
 -- ---- inputs of pairs
@@ -65,39 +66,17 @@ record InputAt (tile : PlainTile) (input : ℕ) : Type 0 where
   side : is_on_side false found ≡ true
   named : name_of tile wire ≡ wire_name found
 
-some_or_none : {X : Type 0} (o : Option X) → ((x : X) × (o ≡ Some x)) ⊎ (o ≡ None)
-some_or_none None = inr refl
-some_or_none (Some x) = inl (x, refl)
-
-passing_wire : (test : TileWire → Bool) (tile : PlainTile) (k : ℕ) → wire_passes test tile k ≡ true → (found : TileWire) × (slice_get (tile_wires tile) k ≡ Some found) × (test found ≡ true)
-passing_wire test tile k passes =
-    elim (some_or_none (slice_get (tile_wires tile) k)) [
-      | inl some ↦ (let e : slice_get (tile_wires tile) k ≡ Some some.0 = some.1 in (some.0, e, rw e at passes))
-      | inr none ↦ (let f : false ≡ true = rw none at passes in absurd (false≢true f))
-    ]
-
-plain_there : (o : Option PlainWire) (g : PlainWire → Option TileWire) (found : TileWire) → option_map g o ≡ Some (Some found) → (wire : PlainWire) × (o ≡ Some wire)
-plain_there None g found is = cc
-plain_there (Some wire) g found is = (wire, refl)
-
 input_stands : (tile : PlainTile) (input : ℕ) → IsInput tile input → InputAt tile input
 input_stands tile input passes =
-    let w = passing_wire (λ wire. not (is_matrix_output wire)) tile input passes in
-    let both : option_map (wire_of tile) (slice_get (plain_wires tile) input) ≡ Some (Some w.0) =
-    sym (slice_get-map (wire_of tile) (plain_wires tile) input)
-    ∙ ap (λ wires. slice_get wires input) (plain_wires_are_wires tile)
-    ∙ slice_get-map Some (tile_wires tile) input
-    ∙ ap (option_map Some) w.1 in
-    let p = plain_there (slice_get (plain_wires tile) input) (wire_of tile) w.0 both in
+    let p = passing_plain (λ wire. not (is_matrix_output wire)) tile input passes in
     let at = at_number tile p.0 input p.1 in
-    let one : at.found ≡ w.0 = (let e : Some at.found ≡ Some w.0 = sym at.there ∙ w.1 in cc) in
     record {
       wire = p.0;
       stands = p.1;
-      found = w.0;
-      there = w.1;
-      side = w.2;
-      named = ap (λ found. option_map_or wire_name found []) at.is ∙ ap wire_name one;
+      found = at.found;
+      there = at.there;
+      side = sym (ap (λ found. option_map_or (λ wire. not (is_matrix_output wire)) found false) at.is) ∙ p.2;
+      named = ap (λ found. option_map_or wire_name found []) at.is;
     }
 
 -- the names of the inputs of all pairs are among the matrix's

@@ -1,22 +1,20 @@
 -- From what each wire of a tree comes: an edge enters it, or its net begins there.
-use Rattle.std.proofs.Common.{◌≡◌, ◌⊎◌, ℕ, ◌<◌, Bool, true, false, not, List, [], length, get_or, refl, sym, ap, ◌∙◌, subst, inl, inr, arith, Option, Some, None, option_map, slice_get, Contains}
+use Rattle.std.proofs.Common.{◌≡◌, ℕ, ◌<◌, Bool, true, false, not, List, [], length, get_or, refl, sym, ap, ◌∙◌, subst, inl, inr, arith, Option, Some, None, slice_get, Contains}
 use Rattle.std.specs.Option.{option_map_or}
 use Rattle.std.proofs.lemmas.Bool.{false≢true}
 use Rattle.std.proofs.lemmas.List.{get_or_default}
 use Rattle.std.proofs.lemmas.List.Elements.{All-contains, All-weaker, Contains-append_cases}
-use Rattle.std.proofs.lemmas.Option.{slice_get-map}
 use Rattle.fab_kinds.specs.declared.kind.Kind.{Kind}
 use Rattle.fab_kinds.specs.declared.kind.Kind.TheVariants as kinds
 use Rattle.fab_kinds.specs.Pins.{pin_names}
 use Rattle.fab_model.specs.declared.tiles.WireRow.{WireRow}
 use Rattle.fab_model.specs.Rows.{is_jump, is_named, source_bits, dest_bits}
-use Rattle.fab_model.specs.Tiles.{PlainTile, TileWire, tile_wires, wire_passes, is_matrix_output, IsPair, IsTile}
-use Rattle.fab_model.specs.Wires.{PlainWire, source_of, dest_of, pin_of, plain_wires, wire_of, pin_count, HasWire, IsMatrixOutput}
+use Rattle.fab_model.specs.Tiles.{PlainTile, is_matrix_output, IsPair, IsTile}
+use Rattle.fab_model.specs.Wires.{PlainWire, source_of, dest_of, pin_of, wire_of, pin_count, HasWire, IsMatrixOutput}
 use Rattle.fab_model.specs.Grid.{PlainFabric, tile_at, AreRows, AllRows}
 use Rattle.fab_model.specs.Joins.{RowPlace, Stands}
 use Rattle.fab_model.specs.Cascade.{join_to, join_from, IsSourceBit, IsDestBit}
 use Rattle.fab_model.proofs.Steps.{map_gives}
-use Rattle.fab_model.proofs.Wires.{plain_wires_are_wires}
 use Rattle.fab_model.proofs.Found.{join_to_joins, joins_dest, to_and_from}
 use Rattle.fab_fabric.specs.Fabric.{AreTiles}
 use Rattle.fab_fabric.specs.Wires.{IsIndexOf, row_place, dest_wire, wire_join_to}
@@ -33,49 +31,14 @@ use Rattle.fab_legal.specs.Legal.{IsLegal}
 use Rattle.fab_legal.proofs.Members.{from_mapped}
 use Rattle.fab_legal.proofs.Once.{known_thing}
 use Rattle.fab_drives.proofs.Modules.{tile_of_types}
-use Rattle.fab_tile_drives.proofs.WireNames.{at_number}
 use Rattle.fab_use.specs.Design.{IsTreeWire, IsBound}
-use Rattle.fab_points.proofs.Places.{one_tile, site_tile, site_bel, line_kind}
+use Rattle.fab_points.proofs.Places.{one_tile, passing_plain, counted_there, site_tile, site_bel, line_kind}
 
 -- ---- wires that pass a test
-
-some_or_none : {X : Type 0} (o : Option X) → ((x : X) × (o ≡ Some x)) ⊎ (o ≡ None)
-some_or_none None = inr refl
-some_or_none (Some x) = inl (x, refl)
-
-passing_wire : (test : TileWire → Bool) (tile : PlainTile) (k : ℕ) → wire_passes test tile k ≡ true → (found : TileWire) × (slice_get (tile_wires tile) k ≡ Some found) × (test found ≡ true)
-passing_wire test tile k passes =
-    elim (some_or_none (slice_get (tile_wires tile) k)) [
-      | inl some ↦ (let e : slice_get (tile_wires tile) k ≡ Some some.0 = some.1 in (some.0, e, rw e at passes))
-      | inr none ↦ (let f : false ≡ true = rw none at passes in absurd (false≢true f))
-    ]
-
-plain_there : (o : Option PlainWire) (g : PlainWire → Option TileWire) (found : TileWire) → option_map g o ≡ Some (Some found) → (wire : PlainWire) × (o ≡ Some wire)
-plain_there None g found is = cc
-plain_there (Some wire) g found is = (wire, refl)
-
-pub passing_plain : (test : TileWire → Bool) (tile : PlainTile) (k : ℕ) → wire_passes test tile k ≡ true →
-    (wire : PlainWire) × (slice_get (plain_wires tile) k ≡ Some wire) × (option_map_or test (wire_of tile wire) false ≡ true)
-passing_plain test tile k passes =
-    let w = passing_wire test tile k passes in
-    let both : option_map (wire_of tile) (slice_get (plain_wires tile) k) ≡ Some (Some w.0) =
-    sym (slice_get-map (wire_of tile) (plain_wires tile) k)
-    ∙ ap (λ wires. slice_get wires k) (plain_wires_are_wires tile)
-    ∙ slice_get-map Some (tile_wires tile) k
-    ∙ ap (option_map Some) w.1 in
-    let p = plain_there (slice_get (plain_wires tile) k) (wire_of tile) w.0 both in
-    let at = at_number tile p.0 k p.1 in
-    let one : at.found ≡ w.0 = (let e : Some at.found ≡ Some w.0 = sym at.there ∙ w.1 in cc) in
-    (p.0, p.1, ap (λ found. option_map_or test found false) at.is ∙ ap test one ∙ w.2)
 
 not_both : {X : Type 0} (test : X → Bool) (o : Option X) → option_map_or (λ x. not (test x)) o false ≡ true → option_map_or test o false ≡ true → ⊥
 not_both test None fails passes = false≢true fails
 not_both test (Some x) fails passes = (let f : not true ≡ true = subst (λ b. not b ≡ true) passes fails in false≢true f)
-
--- what has a count above a number is there
-pub counted_there : {X : Type 0} (count : X → ℕ) (found : Option X) (k : ℕ) → k < option_map_or count found 0 → (x : X) × (found ≡ Some x) × (k < count x)
-counted_there count None k few = absurd (omega (arith, few))
-counted_there count (Some x) k few = (x, refl, few)
 
 -- ---- origins
 

@@ -1,19 +1,21 @@
 -- Where the wires and sites of a legal implementation stand.
-use Rattle.std.proofs.Common.{◌≡◌, ℕ, zero, suc, ◌<◌, true, false, List, [], ◌∷◌, ◌++◌, length, refl, sym, ap, ◌∙◌, subst, inl, inr, arith, Some, option_and_then, slice_get, Contains}
+use Rattle.std.proofs.Common.{◌≡◌, ◌⊎◌, ℕ, zero, suc, ◌<◌, Bool, true, false, List, [], ◌∷◌, ◌++◌, length, refl, sym, ap, ◌∙◌, subst, inl, inr, arith, Option, Some, None, option_map, option_and_then, slice_get, Contains}
 use Rattle.std.specs.Option.{option_map_or}
+use Rattle.std.proofs.lemmas.Bool.{false≢true}
+use Rattle.std.proofs.lemmas.Option.{slice_get-map}
 use Rattle.std.proofs.lemmas.List.Elements.{Contains-append_left, Contains-append_right, Contains-append_cases}
 use Rattle.fab_kinds.specs.declared.kind.Kind.{Kind}
 use Rattle.fab_kinds.specs.declared.kind.Kind.TheVariants as kinds
 use Rattle.fab_model.specs.declared.tiles.WireRow.{WireRow}
 use Rattle.fab_model.specs.declared.tiles.Bel.{Bel}
 use Rattle.fab_model.specs.Rows.{dest_bits}
-use Rattle.fab_model.specs.Tiles.{PlainTile, wire_name, is_matrix_output}
-use Rattle.fab_model.specs.Wires.{PlainWire, dest_of, wire_number, IsWire, IsMatrixOutput}
+use Rattle.fab_model.specs.Tiles.{PlainTile, TileWire, tile_wires, wire_name, wire_passes, is_matrix_output}
+use Rattle.fab_model.specs.Wires.{PlainWire, dest_of, plain_wires, wire_of, wire_number, IsWire, IsMatrixOutput}
 use Rattle.fab_model.specs.Grid.{PlainFabric, tile_at}
 use Rattle.fab_model.specs.Cascade.{PlacedRow, placed_row, row_of_tile}
 use Rattle.fab_model.proofs.Crossings.{placed}
 use Rattle.fab_model.proofs.Steps.{map_gives, then_gives}
-use Rattle.fab_model.proofs.Wires.{wire_at_number}
+use Rattle.fab_model.proofs.Wires.{wire_at_number, plain_wires_are_wires}
 use Rattle.fab_fabric.specs.Wires.{IsIndexOf, row_place}
 use Rattle.fab_fabric.specs.declared.wire.Site.{Site}
 use Rattle.fab_netlist.specs.Packed.{PlainCell, PlainPacked}
@@ -52,6 +54,44 @@ outputs_there tile plain exists output =
     let there : Contains (matrix_outputs tile) (wire_name at.found) = side_there true tile (wire_number tile plain) at.found at.there is_output in
     let few = there.1 in
     omega (arith, few)
+
+-- ---- what stands at a number
+
+some_or_none : {X : Type 0} (o : Option X) → ((x : X) × (o ≡ Some x)) ⊎ (o ≡ None)
+some_or_none None = inr refl
+some_or_none (Some x) = inl (x, refl)
+
+passing_wire : (test : TileWire → Bool) (tile : PlainTile) (k : ℕ) → wire_passes test tile k ≡ true → (found : TileWire) × (slice_get (tile_wires tile) k ≡ Some found) × (test found ≡ true)
+passing_wire test tile k passes =
+    elim (some_or_none (slice_get (tile_wires tile) k)) [
+      | inl some ↦ (let e : slice_get (tile_wires tile) k ≡ Some some.0 = some.1 in (some.0, e, rw e at passes))
+      | inr none ↦ (let f : false ≡ true = rw none at passes in absurd (false≢true f))
+    ]
+
+plain_there : (o : Option PlainWire) (g : PlainWire → Option TileWire) (found : TileWire) → option_map g o ≡ Some (Some found) → (wire : PlainWire) × (o ≡ Some wire)
+plain_there None g found is = cc
+plain_there (Some wire) g found is = (wire, refl)
+
+pub passing_plain : (test : TileWire → Bool) (tile : PlainTile) (k : ℕ) → wire_passes test tile k ≡ true →
+    (wire : PlainWire) × (slice_get (plain_wires tile) k ≡ Some wire) × (option_map_or test (wire_of tile wire) false ≡ true)
+passing_plain test tile k passes =
+    let w = passing_wire test tile k passes in
+    let both : option_map (wire_of tile) (slice_get (plain_wires tile) k) ≡ Some (Some w.0) =
+    sym (slice_get-map (wire_of tile) (plain_wires tile) k)
+    ∙ ap (λ wires. slice_get wires k) (plain_wires_are_wires tile)
+    ∙ slice_get-map Some (tile_wires tile) k
+    ∙ ap (option_map Some) w.1 in
+    let p = plain_there (slice_get (plain_wires tile) k) (wire_of tile) w.0 both in
+    let at = at_number tile p.0 k p.1 in
+    let one : at.found ≡ w.0 = (let e : Some at.found ≡ Some w.0 = sym at.there ∙ w.1 in cc) in
+    (p.0, p.1, ap (λ found. option_map_or test found false) at.is ∙ ap test one ∙ w.2)
+
+-- what has a count above a number is there
+pub counted_there : {X : Type 0} (count : X → ℕ) (found : Option X) (k : ℕ) → k < option_map_or count found 0 → (x : X) × (found ≡ Some x) × (k < count x)
+counted_there count None k few = absurd (omega (arith, few))
+counted_there count (Some x) k few = (x, refl, few)
+
+-- ---- rows
 
 -- a row that is placed
 pub placed_there : (fabric : PlainFabric) (x y row : ℕ) (tile : PlainTile) (here : PlacedRow) → tile_at fabric x y ≡ Some tile → placed_row fabric (row_place x y row) ≡ Some here →

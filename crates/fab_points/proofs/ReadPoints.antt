@@ -1,6 +1,6 @@
 -- Pad points have sources, and what a source reads is a design point.
 use Rattle.std.proofs.Common.{◌≡◌, ◌⊎◌, ℕ, zero, suc, ◌+◌, ◌-◌, ◌<◌, ◌≤◌, true, List, [], ◌∷◌, ◌++◌, codes, length, map, take, drop, get_or, refl, sym, ap, ◌∙◌, subst, inl, inr, arith, Option, Some, None, is_some, slice_get, All, Contains, if◌then◌else◌}
-use Rattle.std.proofs.lemmas.Bool.{false≢true, lt-ltb, le-ltb}
+use Rattle.std.proofs.lemmas.Bool.{false≢true, le-ltb}
 use Rattle.std.proofs.lemmas.List.{get_or_default}
 use Rattle.std.proofs.lemmas.List.Elements.{All-nil, All-cons, All-contains, Contains-append_left, Contains-append_right, Contains-append_cases}
 use Rattle.fab_kinds.specs.declared.kind.Kind.TheVariants as kinds
@@ -43,7 +43,7 @@ use Rattle.fab_use.specs.Sources.{Source, source_reads, HasSource, index_points,
 use Rattle.fab_use.specs.Ways.{Passes, IsTreeWay, end_port}
 use Rattle.std.specs.Option.{option_and_then}
 use Rattle.fab_points.proofs.Places.{index_wire, tree_wire, dest_few, outputs_there, site_tile, cell_kind, in_kind, out_kind, left_tree}
-use Rattle.fab_points.proofs.Ways.{before_placed}
+use Rattle.fab_points.proofs.Ways.{walk_on, before_placed}
 use Rattle.fab_points.proofs.Covers.{way_through, tree_sourced, dest_join, way_walk, required_tree, in_turned, out_turned}
 
 -- ---- lists
@@ -201,11 +201,6 @@ module _ (fabric : PlainFabric) (packed : PlainPacked) (fixed : List Pad) (imple
 
   -- ---- where a way begins
 
-  walk_on : (fuel : ℕ) (previous : PlacedRow) (n : ℕ) (found : RowPlace × ℕ) → walk_from fabric fuel (Some previous) n ≡ Some found → n < passing_bits previous.row →
-      (less : ℕ) × (walk_from fabric less (previous_row fabric previous) (n + previous.row.count) ≡ Some found)
-  walk_on zero previous n found walk few = cc
-  walk_on (suc fuel) previous n found walk few = (let passes = lt-ltb n (passing_bits previous.row) few in (fuel, rw passes at walk))
-
   walk_ends : (fuel : ℕ) (previous : PlacedRow) (n m : ℕ) (found : RowPlace × ℕ) → walk_from fabric fuel (Some previous) n ≡ Some found → n ≡ passing_bits previous.row + m →
       (previous.place, m) ≡ found
   walk_ends zero previous n m found walk is = cc
@@ -221,7 +216,7 @@ module _ (fabric : PlainFabric) (packed : PlainPacked) (fixed : List Pad) (imple
   walk_through fuel here bit found last k walk ways.ends = (fuel, walk)
   walk_through fuel here bit found last k walk (ways.came {at} {previous} {at_bit} passes is few) =
       let w = walk_through fuel here bit found at at_bit walk passes in
-      walk_on w.0 previous at_bit found (ap (λ o. walk_from fabric w.0 o at_bit) (sym is) ∙ w.1) few
+      walk_on fabric w.0 previous at_bit found (ap (λ o. walk_from fabric w.0 o at_bit) (sym is) ∙ w.1) few
 
   begin_tree : (at previous : PlacedRow) (n m : ℕ) → IsTreeWay fabric implementation at n → previous_row fabric at ≡ Some previous → n ≡ passing_bits previous.row + m →
       IsPlaced fabric previous → Tree previous.place.x previous.place.y previous.tile (source_of previous.place.row m)

@@ -1,11 +1,11 @@
 -- What is kept on the way of a border bit: each row that it comes through is placed, is no jump, and has the bit within its border.
-use Rattle.std.proofs.Common.{◌≡◌, ℕ, ◌<◌, true, false, List, sym, ap, ◌∙◌, subst, arith, Option, Some, None}
+use Rattle.std.proofs.Common.{◌≡◌, ℕ, zero, suc, ◌+◌, ◌<◌, true, false, List, sym, ap, ◌∙◌, subst, arith, lt-ltb, Option, Some, None}
 use Rattle.fab_model.specs.declared.tiles.WireRow.{WireRow}
 use Rattle.fab_model.specs.Rows.{is_jump, is_named, border_bits, IsWireRow}
 use Rattle.fab_model.specs.Wires.{dest_of}
 use Rattle.fab_model.specs.Grid.{PlainFabric, AreRows}
-use Rattle.fab_model.specs.Cascade.{PlacedRow, previous_row, opposite}
-use Rattle.fab_model.specs.Joins.{comes, goes}
+use Rattle.fab_model.specs.Cascade.{PlacedRow, previous_row, passing_bits, walk_from, opposite}
+use Rattle.fab_model.specs.Joins.{RowPlace, comes, goes}
 use Rattle.fab_model.proofs.Crossings.{IsPlaced, placed, standing_is_wire_row, partner_is, goes_from}
 use Rattle.fab_fabric.specs.Wires.{row_place}
 use Rattle.fab_implementation.specs.Plain.{PlainImplementation}
@@ -18,6 +18,12 @@ use Rattle.fab_points.proofs.Places.{dest_few, placed_there, tree_wire}
 pub side_in_border : (row : WireRow) (side : Option (List ℕ)) (bit : ℕ) → bit < side_border row side → bit < border_bits row
 side_in_border row None bit few = absurd (omega (arith, few))
 side_in_border row (Some name) bit few = few
+
+-- a walk that goes on behind a row
+pub walk_on : (fabric : PlainFabric) (fuel : ℕ) (previous : PlacedRow) (n : ℕ) (found : RowPlace × ℕ) → walk_from fabric fuel (Some previous) n ≡ Some found →
+    n < passing_bits previous.row → (less : ℕ) × (walk_from fabric less (previous_row fabric previous) (n + previous.row.count) ≡ Some found)
+walk_on fabric zero previous n found walk few = cc
+walk_on fabric (suc fuel) previous n found walk few = (let passes = lt-ltb n (passing_bits previous.row) few in (fuel, rw passes at walk))
 
 pub before_placed : (fabric : PlainFabric) (at previous : PlacedRow) → previous_row fabric at ≡ Some previous → IsPlaced fabric previous
 before_placed fabric at previous is = (partner_is comes goes fabric at previous (opposite at.row.dir) is).stands
