@@ -37,9 +37,9 @@ use Rattle.fab_use.specs.Ways as ways
 use Rattle.fab_use.specs.Sources as sources
 use Rattle.fab_use.specs.Sources.{Source, HasSource}
 use Rattle.fab_use.specs.Ways.{Passes, IsTreeWay, end_port}
-use Rattle.fab_points.proofs.Places.{tree_wire, placed_there, site_tile, site_bel, cell_kind, in_kind, out_kind, counted_there}
+use Rattle.fab_points.proofs.Places.{tree_wire, placed_there, site_tile, site_bel, cell_kind, in_kind, out_kind}
 use Rattle.fab_points.proofs.Ways.{walk_on}
-use Rattle.fab_points.proofs.Origins.{ByPair, ByJoin, Origin, by_pair, by_join, by_constant, by_cell, by_port, origin, pin_index}
+use Rattle.fab_points.proofs.Origins.{ByPair, ByJoin, Origin, by_pair, by_join, by_constant, by_cell, by_port, origin, pin_index, counted_there}
 
 -- ---- what is no matrix output
 

@@ -32,9 +32,14 @@ use Rattle.fab_legal.proofs.Members.{from_mapped}
 use Rattle.fab_legal.proofs.Once.{known_thing}
 use Rattle.fab_drives.proofs.Modules.{tile_of_types}
 use Rattle.fab_use.specs.Design.{IsTreeWire, IsBound}
-use Rattle.fab_points.proofs.Places.{one_tile, passing_plain, counted_there, site_tile, site_bel, line_kind}
+use Rattle.fab_points.proofs.Places.{one_tile, passing_plain, site_tile, site_bel, line_kind}
 
--- ---- wires that pass a test
+-- ---- small facts
+
+-- what has a count above a number is there
+pub counted_there : {X : Type 0} (count : X → ℕ) (found : Option X) (k : ℕ) → k < option_map_or count found 0 → (x : X) × (found ≡ Some x) × (k < count x)
+counted_there count None k few = absurd (omega (arith, few))
+counted_there count (Some x) k few = (x, refl, few)
 
 not_both : {X : Type 0} (test : X → Bool) (o : Option X) → option_map_or (λ x. not (test x)) o false ≡ true → option_map_or test o false ≡ true → ⊥
 not_both test None fails passes = false≢true fails

@@ -86,11 +86,6 @@ passing_plain test tile k passes =
     let one : at.found ≡ w.0 = (let e : Some at.found ≡ Some w.0 = sym at.there ∙ w.1 in cc) in
     (p.0, p.1, ap (λ found. option_map_or test found false) at.is ∙ ap test one ∙ w.2)
 
--- what has a count above a number is there
-pub counted_there : {X : Type 0} (count : X → ℕ) (found : Option X) (k : ℕ) → k < option_map_or count found 0 → (x : X) × (found ≡ Some x) × (k < count x)
-counted_there count None k few = absurd (omega (arith, few))
-counted_there count (Some x) k few = (x, refl, few)
-
 -- ---- rows
 
 -- a row that is placed
