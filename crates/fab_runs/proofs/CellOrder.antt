@@ -1,5 +1,6 @@
 -- Cells without latches have the order of their covers.
-use Rattle.std.proofs.Common.{◌≡◌, ℕ, zero, suc, ◌<◌, List, [], ◌∷◌, get_or, map, Contains, Some, None, refl, sym, ap, ◌∙◌, subst, inl, inr, arith}
+use Rattle.std.proofs.Common.{◌≡◌, ℕ, ◌<◌, get_or, map, Contains, Some, None, refl, sym, ap, ◌∙◌, subst, inl, inr, arith}
+use Rattle.std.proofs.lemmas.List.{get_or_default}
 use Rattle.fab_netlist.specs.declared.net_id.NetId.TheVariants as ids
 use Rattle.fab_netlist.specs.Plain.{PlainCover, PlainNetlist, IsAt}
 use Rattle.fab_netlist.specs.WellMade.{IsWellMade}
@@ -11,18 +12,8 @@ use Rattle.fab_netlist.proofs.Ranks.{no_cycle_rank}
 use Rattle.fab_netlist.proofs.Levels.{level, levels_fall}
 use Rattle.fab_netlist.proofs.Meaning.{covers_once}
 use Rattle.fab_netlist.proofs.Packs.{from_mapped}
+use Rattle.fab_legal.proofs.Lists.{same_at, at_from_mapped}
 use Rattle.fab_netlist.proofs.Works.{nowhere_or_first, is_work}
-
-at_from : {X Y : Type 0} (f : X → Y) (xs : List X) (place : ℕ) (y : Y) → IsAt (map f xs) place y → (x : X) × IsAt xs place x × (f x ≡ y)
-at_from f [] place y at = absurd (omega (arith, at.0))
-at_from f (x ∷ xs) zero y at = (x, (omega arith, refl), at.1)
-at_from f (x ∷ xs) (suc place) y at = let rest = at_from f xs place y (omega (arith, at.0), at.1) in (rest.0, (omega (arith, rest.1.0), rest.1.1), rest.2)
-
--- what is read there stands there
-read_at : {X : Type 0} (xs : List X) (place : ℕ) (x d : X) → IsAt xs place x → get_or xs place d ≡ x
-read_at [] place x d at = absurd (omega (arith, at.0))
-read_at (y ∷ xs) zero x d at = at.1
-read_at (y ∷ xs) (suc place) x d at = read_at xs place x d (omega (arith, at.0), at.1)
 
 module _ (netlist : PlainNetlist) (made : IsWellMade netlist) (acyclic : HasNoCycle netlist) where
   abbrev rank_of : ℕ → ℕ
@@ -42,7 +33,7 @@ module _ (netlist : PlainNetlist) (made : IsWellMade netlist) (acyclic : HasNoCy
 
   plain : (k : ℕ) (c : PlainCell) → IsAt (packed netlist).cells k c → c.latch ≡ None → IsPlain k c
   plain k c at none =
-      let from = at_from (cell_of netlist) (works netlist) k c at in
+      let from = at_from_mapped (cell_of netlist) (works netlist) k c at in
       by_work from.0 from.1 from.2
     where
       by_work : (work : Work) → IsAt (works netlist) k work → cell_of netlist work ≡ c → IsPlain k c
@@ -61,16 +52,13 @@ module _ (netlist : PlainNetlist) (made : IsWellMade netlist) (acyclic : HasNoCy
           | inr cell ↦ (
               let here : net_of netlist net ≡ ids.Cell cell.0 = rw (no_input.0, cell.1) refl in
               let same : cell.0 ≡ j = cc in
-              at_from (output_of netlist) (works netlist) j net (subst (λ k. IsAt (map (output_of netlist) (works netlist)) k net) same cell.2))
+              at_from_mapped (output_of netlist) (works netlist) j net (subst (λ k. IsAt (map (output_of netlist) (works netlist)) k net) same cell.2))
           | inl no_cell ↦ absurd (let here : net_of netlist net ≡ ids.Zero = rw (no_input.0, no_cell.0) refl in let worse : ⊥ = cc in worse)
         ]
       ]
 
-  one_at : (j : ℕ) (a b : Work) → IsAt (works netlist) j a → IsAt (works netlist) j b → a ≡ b
-  one_at j a b first second = sym (read_at (works netlist) j a (of_latch 0) first) ∙ read_at (works netlist) j b (of_latch 0) second
-
   rank_is : (k : ℕ) (cover : PlainCover) → IsAt (works netlist) k (of_cover cover None) → rank k ≡ rank_of cover.output
-  rank_is k cover at = ap (λ w. rank_of (output_of netlist w)) (read_at (works netlist) k (of_cover cover None) (of_latch 0) at)
+  rank_is k cover at = ap (λ w. rank_of (output_of netlist w)) (get_or_default (works netlist) k (of_latch 0) (of_cover cover None) at.0 ∙ at.1)
 
   pub ordered : (j k : ℕ) (c d : PlainCell) → IsAt (packed netlist).cells j c → IsAt (packed netlist).cells k d → c.latch ≡ None → d.latch ≡ None →
       Contains d.inputs (ids.Cell j) → rank j < rank k
@@ -80,7 +68,7 @@ module _ (netlist : PlainNetlist) (made : IsWellMade netlist) (acyclic : HasNoCy
       let among : Contains (map (net_of netlist) reader.cover.inputs) (ids.Cell j) = subst (λ (z : PlainCell). Contains z.inputs (ids.Cell j)) (sym reader.is) reads in
       let net = from_mapped (net_of netlist) reader.cover.inputs (ids.Cell j) among in
       let work = net_at net.0 j net.2 in
-      let same : work.0 ≡ of_cover source.cover None = one_at j work.0 (of_cover source.cover None) work.1 source.stands in
+      let same : work.0 ≡ of_cover source.cover None = same_at (works netlist) j work.0 (of_cover source.cover None) work.1 source.stands in
       let output : source.cover.output ≡ net.0 = ap (output_of netlist) (sym same) ∙ work.2 in
       let source_in : Contains netlist.covers source.cover = (is_work netlist (of_cover source.cover None) (at_in (works netlist) j (of_cover source.cover None) source.stands)).0 in
       let reader_in : Contains netlist.covers reader.cover = (is_work netlist (of_cover reader.cover None) (at_in (works netlist) k (of_cover reader.cover None) reader.stands)).0 in

@@ -39,10 +39,9 @@ use Rattle.fab_prim.specs.Modules.{flip_flop_name}
 use Rattle.fab_drives.specs.Points.{place_path, IsOnWay}
 use Rattle.fab_gen_tile.specs.TileModule.{matrix_outputs}
 use Rattle.fab_tile_drives.specs.Stands.{matrix_path, name_of, wire_point}
-use Rattle.fab_tile_drives.proofs.Members.{contains_at}
 use Rattle.fab_use.specs.Design as design
 use Rattle.fab_use.specs.Sites.{bel_point, port_point, top_point, pin_point}
-use Rattle.fab_use.specs.Design.{input_pad, output_pad, required_pins, IsTreeWire, IsBound, IsSourced, IsOfDesign, IsRoutePoint, IsCellPoint, IsPadPoint}
+use Rattle.fab_use.specs.Design.{input_pad, output_pad, IsTreeWire, IsBound, IsSourced, IsRoutePoint, IsCellPoint, IsPadPoint}
 use Rattle.fab_use.specs.Sources as sources
 use Rattle.fab_use.specs.Ways as ways
 use Rattle.fab_use.specs.Sources.{Source, always, shows, source_reads, HasSource, output_source}
@@ -50,11 +49,10 @@ use Rattle.fab_points.proofs.Places.{site_tile, cell_kind, in_kind, out_kind, le
 use Rattle.fab_points.proofs.Covers.{from_take, by_edge, way_walk}
 use Rattle.fab_points.proofs.ReadPoints.{all_take}
 use Rattle.fab_points.proofs.Origins.{origin}
-use Rattle.fab_runs.proofs.Edges.{port_along, way_has}
-use Rattle.fab_runs.proofs.Trees.{HasIt}
+use Rattle.fab_runs.proofs.Edges.{HasIt, port_along, way_has}
 use Rattle.fab_runs.proofs.CellOrder.{keeps_order}
 use Rattle.fab_runs.proofs.Roots.{Begins, net_has, required_has, bound_cell}
-use Rattle.fab_runs.proofs.Cells.{cell_has, input_has, reset_has, enable_has, index_each}
+use Rattle.fab_runs.proofs.Cells.{index_each}
 
 one : {X : Type 0} (P : X → Type 0) (x : X) → P x → All P (x ∷ [])
 one P x is = All-cons P x [] is (All-nil P)
@@ -68,43 +66,34 @@ cell_of_net inputs (ids.Cell place) number is = (let e : place ≡ number = cc i
 
 module _ (fabric : PlainFabric) (netlist : PlainNetlist) (fixed_pads : List Pad) (implementation : PlainImplementation) (are : AreTiles fabric) (made : IsWellMade netlist) (acyclic : HasNoCycle netlist)
     (legal : IsLegal fabric (packed netlist) fixed_pads implementation) (Q : Point → Type 0)
-    (closed : (p : Point) (s : Source) → IsOfDesign fabric (packed netlist) implementation p → HasSource fabric (packed netlist) implementation p s → All Q (source_reads s) → Q p) where
-  abbrev Has : Point → Type 0
-  Has p = IsOfDesign fabric (packed netlist) implementation p
-
+    (closed : (p : Point) (s : Source) → HasSource fabric (packed netlist) implementation p s → All Q (source_reads s) → Q p) where
   abbrev From : Point → Source → Type 0
   From p s = HasSource fabric (packed netlist) implementation p s
 
-  pub along : (p q : Point) → Has p → From p (shows q) → Q q → Q p
-  along p q has from is = closed p (shows q) has from (one Q q is)
+  pub along : (p q : Point) → From p (shows q) → Q q → Q p
+  along p q from is = closed p (shows q) from (one Q q is)
 
   -- ---- pads of inputs
 
-  in_tile : (port : List ℕ) (site : Site) → Contains implementation.ins (port, site) → (tile : PlainTile) × (tile_at fabric site.x site.y ≡ Some tile)
-  in_tile port site listed = site_tile fabric site kinds.Io (in_kind fabric (packed netlist) fixed_pads implementation legal port site listed)
-
-  in_has : (port : List ℕ) (site : Site) (k : ℕ) (p : Point) → Contains implementation.ins (port, site) → ((tile : PlainTile) → slice_get (input_pad tile site) k ≡ Some p) → Has p
-  in_has port site k p listed is = (let at = in_tile port site listed in inr (inr (inr (design.of_input listed at.1 (contains_at (input_pad at.0 site) k p (is at.0))))))
-
   module _ (port : List ℕ) (site : Site) (listed : Contains implementation.ins (port, site)) where
     in_top : Q (top_point site top_name)
-    in_top = closed _ _ (in_has port site 8 (top_point site top_name) listed (λ tile. refl)) (sources.pad_top listed) (All-nil Q)
+    in_top = closed _ _ (sources.pad_top listed) (All-nil Q)
 
     in_port : Q (port_point site top_name)
-    in_port = along _ _ (in_has port site 4 (port_point site top_name) listed (λ tile. refl)) (sources.pad_tile listed) in_top
+    in_port = along _ _ (sources.pad_tile listed) in_top
 
     in_bel : Q (bel_point site top_name)
-    in_bel = along _ _ (in_has port site 0 (bel_point site top_name) listed (λ tile. refl)) (sources.pad_bel listed) in_port
+    in_bel = along _ _ (sources.pad_bel listed) in_port
 
     in_output : Q (bel_point site (codes "O"))
-    in_output = along _ _ (in_has port site 1 (bel_point site (codes "O")) listed (λ tile. refl)) (sources.pad_output listed) in_bel
+    in_output = along _ _ (sources.pad_output listed) in_bel
 
   -- ---- nets
 
   begins_by : (net : Net) → ((number : ℕ) (site : Site) → net ≡ cell_net number → Contains implementation.cells (number, site) → Q (bel_point site (codes "O"))) →
       Begins fabric (packed netlist) fixed_pads implementation are legal Q along net
-  begins_by zero_net cells = λ p has from. closed p (always false) has from (All-nil Q)
-  begins_by one_net cells = λ p has from. closed p (always true) has from (All-nil Q)
+  begins_by zero_net cells = λ p from. closed p (always false) from (All-nil Q)
+  begins_by one_net cells = λ p from. closed p (always true) from (All-nil Q)
   begins_by (port_net port) cells = λ site listed. in_output port site listed
   begins_by (cell_net number) cells = λ site listed. cells number site refl listed
 
@@ -122,12 +111,11 @@ module _ (fabric : PlainFabric) (netlist : PlainNetlist) (fixed_pads : List Pad)
 
     register_has : (init : ℕ) → cell.latch ≡ Some init → Q (bel_point site flip_flop_name)
     register_has init latched =
-        closed _ _ (cell_has fabric (packed netlist) implementation number site cell bound (bel_point site flip_flop_name) (design.at_flip_flop bound latched)) (sources.cell_register bound latched) (All-nil Q)
+        closed _ _ (sources.cell_register bound latched) (All-nil Q)
 
     shown_has : (latch : Option ℕ) → cell.latch ≡ latch → All Q (source_reads (output_source site latch)) → Q (bel_point site (codes "O"))
     shown_has latch is all =
-        closed _ _ (cell_has fabric (packed netlist) implementation number site cell bound (bel_point site (codes "O")) (design.at_output bound))
-        (subst (λ (l : Option ℕ). From (bel_point site (codes "O")) (output_source site l)) is (sources.cell_output bound)) all
+        closed _ _ (subst (λ (l : Option ℕ). From (bel_point site (codes "O")) (output_source site l)) is (sources.cell_output bound)) all
 
     latched_has : (init : ℕ) → cell.latch ≡ Some init → Q (bel_point site (codes "O"))
     latched_has init latched = shown_has (Some init) latched (one Q (bel_point site flip_flop_name) (register_has init latched))
@@ -138,19 +126,19 @@ module _ (fabric : PlainFabric) (netlist : PlainNetlist) (fixed_pads : List Pad)
       pin_has pin name few is =
           let net = get_or cell.inputs pin ids.Zero in
           let at : IsAt cell.inputs pin net = at_default cell.inputs pin ids.Zero few in
-          along _ _ (input_has fabric (packed netlist) implementation number site cell bound pin name few is) (sources.cell_input pin bound at_tile.1 few is)
+          along _ _ (sources.cell_input pin bound at_tile.1 few is)
           (required_has fabric (packed netlist) fixed_pads implementation are legal Q along (packed_net (packed netlist) net) (reads pin net at) site kinds.Lut4c pin at_tile.0
           (cell_input bound.listed bound.cell_is at) kind (omega (arith, few, few_inputs)) at_tile.1)
 
       index_has : 0 < length cell.inputs → Q (bel_point site (codes "x"))
       index_has some =
-          along _ _ (cell_has fabric (packed netlist) implementation number site cell bound (bel_point site (codes "x")) (design.at_index bound some)) (sources.cell_index bound some) (pin_has 0 (codes "I0") some refl)
+          along _ _ (sources.cell_index bound some) (pin_has 0 (codes "I0") some refl)
 
       table_has : Q (bel_point site (codes "t"))
       table_has =
-          closed _ _ (cell_has fabric (packed netlist) implementation number site cell bound (bel_point site (codes "t")) (design.at_table bound)) (sources.cell_table bound)
+          closed _ _ (sources.cell_table bound)
           (all_take Q (length cell.inputs) (bel_point site (codes "x") ∷ map (bel_point site) (take 3 (drop 1 (input_names kinds.Lut4c))))
-          (index_each fabric (packed netlist) implementation number site cell bound (λ k p. Q p) index_has pin_has))
+          (index_each site cell (λ k p. Q p) index_has pin_has))
 
       plain_has : cell.latch ≡ None → Q (bel_point site (codes "O"))
       plain_has none = shown_has None none (one Q (bel_point site (codes "t")) table_has)
@@ -201,7 +189,7 @@ module _ (fabric : PlainFabric) (netlist : PlainNetlist) (fixed_pads : List Pad)
         | inl output ↦ (
             let b = by_edge fabric (packed netlist) fixed_pads implementation are legal x y tile plain tree.tile_is output (origin fabric (packed netlist) fixed_pads implementation are legal x y tile plain tree.tile_is tree) in
             port_along fabric (packed netlist) fixed_pads implementation are legal Q along b.tree b.edge b.listed b.among (edge_has b.tree b.edge b.listed b.among) x y tile plain b.to tree.tile_is output)
-        | inr no_output ↦ along _ _ (inr (inl (design.in_matrix tree some))) (sources.of_input tree (λ output. false≢true (sym no_output ∙ output)) some) (tree_has x y tile plain tree)
+        | inr no_output ↦ along _ _ (sources.of_input tree (λ output. false≢true (sym no_output ∙ output)) some) (tree_has x y tile plain tree)
       ]
 
   between_has : (x y row bit : ℕ) (tile : PlainTile) (here : PlacedRow) (p : Point) → IsTreeWire fabric implementation x y tile (dest_of row bit) → placed_row fabric (row_place x y row) ≡ Some here →
@@ -226,10 +214,10 @@ module _ (fabric : PlainFabric) (netlist : PlainNetlist) (fixed_pads : List Pad)
       let at = at_tile number site cell bound in
       All-contains (λ name. Q (bel_point site name)) (codes "SR" ∷ codes "EN" ∷ []) name
       (each_all (λ name. Q (bel_point site name)) (codes "SR" ∷ codes "EN" ∷ []) (
-        along _ _ (reset_has fabric (packed netlist) implementation number site cell bound init is) (sources.cell_reset bound at.1 is)
+        along _ _ (sources.cell_reset bound at.1 is)
             (required_has fabric (packed netlist) fixed_pads implementation are legal Q along zero_net (begins zero_net) site kinds.Lut4c 5 at.0 (latch_reset bound.listed bound.cell_is is) (kind number site cell bound) (omega arith) at.1),
         (
-          along _ _ (enable_has fabric (packed netlist) implementation number site cell bound init is) (sources.cell_enable bound at.1 is)
+          along _ _ (sources.cell_enable bound at.1 is)
               (required_has fabric (packed netlist) fixed_pads implementation are legal Q along one_net (begins one_net) site kinds.Lut4c 6 at.0 (latch_enable bound.listed bound.cell_is is) (kind number site cell bound) (omega arith) at.1),
           tt,
         ),
@@ -251,47 +239,31 @@ module _ (fabric : PlainFabric) (netlist : PlainNetlist) (fixed_pads : List Pad)
 
   -- ---- the direction of pads
 
-  module _ (port : List ℕ) (site : Site) (either : Contains (implementation.ins ++ implementation.outs) (port, site)) (wire : (tile : PlainTile) → tile_at fabric site.x site.y ≡ Some tile → Q (pin_point tile site 1))
-      (tile : PlainTile) (there : tile_at fabric site.x site.y ≡ Some tile) (bel : Has (bel_point site (codes "T"))) (turned : Has (bel_point site (codes "T_top"))) (in_tile_has : Has (port_point site (codes "T_top")))
-      (outside : Has (top_point site (codes "T_top"))) where
+  module _ (port : List ℕ) (site : Site) (either : Contains (implementation.ins ++ implementation.outs) (port, site)) (tile : PlainTile) (there : tile_at fabric site.x site.y ≡ Some tile)
+      (wire : Q (pin_point tile site 1)) where
     t_has : Q (bel_point site (codes "T"))
-    t_has = along _ _ bel (sources.turned_bel either there) (wire tile there)
+    t_has = along _ _ (sources.turned_bel either there) wire
 
     t_top_has : Q (bel_point site (codes "T_top"))
-    t_top_has = closed _ _ turned (sources.turned_top either) (one Q (bel_point site (codes "T")) t_has)
+    t_top_has = closed _ _ (sources.turned_top either) (one Q (bel_point site (codes "T")) t_has)
 
     t_port_has : Q (port_point site (codes "T_top"))
-    t_port_has = along _ _ in_tile_has (sources.turned_tile either) t_top_has
+    t_port_has = along _ _ (sources.turned_tile either) t_top_has
 
     t_outside_has : Q (top_point site (codes "T_top"))
-    t_outside_has = along _ _ outside (sources.turned_outside either) t_port_has
+    t_outside_has = along _ _ (sources.turned_outside either) t_port_has
 
   -- ---- pads
 
   module _ (port : List ℕ) (site : Site) (tile : PlainTile) (there : tile_at fabric site.x site.y ≡ Some tile) where
     module _ (listed : Contains implementation.ins (port, site)) where
-      in_here : (k : ℕ) (p : Point) → slice_get (input_pad tile site) k ≡ Some p → Has p
-      in_here k p is = inr (inr (inr (design.of_input listed there (contains_at (input_pad tile site) k p is))))
-
       in_either : Contains (implementation.ins ++ implementation.outs) (port, site)
       in_either = Contains-append_left implementation.ins implementation.outs (port, site) listed
 
-      in_wire : (tile : PlainTile) → tile_at fabric site.x site.y ≡ Some tile → Q (pin_point tile site 1)
-      in_wire tile there =
+      in_wire : Q (pin_point tile site 1)
+      in_wire =
           required_has fabric (packed netlist) fixed_pads implementation are legal Q along zero_net (begins zero_net) site kinds.Io 1 tile (input_released listed)
           (in_kind fabric (packed netlist) fixed_pads implementation legal port site listed) (omega arith) there
-
-      abbrev in_bel_t : Has (bel_point site (codes "T"))
-      in_bel_t = in_here 2 (bel_point site (codes "T")) refl
-
-      abbrev in_bel_top : Has (bel_point site (codes "T_top"))
-      in_bel_top = in_here 3 (bel_point site (codes "T_top")) refl
-
-      abbrev in_port_top : Has (port_point site (codes "T_top"))
-      in_port_top = in_here 5 (port_point site (codes "T_top")) refl
-
-      abbrev in_top_top : Has (top_point site (codes "T_top"))
-      in_top_top = in_here 9 (top_point site (codes "T_top")) refl
 
       in_pad_has : All Q (input_pad tile site)
       in_pad_has = each_all Q (input_pad tile site) (
@@ -299,21 +271,21 @@ module _ (fabric : PlainFabric) (netlist : PlainNetlist) (fixed_pads : List Pad)
         (
           in_output port site listed,
           (
-            t_has port site in_either in_wire tile there in_bel_t in_bel_top in_port_top in_top_top,
+            t_has port site in_either tile there in_wire,
             (
-              t_top_has port site in_either in_wire tile there in_bel_t in_bel_top in_port_top in_top_top,
+              t_top_has port site in_either tile there in_wire,
               (
                 in_port port site listed,
                 (
-                  t_port_has port site in_either in_wire tile there in_bel_t in_bel_top in_port_top in_top_top,
+                  t_port_has port site in_either tile there in_wire,
                   (
-                    along _ _ (in_here 6 (pin_point tile site 2) refl) (sources.pad_wire listed there) (in_output port site listed),
+                    along _ _ (sources.pad_wire listed there) (in_output port site listed),
                     (
-                      in_wire tile there,
+                      in_wire,
                       (
                         in_top port site listed,
                         (
-                          t_outside_has port site in_either in_wire tile there in_bel_t in_bel_top in_port_top in_top_top,
+                          t_outside_has port site in_either tile there in_wire,
                           tt,
                         ),
                       ),
@@ -327,14 +299,13 @@ module _ (fabric : PlainFabric) (netlist : PlainNetlist) (fixed_pads : List Pad)
       )
 
     module _ (listed : Contains implementation.outs (port, site)) where
-      out_here : (k : ℕ) (p : Point) → slice_get (output_pad tile site) k ≡ Some p → Has p
-      out_here k p is = inr (inr (inr (design.of_output listed there (contains_at (output_pad tile site) k p is))))
-
       out_either : Contains (implementation.ins ++ implementation.outs) (port, site)
       out_either = Contains-append_right implementation.ins implementation.outs (port, site) listed
 
-      out_wire : (tile : PlainTile) → tile_at fabric site.x site.y ≡ Some tile → Q (pin_point tile site 1)
-      out_wire tile there = required_has fabric (packed netlist) fixed_pads implementation are legal Q along one_net (begins one_net) site kinds.Io 1 tile (output_driven listed) (out_kind fabric (packed netlist) fixed_pads implementation legal port site listed) (omega arith) there
+      out_wire : Q (pin_point tile site 1)
+      out_wire =
+          required_has fabric (packed netlist) fixed_pads implementation are legal Q along one_net (begins one_net) site kinds.Io 1 tile (output_driven listed)
+          (out_kind fabric (packed netlist) fixed_pads implementation legal port site listed) (omega arith) there
 
       shown_wire : Q (pin_point tile site 0)
       shown_wire =
@@ -345,28 +316,16 @@ module _ (fabric : PlainFabric) (netlist : PlainNetlist) (fixed_pads : List Pad)
           (output_shown listed among) (out_kind fabric (packed netlist) fixed_pads implementation legal port site listed) (omega arith) there
 
       out_bel : Q (bel_point site (codes "I"))
-      out_bel = along _ _ (out_here 0 (bel_point site (codes "I")) refl) (sources.shown_bel listed there) shown_wire
+      out_bel = along _ _ (sources.shown_bel listed there) shown_wire
 
       out_bel_top : Q (bel_point site (codes "I_top"))
-      out_bel_top = along _ _ (out_here 1 (bel_point site (codes "I_top")) refl) (sources.shown_top listed) out_bel
+      out_bel_top = along _ _ (sources.shown_top listed) out_bel
 
       out_port : Q (port_point site (codes "I_top"))
-      out_port = along _ _ (out_here 4 (port_point site (codes "I_top")) refl) (sources.shown_tile listed) out_bel_top
+      out_port = along _ _ (sources.shown_tile listed) out_bel_top
 
       out_top : Q (top_point site (codes "I_top"))
-      out_top = along _ _ (out_here 8 (top_point site (codes "I_top")) refl) (sources.shown_outside listed) out_port
-
-      abbrev on_bel_t : Has (bel_point site (codes "T"))
-      on_bel_t = out_here 2 (bel_point site (codes "T")) refl
-
-      abbrev on_bel_top : Has (bel_point site (codes "T_top"))
-      on_bel_top = out_here 3 (bel_point site (codes "T_top")) refl
-
-      abbrev on_port_top : Has (port_point site (codes "T_top"))
-      on_port_top = out_here 5 (port_point site (codes "T_top")) refl
-
-      abbrev on_top_top : Has (top_point site (codes "T_top"))
-      on_top_top = out_here 9 (top_point site (codes "T_top")) refl
+      out_top = along _ _ (sources.shown_outside listed) out_port
 
       out_pad_has : All Q (output_pad tile site)
       out_pad_has = each_all Q (output_pad tile site) (
@@ -374,21 +333,21 @@ module _ (fabric : PlainFabric) (netlist : PlainNetlist) (fixed_pads : List Pad)
         (
           out_bel_top,
           (
-            t_has port site out_either out_wire tile there on_bel_t on_bel_top on_port_top on_top_top,
+            t_has port site out_either tile there out_wire,
             (
-              t_top_has port site out_either out_wire tile there on_bel_t on_bel_top on_port_top on_top_top,
+              t_top_has port site out_either tile there out_wire,
               (
                 out_port,
                 (
-                  t_port_has port site out_either out_wire tile there on_bel_t on_bel_top on_port_top on_top_top,
+                  t_port_has port site out_either tile there out_wire,
                   (
                     shown_wire,
                     (
-                      out_wire tile there,
+                      out_wire,
                       (
                         out_top,
                         (
-                          t_outside_has port site out_either out_wire tile there on_bel_t on_bel_top on_port_top on_top_top,
+                          t_outside_has port site out_either tile there out_wire,
                           tt,
                         ),
                       ),

@@ -8,7 +8,6 @@ use Rattle.fab_model.specs.Grid.{PlainFabric}
 use Rattle.fab_netlist.specs.Packed.{PlainPacked}
 use Rattle.fab_netlist.proofs.Members.{in_none, first_or_later, any_gives}
 use Rattle.fab_implementation.specs.Plain.{PlainImplementation}
-use Rattle.fab_use.specs.Design.{IsOfDesign}
 use Rattle.fab_use.specs.Sources.{source_reads, HasSource}
 use Rattle.std.specs.List.{All}
 use Rattle.std.proofs.lemmas.List.Elements.{All-nil, All-cons}
@@ -30,16 +29,16 @@ module _ (fabric : PlainFabric) (packed : PlainPacked) (implementation : PlainIm
       ]
 
   source_there : (before : List Point) (rules : List Rule) (p : Point) → StandBehind fabric packed implementation before rules → Contains (ruled rules) p →
-      IsOfDesign fabric packed implementation p × HasSource fabric packed implementation p (source_at rules p)
+      HasSource fabric packed implementation p (source_at rules p)
   source_there before [] p stand none = absurd (in_none p none)
   source_there before (rule ∷ rules) p stand among =
       elim (cases_Bool (same_point rule.0 p)) [
         | inl here ↦ (
             let is = same_point_is rule.0 p here in
-            rw here (subst (λ (q : Point). IsOfDesign fabric packed implementation q × HasSource fabric packed implementation q rule.1) is (stand.0, stand.1)))
+            rw here (subst (λ (q : Point). HasSource fabric packed implementation q rule.1) is stand.0))
         | inr other ↦ elim (first_or_later rule.0 (ruled rules) p among) [
           | inl now ↦ absurd (false≢true (sym other ∙ subst (λ (q : Point). same_point rule.0 q ≡ true) now (same_point_refl rule.0)))
-          | inr later ↦ rw other (source_there (rule.0 ∷ before) rules p stand.3 later)
+          | inr later ↦ rw other (source_there (rule.0 ∷ before) rules p stand.2 later)
         ]
       ]
 
@@ -55,12 +54,12 @@ module _ (fabric : PlainFabric) (packed : PlainPacked) (implementation : PlainIm
   lower before [] p q stand none reads = absurd (in_none p none)
   lower before (rule ∷ rules) p q stand among reads =
       elim (cases_Bool (same_point rule.0 p)) [
-        | inl here ↦ inl (stand.2 q (rw here at reads))
+        | inl here ↦ inl (stand.1 q (rw here at reads))
         | inr other ↦ elim (first_or_later rule.0 (ruled rules) p among) [
           | inl now ↦ absurd (false≢true (sym other ∙ subst (λ (r : Point). same_point rule.0 r ≡ true) now (same_point_refl rule.0)))
           | inr later ↦ (
               let place : place_at (rule ∷ rules) p ≡ suc (place_at rules p) = rw other refl in
-              elim (lower (rule.0 ∷ before) rules p q stand.3 later (rw other at reads)) [
+              elim (lower (rule.0 ∷ before) rules p q stand.2 later (rw other at reads)) [
                 | inl first ↦ elim (first_or_later rule.0 before q first) [
                   | inl same ↦ (let none = place_first rule rules q same in inr (omega (arith, none, place)))
                   | inr earlier ↦ inl earlier
@@ -109,7 +108,7 @@ design_ranks fabric netlist fixed_pads implementation ps are made acyclic legal 
       place_few rules,
       (λ p among. (
         source_at rules p,
-        (source_there fabric (packed netlist) implementation [] rules p order.1 (order.2 p among)).1,
+        (source_there fabric (packed netlist) implementation [] rules p order.1 (order.2 p among)),
         all_by (λ q. place_at rules q < place_at rules p) (source_reads (source_at rules p)) (λ q reads.
             elim (lower fabric (packed netlist) implementation [] rules p q order.1 (order.2 p among) reads) [
               | inl none ↦ absurd (in_none q none)

@@ -27,14 +27,14 @@ use Rattle.fab_legal.proofs.Once.{known_thing}
 use Rattle.fab_gen_tile.specs.Borders.{fixed_bit}
 use Rattle.fab_drives.specs.Points.{place_path}
 use Rattle.fab_tile_drives.specs.Stands.{wire_point}
-use Rattle.fab_use.specs.Design as design
 use Rattle.fab_use.specs.Sites.{bel_point, pin_point}
-use Rattle.fab_use.specs.Design.{IsTreeWire, IsBound, IsOfDesign}
+use Rattle.fab_use.specs.Design.{IsTreeWire, IsBound}
 use Rattle.fab_use.specs.Sources as sources
 use Rattle.fab_use.specs.Sources.{always, shows, HasSource}
 use Rattle.fab_points.proofs.Places.{one_tile, cell_kind, in_kind}
 use Rattle.fab_points.proofs.Origins.{pin_index}
-use Rattle.fab_runs.proofs.Trees.{HasIt, all_have, pin_has}
+use Rattle.fab_runs.proofs.Edges.{HasIt}
+use Rattle.fab_runs.proofs.Trees.{all_have, pin_has}
 
 zero_is : (dest : Option (List ℕ)) → constant dest ≡ zero_bit → fixed_bit dest ≡ false
 zero_is None is = refl
@@ -45,9 +45,6 @@ one_is None is = cc
 one_is (Some name) is = elim (cases_Bool (bytes_eq name (codes "VCC"))) [ inl vcc ↦ vcc | inr other ↦ (let e : zero_bit ≡ one_bit = rw other at is in cc) ]
 
 module _ (fabric : PlainFabric) (packed : PlainPacked) (fixed_pads : List Pad) (implementation : PlainImplementation) (are : AreTiles fabric) (legal : IsLegal fabric packed fixed_pads implementation) where
-  abbrev Has : Point → Type 0
-  Has p = IsOfDesign fabric packed implementation p
-
   -- a line of a cell binds it
   pub bound_cell : (number : ℕ) (site : Site) → Contains implementation.cells (number, site) → (cell : PlainCell) × IsBound packed implementation number site cell
   bound_cell number site listed =
@@ -56,16 +53,16 @@ module _ (fabric : PlainFabric) (packed : PlainPacked) (fixed_pads : List Pad) (
       let cell = get_or packed.cells number d in
       (cell, record { listed = listed; cell_is = (few, get_or_default packed.cells number cell d few) })
 
-  module _ (Q : Point → Type 0) (along : (p q : Point) → Has p → HasSource fabric packed implementation p (shows q) → Q q → Q p) where
+  module _ (Q : Point → Type 0) (along : (p q : Point) → HasSource fabric packed implementation p (shows q) → Q q → Q p) where
     -- what is so at the beginning of a net
     abbrev pub Begins : Net → Type 0
-    Begins zero_net = (p : Point) → Has p → HasSource fabric packed implementation p (always false) → Q p
-    Begins one_net = (p : Point) → Has p → HasSource fabric packed implementation p (always true) → Q p
+    Begins zero_net = (p : Point) → HasSource fabric packed implementation p (always false) → Q p
+    Begins one_net = (p : Point) → HasSource fabric packed implementation p (always true) → Q p
     Begins (port_net port) = (site : Site) → Contains implementation.ins (port, site) → Q (bel_point site (codes "O"))
     Begins (cell_net number) = (site : Site) → Contains implementation.cells (number, site) → Q (bel_point site (codes "O"))
 
     constant_begins : (net : Net) (value : PlainDrive) (bit : Bool) → ((dest : Option (List ℕ)) → constant dest ≡ value → fixed_bit dest ≡ bit) →
-        ((p : Point) → Has p → HasSource fabric packed implementation p (always bit) → Q p) →
+        ((p : Point) → HasSource fabric packed implementation p (always bit) → Q p) →
         (wire : Wire) → StandsIn implementation net wire → IsConstant fabric value wire → HasIt fabric Q wire
     constant_begins net value bit tells so wire stands c x y tile plain index there =
         let g = one_wire fabric wire.0 x y c.x c.y plain (dest_of c.row c.bit) index c.wire_is in
@@ -76,7 +73,7 @@ module _ (fabric : PlainFabric) (packed : PlainPacked) (fixed_pads : List Pad) (
         let source : HasSource fabric packed implementation (wire_point (place_path x y) tile (dest_of c.row c.bit)) (always (fixed_bit c.found.dest)) =
         sources.constant_bit tree row_there c.jumps c.unsourced in
         subst (λ w. Q (wire_point (place_path x y) tile w)) (sym g.2)
-        (so (wire_point (place_path x y) tile (dest_of c.row c.bit)) (inr (inl (design.in_tile tree)))
+        (so (wire_point (place_path x y) tile (dest_of c.row c.bit))
         (subst (λ b. HasSource fabric packed implementation (wire_point (place_path x y) tile (dest_of c.row c.bit)) (always b)) (tells c.found.dest c.value_is) source))
 
     -- an output pin that stands in a net
@@ -90,7 +87,7 @@ module _ (fabric : PlainFabric) (packed : PlainPacked) (fixed_pads : List Pad) (
         let there_too : tile_at fabric site.x site.y ≡ Some tile = (λ j. tile_at fabric (sym g.0 j) (sym g.1 j)) ∙ there in
         let tree : IsTreeWire fabric implementation site.x site.y tile (pin_of site.bel pin) = record { net = net; wire = wire; stands = stands; is_index = at; tile_is = there_too } in
         subst Q (λ j. wire_point (place_path (sym g.0 j) (sym g.1 j)) tile (sym g.2 j))
-        (along (pin_point tile site pin) (bel_point site (codes "O")) (inr (inl (design.in_tile tree))) (source tile tree) so)
+        (along (pin_point tile site pin) (bel_point site (codes "O")) (source tile tree) so)
 
     root_has : (net : Net) → Begins net → (wire : Wire) → StandsIn implementation net wire → IsRoot fabric implementation net wire → HasIt fabric Q wire
     root_has zero_net so wire stands is = constant_begins zero_net zero_bit false zero_is so wire stands is

@@ -8,7 +8,7 @@ use Rattle.fab_netlist.specs.Packed.{PlainPacked}
 use Rattle.fab_netlist.specs.Packing.{packed}
 use Rattle.fab_netlist.proofs.Members.{in_none, first_or_later, first_in, later_in, in_left, in_right}
 use Rattle.fab_implementation.specs.Plain.{PlainImplementation}
-use Rattle.fab_use.specs.Design.{IsSourced, IsOfDesign}
+use Rattle.fab_use.specs.Design.{IsSourced}
 use Rattle.fab_use.specs.Sources.{Source, source_reads, HasSource}
 use Rattle.fab_runs.specs.Ranking.{Rule, ruled, StandBehind, DesignHasOrder}
 use Rattle.fab_runs.proofs.EachPoint.{sourced_has}
@@ -22,10 +22,9 @@ module _ (fabric : PlainFabric) (p : PlainPacked) (implementation : PlainImpleme
   weaker a b [] more stand = tt
   weaker a b (rule ∷ rules) more stand = (
     stand.0,
-    stand.1,
-    (λ q reads. more q (stand.2 q reads)),
+    (λ q reads. more q (stand.1 q reads)),
     weaker (rule.0 ∷ a) (rule.0 ∷ b) rules
-        (λ q among. elim (first_or_later rule.0 a q among) [ inl now ↦ first_in rule.0 b q now | inr later ↦ later_in rule.0 b q (more q later) ]) stand.3,
+        (λ q among. elim (first_or_later rule.0 a q among) [ inl now ↦ first_in rule.0 b q now | inr later ↦ later_in rule.0 b q (more q later) ]) stand.2,
   )
 
   -- rules behind others
@@ -35,8 +34,7 @@ module _ (fabric : PlainFabric) (p : PlainPacked) (implementation : PlainImpleme
   joined before (rule ∷ rules) others stand then = (
     stand.0,
     stand.1,
-    stand.2,
-    joined (rule.0 ∷ before) rules others stand.3 (λ after covers. then after (λ q is.
+    joined (rule.0 ∷ before) rules others stand.2 (λ after covers. then after (λ q is.
         elim is [
           | inl among ↦ covers q (inl (later_in rule.0 before q among))
           | inr here ↦ elim (first_or_later rule.0 (ruled rules) q here) [ inl now ↦ covers q (inl (first_in rule.0 before q now)) | inr later ↦ covers q (inr later) ]
@@ -67,12 +65,12 @@ module _ (fabric : PlainFabric) (p : PlainPacked) (implementation : PlainImpleme
       )
 
   -- a point behind what its source reads
-  one_more : (q : Point) (s : Source) → IsOfDesign fabric p implementation q → HasSource fabric p implementation q s → ((r : Point) → Contains (source_reads s) r → IsRuled r) → IsRuled q
-  one_more q s is from each =
+  one_more : (q : Point) (s : Source) → HasSource fabric p implementation q s → ((r : Point) → Contains (source_reads s) r → IsRuled r) → IsRuled q
+  one_more q s from each =
       let all = all_ruled (source_reads s) each in
       let last : List Rule = (q, s) ∷ [] in (
         all.0 ++ last,
-        joined [] all.0 last all.1 (λ after covers. (is, from, (λ r reads. covers r (inr (all.2 r reads))), tt)),
+        joined [] all.0 last all.1 (λ after covers. (from, (λ r reads. covers r (inr (all.2 r reads))), tt)),
         in_second all.0 last q (first_in q [] q refl),
       )
 
@@ -80,5 +78,5 @@ pub design_has_order : DesignHasOrder
 design_has_order fabric netlist fixed_pads implementation ps are made acyclic legal sourced =
     all_ruled fabric (packed netlist) implementation ps (λ q among.
     sourced_has fabric netlist fixed_pads implementation are made acyclic legal (IsRuled fabric (packed netlist) implementation)
-    (λ r s is from all. one_more fabric (packed netlist) implementation r s is from (λ t reads. All-contains (IsRuled fabric (packed netlist) implementation) (source_reads s) t all reads))
+    (λ r s from all. one_more fabric (packed netlist) implementation r s from (λ t reads. All-contains (IsRuled fabric (packed netlist) implementation) (source_reads s) t all reads))
     q (All-contains (IsSourced fabric (packed netlist) implementation) ps q sourced among))

@@ -5,10 +5,9 @@ use Rattle.fab_kinds.specs.declared.kind.Kind.{Kind}
 use Rattle.fab_kinds.specs.Pins.{pin_names}
 use Rattle.fab_meaning.specs.Points.{Point}
 use Rattle.fab_model.specs.Tiles.{PlainTile}
-use Rattle.fab_model.specs.Wires.{PlainWire, pin_of}
+use Rattle.fab_model.specs.Wires.{pin_of}
 use Rattle.fab_model.specs.Grid.{PlainFabric, tile_at}
 use Rattle.fab_fabric.specs.Fabric.{AreTiles}
-use Rattle.fab_fabric.specs.Wires.{IsIndexOf}
 use Rattle.fab_fabric.specs.declared.wire.Site.{Site}
 use Rattle.fab_fabric.specs.declared.wire.Wire.{Wire}
 use Rattle.fab_netlist.specs.Packed.{PlainPacked}
@@ -19,21 +18,14 @@ use Rattle.fab_legal.specs.Sinks.{Required}
 use Rattle.fab_legal.specs.Steps.{pin_wire}
 use Rattle.fab_legal.specs.Legal.{IsLegal}
 use Rattle.fab_legal.proofs.Members.{from_mapped}
-use Rattle.fab_drives.specs.Points.{place_path}
-use Rattle.fab_tile_drives.specs.Stands.{wire_point}
 use Rattle.fab_tile_drives.proofs.Members.{contains_map}
 use Rattle.fab_use.specs.Sites.{pin_point}
-use Rattle.fab_use.specs.Design.{IsOfDesign}
 use Rattle.fab_use.specs.Sources.{shows, HasSource}
 use Rattle.fab_points.proofs.Origins.{pin_index}
-use Rattle.fab_runs.proofs.Edges.{along_edge}
-
--- a wire has it, wherever it stands
-abbrev pub HasIt : PlainFabric → (Point → Type 0) → Wire → Type 0
-HasIt fabric Q wire = (x y : ℕ) (tile : PlainTile) (plain : PlainWire) → IsIndexOf fabric wire.0 x y plain → tile_at fabric x y ≡ Some tile → Q (wire_point (place_path x y) tile plain)
+use Rattle.fab_runs.proofs.Edges.{HasIt, along_edge}
 
 module _ (fabric : PlainFabric) (packed : PlainPacked) (fixed : List Pad) (implementation : PlainImplementation) (are : AreTiles fabric) (legal : IsLegal fabric packed fixed implementation)
-    (Q : Point → Type 0) (along : (p q : Point) → IsOfDesign fabric packed implementation p → HasSource fabric packed implementation p (shows q) → Q q → Q p) where
+    (Q : Point → Type 0) (along : (p q : Point) → HasSource fabric packed implementation p (shows q) → Q q → Q p) where
   module _ (net : Net) (begins : (wire : Wire) → StandsIn implementation net wire → IsRoot fabric implementation net wire → HasIt fabric Q wire) where
     module _ (tree : PlainTree) (listed : Contains implementation.trees tree) (net_is : net_of implementation tree.net ≡ net) where
       -- a wire from which an edge leads is entered, or the net begins there

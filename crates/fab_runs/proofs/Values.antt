@@ -35,18 +35,17 @@ use Rattle.fab_legal.proofs.SinkLaw.{known_site, site_is}
 use Rattle.fab_legal.proofs.PackedMade.{packed_made}
 use Rattle.fab_prim.specs.Ports.{top_name}
 use Rattle.fab_prim.specs.Modules.{flip_flop_name}
-use Rattle.fab_tile_drives.proofs.Members.{contains_at}
-use Rattle.fab_use.specs.Design as design
-use Rattle.fab_use.specs.Sites.{bel_point, port_point, top_point, pin_point}
-use Rattle.fab_use.specs.Design.{input_pad, output_pad, IsBound, IsOfDesign}
+use Rattle.fab_use.specs.Sites.{bel_point, top_point, pin_point}
+use Rattle.fab_use.specs.Design.{IsBound}
 use Rattle.fab_use.specs.Sources as sources
 use Rattle.fab_use.specs.Sources.{Source, always, shows, source_value, HasSource, output_source}
 use Rattle.fab_use.specs.Cycles.{Feeds}
 use Rattle.fab_use.specs.Registers.{HoldsLatches}
 use Rattle.fab_points.proofs.Places.{site_tile, cell_kind, in_kind, out_kind}
+use Rattle.fab_points.proofs.Sourced.{sources_are_of_design}
 use Rattle.fab_runs.specs.Carrying.{MeetsSources}
 use Rattle.fab_runs.proofs.Roots.{Begins, required_has}
-use Rattle.fab_runs.proofs.Cells.{cell_has, input_has, reset_has, enable_has, index_each}
+use Rattle.fab_runs.proofs.Cells.{index_each}
 
 taken_are : (now : Point → Bool) (v : NetId → Bool) (nets : List NetId) (ps : List Point) → length nets ≤ length ps →
     ((k : ℕ) (p : Point) → k < length nets → slice_get ps k ≡ Some p → (net : NetId) → IsAt nets k net → now p ≡ v net) → map now (take (length nets) ps) ≡ map v nets
@@ -60,12 +59,12 @@ taken_are now v (net ∷ nets) (p ∷ ps) few each =
 
 module _ (fabric : PlainFabric) (netlist : PlainNetlist) (fixed_pads : List Pad) (implementation : PlainImplementation) (inputs held now : Assignment) (given latches : List Bool)
     (are : AreTiles fabric) (made : IsWellMade netlist) (legal : IsLegal fabric (packed netlist) fixed_pads implementation)
-    (met : MeetsSources fabric (packed netlist) implementation inputs held now) where
-  abbrev Has : Point → Type 0
-  Has p = IsOfDesign fabric (packed netlist) implementation p
-
+    (meets : MeetsSources fabric (packed netlist) implementation inputs held now) where
   abbrev From : Point → Source → Type 0
   From p s = HasSource fabric (packed netlist) implementation p s
+
+  met : (p : Point) (s : Source) → From p s → now p ≡ source_value inputs held now p s
+  met p s from = meets p s (inr (sources_are_of_design fabric (packed netlist) fixed_pads implementation are (packed_made netlist made) legal p s from)) from
 
   -- the value of each net, read where it begins
   abbrev pub value : Net → Bool
@@ -77,8 +76,8 @@ module _ (fabric : PlainFabric) (netlist : PlainNetlist) (fixed_pads : List Pad)
   abbrev pub values : NetId → Bool
   values id = value (packed_net (packed netlist) id)
 
-  along : (b : Bool) (p q : Point) → Has p → From p (shows q) → now q ≡ b → now p ≡ b
-  along b p q has from is = met p (shows q) has from ∙ is
+  along : (b : Bool) (p q : Point) → From p (shows q) → now q ≡ b → now p ≡ b
+  along b p q from is = met p (shows q) from ∙ is
 
   cell_site : (number : ℕ) (site : Site) → Contains implementation.cells (number, site) → site_of nat_eq implementation.cells number ≡ site
   cell_site number site listed = site_is nat_eq Decides-eqb fabric kinds.Lut4c (IsCell (packed netlist)) implementation.cells legal.placed.cells number site listed
@@ -87,8 +86,8 @@ module _ (fabric : PlainFabric) (netlist : PlainNetlist) (fixed_pads : List Pad)
   port_site port site listed = site_is bytes_eq bytes_eq-Decides fabric kinds.Io (IsInput (packed netlist)) implementation.ins legal.placed.ports.ins port site listed
 
   begins : (net : Net) → Begins fabric (packed netlist) fixed_pads implementation are legal (λ p. now p ≡ value net) (along (value net)) net
-  begins zero_net = λ p has from. met p (always false) has from
-  begins one_net = λ p has from. met p (always true) has from
+  begins zero_net = λ p from. met p (always false) from
+  begins one_net = λ p from. met p (always true) from
   begins (port_net port) = λ site listed. ap (λ (s : Site). now (bel_point s (codes "O"))) (sym (port_site port site listed))
   begins (cell_net number) = λ site listed. ap (λ (s : Site). now (bel_point s (codes "O"))) (sym (cell_site number site listed))
 
@@ -110,39 +109,37 @@ module _ (fabric : PlainFabric) (netlist : PlainNetlist) (fixed_pads : List Pad)
 
     input_value : (pin : ℕ) (name : List ℕ) → pin < length cell.inputs → slice_get (input_names kinds.Lut4c) pin ≡ Some name → (net : NetId) → IsAt cell.inputs pin net → now (bel_point site name) ≡ values net
     input_value pin name few is net at =
-        met _ _ (input_has fabric (packed netlist) implementation number site cell bound pin name few is) (sources.cell_input pin bound at_tile.1 few is)
+        met _ _ (sources.cell_input pin bound at_tile.1 few is)
         ∙ pin_value (packed_net (packed netlist) net) site kinds.Lut4c pin at_tile.0 (sinks.cell_input bound.listed bound.cell_is at) kind (omega (arith, few, few_inputs)) at_tile.1
 
     index_value : 0 < length cell.inputs → (net : NetId) → IsAt cell.inputs 0 net → now (bel_point site (codes "x")) ≡ values net
     index_value some net at =
-        met _ _ (cell_has fabric (packed netlist) implementation number site cell bound (bel_point site (codes "x")) (design.at_index bound some)) (sources.cell_index bound some)
-        ∙ input_value 0 (codes "I0") some refl net at
+        met _ _ (sources.cell_index bound some) ∙ input_value 0 (codes "I0") some refl net at
 
     pub table_value : now (bel_point site (codes "t")) ≡ computes cell values
     table_value =
-        met _ _ (cell_has fabric (packed netlist) implementation number site cell bound (bel_point site (codes "t")) (design.at_table bound)) (sources.cell_table bound)
+        met _ _ (sources.cell_table bound)
         ∙ ap (λ bits. table_bit cell.table (number_of bits))
         (taken_are now values cell.inputs (bel_point site (codes "x") ∷ map (bel_point site) (take 3 (drop 1 (input_names kinds.Lut4c)))) few_inputs
-        (index_each fabric (packed netlist) implementation number site cell bound (λ k p. (net : NetId) → IsAt cell.inputs k net → now p ≡ values net) index_value input_value))
+        (index_each site cell (λ k p. (net : NetId) → IsAt cell.inputs k net → now p ≡ values net) index_value input_value))
 
     output_value : (latch : Option ℕ) → cell.latch ≡ latch → now (bel_point site (codes "O")) ≡ source_value inputs held now (bel_point site (codes "O")) (output_source site latch)
     output_value latch is =
-        met _ _ (cell_has fabric (packed netlist) implementation number site cell bound (bel_point site (codes "O")) (design.at_output bound)) (sources.cell_output bound)
+        met _ _ (sources.cell_output bound)
         ∙ ap (λ l. source_value inputs held now (bel_point site (codes "O")) (output_source site l)) is
 
     held_value : (init : ℕ) → cell.latch ≡ Some init → now (bel_point site (codes "O")) ≡ held (bel_point site flip_flop_name)
     held_value init latched =
-        output_value (Some init) latched
-        ∙ met _ _ (cell_has fabric (packed netlist) implementation number site cell bound (bel_point site flip_flop_name) (design.at_flip_flop bound latched)) (sources.cell_register bound latched)
+        output_value (Some init) latched ∙ met _ _ (sources.cell_register bound latched)
 
     pub enabled : (init : ℕ) → cell.latch ≡ Some init → now (bel_point site (codes "EN")) ≡ true
     enabled init latched =
-        met _ _ (enable_has fabric (packed netlist) implementation number site cell bound init latched) (sources.cell_enable bound at_tile.1 latched)
+        met _ _ (sources.cell_enable bound at_tile.1 latched)
         ∙ pin_value one_net site kinds.Lut4c 6 at_tile.0 (latch_enable bound.listed bound.cell_is latched) kind (omega arith) at_tile.1
 
     pub free : (init : ℕ) → cell.latch ≡ Some init → now (bel_point site (codes "SR")) ≡ false
     free init latched =
-        met _ _ (reset_has fabric (packed netlist) implementation number site cell bound init latched) (sources.cell_reset bound at_tile.1 latched)
+        met _ _ (sources.cell_reset bound at_tile.1 latched)
         ∙ pin_value zero_net site kinds.Lut4c 5 at_tile.0 (latch_reset bound.listed bound.cell_is latched) kind (omega arith) at_tile.1
 
     module _ (holds : HoldsLatches netlist implementation held latches) where
@@ -158,55 +155,40 @@ module _ (fabric : PlainFabric) (netlist : PlainNetlist) (fixed_pads : List Pad)
   in_tile : (port : List ℕ) (site : Site) → Contains implementation.ins (port, site) → (tile : PlainTile) × (tile_at fabric site.x site.y ≡ Some tile)
   in_tile port site listed = site_tile fabric site kinds.Io (in_kind fabric (packed netlist) fixed_pads implementation legal port site listed)
 
-  in_has : (port : List ℕ) (site : Site) (k : ℕ) (p : Point) → Contains implementation.ins (port, site) → ((tile : PlainTile) → slice_get (input_pad tile site) k ≡ Some p) → Has p
-  in_has port site k p listed is = (let at = in_tile port site listed in inr (inr (inr (design.of_input listed at.1 (contains_at (input_pad at.0 site) k p (is at.0))))))
-
   outer_value : (port : List ℕ) (site : Site) → Contains implementation.ins (port, site) → now (bel_point site (codes "O")) ≡ inputs (top_point site top_name)
   outer_value port site listed =
-      met _ _ (in_has port site 1 (bel_point site (codes "O")) listed (λ tile. refl)) (sources.pad_output listed)
-      ∙ met _ _ (in_has port site 0 (bel_point site top_name) listed (λ tile. refl)) (sources.pad_bel listed)
-      ∙ met _ _ (in_has port site 4 (port_point site top_name) listed (λ tile. refl)) (sources.pad_tile listed)
-      ∙ met _ _ (in_has port site 8 (top_point site top_name) listed (λ tile. refl)) (sources.pad_top listed)
+      met _ _ (sources.pad_output listed) ∙ met _ _ (sources.pad_bel listed) ∙ met _ _ (sources.pad_tile listed) ∙ met _ _ (sources.pad_top listed)
 
   pub released : (port : List ℕ) (site : Site) → Contains implementation.ins (port, site) → now (top_point site (codes "T_top")) ≡ true
   released port site listed =
       let at = in_tile port site listed in
       let either = Contains-append_left implementation.ins implementation.outs (port, site) listed in
       let turned : now (bel_point site (codes "T")) ≡ false =
-      met _ _ (in_has port site 2 (bel_point site (codes "T")) listed (λ tile. refl)) (sources.turned_bel either at.1)
+      met _ _ (sources.turned_bel either at.1)
       ∙ pin_value zero_net site kinds.Io 1 at.0 (input_released listed) (in_kind fabric (packed netlist) fixed_pads implementation legal port site listed) (omega arith) at.1 in
-      met _ _ (in_has port site 9 (top_point site (codes "T_top")) listed (λ tile. refl)) (sources.turned_outside either)
-      ∙ met _ _ (in_has port site 5 (port_point site (codes "T_top")) listed (λ tile. refl)) (sources.turned_tile either)
-      ∙ met _ _ (in_has port site 3 (bel_point site (codes "T_top")) listed (λ tile. refl)) (sources.turned_top either)
-      ∙ ap not turned
+      met _ _ (sources.turned_outside either) ∙ met _ _ (sources.turned_tile either) ∙ met _ _ (sources.turned_top either) ∙ ap not turned
 
   -- ---- pads of outputs
 
   out_tile : (port : List ℕ) (site : Site) → Contains implementation.outs (port, site) → (tile : PlainTile) × (tile_at fabric site.x site.y ≡ Some tile)
   out_tile port site listed = site_tile fabric site kinds.Io (out_kind fabric (packed netlist) fixed_pads implementation legal port site listed)
 
-  out_has : (port : List ℕ) (site : Site) (k : ℕ) (p : Point) → Contains implementation.outs (port, site) → ((tile : PlainTile) → slice_get (output_pad tile site) k ≡ Some p) → Has p
-  out_has port site k p listed is = (let at = out_tile port site listed in inr (inr (inr (design.of_output listed at.1 (contains_at (output_pad at.0 site) k p (is at.0))))))
-
   pub driven : (port : List ℕ) (site : Site) → Contains implementation.outs (port, site) → now (top_point site (codes "T_top")) ≡ false
   driven port site listed =
       let at = out_tile port site listed in
       let either = Contains-append_right implementation.ins implementation.outs (port, site) listed in
       let turned : now (bel_point site (codes "T")) ≡ true =
-      met _ _ (out_has port site 2 (bel_point site (codes "T")) listed (λ tile. refl)) (sources.turned_bel either at.1)
+      met _ _ (sources.turned_bel either at.1)
       ∙ pin_value one_net site kinds.Io 1 at.0 (output_driven listed) (out_kind fabric (packed netlist) fixed_pads implementation legal port site listed) (omega arith) at.1 in
-      met _ _ (out_has port site 9 (top_point site (codes "T_top")) listed (λ tile. refl)) (sources.turned_outside either)
-      ∙ met _ _ (out_has port site 5 (port_point site (codes "T_top")) listed (λ tile. refl)) (sources.turned_tile either)
-      ∙ met _ _ (out_has port site 3 (bel_point site (codes "T_top")) listed (λ tile. refl)) (sources.turned_top either)
-      ∙ ap not turned
+      met _ _ (sources.turned_outside either) ∙ met _ _ (sources.turned_tile either) ∙ met _ _ (sources.turned_top either) ∙ ap not turned
 
   pub shown : (port : List ℕ) (site : Site) (id : NetId) → Contains implementation.outs (port, site) → Contains (packed netlist).outputs (port, id) → now (top_point site (codes "I_top")) ≡ values id
   shown port site id listed among =
       let at = out_tile port site listed in
-      met _ _ (out_has port site 8 (top_point site (codes "I_top")) listed (λ tile. refl)) (sources.shown_outside listed)
-      ∙ met _ _ (out_has port site 4 (port_point site (codes "I_top")) listed (λ tile. refl)) (sources.shown_tile listed)
-      ∙ met _ _ (out_has port site 1 (bel_point site (codes "I_top")) listed (λ tile. refl)) (sources.shown_top listed)
-      ∙ met _ _ (out_has port site 0 (bel_point site (codes "I")) listed (λ tile. refl)) (sources.shown_bel listed at.1)
+      met _ _ (sources.shown_outside listed)
+      ∙ met _ _ (sources.shown_tile listed)
+      ∙ met _ _ (sources.shown_top listed)
+      ∙ met _ _ (sources.shown_bel listed at.1)
       ∙ pin_value (packed_net (packed netlist) id) site kinds.Io 0 at.0 (output_shown listed among) (out_kind fabric (packed netlist) fixed_pads implementation legal port site listed) (omega arith) at.1
 
   -- ---- all nets

@@ -13,7 +13,7 @@ use Rattle.fab_netlist.specs.Packed.{PlainPacked}
 use Rattle.fab_netlist.specs.Packing.{packed}
 use Rattle.fab_implementation.specs.Plain.{Pad, PlainImplementation}
 use Rattle.fab_legal.specs.Legal.{IsLegal}
-use Rattle.fab_use.specs.Design.{IsOfDesign, IsSourced}
+use Rattle.fab_use.specs.Design.{IsSourced}
 use Rattle.fab_use.specs.Sources.{Source, top_input, source_reads, HasSource}
 
 -- a point, and a source of it
@@ -23,12 +23,11 @@ Rule = Point × Source
 abbrev pub ruled : List Rule → List Point
 ruled rules = map (λ (rule : Rule). rule.0) rules
 
--- Each rule is one of the design, and reads points that come before it; some points come before all.
+-- The source of each rule reads points that come before it; some points come before all.
 abbrev pub StandBehind : PlainFabric → PlainPacked → PlainImplementation → (first : List Point) → List Rule → Type 0
 StandBehind fabric packed implementation first [] = Unit {0}
 StandBehind fabric packed implementation first (rule ∷ rules) =
-    IsOfDesign fabric packed implementation rule.0 × HasSource fabric packed implementation rule.0 rule.1
-    × ((q : Point) → Contains (source_reads rule.1) q → Contains first q) × StandBehind fabric packed implementation (rule.0 ∷ first) rules
+    HasSource fabric packed implementation rule.0 rule.1 × ((q : Point) → Contains (source_reads rule.1) q → Contains first q) × StandBehind fabric packed implementation (rule.0 ∷ first) rules
 
 -- Route, cell and pad points have rules in an order.
 abbrev pub DesignHasOrder : Type 0
@@ -58,7 +57,7 @@ RulesRank =
     ((p : Point) → given p ≡ true → has p ≡ false) →
     ((p q : Point) → has p ≡ true → Contains (source_reads (source_at rules p)) q → (given q ≡ true) ⊎ (has q ≡ true)) →
     IsRanked has given (reads_by rules) (place_at rules) (length rules)
-    × ((p : Point) → has p ≡ true → IsOfDesign fabric packed implementation p × HasSource fabric packed implementation p (source_at rules p))
+    × ((p : Point) → has p ≡ true → HasSource fabric packed implementation p (source_at rules p))
 
 -- Route, cell and pad points have ranks, each above those of the points that a source of it reads.
 abbrev pub DesignRanks : Type 0
