@@ -1,115 +1,99 @@
 -- Cycle by cycle the pads show what the netlist says.
-use Rattle.std.proofs.Common.{ℕ, Bool, List, [], ◌∷◌, map, inr}
+use Rattle.std.proofs.Common.{ℕ, Bool, List, [], ◌∷◌, map}
 use Rattle.std.specs.List.{All}
 use Rattle.std.proofs.lemmas.List.Elements.{All-nil, All-cons, All-head, All-tail}
-use Rattle.fab_syntax.specs.Plain.{PlainModule}
-use Rattle.fab_meaning.specs.Points.{Point}
 use Rattle.fab_meaning.specs.Settled.{Assignment}
-use Rattle.fab_model.specs.Grid.{PlainFabric}
-use Rattle.fab_model.specs.Drive.{PlainBits}
-use Rattle.fab_fabric.specs.Fabric.{IsFabric, AreTiles}
-use Rattle.fab_netlist.specs.Plain.{PlainNetlist, bit_at}
-use Rattle.fab_netlist.specs.WellMade.{IsWellMade}
-use Rattle.fab_netlist.specs.Cycles.{HasNoCycle}
+use Rattle.fab_netlist.specs.Plain.{bit_at}
 use Rattle.fab_netlist.specs.Meaning.{Meets, next_held, IsRun}
 use Rattle.fab_netlist.specs.Packing.{packed}
-use Rattle.fab_implementation.specs.Plain.{Pad, PlainImplementation}
-use Rattle.fab_legal.specs.Legal.{IsLegal}
-use Rattle.fab_legal.proofs.PackedMade.{packed_made}
-use Rattle.fab_text_loads.specs.Texts.{IsFabricText}
 use Rattle.fab_text_loads.specs.Loads.{IsConfigured}
-use Rattle.fab_use.specs.Configuring.{Configures}
 use Rattle.fab_use.specs.Cycles.{Instant, AreInstants, Feeds, Shows, EndsCycle, Cycle, AreCycles, EachShows}
 use Rattle.fab_use.specs.Registers.{HoldsLatches}
-use Rattle.fab_use.specs.Headline.{SettlesOnce, DesignPoints, IsFed, RunsFrom}
-use Rattle.fab_runs.proofs.Laws.{Laws}
+use Rattle.fab_use.specs.Headline.{SettlesOnce, IsFed, RunsFrom}
+use Rattle.fab_runs.proofs.Setting.{Setting, cells_made}
 use Rattle.fab_runs.proofs.DesignRank.{design_rank}
-use Rattle.fab_runs.proofs.Instants as instants
+use Rattle.fab_runs.proofs.Instants.{Has, Ready, same_configured, same_ready, Passes, still_configured, instant_shows, user_ready, loader_ready}
 use Rattle.fab_runs.proofs.Start.{held_latches}
 
-module _ (laws : Laws) (fabric : PlainFabric) (text : List PlainModule) (netlist : PlainNetlist) (fixed : List Pad) (implementation : PlainImplementation) (bits : PlainBits)
-    (is : IsFabric fabric) (are : AreTiles fabric) (is_text : IsFabricText fabric text) (made : IsWellMade netlist) (acyclic : HasNoCycle netlist)
-    (legal : IsLegal fabric (packed netlist) fixed implementation) (configures : Configures fabric (packed netlist) implementation bits) where
-  abbrev Has : Point → Type 0
-  Has = DesignPoints fabric text netlist implementation
-
-  abbrev Ready : Assignment → List Bool → Type 0
-  Ready = instants.Ready laws fabric text netlist fixed implementation bits is are is_text made acyclic legal configures
-
+module _ (s : Setting) where
   -- ---- one cycle
 
   module _ (given : List Bool) where
     abbrev IsGiven : Instant → Type 0
-    IsGiven i = Feeds netlist implementation given i.inputs
+    IsGiven i = Feeds s.netlist s.implementation given i.inputs
 
-    cycle_shows : (latches : List Bool) (nets : ℕ → Bool) → Meets netlist (bit_at given) (bit_at latches) nets → (list : List Instant) (held after : Assignment) →
-        EndsCycle list → All IsGiven list → AreInstants Has text list held after → Ready held latches →
-        All (λ i. Shows netlist implementation i.now nets) list × Ready after (next_held netlist nets)
-    cycle_shows latches nets meets [] held after ends fed run ready = absurd ends
-    cycle_shows latches nets meets (i ∷ []) held after ends fed (next, settled, low, ticks, same) ready =
-        let feeds = All-head IsGiven i [] fed in (
-          All-cons (λ i. Shows netlist implementation i.now nets) i []
-              (instants.instant_shows laws fabric text netlist fixed implementation bits is are is_text made acyclic legal configures i held next settled low ticks ready.configured given latches nets feeds ready.holds meets)
-              (All-nil (λ i. Shows netlist implementation i.now nets)),
-          instants.same_ready laws fabric text netlist fixed implementation bits is are is_text made acyclic legal configures next after (next_held netlist nets) same
-              (instants.user_ready laws fabric text netlist fixed implementation bits is are is_text made acyclic legal configures i held next settled low ticks ready.configured given latches nets feeds ready.holds meets ends),
-        )
-    cycle_shows latches nets meets (i ∷ j ∷ more) held after ends fed (next, settled, low, ticks, run) ready =
-        let feeds = All-head IsGiven i (j ∷ more) fed in
-        let ready_next = instants.loader_ready laws fabric text netlist fixed implementation bits is are is_text made acyclic legal configures i held next settled low ticks ready.configured given latches nets feeds ready.holds meets ends.0 in
-        let rest = cycle_shows latches nets meets (j ∷ more) next after ends.1 (All-tail IsGiven i (j ∷ more) fed) run ready_next in (
-          All-cons (λ i. Shows netlist implementation i.now nets) i (j ∷ more)
-              (instants.instant_shows laws fabric text netlist fixed implementation bits is are is_text made acyclic legal configures i held next settled low ticks ready.configured given latches nets feeds ready.holds meets)
-              rest.0,
-          rest.1,
-        )
+    abbrev IsTick : Instant → Type 0
+    IsTick i = IsFed s.netlist s.implementation given i
+
+    module _ (latches : List Bool) (nets : ℕ → Bool) (meets : Meets s.netlist (bit_at given) (bit_at latches) nets) where
+      abbrev ShowsThem : Instant → Type 0
+      ShowsThem i = Shows s.netlist s.implementation i.now nets
+
+      cycle_shows : (instants : List Instant) (held after : Assignment) → EndsCycle instants → All IsGiven instants → AreInstants (Has s) s.text instants held after → Ready s held latches →
+          All ShowsThem instants × Ready s after (next_held s.netlist nets)
+      cycle_shows [] held after ends given_all run ready = absurd ends
+      cycle_shows (i ∷ []) held after ends given_all (next, settled, low, ticks, same) ready =
+          let passes : Passes s i held next = record { settled = settled; low = low; ticks = ticks } in
+          let feeds = All-head IsGiven i [] given_all in (
+            All-cons ShowsThem i [] (instant_shows s i held next passes given latches ready feeds nets meets) (All-nil ShowsThem),
+            same_ready s next after (next_held s.netlist nets) same (user_ready s i held next passes given latches ready feeds nets meets ends),
+          )
+      cycle_shows (i ∷ j ∷ more) held after ends given_all (next, settled, low, ticks, run) ready =
+          let passes : Passes s i held next = record { settled = settled; low = low; ticks = ticks } in
+          let feeds = All-head IsGiven i (j ∷ more) given_all in
+          let rest = cycle_shows (j ∷ more) next after ends.1 (All-tail IsGiven i (j ∷ more) given_all) run (loader_ready s i held next passes given latches ready feeds ends.0) in
+          (All-cons ShowsThem i (j ∷ more) (instant_shows s i held next passes given latches ready feeds nets meets) rest.0, rest.1)
 
     -- ticks of CLK keep the configuration
-    fed_configured : (list : List Instant) (held after : Assignment) → All (IsFed netlist implementation given) list → AreInstants Has text list held after →
-        IsConfigured fabric bits held → IsConfigured fabric bits after
-    fed_configured [] held after fed same configured = laws.goes fabric text bits held after is is_text configured (λ p loads. same p (inr loads))
-    fed_configured (i ∷ more) held after fed (next, settled, low, ticks, run) configured =
-        fed_configured more next after (All-tail (IsFed netlist implementation given) i more fed) run
-        (instants.still_configured laws fabric text netlist fixed implementation bits is are is_text made acyclic legal configures i held next settled low ticks configured
-        (All-head (IsFed netlist implementation given) i more fed).0.quiet)
+    ticks_configured : (instants : List Instant) (held after : Assignment) → All IsTick instants → AreInstants (Has s) s.text instants held after →
+        IsConfigured s.fabric s.bits held → IsConfigured s.fabric s.bits after
+    ticks_configured [] held after fed same configured = same_configured s held after same configured
+    ticks_configured (i ∷ more) held after fed (next, settled, low, ticks, run) configured =
+        let passes : Passes s i held next = record { settled = settled; low = low; ticks = ticks } in
+        ticks_configured more next after (All-tail IsTick i more fed) run (still_configured s i held next passes configured (All-head IsTick i more fed).0.quiet)
 
   -- ---- all cycles
 
-  cycles_show : (cycles : List Cycle) (held after : Assignment) (latches : List Bool) (nows : List (ℕ → Bool)) → AreCycles Has text netlist implementation cycles held after →
-      IsRun netlist latches (map (λ c. c.given) cycles) nows → Ready held latches → EachShows netlist implementation cycles nows × ((last : List Bool) × Ready after last)
-  cycles_show [] held after latches [] same run ready =
-      (tt, (latches, instants.same_ready laws fabric text netlist fixed implementation bits is are is_text made acyclic legal configures held after latches same ready))
+  abbrev vectors : List Cycle → List (List Bool)
+  vectors cycles = map (λ c. c.given) cycles
+
+  cycles_show : (cycles : List Cycle) (held after : Assignment) (latches : List Bool) (nows : List (ℕ → Bool)) → AreCycles (Has s) s.text s.netlist s.implementation cycles held after →
+      IsRun s.netlist latches (vectors cycles) nows → Ready s held latches → EachShows s.netlist s.implementation cycles nows × ((last : List Bool) × Ready s after last)
+  cycles_show [] held after latches [] same run ready = (tt, (latches, same_ready s held after latches same ready))
   cycles_show [] held after latches (nets ∷ later) same run ready = absurd run
-  cycles_show (c ∷ more) held after latches [] are_cycles run ready = absurd run
+  cycles_show (c ∷ more) held after latches [] are run ready = absurd run
   cycles_show (c ∷ more) held after latches (nets ∷ later) (is_cycle, next, here, rest) run ready =
       let first = cycle_shows c.given latches nets run.0 c.instants held next is_cycle.0 is_cycle.1 here ready in
-      let others = cycles_show more next after (next_held netlist nets) later rest run.1 first.1 in
+      let others = cycles_show more next after (next_held s.netlist nets) later rest run.1 first.1 in
       ((first.0, others.0), others.1)
 
   -- ---- from a start
 
-  module _ (start : Assignment) (configured : IsConfigured fabric bits start) where
-    ready : (latches : List Bool) → HoldsLatches netlist implementation start latches → Ready start latches
+  module _ (start : Assignment) (configured : IsConfigured s.fabric s.bits start) where
+    ready : (latches : List Bool) → HoldsLatches s.netlist s.implementation start latches → Ready s start latches
     ready latches holds = record { configured = configured; holds = holds }
 
-    latches_held : (latches : List Bool) × HoldsLatches netlist implementation start latches
-    latches_held = held_latches fabric netlist fixed implementation made legal start
+    latches_held : (latches : List Bool) × HoldsLatches s.netlist s.implementation start latches
+    latches_held = held_latches s.fabric s.netlist s.fixed s.implementation s.made s.legal start
 
-    settles_once : (cycles : List Cycle) (list : List Instant) (between held : Assignment) (given : List Bool) (inputs : Assignment) →
-        AreCycles Has text netlist implementation cycles start between → AreInstants Has text list between held → All (IsFed netlist implementation given) list →
-        Feeds netlist implementation given inputs → SettlesOnce Has text inputs held
-    settles_once cycles list between held given inputs are_cycles are_instants fed feeds =
-        let run = (laws.one_run netlist made acyclic latches_held.0 (map (λ c. c.given) cycles)).0 in
+    one_run : (latches : List Bool) (cycles : List Cycle) → (nows : List (ℕ → Bool)) × IsRun s.netlist latches (vectors cycles) nows
+    one_run latches cycles = (s.laws.one_run s.netlist s.made s.acyclic latches (vectors cycles)).0
+
+    settles_once : (cycles : List Cycle) (instants : List Instant) (between held : Assignment) (given : List Bool) (inputs : Assignment) →
+        AreCycles (Has s) s.text s.netlist s.implementation cycles start between → AreInstants (Has s) s.text instants between held → All (IsTick given) instants →
+        Feeds s.netlist s.implementation given inputs → SettlesOnce (Has s) s.text inputs held
+    settles_once cycles instants between held given inputs are_cycles are_instants fed feeds =
+        let run = one_run latches_held.0 cycles in
         let behind = (cycles_show cycles start between latches_held.0 run.0 are_cycles run.1 (ready latches_held.0 latches_held.1)).1 in
-        let still = fed_configured given list between held fed are_instants behind.1.configured in
-        let ranked = design_rank laws.listed fabric text netlist fixed implementation is are is_text made acyclic legal in
-        laws.once fabric text (packed netlist) fixed implementation bits inputs held ranked.0 ranked.1 is are is_text (packed_made netlist made) legal configures still feeds.low ranked.2
+        let still = ticks_configured given instants between held fed are_instants behind.1.configured in
+        let ranked = design_rank s in
+        s.laws.once s.fabric s.text (packed s.netlist) s.fixed s.implementation s.bits inputs held ranked.0 ranked.1 s.is s.are s.is_text (cells_made s) s.legal s.configures still feeds.low ranked.2
 
-    pub runs_from : RunsFrom fabric text netlist implementation start
+    pub runs_from : RunsFrom s.fabric s.text s.netlist s.implementation start
     runs_from = record {
       latches = latches_held;
       shows = λ cycles after latches are_cycles holds.
-          let run = (laws.one_run netlist made acyclic latches (map (λ c. c.given) cycles)).0 in
+          let run = one_run latches cycles in
           (run.0, run.1, (cycles_show cycles start after latches run.0 are_cycles run.1 (ready latches holds)).0);
       settles = settles_once;
     }

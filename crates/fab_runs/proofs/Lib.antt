@@ -10,7 +10,7 @@ pub mod Rules
 pub mod Ranks
 pub mod LatchCells
 pub mod Start
-pub mod Laws
+pub mod Setting
 pub mod DesignRank
 pub mod Instants
 pub mod CyclesRun
