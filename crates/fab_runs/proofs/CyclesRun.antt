@@ -5,13 +5,12 @@ use Rattle.std.proofs.lemmas.List.Elements.{All-nil, All-cons, All-head, All-tai
 use Rattle.fab_meaning.specs.Settled.{Assignment}
 use Rattle.fab_netlist.specs.Plain.{bit_at}
 use Rattle.fab_netlist.specs.Meaning.{Meets, next_held, IsRun}
-use Rattle.fab_netlist.specs.Packing.{packed}
 use Rattle.fab_text_loads.specs.Loads.{IsConfigured}
 use Rattle.fab_use.specs.Cycles.{Instant, AreInstants, Feeds, Shows, EndsCycle, Cycle, AreCycles, EachShows}
 use Rattle.fab_use.specs.Registers.{HoldsLatches}
 use Rattle.fab_use.specs.Headline.{SettlesOnce, IsFed, RunsFrom}
-use Rattle.fab_runs.proofs.Setting.{Setting, cells_made}
-use Rattle.fab_runs.proofs.DesignRank.{design_rank}
+use Rattle.fab_runs.proofs.Setting.{Setting}
+use Rattle.fab_runs.proofs.DesignRank.{settles_once}
 use Rattle.fab_runs.proofs.Instants.{Has, Ready, same_configured, same_ready, Passes, still_configured, instant_shows, user_ready, loader_ready}
 use Rattle.fab_runs.proofs.Start.{held_latches}
 
@@ -79,15 +78,14 @@ module _ (s : Setting) where
     one_run : (latches : List Bool) (cycles : List Cycle) → (nows : List (ℕ → Bool)) × IsRun s.netlist latches (vectors cycles) nows
     one_run latches cycles = (s.laws.one_run s.netlist s.made s.acyclic latches (vectors cycles)).0
 
-    settles_once : (cycles : List Cycle) (instants : List Instant) (between held : Assignment) (given : List Bool) (inputs : Assignment) →
+    settles_behind : (cycles : List Cycle) (instants : List Instant) (between held : Assignment) (given : List Bool) (inputs : Assignment) →
         AreCycles (Has s) s.text s.netlist s.implementation cycles start between → AreInstants (Has s) s.text instants between held → All (IsTick given) instants →
         Feeds s.netlist s.implementation given inputs → SettlesOnce (Has s) s.text inputs held
-    settles_once cycles instants between held given inputs are_cycles are_instants fed feeds =
+    settles_behind cycles instants between held given inputs are_cycles are_instants fed feeds =
         let run = one_run latches_held.0 cycles in
         let behind = (cycles_show cycles start between latches_held.0 run.0 are_cycles run.1 (ready latches_held.0 latches_held.1)).1 in
         let still = ticks_configured given instants between held fed are_instants behind.1.configured in
-        let ranked = design_rank s in
-        s.laws.once s.fabric s.text (packed s.netlist) s.fixed s.implementation s.bits inputs held ranked.0 ranked.1 s.is s.are s.is_text (cells_made s) s.legal s.configures still feeds.low ranked.2
+        settles_once s held inputs still feeds.low
 
     pub runs_from : RunsFrom s.fabric s.text s.netlist s.implementation start
     runs_from = record {
@@ -95,5 +93,5 @@ module _ (s : Setting) where
       shows = λ cycles after latches are_cycles holds.
           let run = one_run latches cycles in
           (run.0, run.1, (cycles_show cycles start after latches run.0 are_cycles run.1 (ready latches holds)).0);
-      settles = settles_once;
+      settles = settles_behind;
     }

@@ -1,13 +1,17 @@
 -- The design points of a legal implementation are ranked, so that exactly one assignment of them is settled.
-use Rattle.std.proofs.Common.{◌⊎◌, ◌<◌, ℕ, List, map, inl, inr, subst, Contains}
+use Rattle.std.proofs.Common.{◌≡◌, ◌⊎◌, ◌<◌, ℕ, false, List, [], map, inl, inr, subst, Contains}
 use Rattle.std.specs.List.{All}
 use Rattle.std.proofs.lemmas.List.Elements.{All-contains, All-weaker}
-use Rattle.fab_meaning.specs.Points.{Point}
+use Rattle.fab_meaning.specs.Points.{Point, point}
+use Rattle.fab_meaning.specs.Settled.{Assignment}
+use Rattle.fab_meaning.specs.Runs.{clock_name}
 use Rattle.fab_meaning.specs.Loading.{IsLoading}
 use Rattle.fab_netlist.specs.Packing.{packed}
 use Rattle.fab_netlist.proofs.Members.{mapped_in}
 use Rattle.fab_legal.proofs.Members.{from_mapped}
 use Rattle.fab_use.specs.Design.{IsSourced}
+use Rattle.fab_text_loads.specs.Loads.{IsConfigured}
+use Rattle.fab_use.specs.Headline.{SettlesOnce, DesignPoints}
 use Rattle.fab_use.specs.Sources.{Source, source_reads, HasSource}
 use Rattle.fab_points.specs.Laws.{RanksDesign}
 use Rattle.fab_points.proofs.Configuration.{configuration_point_loads}
@@ -52,3 +56,9 @@ module _ (s : Setting) where
               ];
         },
       )
+
+  pub settles_once : (held inputs : Assignment) → IsConfigured s.fabric s.bits held → inputs (point [] clock_name 0) ≡ false →
+      SettlesOnce (DesignPoints s.fabric s.text s.netlist s.implementation) s.text inputs held
+  settles_once held inputs configured low =
+      s.laws.once s.fabric s.text (packed s.netlist) s.fixed s.implementation s.bits inputs held design_rank.0 design_rank.1 s.is s.are s.is_text (cells_made s) s.legal s.configures configured low
+      design_rank.2

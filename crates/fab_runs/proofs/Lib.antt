@@ -14,4 +14,5 @@ pub mod Setting
 pub mod DesignRank
 pub mod Instants
 pub mod CyclesRun
+pub mod Feeding
 pub mod Headline

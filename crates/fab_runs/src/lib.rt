@@ -4,6 +4,7 @@
 
 ghost use Rattle.fab_use.specs.Headline.{LegalDesignsRun};
 ghost use Rattle.fab_runs.specs.Carrying.{SourcesCarry};
+ghost use Rattle.fab_runs.specs.Feeding.{FedDesignsRun};
 ghost use Rattle.fab_runs.specs.Ranking.{DesignHasOrder, DesignRanks, RulesRank};
 
 use fab_netlist::one_run;
@@ -36,6 +37,20 @@ pub fn design_ranks()
 /// In each text of a fabric, the bitstream of configuration bits that are those of a legal implementation runs its netlist.
 pub fn legal_designs_run()
     ensures { LegalDesignsRun }
+{
+    fabric_texts_load();
+    configuration_goes();
+    design_is_declared();
+    design_is_listed();
+    design_settles_by_sources();
+    registers_tick();
+    ranked_design_settles_once();
+    one_run();
+}
+
+/// Whatever is fed to such a text in cycles, there is a run in which this is fed.
+pub fn fed_designs_run()
+    ensures { FedDesignsRun }
 {
     fabric_texts_load();
     configuration_goes();
