@@ -14,5 +14,6 @@ pub mod Setting
 pub mod DesignRank
 pub mod Instants
 pub mod CyclesRun
+pub mod Behind
 pub mod Feeding
 pub mod Headline

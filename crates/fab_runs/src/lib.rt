@@ -48,16 +48,7 @@ pub fn legal_designs_run()
     one_run();
 }
 
-/// Whatever is fed to such a text in cycles, there is a run in which this is fed.
+/// Where a design runs from a start, there is a run with whatever is fed in cycles.
 pub fn fed_designs_run()
     ensures { FedDesignsRun }
-{
-    fabric_texts_load();
-    configuration_goes();
-    design_is_declared();
-    design_is_listed();
-    design_settles_by_sources();
-    registers_tick();
-    ranked_design_settles_once();
-    one_run();
-}
+{}
