@@ -1,0 +1,26 @@
+use Rattle.std.proofs.Common.{ℕ, List, ap, false}
+use Rattle.fab_select.specs.declared.pair.Pair.{Pair}
+use Rattle.fab_ways.specs.Edges.{outputs_of, turned_pairs, wire_at, ends}
+use Rattle.fab_graph.proofs.Edges.{edges_are}
+use Rattle.fab_graph.proofs.Scanned.{scan_ok, scan_err, end_within}
+use Rattle.fab_graph.proofs.scans.successors.Goals as goal
+
+pub wire_at-requires : goal.wire_at-requires
+wire_at-requires c =
+    end_within c.args.fabric.now false c.spot-x.result.0 c.spot-x.result.1 c.spot-x.result.2 c.args.index c.in-Ok.output c.pairs_at.result.now c.types-types.ensures.are_tiles c.spot-x.ensures.number c.pairs_at.ensures c.in-Ok.ensures
+
+pub returns-in-Ok : goal.returns-in-Ok
+returns-in-Ok c =
+    let outs : List ℕ = outputs_of (turned_pairs false c.pairs_at.result.now) c.spot-x.result.2 in
+    scan_ok (wire_at c.args.fabric.now c.spot-x.result.0 c.spot-x.result.1) outs c.join_to-join.result (ends c.args.fabric.now c.args.wire.0) c.args.index c.in-Ok.output c.wire_at.result
+    (edges_are c.args.fabric.now c.args.wire.0 c.spot-x.result.0 c.spot-x.result.1 c.spot-x.result.2 outs c.join_to-join.result c.spot-x.ensures.number c.spot-x.ensures.index
+    (λ tile tile_is. ap (λ (ps : List Pair). outputs_of (turned_pairs false ps) c.spot-x.result.2) (c.pairs_at.ensures tile tile_is)) c.join_to-join.ensures.join)
+    c.in-Ok.ensures c.wire_at.ensures.index
+
+pub returns-in-Err : goal.returns-in-Err
+returns-in-Err c =
+    let outs : List ℕ = outputs_of (turned_pairs false c.pairs_at.result.now) c.spot-x.result.2 in
+    scan_err (wire_at c.args.fabric.now c.spot-x.result.0 c.spot-x.result.1) outs c.join_to-join.result (ends c.args.fabric.now c.args.wire.0) c.args.index c.in-Err.count c.only_at.result
+    (edges_are c.args.fabric.now c.args.wire.0 c.spot-x.result.0 c.spot-x.result.1 c.spot-x.result.2 outs c.join_to-join.result c.spot-x.ensures.number c.spot-x.ensures.index
+    (λ tile tile_is. ap (λ (ps : List Pair). outputs_of (turned_pairs false ps) c.spot-x.result.2) (c.pairs_at.ensures tile tile_is)) c.join_to-join.ensures.join)
+    c.in-Err.ensures.0 c.in-Err.ensures.1 c.only_at.ensures.same c.only_at.ensures.other

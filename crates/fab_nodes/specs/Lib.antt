@@ -1,0 +1,4 @@
+pub mod Nodes
+pub mod Nets
+pub mod Tables
+pub mod Laws

@@ -1,0 +1,2 @@
+//! Rounds of nets over a graph.
+#![tactic(auto)]

@@ -1,0 +1,2 @@
+//! Walks of least price in a graph.
+#![tactic(auto)]

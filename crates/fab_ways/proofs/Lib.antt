@@ -1,0 +1,9 @@
+pub mod Lists
+pub mod Walks
+pub mod Grown
+pub mod InputPins
+pub mod NetTrees
+pub mod Legal
+pub mod Ends
+pub mod Bounded
+pub mod Origins
