@@ -1,0 +1,4 @@
+pub mod Spans
+pub mod Measured
+pub mod Boards
+pub mod Standing
