@@ -3,3 +3,4 @@ pub mod Grown
 pub mod Counting
 pub mod Sinks
 pub mod Passes
+pub mod Running

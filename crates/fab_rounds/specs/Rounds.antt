@@ -71,3 +71,8 @@ pub record IsCutOff (graph : Graph) (nets : List Net) (net sink : ℕ) : Type 0 
   pub net_in : net < length nets
   pub sink_in : sink < length (net_at nets net).goals
   pub apart : HasNoWalk graph [] (net_at nets net).roots (slice_index_or (net_at nets net).goals sink [])
+
+-- the trees after some rounds, or those before the first
+abbrev pub last_trees : (first : List Paths) → List (List Paths) → List Paths
+last_trees first [] = first
+last_trees first (trees ∷ rounds) = last_trees trees rounds

@@ -5,8 +5,9 @@ mod counts;
 mod grow;
 mod net;
 mod round;
+mod rounds;
 mod tree;
 
 pub use net::{CutOff, Net, Sink};
-pub use round::run_round;
+pub use rounds::{Routed, run_rounds};
 pub use tree::{Round, Tree};
