@@ -74,8 +74,8 @@ fn latest<'a>(rounds: &'a [Round], bare: &'a [Tree]) -> &'a [Tree]
     &rounds[rounds.len() - 1].trees
 }
 
-/// Rounds over nets in a graph of so many nodes, until no node stands in two trees, or up to a limit. An `Err` tells of a net and one of its
-/// sinks, which no walk from the net's roots comes to.
+/// Rounds over nets in a graph of so many nodes, until no node stands in two trees, or up to a limit. An `Err` tells of the first net with a
+/// sink that no walk from its roots comes to, and of its first such sink.
 pub fn run_rounds<F: Field>(
     alloc: Global,
     field: &F,
