@@ -97,6 +97,8 @@ pub fn run_rounds<F: Field>(
         2 ≤ users (last_trees (no_trees (nets_of nets.now)) (rounds_of routed.rounds.items)) w))) }
     ensures least { IfOk result (λ done. IfOk done (λ routed. IfSome routed.shared (λ w. (v : ℕ) → v < w →
         users (last_trees (no_trees (nets_of nets.now)) (rounds_of routed.rounds.items)) v ≤ 1))) }
+    ensures begun { IfOk result (λ done. IfOk done (λ routed. 1 ≤ limit → 1 ≤ length routed.rounds.items)) }
+    ensures limit { IfOk result (λ done. IfOk done (λ routed. length routed.rounds.items ≤ limit)) }
     ensures all { IfOk result (λ done. IfOk done (λ routed. IfSome routed.shared (λ _. length routed.rounds.items ≡ limit))) }
     ensures cut_off { IfOk result (λ done. IfErr done (λ cut. IsCutOff (F.graph field.now) (nets_of nets.now) cut.net cut.sink)) }
 {
