@@ -12,13 +12,13 @@ use Rattle.fab_search.specs.Walks.{Graph, Walk, has, HasNoWalk}
 use Rattle.fab_search.specs.Walks.Walk.{begins, goes}
 use Rattle.fab_search.specs.Scene.{IsGraph}
 use Rattle.fab_search.specs.Tables.{AreTables, count_of, users_of}
-use Rattle.fab_rounds.specs.Rounds.{Net, Paths, AreGrown, nodes_of, users, negotiated, others, net_at, tree_at, IsCutOff}
+use Rattle.fab_rounds.specs.Rounds.{Net, Paths, AreGrown, nodes_of, users, negotiated, others, net_at, tree_at, HasWalk, IsCutOff}
 use Rattle.fab_rounds.specs.declared.net.Net as demand
 use Rattle.fab_rounds.specs.declared.tree.Tree.{Tree}
 use Rattle.fab_rounds.specs.Plain.{paths_of, trees_of, goals_of, net_of, nets_of}
 use Rattle.fab_rounds.specs.Prices.{bit, ArePriced}
 use Rattle.fab_rounds.proofs.Parts.{nodes_of-parts}
-use Rattle.fab_rounds.proofs.Grown.{least_inside}
+use Rattle.fab_rounds.proofs.Grown.{least_inside, have_walks}
 use Rattle.fab_rounds.proofs.Sinks.{goals_long}
 
 pub users-push : (trees : List Paths) (t : Paths) (w : ℕ) → users (trees ++ t ∷ []) w ≡ users trees w + bit (has (nodes_of t) w)
@@ -128,11 +128,14 @@ trees_long trees = length-map trees paths_of
 pub net_there : (nets : List demand.Net) (k : ℕ) (net : demand.Net) → k < length nets → net ≡ get_or nets k net → net_at (nets_of nets) k ≡ net_of net
 net_there nets k net l at = get_or-map net_of nets k net (record { roots = []; goals = [] }) l ∙ ap net_of (sym at)
 
-pub cut_off_in : (graph : Graph) (nets : List demand.Net) (k : ℕ) (net : demand.Net) (sink : ℕ) → k < length nets → net ≡ get_or nets k net → sink < length net.sinks.items → HasNoWalk graph [] net.roots.items (get_or (goals_of net.sinks.items) sink []) → IsCutOff graph (nets_of nets) k sink
-cut_off_in graph nets k net sink l at inside none =
+pub cut_off_in : (graph : Graph) (nets : List demand.Net) (past : List ℕ) (round : ℕ) (old new : List Paths) (t : Tables) (k : ℕ) (net : demand.Net) (sink : ℕ) → k < length nets → net ≡ get_or nets k net → sink < length net.sinks.items → IsPassing graph (nets_of nets) past round old new t k
+    → HasNoWalk graph [] net.roots.items (get_or (goals_of net.sinks.items) sink []) → ((s : ℕ) → s < sink → HasWalk graph net.roots.items (get_or (goals_of net.sinks.items) s [])) → IsCutOff graph (nets_of nets) k sink
+cut_off_in graph nets past round old new t k net sink l at inside so_far none before =
     let e = net_there nets k net l at in
     record {
       net_in = omega (arith, length-map nets net_of);
       sink_in = subst (λ (n : Net). sink < length n.goals) (sym e) (omega (arith, goals_long net.sinks.items));
       apart = subst (λ (n : Net). HasNoWalk graph [] n.roots (get_or n.goals sink [])) (sym e) none;
+      nets_before = λ j s earlier m. have_walks graph (net_at (nets_of nets) j).roots (negotiated (λ w. get_or past w 0) round (others old new j)) (net_at (nets_of nets) j).goals (tree_at new j) (so_far.grown j earlier) s m;
+      sinks_before = λ s earlier. subst (λ (n : Net). HasWalk graph n.roots (get_or n.goals s [])) (sym e) (before s earlier);
     }

@@ -1,13 +1,13 @@
 -- A tree while its sinks are reached one after another.
-use Rattle.std.proofs.Common.{◌≡◌, ℕ, ◌+◌, ◌-◌, ◌<◌, List, [], ◌∷◌, ◌++◌, length, get_or, take, sum_by, sym, ◌∙◌, ap, subst, arith, length-append}
-use Rattle.std.proofs.lemmas.List.{take_more, length-map, get_or-map}
+use Rattle.std.proofs.Common.{◌≡◌, ℕ, ◌+◌, ◌-◌, ◌<◌, ◌≤◌, List, [], ◌∷◌, ◌++◌, length, get_or, take, sum_by, sym, ◌∙◌, ap, subst, arith, length-append}
+use Rattle.std.proofs.lemmas.List.{take_more, length-take, length-map, get_or-map, get_or-take}
 use Rattle.std.proofs.lemmas.List.Sums.{sum_by_push}
 use Rattle.fab_search.specs.Walks.{Graph, IsLeastTo, AddsLeast, HasNoWalk}
-use Rattle.fab_rounds.specs.Rounds.{AreGrown, nodes_of}
+use Rattle.fab_rounds.specs.Rounds.{AreGrown, HasWalk, nodes_of}
 use Rattle.fab_rounds.specs.declared.net.Sink.{Sink}
 use Rattle.fab_rounds.specs.Plain.{parts, goals_of}
 use Rattle.fab_rounds.proofs.Parts.{parts-push, nodes_of-parts}
-use Rattle.fab_rounds.proofs.Grown.{AreGrown-push, cut_off}
+use Rattle.fab_rounds.proofs.Grown.{AreGrown-push, cut_off, have_walks}
 
 pub record AreReached (graph : Graph) (roots : List ℕ) (price : ℕ → ℕ) (goals : List (List ℕ)) (nodes lengths : List ℕ) (i : ℕ) : Type 0 where
   pub whole : sum_by (λ (k : ℕ). k) lengths ≡ length nodes
@@ -31,6 +31,12 @@ reached_more graph roots price goals nodes lengths i sink new more n inside at s
           (subst (λ gs. AreGrown graph roots price [] gs (parts nodes lengths ++ adds.path ∷ [])) (sym (take_more goals i [] inside ∙ ap (λ g. take i goals ++ g ∷ []) (sym at)))
           (AreGrown-push graph roots price [] (take i goals) (parts nodes lengths) sink adds.path so_far.grown least));
     }
+
+-- walks come to the sinks so far
+pub reached_walks : (graph : Graph) (roots : List ℕ) (price : ℕ → ℕ) (goals : List (List ℕ)) (nodes lengths : List ℕ) (i s : ℕ) → AreReached graph roots price goals nodes lengths i → i ≤ length goals → s < i → HasWalk graph roots (get_or goals s [])
+reached_walks graph roots price goals nodes lengths i s so_far long below =
+    subst (λ (g : List ℕ). HasWalk graph roots g) (get_or-take i goals s [] below)
+    (have_walks graph roots price (take i goals) (parts nodes lengths) so_far.grown s (omega (arith, length-take i goals)))
 
 -- ---- a sink of the code
 

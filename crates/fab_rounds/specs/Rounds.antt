@@ -1,7 +1,7 @@
 -- Trees of nets, rounds and negotiated runs.
 use Rattle.std.specs.Prelude.{◌≡◌, ℕ, ◌+◌, ◌-◌, ◌*◌, ◌<◌, ◌≤◌, List, [], ◌∷◌, ◌++◌, length, map, take, drop, slice_index_or, count_by, sum_by}
-use Rattle.std.specs.List.{flat_map}
-use Rattle.fab_search.specs.Walks.{Graph, has, IsLeastTo, HasNoWalk}
+use Rattle.std.specs.List.{Contains, flat_map}
+use Rattle.fab_search.specs.Walks.{Graph, Walk, has, IsLeastTo, HasNoWalk}
 
 -- What a net has to reach: for each of its sinks the nodes that stand before it, from any of its roots.
 pub record Net : Type 0 where
@@ -60,19 +60,28 @@ past_of rounds node = sum_by (λ trees. users trees node - 1) rounds
 abbrev pub no_trees : List Net → List Paths
 no_trees nets = map (λ net. []) nets
 
+-- the trees after some rounds, or those before the first
+abbrev pub last_trees : (first : List Paths) → List (List Paths) → List Paths
+last_trees first [] = first
+last_trees first (trees ∷ rounds) = last_trees trees rounds
+
 -- Rounds from 0 on, each but the last of which leaves a shared node, and the last trees.
 pub data Run (graph : Graph) (nets : List Net) : List (List Paths) → List Paths → Type 0 where
   begins : Run graph nets [] (no_trees nets)
   goes : {rounds : List (List Paths)} {old : List Paths} (new : List Paths) → Run graph nets rounds old → (0 < length rounds → LeavesShared old)
       → IsRound graph nets (past_of rounds) (length rounds) old new → Run graph nets (rounds ++ new ∷ []) new
 
--- a net, and which of its sinks no walk from its roots comes to
+-- a walk from a root comes to a goal
+pub record HasWalk (graph : Graph) (roots goals : List ℕ) : Type 0 where
+  pub goal : ℕ
+  pub path : List ℕ
+  pub among : Contains goals goal
+  pub walk : Walk graph [] roots goal path
+
+-- The first net with a sink that no walk from the net's roots comes to, and its first such sink.
 pub record IsCutOff (graph : Graph) (nets : List Net) (net sink : ℕ) : Type 0 where
   pub net_in : net < length nets
   pub sink_in : sink < length (net_at nets net).goals
   pub apart : HasNoWalk graph [] (net_at nets net).roots (slice_index_or (net_at nets net).goals sink [])
-
--- the trees after some rounds, or those before the first
-abbrev pub last_trees : (first : List Paths) → List (List Paths) → List Paths
-last_trees first [] = first
-last_trees first (trees ∷ rounds) = last_trees trees rounds
+  pub nets_before : (k s : ℕ) → k < net → s < length (net_at nets k).goals → HasWalk graph (net_at nets k).roots (slice_index_or (net_at nets k).goals s [])
+  pub sinks_before : (s : ℕ) → s < sink → HasWalk graph (net_at nets net).roots (slice_index_or (net_at nets net).goals s [])

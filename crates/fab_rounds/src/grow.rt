@@ -4,7 +4,7 @@ ghost use Rattle.std.specs.List.{All};
 ghost use Rattle.fab_search.specs.Walks.{HasNoWalk};
 ghost use Rattle.fab_search.specs.Scene.{IsGraph, IsBound, ArePrices};
 ghost use Rattle.fab_search.specs.Tables.{AreTables, count_of, price_of, prices, counts, is_held};
-ghost use Rattle.fab_rounds.specs.Rounds.{AreGrown};
+ghost use Rattle.fab_rounds.specs.Rounds.{AreGrown, HasWalk};
 ghost use Rattle.fab_rounds.specs.Plain.{goals_of, paths_of, IsInside};
 
 use crate::net::Net;
@@ -37,6 +37,7 @@ pub(crate) fn grow<F: Field>(
     ensures inside { IfOk result (λ grown. IfOk grown (λ tree. All (λ w. w < (F.graph field.now).nodes) tree.nodes.items)) }
     ensures sink { IfOk result (λ grown. IfErr grown (λ sink. sink < length net.now.sinks.items)) }
     ensures apart { IfOk result (λ grown. IfErr grown (λ sink. HasNoWalk (F.graph field.now) [] net.now.roots.items (slice_index_or (goals_of net.now.sinks.items) sink []))) }
+    ensures before { IfOk result (λ grown. IfErr grown (λ sink. (s : ℕ) → s < sink → HasWalk (F.graph field.now) net.now.roots.items (slice_index_or (goals_of net.now.sinks.items) s []))) }
 {
     let mut nodes = Vec::new(alloc);
     let mut lengths = Vec::new(alloc);

@@ -14,7 +14,7 @@ pub struct Net {
     pub sinks: Vec<Sink>,
 }
 
-/// A net, and the first of its sinks that no walk from its roots comes to.
+/// The first net with a sink that no walk from its roots comes to, and its first such sink.
 #[derive(Clone, Copy, Debug, PartialEq, Eq)]
 pub struct CutOff {
     pub net: usize,

@@ -33,7 +33,7 @@ fn price_all(tables: &mut Tables, past: &[u32], round: u32)
     }
 }
 
-/// One round: each net in order gives up its tree and grows a new one. An `Err` tells of a net that is cut off from a sink.
+/// One round: each net in order gives up its tree and grows a new one. An `Err` tells of the first net that is cut off from a sink.
 pub(crate) fn run_round<F: Field>(
     alloc: Global,
     field: &F,

@@ -74,8 +74,8 @@ fn latest<'a>(rounds: &'a [Round], bare: &'a [Tree]) -> &'a [Tree]
     &rounds[rounds.len() - 1].trees
 }
 
-/// Rounds over nets in a graph of so many nodes, until no node stands in two trees, or up to a limit. An `Err` tells of a net and one of its
-/// sinks, which no walk from the net's roots comes to.
+/// Rounds over nets in a graph of so many nodes, until no node stands in two trees, or up to a limit. An `Err` tells of the first net with a
+/// sink that no walk from its roots comes to, and of its first such sink.
 pub fn run_rounds<F: Field>(
     alloc: Global,
     field: &F,
@@ -97,6 +97,8 @@ pub fn run_rounds<F: Field>(
         2 ≤ users (last_trees (no_trees (nets_of nets.now)) (rounds_of routed.rounds.items)) w))) }
     ensures least { IfOk result (λ done. IfOk done (λ routed. IfSome routed.shared (λ w. (v : ℕ) → v < w →
         users (last_trees (no_trees (nets_of nets.now)) (rounds_of routed.rounds.items)) v ≤ 1))) }
+    ensures begun { IfOk result (λ done. IfOk done (λ routed. 1 ≤ limit → 1 ≤ length routed.rounds.items)) }
+    ensures limit { IfOk result (λ done. IfOk done (λ routed. length routed.rounds.items ≤ limit)) }
     ensures all { IfOk result (λ done. IfOk done (λ routed. IfSome routed.shared (λ _. length routed.rounds.items ≡ limit))) }
     ensures cut_off { IfOk result (λ done. IfErr done (λ cut. IsCutOff (F.graph field.now) (nets_of nets.now) cut.net cut.sink)) }
 {

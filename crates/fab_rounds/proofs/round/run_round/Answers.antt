@@ -32,7 +32,7 @@ pub take_up-requires-clause-priced : goal.take_up-requires-clause-priced
 take_up-requires-clause-priced g c = priced_same c.args.past.now c.args.round c.release.new.self c.grow.new.tables c.in_ok-tree.ensures.count c.in_ok-tree.ensures.price c.in_ok-tree.ensures.users (priced_same c.args.past.now c.args.round c.give_up.new.tables c.release.new.self c.release.ensures.count c.release.ensures.price c.release.ensures.users c.give_up.ensures.priced)
 
 pub returns-in-Err-clause-cut_off : goal.returns-in-Err-clause-cut_off
-returns-in-Err-clause-cut_off g c = cut_off_in (g.F.Field.graph c.args.field.now) c.args.nets.now c.loop-net.net c.index-nets-net.result c.in-Err.sink (omega arith) c.index-nets-net.is (rw c.in-Err.is at c.in_ok-tree.ensures.sink) (rw c.in-Err.is at c.in_ok-tree.ensures.apart)
+returns-in-Err-clause-cut_off g c = cut_off_in (g.F.Field.graph c.args.field.now) c.args.nets.now c.args.past.now c.args.round (trees_of c.args.old.now) (trees_of c.loop-net.new.items) c.loop-net.tables c.loop-net.net c.index-nets-net.result c.in-Err.sink (omega arith) c.index-nets-net.is (rw c.in-Err.is at c.in_ok-tree.ensures.sink) c.loop-net.invariant.passing (rw c.in-Err.is at c.in_ok-tree.ensures.apart) (rw c.in-Err.is at c.in_ok-tree.ensures.before)
 
 pub loop-net-preserved : goal.loop-net-preserved
 loop-net-preserved g c = record {
