@@ -1,0 +1,9 @@
+pub mod Sites
+pub mod Configuration
+pub mod Design
+pub mod Configuring
+pub mod Cycles
+pub mod Registers
+pub mod Headline
+pub mod Ways
+pub mod Sources
