@@ -1,0 +1,9 @@
+pub mod Added
+pub mod Kept
+pub mod Fields
+pub mod Setting
+pub mod Steps
+pub mod Configured
+pub mod Tables
+pub mod Pushed
+pub mod Listed
