@@ -75,7 +75,7 @@ fn latest<'a>(rounds: &'a [Round], bare: &'a [Tree]) -> &'a [Tree]
 }
 
 /// Rounds over nets in a graph of so many nodes, until no node stands in two trees, or up to a limit. An `Err` tells of the first net with a
-/// sink that no walk from its roots comes to, and of its first such sink.
+/// sink that no walk from its roots comes to, and of its first such sink. The bounds on nets and rounds keep each price below 2^42.
 pub fn run_rounds<F: Field>(
     alloc: Global,
     field: &F,
