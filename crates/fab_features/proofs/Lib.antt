@@ -7,3 +7,5 @@ pub mod Configured
 pub mod Tables
 pub mod Pushed
 pub mod Listed
+pub mod Saids
+pub mod LineBits

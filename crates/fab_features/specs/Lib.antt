@@ -6,3 +6,4 @@ pub mod Adding
 pub mod Matrices
 pub mod Listing
 pub mod Lookups
+pub mod Lines

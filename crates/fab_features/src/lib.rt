@@ -3,6 +3,7 @@
 
 mod design;
 mod features;
+mod lines;
 mod matrices;
 mod ones;
 mod said;

@@ -1,0 +1,44 @@
+-- How a list of features is read line by line.
+use Rattle.std.specs.Prelude.{◌≡◌, ◌⊎◌, ◌<◌, ℕ, ◌+◌, List, Contains, length, slice_get, slice_index_or, Option, Some, None}
+use Rattle.fab_kinds.specs.Pins.{bit_count}
+use Rattle.fab_model.specs.declared.tiles.Bel.{Bel}
+use Rattle.fab_model.specs.Tiles.{PlainTile}
+use Rattle.fab_model.specs.Grid.{PlainFabric, tile_at}
+use Rattle.fab_fabric.specs.Fabric.{wires_at, wire_count}
+use Rattle.fab_fabric.specs.Wires.{wire_index}
+use Rattle.fab_fasm.specs.declared.feature.Feature.{Feature}
+use Rattle.fab_gen_tile.specs.TileModule.{bits_before}
+use Rattle.fab_features.specs.Features.{SetsBelBit, Chooses}
+use Rattle.fab_features.specs.Adding.{BitSet, IsSelectOne}
+
+-- the table has the input that lines choose for each output, by the output's wire
+pub record HoldsChoices (fabric : PlainFabric) (before : List Feature) (table : List (Option ℕ)) : Type 0 where
+  pub as_many : length table ≡ wire_count fabric
+  pub known : (x y output input : ℕ) → output < wires_at fabric x y → slice_index_or table (wire_index fabric x y output) None ≡ Some input →
+      (feature : Feature) × Contains before feature × Chooses fabric feature x y output input
+  pub noted : (x y output input : ℕ) (feature : Feature) → Contains before feature → Chooses fabric feature x y output input →
+      slice_index_or table (wire_index fabric x y output) None ≡ Some input
+
+-- a bit of a BEL that a line sets
+pub record IsFieldOne (fabric : PlainFabric) (feature : Feature) (x y bit : ℕ) : Type 0 where
+  pub tile : PlainTile
+  pub bel : ℕ
+  pub place : ℕ
+  pub found : Bel
+  pub tile_is : tile_at fabric x y ≡ Some tile
+  pub bel_is : slice_get tile.bels bel ≡ Some found
+  pub small : place < bit_count found.kind
+  pub bit_is : bit ≡ bits_before tile.bels bel + place
+  pub sets : SetsBelBit fabric feature x y bel place
+
+-- a select bit of an output for which a line chooses an input
+pub record IsPairOne (fabric : PlainFabric) (feature : Feature) (x y bit : ℕ) : Type 0 where
+  pub tile : PlainTile
+  pub output : ℕ
+  pub input : ℕ
+  pub tile_is : tile_at fabric x y ≡ Some tile
+  pub chooses : Chooses fabric feature x y output input
+  pub selected : IsSelectOne tile output input bit
+
+abbrev pub IsLineOne : PlainFabric → Feature → BitSet
+IsLineOne fabric feature x y bit = IsFieldOne fabric feature x y bit ⊎ IsPairOne fabric feature x y bit
