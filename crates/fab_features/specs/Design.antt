@@ -1,0 +1,73 @@
+-- The features of a legal implementation.
+use Rattle.std.specs.Prelude.{ℕ, ◌-◌, Bool, ◌&&◌, List, [], ◌∷◌, ◌++◌, length, codes, nat_eq, is_some, slice_get, option_map, Option, Some, None, if◌then◌else◌}
+use Rattle.std.specs.List.{flat_map, filter_map, find}
+use Rattle.fab_select.specs.Selection.{in_order}
+use Rattle.fab_model.specs.Tiles.{counted, numbered_pairs}
+use Rattle.fab_model.specs.Grid.{PlainFabric}
+use Rattle.fab_fabric.specs.Wires.{wire_index}
+use Rattle.fab_fabric.specs.Names.{place_name, site_name, name_at}
+use Rattle.fab_fabric.specs.declared.wire.Site.{Site}
+use Rattle.fab_netlist.specs.Packed.{PlainCell, PlainPacked}
+use Rattle.fab_implementation.specs.Plain.{Edge, PlainImplementation}
+use Rattle.fab_fasm.specs.declared.feature.Feature.{Feature}
+use Rattle.fab_fasm.specs.Printing.{numbered}
+use Rattle.fab_fabric_text.specs.Places.{PlacedTile, placed_tiles}
+
+abbrev pub feature_of : (name : List ℕ) → (high low value : ℕ) → Feature
+feature_of name high low value = record { line = 0; name = name; high = high; low = low; value = value }
+
+-- ---- BELs
+
+abbrev pub same_site : Site → Site → Bool
+same_site a b = nat_eq a.x b.x && nat_eq a.y b.y && nat_eq a.bel b.bel
+
+-- the cell that a line puts on a site
+abbrev pub cell_on : PlainPacked → List (ℕ × Site) → Site → Option PlainCell
+cell_on packed [] site = None
+cell_on packed (line ∷ lines) site = if same_site line.1 site then slice_get packed.cells line.0 else cell_on packed lines site
+
+-- as X1Y2.A.INIT
+abbrev pub field_name : Site → (field : List ℕ) → List ℕ
+field_name site field = site_name site.x site.y site.bel ++ codes "." ++ field
+
+-- the table of a cell, also where it is all 0, and FF where the cell has a latch
+abbrev pub cell_features : Site → Option PlainCell → List Feature
+cell_features site None = []
+cell_features site (Some cell) =
+    feature_of (field_name site (codes "INIT")) 15 0 cell.table
+    ∷ (if is_some cell.latch then feature_of (field_name site (codes "FF")) 0 0 1 ∷ [] else [])
+
+abbrev pub site_features : PlainPacked → PlainImplementation → Site → List Feature
+site_features packed implementation site = cell_features site (cell_on packed implementation.cells site)
+
+-- ---- the switch matrix
+
+-- as X1Y2.E1END0.LA_I0: the input, and then the output
+abbrev pub pair_name : PlainFabric → (x y input output : ℕ) → List ℕ
+pair_name fabric x y input output = place_name x y ++ codes "." ++ name_at fabric x y input ++ codes "." ++ name_at fabric x y output
+
+-- the edge that enters a wire
+abbrev pub edge_into : PlainImplementation → (index : ℕ) → Option Edge
+edge_into implementation index = find (λ edge. nat_eq edge.1.0 index) (flat_map (λ tree. tree.edges) implementation.trees)
+
+-- An output that an edge enters has the input of the wire from which the edge leads. In a legal implementation this is a wire of the tile.
+abbrev pub edge_feature : PlainFabric → (x y output : ℕ) → Edge → Feature
+edge_feature fabric x y output edge = feature_of (pair_name fabric x y (edge.0.0 - wire_index fabric x y 0) output) 0 0 1
+
+abbrev pub output_feature : PlainFabric → PlainImplementation → (x y output : ℕ) → Option Feature
+output_feature fabric implementation x y output = option_map (edge_feature fabric x y output) (edge_into implementation (wire_index fabric x y output))
+
+-- ---- all of them
+
+abbrev pub site_in : PlacedTile → (bel : ℕ) → Site
+site_in placed bel = record { x = placed.x; y = placed.y; bel = bel }
+
+-- by letter those of the BELs, and then the outputs in the order of their first pairs
+abbrev pub tile_features : PlainFabric → PlainPacked → PlainImplementation → PlacedTile → List Feature
+tile_features fabric packed implementation placed =
+    flat_map (λ bel. site_features packed implementation (site_in placed bel)) (counted (length placed.tile.bels) (λ bel. bel))
+    ++ filter_map (output_feature fabric implementation placed.x placed.y) (in_order nat_eq (numbered_pairs placed.tile))
+
+-- column by column, in a column from the top; line numbers count from 1
+abbrev pub design_features : PlainFabric → PlainPacked → PlainImplementation → List Feature
+design_features fabric packed implementation = numbered 1 (flat_map (tile_features fabric packed implementation) (placed_tiles fabric))

@@ -1,0 +1,6 @@
+pub mod Said
+pub mod Features
+pub mod Design
+pub mod Wrong
+pub mod Adding
+pub mod Matrices
