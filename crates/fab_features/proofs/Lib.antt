@@ -4,3 +4,6 @@ pub mod Fields
 pub mod Setting
 pub mod Steps
 pub mod Configured
+pub mod Tables
+pub mod Pushed
+pub mod Listed

@@ -1,6 +1,7 @@
 -- The features of a legal implementation.
 use Rattle.std.specs.Prelude.{ℕ, ◌-◌, Bool, ◌&&◌, List, [], ◌∷◌, ◌++◌, length, codes, nat_eq, is_some, slice_get, option_map, Option, Some, None, if◌then◌else◌}
 use Rattle.std.specs.List.{flat_map, filter_map, find}
+use Rattle.std.specs.Option.{option_and_then}
 use Rattle.fab_select.specs.Selection.{in_order}
 use Rattle.fab_model.specs.Tiles.{counted, numbered_pairs}
 use Rattle.fab_model.specs.Grid.{PlainFabric}
@@ -21,10 +22,9 @@ feature_of name high low value = record { line = 0; name = name; high = high; lo
 abbrev pub same_site : Site → Site → Bool
 same_site a b = nat_eq a.x b.x && nat_eq a.y b.y && nat_eq a.bel b.bel
 
--- the cell that a line puts on a site
+-- the cell that the first line of a site puts there
 abbrev pub cell_on : PlainPacked → List (ℕ × Site) → Site → Option PlainCell
-cell_on packed [] site = None
-cell_on packed (line ∷ lines) site = if same_site line.1 site then slice_get packed.cells line.0 else cell_on packed lines site
+cell_on packed lines site = option_and_then (λ line. slice_get packed.cells line.0) (find (λ line. same_site line.1 site) lines)
 
 -- as X1Y2.A.INIT
 abbrev pub field_name : Site → (field : List ℕ) → List ℕ

@@ -4,3 +4,5 @@ pub mod Design
 pub mod Wrong
 pub mod Adding
 pub mod Matrices
+pub mod Listing
+pub mod Lookups

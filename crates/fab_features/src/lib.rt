@@ -2,8 +2,10 @@
 #![tactic(auto)]
 
 mod design;
+mod features;
 mod matrices;
 mod ones;
 mod said;
 
 pub use design::design_bits;
+pub use features::features_of;

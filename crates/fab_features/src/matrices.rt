@@ -2,7 +2,7 @@
 
 ghost use Rattle.std.specs.Prelude.{◌≡◌, ◌<◌, ℕ, [], All, IfOk, length, map, nat_eq};
 ghost use Rattle.std.specs.Option.{MatchOption};
-ghost use Rattle.fab_select.specs.Selection.{inputs_of};
+ghost use Rattle.fab_select.specs.Selection.{inputs_of, in_order};
 ghost use Rattle.fab_model.specs.Tiles.{pair_numbers, matrix_names};
 ghost use Rattle.fab_model.specs.Grid.{tile_at};
 ghost use Rattle.fab_fabric.specs.Fabric.{IsFabric, AreTiles};
@@ -12,6 +12,7 @@ ghost use Rattle.fab_features.specs.Matrices.{IsMatrixOf, AreMatricesOf};
 use fab_base::Memory;
 use fab_fabric::Fabric;
 use fab_model::{Pair, TileType};
+use indexmap::IndexSet;
 use std::alloc::Global;
 
 /// The switch matrix of a tile type.
@@ -19,6 +20,8 @@ use std::alloc::Global;
 pub struct Matrix {
     /// The inputs of each output, in the order of its pairs.
     pub inputs: Vec<Vec<u32>>,
+    /// The outputs in the order of their first pairs.
+    pub outputs: IndexSet<u32>,
 }
 
 impl Matrix {
@@ -27,7 +30,8 @@ impl Matrix {
         ensures { IfOk result (IsMatrixOf tile.now) }
     {
         let inputs = grouped(alloc, tile.matrix_names(), tile.pairs())?;
-        Ok(Matrix { inputs })
+        let outputs = order_of(alloc, tile.pairs())?;
+        Ok(Matrix { inputs, outputs })
     }
 
     /// The inputs of an output, in the order of its pairs.
@@ -65,9 +69,21 @@ fn grouped(alloc: Global, outputs: u32, pairs: &[Pair]) -> Result<Vec<Vec<u32>>,
     Ok(groups)
 }
 
+// The outputs in the order of their first pairs.
+fn order_of(alloc: Global, pairs: &[Pair]) -> Result<IndexSet<u32>, Memory>
+    ensures { IfOk result (λ order. order.keys ≡ in_order nat_eq (map pair_numbers pairs.now)) }
+{
+    let mut order = IndexSet::new(alloc);
+    for pair in pairs {
+        order.insert(pair.output)?;
+    }
+    Ok(order)
+}
+
 /// The switch matrices of the tile types of a fabric.
 pub fn matrices_of(alloc: Global, fabric: &Fabric) -> Result<Vec<Matrix>, Memory>
     ensures matrices { IfOk result (λ matrices. AreMatricesOf fabric.now.types matrices.items) }
+    ensures is_fabric { IfOk result (λ matrices. IsFabric fabric.now) }
     ensures are_tiles { IfOk result (λ matrices. AreTiles fabric.now) }
 {
     let types = fabric.types();

@@ -5,7 +5,7 @@ use Rattle.fab_features.proofs.design.set_choice.Goals as goal
 
 pub returns-in_default-clause-adds : goal.returns-in_default-clause-adds
 returns-in_default-clause-adds c =
-    no_choice (plain_bits c.args.bits.now) c.args.tile.now c.args.choice c.inputs_of-inputs.result.now (c.inputs_of-inputs.ensures ∙ c.requires.matrix c.args.choice.output) c.in_default.ensures
+    no_choice (plain_bits c.args.bits.now) c.args.tile.now c.args.choice c.inputs_of-inputs.result.now (c.inputs_of-inputs.ensures ∙ c.requires.matrix.inputs c.args.choice.output) c.in_default.ensures
 
 pub set_ones-requires-clause-fits : goal.set_ones-requires-clause-fits
 set_ones-requires-clause-fits c =
@@ -14,4 +14,4 @@ set_ones-requires-clause-fits c =
 pub returns-clause-adds : goal.returns-clause-adds
 returns-clause-adds c =
     choice_adds (plain_bits c.args.bits.now) (plain_bits c.set_ones.new.bits) c.args.tile.now c.args.choice c.inputs_of-inputs.result.now c.field-low.result.0 c.field-low.result.1 c.in-Some.place
-    (c.inputs_of-inputs.ensures ∙ c.requires.matrix c.args.choice.output) c.in-Some.ensures c.field-low.ensures c.set_ones.ensures.adds
+    (c.inputs_of-inputs.ensures ∙ c.requires.matrix.inputs c.args.choice.output) c.in-Some.ensures c.field-low.ensures c.set_ones.ensures.adds

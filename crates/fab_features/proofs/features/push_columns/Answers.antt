@@ -1,0 +1,23 @@
+use Rattle.std.proofs.Common.{◌++◌}
+use Rattle.std.specs.List.{flat_map}
+use Rattle.fab_model.specs.Tiles.{counted}
+use Rattle.fab_fabric_text.specs.Places.{column_tiles}
+use Rattle.fab_features.specs.Design.{tile_features}
+use Rattle.fab_features.proofs.Pushed.{none_listed, lists_more, pushes_both, pushes_same}
+use Rattle.fab_features.proofs.features.push_columns.Goals as goal
+
+pub loop-x-init : goal.loop-x-init
+loop-x-init c =
+    let lookup = c.args.lookup.now in
+    none_listed c.args.features.now.items (tile_features lookup.fabric.now lookup.packed.now lookup.implementation.now) (column_tiles lookup.fabric.now)
+
+pub loop-x-preserved : goal.loop-x-preserved
+loop-x-preserved c =
+    let l = c.loop-x in
+    let lookup = c.args.lookup.now in
+    let g = tile_features lookup.fabric.now lookup.packed.now lookup.implementation.now in
+    let f = column_tiles lookup.fabric.now in
+    let start = c.args.features.now.items in
+    let before = flat_map g (flat_map f (counted l.x (λ i. i))) in
+    pushes_same start c.push_column.new.features.items (before ++ flat_map g (f l.x)) _ (lists_more g f l.x)
+    (pushes_both start l.features.items c.push_column.new.features.items before (flat_map g (f l.x)) l.invariant c.in_ok-push_column.ensures)
