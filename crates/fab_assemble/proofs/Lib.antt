@@ -1,0 +1,3 @@
+pub mod Sites
+pub mod Registers
+pub mod Runs

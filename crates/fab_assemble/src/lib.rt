@@ -1,0 +1,8 @@
+//! From an implementation of a design to all that a device is given: features, configuration bits, the words of the bitstream and the state
+//! file's content.
+#![tactic(auto)]
+
+mod assembly;
+mod state;
+
+pub use assembly::{Assembled, assemble};
