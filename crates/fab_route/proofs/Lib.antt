@@ -1,0 +1,5 @@
+pub mod Marks
+pub mod Undriven
+pub mod Numbered
+pub mod Leading
+pub mod Tabled
