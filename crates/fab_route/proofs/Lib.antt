@@ -3,3 +3,4 @@ pub mod Undriven
 pub mod Numbered
 pub mod Leading
 pub mod Tabled
+pub mod Aimed

@@ -17,6 +17,7 @@ use Rattle.fab_nodes.specs.Nodes.{IsMatrixInput, IsHop, AreNodes}
 use Rattle.fab_nodes.proofs.MatrixInputs.{driven_or_input, join_driven, join_input}
 use Rattle.fab_route.specs.Numbers.{AreNumbered, AreBefore, AreFlat}
 use Rattle.fab_route.proofs.Numbered.{last_of, before_last}
+use Rattle.fab_route.specs.Over.{IsOver}
 use Rattle.fab_route.specs.Plain.{PlainNodes, graph_of, numbering_of, AreReadable}
 
 -- the output that is joined to a wire
@@ -95,6 +96,9 @@ module _ (fabric : PlainFabric) (is_fabric : IsFabric fabric) (tiles : AreTiles 
     inside = λ v low. all_of (λ w. w < length wires) ((graph_of plain).ends v) (λ w here. (leads v w low here).0);
     few = omega (arith, numbers.few, is_fabric.few_wires);
   }
+
+  pub is_over : IsOver fabric plain
+  is_over = record { are_nodes = are_nodes; is_graph = is_graph; inside = node_in; there = node_there; all = numbers.long }
 
   pub are_readable : length outputs ≡ length wires → AreReadable plain
   are_readable long = record {

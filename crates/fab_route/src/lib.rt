@@ -2,8 +2,10 @@
 #![tactic(auto)]
 
 mod driven;
+mod goals;
 mod nodes;
 mod numbers;
 mod targets;
 
+pub use goals::goals_of;
 pub use nodes::Nodes;

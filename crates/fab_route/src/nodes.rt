@@ -1,11 +1,7 @@
 //! The matrix inputs of a fabric as a graph in which walks are sought.
 
 ghost use Rattle.std.specs.Prelude.{◌≡◌, ◌<◌, ℕ, IfOk, length};
-ghost use Rattle.fab_fabric.specs.Fabric.{wire_count};
-ghost use Rattle.fab_fabric.specs.declared.wire.Wire.{Wire};
-ghost use Rattle.fab_search.specs.Walks.{Graph};
-ghost use Rattle.fab_search.specs.Scene.{IsGraph};
-ghost use Rattle.fab_nodes.specs.Nodes.{AreNodes, IsMatrixInput};
+ghost use Rattle.fab_route.specs.Over.{IsOver};
 ghost use Rattle.fab_route.specs.Plain.{graph_of, numbering_of, node_of};
 
 use crate::numbers::{number_inputs, outputs_before};
@@ -40,11 +36,7 @@ impl Model for Nodes {
 impl Nodes {
     /// The nodes of a fabric, by a few passes over its wires.
     pub fn new(alloc: Global, fabric: &Fabric) -> Result<Nodes, Memory>
-        ensures are_nodes { IfOk result (λ nodes. AreNodes fabric.now (graph_of nodes) (numbering_of nodes)) }
-        ensures is_graph { IfOk result (λ nodes. IsGraph (graph_of nodes)) }
-        ensures inside { IfOk result (λ nodes. (wire : Wire) → IsMatrixInput fabric.now wire → node_of nodes wire < (graph_of nodes).nodes) }
-        ensures there { IfOk result (λ nodes. (wire : Wire) → IsMatrixInput fabric.now wire → (numbering_of nodes).wire (node_of nodes wire) ≡ wire.0) }
-        ensures all { IfOk result (λ nodes. length nodes.nodes ≡ wire_count fabric.now) }
+        ensures { IfOk result (IsOver fabric.now) }
     {
         let _types = fabric.types();
         let (wires, nodes) = number_inputs(alloc, fabric)?;
