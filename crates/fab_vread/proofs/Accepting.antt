@@ -1,7 +1,6 @@
 -- A text is read exactly where its bytes spell it.
 use Rattle.std.proofs.Common.{◌≡◌, ℕ, List, [], ◌∷◌, ap, ◌∙◌, subst, sym, arith, Option, Result, Ok, Err}
 use Rattle.fab_base.specs.declared.problem.Problem.{Problem}
-use Rattle.fab_base.specs.declared.fault.Fault.{Fault}
 use Rattle.fab_syntax.specs.Plain as trees
 use Rattle.fab_syntax.specs.Plain.{PlainModule, PlainExpr}
 use Rattle.fab_syntax.specs.Spelling.{text_bytes}

@@ -1,12 +1,11 @@
 -- Open brackets, the innermost first.
-use Rattle.std.proofs.Common.{◌≡◌, ◌≤◌, ◌<◌, ℕ, suc, Bool, true, false, List, [], ◌∷◌, ◌++◌, length, map, reverse, refl, ap, sym, ◌∙◌, arith, append_assoc, append-nil, nat_lt, ◌+◌, if◌then◌else◌, Option, Some, None, MatchOption}
+use Rattle.std.proofs.Common.{◌≡◌, ◌≤◌, ◌<◌, ℕ, suc, Bool, true, false, List, [], ◌∷◌, ◌++◌, length, map, reverse, refl, ap, sym, ◌∙◌, arith, append_assoc, append-nil, nat_lt, ◌+◌, Option, Some, None, MatchOption}
 use Rattle.std.specs.Option.{option_to_list}
 use Rattle.std.proofs.lemmas.Bool.Decides.{nat_tests}
-use Rattle.std.proofs.lemmas.List.{map_push, reverse-append, length-reverse, length-append, nil_from_length}
-use Rattle.fab_syntax.specs.Plain.{PlainExpr, constant}
+use Rattle.std.proofs.lemmas.List.{map_push, reverse-append, length-reverse, length-append}
 use Rattle.fab_vread.specs.declared.levels.Level.{Level}
 use Rattle.fab_vread.specs.declared.levels.Passed.{Passed}
-use Rattle.fab_vread.specs.Expressions.{PlainLevel, Before, Opened, level, nothing, negation, left, test, choice, parenthesis, brace, index, plain_wanted, plain_bracket, plain_level, plain_passed, plain_levels, kept, kept_before, kept_bracket, kept_level}
+use Rattle.fab_vread.specs.Expressions.{PlainLevel, Before, Opened, level, nothing, negation, left, test, choice, parenthesis, brace, index, plain_wanted, plain_bracket, plain_level, plain_passed, plain_levels, kept_before, kept_bracket, kept_level}
 
 -- ---- how many there are
 

@@ -1,5 +1,5 @@
 -- A tree that bytes spell within the limits can be printed again: the spelling that is printed has no bracket that the bytes lack.
-use Rattle.std.proofs.Common.{◌≡◌, ℕ, suc, ◌+◌, ◌<◌, ◌≤◌, max, Bool, true, false, List, [], ◌∷◌, length, subst, sym, arith, rules, Option, Some, None}
+use Rattle.std.proofs.Common.{ℕ, suc, ◌≤◌, max, Bool, true, false, List, [], ◌∷◌, subst, sym, arith}
 use Rattle.fab_syntax.specs.declared.tree.Shape.{Shape}
 use Rattle.fab_syntax.specs.declared.tree.Port.{Port}
 use Rattle.fab_syntax.specs.Plain as trees
@@ -8,7 +8,7 @@ use Rattle.fab_tokens.specs.declared.token.Token.{Token}
 use Rattle.fab_tokens.specs.Spelled.{Spells, Part, Tail, blank, line_end, comment, block, token, AreParts, IsToken, tokens_in}
 use Rattle.fab_grammar.specs.Grammar as grammar
 use Rattle.fab_grammar.specs.Grammar.{Operand, Expression, Expressions, Range, APort, Ports, PortList, AJoin, Joins, JoinList, AnItem, Items, AModule, Modules, SpellsText}
-use Rattle.fab_grammar.specs.Printable.{nested, nested_parts, HasPart, IsWritten, AreWritten, IsPrintable, IsShape, ArePorts, IsJoined, AreJoins, IsItem, AreItems, IsModule, AreModules, IsPrintableText}
+use Rattle.fab_grammar.specs.Printable.{nested, nested_parts, HasPart, IsWritten, AreWritten, IsPrintable, IsShape, ArePorts, AreJoins, IsItem, AreItems, IsModule, IsPrintableText}
 
 -- ---- tokens
 

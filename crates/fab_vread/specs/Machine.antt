@@ -1,6 +1,6 @@
 -- The machine that reads, for private contracts alone: no public clause cites it.
 -- How the tree of a text is built, token by token.
-use Rattle.std.specs.Prelude.{ℕ, Bool, true, false, List, [], ◌∷◌, ◌++◌, ◌==◌, ◌&&◌, nat_lt, length, map, if◌then◌else◌, Option, Some, None, Result, Ok, Err}
+use Rattle.std.specs.Prelude.{ℕ, Bool, true, false, List, [], ◌∷◌, ◌++◌, ◌&&◌, nat_lt, length, map, if◌then◌else◌, Option, Some, None, Result, Ok, Err}
 use Rattle.fab_base.specs.declared.problem.Problem.{Problem}
 use Rattle.fab_base.specs.declared.problem.Problem.TheVariants as problems
 use Rattle.fab_base.specs.declared.fault.Fault.{Fault}

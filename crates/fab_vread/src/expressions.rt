@@ -1,10 +1,10 @@
 //! Expressions, read token by token. Brackets that are open stand in a list, so that no text is too deep for the reader.
 
-ghost use Rattle.std.specs.Prelude.{◌≡◌, Ok, map, length, IfOk};
+ghost use Rattle.std.specs.Prelude.{◌≡◌, List, Ok, Err, map, length, IfOk};
 ghost use Rattle.fab_base.specs.Reading.{Answers};
-ghost use Rattle.fab_syntax.specs.Plain.{plain_expr};
+ghost use Rattle.fab_syntax.specs.Plain.{plain_expr, pick};
 ghost use Rattle.fab_vread.specs.OpenLevels.{levels_of};
-ghost use Rattle.fab_vread.specs.Expressions.{plain_wanted, plain_read, plain_bracket, plain_level, plain_reading, plain_outcome, stepped, shown, refused, opened, completed, after_operand, with_depth, with_bits, wanting_mark, after_wanting, kept, close_brace, close_by, close, after_whole, after_single, is_this_mark, after_behind, after_name, after_select, after_high, after_colon, after_low, taken};
+ghost use Rattle.fab_vread.specs.Expressions.{PlainLevel, parenthesis, index, brace, branch, plain_wanted, plain_read, plain_bracket, plain_level, plain_reading, plain_outcome, stepped, shown, refused, opened, completed, after_operand, with_depth, with_bits, wanting_mark, after_wanting, kept, close_brace, close_by, close, after_whole, after_single, is_this_mark, after_behind, after_name, after_select, after_high, after_colon, after_low, taken};
 
 use crate::levels::{Bracket, Level, Levels, Wanted, no_expression};
 use fab_base::{Memory, Name, Problem, Quantity, Reason};
@@ -66,6 +66,21 @@ pub(crate) fn refused<T>() -> Result<T, Problem>
     ensures { result ≡ refused }
 {
     Err(Problem::Malformed(Reason::Token))
+}
+
+/// Gives a problem, and lets go of what has been read. Apart from its callers: where a value is moved on one way and dropped on
+/// another, each form that it may have is a case of their proofs.
+fn fail<T: Drop>(_read: T, problem: Problem) -> Result<Outcome, Problem>
+    ensures { result ≡ Err problem }
+{
+    Err(problem)
+}
+
+/// Refuses the token, and lets go of what has been read.
+fn refuse<T: Drop>(read: T) -> Result<Outcome, Problem>
+    ensures { result ≡ refused }
+{
+    fail(read, Problem::Malformed(Reason::Token))
 }
 
 fn complete(alloc: Global, before: Wanted, operand: Expr) -> Result<Read, Memory>
@@ -163,7 +178,7 @@ fn take_wanting(
             after_operand(alloc, before, Expr::Const(word))
         }
         Token::Mark(byte) => take_wanting_mark(levels, over, alloc, before, byte),
-        _ => refused(),
+        _ => refuse(before),
     }
 }
 
@@ -198,7 +213,60 @@ fn close_brace(
     if byte == b'}' {
         return after_operand(alloc, before, Expr::Cat(parts));
     }
-    refused()
+    refuse((before, parts))
+}
+
+fn close_parenthesis(
+    alloc: Global,
+    before: Wanted,
+    expr: Expr,
+    byte: u8,
+) -> Result<Outcome, Problem>
+    ensures { (levels : List PlainLevel) → Answers (λ outcome. shown levels (plain_outcome outcome)) result (close_by levels (plain_wanted before) parenthesis (plain_expr expr) byte) }
+{
+    if byte == b')' {
+        return after_operand(alloc, before, expr);
+    }
+    refuse((before, expr))
+}
+
+fn pick(alloc: Global, name: Name, index: Expr) -> Result<Expr, Memory>
+    ensures { IfOk result (λ operand. plain_expr operand ≡ pick name (plain_expr index)) }
+{
+    let index = Box::new(alloc, index)?;
+    Ok(Expr::Pick(name, index))
+}
+
+fn close_index(
+    alloc: Global,
+    before: Wanted,
+    name: Name,
+    expr: Expr,
+    byte: u8,
+) -> Result<Outcome, Problem>
+    ensures { (levels : List PlainLevel) → Answers (λ outcome. shown levels (plain_outcome outcome)) result (close_by levels (plain_wanted before) (index name) (plain_expr expr) byte) }
+{
+    if byte != b']' {
+        return refuse((before, name, expr));
+    }
+    match pick(alloc, name, expr) {
+        Ok(operand) => after_operand(alloc, before, operand),
+        Err(memory) => fail(before, Problem::from(memory)),
+    }
+}
+
+fn close_part(
+    levels: &mut Levels,
+    alloc: Global,
+    before: Wanted,
+    mut parts: Vec<Expr>,
+    expr: Expr,
+    byte: u8,
+) -> Result<Outcome, Problem>
+    ensures { Answers (λ outcome. shown (levels_of levels.new) (plain_outcome outcome)) result (close_by (levels_of levels.old) (plain_wanted before) (brace (map plain_expr parts.items)) (plain_expr expr) byte) }
+{
+    parts.push(expr)?;
+    close_brace(levels, alloc, before, parts, byte)
 }
 
 fn close_by(
@@ -212,15 +280,9 @@ fn close_by(
 {
     let Level { before, bracket } = level;
     match bracket {
-        Bracket::Parenthesis if byte == b')' => after_operand(alloc, before, expr),
-        Bracket::Index(name) if byte == b']' => {
-            after_operand(alloc, before, Expr::Pick(name, Box::new(alloc, expr)?))
-        }
-        Bracket::Brace(mut parts) => {
-            parts.push(expr)?;
-            close_brace(levels, alloc, before, parts, byte)
-        }
-        _ => refused(),
+        Bracket::Parenthesis => close_parenthesis(alloc, before, expr, byte),
+        Bracket::Index(name) => close_index(alloc, before, name, expr, byte),
+        Bracket::Brace(parts) => close_part(levels, alloc, before, parts, expr, byte),
     }
 }
 
@@ -238,7 +300,7 @@ fn close(
             let expr = kept(alloc, levels, expr);
             close_by(levels, alloc, level, expr, *byte)
         }
-        _ => refused(),
+        _ => refuse((level, expr)),
     }
 }
 
@@ -281,6 +343,15 @@ pub(crate) fn is_mark(token: &Token, mark: u8) -> bool
     }
 }
 
+fn take_branch(test: Expr, yes: Expr, token: Token) -> Result<Outcome, Problem>
+    ensures { (levels : List PlainLevel) → Answers (λ outcome. shown levels (plain_outcome outcome)) result (after_behind levels (branch (plain_expr test) (plain_expr yes)) token) }
+{
+    if is_mark(&token, b':') {
+        return Ok(Outcome::More(Reading::Wanting(Wanted::Choice(test, yes))));
+    }
+    refuse((test, yes))
+}
+
 fn take_read(
     levels: &mut Levels,
     alloc: Global,
@@ -291,10 +362,7 @@ fn take_read(
 {
     match read {
         Read::Operand(expr) => take_single(levels, alloc, expr, token),
-        Read::Branch(test, yes) if is_mark(&token, b':') => {
-            Ok(Outcome::More(Reading::Wanting(Wanted::Choice(test, yes))))
-        }
-        Read::Branch(_, _) => refused(),
+        Read::Branch(test, yes) => take_branch(test, yes, token),
         Read::Whole(expr) => take_whole(levels, alloc, expr, token),
     }
 }
@@ -351,7 +419,7 @@ fn take_high(
     match token {
         Token::Mark(b']') => after_operand(alloc, before, Expr::Part(name, high, high)),
         Token::Mark(b':') => Ok(Outcome::More(Reading::Colon(before, name, high))),
-        _ => refused(),
+        _ => refuse((before, name)),
     }
 }
 
@@ -360,7 +428,7 @@ fn take_colon(before: Wanted, name: Name, high: u32, token: &Token) -> Result<Ou
 {
     match token {
         Token::Number(low) => Ok(Outcome::More(Reading::Low(before, name, high, *low))),
-        _ => refused(),
+        _ => refuse((before, name)),
     }
 }
 
@@ -377,7 +445,7 @@ fn take_low(
     if is_mark(token, b']') {
         return after_operand(alloc, before, Expr::Part(name, high, low));
     }
-    refused()
+    refuse((before, name))
 }
 
 /// Takes the next token of an expression, the brackets that are open, and what is above its bound so far.

@@ -104,8 +104,9 @@ fn passed_bracket(bracket: &Bracket) -> PassedBracket
     }
 }
 
-fn passed_level(level: &Level) -> Passed
-    ensures { plain_passed result ≡ kept_level 300 (plain_wanted level.now.before) (plain_bracket level.now.bracket) }
+/// What is kept of a bracket that is too deep.
+fn passed_level(level: Level) -> Passed
+    ensures { plain_passed result ≡ kept_level 300 (plain_wanted level.before) (plain_bracket level.bracket) }
 {
     Passed {
         before: passed_wanted(&level.before),
@@ -189,7 +190,7 @@ impl Levels {
         if self.kept.len() < MAX_DEPTH {
             self.kept.push(level)?;
         } else {
-            self.passed.push(passed_level(&level))?;
+            self.passed.push(passed_level(level))?;
         }
         Ok(())
     }

@@ -1,15 +1,15 @@
 //! A text is read byte by byte, and its first token that cannot stand there is reported.
 
-ghost use Rattle.std.specs.Prelude.{◌≡◌, ◌⊎◌, ◌≤◌, ◌<◌, ◌+◌, length, List, IfOk};
+ghost use Rattle.std.specs.Prelude.{◌≡◌, ◌⊎◌, ◌≤◌, ◌<◌, ◌+◌, length, map, List, IfOk};
 ghost use Rattle.std.specs.Result.{IfErr};
 ghost use Rattle.fab_base.specs.Reading.{Gives, fault_at, IsFaultOr};
-ghost use Rattle.fab_syntax.specs.Plain.{PlainModule, plain_text};
+ghost use Rattle.fab_syntax.specs.Plain.{PlainModule, plain_module, plain_text};
 ghost use Rattle.fab_syntax.specs.Spelling.{text_bytes};
 ghost use Rattle.fab_grammar.specs.Grammar.{SpellsText};
 ghost use Rattle.fab_grammar.specs.Printable.{IsPrintableText};
 ghost use Rattle.fab_vread.specs.Progress.{plain_progress};
 ghost use Rattle.fab_vread.specs.Refusals.{IsRefusal, next_line};
-ghost use Rattle.fab_vread.specs.Machine.{limit, first_progress, line_checked, past, after_lexeme, after_optional, after_char, read_from, is_done, closing, finished, read_of};
+ghost use Rattle.fab_vread.specs.Machine.{limit, first_progress, line_checked, past, after_lexeme, after_optional, after_char, and_go, read_from, is_done, closing, finished, read_of};
 
 use crate::expressions::{MAX_BITS, Over};
 use crate::levels::MAX_DEPTH;
@@ -68,7 +68,8 @@ fn next_line(line: u32, byte: u8) -> u32
 
 impl Reader {
     fn new(alloc: Global) -> Reader
-        ensures { plain_progress result ≡ first_progress }
+        ensures first { plain_progress result ≡ first_progress }
+        ensures line { result.line ≡ 1 }
     {
         Reader {
             parser: Parser::new(alloc),
@@ -134,6 +135,19 @@ impl Reader {
         Ok(())
     }
 
+    /// Takes bytes of a text.
+    fn take_bytes(&mut self, alloc: Global, file: &Name, bytes: &[u8]) -> Result<(), Fault>
+        requires { self.old.line + length bytes.now ≤ 4294967295 }
+        ensures { Gives (λ _. plain_progress self.new) result (read_from file.now (plain_progress self.old) bytes.now) }
+    {
+        let mut rest = bytes;
+        while let Some((byte, after)) = rest.split_first() {
+            self.take_byte(alloc, file, *byte)?;
+            rest = after;
+        }
+        Ok(())
+    }
+
     fn is_done(&self) -> bool
         ensures { result ≡ is_done (plain_progress self.now).machine }
     {
@@ -143,22 +157,31 @@ impl Reader {
         }
     }
 
-    fn close(self, alloc: Global, file: &Name) -> Result<Text, Fault>
-        ensures { Gives plain_text result (closing file.now (plain_progress self)) }
+    /// Whether the text may end here, and nothing is above its bound.
+    fn check_end(&self, alloc: Global, file: &Name) -> Result<(), Fault>
+        ensures { Gives (λ _. map plain_module self.now.parser.modules.items) result (closing file.now (plain_progress self.now)) }
     {
         if !self.is_done() {
             return Err(Problem::Malformed(Reason::Token).at(alloc, file, self.line));
         }
         match self.parser.over {
             Some(over) => Err(limit(over).at(alloc, file, self.token_line)),
-            None => Ok(Text {
-                modules: self.parser.modules,
-            }),
+            None => Ok(()),
         }
     }
 
-    fn finish(mut self, alloc: Global, file: &Name) -> Result<Text, Fault>
-        ensures { Gives plain_text result (finished file.now (plain_progress self)) }
+    fn close(&mut self, alloc: Global, file: &Name) -> Result<Text, Fault>
+        ensures { Gives plain_text result (closing file.now (plain_progress self.old)) }
+    {
+        self.check_end(alloc, file)?;
+        Ok(Text {
+            modules: mem::replace(&mut self.parser.modules, Vec::new(alloc)),
+        })
+    }
+
+    /// The text ends. After this the reader is of no more use.
+    fn finish(&mut self, alloc: Global, file: &Name) -> Result<Text, Fault>
+        ensures { Gives plain_text result (finished file.now (plain_progress self.old)) }
     {
         self.line = self.last;
         let scan = mem::replace(&mut self.scan, Scan::Between);
@@ -167,19 +190,16 @@ impl Reader {
         self.check_line(alloc, file)?;
         self.close(alloc, file)
     }
-}
 
-fn read_bytes(alloc: Global, file: &Name, bytes: &[u8]) -> Result<Reader, Fault>
-    requires { length bytes.now ≤ MAX_FILE_BYTES }
-    ensures { Gives plain_progress result (read_from file.now first_progress bytes.now) }
-{
-    let mut reader = Reader::new(alloc);
-    let mut rest = bytes;
-    while let Some((byte, after)) = rest.split_first() {
-        reader.take_byte(alloc, file, *byte)?;
-        rest = after;
+    /// Takes a text up to its end. Apart from `read_text`: where the function that owns a reader has several ways out, each part
+    /// of the reader is a case of its proof.
+    fn take_text(&mut self, alloc: Global, file: &Name, bytes: &[u8]) -> Result<Text, Fault>
+        requires { self.old.line + length bytes.now ≤ 4294967295 }
+        ensures { Gives plain_text result (and_go (read_from file.now (plain_progress self.old) bytes.now) (λ p. finished file.now p)) }
+    {
+        self.take_bytes(alloc, file, bytes)?;
+        self.finish(alloc, file)
     }
-    Ok(reader)
 }
 
 #[tactic(auto, unfolding(crate::specs::Machine::read_of))]
@@ -187,7 +207,8 @@ fn read_text(alloc: Global, file: &Name, bytes: &[u8]) -> Result<Text, Fault>
     requires { length bytes.now ≤ MAX_FILE_BYTES }
     ensures { Gives plain_text result (read_of file.now bytes.now) }
 {
-    read_bytes(alloc, file, bytes)?.finish(alloc, file)
+    let mut reader = Reader::new(alloc);
+    reader.take_text(alloc, file, bytes)
 }
 
 /// Reads a Verilog text. Where its bytes spell a tree, with at most 300 brackets open in one another within an expression

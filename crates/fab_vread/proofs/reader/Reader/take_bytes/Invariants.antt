@@ -1,12 +1,12 @@
 use Rattle.std.proofs.Common.{◌≡◌, ◌≤◌, ◌+◌, length}
-use Rattle.fab_vread.specs.Machine.{read_from, first_progress}
+use Rattle.fab_vread.specs.Machine.{read_from}
 use Rattle.fab_vread.specs.Progress.{plain_progress}
-use Rattle.fab_vread.proofs.reader.read_bytes.Given as goal
+use Rattle.fab_vread.proofs.reader.Reader.take_bytes.Given as goal
 
 abbrev pub invariant-loop-byte : goal.invariant-loop-byte
 invariant-loop-byte l = record {
-  so_far : read_from l.file (plain_progress l.reader) l.rest ≡ read_from l.file first_progress l.bytes;
-  lines : l.reader.line + length l.rest ≤ 67108865;
+  so_far : read_from l.file (plain_progress l.self) l.rest ≡ read_from l.file (plain_progress l.fn.self) l.bytes;
+  lines : l.self.line + length l.rest ≤ 4294967295;
 }
 
 abbrev pub decreases-loop-byte : goal.decreases-loop-byte
