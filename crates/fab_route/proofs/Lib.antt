@@ -4,3 +4,4 @@ pub mod Numbered
 pub mod Leading
 pub mod Tabled
 pub mod Aimed
+pub mod Along

@@ -1,6 +1,8 @@
 -- The nodes of a fabric as contracts see them.
-use Rattle.std.specs.Prelude.{◌≡◌, ◌≤◌, ◌<◌, ◌+◌, ◌^◌, ℕ, List, length, slice_index, slice_range}
+use Rattle.std.specs.Prelude.{◌≡◌, ◌≤◌, ◌<◌, ◌+◌, ◌^◌, ℕ, List, [], ◌∷◌, length, slice_index, slice_range}
+use Rattle.fab_fabric.specs.Wires.{numbered_wire}
 use Rattle.fab_fabric.specs.declared.wire.Wire.{Wire}
+use Rattle.fab_implementation.specs.Plain.{Edge}
 use Rattle.fab_search.specs.Walks.{Graph}
 use Rattle.fab_nodes.specs.Nodes.{Numbering}
 
@@ -31,3 +33,8 @@ pub record AreReadable (n : PlainNodes) : Type 0 where
   pub begins : length n.starts ≡ length n.wires + 1
   pub order : (node : ℕ) → node < length n.wires → slice_index n.starts node ≤ slice_index n.starts (node + 1)
   pub within : (node : ℕ) → node ≤ length n.wires → slice_index n.starts node ≤ length n.targets
+
+-- the edges by which a walk comes from one node to the next
+abbrev pub hop_edges : Numbering → (from to : ℕ) → List Edge
+hop_edges numbering from to =
+    (numbered_wire (numbering.wire from), numbered_wire (numbering.output to)) ∷ (numbered_wire (numbering.output to), numbered_wire (numbering.wire to)) ∷ []

@@ -6,6 +6,8 @@ mod goals;
 mod nodes;
 mod numbers;
 mod targets;
+mod walks;
 
 pub use goals::goals_of;
 pub use nodes::Nodes;
+pub use walks::put_walk;
