@@ -1,1 +1,4 @@
 pub mod Listed
+pub mod Linked
+pub mod Inside
+pub mod Spreads
