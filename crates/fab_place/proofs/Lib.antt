@@ -2,3 +2,4 @@ pub mod Listed
 pub mod Linked
 pub mod Inside
 pub mod Spreads
+pub mod Found
