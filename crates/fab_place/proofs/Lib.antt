@@ -1,1 +1,5 @@
 pub mod Listed
+pub mod Linked
+pub mod Inside
+pub mod Spreads
+pub mod Found

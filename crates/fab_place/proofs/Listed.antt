@@ -2,7 +2,7 @@
 use Rattle.std.proofs.Common.{◌≡◌, ℕ, ◌+◌, ◌<◌, ◌≤◌, Bool, true, false, List, [], ◌∷◌, ◌++◌, length, get_or, take, map, zero, suc, refl, sym, ◌∙◌, ap, inl, inr, arith}
 use Rattle.std.specs.List.{flat_map, enumerate_from, filter}
 use Rattle.std.proofs.lemmas.Bool.{cases_Bool}
-use Rattle.std.proofs.lemmas.List.{append-nil, append_assoc, length-take-le, take_more}
+use Rattle.std.proofs.lemmas.List.{append-nil, append_assoc, map-append, length-take-le, take_more}
 use Rattle.std.proofs.lemmas.List.Concat.{flat_map-append}
 use Rattle.fab_model.specs.Tiles.{counted}
 
@@ -68,3 +68,44 @@ kept_yes test made n xs d low is =
 pub kept_no : {X Y : Type 0} (test : X → Bool) (made : ℕ → Y) (n : ℕ) (xs : List X) (d : X) → n < length xs → test (get_or xs n d) ≡ false
     → kept_from test made 0 (take (n + 1) xs) ≡ kept_from test made 0 (take n xs)
 kept_no test made n xs d low is = ap (kept_from test made 0) (take_more xs n d low) ∙ push_no test made 0 (take n xs) (get_or xs n d) is
+
+-- ---- more of a list behind others
+
+pub none_behind : {X : Type 0} (old : List X) (f : ℕ → X) → old ≡ old ++ counted 0 f
+unfolding counted
+none_behind old f = sym (append-nil old)
+
+pub counted_behind : {X : Type 0} (old before after : List X) (f : ℕ → X) (n : ℕ) → before ≡ old ++ counted n f → after ≡ before ++ f n ∷ [] → after ≡ old ++ counted (n + 1) f
+counted_behind old before after f n is more =
+    more ∙ ap (λ front. front ++ f n ∷ []) is ∙ append_assoc old (counted n f) (f n ∷ [])
+    ∙ ap (λ back. old ++ back) (sym (counted_last n f) ∙ ap (λ m. counted m f) (let e : suc n ≡ n + 1 = omega arith in e))
+
+-- the pieces of one item more
+pub mapped_behind : {X Y : Type 0} (old before after : List Y) (g : X → List Y) (xs : List X) (n : ℕ) (d : X) → n < length xs → before ≡ old ++ flat_map g (take n xs) → after ≡ before ++ g (get_or xs n d)
+    → after ≡ old ++ flat_map g (take (n + 1) xs)
+mapped_behind old before after g xs n d low is more =
+    more ∙ ap (λ front. front ++ g (get_or xs n d)) is ∙ append_assoc old (flat_map g (take n xs)) (g (get_or xs n d))
+    ∙ ap (λ back. old ++ back) (sym (ap (flat_map g) (take_more xs n d low) ∙ flat_map-append g (take n xs) (get_or xs n d ∷ []) ∙ ap (λ last. flat_map g (take n xs) ++ last) (append-nil (g (get_or xs n d)))))
+
+numbered_push : {X : Type 0} (start : ℕ) (xs : List X) (x : X) → enumerate_from start (xs ++ x ∷ []) ≡ enumerate_from start xs ++ (start + length xs, x) ∷ []
+numbered_push start [] x = ap (λ n. (n, x) ∷ []) (let e : start ≡ start + 0 = omega arith in e)
+numbered_push start (y ∷ ys) x =
+    ap (λ rest. (start, y) ∷ rest) (numbered_push (start + 1) ys x ∙ ap (λ n. enumerate_from (start + 1) ys ++ (n, x) ∷ []) (let e : (start + 1) + length ys ≡ start + suc (length ys) = omega arith in e))
+
+numbered_more : {X : Type 0} (xs : List X) (n : ℕ) (d : X) → n < length xs → enumerate_from 0 (take (n + 1) xs) ≡ enumerate_from 0 (take n xs) ++ (n, get_or xs n d) ∷ []
+numbered_more xs n d low =
+    ap (enumerate_from 0) (take_more xs n d low) ∙ numbered_push 0 (take n xs) (get_or xs n d)
+    ∙ ap (λ m. enumerate_from 0 (take n xs) ++ (m, get_or xs n d) ∷ []) (let inside : n ≤ length xs = omega arith in let e : 0 + length (take n xs) ≡ n = omega (arith, length-take-le n xs inside) in e)
+
+pub numbered_behind : {X Y : Type 0} (old before after : List Y) (g : ℕ × X → List Y) (xs : List X) (n : ℕ) (d : X) → n < length xs → before ≡ old ++ flat_map g (enumerate_from 0 (take n xs)) → after ≡ before ++ g (n, get_or xs n d)
+    → after ≡ old ++ flat_map g (enumerate_from 0 (take (n + 1) xs))
+numbered_behind old before after g xs n d low is more =
+    more ∙ ap (λ front. front ++ g (n, get_or xs n d)) is ∙ append_assoc old (flat_map g (enumerate_from 0 (take n xs))) (g (n, get_or xs n d))
+    ∙ ap (λ back. old ++ back) (sym (ap (flat_map g) (numbered_more xs n d low) ∙ flat_map-append g (enumerate_from 0 (take n xs)) ((n, get_or xs n d) ∷ [])
+    ∙ ap (λ last. flat_map g (enumerate_from 0 (take n xs)) ++ last) (append-nil (g (n, get_or xs n d)))))
+
+pub numbered_map_more : {X Y : Type 0} (before after : List Y) (g : ℕ × X → Y) (xs : List X) (n : ℕ) (d : X) → n < length xs → before ≡ map g (enumerate_from 0 (take n xs)) → after ≡ before ++ g (n, get_or xs n d) ∷ []
+    → after ≡ map g (enumerate_from 0 (take (n + 1) xs))
+numbered_map_more before after g xs n d low is more =
+    more ∙ ap (λ front. front ++ g (n, get_or xs n d) ∷ []) is
+    ∙ sym (ap (map g) (numbered_more xs n d low) ∙ map-append g (enumerate_from 0 (take n xs)) ((n, get_or xs n d) ∷ []))
