@@ -61,7 +61,8 @@ constraints_are_judged fabric netlist file = record {
 -- ---- the files of a design, one behind the other
 
 module _ (files : Map) where
-  pcf_is_judged : (pcf : Option (List ℕ)) (fabric : PlainFabric) (netlist : PlainNetlist) → IsJudged SameNumber (ReadsIfNamed files pcf (SpellsConstraints fabric netlist) []) (MeetsConstraints files pcf fabric netlist)
+  pcf_is_judged : (pcf : Option (List ℕ)) (fabric : PlainFabric) (netlist : PlainNetlist)
+      → IsJudged SameNumber (ReadsIfNamed files pcf (SpellsConstraints fabric netlist) []) (MeetsConstraints files pcf fabric netlist)
   pcf_is_judged None fabric netlist =
       named_file_is_judged SameNumber (λ fault. refl) files (SpellsConstraints fabric netlist) (RefusesConstraints fabric netlist []) (constraints_are_judged fabric netlist []) [] None
   pcf_is_judged (Some file) fabric netlist =
@@ -111,7 +112,8 @@ implementation_text_is_judged fabric file = record {
 
 -- a file spells one implementation, or is refused for one fault
 pub implementation_is_judged : (files : Map) (file : List ℕ) (fabric : PlainFabric) → IsJudged (λ a b. a ≡ b) (ReadsImplementation files file fabric) (MeetsImplementation files file fabric)
-implementation_is_judged files file fabric = file_is_judged (λ a b. a ≡ b) (λ fault. refl) files (SpellsImplementation fabric) (RefusesImplementation fabric file) (implementation_text_is_judged fabric file) file
+implementation_is_judged files file fabric =
+    file_is_judged (λ a b. a ≡ b) (λ fault. refl) files (SpellsImplementation fabric) (RefusesImplementation fabric file) (implementation_text_is_judged fabric file) file
 
 -- the same where faults are told apart by their status numbers alone
 pub implementation_is_numbered : (files : Map) (file : List ℕ) (fabric : PlainFabric) → IsJudged SameNumber (ReadsImplementation files file fabric) (MeetsImplementation files file fabric)

@@ -20,14 +20,20 @@ use Rattle.fab_impl.proofs.Spelled.{whole_spells}
 use Rattle.fab_designs.specs.Designs.{SpellsNetlist}
 use Rattle.fab_designs.specs.Implementations.{SpellsImplementation}
 
-pub netlist_read : (files : Map) (file bytes : List ℕ) (result : Result PlainNetlist Fault) → handed_out files file ≡ Ok bytes → OnOk result (IsBlif bytes) → IfOk result (λ netlist. netlist ≡ netlist_in bytes)
-    → IfOk result (ReadsFrom files file SpellsNetlist)
+pub netlist_read : (files : Map) (file bytes : List ℕ) (result : Result PlainNetlist Fault) → handed_out files file ≡ Ok bytes
+    → OnOk result (IsBlif bytes) → IfOk result (λ netlist. netlist ≡ netlist_in bytes) → IfOk result (ReadsFrom files file SpellsNetlist)
 netlist_read files file bytes (Ok netlist) found fine is = record { bytes = bytes; found = found; spelled = (fine, is) }
 netlist_read files file bytes (Err fault) found fine is = tt
 
 -- no constraints
 pub none_fixed : (fabric : PlainFabric) (ports : List Word) → AreFixings fabric ports []
-none_fixed fabric ports = record { ports = tt; sites = tt; kinds = tt; ports_apart = no_pairs (λ (first second : Word). first ≢ second); sites_apart = no_pairs (λ (first second : Site). first ≢ second) }
+none_fixed fabric ports = record {
+  ports = tt;
+  sites = tt;
+  kinds = tt;
+  ports_apart = no_pairs (λ (first second : Word). first ≢ second);
+  sites_apart = no_pairs (λ (first second : Site). first ≢ second);
+}
 
 -- what is said of an implementation is spelled
 pub said_is_spelled : (fabric : PlainFabric) (bytes : List ℕ) (it : PlainImplementation) → Says fabric (rows_of bytes) it → SpellsImplementation fabric bytes it

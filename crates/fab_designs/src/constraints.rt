@@ -34,8 +34,8 @@ fn read_file<D: Desk>(
     read_pcf(alloc, file, &bytes, fabric, netlist)
 }
 
-/// The sites on which a pcf file fixes the ports of a netlist; none where no file is named. Its faults come as `fetch` and `read_pcf`
-/// give them.
+/// The sites on which a pcf file fixes the ports of a netlist; none where no file is named. Its faults come as `fetch` and
+/// `read_pcf` give them.
 pub fn read_constraints<D: Desk>(
     alloc: Global,
     desk: &mut D,

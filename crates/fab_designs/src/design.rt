@@ -64,11 +64,11 @@ fn read<D: Desk>(
     })
 }
 
-/// Reads a design: the fabric with all files that its file names, then the BLIF file, and then the pcf file, if one is named. Files that
-/// spell a design are read, unless the device fails or memory is refused.
+/// Reads a design: the fabric with all files that its file names, then the BLIF file, and then the pcf file, if one is
+/// named. Files that spell a design are read, unless the device fails or memory is refused.
 ///
-/// The faults of each file come as `read_fabric`, `read_blif` and `read_pcf` give them, those of an earlier file before those of a later one,
-/// which is then not asked for. `Missing`, `TooLong` and `ReadFault` name the file.
+/// The faults of each file come as `read_fabric`, `read_blif` and `read_pcf` give them, those of an earlier file before
+/// those of a later one, which is then not asked for. `Missing`, `TooLong` and `ReadFault` name the file.
 pub fn read_design<D: Desk>(
     alloc: Global,
     desk: &mut D,
@@ -80,7 +80,8 @@ pub fn read_design<D: Desk>(
     ensures writes { D.writes desk.new ≡ D.writes desk.old }
     ensures reads { D.reads desk.old ≤ D.reads desk.new }
     ensures spelled { ForSome (D.told desk.old) (λ files. IfOk result (SpellsDesign files (design_files fabric.now blif.now (option_copied pcf.entry)))) }
-    ensures complete { ForSome (D.told desk.old) (λ files. (design : PlainDesign) → SpellsDesign files (design_files fabric.now blif.now (option_copied pcf.entry)) design → D.reads desk.new ≡ D.reads desk.old → IsOkUnless result faults.Memory) }
+    ensures complete { ForSome (D.told desk.old) (λ files. (design : PlainDesign) → SpellsDesign files (design_files fabric.now blif.now (option_copied pcf.entry)) design
+        → D.reads desk.new ≡ D.reads desk.old → IsOkUnless result faults.Memory) }
     ensures acyclic { IfOk result (λ design. HasNoCycle design.netlist) }
     ensures small { IfOk result (λ design. length design.netlist.nets ≤ 16384) }
     ensures fixings { IfOk result (λ design. AreFixings design.fabric (data_ports design.netlist) design.fixed) }

@@ -38,7 +38,8 @@ fn read<D: Desk>(
     read_impl(alloc, file, &bytes, fabric)
 }
 
-/// The implementation on a fabric that a file spells. A file that spells one is read, unless the device fails or memory is refused.
+/// The implementation on a fabric that a file spells. A file that spells one is read, unless the device fails or memory
+/// is refused.
 ///
 /// `Missing`, `TooLong` and `ReadFault` name the file. `Malformed` comes as `read_impl` gives it.
 pub fn read_implementation<D: Desk>(
@@ -51,7 +52,8 @@ pub fn read_implementation<D: Desk>(
     ensures writes { D.writes desk.new ≡ D.writes desk.old }
     ensures reads { D.reads desk.old ≤ D.reads desk.new }
     ensures spelled { ForSome (D.told desk.old) (λ files. IfOk result (ReadsImplementation files file.now fabric.now)) }
-    ensures complete { ForSome (D.told desk.old) (λ files. (it : PlainImplementation) → ReadsFrom files file.now (λ bytes. Spells fabric.now (rows_of bytes)) it → D.reads desk.new ≡ D.reads desk.old → IsOkUnless result faults.Memory) }
+    ensures complete { ForSome (D.told desk.old) (λ files. (it : PlainImplementation) → ReadsFrom files file.now (λ bytes. Spells fabric.now (rows_of bytes)) it
+        → D.reads desk.new ≡ D.reads desk.old → IsOkUnless result faults.Memory) }
     ensures on_fabric { IfOk result (IsOnFabric fabric.now) }
     ensures lines { IfOk result (λ it. All (InputsAreLines it) it.trees) }
     ensures cause { IfErr result (HasReadCause (D.told desk.old) (D.reads desk.old < D.reads desk.new) (λ files. MeetsImplementation files file.now fabric.now)) }

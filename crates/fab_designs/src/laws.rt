@@ -14,11 +14,12 @@ ghost use Rattle.fab_state.specs.Constraints.{data_ports};
 ghost use Rattle.fab_designs.specs.Designs.{DesignFiles, PlainDesign, SpellsDesign, MeetsDesign};
 ghost use Rattle.fab_designs.specs.Implementations.{ReadsImplementation, MeetsImplementation};
 
-/// Files spell at most one design, and all first refusals of them have one status number. There may be several, since a cycle of covers may
-/// be named in more than one way.
+/// Files spell at most one design, and all first refusals of them have one status number. There may be several, since a
+/// cycle of covers may be named in more than one way.
 pub fn designs_are_spelled_once()
     ensures one_value { (files : Map) (names : DesignFiles) (first second : PlainDesign) → SpellsDesign files names first → SpellsDesign files names second → first ≡ second }
-    ensures one_number { (files : Map) (names : DesignFiles) (first second : Refusal) → MeetsDesign files names (refuses first) → MeetsDesign files names (refuses second) → number_of first ≡ number_of second }
+    ensures one_number { (files : Map) (names : DesignFiles) (first second : Refusal)
+        → MeetsDesign files names (refuses first) → MeetsDesign files names (refuses second) → number_of first ≡ number_of second }
 {}
 
 /// Files that spell a design are not refused.
@@ -28,13 +29,16 @@ pub fn spelled_designs_are_not_refused()
 
 /// A file spells at most one implementation on a fabric, and has at most one first refusal.
 pub fn implementations_are_spelled_once()
-    ensures one_value { (files : Map) (file : List ℕ) (fabric : PlainFabric) (first second : PlainImplementation) → ReadsImplementation files file fabric first → ReadsImplementation files file fabric second → first ≡ second }
-    ensures one_refusal { (files : Map) (file : List ℕ) (fabric : PlainFabric) (first second : Refusal) → MeetsImplementation files file fabric (refuses first) → MeetsImplementation files file fabric (refuses second) → first ≡ second }
+    ensures one_value { (files : Map) (file : List ℕ) (fabric : PlainFabric) (first second : PlainImplementation)
+        → ReadsImplementation files file fabric first → ReadsImplementation files file fabric second → first ≡ second }
+    ensures one_refusal { (files : Map) (file : List ℕ) (fabric : PlainFabric) (first second : Refusal)
+        → MeetsImplementation files file fabric (refuses first) → MeetsImplementation files file fabric (refuses second) → first ≡ second }
 {}
 
 /// A file that spells an implementation is not refused.
 pub fn spelled_implementations_are_not_refused()
-    ensures { (files : Map) (file : List ℕ) (fabric : PlainFabric) (implementation : PlainImplementation) (fault : Refusal) → ReadsImplementation files file fabric implementation → MeetsImplementation files file fabric (refuses fault) → ⊥ }
+    ensures { (files : Map) (file : List ℕ) (fabric : PlainFabric) (implementation : PlainImplementation) (fault : Refusal)
+        → ReadsImplementation files file fabric implementation → MeetsImplementation files file fabric (refuses fault) → ⊥ }
 {}
 
 /// The data ports of a netlist, which alone its constraints name, are ports of its packed design.

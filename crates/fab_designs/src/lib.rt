@@ -1,4 +1,5 @@
-//! The files of a design, which a desk hands out: its fabric, its netlist and the constraints of its ports, and an implementation of it.
+//! The files of a design, which a desk hands out: its fabric, its netlist and the constraints of its ports, and an
+//! implementation of it.
 #![tactic(auto)]
 
 mod constraints;

@@ -14,7 +14,8 @@ returns-in_err-bytes-clause-cause g c =
     let told = g.D.Desk.told c.args.desk.now in
     let rose = g.D.Desk.reads c.args.desk.now < g.D.Desk.reads c.fetch.new.desk in
     let file = c.args.file.now in
-    rw (residual.1, residual.2) (cause_weaker told told rose rose (λ files. MeetsFile files file) (λ files. MeetsConstraints files (Some file) c.args.fabric.now c.args.netlist.now) c.in_err-bytes.field-0.0
+    rw (residual.1, residual.2) (cause_weaker told told rose rose (λ files. MeetsFile files file) (λ files. MeetsConstraints files (Some file) c.args.fabric.now c.args.netlist.now)
+    c.in_err-bytes.field-0.0
     refl (λ r. r) (λ files is event met. of_file met) c.in_err-bytes.ensures.cause)
 
 pub returns-clause-spelled : goal.returns-clause-spelled
@@ -32,4 +33,5 @@ returns-clause-cause g c =
     let file = c.args.file.now in
     let found : (files : Map) → told ≡ Some files → handed_out files file ≡ Ok c.deref.result.now = λ files is. rw c.deref.ensures.value (c.in_ok-bytes.ensures.found files is) in
     IfErr-weaker c.read_pcf.result _ _
-    (λ fault refused. text_cause told rose (λ files. MeetsConstraints files (Some file) c.args.fabric.now c.args.netlist.now) fault refused (λ files is why. of_bytes (found files is) why)) c.read_pcf.ensures.refusal
+    (λ fault refused. text_cause told rose (λ files. MeetsConstraints files (Some file) c.args.fabric.now c.args.netlist.now) fault refused (λ files is why. of_bytes (found files is) why))
+    c.read_pcf.ensures.refusal

@@ -21,7 +21,8 @@ returns-in_err-bytes-clause-cause g c =
 pub returns-clause-spelled : goal.returns-clause-spelled
 returns-clause-spelled g c = λ files is.
     let found : handed_out files c.args.file.now ≡ Ok c.deref.result.now = rw c.deref.ensures.value (c.in_ok-bytes.ensures.found files is) in
-    IfOk-weaker c.read_impl.result _ _ (λ it says. record { bytes = c.deref.result.now; found = found; spelled = said_is_spelled c.args.fabric.now c.deref.result.now it says }) c.read_impl.ensures.said
+    IfOk-weaker c.read_impl.result _ _ (λ it says. record { bytes = c.deref.result.now; found = found; spelled = said_is_spelled c.args.fabric.now c.deref.result.now it says })
+    c.read_impl.ensures.said
 
 pub returns-clause-lines : goal.returns-clause-lines
 returns-clause-lines g c = IfOk-weaker c.read_impl.result _ _ (λ it within. inputs_are_lines it within) c.read_impl.ensures.inputs
