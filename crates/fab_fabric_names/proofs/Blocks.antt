@@ -1,20 +1,24 @@
 -- A row that a block takes keeps its names free.
-use Rattle.std.proofs.Common.{◌≡◌, ◌⊎◌, ℕ, ◌==◌, ◌||◌, ◌&&◌, not, Bool, true, false, List, [], ◌∷◌, length, Option, Some, None, refl, subst, arith, inl, inr, if◌then◌else◌}
+use Rattle.std.proofs.Common.{◌≡◌, ◌⊎◌, ℕ, ◌==◌, ◌||◌, ◌&&◌, not, Bool, true, false, List, [], ◌∷◌, length, Option, Some, None, refl, sym, subst, arith, inl, inr, if◌then◌else◌}
 use Rattle.std.specs.List.{list_any}
 use Rattle.std.specs.Option.{ForSome}
 use Rattle.std.proofs.lemmas.Bool.Decides.{nat_tests}
 use Rattle.std.proofs.lemmas.List.Elements.{All-nil, All-push}
 use Rattle.fab_kinds.specs.declared.kind.Kind.{Kind}
 use Rattle.fab_lines.specs.Names.{is_upper, is_identifier, is_reserved, is_wire_name}
+use Rattle.fab_desk.specs.Files.{Map}
 use Rattle.fab_paths.specs.Paths.{is_path}
+use Rattle.fab_model.specs.Tiles.{PlainTile, with_table}
 use Rattle.fab_model.specs.declared.tiles.Bel.{Bel}
 use Rattle.fab_model.specs.declared.tiles.WireRow.{WireRow}
 use Rattle.fab_names.proofs.Families.{both_first, both_second}
 use Rattle.fab_blocks.specs.Cells.{is_null, is_side, long_of, first_problem}
-use Rattle.fab_blocks.specs.Blocks.{PlainBlock, new_block, bare, with_row, with_matrix}
+use Rattle.fab_blocks.specs.Blocks.{PlainBlock, new_block, bare, with_row}
 use Rattle.fab_blocks.specs.Rows.{WireCells, has_numbers, has_sides, row_of, side, wire_reason, wire_problem, is_prefix, bel_reason, kind_problem, bel_problem_of, with_bel_of}
 use Rattle.fab_blocks.proofs.Readings.{passed, no_problem}
+use Rattle.fab_read.specs.Tiles.{End, ReadsTile, paired}
 use Rattle.fab_gen_tile.specs.Words.{IsFreeName, IsNamed}
+use Rattle.fab_fabric_names.proofs.Keeping.{Keeps}
 
 -- ---- words
 
@@ -75,7 +79,7 @@ two_sides : (cells : WireCells) → has_sides cells ≡ true → (is_side cells.
 unfolding has_sides
 two_sides cells is = (both_first (is_side cells.source) (is_side cells.dest) is, both_second (is_side cells.source) (is_side cells.dest) is)
 
-pub named_wire : (block : PlainBlock) (cells : WireCells) → IsNamed (bare block) → wire_problem block cells ≡ None → IsNamed (bare (with_row block (row_of cells)))
+named_wire : (block : PlainBlock) (cells : WireCells) → IsNamed (bare block) → wire_problem block cells ≡ None → IsNamed (bare (with_row block (row_of cells)))
 named_wire block cells named fine =
     let reason = (no_problem (wire_reason block cells) (first_problem (long_of cells.source) (long_of cells.dest)) fine).0 in
     let sides = two_sides cells (wire_sides block cells reason) in
@@ -91,7 +95,7 @@ prefix_passed : (block : PlainBlock) (kind : Option Kind) (holder file prefix : 
 unfolding bel_reason
 prefix_passed block kind holder file prefix fine = (passed (is_prefix prefix) _ _ (passed (is_path holder file) _ _ fine).1).0
 
-pub named_bel : (block : PlainBlock) (kind : Option Kind) (holder file prefix : List ℕ) → IsNamed (bare block) → bel_problem_of block kind holder file prefix ≡ None
+named_bel : (block : PlainBlock) (kind : Option Kind) (holder file prefix : List ℕ) → IsNamed (bare block) → bel_problem_of block kind holder file prefix ≡ None
     → IsNamed (bare (with_bel_of block kind prefix))
 named_bel block None holder file prefix named fine = named
 named_bel block (Some kind) holder file prefix named fine =
@@ -105,12 +109,23 @@ named_bel block (Some kind) holder file prefix named fine =
 
 -- ---- what has no row
 
-pub named_new : (name : List ℕ) → IsNamed (bare (new_block name))
+named_new : (name : List ℕ) → IsNamed (bare (new_block name))
 named_new name = record {
   sources = All-nil (λ (row : WireRow). ForSome row.source IsFreeName);
   dests = All-nil (λ (row : WireRow). ForSome row.dest IsFreeName);
   prefixes = All-nil (λ (bel : Bel). (bel.prefix ≡ []) ⊎ IsFreeName bel.prefix);
 }
 
-pub named_matrix : (block : PlainBlock) (file : List ℕ) → IsNamed (bare block) → IsNamed (bare (with_matrix block file))
-named_matrix block file named = record { sources = named.sources; dests = named.dests; prefixes = named.prefixes }
+named_tile : (files : Map) (end : End) (block : PlainBlock) (tile : PlainTile) → IsNamed (bare block) → ReadsTile files end block tile → IsNamed tile
+named_tile files end block tile named read =
+    let same : IsNamed (with_table (paired block read.pairs) read.table) = record { sources = named.sources; dests = named.dests; prefixes = named.prefixes } in
+    subst IsNamed (sym read.is) same
+
+pub names_kept : Keeps IsNamed
+names_kept = record {
+  new = named_new;
+  wire = named_wire;
+  bel = named_bel;
+  matrix = λ block file named. record { sources = named.sources; dests = named.dests; prefixes = named.prefixes };
+  tile = named_tile;
+}

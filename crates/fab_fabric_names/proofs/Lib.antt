@@ -1,2 +1,4 @@
+pub mod Keeping
 pub mod Blocks
+pub mod Prefixes
 pub mod Readings

@@ -1,4 +1,4 @@
--- All that is read of a fabric has free names: the tiles that were read, and the block that is open or was handed out.
+-- What rows keep of blocks holds of all that is read of a fabric: of the tiles that were read, and of the block that is open or was handed out.
 use Rattle.std.proofs.Common.{◌≡◌, ℕ, ◌==◌, ◌||◌, ◌&&◌, not, nat_lt, Bool, true, false, List, [], length, is_some, Option, Some, None, Result, Ok, Err, refl, sym, subst, if◌then◌else◌}
 use Rattle.std.specs.Prelude.{All}
 use Rattle.std.proofs.lemmas.List.Elements.{All-nil, All-push}
@@ -8,8 +8,7 @@ use Rattle.fab_lines.specs.Order.{judged}
 use Rattle.fab_paths.specs.Paths.{stem}
 use Rattle.fab_rows.specs.Rows.{PlainRow}
 use Rattle.fab_model.specs.Grid.{PlainFabric}
-use Rattle.fab_model.specs.Tiles.{PlainTile, with_table}
-use Rattle.fab_gen_tile.specs.Words.{IsNamed}
+use Rattle.fab_model.specs.Tiles.{PlainTile}
 use Rattle.fab_blocks.specs.declared.words.Word.{Word}
 use Rattle.fab_blocks.specs.declared.words.Word.TheVariants as words
 use Rattle.fab_blocks.specs.declared.mode.Mode.{Mode}
@@ -25,217 +24,211 @@ use Rattle.fab_blocks.specs.Rows.{WireCells, row_of, wire_problem, kind_of, bel_
 use Rattle.fab_blocks.specs.Reading.{PlainReading, PlainHolder, start, with_mode, with_grid, with_parameters, with_type}
 use Rattle.fab_blocks.specs.Saying.{Step, stands, may_begin, lines_of, line_problem, with_line, parameters_begun, begin_problem, begin_grid, end_grid, grid_line, begin_parameters, end_parameters, begin_tile, handed_out, end_tile, with_said, with_block, row_in, say, said_of}
 use Rattle.fab_blocks.specs.Words.{word_of}
-use Rattle.fab_read.specs.Tiles.{End, ReadsTile, paired}
 use Rattle.fab_read.specs.Rows.{end_at, ReadsRows, ends, takes_row, opens_file, ends_tile}
 use Rattle.fab_read.specs.Fabrics.{SpellsFabric}
-use Rattle.fab_fabric_names.proofs.Blocks.{named_wire, named_bel, named_new, named_matrix}
-
--- ---- what is to be kept
-
-abbrev IsOpenNamed : Mode → Type 0
-IsOpenNamed (modes.Tile block) = IsNamed (bare block)
-IsOpenNamed _ = Unit {0}
-
-record IsNamedReading (reading : PlainReading) : Type 0 where
-  pub types : All IsNamed reading.types
-  pub open_block : IsOpenNamed reading.mode
-
--- the block that a row hands out
-abbrev IsNamedSaid : Said → Type 0
-IsNamedSaid (said.EndsTile block) = IsNamed (bare block)
-IsNamedSaid _ = Unit {0}
-
-abbrev OnSaid : Result Said Problem → Type 0
-OnSaid (Ok says) = IsNamedSaid says
-OnSaid (Err problem) = Unit {0}
-
-abbrev OnBlock : Result (PlainBlock × Said) Problem → Type 0
-OnBlock (Ok step) = IsNamed (bare step.0) × IsNamedSaid step.1
-OnBlock (Err problem) = Unit {0}
-
-abbrev OnStep : Result Step Problem → Type 0
-OnStep (Ok step) = IsNamedReading step.0 × IsNamedSaid step.1
-OnStep (Err problem) = Unit {0}
+use Rattle.fab_fabric_names.proofs.Keeping.{Keeps}
 
 either : {X : Type 0} (P : X → Type 0) (test : Bool) (x y : X) → P x → P y → P (if test then x else y)
 either P true x y p q = p
 either P false x y p q = q
 
--- ---- rows that end no block
+module _ (P : PlainTile → Type 0) (keeps : Keeps P) where
+  -- ---- what is to be kept
 
-judged_said : (problem : Option Problem) (says : Said) → IsNamedSaid says → OnSaid (judged problem says)
-judged_said None says plain = plain
-judged_said (Some problem) says plain = tt
+  abbrev IsOpenKept : Mode → Type 0
+  IsOpenKept (modes.Tile block) = P (bare block)
+  IsOpenKept _ = Unit {0}
 
-foreign : (cells : List (List ℕ)) → OnSaid (foreign_row cells)
-unfolding foreign_row
-foreign cells = tt
+  record IsKeptReading (reading : PlainReading) : Type 0 where
+    pub types : All P reading.types
+    pub open_block : IsOpenKept reading.mode
 
-parameter : (cells : List (List ℕ)) → OnSaid (parameter_row cells)
-unfolding parameter_row
-parameter cells = either OnSaid (not (length cells == 2)) _ _ tt (judged_said (value_problem (cell_at cells 0) (cell_at cells 1)) said.Taken tt)
+  -- the block that a row hands out
+  abbrev IsKeptSaid : Said → Type 0
+  IsKeptSaid (said.EndsTile block) = P (bare block)
+  IsKeptSaid _ = Unit {0}
 
-names_tiles : (holder : PlainHolder) (cells : List (List ℕ)) → OnSaid (tiles_row holder cells)
-unfolding tiles_row
-names_tiles holder cells = judged_said (path_problem holder cells) (said.NamesTiles (file_named holder cells)) tt
+  abbrev OnSaid : Result Said Problem → Type 0
+  OnSaid (Ok says) = IsKeptSaid says
+  OnSaid (Err problem) = Unit {0}
 
-includes : (holder : PlainHolder) (cells : List (List ℕ)) → OnSaid (include_row holder cells)
-unfolding include_row
-includes holder cells = judged_said (first_problem (path_problem holder cells) (depth_problem holder)) (said.Includes (file_named holder cells)) tt
+  abbrev OnBlock : Result (PlainBlock × Said) Problem → Type 0
+  OnBlock (Ok step) = P (bare step.0) × IsKeptSaid step.1
+  OnBlock (Err problem) = Unit {0}
 
-outer : (holder : PlainHolder) (word : Word) (cells : List (List ℕ)) → OnSaid (outer_row holder word cells)
-unfolding outer_row
-outer holder words.Foreign cells = foreign cells
-outer holder words.Tile cells = either OnSaid holder.is_fabric _ _ (names_tiles holder cells) tt
-outer holder words.Include cells = includes holder cells
-outer holder word cells = tt
+  abbrev OnStep : Result Step Problem → Type 0
+  OnStep (Ok step) = IsKeptReading step.0 × IsKeptSaid step.1
+  OnStep (Err problem) = Unit {0}
 
-in_parameters : (holder : PlainHolder) (word : Word) (cells : List (List ℕ)) → OnSaid (inner_parameter holder word cells)
-unfolding inner_parameter
-in_parameters holder words.Foreign cells = foreign cells
-in_parameters holder words.Tile cells = names_tiles holder cells
-in_parameters holder word cells = parameter cells
+  -- ---- rows that end no block
 
--- ---- rows of a block
+  judged_said : (problem : Option Problem) (says : Said) → IsKeptSaid says → OnSaid (judged problem says)
+  judged_said None says plain = plain
+  judged_said (Some problem) says plain = tt
 
-judged_block : (problem : Option Problem) (block : PlainBlock) → (problem ≡ None → IsNamed (bare block)) → OnBlock (judged problem (block, said.Taken))
-judged_block None block named = (named refl, tt)
-judged_block (Some problem) block named = tt
+  foreign : (cells : List (List ℕ)) → OnSaid (foreign_row cells)
+  unfolding foreign_row
+  foreign cells = tt
 
-module _ (holder : PlainHolder) (block : PlainBlock) (named : IsNamed (bare block)) where
-  beside_said : (says : Result Said Problem) → OnSaid says → OnBlock (beside block says)
-  beside_said (Ok says) plain = (named, plain)
-  beside_said (Err problem) plain = tt
+  parameter : (cells : List (List ℕ)) → OnSaid (parameter_row cells)
+  unfolding parameter_row
+  parameter cells = either OnSaid (not (length cells == 2)) _ _ tt (judged_said (value_problem (cell_at cells 0) (cell_at cells 1)) said.Taken tt)
 
-  wires : (cells : WireCells) → OnBlock (judged (wire_problem block cells) (with_row block (row_of cells), said.Taken))
-  wires cells = judged_block (wire_problem block cells) (with_row block (row_of cells)) (λ fine. named_wire block cells named fine)
+  names_tiles : (holder : PlainHolder) (cells : List (List ℕ)) → OnSaid (tiles_row holder cells)
+  unfolding tiles_row
+  names_tiles holder cells = judged_said (path_problem holder cells) (said.NamesTiles (file_named holder cells)) tt
 
-  bel : (file prefix : List ℕ) → OnBlock (judged (bel_problem block holder.file file prefix) (with_bel_of block (kind_of (stem file)) prefix, said.Taken))
-  bel file prefix = judged_block (bel_problem block holder.file file prefix) (with_bel_of block (kind_of (stem file)) prefix) (λ fine. named_bel block (kind_of (stem file)) holder.file file prefix named fine)
+  includes : (holder : PlainHolder) (cells : List (List ℕ)) → OnSaid (include_row holder cells)
+  unfolding include_row
+  includes holder cells = judged_said (first_problem (path_problem holder cells) (depth_problem holder)) (said.Includes (file_named holder cells)) tt
 
-  matrix : (cells : List (List ℕ)) → OnBlock (judged (matrix_problem block holder.file (cell_at cells 1)) (with_matrix block (file_named holder cells), said.Taken))
-  matrix cells = judged_block (matrix_problem block holder.file (cell_at cells 1)) (with_matrix block (file_named holder cells)) (λ fine. named_matrix block (file_named holder cells) named)
+  outer : (holder : PlainHolder) (word : Word) (cells : List (List ℕ)) → OnSaid (outer_row holder word cells)
+  unfolding outer_row
+  outer holder words.Foreign cells = foreign cells
+  outer holder words.Tile cells = either OnSaid holder.is_fabric _ _ (names_tiles holder cells) tt
+  outer holder words.Include cells = includes holder cells
+  outer holder word cells = tt
 
-  in_block : (word : Word) (cells : List (List ℕ)) → OnBlock (block_row block holder word cells)
-  unfolding block_row wire_row bel_row matrix_row
-  in_block words.Foreign cells = beside_said (foreign_row cells) (foreign cells)
-  in_block words.Include cells = beside_said (include_row holder cells) (includes holder cells)
-  in_block words.Bel cells = either OnBlock (not ((length cells == 2) || (length cells == 3))) _ _ tt (bel (cell_at cells 1) (cell_at cells 2))
-  in_block words.Matrix cells = either OnBlock (not (length cells == 2)) _ _ tt (matrix cells)
-  in_block (words.Wire dir) cells = either OnBlock (nat_lt (length cells) 6) _ _ tt (wires (wire_cells dir cells))
-  in_block word cells = tt
+  in_parameters : (holder : PlainHolder) (word : Word) (cells : List (List ℕ)) → OnSaid (inner_parameter holder word cells)
+  unfolding inner_parameter
+  in_parameters holder words.Foreign cells = foreign cells
+  in_parameters holder words.Tile cells = names_tiles holder cells
+  in_parameters holder word cells = parameter cells
 
--- ---- any row
+  -- ---- rows of a block
 
-module _ (before : PlainReading) (holder : PlainHolder) (named : IsNamedReading before) where
-  judged_step : (problem : Option Problem) (after : PlainReading) → IsNamedReading after → OnStep (judged problem (after, said.Taken))
-  judged_step None after kept = (kept, tt)
-  judged_step (Some problem) after kept = tt
+  judged_block : (problem : Option Problem) (block : PlainBlock) → (problem ≡ None → P (bare block)) → OnBlock (judged problem (block, said.Taken))
+  judged_block None block kept = (kept refl, tt)
+  judged_block (Some problem) block kept = tt
 
-  with_open : (mode : Mode) → IsOpenNamed mode → IsNamedReading (with_mode before mode)
-  with_open mode open_named = record { types = named.types; open_block = open_named }
+  module _ (holder : PlainHolder) (block : PlainBlock) (kept : P (bare block)) where
+    beside_said : (says : Result Said Problem) → OnSaid says → OnBlock (beside block says)
+    beside_said (Ok says) plain = (kept, plain)
+    beside_said (Err problem) plain = tt
 
-  said_step : (says : Result Said Problem) → OnSaid says → OnStep (with_said before says)
-  said_step (Ok says) plain = (named, plain)
-  said_step (Err problem) plain = tt
+    wires : (cells : WireCells) → OnBlock (judged (wire_problem block cells) (with_row block (row_of cells), said.Taken))
+    wires cells = judged_block (wire_problem block cells) (with_row block (row_of cells)) (λ fine. keeps.wire block cells kept fine)
 
-  block_step : (says : Result (PlainBlock × Said) Problem) → OnBlock says → OnStep (with_block before says)
-  block_step (Ok step) on = (with_open (modes.Tile step.0) on.0, on.1)
-  block_step (Err problem) on = tt
+    bel : (file prefix : List ℕ) → OnBlock (judged (bel_problem block holder.file file prefix) (with_bel_of block (kind_of (stem file)) prefix, said.Taken))
+    bel file prefix = judged_block (bel_problem block holder.file file prefix) (with_bel_of block (kind_of (stem file)) prefix) (λ fine. keeps.bel block (kind_of (stem file)) holder.file file prefix kept fine)
 
-  grid_begins : (cells : List (List ℕ)) → OnStep (begin_grid before holder cells)
-  unfolding begin_grid
-  grid_begins cells =
-      let begun : OnStep (Ok (with_grid before [] modes.Grid, said.Taken)) = (record { types = named.types; open_block = tt }, tt) in
-      either OnStep (not (length cells == 1)) _ _ tt (either OnStep (not (may_begin before holder (is_some before.grid))) _ _ tt begun)
+    matrix : (cells : List (List ℕ)) → OnBlock (judged (matrix_problem block holder.file (cell_at cells 1)) (with_matrix block (file_named holder cells), said.Taken))
+    matrix cells = judged_block (matrix_problem block holder.file (cell_at cells 1)) (with_matrix block (file_named holder cells)) (λ fine. keeps.matrix block (file_named holder cells) kept)
 
-  grid_ends : (cells : List (List ℕ)) → OnStep (end_grid before holder cells)
-  unfolding end_grid
-  grid_ends cells =
-      let done : OnStep (Ok (with_mode before modes.Outside, said.Taken)) = (with_open modes.Outside tt, tt) in
-      either OnStep (not (length cells == 1)) _ _ tt
-      (either OnStep (not (stands before holder places.Grid && holder.is_own)) _ _ tt (either OnStep (length (lines_of before) == 0) _ _ tt done))
+    in_block : (word : Word) (cells : List (List ℕ)) → OnBlock (block_row block holder word cells)
+    unfolding block_row wire_row bel_row matrix_row
+    in_block words.Foreign cells = beside_said (foreign_row cells) (foreign cells)
+    in_block words.Include cells = beside_said (include_row holder cells) (includes holder cells)
+    in_block words.Bel cells = either OnBlock (not ((length cells == 2) || (length cells == 3))) _ _ tt (bel (cell_at cells 1) (cell_at cells 2))
+    in_block words.Matrix cells = either OnBlock (not (length cells == 2)) _ _ tt (matrix cells)
+    in_block (words.Wire dir) cells = either OnBlock (nat_lt (length cells) 6) _ _ tt (wires (wire_cells dir cells))
+    in_block word cells = tt
 
-  a_line : (row : PlainRow) → OnStep (grid_line before holder row)
-  unfolding grid_line
-  a_line row = judged_step (line_problem (lines_of before) row.cells) (with_line before holder row) (record { types = named.types; open_block = named.open_block })
+  -- ---- any row
 
-  parameters_begin : (cells : List (List ℕ)) → OnStep (begin_parameters before holder cells)
-  unfolding begin_parameters
-  parameters_begin cells =
-      let begun : OnStep (Ok (with_parameters before parts.Open, said.Taken)) = (record { types = named.types; open_block = named.open_block }, tt) in
-      either OnStep (not (length cells == 1)) _ _ tt (either OnStep (not (may_begin before holder (parameters_begun before.parameters))) _ _ tt begun)
+  module _ (before : PlainReading) (holder : PlainHolder) (kept : IsKeptReading before) where
+    judged_step : (problem : Option Problem) (after : PlainReading) → IsKeptReading after → OnStep (judged problem (after, said.Taken))
+    judged_step None after kept = (kept, tt)
+    judged_step (Some problem) after kept = tt
 
-  parameters_end : (cells : List (List ℕ)) → OnStep (end_parameters before holder cells)
-  unfolding end_parameters
-  parameters_end cells =
-      let done : OnStep (Ok (with_parameters before parts.Ended, said.Taken)) = (record { types = named.types; open_block = named.open_block }, tt) in
-      either OnStep (not (length cells == 1)) _ _ tt (either OnStep (not (stands before holder places.Parameters && holder.is_own)) _ _ tt done)
+    with_open : (mode : Mode) → IsOpenKept mode → IsKeptReading (with_mode before mode)
+    with_open mode open_kept = record { types = kept.types; open_block = open_kept }
 
-  tile_begins : (cells : List (List ℕ)) → OnStep (begin_tile before holder cells)
-  unfolding begin_tile
-  tile_begins cells = judged_step (begin_problem before holder cells) (with_mode before (modes.Tile (new_block (cell_at cells 1)))) (with_open (modes.Tile (new_block (cell_at cells 1))) (named_new (cell_at cells 1)))
+    said_step : (says : Result Said Problem) → OnSaid says → OnStep (with_said before says)
+    said_step (Ok says) plain = (kept, plain)
+    said_step (Err problem) plain = tt
 
-  block_out : (mode : Mode) (own : Bool) → IsOpenNamed mode → OnStep (handed_out before mode own)
-  block_out (modes.Tile block) true open_named = (with_open modes.Outside tt, open_named)
-  block_out (modes.Tile block) false open_named = tt
-  block_out modes.Grid own open_named = tt
-  block_out modes.Outside own open_named = tt
+    block_step : (says : Result (PlainBlock × Said) Problem) → OnBlock says → OnStep (with_block before says)
+    block_step (Ok step) on = (with_open (modes.Tile step.0) on.0, on.1)
+    block_step (Err problem) on = tt
 
-  tile_ends : (cells : List (List ℕ)) → OnStep (end_tile before holder cells)
-  unfolding end_tile
-  tile_ends cells = either OnStep (not (length cells == 1)) _ _ tt (block_out before.mode holder.is_own named.open_block)
+    grid_begins : (cells : List (List ℕ)) → OnStep (begin_grid before holder cells)
+    unfolding begin_grid
+    grid_begins cells =
+        let begun : OnStep (Ok (with_grid before [] modes.Grid, said.Taken)) = (record { types = kept.types; open_block = tt }, tt) in
+        either OnStep (not (length cells == 1)) _ _ tt (either OnStep (not (may_begin before holder (is_some before.grid))) _ _ tt begun)
 
-  standing : (mode : Mode) (word : Word) (row : PlainRow) → IsOpenNamed mode → OnStep (row_in before mode holder word row)
-  unfolding row_in
-  standing modes.Grid word row open_named = a_line row
-  standing (modes.Tile block) word row open_named = block_step (block_row block holder word row.cells) (in_block holder block open_named word row.cells)
-  standing modes.Outside word row open_named = said_step _ (either OnSaid (stands before holder places.Parameters) _ _ (in_parameters holder word row.cells) (outer holder word row.cells))
+    grid_ends : (cells : List (List ℕ)) → OnStep (end_grid before holder cells)
+    unfolding end_grid
+    grid_ends cells =
+        let done : OnStep (Ok (with_mode before modes.Outside, said.Taken)) = (with_open modes.Outside tt, tt) in
+        either OnStep (not (length cells == 1)) _ _ tt
+        (either OnStep (not (stands before holder places.Grid && holder.is_own)) _ _ tt (either OnStep (length (lines_of before) == 0) _ _ tt done))
 
-  by_word : (word : Word) (row : PlainRow) → OnStep (say before holder word row)
-  unfolding say
-  by_word words.FabricBegin row = grid_begins row.cells
-  by_word words.FabricEnd row = grid_ends row.cells
-  by_word words.ParametersBegin row = parameters_begin row.cells
-  by_word words.ParametersEnd row = parameters_end row.cells
-  by_word words.TileBegin row = tile_begins row.cells
-  by_word words.TileEnd row = tile_ends row.cells
-  by_word word row = standing before.mode word row named.open_block
+    a_line : (row : PlainRow) → OnStep (grid_line before holder row)
+    unfolding grid_line
+    a_line row = judged_step (line_problem (lines_of before) row.cells) (with_line before holder row) (record { types = kept.types; open_block = kept.open_block })
 
-  of_row : (row : PlainRow) → OnStep (said_of before holder row)
-  unfolding said_of
-  of_row row = either OnStep (length row.cells == 0) _ _ tt (by_word (word_of (cell_at row.cells 0)) row)
+    parameters_begin : (cells : List (List ℕ)) → OnStep (begin_parameters before holder cells)
+    unfolding begin_parameters
+    parameters_begin cells =
+        let begun : OnStep (Ok (with_parameters before parts.Open, said.Taken)) = (record { types = kept.types; open_block = kept.open_block }, tt) in
+        either OnStep (not (length cells == 1)) _ _ tt (either OnStep (not (may_begin before holder (parameters_begun before.parameters))) _ _ tt begun)
 
-  after_row : (row : PlainRow) (after : PlainReading) (says : Said) → said_of before holder row ≡ Ok (after, says) → OnStep (Ok (after, says))
-  after_row row after says is = subst OnStep is (of_row row)
+    parameters_end : (cells : List (List ℕ)) → OnStep (end_parameters before holder cells)
+    unfolding end_parameters
+    parameters_end cells =
+        let done : OnStep (Ok (with_parameters before parts.Ended, said.Taken)) = (record { types = kept.types; open_block = kept.open_block }, tt) in
+        either OnStep (not (length cells == 1)) _ _ tt (either OnStep (not (stands before holder places.Parameters && holder.is_own)) _ _ tt done)
 
--- ---- all rows
+    tile_begins : (cells : List (List ℕ)) → OnStep (begin_tile before holder cells)
+    unfolding begin_tile
+    tile_begins cells = judged_step (begin_problem before holder cells) (with_mode before (modes.Tile (new_block (cell_at cells 1)))) (with_open (modes.Tile (new_block (cell_at cells 1))) (keeps.new (cell_at cells 1)))
 
--- the pairs of a tile and the places of its bits change no name
-named_tile : (files : Map) (end : End) (block : PlainBlock) (tile : PlainTile) → IsNamed (bare block) → ReadsTile files end block tile → IsNamed tile
-named_tile files end block tile named read =
-    let same : IsNamed (with_table (paired block read.pairs) read.table) = record { sources = named.sources; dests = named.dests; prefixes = named.prefixes } in
-    subst IsNamed (sym read.is) same
+    block_out : (mode : Mode) (own : Bool) → IsOpenKept mode → OnStep (handed_out before mode own)
+    block_out (modes.Tile block) true open_kept = (with_open modes.Outside tt, open_kept)
+    block_out (modes.Tile block) false open_kept = tt
+    block_out modes.Grid own open_kept = tt
+    block_out modes.Outside own open_kept = tt
 
-named_type : (reading : PlainReading) (tile : PlainTile) → IsNamedReading reading → IsNamed tile → IsNamedReading (with_type reading tile)
-named_type reading tile kept named = record { types = All-push IsNamed reading.types tile kept.types named; open_block = kept.open_block }
+    tile_ends : (cells : List (List ℕ)) → OnStep (end_tile before holder cells)
+    unfolding end_tile
+    tile_ends cells = either OnStep (not (length cells == 1)) _ _ tt (block_out before.mode holder.is_own kept.open_block)
 
-module _ (files : Map) where
-  named_rows : {holder : PlainHolder} {before : PlainReading} {rows : List PlainRow} {after : PlainReading} → ReadsRows files holder before rows after → IsNamedReading before → IsNamedReading after
-  named_rows ends named = named
-  named_rows (takes_row {holder = holder} {before = before} {next = next} {row = row} is rest) named = named_rows rest (after_row before holder named row next said.Taken is).0
-  named_rows (opens_file {holder = holder} {before = before} {next = next} {row = row} {says = says} is opened found inner shut rest) named =
-      named_rows rest (named_rows inner (after_row before holder named row next says is).0)
-  named_rows (ends_tile {holder = holder} {before = before} {next = next} {row = row} {block = block} {tile = tile} is read rest) named =
-      let step = after_row before holder named row next (said.EndsTile block) is in
-      named_rows rest (named_type next tile step.0 (named_tile files (end_at holder row) block tile step.1 read))
+    standing : (mode : Mode) (word : Word) (row : PlainRow) → IsOpenKept mode → OnStep (row_in before mode holder word row)
+    unfolding row_in
+    standing modes.Grid word row open_kept = a_line row
+    standing (modes.Tile block) word row open_kept = block_step (block_row block holder word row.cells) (in_block holder block open_kept word row.cells)
+    standing modes.Outside word row open_kept = said_step _ (either OnSaid (stands before holder places.Parameters) _ _ (in_parameters holder word row.cells) (outer holder word row.cells))
 
-named_start : IsNamedReading start
-named_start = record { types = All-nil IsNamed; open_block = tt }
+    by_word : (word : Word) (row : PlainRow) → OnStep (say before holder word row)
+    unfolding say
+    by_word words.FabricBegin row = grid_begins row.cells
+    by_word words.FabricEnd row = grid_ends row.cells
+    by_word words.ParametersBegin row = parameters_begin row.cells
+    by_word words.ParametersEnd row = parameters_end row.cells
+    by_word words.TileBegin row = tile_begins row.cells
+    by_word words.TileEnd row = tile_ends row.cells
+    by_word word row = standing before.mode word row kept.open_block
 
-pub spelled_are_named : (files : Map) (name : List ℕ) (fabric : PlainFabric) → SpellsFabric files name fabric → All IsNamed fabric.types
-spelled_are_named files name fabric spelled =
-    let parts = spelled.parts in
-    let named : All IsNamed parts.reading.types = (named_rows files parts.read.reads named_start).types in
-    let types : All IsNamed spelled.types = subst (All IsNamed) (sym parts.types_are) named in
-    subst (λ (f : PlainFabric). All IsNamed f.types) (sym spelled.is) types
+    of_row : (row : PlainRow) → OnStep (said_of before holder row)
+    unfolding said_of
+    of_row row = either OnStep (length row.cells == 0) _ _ tt (by_word (word_of (cell_at row.cells 0)) row)
+
+    after_row : (row : PlainRow) (after : PlainReading) (says : Said) → said_of before holder row ≡ Ok (after, says) → OnStep (Ok (after, says))
+    after_row row after says is = subst OnStep is (of_row row)
+
+  -- ---- all rows
+
+  kept_type : (reading : PlainReading) (tile : PlainTile) → IsKeptReading reading → P tile → IsKeptReading (with_type reading tile)
+  kept_type reading tile before kept = record { types = All-push P reading.types tile before.types kept; open_block = before.open_block }
+
+  module _ (files : Map) where
+    kept_rows : {holder : PlainHolder} {before : PlainReading} {rows : List PlainRow} {after : PlainReading} → ReadsRows files holder before rows after → IsKeptReading before → IsKeptReading after
+    kept_rows ends kept = kept
+    kept_rows (takes_row {holder = holder} {before = before} {next = next} {row = row} is rest) kept = kept_rows rest (after_row before holder kept row next said.Taken is).0
+    kept_rows (opens_file {holder = holder} {before = before} {next = next} {row = row} {says = says} is opened found inner shut rest) kept =
+        kept_rows rest (kept_rows inner (after_row before holder kept row next says is).0)
+    kept_rows (ends_tile {holder = holder} {before = before} {next = next} {row = row} {block = block} {tile = tile} is read rest) kept =
+        let step = after_row before holder kept row next (said.EndsTile block) is in
+        kept_rows rest (kept_type next tile step.0 (keeps.tile files (end_at holder row) block tile step.1 read))
+
+  kept_start : IsKeptReading start
+  kept_start = record { types = All-nil P; open_block = tt }
+
+  pub spelled_keep : (files : Map) (name : List ℕ) (fabric : PlainFabric) → SpellsFabric files name fabric → All P fabric.types
+  spelled_keep files name fabric spelled =
+      let parts = spelled.parts in
+      let kept : All P parts.reading.types = (kept_rows files parts.read.reads kept_start).types in
+      let types : All P spelled.types = subst (All P) (sym parts.types_are) kept in
+      subst (λ (f : PlainFabric). All P f.types) (sym spelled.is) types

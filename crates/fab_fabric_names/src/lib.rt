@@ -1,8 +1,9 @@
-//! The law of names: what files spell has names that the generator leaves free.
+//! The laws of names: what files spell has names that the generator leaves free, and prefixes that tell pins apart.
 #![tactic(auto)]
 
-ghost use Rattle.std.specs.Prelude.{ℕ, All, List};
+ghost use Rattle.std.specs.Prelude.{◌≡◌, ℕ, [], All, List};
 ghost use Rattle.fab_desk.specs.Files.{Map};
+ghost use Rattle.fab_kinds.specs.declared.kind.Kind.TheVariants as kinds;
 ghost use Rattle.fab_model.specs.Grid.{PlainFabric};
 ghost use Rattle.fab_gen_tile.specs.Words.{IsNamed};
 ghost use Rattle.fab_read.specs.Fabrics.{SpellsFabric};
@@ -10,4 +11,9 @@ ghost use Rattle.fab_read.specs.Fabrics.{SpellsFabric};
 /// In a fabric that files spell, no side of a row and no prefix of a BEL is a name that the generator takes for itself.
 pub fn spelled_fabrics_are_named()
     ensures { (files : Map) (name : List ℕ) (fabric : PlainFabric) → SpellsFabric files name fabric → All IsNamed fabric.types }
+{}
+
+/// In a fabric that files spell, only a MUX8LUT lacks a prefix.
+pub fn spelled_fabrics_have_prefixes()
+    ensures { (files : Map) (name : List ℕ) (fabric : PlainFabric) → SpellsFabric files name fabric → All (λ tile. All (λ bel. bel.prefix ≡ [] → bel.kind ≡ kinds.Mux8) tile.bels) fabric.types }
 {}

@@ -84,7 +84,7 @@ module _ (fabric : PlainFabric) (packed : PlainPacked) (fixed : List Pad) (i : P
       at_itself (x ∷ xs) zero d few = refl
       at_itself (x ∷ xs) (suc k) d few = at_itself xs k d (omega (arith, few))
 
-  step_of : (tree : PlainTree) (edge : Edge) → Contains i.trees tree → Contains tree.edges edge → IsStep fabric edge.0 edge.1
+  pub step_of : (tree : PlainTree) (edge : Edge) → Contains i.trees tree → Contains tree.edges edge → IsStep fabric edge.0 edge.1
   step_of tree edge tree_in edge_in = (legal.steps tree_in.0 tree tree_in.1 (tree_in.1, tree_in.2)) edge_in.0 edge edge_in.1 (edge_in.1, edge_in.2)
 
   pub wires_known : (j : ℕ) (t : PlainTree) → j < length i.trees → (k : ℕ) (d : Edge) → k < length (get_or i.trees j t).edges → HasWires fabric (get_or (get_or i.trees j t).edges k d)
@@ -98,11 +98,11 @@ module _ (fabric : PlainFabric) (packed : PlainPacked) (fixed : List Pad) (i : P
       there (x ∷ xs) zero d few = (0, omega arith, refl)
       there (x ∷ xs) (suc k) d few = let rest = there xs k d (omega (arith, few)) in (suc rest.0, omega (arith, rest.1), rest.2)
 
-  line_kind : (line : ℕ × Site) → Contains i.cells line → kind_at fabric line.1 ≡ Some kinds.Lut4c
+  pub line_kind : (line : ℕ × Site) → Contains i.cells line → kind_at fabric line.1 ≡ Some kinds.Lut4c
   line_kind line here = (legal.placed.cells.lines_right here.0 line here.1 (here.1, here.2)).of_kind
 
   -- one line puts a cell on a site
-  one_line : (a b : ℕ × Site) → Contains i.cells a → Contains i.cells b → a.1 ≡ b.1 → a ≡ b
+  pub one_line : (a b : ℕ × Site) → Contains i.cells a → Contains i.cells b → a.1 ≡ b.1 → a ≡ b
   one_line a b first second same =
       let site_a = at_mapped (λ (l : ℕ × Site). l.1) i.cells first.0 a (first.1, first.2) in
       let site_b = at_mapped (λ (l : ℕ × Site). l.1) i.cells second.0 b (second.1, second.2) in

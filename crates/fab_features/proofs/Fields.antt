@@ -54,7 +54,7 @@ one_bel (other ∷ bels) (suc a) (suc b) first second p q first_is second_is few
 
 module _ (same : ℕ → ℕ → Bool) (tells : (a b : ℕ) → Decides (same a b) (a ≡ b)) where
   -- an output with an input is in the order
-  ordered : (output : ℕ) (pairs : List (ℕ × ℕ)) → 0 < length (inputs_of same pairs output) → list_any (λ other. same other output) (in_order same pairs) ≡ true
+  pub ordered : (output : ℕ) (pairs : List (ℕ × ℕ)) → 0 < length (inputs_of same pairs output) → list_any (λ other. same other output) (in_order same pairs) ≡ true
   ordered output [] some = absurd (omega arith)
   ordered output (pair ∷ pairs) some =
       elim (told same tells pair.0 output) [

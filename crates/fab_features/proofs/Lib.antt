@@ -9,3 +9,9 @@ pub mod Pushed
 pub mod Listed
 pub mod Saids
 pub mod LineBits
+pub mod Chosen
+pub mod BitMaps
+pub mod Words
+pub mod SaidNames
+pub mod DesignLines
+pub mod DesignMap

@@ -29,7 +29,7 @@ feature_none fabric x y output None e = refl
 feature_none fabric x y output (Some edge) e = some_no (edge.0.0 - wire_index fabric x y 0) e
 
 -- the name of a pair by the names of its tile
-named : (fabric : PlainFabric) (x y input output : ℕ) (tile : PlainTile) → tile_at fabric x y ≡ Some tile →
+pub named : (fabric : PlainFabric) (x y input output : ℕ) (tile : PlainTile) → tile_at fabric x y ≡ Some tile →
     pair_name fabric x y input output ≡ place_name x y ++ codes "." ++ get_or (matrix_names tile) input [] ++ codes "." ++ get_or (matrix_names tile) output []
 named fabric x y input output tile is =
     ap (λ (found : Option PlainTile). place_name x y ++ codes "." ++ option_map_or (λ t. get_or (matrix_names t) input []) found [] ++ codes "." ++ option_map_or (λ t. get_or (matrix_names t) output []) found []) is

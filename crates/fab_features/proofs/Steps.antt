@@ -96,7 +96,7 @@ step_within fabric from to tiles step =
 -- ---- pairs
 
 -- a destination bit is no output of a switch matrix
-dest_no_output : (tile : PlainTile) (row bit : ℕ) → IsMatrixOutput tile (dest_of row bit) → ⊥
+pub dest_no_output : (tile : PlainTile) (row bit : ℕ) → IsMatrixOutput tile (dest_of row bit) → ⊥
 dest_no_output tile row bit is = none (slice_get tile.rows row) is
   where
     none : (found : Option WireRow) → option_map_or is_matrix_output (option_map (λ r. dest_bit r bit) found) false ≡ true → ⊥
@@ -104,7 +104,7 @@ dest_no_output tile row bit is = none (slice_get tile.rows row) is
     none (Some r) e = false≢true e
 
 -- the input of a pair is one of its output
-input_listed : (pairs : List Pair) (output input : ℕ) → (pair : Pair) → Contains pairs pair → pair_numbers pair ≡ (output, input) →
+pub input_listed : (pairs : List Pair) (output input : ℕ) → (pair : Pair) → Contains pairs pair → pair_numbers pair ≡ (output, input) →
     list_any (λ other. nat_eq other input) (inputs_of nat_eq (map pair_numbers pairs) output) ≡ true
 input_listed [] output input pair here is = absurd (omega (arith, here.1))
 input_listed (first ∷ pairs) output input pair here is =

@@ -7,3 +7,4 @@ pub mod Matrices
 pub mod Listing
 pub mod Lookups
 pub mod Lines
+pub mod Naming

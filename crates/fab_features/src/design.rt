@@ -8,7 +8,11 @@ ghost use Rattle.fab_implementation.specs.Plain.{Pad};
 ghost use Rattle.fab_implementation.specs.OnFabric.{HasWires, kind_at};
 ghost use Rattle.fab_legal.specs.Legal.{IsLegal};
 ghost use Rattle.fab_gen_tile.specs.TileModule.{bits_before};
+ghost use Rattle.fab_gen_tile.specs.Words.{IsNamed};
 ghost use Rattle.fab_use.specs.Configuring.{Configures};
+ghost use Rattle.fab_features.specs.Naming.{HasPrefixes};
+ghost use Rattle.fab_features.specs.Features.{IsBitMapOf};
+ghost use Rattle.fab_features.specs.Design.{design_features};
 ghost use Rattle.fab_features.specs.Matrices.{AreMatricesOf, IsMatrixOf};
 ghost use Rattle.fab_features.specs.Adding.{Adds, SomeOf, IsSiteOne, IsCellOne, IsCellLine, IsChoiceOne, IsEdgeOne, IsTreeOne};
 
@@ -188,6 +192,9 @@ fn set_trees(fabric: &Fabric, bits: &mut Bits, matrices: &[Matrix], trees: &[Tre
 
 /// The configuration bits of a legal implementation: those of its cells, and for each output that an edge enters the select bits of
 /// the edge's input. All others are 0.
+///
+/// They are the bit map of the features of the implementation, if the names on the fabric are free and only MUX8LUTs lack a prefix, as
+/// on each fabric that files spell.
 pub fn design_bits(
     alloc: Global,
     fabric: &Fabric,
@@ -197,6 +204,7 @@ pub fn design_bits(
     requires legal { (fixed : List Pad) × IsLegal fabric.now packed.now fixed legal.now }
     ensures are { IfOk result (AreBitsOf fabric.now) }
     ensures configures { IfOk result (λ bits. Configures fabric.now packed.now legal.now (plain_bits bits)) }
+    ensures map { IfOk result (λ bits. All IsNamed fabric.now.types → All HasPrefixes fabric.now.types → IsBitMapOf fabric.now (design_features fabric.now packed.now legal.now) (plain_bits bits)) }
 {
     let implementation = legal.get();
     let matrices = matrices_of(alloc, fabric)?;

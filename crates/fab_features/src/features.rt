@@ -167,8 +167,8 @@ impl<'a> Lookup<'a> {
 
 // ---- names
 
-// A matrix name of a tile, empty past the last.
-fn matrix_name(alloc: Global, tile: &TileType, number: u32) -> Result<Name, Memory>
+/// A matrix name of a tile, empty past the last.
+pub fn matrix_name(alloc: Global, tile: &TileType, number: u32) -> Result<Name, Memory>
     ensures { IfOk result (λ name. name ≡ slice_index_or (matrix_names tile.now) number []) }
 {
     if number < tile.matrix_names() {

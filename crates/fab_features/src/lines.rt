@@ -1,6 +1,6 @@
-//! The configuration bits of a list of features.
+//! What a line says, and the bits that it sets.
 
-ghost use Rattle.std.specs.Prelude.{◌≡◌, ◌<◌, ◌≤◌, All, IfOk, OnOk, Some, MatchOption};
+ghost use Rattle.std.specs.Prelude.{◌≡◌, ◌<◌, ◌≤◌, MatchOption};
 ghost use Rattle.fab_fabric.specs.Bits.{AreBitsOf, plain_bits};
 ghost use Rattle.fab_features.specs.Said.{said_of};
 ghost use Rattle.fab_features.specs.Wrong.{IsFeature, said_width};
@@ -16,8 +16,8 @@ use crate::said::{BelField, Choice, Said, said_of};
 use fab_fabric::{Bits, Fabric};
 use fab_fasm::Feature;
 
-// What a line says, if the fabric has the feature and all bits of its address.
-fn known(fabric: &Fabric, matrices: &[Matrix], feature: &Feature) -> Option<Said>
+/// What a line says, if the fabric has the feature and all bits of its address.
+pub fn known(fabric: &Fabric, matrices: &[Matrix], feature: &Feature) -> Option<Said>
     requires { AreMatricesOf fabric.now.types matrices.now }
     ensures { MatchOption result (IsFeature fabric.now feature.now → ⊥) (λ found. (said_of fabric.now feature.now.name ≡ Some found) × (feature.now.high < said_width found)) }
 {
@@ -29,8 +29,8 @@ fn known(fabric: &Fabric, matrices: &[Matrix], feature: &Feature) -> Option<Said
     }
 }
 
-// Sets the bits of a BEL that a line sets.
-fn set_field(
+// Sets the bits of a BEL that a line sets, whose address is the right way up.
+fn set_ordered(
     fabric: &Fabric,
     bits: &mut Bits,
     matrices: &[Matrix],
@@ -59,8 +59,28 @@ fn set_field(
     set_ones(fabric, bits, ones);
 }
 
-// Sets the select bits of an output for which a line chooses an input.
-fn set_pair(
+/// Sets the bits of a BEL that a line sets. An address that is upside down has none.
+pub fn set_field(
+    fabric: &Fabric,
+    bits: &mut Bits,
+    matrices: &[Matrix],
+    feature: &Feature,
+    field: BelField,
+)
+    requires are { AreBitsOf fabric.now bits.old }
+    requires matrices { AreMatricesOf fabric.now.types matrices.now }
+    requires said { said_of fabric.now feature.now.name ≡ Some (said.OfBel field) }
+    requires inside { feature.now.high < field.width }
+    ensures are { AreBitsOf fabric.now bits.new }
+    ensures adds { Adds (plain_bits bits.old) (plain_bits bits.new) (IsLineOne fabric.now feature.now) }
+{
+    if feature.low <= feature.high {
+        set_ordered(fabric, bits, matrices, feature, field);
+    }
+}
+
+/// Sets the select bits of an output for which a line chooses an input.
+pub fn set_pair(
     fabric: &Fabric,
     bits: &mut Bits,
     matrices: &[Matrix],

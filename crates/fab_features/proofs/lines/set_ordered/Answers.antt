@@ -10,7 +10,7 @@ use Rattle.fab_model.specs.declared.tiles.Bel.{Bel}
 use Rattle.fab_fabric.specs.Bits.{plain_bits}
 use Rattle.fab_gen_tile.specs.TileModule.{bits_before}
 use Rattle.fab_features.proofs.LineBits.{the_bel, field_within, field_adds}
-use Rattle.fab_features.proofs.lines.set_field.Goals as goal
+use Rattle.fab_features.proofs.lines.set_ordered.Goals as goal
 
 pub returns-clause-adds : goal.returns-clause-adds
 returns-clause-adds c =
