@@ -8,7 +8,7 @@ use Rattle.fab_model.specs.Tiles.{counted}
 
 -- ---- counted lists
 
-counted_last : {X : Type 0} (n : ℕ) (f : ℕ → X) → counted (suc n) f ≡ counted n f ++ f n ∷ []
+pub counted_last : {X : Type 0} (n : ℕ) (f : ℕ → X) → counted (suc n) f ≡ counted n f ++ f n ∷ []
 unfolding counted
 counted_last zero f = refl
 counted_last (suc n) f = ap (λ rest. f 0 ∷ rest) (counted_last n (λ i. f (suc i)))
@@ -109,3 +109,9 @@ pub numbered_map_more : {X Y : Type 0} (before after : List Y) (g : ℕ × X →
 numbered_map_more before after g xs n d low is more =
     more ∙ ap (λ front. front ++ g (n, get_or xs n d) ∷ []) is
     ∙ sym (ap (map g) (numbered_more xs n d low) ∙ map-append g (enumerate_from 0 (take n xs)) ((n, get_or xs n d) ∷ []))
+
+-- one item more that is mapped
+pub pushed_map : {X Y : Type 0} (old before after : List Y) (f : X → Y) (xs : List X) (n : ℕ) (d : X) → n < length xs → before ≡ old ++ map f (take n xs) → after ≡ before ++ f (get_or xs n d) ∷ [] → after ≡ old ++ map f (take (n + 1) xs)
+pushed_map old before after f xs n d low is more =
+    more ∙ ap (λ front. front ++ f (get_or xs n d) ∷ []) is ∙ append_assoc old (map f (take n xs)) (f (get_or xs n d) ∷ [])
+    ∙ ap (λ back. old ++ back) (sym (ap (map f) (take_more xs n d low) ∙ map-append f (take n xs) (get_or xs n d ∷ [])))

@@ -1,12 +1,17 @@
 //! Placements of a design on a fabric.
 #![tactic(auto)]
 
+mod board;
+mod constraints;
 mod implementation;
 mod nets;
 mod pins;
+mod placing;
 mod sites;
+mod start;
 
 pub use implementation::implementation_of;
 pub use nets::{Pin, nets_of};
 pub use pins::pins_of;
+pub use placing::place;
 pub use sites::sites_of_kind;
