@@ -14,7 +14,10 @@ ghost use Rattle.fab_text_loads.specs.Texts.{IsFabricText};
 ghost use Rattle.fab_use.specs.Registers.{design_state};
 ghost use Rattle.fab_use.specs.Configuring.{Configures};
 ghost use Rattle.fab_use.specs.Headline.{RunsDesign};
+ghost use Rattle.fab_gen_tile.specs.Words.{IsNamed};
 ghost use Rattle.fab_features.specs.Design.{design_features};
+ghost use Rattle.fab_features.specs.Features.{IsBitMapOf};
+ghost use Rattle.fab_features.specs.Naming.{HasPrefixes};
 
 use crate::state::state_of;
 use fab_fabric::{Bits, Fabric};
@@ -62,6 +65,7 @@ pub fn assemble(
     ensures features { IfOk result (λ it. it.features.items ≡ design_features fabric.now packed.now implementation) }
     ensures bits { IfOk result (λ it. AreBitsOf fabric.now it.bits) }
     ensures configures { IfOk result (λ it. Configures fabric.now packed.now implementation (plain_bits it.bits)) }
+    ensures map { IfOk result (λ it. All IsNamed fabric.now.types → All HasPrefixes fabric.now.types → IsBitMapOf fabric.now it.features.items (plain_bits it.bits)) }
     ensures words { IfOk result (λ it. it.words.items ≡ stream fabric.now (plain_bits it.bits)) }
     ensures state { IfOk result (λ it. it.state ≡ design_state packed.now implementation) }
     ensures runs { IfOk result (λ it. (text : List PlainModule) → IsFabricText fabric.now text → RunsDesign fabric.now text netlist.now implementation it.words.items it.state) }
