@@ -1,22 +1,20 @@
 -- Boxes around sites, and where the lines of an implementation name each thing once.
-use Rattle.std.proofs.Common.{◌≡◌, ◌≢◌, ℕ, ◌+◌, ◌-◌, ◌<◌, ◌≤◌, Bool, true, false, List, [], ◌∷◌, ◌++◌, map, filter, fold, max, min, length, get_or, take, drop, nat_eq, Decides, refl, sym, ◌∙◌, ap, subst, inl, inr, arith}
-use Rattle.std.specs.List.{AllPairs, Contains, enumerate_from, list_any, sum_by}
-use Rattle.std.proofs.lemmas.Bool.{cases_Bool}
-use Rattle.std.proofs.lemmas.Bool.Decides.{Decides-eqb}
+use Rattle.std.proofs.Common.{◌≡◌, ◌≢◌, ℕ, ◌+◌, ◌-◌, ◌<◌, ◌≤◌, Bool, true, false, List, [], ◌∷◌, ◌++◌, map, filter, fold, max, min, length, get_or, take, Decides, refl, sym, ◌∙◌, ap, subst, arith}
+use Rattle.std.specs.List.{AllPairs, Contains, enumerate_from, sum_by}
 use Rattle.std.proofs.lemmas.List.{get_or-map, get_or-take, get_or_default, length-map, length-take-le, map-append, take-map, append-nil, take_more}
 use Rattle.std.proofs.lemmas.List.Elements.{filter-append, Contains-get_or}
-use Rattle.std.proofs.lemmas.List.Sums.{fold-append, sum_by-append, sum_by-cons, sum_by_push}
+use Rattle.std.proofs.lemmas.List.Sums.{fold-append, sum_by_push}
 use Rattle.fab_kinds.specs.declared.kind.Kind.{Kind}
 use Rattle.fab_model.specs.Grid.{PlainFabric}
 use Rattle.fab_fabric.specs.declared.wire.Site.{Site}
 use Rattle.fab_netlist.specs.Packed.{PlainPacked}
-use Rattle.fab_implementation.specs.Plain.{Pad, PlainImplementation}
+use Rattle.fab_implementation.specs.Plain.{PlainImplementation}
 use Rattle.fab_legal.specs.Turns.{AreRight}
 use Rattle.fab_legal.specs.Legal.{ArePlaced}
 use Rattle.fab_legal.specs.Lines.{named, IsRightLine}
 use Rattle.fab_legal.specs.Sinks.{site_of}
 use Rattle.fab_legal.proofs.Lists.{at_default}
-use Rattle.fab_ways.specs.Placing.{no_site, spread, half_perimeter}
+use Rattle.fab_ways.specs.Placing.{no_site, half_perimeter}
 use Rattle.fab_place.specs.declared.bounding.BoundingBox.{BoundingBox}
 use Rattle.fab_place.specs.Boxes.{around, included, half, NamesOnce}
 use Rattle.fab_place.proofs.Finding.{site_found}
@@ -72,14 +70,14 @@ module _ {X : Type 0} (old before after : BoundingBox) (test : X → Bool) (made
   list_stays fails =
       let last : filter test (get_or xs n d ∷ []) ≡ [] = rw fails in
       let same : filter test (take n xs) ≡ filter test (take (n + 1) xs) =
-        sym (filtered_more test n xs d low ∙ ap (λ (ys : List X). filter test (take n xs) ++ ys) last ∙ append-nil (filter test (take n xs))) in
+      sym (filtered_more test n xs d low ∙ ap (λ (ys : List X). filter test (take n xs) ++ ys) last ∙ append-nil (filter test (take n xs))) in
       is ∙ ap (λ (ys : List X). fold included old (map made ys)) same
 
   pub list_grows : test (get_or xs n d) ≡ true → after ≡ included before (made (get_or xs n d)) → after ≡ fold included old (map made (filter test (take (n + 1) xs)))
   list_grows passes more =
       let last : filter test (get_or xs n d ∷ []) ≡ get_or xs n d ∷ [] = rw passes in
       let kept : filter test (take n xs) ++ get_or xs n d ∷ [] ≡ filter test (take (n + 1) xs) =
-        sym (filtered_more test n xs d low ∙ ap (λ (ys : List X). filter test (take n xs) ++ ys) last) in
+      sym (filtered_more test n xs d low ∙ ap (λ (ys : List X). filter test (take n xs) ++ ys) last) in
       more ∙ ap (λ (area : BoundingBox). included area (made (get_or xs n d))) is ∙ sym (fold-append included old (map made (filter test (take n xs))) (made (get_or xs n d) ∷ []))
       ∙ ap (λ (sites : List Site). fold included old sites) (sym (map-append made (filter test (take n xs)) (get_or xs n d ∷ [])))
       ∙ ap (λ (ys : List X). fold included old (map made ys)) kept
@@ -100,7 +98,7 @@ module _ {X : Type 0} (fabric : PlainFabric) (kind : Kind) (IsKnown : X → Type
       let thing = (get_or lines j none).0 in
       let short : j ≤ length (named lines) = omega (arith, low) in
       let before : Contains (take j (named lines)) thing =
-        (i, omega (arith, less, length-take-le j (named lines) short), get_or-take j (named lines) i thing less ∙ get_or_default (named lines) i thing d (omega (arith, less, low)) ∙ same ∙ here) in
+      (i, omega (arith, less, length-take-le j (named lines) short), get_or-take j (named lines) i thing less ∙ get_or_default (named lines) i thing d (omega (arith, less, low)) ∙ same ∙ here) in
       (right j (get_or lines j none) inside (at_default lines j none inside)).first (subst (λ (things : List X). Contains things thing) (take-map name j lines) before)
 
 pub names_once : (fabric : PlainFabric) (packed : PlainPacked) (placed : PlainImplementation) → ArePlaced fabric packed placed → NamesOnce placed

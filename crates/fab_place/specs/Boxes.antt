@@ -1,5 +1,5 @@
 -- Boxes around sites.
-use Rattle.std.specs.Prelude.{ℕ, ◌+◌, ◌-◌, ◌≢◌, AllPairs, List, max, min}
+use Rattle.std.specs.Prelude.{ℕ, ◌+◌, ◌-◌, ◌≢◌, AllPairs, max, min}
 use Rattle.fab_fabric.specs.declared.wire.Site.{Site}
 use Rattle.fab_implementation.specs.Plain.{PlainImplementation}
 use Rattle.fab_legal.specs.Lines.{named}

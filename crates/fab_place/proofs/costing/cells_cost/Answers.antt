@@ -20,9 +20,9 @@ loop-number-preserved c =
     let end : c.len-number-end.result ≡ length packed.cells = first_of (search rules, grind (arith, common_steps)) in
     let low : n < length packed.cells = omega (arith, c.loop-number-test.true, end) in
     let source : c.cell_site-source.result ≡ cell_site placed n =
-      c.cell_site-source.ensures ∙ ap (λ (lines : List (ℕ × Site)). site_of nat_eq lines n) (c.deref.ensures.value ∙ ap (λ (i : PlainImplementation). i.cells) c.placed.view_is) in
+    c.cell_site-source.ensures ∙ ap (λ (lines : List (ℕ × Site)). site_of nat_eq lines n) (c.deref.ensures.value ∙ ap (λ (i : PlainImplementation). i.cells) c.placed.view_is) in
     let more : total + c.half_of-total.result ≡ total + f (n, get_or packed.cells n none) =
-      ap (λ m. total + m) (c.half_of-total.ensures.value ∙ ap (λ (site : Site). half_perimeter (site ∷ reader_sites packed placed (ids.Cell n))) source) in
+    ap (λ m. total + m) (c.half_of-total.ensures.value ∙ ap (λ (site : Site). half_perimeter (site ∷ reader_sites packed placed (ids.Cell n))) source) in
     record {
       told = sum_more f total (total + c.half_of-total.result) n packed.cells none low c.loop-number.invariant.told more;
       small = omega (arith, c.loop-number.invariant.small, c.half_of-total.ensures.small);
