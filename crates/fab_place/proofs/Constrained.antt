@@ -1,5 +1,5 @@
 -- Maps from pads to numbers and from ports to pads.
-use Rattle.std.proofs.Common.{◌≡◌, ◌≢◌, ◌⊎◌, ◌↔◌, ℕ, ◌+◌, ◌<◌, ◌≤◌, Bool, true, ◌&&◌, List, [], ◌∷◌, ◌++◌, Vec, Global, map, length, get_or, take, Option, Some, None, Decides, nat_eq, refl, sym, ◌∙◌, ap, subst, inl, inr, arith}
+use Rattle.std.proofs.Common.{◌≡◌, ◌≢◌, ◌↔◌, ℕ, ◌+◌, ◌<◌, ◌≤◌, ◌&&◌, List, [], ◌∷◌, ◌++◌, Vec, Global, map, length, get_or, take, Option, Some, None, Decides, nat_eq, refl, sym, ◌∙◌, ap, subst, inl, inr, arith}
 use Rattle.std.specs.List.{AllPairs, Contains}
 use Rattle.std.specs.Map.{lookup}
 use Rattle.std.specs.Option.{option_and_then}
@@ -22,7 +22,7 @@ use Rattle.fab_legal.proofs.Members.{in_taken, stays_taken, last_taken}
 use Rattle.fab_place.specs.Constraints.{IsPadOf, AreConstrained, key_of, site_by, same_key, HasNumbers, HasConstraints, pad_in}
 use Rattle.fab_place.proofs.Lines.{new_at}
 use Rattle.fab_place.proofs.Maps.{map_more, map_none}
-use Rattle.fab_place.proofs.Once.{Once, once_pairs}
+use Rattle.fab_place.proofs.Once.{once_pairs}
 
 -- ---- the numbers of pads
 

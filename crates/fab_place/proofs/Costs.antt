@@ -1,5 +1,5 @@
 -- The cost of a placement by the numbers of sites.
-use Rattle.std.proofs.Common.{◌≡◌, ℕ, ◌+◌, ◌-◌, ◌<◌, List, [], ◌∷◌, ◌++◌, Vec, Global, map, length, get_or, Option, None, zero, suc, refl, sym, ◌∙◌, ap, subst, inl, inr, arith}
+use Rattle.std.proofs.Common.{◌≡◌, ℕ, ◌+◌, ◌-◌, ◌<◌, List, [], ◌∷◌, Vec, Global, map, length, get_or, Option, None, zero, suc, refl, sym, ◌∙◌, ap, subst, inl, inr, arith}
 use Rattle.std.specs.List.{All, Contains, enumerate_from, slice_get, sum_by}
 use Rattle.std.specs.Prelude.{slice_index}
 use Rattle.std.specs.Str.{bytes_eq}
@@ -7,7 +7,7 @@ use Rattle.std.proofs.lemmas.List.{get_or-map, length-map}
 use Rattle.std.proofs.lemmas.List.Sums.{sum_by-append, sum_by-cons}
 use Rattle.fab_board.specs.declared.board.Board.{Board}
 use Rattle.fab_board.specs.Boards.{column, row, cost as board_cost}
-use Rattle.fab_board.specs.Measured.{numbers_of, items_of, net_count, item_count}
+use Rattle.fab_board.specs.Measured.{numbers_of, items_of}
 use Rattle.fab_board.specs.Spans.{spread as item_spread, least, greatest}
 use Rattle.fab_board.proofs.Extremes.{least_same, greatest_same}
 use Rattle.fab_model.specs.Tiles.{counted}
@@ -19,10 +19,10 @@ use Rattle.fab_netlist.proofs.Members.{first_in, later_in, first_or_later}
 use Rattle.fab_legal.specs.WellMade.{IsNetId, IsWellMadePacked}
 use Rattle.fab_legal.specs.Sinks.{site_of}
 use Rattle.fab_ways.specs.Placing.{no_site, half_perimeter, cell_site, reader_sites, cost}
-use Rattle.fab_place.specs.Pins.{item_total, net_total, pin, pins}
+use Rattle.fab_place.specs.Pins.{item_total, net_total, pin}
 use Rattle.fab_place.specs.Standing.{site_at, standing}
 use Rattle.fab_place.specs.BoardOf.{IsBoardOf}
-use Rattle.fab_place.proofs.Counting.{length_counted, counted_list, counted_same, counted_split, numbered_counted, sum_counted, sum_two}
+use Rattle.fab_place.proofs.Counting.{counted_list, counted_same, counted_split, numbered_counted, sum_counted, sum_two}
 use Rattle.fab_place.proofs.Found.{cell_found}
 use Rattle.fab_place.proofs.Readers.{IsNumber, driver, Reads, from_pins, into_pins, input_found, reader_here, from_here}
 use Rattle.fab_place.proofs.Spreads.{half_same}

@@ -1,16 +1,14 @@
 -- Items that no exchange betters make a good placement.
-use Rattle.std.proofs.Common.{◌≡◌, ◌≢◌, ◌⊎◌, ℕ, ◌+◌, ◌-◌, ◌<◌, ◌≤◌, Bool, true, false, List, [], ◌∷◌, ◌++◌, map, length, get_or, replicate, is_some, Option, Some, None, nat_eq, refl, sym, ◌∙◌, ap, subst, inl, inr, arith}
+use Rattle.std.proofs.Common.{◌≡◌, ◌⊎◌, ℕ, ◌+◌, ◌-◌, ◌<◌, ◌≤◌, Bool, true, false, List, [], ◌++◌, map, length, get_or, replicate, is_some, Option, Some, None, nat_eq, refl, sym, ◌∙◌, ap, subst, inl, inr, arith}
 use Rattle.std.specs.List.{All, Contains}
-use Rattle.std.specs.Prelude.{nat_le, slice_index}
+use Rattle.std.specs.Prelude.{nat_le}
 use Rattle.std.proofs.lemmas.Bool.{cases_Bool, cases_lt, false≢true}
 use Rattle.std.proofs.lemmas.Bool.Decides.{leb_tells}
 use Rattle.std.proofs.lemmas.List.{get_or_append_left, get_or-append_right, get_or-append-add, get_or-map, get_or_default, get_or-replicate, length-map, length-append, length-replicate}
-use Rattle.std.proofs.lemmas.List.Elements.{All-map, All-contains, Contains-append_left, Contains-append_right, Contains-get_or}
+use Rattle.std.proofs.lemmas.List.Elements.{All-map, Contains-get_or}
 use Rattle.fab_kinds.specs.declared.kind.Kind.{Kind}
 use Rattle.fab_kinds.specs.declared.kind.Kind.TheVariants as kinds
-use Rattle.fab_board.specs.declared.board.Board.{Board}
-use Rattle.fab_board.specs.Boards.{is_second, is_locked, column, row, site_count, site_after as number_after, exchanged as exchanged_numbers, MayExchange as MayExchangeNumbers, cost as board_cost}
-use Rattle.fab_model.specs.Tiles.{counted}
+use Rattle.fab_board.specs.Boards.{is_locked, column, row, site_count, site_after as number_after, exchanged as exchanged_numbers, MayExchange as MayExchangeNumbers, cost as board_cost}
 use Rattle.fab_model.specs.Grid.{PlainFabric}
 use Rattle.fab_fabric.specs.declared.wire.Site.{Site}
 use Rattle.fab_netlist.specs.Packed.{PlainPacked}
@@ -18,7 +16,7 @@ use Rattle.fab_netlist.proofs.Members.{mapped_in}
 use Rattle.fab_implementation.specs.Plain.{Pad, PlainImplementation}
 use Rattle.fab_implementation.specs.OnFabric.{IsSite, kind_at, IsOnFabric}
 use Rattle.fab_legal.specs.WellMade.{output_name, output_ports, ports}
-use Rattle.fab_legal.specs.Lines.{named, sited, IsCell, IsInput, IsOutput, HaveSites, sites as all_sites, ConstraintsHold}
+use Rattle.fab_legal.specs.Lines.{IsCell, IsInput, IsOutput, HaveSites, sites as all_sites, ConstraintsHold}
 use Rattle.fab_legal.specs.Legal.{ArePlaced}
 use Rattle.fab_legal.proofs.Bindings.{differ_left, differ_right}
 use Rattle.fab_ways.specs.Sites.{same_site, sites_of_kind}
@@ -27,8 +25,7 @@ use Rattle.fab_ways.proofs.Lists.{in_counted, from_counted}
 use Rattle.fab_place.specs.Fixings.{AreFixed, Fits}
 use Rattle.fab_place.specs.Pins.{item_total}
 use Rattle.fab_place.specs.Standing.{site_at, standing}
-use Rattle.fab_place.specs.BoardOf.{IsBoardOf, IsSettled}
-use Rattle.fab_place.proofs.Counting.{length_counted}
+use Rattle.fab_place.specs.BoardOf.{IsSettled}
 use Rattle.fab_place.proofs.Costs.{cost_is}
 use Rattle.fab_place.proofs.Finding.{after_item, site_tells}
 use Rattle.fab_place.proofs.Lines.{all_new, have_sites, ins_counted, outs_counted, port_line, has_port, sites_counted, cells_named, ins_named, outs_named}

@@ -18,3 +18,4 @@ pub mod Costs
 pub mod Starting
 pub mod Ending
 pub mod Settling
+pub mod Boxed

@@ -1,8 +1,7 @@
 -- The lines of an implementation in which items stand on sites, by their places.
-use Rattle.std.proofs.Common.{◌≡◌, ℕ, ◌+◌, ◌<◌, ◌≤◌, List, [], ◌∷◌, ◌++◌, map, length, get_or, take, Some, refl, sym, ◌∙◌, ap, subst, arith}
-use Rattle.std.specs.List.{All, Contains}
-use Rattle.std.proofs.lemmas.List.{get_or-map, get_or-take, take-map, length-map, length-take-le, get_or_default, get_or_append_left, get_or-append-add}
-use Rattle.std.proofs.lemmas.List.Elements.{Contains-get_or}
+use Rattle.std.proofs.Common.{◌≡◌, ℕ, ◌+◌, ◌<◌, ◌≤◌, List, [], ◌++◌, map, length, get_or, take, Some, sym, ◌∙◌, ap, subst, arith}
+use Rattle.std.specs.List.{Contains}
+use Rattle.std.proofs.lemmas.List.{get_or-map, get_or-take, take-map, length-map, length-take-le, get_or_append_left, get_or-append-add}
 use Rattle.fab_kinds.specs.declared.kind.Kind.{Kind}
 use Rattle.fab_model.specs.Tiles.{counted}
 use Rattle.fab_model.specs.Grid.{PlainFabric}
@@ -11,15 +10,15 @@ use Rattle.fab_netlist.specs.declared.net_id.NetId.{NetId}
 use Rattle.fab_netlist.specs.declared.net_id.NetId.TheVariants as ids
 use Rattle.fab_netlist.specs.Plain.{IsAt}
 use Rattle.fab_netlist.specs.Packed.{PlainPacked}
-use Rattle.fab_implementation.specs.Plain.{Pad, PlainImplementation}
+use Rattle.fab_implementation.specs.Plain.{Pad}
 use Rattle.fab_implementation.specs.OnFabric.{kind_at}
 use Rattle.fab_legal.specs.Turns.{AreRight}
 use Rattle.fab_legal.specs.WellMade.{output_name, output_ports, ports}
-use Rattle.fab_legal.specs.Lines.{named, sited, IsRightLine, HaveSites, IsNew, sites as all_sites}
+use Rattle.fab_legal.specs.Lines.{named, sited, HaveSites, IsNew, sites as all_sites}
 use Rattle.fab_ways.proofs.Lists.{from_counted, in_counted}
 use Rattle.fab_place.specs.Pins.{item_total}
-use Rattle.fab_place.specs.Standing.{site_at, cell_lines, input_lines, output_lines, standing}
-use Rattle.fab_place.proofs.Counting.{length_counted, at_counted, map_counted, counted_same, counted_split, counted_list, numbered_counted}
+use Rattle.fab_place.specs.Standing.{site_at, input_lines, output_lines, standing}
+use Rattle.fab_place.proofs.Counting.{map_counted, counted_same, counted_split, counted_list, numbered_counted}
 use Rattle.fab_place.proofs.Once.{Once, once_at}
 
 -- ---- lists in which nothing stands twice

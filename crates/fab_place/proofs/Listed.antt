@@ -92,7 +92,7 @@ numbered_push start [] x = ap (λ n. (n, x) ∷ []) (let e : start ≡ start + 0
 numbered_push start (y ∷ ys) x =
     ap (λ rest. (start, y) ∷ rest) (numbered_push (start + 1) ys x ∙ ap (λ n. enumerate_from (start + 1) ys ++ (n, x) ∷ []) (let e : (start + 1) + length ys ≡ start + suc (length ys) = omega arith in e))
 
-numbered_more : {X : Type 0} (xs : List X) (n : ℕ) (d : X) → n < length xs → enumerate_from 0 (take (n + 1) xs) ≡ enumerate_from 0 (take n xs) ++ (n, get_or xs n d) ∷ []
+pub numbered_more : {X : Type 0} (xs : List X) (n : ℕ) (d : X) → n < length xs → enumerate_from 0 (take (n + 1) xs) ≡ enumerate_from 0 (take n xs) ++ (n, get_or xs n d) ∷ []
 numbered_more xs n d low =
     ap (enumerate_from 0) (take_more xs n d low) ∙ numbered_push 0 (take n xs) (get_or xs n d)
     ∙ ap (λ m. enumerate_from 0 (take n xs) ++ (m, get_or xs n d) ∷ []) (let inside : n ≤ length xs = omega arith in let e : 0 + length (take n xs) ≡ n = omega (arith, length-take-le n xs inside) in e)

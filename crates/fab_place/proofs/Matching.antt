@@ -1,9 +1,9 @@
 -- Constraints of ports and the numbers of their pads.
-use Rattle.std.proofs.Common.{◌≡◌, ◌≢◌, ◌⊎◌, ℕ, ◌+◌, ◌<◌, ◌≤◌, Bool, true, false, not, List, [], ◌∷◌, ◌++◌, map, filter, length, get_or, drop, Option, Some, None, zero, suc, refl, sym, ◌∙◌, ap, subst, inl, inr, arith}
-use Rattle.std.specs.List.{All, AllPairs, Contains, list_any}
+use Rattle.std.proofs.Common.{◌≡◌, ◌⊎◌, ℕ, ◌<◌, ◌≤◌, Bool, true, false, not, List, [], ◌∷◌, map, filter, length, get_or, Option, Some, None, zero, suc, refl, sym, ◌∙◌, ap, subst, inl, inr, arith}
+use Rattle.std.specs.List.{Contains, list_any}
 use Rattle.std.specs.Str.{bytes_eq}
-use Rattle.std.proofs.lemmas.Bool.{cases_Bool, false≢true}
-use Rattle.std.proofs.lemmas.List.{get_or_default, get_or-map, length-map}
+use Rattle.std.proofs.lemmas.Bool.{cases_Bool}
+use Rattle.std.proofs.lemmas.List.{get_or_default}
 use Rattle.std.proofs.lemmas.List.Elements.{All-contains}
 use Rattle.std.proofs.lemmas.Slice.Eq.{bytes_eq-Decides}
 use Rattle.fab_kinds.specs.declared.kind.Kind.TheVariants as kinds
@@ -18,7 +18,6 @@ use Rattle.fab_implementation.specs.OnFabric.{kind_at}
 use Rattle.fab_legal.specs.Lines.{named, sited}
 use Rattle.fab_legal.specs.Sinks.{site_of}
 use Rattle.fab_legal.specs.WellMade.{ports, IsWellMadePacked}
-use Rattle.fab_legal.proofs.Lists.{same_at}
 use Rattle.fab_ways.specs.Sites.{same_site, sites_of_kind}
 use Rattle.fab_ways.specs.Placing.{no_site, is_fixed, pads_in_order, free_pads}
 use Rattle.fab_ways.proofs.Lists.{from_counted}

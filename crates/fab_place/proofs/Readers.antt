@@ -1,14 +1,13 @@
 -- Which items have a pin on a net, and where they stand.
-use Rattle.std.proofs.Common.{◌≡◌, ◌⊎◌, ℕ, ◌+◌, ◌<◌, ◌≤◌, Bool, true, false, List, [], ◌∷◌, ◌++◌, map, filter, length, get_or, slice_get, Some, nat_eq, Decides, refl, sym, ◌∙◌, ap, subst, inl, inr, arith}
-use Rattle.std.specs.List.{All, Contains, flat_map, enumerate_from, list_any}
+use Rattle.std.proofs.Common.{◌≡◌, ◌⊎◌, ℕ, ◌+◌, ◌<◌, Bool, true, List, [], ◌∷◌, ◌++◌, map, filter, length, get_or, Some, refl, sym, ◌∙◌, ap, subst, inl, inr, arith}
+use Rattle.std.specs.List.{Contains, flat_map, enumerate_from, list_any}
 use Rattle.std.specs.Str.{bytes_eq}
 use Rattle.std.proofs.lemmas.Bool.{false≢true}
 use Rattle.std.proofs.lemmas.Bool.Decides.{Decides-eqb}
-use Rattle.std.proofs.lemmas.List.{get_or_default, get_or-map, length-map}
+use Rattle.std.proofs.lemmas.List.{get_or-map}
 use Rattle.std.proofs.lemmas.List.Elements.{All-contains, Contains-append_cases}
 use Rattle.std.proofs.lemmas.Option.{slice_get-get_or}
 use Rattle.std.proofs.lemmas.Slice.Eq.{bytes_eq-Decides}
-use Rattle.fab_model.specs.Tiles.{counted}
 use Rattle.fab_fabric.specs.declared.wire.Site.{Site}
 use Rattle.fab_netlist.specs.declared.net_id.NetId.{NetId}
 use Rattle.fab_netlist.specs.declared.net_id.NetId.TheVariants as ids
@@ -16,7 +15,7 @@ use Rattle.fab_netlist.specs.Plain.{IsAt}
 use Rattle.fab_netlist.specs.Packed.{PlainCell, PlainPacked}
 use Rattle.fab_netlist.proofs.Members.{first_in, first_or_later, in_none, in_left, in_right, mapped_in, any_by, any_gives}
 use Rattle.fab_implementation.specs.Plain.{Pad}
-use Rattle.fab_legal.specs.WellMade.{output_name, output_ports, ports, IsNetId, IsWellMadeCell, IsWellMadePacked}
+use Rattle.fab_legal.specs.WellMade.{output_name, output_ports, IsNetId, IsWellMadeCell, IsWellMadePacked}
 use Rattle.fab_legal.specs.Lines.{named}
 use Rattle.fab_legal.specs.Sinks.{site_of}
 use Rattle.fab_legal.proofs.Bindings.{differ_left, differ_right}

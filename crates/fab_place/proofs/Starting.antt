@@ -1,14 +1,12 @@
 -- The start is a placement: the placement in order.
-use Rattle.std.proofs.Common.{◌≡◌, ◌≢◌, ℕ, ◌+◌, ◌<◌, ◌≤◌, ◌^◌, Bool, true, false, not, List, [], ◌∷◌, ◌++◌, map, length, get_or, take, drop, replicate, is_some, nat_le, Option, Some, None, refl, sym, ◌∙◌, ap, subst, inl, inr, arith}
-use Rattle.std.specs.List.{All, Contains, filter}
-use Rattle.std.specs.Option.{IfSome}
+use Rattle.std.proofs.Common.{◌≡◌, ℕ, ◌+◌, ◌<◌, ◌≤◌, false, not, List, [], ◌++◌, map, length, get_or, take, drop, replicate, is_some, Option, Some, None, sym, ◌∙◌, ap, subst, inl, inr, arith}
+use Rattle.std.specs.List.{All, Contains}
 use Rattle.std.proofs.lemmas.Bool.{false≢true}
 use Rattle.std.proofs.lemmas.List.{get_or_append_left, get_or-append-add, get_or-map, get_or_default, length-map, length-append, length-replicate, take_at, drop_at}
 use Rattle.std.proofs.lemmas.List.Elements.{All-append, All-map, All-contains}
 use Rattle.fab_kinds.specs.declared.kind.Kind.TheVariants as kinds
 use Rattle.fab_board.specs.declared.board.Board.{Board}
-use Rattle.fab_board.specs.Boards.{IsBoard, IsPlaced, site_count, is_second}
-use Rattle.fab_board.specs.Measured.{item_count}
+use Rattle.fab_board.specs.Boards.{IsBoard, IsPlaced, site_count}
 use Rattle.fab_model.specs.Tiles.{counted}
 use Rattle.fab_model.specs.Grid.{PlainFabric}
 use Rattle.fab_fabric.specs.Fabric.{IsFabric}
@@ -26,11 +24,11 @@ use Rattle.fab_place.specs.Starts.{is_taken, free_numbers, loose, numbers_in_ord
 use Rattle.fab_place.specs.Pins.{item_total}
 use Rattle.fab_place.specs.Standing.{site_at, standing}
 use Rattle.fab_place.specs.BoardOf.{IsBoardOf}
-use Rattle.fab_place.proofs.Counting.{length_counted, at_counted, counted_same, counted_split}
+use Rattle.fab_place.proofs.Counting.{length_counted, at_counted, counted_same}
 use Rattle.fab_place.proofs.Once.{Once, once_append, once_counted, once_map, once_filter, once_at}
 use Rattle.fab_place.proofs.Orders.{pads_of, from_pads, enough, free_low, length_in_order, from_in_order, once_in_order, at_in_order, is_taken_by}
 use Rattle.fab_place.proofs.Sited.{in_sites, few_sites}
-use Rattle.fab_place.proofs.Matching.{given_apart, pads_once, pad_of, free_same, all_match, in_order, paired, paired_counted}
+use Rattle.fab_place.proofs.Matching.{given_apart, pads_once, pad_of, free_same, all_match, in_order, paired_counted}
 use Rattle.fab_place.proofs.Lines.{ports_counted, port_line, ins_counted}
 
 module _ (fabric : PlainFabric) (packed : PlainPacked) (fixed : List Pad) (constrained : List (Option ℕ)) (fits : Fits fabric packed) (are_fixed : AreFixed fabric packed fixed)

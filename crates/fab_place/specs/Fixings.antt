@@ -1,5 +1,5 @@
 -- What a design and its constraints have to be for it to be placed.
-use Rattle.std.specs.Prelude.{◌≡◌, ◌≢◌, ℕ, ◌+◌, ◌≤◌, List, All, AllPairs, Contains, length, map, Some}
+use Rattle.std.specs.Prelude.{◌≡◌, ◌≢◌, ◌+◌, ◌≤◌, List, All, AllPairs, Contains, length, Some}
 use Rattle.fab_kinds.specs.declared.kind.Kind.TheVariants as kinds
 use Rattle.fab_model.specs.Grid.{PlainFabric}
 use Rattle.fab_netlist.specs.Packed.{PlainPacked}

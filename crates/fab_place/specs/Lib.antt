@@ -4,3 +4,4 @@ pub mod Fixings
 pub mod Constraints
 pub mod Starts
 pub mod BoardOf
+pub mod Boxes

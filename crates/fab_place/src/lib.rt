@@ -2,7 +2,9 @@
 #![tactic(auto)]
 
 mod board;
+mod bounding;
 mod constraints;
+mod costing;
 mod implementation;
 mod nets;
 mod pins;
@@ -10,6 +12,7 @@ mod placing;
 mod sites;
 mod start;
 
+pub use costing::cost;
 pub use implementation::implementation_of;
 pub use nets::{Pin, nets_of};
 pub use pins::pins_of;

@@ -106,5 +106,6 @@ fn numbers_of(
     let constrained = constrained_pads(alloc, packed, fixed, pads)?;
     let board = board_of(alloc, packed, sites, first_pad, &constrained)?;
     let start = start_of(alloc, cells, first_pad, pad_count, &constrained)?;
-    Ok(settled(alloc, &board, &start, seed)?)
+    let numbers = settled(alloc, &board, &start, seed)?;
+    Ok(numbers)
 }

@@ -1,4 +1,4 @@
-use Rattle.std.proofs.Common.{rules, ◌≡◌, ◌++◌, ◌+◌, ◌<◌, ◌≤◌, ℕ, List, Option, length, sym, ◌∙◌, ap, subst, arith}
+use Rattle.std.proofs.Common.{rules, ◌≡◌, ◌++◌, ◌<◌, ◌≤◌, ℕ, List, Option, length, sym, ◌∙◌, ap, subst, arith}
 use Rattle.std.specs.List.{All}
 use Rattle.std.specs.Option.{IfSome}
 use Rattle.std.proofs.lemmas.Grind.{common_steps}
@@ -59,7 +59,7 @@ returns c =
     let board = c.in_ok-board.board in
     let luts = c.args.luts.now in
     let constrained = c.in_ok-constrained.constrained.items in
-    let numbers = c.in_ok-settled.field-0.items in
+    let numbers = c.in_ok-numbers.numbers.items in
     let is = subst (λ (found : List (Option ℕ)). IsBoardOf c.args.packed.now (luts ++ c.args.pads.now) (length luts) found board) c.deref.ensures.value
     (subst (λ (sites : List Site). IsBoardOf c.args.packed.now sites (length luts) c.deref.result.now board) c.requires.sites c.in_ok-board.ensures) in
     let cells : c.len-cells.result ≡ length c.args.packed.now.cells = first_of (search rules, grind (arith, common_steps)) in
@@ -71,8 +71,8 @@ returns c =
       constrained = constrained;
       are = c.in_ok-constrained.ensures;
       board_is = is;
-      placed = c.in_ok-settled.ensures.placed;
-      keeps = subst (λ (first : List ℕ). Keeps board first numbers) start c.in_ok-settled.ensures.keeps;
-      low = subst (λ (first : List ℕ). cost board numbers ≤ cost board first) start c.in_ok-settled.ensures.low;
-      optimal = c.in_ok-settled.ensures.optimal;
+      placed = c.in_ok-numbers.ensures.placed;
+      keeps = subst (λ (first : List ℕ). Keeps board first numbers) start c.in_ok-numbers.ensures.keeps;
+      low = subst (λ (first : List ℕ). cost board numbers ≤ cost board first) start c.in_ok-numbers.ensures.low;
+      optimal = c.in_ok-numbers.ensures.optimal;
     }

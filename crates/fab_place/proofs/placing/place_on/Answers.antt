@@ -1,7 +1,5 @@
-use Rattle.std.proofs.Common.{◌∙◌, List, ℕ, subst, ap}
+use Rattle.std.proofs.Common.{◌∙◌, List, ℕ, ap}
 use Rattle.std.proofs.lemmas.Result.{IfOk-weaker}
-use Rattle.fab_implementation.specs.OnFabric.{IsOnFabric}
-use Rattle.fab_ways.specs.Placing.{IsGoodPlacement}
 use Rattle.fab_place.specs.Standing.{standing}
 use Rattle.fab_place.proofs.Settling.{good_end, on_fabric_end}
 use Rattle.fab_place.proofs.placing.place_on.Goals as goal
