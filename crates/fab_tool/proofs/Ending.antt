@@ -1,11 +1,10 @@
 -- Which fault ends a command: the first refusal is one, and where nothing is refused none but a device's or memory's comes.
-use Rattle.std.proofs.Common.{◌≡◌, ◌≢◌, ◌⊎◌, ◌<◌, ◌≤◌, ℕ, Bool, true, false, List, [], ◌∷◌, Option, Some, None, refl, sym, ap, ◌∙◌, inl, inr, subst, arith, nat_eq}
+use Rattle.std.proofs.Common.{◌≡◌, ◌≢◌, ◌⊎◌, ◌<◌, ◌≤◌, ℕ, true, false, List, ◌∷◌, Option, Some, None, refl, sym, ap, ◌∙◌, inl, inr, subst, arith, nat_eq}
 use Rattle.std.specs.List.{list_any}
 use Rattle.std.proofs.lemmas.Bool.{cases_Bool}
 use Rattle.fab_base.specs.declared.fault.Status.{Status}
 use Rattle.fab_base.specs.declared.fault.Fault.{Fault}
 use Rattle.fab_base.specs.declared.fault.Fault.TheVariants as faults
-use Rattle.fab_base.specs.Reading.{IsFaultOr}
 use Rattle.fab_base.specs.Report.{number_of, status}
 use Rattle.fab_desk.specs.Files.{Map}
 use Rattle.fab_files.specs.Files.{refuses}
@@ -17,7 +16,7 @@ use Rattle.fab_flow.proofs.Once as generating
 use Rattle.fab_list_files.proofs.Once.{one_refusal, not_both}
 use Rattle.fab_tool.specs.declared.job.Job.{Job}
 use Rattle.fab_tool.specs.declared.job.Job.TheVariants.{Matrix, Generate}
-use Rattle.fab_tool.specs.Running.{Makes, Meets, IsReady, refusals, Call, DoesJob, RefusesJob, IsJobReady, JobHasCause, JobLeaves, IsReported, IsExplained, IsOrMemory, answers, IsAnswered}
+use Rattle.fab_tool.specs.Running.{Makes, Meets, IsReady, refusals, Call, DoesJob, RefusesJob, IsJobReady, JobHasCause, JobLeaves, IsReported, IsOrMemory, answers, IsAnswered}
 
 -- ---- each command has one first refusal, or is ready
 

@@ -1,2 +1,3 @@
-pub mod WordLists
+pub mod OptionWords
+pub mod Taken
 pub mod Ending

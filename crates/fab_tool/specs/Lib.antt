@@ -1,2 +1,5 @@
+pub mod Arguments
+pub mod Plain
+pub mod Taking
 pub mod Words
 pub mod Running

@@ -1,40 +1,37 @@
--- The words of a command line and the job that they spell.
-use Rattle.std.specs.Prelude.{ℕ, Bool, List, [], ◌∷◌, ◌==◌, ◌&&◌, not, length, slice_index, codes, Option, Some, None, if◌then◌else◌}
+-- The forms of a command line, and the job that its words spell.
+use Rattle.std.specs.Prelude.{ℕ, List, [], ◌∷◌, ◌&&◌, codes, Option, Some, None, option_and_then, if◌then◌else◌}
 use Rattle.std.specs.Str.{bytes_eq, IsUtf8}
 use Rattle.fab_lines.specs.Names.{is_name}
 use Rattle.fab_paths.specs.Paths.{stem}
+use Rattle.fab_tool.specs.Arguments.{PlainArguments, arguments_of, are_options}
 use Rattle.fab_tool.specs.declared.job.Job.{Job}
 use Rattle.fab_tool.specs.declared.job.Job.TheVariants.{Matrix, Generate}
 
--- a positional word is not empty and does not begin with `-`
-abbrev pub is_positional : List ℕ → Bool
-is_positional word = not (length word == 0) && not (slice_index word 0 == 45)
+-- ---- the positional words of each command
 
 -- `matrix LIST OUT`, where the stem of LIST is a name
-abbrev pub is_matrix : (command list out : List ℕ) → Bool
-is_matrix command list out = bytes_eq command (codes "matrix") && is_positional list && is_positional out && is_name (stem list)
+abbrev pub matrix_job : List (List ℕ) → Option Job
+matrix_job (list ∷ out ∷ []) = if is_name (stem list) then Some (Matrix list out) else None
+matrix_job words = None
 
 -- `generate FABRIC OUT`
-abbrev pub is_generate : (command fabric out : List ℕ) → Bool
-is_generate command fabric out = bytes_eq command (codes "generate") && is_positional fabric && is_positional out
+abbrev pub generate_job : List (List ℕ) → Option Job
+generate_job (fabric ∷ out ∷ []) = Some (Generate fabric out)
+generate_job words = None
 
-abbrev pub job_of_three : (command first out : List ℕ) → Option Job
-job_of_three command first out =
-    if is_matrix command first out then Some (Matrix first out) else
-    if is_generate command first out then Some (Generate first out) else None
+-- ---- the forms
 
--- the job of the three words, where there are three
-abbrev pub job_spelled : Option (List ℕ × List ℕ × List ℕ) → Option Job
-job_spelled None = None
-job_spelled (Some three) = job_of_three three.0 three.1 three.2
+-- each command with its options; a line that is none of these is no form
+abbrev pub job_of_command : (command : List ℕ) → PlainArguments → Option Job
+job_of_command command arguments =
+    if bytes_eq command (codes "matrix") && are_options [] arguments.settings then matrix_job arguments.positionals else
+    if bytes_eq command (codes "generate") && are_options [] arguments.settings then generate_job arguments.positionals else
+    None
 
--- the job that words spell; words that spell none are no form
+-- The job that words spell, the first of which is the command; words that spell none are no form.
 abbrev pub job_of : List (List ℕ) → Option Job
 job_of [] = None
-job_of (a ∷ []) = None
-job_of (a ∷ b ∷ []) = None
-job_of (a ∷ b ∷ c ∷ []) = job_of_three a b c
-job_of (a ∷ b ∷ c ∷ d ∷ more) = None
+job_of (command ∷ words) = option_and_then (job_of_command command) (arguments_of None words)
 
 -- what is needed of a job's file names
 abbrev pub IsText : Job → Type 0

@@ -1,6 +1,7 @@
 //! fab: embedded FPGA fabrics, and designs on them.
 #![tactic(auto)]
 
+mod arguments;
 mod job;
 mod running;
 mod words;

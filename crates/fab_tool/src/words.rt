@@ -1,65 +1,68 @@
-//! The words of a command line.
+//! The words of a command line: the forms of its commands.
 
-ghost use Rattle.std.specs.Prelude.{◌≡◌, ◌⊎◌, map, option_map, string_bytes, None, Some, IfOk, IfErr};
-ghost use Rattle.fab_base.specs.declared.fault.Fault.TheVariants as faults;
-ghost use Rattle.fab_tool.specs.Words.{is_positional, is_matrix, is_generate, job_of_three, job_spelled, job_of, IsText};
+ghost use Rattle.std.specs.Prelude.{◌≡◌, ℕ, List, map, string_bytes, None, Some, IfOk, IfErr};
+ghost use Rattle.std.specs.Str.{IsUtf8};
+ghost use Rattle.fab_tool.specs.Plain.{plain_arguments};
+ghost use Rattle.fab_tool.specs.Arguments.{IsUsage};
+ghost use Rattle.fab_tool.specs.Words.{matrix_job, generate_job, job_of_command, job_of, IsText};
 
+use crate::arguments::{Arguments, are_options};
 use crate::job::Job;
-use fab_base::{Fault, Name};
+use fab_base::{Fault, Memory, Name};
 use fab_lines::is_name;
 use fab_paths::stem;
 use std::alloc::Global;
 
-fn is_positional(word: &[u8]) -> bool
-    ensures { result ≡ is_positional word.now }
+/// The name that a word is.
+fn name_of(alloc: Global, word: &str) -> Result<Name, Memory>
+    ensures name { IfOk result (λ name. name ≡ word.now) }
+    ensures text { IfOk result IsUtf8 }
 {
-    !word.is_empty() && word[0] != b'-'
+    Name::of(alloc, word.as_bytes())
 }
 
-fn is_matrix(command: &str, list: &str, out: &str) -> bool
-    ensures { result ≡ is_matrix command.now list.now out.now }
-{
-    command == "matrix"
-        && is_positional(list.as_bytes())
-        && is_positional(out.as_bytes())
-        && is_name(stem(list.as_bytes()))
-}
-
-fn is_generate(command: &str, fabric: &str, out: &str) -> bool
-    ensures { result ≡ is_generate command.now fabric.now out.now }
-{
-    command == "generate" && is_positional(fabric.as_bytes()) && is_positional(out.as_bytes())
-}
-
-/// The words, where there are three.
-#[tactic(auto, using(crate::proofs::WordLists::few_words, crate::proofs::WordLists::many_words))]
-fn three_of(words: &[String]) -> Option<(&str, &str, &str)>
-    ensures { job_spelled (option_map (λ three. (three.0.now, three.1.now, three.2.now)) result) ≡ job_of (map string_bytes words.now) }
-{
-    match words {
-        [] => None,
-        [_] => None,
-        [_, _] => None,
-        [command, first, out] => Some((command.as_str(), first.as_str(), out.as_str())),
-        [_, _, _, _, ..] => None,
-    }
-}
-
-/// The job of a command and the names of two files.
-fn job_of_three(alloc: Global, command: &str, first: &str, out: &str) -> Result<Job, Fault>
-    ensures job { IfOk result (λ job. job_of_three command.now first.now out.now ≡ Some job) }
+/// `matrix LIST OUT`, where the stem of LIST is a name.
+fn matrix(alloc: Global, words: &[&str]) -> Result<Job, Fault>
+    ensures job { IfOk result (λ job. matrix_job (map (λ word. word.now) words.now) ≡ Some job) }
     ensures text { IfOk result IsText }
-    ensures usage { IfErr result (λ fault. (fault ≡ faults.Memory) ⊎ ((fault ≡ faults.Usage) × (job_of_three command.now first.now out.now ≡ None))) }
+    ensures usage { IfErr result (IsUsage (matrix_job (map (λ word. word.now) words.now) ≡ None)) }
 {
-    if is_matrix(command, first, out) {
-        let list = Name::of(alloc, first.as_bytes())?;
-        let out = Name::of(alloc, out.as_bytes())?;
-        return Ok(Job::Matrix(list, out));
+    let [list, out] = words else {
+        return Err(Fault::Usage);
+    };
+    if !is_name(stem(list.as_bytes())) {
+        return Err(Fault::Usage);
     }
-    if is_generate(command, first, out) {
-        let fabric = Name::of(alloc, first.as_bytes())?;
-        let out = Name::of(alloc, out.as_bytes())?;
-        return Ok(Job::Generate(fabric, out));
+    let list = name_of(alloc, list)?;
+    let out = name_of(alloc, out)?;
+    Ok(Job::Matrix(list, out))
+}
+
+/// `generate FABRIC OUT`.
+fn generate(alloc: Global, words: &[&str]) -> Result<Job, Fault>
+    ensures job { IfOk result (λ job. generate_job (map (λ word. word.now) words.now) ≡ Some job) }
+    ensures text { IfOk result IsText }
+    ensures usage { IfErr result (IsUsage (generate_job (map (λ word. word.now) words.now) ≡ None)) }
+{
+    let [fabric, out] = words else {
+        return Err(Fault::Usage);
+    };
+    let fabric = name_of(alloc, fabric)?;
+    let out = name_of(alloc, out)?;
+    Ok(Job::Generate(fabric, out))
+}
+
+/// The job of a command with what stands behind it.
+fn job_of_command(alloc: Global, command: &str, arguments: &Arguments<'_>) -> Result<Job, Fault>
+    ensures job { IfOk result (λ job. job_of_command command.now (plain_arguments arguments.now) ≡ Some job) }
+    ensures text { IfOk result IsText }
+    ensures usage { IfErr result (IsUsage (job_of_command command.now (plain_arguments arguments.now) ≡ None)) }
+{
+    if command == "matrix" && are_options(&[], &arguments.settings) {
+        return matrix(alloc, &arguments.positionals);
+    }
+    if command == "generate" && are_options(&[], &arguments.settings) {
+        return generate(alloc, &arguments.positionals);
     }
     Err(Fault::Usage)
 }
@@ -68,10 +71,11 @@ fn job_of_three(alloc: Global, command: &str, first: &str, out: &str) -> Result<
 pub fn parse(alloc: Global, words: &[String]) -> Result<Job, Fault>
     ensures job { IfOk result (λ job. job_of (map string_bytes words.now) ≡ Some job) }
     ensures text { IfOk result IsText }
-    ensures usage { IfErr result (λ fault. (fault ≡ faults.Memory) ⊎ ((fault ≡ faults.Usage) × (job_of (map string_bytes words.now) ≡ None))) }
+    ensures usage { IfErr result (IsUsage (job_of (map string_bytes words.now) ≡ None)) }
 {
-    let Some((command, first, out)) = three_of(words) else {
+    let Some((command, words)) = words.split_first() else {
         return Err(Fault::Usage);
     };
-    job_of_three(alloc, command, first, out)
+    let arguments = Arguments::of(alloc, words)?;
+    job_of_command(alloc, command.as_str(), &arguments)
 }

@@ -1,7 +1,7 @@
-use Rattle.std.proofs.Common.{◌≡◌, ◌<◌, ◌∙◌, ap, sym, subst, Option, Some}
+use Rattle.std.proofs.Common.{◌∙◌, ap, sym, subst, Option, Some}
 use Rattle.std.proofs.Common.{OnOk, IfErr}
 use Rattle.fab_tool.specs.declared.job.Job.{Job}
-use Rattle.fab_tool.specs.Running.{DoesJob, JobLeaves, JobHasCause}
+use Rattle.fab_tool.specs.Running.{DoesJob, JobLeaves}
 use Rattle.fab_tool.proofs.running.perform.Goals as goal
 
 pub returns-in-Matrix-clause-done : goal.returns-in-Matrix-clause-done
