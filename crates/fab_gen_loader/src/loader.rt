@@ -181,8 +181,9 @@ fn push_row_outputs(alloc: Global, items: &mut Vec<Item>, rows: u32) -> Result<(
         ≡ map plain_item items.old.items ++ counted rows (λ row. assign (row_port row) (variable (row_name row)))) }
 {
     for row in 0..rows {
-        let shown = Expr::Var(numbered(alloc, b"row", row)?);
-        items.push(Item::Assign(numbered(alloc, b"Row", row)?, shown))?;
+        let name = numbered(alloc, b"Row", row)?;
+        let shown = numbered(alloc, b"row", row)?;
+        items.push(Item::Assign(name, Expr::Var(shown)))?;
     }
     Ok(())
 }

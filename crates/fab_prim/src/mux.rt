@@ -5,7 +5,7 @@ ghost use Rattle.fab_syntax.specs.Plain.{plain_expr, plain_item, variable, assig
 ghost use Rattle.fab_kinds.specs.declared.kind.Kind.TheVariants as kinds;
 ghost use Rattle.fab_prim.specs.Modules.{config_bit, one_of, mux_wire_items, mux_select_items, mux_pair_items, mux_half_items, mux_whole_tree, mux_output_items, mux_items};
 
-use crate::build::{conditional, config_bit, one_of, push_assign, variable};
+use crate::build::{config_bit, named, one_of, operand, push_assign, variable};
 use crate::ports::module_ports;
 use crate::prim::Prim;
 use fab_base::{Memory, Name};
@@ -137,6 +137,8 @@ fn push_outputs(alloc: Global, items: &mut Vec<Item>) -> Result<(), Memory>
 fn whole_tree(alloc: Global) -> Result<Expr, Memory>
     ensures { IfOk result (λ e. plain_expr e ≡ mux_whole_tree) }
 {
+    let whole = operand(alloc, config_bit(alloc, 1)?)?;
+    let tree = named(alloc, b"ah")?;
     let part = one_of(alloc, config_bit(alloc, 0)?, b"eh", b"gh")?;
-    conditional(alloc, config_bit(alloc, 1)?, variable(alloc, b"ah")?, part)
+    Ok(Expr::Cond(whole, tree, operand(alloc, part)?))
 }

@@ -5,7 +5,7 @@ ghost use Rattle.fab_syntax.specs.Plain.{plain_item};
 ghost use Rattle.fab_kinds.specs.declared.kind.Kind.TheVariants as kinds;
 ghost use Rattle.fab_prim.specs.Modules.{pad_items};
 
-use crate::build::{push_assign, push_flip_flop, variable};
+use crate::build::{named, push_assign, push_flip_flop, variable};
 use crate::ports::module_ports;
 use crate::prim::Prim;
 use fab_base::{Memory, Name};
@@ -44,7 +44,7 @@ fn items(alloc: Global) -> Result<Vec<Item>, Memory>
     push_assign(alloc, &mut items, b"O", variable(alloc, b"O_top")?)?;
     push_assign(alloc, &mut items, b"Q", variable(alloc, b"q")?)?;
     push_assign(alloc, &mut items, b"I_top", variable(alloc, b"I")?)?;
-    let tristate = Box::new(alloc, variable(alloc, b"T")?)?;
+    let tristate = named(alloc, b"T")?;
     push_assign(alloc, &mut items, b"T_top", Expr::Not(tristate))?;
     Ok(items)
 }

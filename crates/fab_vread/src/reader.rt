@@ -208,7 +208,10 @@ fn read_text(alloc: Global, file: &Name, bytes: &[u8]) -> Result<Text, Fault>
     ensures { Gives plain_text result (read_of file.now bytes.now) }
 {
     let mut reader = Reader::new(alloc);
-    reader.take_text(alloc, file, bytes)
+    let found = reader.take_text(alloc, file, bytes);
+    // let go by a call: in this function, each form of each part would be a case of the proof that has the whole reader in it
+    mem::drop(reader);
+    found
 }
 
 /// Reads a Verilog text. Where its bytes spell a tree, with at most 300 brackets open in one another within an expression

@@ -12,4 +12,4 @@ pub loop-row-preserved : goal.loop-row-preserved
 loop-row-preserved c =
     let f : ℕ → PlainItem = λ row. assign (row_port row) (variable (row_name row)) in
     one_behind c.loop-row.row f _ (map plain_item c.loop-row.items.items) (map plain_item c.args.items.now.items) _
-    (ap (map plain_item) c.in_ok-push.ensures.items ∙ map_push plain_item c.loop-row.items.items _) c.loop-row.invariant (λ j. assign (c.in_ok-numbered-2.ensures j) (variable (c.in_ok-numbered.ensures j)))
+    (ap (map plain_item) c.in_ok-push.ensures.items ∙ map_push plain_item c.loop-row.items.items _) c.loop-row.invariant (λ j. assign (c.in_ok-name.ensures j) (variable (c.in_ok-shown.ensures j)))
