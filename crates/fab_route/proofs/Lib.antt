@@ -5,3 +5,14 @@ pub mod Leading
 pub mod Tabled
 pub mod Aimed
 pub mod Along
+pub mod Places
+pub mod Grouping
+pub mod Reaching
+pub mod Naming
+pub mod Wanting
+pub mod Growing
+pub mod Owned
+pub mod Joining
+pub mod Sharing
+pub mod Telling
+pub mod Stepped

@@ -1,3 +1,7 @@
 pub mod Numbers
 pub mod Plain
 pub mod Over
+pub mod Wanted
+pub mod Owners
+pub mod Told
+pub mod Answers

@@ -1,13 +1,24 @@
 //! The router: nets of a placed design as trees of wires, found by negotiated rounds over the matrix inputs of the fabric.
 #![tactic(auto)]
 
+mod constants;
 mod driven;
 mod goals;
+mod lines;
+mod nets;
 mod nodes;
 mod numbers;
+mod order;
+mod pins;
+mod router;
+mod shared;
+mod sinks;
+mod sources;
 mod targets;
+mod trees;
 mod walks;
 
 pub use goals::goals_of;
 pub use nodes::Nodes;
+pub use router::{RouteFault, Routed, route};
 pub use walks::put_walk;

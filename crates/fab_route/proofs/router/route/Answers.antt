@@ -1,0 +1,42 @@
+use Rattle.std.proofs.Common.{List, sym, ◌∙◌, subst}
+use Rattle.std.specs.List.{All}
+use Rattle.std.proofs.lemmas.Result.{IfOk-weaker}
+use Rattle.fab_implementation.specs.Plain.{Pad, PlainTree}
+use Rattle.fab_legal.specs.Legal.{IsLegal}
+use Rattle.fab_legal.specs.Lines.{ConstraintsHold}
+use Rattle.fab_rounds.specs.declared.net.Net.{Net}
+use Rattle.fab_rounds.specs.Plain.{nets_of, IsInside}
+use Rattle.fab_ways.specs.Trees.{with_trees}
+use Rattle.fab_ways.proofs.Legal.{unshared_is_legal}
+use Rattle.fab_route.specs.Answers.{AreRouted}
+use Rattle.fab_route.specs.Plain.{graph_of}
+use Rattle.fab_route.specs.Told.{IsNodeRun}
+use Rattle.fab_route.specs.declared.router.Routed.{Routed}
+use Rattle.fab_route.proofs.router.route.Goals as goal
+
+pub run_rounds-requires-clause-nets : goal.run_rounds-requires-clause-nets
+run_rounds-requires-clause-nets c =
+    subst (λ (ns : List Net). All (IsInside (graph_of c.in_ok-nodes.nodes).nodes) ns) (sym c.deref.ensures.value) c.in_ok-nets.ensures.inside
+
+pub returns-in-Err-clause-fault : goal.returns-in-Err-clause-fault
+returns-in-Err-clause-fault c = c.no_path.ensures c.args.rounds
+
+pub tell-requires-clause-run : goal.tell-requires-clause-run
+tell-requires-clause-run c =
+    subst (λ (ns : List Net). IsNodeRun (graph_of c.in_ok-nodes.nodes) (nets_of ns) c.args.rounds c.in-Ok.run') (c.deref.ensures.value ∙ sym c.deref-in-Ok.ensures.value) (record {
+      run = rw c.in-Ok.is at c.in_ok-cut.ensures.run;
+      some_rounds = (rw c.in-Ok.is at c.in_ok-cut.ensures.begun) c.requires.some;
+      few_rounds = rw c.in-Ok.is at c.in_ok-cut.ensures.limit;
+      unshared = rw c.in-Ok.is at c.in_ok-cut.ensures.apart;
+      shared = rw c.in-Ok.is at c.in_ok-cut.ensures.shared;
+      all_rounds = rw c.in-Ok.is at c.in_ok-cut.ensures.all;
+    })
+
+pub returns-clause-legal : goal.returns-clause-legal
+returns-clause-legal c =
+    IfOk-weaker c.tell.result (λ (routed : Routed). AreRouted c.args.fabric.now c.args.packed.now c.args.placed.now c.args.rounds routed.trees.items)
+    (λ (routed : Routed). (fixed : List Pad) → ConstraintsHold fixed c.args.placed.now → IsLegal c.args.fabric.now c.args.packed.now fixed (with_trees c.args.placed.now routed.trees.items))
+    (λ routed is. λ fixed holds.
+    subst (λ (trees : List PlainTree). IsLegal c.args.fabric.now c.args.packed.now fixed (with_trees c.args.placed.now trees)) (sym is.trees_are)
+    (unshared_is_legal c.args.fabric.now c.args.packed.now fixed c.args.placed.now is.rounds is.last c.requires.made c.requires.placed holds is.run is.some_rounds is.unshared))
+    c.tell.ensures.routed

@@ -1,0 +1,150 @@
+//! The router.
+
+ghost use Rattle.std.specs.Prelude.{◌≡◌, ◌≤◌, ℕ, List, IfOk, IfErr};
+ghost use Rattle.fab_implementation.specs.Plain.{Pad};
+ghost use Rattle.fab_legal.specs.Legal.{ArePlaced, IsLegal};
+ghost use Rattle.fab_legal.specs.Lines.{ConstraintsHold};
+ghost use Rattle.fab_legal.specs.WellMade.{IsWellMadePacked};
+ghost use Rattle.fab_rounds.specs.Plain.{nets_of};
+ghost use Rattle.fab_rounds.specs.Rounds.{IsCutOff};
+ghost use Rattle.fab_ways.specs.Trees.{with_trees};
+ghost use Rattle.fab_nodes.specs.Nets.{AreNets, net_sinks};
+ghost use Rattle.fab_route.specs.Answers.{AreRouted, IsTrueFault};
+ghost use Rattle.fab_route.specs.Over.{IsOver};
+ghost use Rattle.fab_route.specs.Plain.{graph_of, numbering_of};
+ghost use Rattle.fab_route.specs.Told.{IsNodeRun};
+ghost use Rattle.fab_route.specs.Wanted.{wire_groups};
+
+use crate::lines::input_lines;
+use crate::nets::nets_of;
+use crate::nodes::Nodes;
+use crate::order::net_at;
+use crate::shared::{least_shared, owners_of};
+use crate::sinks::sinks_by_net;
+use crate::trees::{net_names, round_trees, wire_trees};
+use fab_base::Memory;
+use fab_fabric::{Fabric, Wire};
+use fab_implementation::{Implementation, Tree};
+use fab_netlist::{NetId, Packed};
+use fab_rounds::{CutOff, Net, Routed as Run, run_rounds};
+use std::alloc::Global;
+
+/// The trees of a routed design.
+#[derive(Drop)]
+pub struct Routed {
+    /// A tree for each net that has sinks, in the order of nets.
+    pub trees: Vec<Tree>,
+}
+
+/// Why a design is not routed.
+#[derive(Drop)]
+pub enum RouteFault {
+    /// The first net with a sink to which no walk comes from its roots, and its first such sink.
+    NoPath(NetId, Wire),
+    /// After all rounds, the least wire that two nets have, the first two such nets, and the trees of each round.
+    Overused(Wire, NetId, NetId, Vec<Vec<Tree>>),
+    /// An allocation was refused.
+    Memory,
+}
+
+impl From<Memory> for RouteFault {
+    ghost use Rattle.fab_route.specs.declared.router.RouteFault.TheVariants as faults;
+
+    ghost from_gives = { λ memory fault. fault ≡ faults.Memory };
+
+    fn from(_: Memory) -> RouteFault {
+        RouteFault::Memory
+    }
+}
+
+/// Routes a placed design by negotiated rounds, at most so many.
+pub fn route(
+    alloc: Global,
+    fabric: &Fabric,
+    packed: &Packed,
+    placed: &Implementation,
+    rounds: u32,
+) -> Result<Routed, RouteFault>
+    requires made { IsWellMadePacked packed.now }
+    requires placed { ArePlaced fabric.now packed.now placed.now }
+    requires some { 1 ≤ rounds }
+    requires few { rounds ≤ 64 }
+    ensures routed { IfOk result (λ routed. AreRouted fabric.now packed.now placed.now rounds routed.trees.items) }
+    ensures legal { IfOk result (λ routed. (fixed : List Pad) → ConstraintsHold fixed placed.now → IsLegal fabric.now packed.now fixed (with_trees placed.now routed.trees.items)) }
+    ensures fault { IfErr result (IsTrueFault fabric.now packed.now placed.now rounds) }
+{
+    let sinks = sinks_by_net(alloc, fabric, packed, placed)?;
+    let nodes = Nodes::new(alloc, fabric)?;
+    let nets = nets_of(alloc, fabric, &nodes, packed, placed, &sinks)?;
+    match run_rounds(alloc, &nodes, nodes.count(), &nets, rounds)? {
+        Err(cut) => Err(no_path(fabric, packed, placed, &nodes, &nets, &sinks, cut)),
+        Ok(run) => tell(
+            alloc, fabric, packed, placed, &nodes, &nets, &sinks, &run, rounds,
+        ),
+    }
+}
+
+// The net and the sink of this net that are cut off.
+fn no_path(
+    fabric: &Fabric,
+    packed: &Packed,
+    _placed: &Implementation,
+    _nodes: &Nodes,
+    _nets: &[Net],
+    sinks: &Vec<Vec<Wire>>,
+    cut: CutOff,
+) -> RouteFault
+    requires made { IsWellMadePacked packed.now }
+    requires placed { ArePlaced fabric.now packed.now _placed.now }
+    requires nodes { IsOver fabric.now _nodes.now }
+    requires nets { AreNets fabric.now packed.now _placed.now (graph_of _nodes.now) (numbering_of _nodes.now) (nets_of _nets.now) }
+    requires sinks { wire_groups sinks.now.items ≡ net_sinks fabric.now packed.now _placed.now }
+    requires cut { IsCutOff (graph_of _nodes.now) (nets_of _nets.now) cut.net cut.sink }
+    ensures { (allowed : ℕ) → IsTrueFault fabric.now packed.now _placed.now allowed result }
+{
+    let _types = fabric.types();
+    let wires = &sinks[cut.net];
+    RouteFault::NoPath(net_at(packed, cut.net), wires[cut.sink])
+}
+
+// The trees of a run, or what is wrong with it.
+fn tell(
+    alloc: Global,
+    fabric: &Fabric,
+    packed: &Packed,
+    placed: &Implementation,
+    nodes: &Nodes,
+    _nets: &[Net],
+    sinks: &Vec<Vec<Wire>>,
+    run: &Run,
+    _allowed: u32,
+) -> Result<Routed, RouteFault>
+    requires made { IsWellMadePacked packed.now }
+    requires placed { ArePlaced fabric.now packed.now placed.now }
+    requires nodes { IsOver fabric.now nodes.now }
+    requires nets { AreNets fabric.now packed.now placed.now (graph_of nodes.now) (numbering_of nodes.now) (nets_of _nets.now) }
+    requires sinks { wire_groups sinks.now.items ≡ net_sinks fabric.now packed.now placed.now }
+    requires run { IsNodeRun (graph_of nodes.now) (nets_of _nets.now) _allowed run.now }
+    ensures routed { IfOk result (λ routed. AreRouted fabric.now packed.now placed.now _allowed routed.trees.items) }
+    ensures fault { IfErr result (IsTrueFault fabric.now packed.now placed.now _allowed) }
+{
+    let _types = fabric.types();
+    let lines = input_lines(alloc, fabric, packed, placed)?;
+    let names = net_names(alloc, packed, placed, &lines)?;
+    let last = &run.rounds[run.rounds.len() - 1];
+    if run.shared.is_none() {
+        let trees = wire_trees(alloc, nodes, &names, sinks, &last.trees)?;
+        return Ok(Routed { trees });
+    }
+    let owners = owners_of(alloc, nodes.count(), &last.trees)?;
+    let Some(shared) = least_shared(fabric, nodes, &owners) else {
+        unreachable!()
+    };
+    let told = round_trees(alloc, nodes, &names, sinks, &run.rounds)?;
+    Err(RouteFault::Overused(
+        shared.wire,
+        net_at(packed, shared.first),
+        net_at(packed, shared.second),
+        told,
+    ))
+}
