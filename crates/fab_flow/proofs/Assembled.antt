@@ -35,13 +35,21 @@ use Rattle.fab_fasm.specs.declared.feature.Feature.{Feature}
 use Rattle.fab_frames.specs.Stream.{stream}
 use Rattle.fab_text_loads.specs.Texts.{IsFabricText}
 use Rattle.fab_features.specs.Design.{design_features}
+use Rattle.fab_features.specs.Features.{IsBitMapOf}
+use Rattle.fab_features.specs.Naming.{HasPrefixes}
+use Rattle.fab_gen_tile.specs.Words.{IsNamed}
+use Rattle.fab_read.specs.Fabrics.{SpellsFabric}
+use Rattle.fab_fabric_names.proofs.Prefixes.{ArePrefixed, prefixes_kept}
+use Rattle.fab_fabric_names.proofs.Blocks.{names_kept}
+use Rattle.fab_fabric_names.proofs.Readings.{spelled_keep}
+use Rattle.fab_flow.specs.declared.storing.Output.{Output}
 use Rattle.fab_use.specs.Configuring.{Configures}
 use Rattle.fab_use.specs.Headline.{RunsDesign}
 use Rattle.fab_use.specs.Registers.{bound_pad, design_state, register_of}
 use Rattle.fab_designs.specs.Designs.{PlainDesign, MeetsDesign, SpellsDesign}
 use Rattle.fab_designs.specs.Implementations.{MeetsImplementation, ReadsImplementation}
 use Rattle.fab_flow.specs.Assembling.{AssemblyFiles, Fits, HasAssembleCause, IsAssembly, IsReadyToAssemble, MeetsAssembly, RefusesAssembly, assemble_refusals, assembly_outputs, fault_of, illegal, packing_for, short}
-use Rattle.fab_flow.specs.Storing.{PlainOutput, Leaves}
+use Rattle.fab_flow.specs.Storing.{PlainOutput, Leaves, plain_output}
 use Rattle.fab_flow.proofs.Ending.{Reads, cause_of_read, leaves_of_memory}
 
 -- ---- letters
@@ -93,13 +101,14 @@ state_has_letters fabric packed implementation is on = record {
 -- what is stored of all that an assembly gives
 pub assembly_is : (fabric : PlainFabric) (netlist : PlainNetlist) (implementation : PlainImplementation) (base : List ℕ) (outputs : List PlainOutput)
     (features : List Feature) (bits : PlainBits) (words : List ℕ) (state : PlainState) → outputs ≡ assembly_outputs base features words state
-    → features ≡ design_features fabric (packed netlist) implementation → Configures fabric (packed netlist) implementation bits → words ≡ stream fabric bits
+    → features ≡ design_features fabric (packed netlist) implementation → Configures fabric (packed netlist) implementation bits → IsBitMapOf fabric features bits → words ≡ stream fabric bits
     → state ≡ design_state (packed netlist) implementation → ((text : List PlainModule) → IsFabricText fabric text → RunsDesign fabric text netlist implementation words state)
     → IsAssembly fabric netlist implementation base outputs
-assembly_is fabric netlist implementation base outputs features bits words state are features_are configures words_are state_is runs =
+assembly_is fabric netlist implementation base outputs features bits words state are features_are configures bit_map words_are state_is runs =
     record {
       bits = bits;
       configures = configures;
+      bit_map = subst (λ (f : List Feature). IsBitMapOf fabric f bits) features_are bit_map;
       outputs_are =
           are
           ∙ ap (λ (f : List Feature). assembly_outputs base f words state) features_are
@@ -109,6 +118,14 @@ assembly_is fabric netlist implementation base outputs features bits words state
           subst (λ (s : PlainState). RunsDesign fabric text netlist implementation (stream fabric bits) s) state_is
           (subst (λ (w : List ℕ). RunsDesign fabric text netlist implementation w state) words_are (runs text is));
     }
+
+-- the same of outputs, on a fabric that files spell
+pub made_of : (files : Map) (name : List ℕ) (fabric : PlainFabric) (netlist : PlainNetlist) (implementation : PlainImplementation) (base : List ℕ) (made stored : List Output) → stored ≡ made
+    → SpellsFabric files name fabric → (All IsNamed fabric.types → All HasPrefixes fabric.types → IsAssembly fabric netlist implementation base (map plain_output made))
+    → IsAssembly fabric netlist implementation base (map plain_output stored)
+made_of files name fabric netlist implementation base made stored same spelled is =
+    subst (λ (items : List Output). IsAssembly fabric netlist implementation base (map plain_output items)) (sym same)
+    (is (spelled_keep IsNamed names_kept files name fabric spelled) (spelled_keep ArePrefixed prefixes_kept files name fabric spelled))
 
 -- ---- refusals
 

@@ -16,7 +16,10 @@ ghost use Rattle.fab_text_loads.specs.Texts.{IsFabricText};
 ghost use Rattle.fab_use.specs.Configuring.{Configures};
 ghost use Rattle.fab_use.specs.Headline.{RunsDesign};
 ghost use Rattle.fab_use.specs.Registers.{design_state};
+ghost use Rattle.fab_gen_tile.specs.Words.{IsNamed};
 ghost use Rattle.fab_features.specs.Design.{design_features};
+ghost use Rattle.fab_features.specs.Features.{IsBitMapOf};
+ghost use Rattle.fab_features.specs.Naming.{HasPrefixes};
 ghost use Rattle.fab_designs.specs.Designs.{design_files};
 ghost use Rattle.fab_flow.specs.Assembling.{Fits, HasAssembleCause, IsAssembly, MakesAssembly, RefusesAssembly, assembly_files, assembly_outputs, fault_of, packing_for};
 ghost use Rattle.fab_flow.specs.Storing.{IsDone, Leaves, output, plain_output};
@@ -69,6 +72,7 @@ fn assembled(
     ensures legal { OnOk result (IsLegal design.now.fabric (packed_of design.now.netlist) design.now.fixed implementation) }
     ensures features { IfOk result (λ it. it.features.items ≡ design_features design.now.fabric (packed_of design.now.netlist) implementation) }
     ensures configures { IfOk result (λ it. Configures design.now.fabric (packed_of design.now.netlist) implementation (plain_bits it.bits)) }
+    ensures map { IfOk result (λ it. All IsNamed design.now.fabric.types → All HasPrefixes design.now.fabric.types → IsBitMapOf design.now.fabric it.features.items (plain_bits it.bits)) }
     ensures words { IfOk result (λ it. it.words.items ≡ stream design.now.fabric (plain_bits it.bits)) }
     ensures state { IfOk result (λ it. it.state ≡ design_state (packed_of design.now.netlist) implementation) }
     ensures runs { IfOk result (λ it. (text : List PlainModule) → IsFabricText design.now.fabric text → RunsDesign design.now.fabric text design.now.netlist implementation it.words.items it.state) }
@@ -117,7 +121,8 @@ fn assembly(
     requires lines { All (InputsAreLines implementation) implementation.trees }
     ensures fits { OnOk result (Fits design.now.fabric design.now.netlist) }
     ensures legal { OnOk result (IsLegal design.now.fabric (packed_of design.now.netlist) design.now.fixed implementation) }
-    ensures made { IfOk result (λ outputs. IsAssembly design.now.fabric design.now.netlist implementation base.now (map plain_output outputs.items)) }
+    ensures made { IfOk result (λ outputs. All IsNamed design.now.fabric.types → All HasPrefixes design.now.fabric.types
+        → IsAssembly design.now.fabric design.now.netlist implementation base.now (map plain_output outputs.items)) }
     ensures names { IsUtf8 base.now → IfOk result (λ outputs. All (λ output. IsUtf8 output.name) outputs.items) }
     ensures refused { IfErr result (λ fault. (fault ≡ faults.Memory) ⊎ RefusesAssembly design.now implementation fault) }
 {

@@ -1,10 +1,14 @@
-use Rattle.std.proofs.Common.{◌≡◌, ◌⊎◌, List, sym, subst}
+use Rattle.std.proofs.Common.{◌≡◌, ◌⊎◌, List, All, sym, subst}
 use Rattle.std.proofs.lemmas.Result.{err_from_is_err_and}
 use Rattle.fab_base.specs.declared.fault.Fault.{Fault}
 use Rattle.fab_base.specs.declared.fault.Fault.TheVariants as faults
 use Rattle.fab_syntax.specs.Plain.{PlainModule}
 use Rattle.fab_text_loads.specs.Texts.{IsFabricText}
 use Rattle.fab_use.specs.Headline.{RunsDesign}
+use Rattle.fab_fabric.specs.Bits.{plain_bits}
+use Rattle.fab_gen_tile.specs.Words.{IsNamed}
+use Rattle.fab_features.specs.Features.{IsBitMapOf}
+use Rattle.fab_features.specs.Naming.{HasPrefixes}
 use Rattle.fab_legal.specs.Broken.{Explains}
 use Rattle.fab_designs.specs.Designs.{PlainDesign}
 use Rattle.fab_flow.specs.Assembling.{RefusesAssembly}
@@ -20,6 +24,11 @@ pub returns-in-Ok-clause-runs : goal.returns-in-Ok-clause-runs
 returns-in-Ok-clause-runs c =
     subst (λ (d : PlainDesign). (text : List PlainModule) → IsFabricText d.fabric text → RunsDesign d.fabric text d.netlist c.args.implementation c.in-Ok.assembled.words.items c.in-Ok.assembled.state)
     c.design.view_is c.in-Ok.ensures.runs
+
+pub returns-in-Ok-clause-map : goal.returns-in-Ok-clause-map
+returns-in-Ok-clause-map c =
+    subst (λ (d : PlainDesign). All IsNamed d.fabric.types → All HasPrefixes d.fabric.types → IsBitMapOf d.fabric c.in-Ok.assembled.features.items (plain_bits c.in-Ok.assembled.bits))
+    c.design.view_is c.in-Ok.ensures.map
 
 pub returns-clause-refused : goal.returns-clause-refused
 returns-clause-refused c =

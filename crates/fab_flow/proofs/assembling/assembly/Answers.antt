@@ -15,9 +15,9 @@ outputs_of-requires c =
     subst HasLetters (sym c.in_ok-assembled.ensures.state) letters
 
 pub returns-clause-made : goal.returns-clause-made
-returns-clause-made c =
+returns-clause-made c = λ named prefixed.
     let design = c.args.design.now in
     let made = c.in_ok-assembled.assembled in
     let of = c.in_ok-assembled.ensures in
     assembly_is design.fabric design.netlist c.args.implementation c.args.base.now _ made.features.items (plain_bits made.bits) made.words.items made.state
-    c.in_ok-outputs_of.ensures.are of.features of.configures of.words of.state of.runs
+    c.in_ok-outputs_of.ensures.are of.features of.configures (of.map named prefixed) of.words of.state of.runs
