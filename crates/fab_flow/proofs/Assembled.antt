@@ -74,11 +74,12 @@ pads_low port_of lines low (y ∷ ys) =
 abbrev registers_from : PlainImplementation → ℕ → List PlainCell → List Register
 registers_from implementation start cells = filter_map (λ at. register_of implementation at.0 at.1) (enumerate_from start cells)
 
-register_first : (implementation : PlainImplementation) → All (λ line. IsLow line.1) implementation.cells → (start : ℕ) (cell : PlainCell) (cells : List PlainCell) (latch : Option ℕ) → cell.latch ≡ latch
-    → All (λ (r : Register). IsLow r.0) (registers_from implementation (start + 1) cells) → All (λ (r : Register). IsLow r.0) (registers_from implementation start (cell ∷ cells))
+register_first : (implementation : PlainImplementation) → All (λ line. IsLow line.1) implementation.cells → (start : ℕ) (cell : PlainCell) (cells : List PlainCell)
+    (latch : Option ℕ) → cell.latch ≡ latch → All (λ (r : Register). IsLow r.0) (registers_from implementation (start + 1) cells) → All (λ (r : Register). IsLow r.0) (registers_from implementation start (cell ∷ cells))
 register_first implementation low start cell cells None is rest = rw is rest
 register_first implementation low start cell cells (Some init) is rest =
-    rw is (All-cons (λ (r : Register). IsLow r.0) (site_of nat_eq implementation.cells start, nat_eq init 1) (registers_from implementation (start + 1) cells) (site_low nat_eq implementation.cells start low) rest)
+    rw is (All-cons (λ (r : Register). IsLow r.0) (site_of nat_eq implementation.cells start, nat_eq init 1) (registers_from implementation (start + 1) cells)
+    (site_low nat_eq implementation.cells start low) rest)
 
 registers_low : (implementation : PlainImplementation) → All (λ line. IsLow line.1) implementation.cells → (start : ℕ) (cells : List PlainCell)
     → All (λ (r : Register). IsLow r.0) (registers_from implementation start cells)
@@ -89,7 +90,8 @@ lines_low : {X : Type 0} (fabric : PlainFabric) → IsFabric fabric → (lines :
 lines_low {X} fabric is lines has = All-weaker (λ (line : X × Site). IsSite fabric line.1) (λ (line : X × Site). IsLow line.1) (λ line site. few_bels fabric line.1 is site) lines has
 
 -- the state of an implementation on a fabric can be printed
-pub state_has_letters : (fabric : PlainFabric) (packed : PlainPacked) (implementation : PlainImplementation) → IsFabric fabric → IsOnFabric fabric implementation → HasLetters (design_state packed implementation)
+pub state_has_letters : (fabric : PlainFabric) (packed : PlainPacked) (implementation : PlainImplementation) → IsFabric fabric → IsOnFabric fabric implementation
+    → HasLetters (design_state packed implementation)
 state_has_letters fabric packed implementation is on = record {
   ins = pads_low (λ port. port) implementation.ins (lines_low fabric is implementation.ins on.ins) packed.inputs;
   outs = pads_low (λ output. output.0) implementation.outs (lines_low fabric is implementation.outs on.outs) packed.outputs;
@@ -139,7 +141,8 @@ packed_is netlist luts pads given is = elim (cases_Bool (nat_lt luts (length (wo
   ]
 ]
 
-pub packed_given : (netlist : PlainNetlist) (luts pads : ℕ) (result : Result PlainPacked Fault) → Gives (λ given. given) result (packing netlist luts pads) → IfOk result (λ given. given ≡ packed netlist)
+pub packed_given : (netlist : PlainNetlist) (luts pads : ℕ) (result : Result PlainPacked Fault) → Gives (λ given. given) result (packing netlist luts pads)
+    → IfOk result (λ given. given ≡ packed netlist)
 packed_given netlist luts pads (Ok given) is = packed_is netlist luts pads given is
 packed_given netlist luts pads (Err fault) is = tt
 
@@ -210,16 +213,20 @@ among : Reads assemble_refusals
 among = record { missing = refl; long = refl; malformed = refl; unsupported = refl; limit = refl }
 
 -- a file of the design is refused
-pub design_cause : (told : Option Map) (names : AssemblyFiles) (reads writes : Type 0) (fault : Fault) → HasReadCause told reads (λ files. MeetsDesign files names.design) fault → HasAssembleCause told names reads writes fault
+pub design_cause : (told : Option Map) (names : AssemblyFiles) (reads writes : Type 0) (fault : Fault)
+    → HasReadCause told reads (λ files. MeetsDesign files names.design) fault → HasAssembleCause told names reads writes fault
 design_cause told names reads writes fault cause =
-    cause_of_read told reads writes (λ files. MeetsAssembly files names) (λ files. IsReadyToAssemble files names) assemble_refusals among (λ files. MeetsDesign files names.design) (λ files event is x. at_first x) fault cause
+    cause_of_read told reads writes (λ files. MeetsAssembly files names) (λ files. IsReadyToAssemble files names) assemble_refusals among
+    (λ files. MeetsDesign files names.design) (λ files event is x. at_first x) fault cause
 
 -- the file of the implementation is
 pub implementation_cause : (told now : Option Map) (names : AssemblyFiles) (inside design : PlainDesign) (first reads writes : Type 0) (fault : Fault) → now ≡ told → inside ≡ design → (first → reads)
-    → ForSome told (λ files. SpellsDesign files names.design design) → HasReadCause now first (λ files. MeetsImplementation files names.implementation inside.fabric) fault → HasAssembleCause told names reads writes fault
+    → ForSome told (λ files. SpellsDesign files names.design design) → HasReadCause now first (λ files. MeetsImplementation files names.implementation inside.fabric) fault
+    → HasAssembleCause told names reads writes fault
 implementation_cause told now names inside design first reads writes fault same is higher spelled cause =
     let meets_all : Map → Event → Type 0 = λ files. MeetsAssembly files names in
     let own : HasReadCause now first (λ files. MeetsImplementation files names.implementation design.fabric) fault =
     subst (λ (d : PlainDesign). HasReadCause now first (λ files. MeetsImplementation files names.implementation d.fabric) fault) is cause in
     cause_of_read told reads writes meets_all (λ files. IsReadyToAssemble files names) assemble_refusals among meets_all (λ files event there x. x) fault
-    (cause_weaker now told first reads (λ files. MeetsImplementation files names.implementation design.fabric) meets_all fault same higher (λ files there event x. behind_it (spelled files there) (at_first x)) own)
+    (cause_weaker now told first reads (λ files. MeetsImplementation files names.implementation design.fabric) meets_all fault same higher
+    (λ files there event x. behind_it (spelled files there) (at_first x)) own)

@@ -25,7 +25,8 @@ refuses_is same = cc
 abbrev IsTaken : PlainDesign → PlainImplementation → Unit {0} → Type 0
 IsTaken design implementation _ = Fits design.fabric design.netlist × IsLegal design.fabric (packed design.netlist) design.fixed implementation
 
-refused_number : (design : PlainDesign) (implementation : PlainImplementation) (a b : Fault) → RefusesAssembly design implementation a → RefusesAssembly design implementation b → number_of a ≡ number_of b
+refused_number : (design : PlainDesign) (implementation : PlainImplementation) (a b : Fault)
+    → RefusesAssembly design implementation a → RefusesAssembly design implementation b → number_of a ≡ number_of b
 refused_number design implementation a b (short is) (short also) = ap number_of (let same = sym is ∙ also in cc)
 refused_number design implementation a b (short is) (illegal fits broken) = absurd (let differ = sym is ∙ fits in cc)
 refused_number design implementation a b (illegal fits broken) (short is) = absurd (let differ = sym is ∙ fits in cc)
@@ -61,12 +62,15 @@ module _ (files : Map) (names : AssemblyFiles) where
       let judged = implementation_is_judged files file design.fabric in
       record { once = judged.once; refused_once = λ a b x y. ap number_of (judged.refused_once a b x y); apart = judged.apart }
 
-  behind_is_judged : (design : PlainDesign) → SpellsDesign files names.design design → IsJudged SameNumber (IsAssembled files names.implementation design) (MeetsBehindDesign files names.implementation design)
+  behind_is_judged : (design : PlainDesign) → SpellsDesign files names.design design
+      → IsJudged SameNumber (IsAssembled files names.implementation design) (MeetsBehindDesign files names.implementation design)
   behind_is_judged design spelled =
-      turn_is_judged SameNumber (ReadsImplementation files names.implementation design.fabric) (MeetsImplementation files names.implementation design.fabric) (λ it. MeetsLast (RefusesAssembly design it))
+      turn_is_judged SameNumber (ReadsImplementation files names.implementation design.fabric) (MeetsImplementation files names.implementation design.fabric)
+      (λ it. MeetsLast (RefusesAssembly design it))
       (same_of_equal names.implementation design) (IsTaken design) (λ it read. assembling_is_judged design (netlist_made files names design spelled) it)
 
-  assembly_is_judged : IsJudged SameNumber (λ (value : PlainDesign × (PlainImplementation × Unit {0})). SpellsDesign files names.design value.0 × IsAssembled files names.implementation value.0 value.1) (MeetsAssembly files names)
+  assembly_is_judged : IsJudged SameNumber (λ (value : PlainDesign × (PlainImplementation × Unit {0})). SpellsDesign files names.design value.0
+      × IsAssembled files names.implementation value.0 value.1) (MeetsAssembly files names)
   assembly_is_judged =
       turn_is_judged SameNumber (SpellsDesign files names.design) (MeetsDesign files names.design) (MeetsBehindDesign files names.implementation)
       (design_is_judged files names.design) (IsAssembled files names.implementation) behind_is_judged

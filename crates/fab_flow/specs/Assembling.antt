@@ -31,7 +31,7 @@ use Rattle.fab_use.specs.Headline.{RunsDesign}
 use Rattle.fab_use.specs.Registers.{design_state}
 use Rattle.fab_features.specs.Design.{design_features}
 use Rattle.fab_features.specs.Features.{IsBitMapOf}
-use Rattle.fab_designs.specs.Designs.{DesignFiles, PlainDesign, SpellsDesign, MeetsDesign}
+use Rattle.fab_designs.specs.Designs.{DesignFiles, PlainDesign, design_files, SpellsDesign, MeetsDesign}
 use Rattle.fab_designs.specs.Implementations.{ReadsImplementation, MeetsImplementation}
 use Rattle.fab_flow.specs.Storing.{PlainOutput, output}
 use Rattle.fab_flow.specs.Ending.{HasCause}
@@ -42,8 +42,8 @@ pub record AssemblyFiles : Type 0 where
   pub implementation : List ℕ
   pub base : List ℕ
 
-abbrev pub assembly_files : (design : DesignFiles) → (implementation base : List ℕ) → AssemblyFiles
-assembly_files design implementation base = record { design = design; implementation = implementation; base = base }
+abbrev pub assembly_files : (fabric blif : List ℕ) → (pcf : Option (List ℕ)) → (implementation base : List ℕ) → AssemblyFiles
+assembly_files fabric blif pcf implementation base = record { design = design_files fabric blif pcf; implementation = implementation; base = base }
 
 -- ---- what is done
 

@@ -1,4 +1,5 @@
-//! The command `assemble`: a bitstream with its features and its state, from the files of a design and of its implementation.
+//! The command `assemble`: a bitstream with its features and its state, from the files of a design and of an
+//! implementation of it.
 
 ghost use Rattle.std.specs.Prelude.{◌≡◌, ◌<◌, ◌⊎◌, ◌++◌, [], ◌∷◌, Err, List, All, map, option_copied, IfOk, IfErr, OnOk};
 ghost use Rattle.std.specs.Str.{IsUtf8};
@@ -20,7 +21,6 @@ ghost use Rattle.fab_gen_tile.specs.Words.{IsNamed};
 ghost use Rattle.fab_features.specs.Design.{design_features};
 ghost use Rattle.fab_features.specs.Features.{IsBitMapOf};
 ghost use Rattle.fab_features.specs.Naming.{HasPrefixes};
-ghost use Rattle.fab_designs.specs.Designs.{design_files};
 ghost use Rattle.fab_flow.specs.Assembling.{Fits, HasAssembleCause, IsAssembly, MakesAssembly, RefusesAssembly, assembly_files, assembly_outputs, fault_of, packing_for};
 ghost use Rattle.fab_flow.specs.Storing.{IsDone, Leaves, output, plain_output};
 
@@ -132,12 +132,13 @@ fn assembly(
     Ok(outputs_of(alloc, &assembled, base)?)
 }
 
-/// Reads a design and an implementation of it, and stores what a device is given: the features in BASE.fasm, the bitstream in BASE.bit, and in
-/// BASE.state the ports at their pads with what the flip-flops hold at first.
+/// Reads a design and an implementation of it, and stores what a device is given: the features in BASE.fasm, the
+/// bitstream in BASE.bit, and in BASE.state the ports at their pads with what the flip-flops hold at first.
 ///
-/// The faults of the files come as `read_design` and `read_implementation` give them. Behind them come `Short`, where the fabric has fewer LUT4c
-/// than the packed netlist has cells, or fewer IO pads than it has data ports, and `Illegal`, with the first rule that the implementation breaks and
-/// what breaks it first. `WriteFault` names an output: those before it are stored. With any other fault but want of memory the files are as before.
+/// The faults of the files come as `read_design` and `read_implementation` give them. Behind them come `Short`, where the
+/// fabric has fewer LUT4c than the packed netlist has cells, or fewer IO pads than it has data ports, and `Illegal`, with
+/// the first rule that the implementation breaks and what breaks it first. `WriteFault` names an output; those before it
+/// are stored. With any other fault but want of memory the files are as before.
 pub fn do_assemble<D: Desk>(
     alloc: Global,
     desk: &mut D,
@@ -148,9 +149,9 @@ pub fn do_assemble<D: Desk>(
     base: &Name,
 ) -> Result<(), Fault>
     requires { IsUtf8 base.now }
-    ensures done { OnOk result (IsDone (λ files. MakesAssembly files (assembly_files (design_files fabric.now blif.now (option_copied pcf.entry)) implementation.now base.now)) (D.told desk.old) (D.told desk.new)) }
-    ensures leaves { IfErr result (Leaves (λ files. MakesAssembly files (assembly_files (design_files fabric.now blif.now (option_copied pcf.entry)) implementation.now base.now)) (D.told desk.old) (D.told desk.new)) }
-    ensures cause { IfErr result (HasAssembleCause (D.told desk.old) (assembly_files (design_files fabric.now blif.now (option_copied pcf.entry)) implementation.now base.now)
+    ensures done { OnOk result (IsDone (λ files. MakesAssembly files (assembly_files fabric.now blif.now (option_copied pcf.entry) implementation.now base.now)) (D.told desk.old) (D.told desk.new)) }
+    ensures leaves { IfErr result (Leaves (λ files. MakesAssembly files (assembly_files fabric.now blif.now (option_copied pcf.entry) implementation.now base.now)) (D.told desk.old) (D.told desk.new)) }
+    ensures cause { IfErr result (HasAssembleCause (D.told desk.old) (assembly_files fabric.now blif.now (option_copied pcf.entry) implementation.now base.now)
         (D.reads desk.old < D.reads desk.new) (D.writes desk.old < D.writes desk.new)) }
 {
     let design = read_design(alloc, desk, fabric, blif, pcf)?;

@@ -2,7 +2,6 @@ use Rattle.std.proofs.Common.{◌<◌, ◌∙◌, All, map, arith, sym, subst}
 use Rattle.std.specs.Option.{ForSome, option_copied}
 use Rattle.std.specs.Str.{IsUtf8}
 use Rattle.std.proofs.lemmas.Result.{IfErr-weaker, on_ok_weaker, err_from_is_err_and}
-use Rattle.fab_designs.specs.Designs.{design_files}
 use Rattle.fab_flow.specs.declared.storing.Output.{Output}
 use Rattle.fab_flow.specs.Storing.{plain_output}
 use Rattle.fab_flow.specs.Assembling.{AssemblyFiles, IsAssembly, IsReadyToAssemble, MakesAssembly, MeetsAssembly, assemble_refusals, assembly_files}
@@ -15,13 +14,13 @@ use Rattle.fab_flow.proofs.assembling.do_assemble.Goals as goal
 pub returns-in_err-design-clause-cause : goal.returns-in_err-design-clause-cause
 returns-in_err-design-clause-cause g c =
     let residual = err_from_is_err_and c.from_residual.result c.from_residual.ensures.1 in
-    let names : AssemblyFiles = assembly_files (design_files c.args.fabric.now c.args.blif.now (option_copied c.args.pcf)) c.args.implementation.now c.args.base.now in
+    let names : AssemblyFiles = assembly_files c.args.fabric.now c.args.blif.now (option_copied c.args.pcf) c.args.implementation.now c.args.base.now in
     rw (residual.1, residual.2) (design_cause (g.D.Desk.told c.args.desk.now) names _ _ c.in_err-design.field-0.0 c.in_err-design.ensures.cause)
 
 pub returns-in_err-read-clause-cause : goal.returns-in_err-read-clause-cause
 returns-in_err-read-clause-cause g c =
     let residual = err_from_is_err_and c.from_residual-in_err-read.result c.from_residual-in_err-read.ensures.1 in
-    let names : AssemblyFiles = assembly_files (design_files c.args.fabric.now c.args.blif.now (option_copied c.args.pcf)) c.args.implementation.now c.args.base.now in
+    let names : AssemblyFiles = assembly_files c.args.fabric.now c.args.blif.now (option_copied c.args.pcf) c.args.implementation.now c.args.base.now in
     let reads = g.D.Desk.reads in
     rw (residual.1, residual.2)
     (implementation_cause (g.D.Desk.told c.args.desk.now) (g.D.Desk.told c.read_design.new.desk) names _ c.in_ok-design.design
@@ -33,7 +32,7 @@ returns-in_err-read-clause-cause g c =
 pub returns-in_err-outputs-clause-leaves : goal.returns-in_err-outputs-clause-leaves
 returns-in_err-outputs-clause-leaves g c =
     let residual = err_from_is_err_and c.from_residual-in_err-outputs.result c.from_residual-in_err-outputs.ensures.1 in
-    let names : AssemblyFiles = assembly_files (design_files c.args.fabric.now c.args.blif.now (option_copied c.args.pcf)) c.args.implementation.now c.args.base.now in
+    let names : AssemblyFiles = assembly_files c.args.fabric.now c.args.blif.now (option_copied c.args.pcf) c.args.implementation.now c.args.base.now in
     rw (residual.1, residual.2)
     (assembly_leaves (λ files. MakesAssembly files names) (g.D.Desk.told c.args.desk.now) (g.D.Desk.told c.read_implementation.new.desk) c.in_ok-design.design c.in_ok-read.read c.in_err-outputs.field-0.0
     (c.in_ok-read.ensures.told ∙ c.in_ok-design.ensures.told) c.in_err-outputs.ensures.refused)
@@ -41,7 +40,7 @@ returns-in_err-outputs-clause-leaves g c =
 pub returns-in_err-outputs-clause-cause : goal.returns-in_err-outputs-clause-cause
 returns-in_err-outputs-clause-cause g c =
     let residual = err_from_is_err_and c.from_residual-in_err-outputs.result c.from_residual-in_err-outputs.ensures.1 in
-    let names : AssemblyFiles = assembly_files (design_files c.args.fabric.now c.args.blif.now (option_copied c.args.pcf)) c.args.implementation.now c.args.base.now in
+    let names : AssemblyFiles = assembly_files c.args.fabric.now c.args.blif.now (option_copied c.args.pcf) c.args.implementation.now c.args.base.now in
     let told = g.D.Desk.told c.args.desk.now in
     let implemented = read_behind told (g.D.Desk.told c.read_design.new.desk) c.args.implementation.now _ c.in_ok-design.design c.in_ok-read.read c.in_ok-design.ensures.told c.design.view_is c.in_ok-read.ensures.spelled in
     rw (residual.1, residual.2)
@@ -55,7 +54,7 @@ store_all-requires g c =
 
 pub returns-clause-done : goal.returns-clause-done
 returns-clause-done g c =
-    let names : AssemblyFiles = assembly_files (design_files c.args.fabric.now c.args.blif.now (option_copied c.args.pcf)) c.args.implementation.now c.args.base.now in
+    let names : AssemblyFiles = assembly_files c.args.fabric.now c.args.blif.now (option_copied c.args.pcf) c.args.implementation.now c.args.base.now in
     let told = g.D.Desk.told c.args.desk.now in
     let implemented = read_behind told (g.D.Desk.told c.read_design.new.desk) c.args.implementation.now _ c.in_ok-design.design c.in_ok-read.read c.in_ok-design.ensures.told c.design.view_is c.in_ok-read.ensures.spelled in
     let outputs = map plain_output c.deref.result.now in
@@ -69,7 +68,7 @@ returns-clause-done g c =
 
 pub returns-clause-leaves : goal.returns-clause-leaves
 returns-clause-leaves g c =
-    let names : AssemblyFiles = assembly_files (design_files c.args.fabric.now c.args.blif.now (option_copied c.args.pcf)) c.args.implementation.now c.args.base.now in
+    let names : AssemblyFiles = assembly_files c.args.fabric.now c.args.blif.now (option_copied c.args.pcf) c.args.implementation.now c.args.base.now in
     let told = g.D.Desk.told c.args.desk.now in
     let implemented = read_behind told (g.D.Desk.told c.read_design.new.desk) c.args.implementation.now _ c.in_ok-design.design c.in_ok-read.read c.in_ok-design.ensures.told c.design.view_is c.in_ok-read.ensures.spelled in
     let outputs = map plain_output c.deref.result.now in
@@ -83,7 +82,7 @@ returns-clause-leaves g c =
 
 pub returns-clause-cause : goal.returns-clause-cause
 returns-clause-cause g c =
-    let names : AssemblyFiles = assembly_files (design_files c.args.fabric.now c.args.blif.now (option_copied c.args.pcf)) c.args.implementation.now c.args.base.now in
+    let names : AssemblyFiles = assembly_files c.args.fabric.now c.args.blif.now (option_copied c.args.pcf) c.args.implementation.now c.args.base.now in
     let told = g.D.Desk.told c.args.desk.now in
     let implemented = read_behind told (g.D.Desk.told c.read_design.new.desk) c.args.implementation.now _ c.in_ok-design.design c.in_ok-read.read c.in_ok-design.ensures.told c.design.view_is c.in_ok-read.ensures.spelled in
     let of = c.in_ok-outputs.ensures in
