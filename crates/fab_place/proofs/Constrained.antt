@@ -15,11 +15,12 @@ use Rattle.fab_netlist.specs.Plain.{IsAt}
 use Rattle.fab_netlist.specs.Packed.{PlainPacked}
 use Rattle.fab_netlist.proofs.Members.{mapped_in, parts_true, both_true}
 use Rattle.fab_implementation.specs.Plain.{Pad}
+use Rattle.fab_legal.specs.Kept.{site_key}
 use Rattle.fab_legal.specs.Lines.{named}
 use Rattle.fab_legal.specs.WellMade.{output_name, ports}
 use Rattle.fab_legal.proofs.Lists.{same_at, cases_below}
 use Rattle.fab_legal.proofs.Members.{in_taken, stays_taken, last_taken}
-use Rattle.fab_place.specs.Constraints.{IsPadOf, AreConstrained, key_of, site_by, same_key, HasNumbers, HasConstraints, pad_in}
+use Rattle.fab_place.specs.Constraints.{IsPadOf, AreConstrained, site_by, same_key, HasNumbers, HasConstraints, pad_in}
 use Rattle.fab_place.proofs.Lines.{new_at}
 use Rattle.fab_place.proofs.Maps.{map_more, map_none}
 use Rattle.fab_place.proofs.Once.{once_pairs}
@@ -52,20 +53,20 @@ pub none_numbered : (pads : List Site) (entries : List ((ℕ × ℕ × ℕ) × �
 none_numbered pads entries is =
     map_none (λ (key : ℕ × ℕ × ℕ). key) same_key key_tells (λ key number. IsAt (take 0 pads) number (site_by key)) entries is (λ key number at. omega (arith, at.0))
 
-pub numbers_more : (pads : List Site) (k number : ℕ) (entries more : List ((ℕ × ℕ × ℕ) × ℕ)) (site : Site) → AllPairs (λ first second. first ≢ second) pads → IsAt pads k site → number ≡ k → more ≡ insert_entry same_key entries (key_of site) number
+pub numbers_more : (pads : List Site) (k number : ℕ) (entries more : List ((ℕ × ℕ × ℕ) × ℕ)) (site : Site) → AllPairs (λ first second. first ≢ second) pads → IsAt pads k site → number ≡ k → more ≡ insert_entry same_key entries (site_key site) number
     → AreNumbered (take k pads) entries → AreNumbered (take (k + 1) pads) more
 numbers_more pads k number entries more site apart at same is has =
     let short : k ≤ length pads = omega (arith, at.0) in
     let long : k + 1 ≤ length pads = omega (arith, at.0) in
     let R : ℕ × ℕ × ℕ → ℕ → Type 0 = λ key n. IsAt (take k pads) n (site_by key) in
     let S : ℕ × ℕ × ℕ → ℕ → Type 0 = λ key n. IsAt (take (k + 1) pads) n (site_by key) in
-    map_more (λ (key : ℕ × ℕ × ℕ). key) same_key key_tells R S entries more (key_of site) number is has
+    map_more (λ (key : ℕ × ℕ × ℕ). key) same_key key_tells R S entries more (site_key site) number is has
     (λ n there. new_at pads k site (once_pairs pads apart) at (n, there.0, there.1))
     (λ key n there.
     let found = at_taken pads (k + 1) n (site_by key) long there in
     elim (cases_below n k found.0) [
       | inl less ↦ inl (taken_at pads k n (site_by key) short less found.1)
-      | inr e ↦ inr (ap key_of (same_at pads k site (site_by key) at (subst (λ m. IsAt pads m (site_by key)) e found.1)), same ∙ sym e)
+      | inr e ↦ inr (ap site_key (same_at pads k site (site_by key) at (subst (λ m. IsAt pads m (site_by key)) e found.1)), same ∙ sym e)
     ])
     (λ key n there. let found = at_taken pads k n (site_by key) short there in taken_at pads (k + 1) n (site_by key) long (omega (arith, found.0)) found.1)
     (subst (λ n. IsAt (take (k + 1) pads) n site) (sym same) (taken_at pads (k + 1) k site long (omega arith) at))
@@ -110,11 +111,11 @@ all_found packed f none first all empty inputs outputs =
 module _ {S T : Type 0} (fixed : List Pad) (pads : List Site) (constraints : IndexMap (Vec ℕ Global) Site S) (numbers : IndexMap (ℕ × ℕ × ℕ) ℕ T) (kept : HasConstraints fixed constraints) (numbered : HasNumbers pads numbers) where
   pad_is : (port : List ℕ) (number : ℕ) → (pad_in constraints numbers port ≡ Some number) ↔ IsPadOf fixed pads port number
   pad_is port number =
-      let of_site : Site → Option ℕ = λ site. get_by (same_key (key_of site)) numbers in (
+      let of_site : Site → Option ℕ = λ site. get_by (same_key (site_key site)) numbers in (
         λ e.
             let found = then_gives of_site (get_by (λ key. bytes_eq port key.items) constraints) number e in
-            record { site = found.0; constrained = (kept port found.0).0 found.1; is_at = (numbered (key_of found.0) number).0 found.2 },
-        λ pad. ap (option_and_then of_site) ((kept port pad.site).1 pad.constrained) ∙ (numbered (key_of pad.site) number).1 pad.is_at,
+            record { site = found.0; constrained = (kept port found.0).0 found.1; is_at = (numbered (site_key found.0) number).0 found.2 },
+        λ pad. ap (option_and_then of_site) ((kept port pad.site).1 pad.constrained) ∙ (numbered (site_key pad.site) number).1 pad.is_at,
       )
 
   pub are_constrained : (names : List (List ℕ)) (found : List (Option ℕ)) → found ≡ map (pad_in constraints numbers) names → AreConstrained fixed pads names found

@@ -5,8 +5,10 @@ use Rattle.std.proofs.lemmas.Bool.{cases_Bool}
 use Rattle.std.proofs.lemmas.List.{get_or_default}
 use Rattle.std.proofs.lemmas.List.Elements.{Contains-append_cases}
 use Rattle.fab_model.specs.Tiles.{counted}
+use Rattle.fab_legal.proofs.Members.{from_mapped}
 use Rattle.fab_legal.proofs.SinkLaw.{in_flat}
-use Rattle.fab_ways.proofs.Lists.{from_counted}
+use Rattle.fab_netlist.proofs.Members.{first_in, later_in}
+use Rattle.fab_ways.proofs.Lists.{from_counted, from_filter}
 
 abbrev pub Once : {X : Type 0} → List X → Type 0
 Once [] = Unit {0}
@@ -38,37 +40,24 @@ pub once_pairs : {X : Type 0} (xs : List X) → AllPairs (λ first second. first
 once_pairs [] apart = tt
 once_pairs (x ∷ xs) apart = (λ h. apart 0 (suc h.0) x (omega arith) (omega (arith, h.1)) (sym h.2), once_pairs xs (λ i j d less low. apart (suc i) (suc j) d (omega (arith, less)) (omega (arith, low))))
 
--- ---- what is kept of a list
-
-behind : {X : Type 0} (xs ys : List X) (y x : X) → (Contains ys x → Contains xs x) → Contains (y ∷ ys) x → Contains (y ∷ xs) x
-behind xs ys y x into (zero, low, e) = (zero, omega arith, e)
-behind xs ys y x into (suc k, low, e) = let found = into (k, omega (arith, low), e) in (suc found.0, omega (arith, found.1), found.2)
-
-pub kept_in : {X : Type 0} (p : X → Bool) (xs : List X) (x : X) → Contains (filter p xs) x → Contains xs x
-kept_in p [] x h = h
-kept_in {X} p (y ∷ xs) x h = elim (cases_Bool (p y)) [
-  | inl t ↦ (let more = rw t at h in behind xs (filter p xs) y x (kept_in p xs x) more)
-  | inr f ↦ (let rest = rw f at h in let found = kept_in p xs x rest in (suc found.0, omega (arith, found.1), found.2))
-]
+-- ---- lists that are filtered, mapped or joined
 
 pub once_filter : {X : Type 0} (p : X → Bool) (xs : List X) → Once xs → Once (filter p xs)
 once_filter p [] once = tt
 once_filter {X} p (x ∷ xs) once =
     let rest = once_filter p xs once.1 in
     elim (cases_Bool (p x)) [
-      | inl t ↦ rw t (λ h. once.0 (kept_in p xs x h), rest)
+      | inl t ↦ rw t (λ h. once.0 (from_filter p xs x h).0, rest)
       | inr f ↦ rw f rest
     ]
 
 pub once_map : {X Y : Type 0} (f : X → Y) (xs : List X) → ((a b : X) → Contains xs a → Contains xs b → f a ≡ f b → a ≡ b) → Once xs → Once (map f xs)
 once_map f [] same once = tt
 once_map {X} {Y} f (x ∷ xs) same once =
-    let here : Contains (map f xs) (f x) → ⊥ = λ h. (let found = back xs (f x) h in once.0 (subst (λ (z : X). Contains xs z) (same found.0 x (suc found.1.0, omega (arith, found.1.1), found.1.2) (0, omega arith, refl) found.2) found.1)) in
-    (here, once_map f xs (λ a b m n e. same a b (suc m.0, omega (arith, m.1), m.2) (suc n.0, omega (arith, n.1), n.2) e) once.1) where
-      back : (zs : List X) (y : Y) → Contains (map f zs) y → (z : X) × Contains zs z × (f z ≡ y)
-      back [] y h = absurd (omega (arith, h.1))
-      back (z ∷ zs) y (zero, low, e) = (z, (0, omega arith, refl), e)
-      back (z ∷ zs) y (suc k, low, e) = let found = back zs y (k, omega (arith, low), e) in (found.0, (suc found.1.0, omega (arith, found.1.1), found.1.2), found.2)
+    let here : Contains (map f xs) (f x) → ⊥ = λ h. (
+    let found = from_mapped f xs (f x) h in
+    once.0 (subst (λ (z : X). Contains xs z) (same found.0 x (later_in x xs found.0 found.1) (first_in x xs x refl) found.2) found.1)) in
+    (here, once_map f xs (λ a b m n e. same a b (later_in x xs a m) (later_in x xs b n) e) once.1)
 
 -- pieces of which no two share an item
 pub once_pieces : {X Y : Type 0} (n : ℕ) (at : ℕ → X) (piece : X → List Y) → ((i : ℕ) → i < n → Once (piece (at i))) → ((i j : ℕ) (y : Y) → i < n → j < n → Contains (piece (at i)) y → Contains (piece (at j)) y → i ≡ j)

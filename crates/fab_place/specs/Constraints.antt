@@ -7,6 +7,7 @@ use Rattle.indexmap.specs.IndexMap.{IndexMap, get_by}
 use Rattle.fab_fabric.specs.declared.wire.Site.{Site}
 use Rattle.fab_netlist.specs.Plain.{IsAt}
 use Rattle.fab_implementation.specs.Plain.{Pad}
+use Rattle.fab_legal.specs.Kept.{site_key}
 
 -- ---- what constraints give
 
@@ -23,10 +24,7 @@ pub record AreConstrained (fixed : List Pad) (pads : List Site) (ports : List (L
 
 -- ---- maps
 
--- a site by its numbers, and the site of such numbers
-abbrev pub key_of : Site → ℕ × ℕ × ℕ
-key_of site = (site.x, site.y, site.bel)
-
+-- the site of these numbers
 abbrev pub site_by : ℕ × ℕ × ℕ → Site
 site_by key = record { x = key.0; y = key.1; bel = key.2 }
 
@@ -43,4 +41,4 @@ HasConstraints fixed constraints = (port : List ℕ) (site : Site) → (get_by (
 
 -- what two such maps give a port
 abbrev pub pad_in : {S T : Type 0} → IndexMap (Vec ℕ Global) Site S → IndexMap (ℕ × ℕ × ℕ) ℕ T → (port : List ℕ) → Option ℕ
-pad_in constraints numbers port = option_and_then (λ site. get_by (same_key (key_of site)) numbers) (get_by (λ key. bytes_eq port key.items) constraints)
+pad_in constraints numbers port = option_and_then (λ site. get_by (same_key (site_key site)) numbers) (get_by (λ key. bytes_eq port key.items) constraints)
