@@ -16,8 +16,8 @@ use fab_fabric::{Fabric, Site};
 use fab_implementation::Implementation;
 use fab_netlist::{Cell, NetId, Packed};
 
-/// The cost of a placement: the sum, over the nets of input ports and of cells, of width plus height of the least box around
-/// the tiles of source and sinks. It takes no memory.
+/// The cost of a placement: the sum, over the nets of input ports and of cells, of width plus height of the least box
+/// around the tiles of source and sinks. It takes no memory.
 ///
 /// Each line is looked for at the place that it has in the answers of `place`, and else from the first line on.
 pub fn cost(fabric: &Fabric, packed: &Packed, placed: &Implementation) -> u64

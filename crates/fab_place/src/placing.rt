@@ -20,9 +20,9 @@ use fab_kinds::Kind;
 use fab_netlist::Packed;
 use std::alloc::Global;
 
-/// Places a design. No exchange of what stands on two sites of one kind within distance 4 lowers the cost, which is not above
-/// that of the placement in order; constrained ports are on their pads. The same seed gives the same placement. The error is
-/// `Memory` where memory was refused.
+/// Places a design. No exchange of what stands on two sites of one kind within distance 4 lowers the cost, which is not
+/// above that of the placement in order; constrained ports are on their pads. The same seed gives the same placement.
+/// The error is `Memory` where memory was refused.
 pub fn place(
     alloc: Global,
     fabric: &Fabric,

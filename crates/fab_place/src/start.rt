@@ -6,8 +6,8 @@ ghost use Rattle.fab_place.specs.Starts.{is_number, is_taken, free_numbers, loos
 use fab_base::Memory;
 use std::alloc::Global;
 
-/// The sites of the items: cell k on site k, each constrained port on its pad, and each other port on the next pad that no
-/// constraint names. The sites of cells come first, and then the pads.
+/// The sites of the items: cell k on site k, each constrained port on its pad, and each other port on the next pad that
+/// no constraint names. The sites of cells come first, and then the pads.
 #[tactic(auto, using(crate::proofs::Orders::enough, crate::proofs::Orders::free_low))]
 pub fn start_of(
     alloc: Global,
