@@ -17,22 +17,22 @@ use Rattle.fab_blif.specs.Refusals.{IsFineDesign, RefusesClocks, RefusesDrivers,
 use Rattle.fab_blif.specs.Clocks.{clock_faults, first_fault}
 use Rattle.fab_blif.proofs.Drivers.{once_upto}
 
-none_is_not_some : {X : Type 0} (o : Option X) (x : X) → o ≡ None → o ≡ Some x → ⊥
+pub none_is_not_some : {X : Type 0} (o : Option X) (x : X) → o ≡ None → o ≡ Some x → ⊥
 none_is_not_some o x none some = cc
 
-line_excluded : (file : List ℕ) (bytes : List ℕ) (fault : Fault) → IsFine judge (joined_lines bytes) → IsFirstFault judge file (joined_lines bytes) fault → ⊥
+pub line_excluded : (file : List ℕ) (bytes : List ℕ) (fault : Fault) → IsFine judge (joined_lines bytes) → IsFirstFault judge file (joined_lines bytes) fault → ⊥
 line_excluded file bytes fault fine told =
     let first = told.first in
     none_is_not_some (judge first.before first.line) told.problem (fine first.before first.line first.after first.parts) first.refused
 
-names_excluded : (file : List ℕ) (last : ℕ) (models : List PlainModel) (fault : Fault) → 0 < length models → NamesDiffer models → fault ≢ faults.Memory → RefusesNames file last models fault → ⊥
+pub names_excluded : (file : List ℕ) (last : ℕ) (models : List PlainModel) (fault : Fault) → 0 < length models → NamesDiffer models → fault ≢ faults.Memory → RefusesNames file last models fault → ⊥
 names_excluded file last models fault some differ other refused =
     elim (refused other) [
       | inl none ↦ omega (arith, some, ap length none.0)
       | inr twice ↦ false≢true (sym (differ twice.0 twice.1.within) ∙ twice.1.again)
     ]
 
-models_excluded : (file : List ℕ) (last : ℕ) (models : List PlainModel) (fault : Fault) → AreFineModels models
+pub models_excluded : (file : List ℕ) (last : ℕ) (models : List PlainModel) (fault : Fault) → AreFineModels models
     → RefusesUnknown file models fault
     ⊎ RefusesRecursive file models fault
     ⊎ RefusesFormals file models fault
@@ -54,15 +54,17 @@ design_excluded file last design fault fine (inr (inl undriven)) = none_is_not_s
 design_excluded file last design fault fine (inr (inr (inl many))) = omega (arith, fine.small, many.2.0)
 design_excluded file last design fault fine (inr (inr (inr clocks))) = none_is_not_some (first_fault (clock_faults design)) clocks.3.0 (ap first_fault fine.clocks) clocks.3.1
 
-file_excluded : (file bytes : List ℕ) (fault : Fault) → IsBlif bytes → fault ≢ faults.Memory → RefusesFile file (last_line bytes) (models_in bytes) fault → ⊥
-file_excluded file bytes fault is other (inl names) = names_excluded file (last_line bytes) (models_in bytes) fault is.some is.named other names
-file_excluded file bytes fault is other (inr (inl models)) = models_excluded file (last_line bytes) (models_in bytes) fault is.models (models.2 other)
-file_excluded file bytes fault is other (inr (inr design)) = design_excluded file (last_line bytes) (design_in bytes) fault is.design (design.3 other)
+-- a file whose models are flattened, and nothing is wrong with their design
+pub flat_excluded : (file bytes : List ℕ) (fault : Fault) → 0 < length (models_in bytes) → NamesDiffer (models_in bytes) → AreFineModels (models_in bytes) → IsFineDesign (design_in bytes)
+    → fault ≢ faults.Memory → RefusesFile file (last_line bytes) (models_in bytes) fault → ⊥
+flat_excluded file bytes fault some differ models design other (inl refused) = names_excluded file (last_line bytes) (models_in bytes) fault some differ other refused
+flat_excluded file bytes fault some differ models design other (inr (inl refused)) = models_excluded file (last_line bytes) (models_in bytes) fault models (refused.2 other)
+flat_excluded file bytes fault some differ models design other (inr (inr refused)) = design_excluded file (last_line bytes) (design_in bytes) fault design (refused.3 other)
 
-pub not_refused : (file bytes : List ℕ) (fault : Fault) → IsBlif bytes → fault ≢ faults.Memory → RefusesBlif file bytes fault → ⊥
-not_refused file bytes fault is other (inl line) = line_excluded file bytes fault is.fine line
-not_refused file bytes fault is other (inr (inl models)) = file_excluded file bytes fault is other models.1
-not_refused file bytes fault is other (inr (inr cycle)) = let named = cycle.5 in is.acyclic (named.0 ∷ named.1) named.2.cycle
+pub not_refused : (file bytes : List ℕ) (fault : Fault) → IsBlif bytes → RefusesBlif file bytes fault → ⊥
+not_refused file bytes fault is (other, inl line) = line_excluded file bytes fault is.fine line
+not_refused file bytes fault is (other, inr (inl refused)) = flat_excluded file bytes fault is.some is.named is.models is.design other refused.1
+not_refused file bytes fault is (other, inr (inr cycle)) = let named = cycle.5 in is.acyclic (named.0 ∷ named.1) named.2.cycle
 
 -- so what is answered for such a file is no fault but want of memory
 only_memory : (fault : Fault) → (fault ≢ faults.Memory → ⊥) → fault ≡ faults.Memory
@@ -70,4 +72,4 @@ only_memory faults.Memory never = refl
 only_memory fault never = absurd (never (λ same. cc))
 
 pub reads_unless : (file bytes : List ℕ) (fault : Fault) → (fault ≢ faults.Memory → RefusesBlif file bytes fault) → IsBlif bytes → fault ≡ faults.Memory
-reads_unless file bytes fault refused is = only_memory fault (λ other. not_refused file bytes fault is other (refused other))
+reads_unless file bytes fault refused is = only_memory fault (λ other. not_refused file bytes fault is (refused other))

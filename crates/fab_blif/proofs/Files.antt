@@ -35,12 +35,13 @@ is_blif bytes models netlist read flat is acyclic =
     let own = flat_in bytes models read flat in
     record { fine = read.fine; some = own.some; named = own.named; models = own.fine; design = own.design; acyclic = subst HasNoCycle is acyclic }
 
-pub models_refused : (file bytes : List ℕ) (models : List PlainModel) (fault : Fault) → IsRead bytes models → RefusesFile file (last_line bytes) models fault → RefusesBlif file bytes fault
-models_refused file bytes models fault read refused = inr (inl (read.fine, subst (λ (l : List PlainModel). RefusesFile file (last_line bytes) l fault) read.spelled refused))
+pub models_refused : (file bytes : List ℕ) (models : List PlainModel) (fault : Fault) → IsRead bytes models
+    → RefusesFile file (last_line bytes) models fault → fault ≢ faults.Memory → RefusesBlif file bytes fault
+models_refused file bytes models fault read refused some = (some, inr (inl (read.fine, subst (λ (l : List PlainModel). RefusesFile file (last_line bytes) l fault) read.spelled refused)))
 
 pub cycle_refused : (file bytes : List ℕ) (models : List PlainModel) (netlist : PlainNetlist) (fault : Fault) → IsRead bytes models → IsFlat models
     → netlist ≡ netlist_in bytes → (fault ≡ faults.Memory) ⊎ NamesCycle file netlist fault → fault ≢ faults.Memory → RefusesBlif file bytes fault
 cycle_refused file bytes models netlist fault read flat is (inl memory) some = absurd (some memory)
 cycle_refused file bytes models netlist fault read flat is (inr cycle) some =
     let own = flat_in bytes models read flat in
-    inr (inr (read.fine, own.some, own.named, own.fine, own.design, subst (λ (n : PlainNetlist). NamesCycle file n fault) is cycle))
+    (some, inr (inr (read.fine, own.some, own.named, own.fine, own.design, subst (λ (n : PlainNetlist). NamesCycle file n fault) is cycle)))

@@ -15,3 +15,7 @@ pub mod Judging
 pub mod Drivers
 pub mod Files
 pub mod Excluded
+pub mod OneStatement
+pub mod Once
+pub mod Content
+pub mod Netlists

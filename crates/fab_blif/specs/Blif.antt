@@ -1,7 +1,8 @@
 -- BLIF files as netlists: when a file is one, and the first refusal of another.
-use Rattle.std.specs.Prelude.{◌⊎◌, ℕ, ◌<◌, List, length, max}
+use Rattle.std.specs.Prelude.{◌≡◌, ◌≢◌, ◌⊎◌, ℕ, ◌<◌, List, length, max}
 use Rattle.std.specs.Str.Lines.{lines}
 use Rattle.fab_base.specs.declared.fault.Fault.{Fault}
+use Rattle.fab_base.specs.declared.fault.Fault.TheVariants as faults
 use Rattle.fab_lines.specs.Joined.{joined_lines}
 use Rattle.fab_lines.specs.Order.{IsFine, IsFirstFault}
 use Rattle.fab_models.specs.Judge.{judge}
@@ -41,9 +42,21 @@ pub record IsBlif (bytes : List ℕ) : Type 0 where
   pub acyclic : HasNoCycle (netlist_in bytes)
 
 -- The first refusal of a file: that of its first refused line; where no line is refused, that of its models; and where
--- these are not refused, a cycle of covers.
+-- these are not refused, a cycle of covers. Want of memory is no refusal of a file.
 abbrev pub RefusesBlif : (file bytes : List ℕ) → Fault → Type 0
-RefusesBlif file bytes fault =
+RefusesBlif file bytes fault = (fault ≢ faults.Memory) × (
     IsFirstFault judge file (joined_lines bytes) fault
     ⊎ (IsFine judge (joined_lines bytes) × RefusesFile file (last_line bytes) (models_in bytes) fault)
-    ⊎ (IsFine judge (joined_lines bytes) × (0 < length (models_in bytes)) × NamesDiffer (models_in bytes) × AreFineModels (models_in bytes) × IsFineDesign (design_in bytes) × NamesCycle file (netlist_in bytes) fault)
+    ⊎ (IsFine judge (joined_lines bytes) × (0 < length (models_in bytes)) × NamesDiffer (models_in bytes) × AreFineModels (models_in bytes)
+    × IsFineDesign (design_in bytes) × NamesCycle file (netlist_in bytes) fault))
+
+-- Two faults tell one refusal of a file: they are equal, but where covers read one another round each may name any cycle.
+abbrev pub TellOneRefusal : (file bytes : List ℕ) → (first second : Fault) → Type 0
+TellOneRefusal file bytes first second = (first ≡ second) ⊎ (NamesCycle file (netlist_in bytes) first × NamesCycle file (netlist_in bytes) second)
+
+-- a fault that tells what is wrong in a file, at one of its lines
+abbrev pub IsContentFault : Fault → Type 0
+IsContentFault (faults.Malformed place reason) = Unit {0}
+IsContentFault (faults.Unsupported place construct) = Unit {0}
+IsContentFault (faults.Limit place quantity value bound) = Unit {0}
+IsContentFault _ = ⊥

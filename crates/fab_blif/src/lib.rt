@@ -13,5 +13,5 @@ mod reading;
 mod walk;
 
 pub use flattening::flatten;
-pub use laws::refused_blif_has_no_netlist;
+pub use laws::{blif_is_refused_once, refused_blif_has_no_netlist};
 pub use reading::read_blif;

@@ -30,7 +30,7 @@ pub fn read_blif(alloc: Global, file: &Name, bytes: &[u8]) -> Result<Netlist, Fa
     ensures small { IfOk result (λ netlist. length netlist.nets ≤ 16384) }
     ensures refused { IfErr result (λ fault. fault ≢ faults.Memory → RefusesBlif file.now bytes.now fault) }
     ensures reads { IsBlif bytes.now → IsOkUnless result faults.Memory }
-    ensures refuses { (fault : PlainFault) → fault ≢ faults.Memory → RefusesBlif file.now bytes.now fault → IsErr result }
+    ensures refuses { (fault : PlainFault) → RefusesBlif file.now bytes.now fault → IsErr result }
 {
     let models = read_models(alloc, file, bytes)?;
     let netlist = flatten(alloc, file, last_line(bytes), &models)?;

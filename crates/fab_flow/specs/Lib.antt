@@ -2,3 +2,4 @@ pub mod Storing
 pub mod Ending
 pub mod Generating
 pub mod Matrix
+pub mod Assembling

@@ -1,11 +1,14 @@
 //! The work of commands: what they read, make and store, and why they end otherwise.
 #![tactic(auto)]
 
+mod assembling;
+mod counting;
 mod generating;
 mod matrix;
 mod printing;
 mod storing;
 
+pub use assembling::do_assemble;
 pub use generating::do_generate;
 pub use matrix::do_matrix;
 pub use storing::Output;

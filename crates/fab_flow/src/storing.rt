@@ -1,6 +1,6 @@
 //! The outputs of commands.
 
-ghost use Rattle.std.specs.Prelude.{◌≡◌, ◌<◌, ◌≤◌, [], ◌∷◌, All, map, option_map, IfOk, IfErr, OnOk, OnErr};
+ghost use Rattle.std.specs.Prelude.{◌≡◌, ◌<◌, ◌≤◌, [], ◌∷◌, ◌++◌, All, map, option_map, IfOk, IfErr, OnOk, OnErr};
 ghost use Rattle.std.specs.Str.{IsUtf8};
 ghost use Rattle.fab_desk.specs.Files.{with_file};
 ghost use Rattle.fab_flow.specs.Storing.{output, plain_output, with_outputs, IsStoreFault, IsStopped};
@@ -65,6 +65,26 @@ pub(crate) fn store_all<D: Desk>(
     for output in outputs {
         store(alloc, desk, &output.name, &output.bytes)?;
     }
+    Ok(())
+}
+
+/// Adds an output, whose name is a beginning and an ending.
+pub(crate) fn put_output(
+    alloc: Global,
+    outputs: &mut Vec<Output>,
+    base: &Name,
+    ending: &[u8],
+    bytes: Vec<u8>,
+) -> Result<(), Memory>
+    ensures are { OnOk result (map plain_output outputs.new.items ≡ map plain_output outputs.old.items ++ output (base.now ++ ending.now) bytes.items ∷ []) }
+    ensures names { IsUtf8 base.now → IsUtf8 ending.now → All (λ output. IsUtf8 output.name) outputs.old.items → OnOk result (All (λ output. IsUtf8 output.name) outputs.new.items) }
+{
+    let mut name = Vec::from_slice(alloc, base.bytes())?;
+    name.extend_from_slice(ending)?;
+    outputs.push(Output {
+        name: Name::from(name),
+        bytes,
+    })?;
     Ok(())
 }
 

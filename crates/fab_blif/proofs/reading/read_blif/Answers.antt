@@ -14,12 +14,12 @@ use Rattle.fab_blif.proofs.reading.read_blif.Goals as goal
 pub returns-in_err-models-clause-refused : goal.returns-in_err-models-clause-refused
 returns-in_err-models-clause-refused c =
     let told = err_from_is_err_and c.from_residual.result c.from_residual.ensures.1 in
-    rw (told.1, told.2) (λ some. inl (c.in_err-models.ensures.first some))
+    rw (told.1, told.2) (λ some. (some, inl (c.in_err-models.ensures.first some)))
 
 pub returns-in_err-models-clause-reads : goal.returns-in_err-models-clause-reads
 returns-in_err-models-clause-reads c =
     let told = err_from_is_err_and c.from_residual.result c.from_residual.ensures.1 in
-    rw (told.1, told.2) (reads_unless c.args.file.now c.args.bytes.now c.in_err-models.field-0.0 (λ some. inl (c.in_err-models.ensures.first some)))
+    rw (told.1, told.2) (reads_unless c.args.file.now c.args.bytes.now c.in_err-models.field-0.0 (λ some. (some, inl (c.in_err-models.ensures.first some))))
 
 -- ---- the models are refused
 
@@ -28,7 +28,7 @@ returns-in_err-netlist-clause-refused c =
     let told = err_from_is_err_and c.from_residual-in_err-netlist.result c.from_residual-in_err-netlist.ensures.1 in
     let models = plain_models c.deref.result.now in
     let read : IsRead c.args.bytes.now models = record { fine = c.in_ok-models.ensures.fine; spelled = ap plain_models c.deref.ensures.value ∙ c.in_ok-models.ensures.spelled } in
-    rw (told.1, told.2) (λ some. models_refused c.args.file.now c.args.bytes.now models c.in_err-netlist.field-0.0 read (rw (sym c.last_line.ensures) c.in_err-netlist.ensures.refused))
+    rw (told.1, told.2) (models_refused c.args.file.now c.args.bytes.now models c.in_err-netlist.field-0.0 read (rw (sym c.last_line.ensures) c.in_err-netlist.ensures.refused))
 
 pub returns-in_err-netlist-clause-reads : goal.returns-in_err-netlist-clause-reads
 returns-in_err-netlist-clause-reads c =
@@ -36,7 +36,7 @@ returns-in_err-netlist-clause-reads c =
     let models = plain_models c.deref.result.now in
     let read : IsRead c.args.bytes.now models = record { fine = c.in_ok-models.ensures.fine; spelled = ap plain_models c.deref.ensures.value ∙ c.in_ok-models.ensures.spelled } in
     let refused : c.in_err-netlist.field-0.0 ≢ faults.Memory → RefusesBlif c.args.file.now c.args.bytes.now c.in_err-netlist.field-0.0 =
-    λ some. models_refused c.args.file.now c.args.bytes.now models c.in_err-netlist.field-0.0 read (rw (sym c.last_line.ensures) c.in_err-netlist.ensures.refused) in
+    models_refused c.args.file.now c.args.bytes.now models c.in_err-netlist.field-0.0 read (rw (sym c.last_line.ensures) c.in_err-netlist.ensures.refused) in
     rw (told.1, told.2) (reads_unless c.args.file.now c.args.bytes.now c.in_err-netlist.field-0.0 refused)
 
 -- ---- a cycle is refused
@@ -78,4 +78,4 @@ returns-clause-fine c =
     is_blif c.args.bytes.now models c.in_ok-netlist.netlist read flat (returns-clause-netlist c) c.in_ok-check_acyclic.ensures.acyclic
 
 pub returns-clause-refuses : goal.returns-clause-refuses
-returns-clause-refuses c = λ fault other refused. absurd (not_refused c.args.file.now c.args.bytes.now fault (returns-clause-fine c) other refused)
+returns-clause-refuses c = λ fault refused. absurd (not_refused c.args.file.now c.args.bytes.now fault (returns-clause-fine c) refused)

@@ -1,0 +1,4 @@
+pub mod Causes
+pub mod Parts
+pub mod Judged
+pub mod DataPorts

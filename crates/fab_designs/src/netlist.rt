@@ -1,0 +1,29 @@
+//! The netlist of a design, from its BLIF file.
+
+ghost use Rattle.std.specs.Prelude.{◌≡◌, ◌<◌, ◌≤◌, length, IfOk, IfErr};
+ghost use Rattle.std.specs.Option.{ForSome};
+ghost use Rattle.fab_files.specs.Files.{HasReadCause};
+ghost use Rattle.fab_files.specs.Stages.{ReadsFrom};
+ghost use Rattle.fab_netlist.specs.Cycles.{HasNoCycle};
+ghost use Rattle.fab_designs.specs.Designs.{SpellsNetlist, MeetsNetlist};
+
+use fab_base::{Fault, Name};
+use fab_blif::read_blif;
+use fab_desk::Desk;
+use fab_files::fetch;
+use fab_netlist::Netlist;
+use std::alloc::Global;
+
+/// The netlist that a BLIF file spells. Its faults come as `fetch` and `read_blif` give them.
+pub fn read_netlist<D: Desk>(alloc: Global, desk: &mut D, blif: &Name) -> Result<Netlist, Fault>
+    ensures told { D.told desk.new ≡ D.told desk.old }
+    ensures writes { D.writes desk.new ≡ D.writes desk.old }
+    ensures reads { D.reads desk.old ≤ D.reads desk.new }
+    ensures spelled { ForSome (D.told desk.old) (λ files. IfOk result (ReadsFrom files blif.now SpellsNetlist)) }
+    ensures acyclic { IfOk result HasNoCycle }
+    ensures small { IfOk result (λ netlist. length netlist.nets ≤ 16384) }
+    ensures cause { IfErr result (HasReadCause (D.told desk.old) (D.reads desk.old < D.reads desk.new) (λ files. MeetsNetlist files blif.now)) }
+{
+    let bytes = fetch(alloc, desk, blif)?;
+    read_blif(alloc, blif, &bytes)
+}

@@ -1,0 +1,28 @@
+use Rattle.std.proofs.Common.{◌≡◌, ◌⊎◌, List, sym, subst}
+use Rattle.std.proofs.lemmas.Result.{err_from_is_err_and}
+use Rattle.fab_base.specs.declared.fault.Fault.{Fault}
+use Rattle.fab_base.specs.declared.fault.Fault.TheVariants as faults
+use Rattle.fab_syntax.specs.Plain.{PlainModule}
+use Rattle.fab_text_loads.specs.Texts.{IsFabricText}
+use Rattle.fab_use.specs.Headline.{RunsDesign}
+use Rattle.fab_legal.specs.Broken.{Explains}
+use Rattle.fab_designs.specs.Designs.{PlainDesign}
+use Rattle.fab_flow.specs.Assembling.{RefusesAssembly}
+use Rattle.fab_flow.proofs.Assembled.{check_refused, short_refused}
+use Rattle.fab_flow.proofs.assembling.assembled.Goals as goal
+
+pub returns-in_err-packed-clause-refused : goal.returns-in_err-packed-clause-refused
+returns-in_err-packed-clause-refused c =
+    let residual = err_from_is_err_and c.from_residual.result c.from_residual.ensures.1 in
+    rw (residual.1, residual.2) (short_refused c.args.design.now c.args.implementation c.in_err-packed.field-0.0 c.in_err-packed.ensures.short)
+
+pub returns-in-Ok-clause-runs : goal.returns-in-Ok-clause-runs
+returns-in-Ok-clause-runs c =
+    subst (λ (d : PlainDesign). (text : List PlainModule) → IsFabricText d.fabric text → RunsDesign d.fabric text d.netlist c.args.implementation c.in-Ok.assembled.words.items c.in-Ok.assembled.state)
+    c.design.view_is c.in-Ok.ensures.runs
+
+pub returns-clause-refused : goal.returns-clause-refused
+returns-clause-refused c =
+    subst (λ (f : Fault). (f ≡ faults.Memory) ⊎ RefusesAssembly c.args.design.now c.args.implementation f) (sym c.fault_of.ensures)
+    (check_refused c.args.design.now c.args.implementation c.in_ok-packed.packed c.in-Err.fault c.in_ok-packed.ensures.packed c.in_ok-packed.ensures.fits
+    (subst (λ (d : PlainDesign). Explains d.fabric c.in_ok-packed.packed d.fixed c.args.implementation c.in-Err.fault) c.design.view_is c.in-Err.ensures.err))
