@@ -15,3 +15,4 @@ pub mod Words
 pub mod SaidNames
 pub mod DesignLines
 pub mod DesignMap
+pub mod Values
