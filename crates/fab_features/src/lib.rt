@@ -1,4 +1,5 @@
-//! The features and the configuration bits of a legal implementation, the bits that features set, and the features that bits spell.
+//! The features and the configuration bits of a legal implementation, the bits that features set, and the features
+//! that bits spell.
 #![tactic(auto)]
 
 mod choices;

@@ -277,8 +277,9 @@ fn push_columns(
     Ok(())
 }
 
-/// The features that configuration bits spell, in the order of `features_of`: of each BEL the fields that are not 0, `INIT` whole, and of
-/// each output of a switch matrix its input, unless it has its first or the bits pick none. Lines are numbered from 1.
+/// The features that configuration bits spell, in the order of `features_of`: of each BEL the fields that are not 0,
+/// `INIT` whole, and of each output of a switch matrix its input, unless it has its first or the bits pick none. Lines
+/// are numbered from 1.
 ///
 /// Want of memory is also the answer where a line number does not fit 32 bits.
 pub fn features_of_bits(alloc: Global, fabric: &Fabric, bits: &Bits) -> Result<Vec<Feature>, Memory>
