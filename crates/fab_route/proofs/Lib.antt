@@ -16,3 +16,6 @@ pub mod Joining
 pub mod Sharing
 pub mod Telling
 pub mod Stepped
+pub mod Testing
+pub mod Hopping
+pub mod Guiding

@@ -4,4 +4,5 @@ pub mod Over
 pub mod Wanted
 pub mod Owners
 pub mod Told
+pub mod Guided
 pub mod Answers

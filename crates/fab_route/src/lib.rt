@@ -1,9 +1,15 @@
 //! The router: nets of a placed design as trees of wires, found by negotiated rounds over the matrix inputs of the fabric.
 #![tactic(auto)]
 
+mod aims;
+mod bounds;
+mod classes;
 mod constants;
 mod driven;
+mod filled;
 mod goals;
+mod guide;
+mod hops;
 mod lines;
 mod nets;
 mod nodes;
@@ -15,8 +21,10 @@ mod shared;
 mod sinks;
 mod sources;
 mod targets;
+mod tested;
 mod trees;
 mod walks;
+mod window;
 
 pub use goals::goals_of;
 pub use nodes::Nodes;

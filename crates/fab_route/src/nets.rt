@@ -93,7 +93,7 @@ fn sinks_to(
     let mut sinks = Vec::with_capacity(alloc, wires.len())?;
     for wire in wires {
         let goals = goals_of(alloc, graph, nodes, *wire)?;
-        sinks.push(Sink { goals, aim: 0 })?;
+        sinks.push(Sink { goals, aim: wire.0 })?;
     }
     Ok(sinks)
 }

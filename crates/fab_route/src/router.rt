@@ -15,6 +15,8 @@ ghost use Rattle.fab_route.specs.Plain.{graph_of, numbering_of};
 ghost use Rattle.fab_route.specs.Told.{IsNodeRun};
 ghost use Rattle.fab_route.specs.Wanted.{wire_groups};
 
+use crate::bounds::Bounds;
+use crate::guide::Guide;
 use crate::lines::input_lines;
 use crate::nets::nets_of;
 use crate::nodes::Nodes;
@@ -76,10 +78,20 @@ pub fn route(
     let sinks = sinks_by_net(alloc, fabric, packed, placed)?;
     let nodes = Nodes::new(alloc, fabric)?;
     let nets = nets_of(alloc, fabric, &nodes, packed, placed, &sinks)?;
-    match run_rounds(alloc, &nodes, nodes.count(), &nets, rounds)? {
-        Err(cut) => Err(no_path(fabric, packed, placed, &nodes, &nets, &sinks, cut)),
+    let bounds = Bounds::new(alloc, fabric, &nodes, &nets, &sinks)?;
+    let guide = Guide { nodes, bounds };
+    match run_rounds(alloc, &guide, guide.nodes.count(), &nets, rounds)? {
+        Err(cut) => Err(no_path(fabric, packed, placed, &guide.nodes, &nets, &sinks, cut)),
         Ok(run) => tell(
-            alloc, fabric, packed, placed, &nodes, &nets, &sinks, &run, rounds,
+            alloc,
+            fabric,
+            packed,
+            placed,
+            &guide.nodes,
+            &nets,
+            &sinks,
+            &run,
+            rounds,
         ),
     }
 }

@@ -10,5 +10,5 @@ goals_of-requires-clause-unjoined c = (c.requires.wires c.loop-wire.wire-index (
 pub loop-wire-preserved : goal.loop-wire-preserved
 loop-wire-preserved c =
     let wire : Wire = get_or c.args.wires.now c.loop-wire.wire-index (record { 0 = 0 }) in
-    sink_more c.args.graph.now c.args.nodes.now c.args.wires.now c.loop-wire.wire-index wire c.in_ok-goals.goals.items c.loop-wire.sinks.items c.push.new.self.items (record { goals = c.in_ok-goals.goals; aim = 0 })
+    sink_more c.args.graph.now c.args.nodes.now c.args.wires.now c.loop-wire.wire-index wire c.in_ok-goals.goals.items c.loop-wire.sinks.items c.push.new.self.items (record { goals = c.in_ok-goals.goals; aim = wire.0 })
     (at_default c.args.wires.now c.loop-wire.wire-index (record { 0 = 0 }) c.loop-wire-test.true) refl c.in_ok-push.ensures.items c.in_ok-goals.ensures c.loop-wire.invariant

@@ -16,14 +16,14 @@ use Rattle.fab_route.proofs.router.route.Goals as goal
 
 pub run_rounds-requires-clause-nets : goal.run_rounds-requires-clause-nets
 run_rounds-requires-clause-nets c =
-    subst (λ (ns : List Net). All (IsInside (graph_of c.in_ok-nodes.nodes).nodes) ns) (sym c.deref.ensures.value) c.in_ok-nets.ensures.inside
+    subst (λ (ns : List Net). All (IsInside (graph_of c.in_ok-nodes.nodes).nodes) ns) (sym c.deref-2.ensures.value) c.in_ok-nets.ensures.inside
 
 pub returns-in-Err-clause-fault : goal.returns-in-Err-clause-fault
 returns-in-Err-clause-fault c = c.no_path.ensures c.args.rounds
 
 pub tell-requires-clause-run : goal.tell-requires-clause-run
 tell-requires-clause-run c =
-    subst (λ (ns : List Net). IsNodeRun (graph_of c.in_ok-nodes.nodes) (nets_of ns) c.args.rounds c.in-Ok.run') (c.deref.ensures.value ∙ sym c.deref-in-Ok.ensures.value) (record {
+    subst (λ (ns : List Net). IsNodeRun (graph_of c.in_ok-nodes.nodes) (nets_of ns) c.args.rounds c.in-Ok.run') (c.deref-2.ensures.value ∙ sym c.deref-in-Ok.ensures.value) (record {
       run = rw c.in-Ok.is at c.in_ok-cut.ensures.run;
       some_rounds = (rw c.in-Ok.is at c.in_ok-cut.ensures.begun) c.requires.some;
       few_rounds = rw c.in-Ok.is at c.in_ok-cut.ensures.limit;

@@ -1,0 +1,32 @@
+//! Nodes with bounds on what is left to pay.
+
+ghost use Rattle.std.specs.Prelude.{◌≡◌, ◌<◌, ℕ};
+ghost use Rattle.fab_route.specs.Plain.{graph_of};
+
+use crate::bounds::Bounds;
+use crate::nodes::Nodes;
+use fab_search::Field;
+use std::marker::Model;
+
+/// Nodes with bounds.
+#[derive(Drop)]
+pub struct Guide {
+    pub nodes: Nodes,
+    pub bounds: Bounds,
+}
+
+impl Field for Guide {
+    ghost use Rattle.fab_route.specs.Guided.{left_from};
+
+    ghost graph = { λ guide. graph_of guide.nodes };
+
+    ghost rest = { λ guide aim node. left_from guide.bounds aim node };
+
+    fn ends(&self, node: u32) -> &[u32] {
+        self.nodes.ends(node)
+    }
+
+    fn rest(&self, aim: u32, node: u32) -> u32 {
+        self.bounds.left(aim, node)
+    }
+}
