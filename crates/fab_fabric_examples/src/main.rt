@@ -28,6 +28,7 @@ fn main(rt: HostRuntime) -> Result<(), Stop> {
         ("texts.cases", Subject::Texts),
         ("list_pairs.cases", Subject::Lists),
         ("list_rows.cases", Subject::Lists),
+        ("list_bytes.cases", Subject::Lists),
         ("list_files.cases", Subject::Lists),
         ("fabric_good.cases", Subject::Fabrics),
         ("fabric_files.cases", Subject::Fabrics),

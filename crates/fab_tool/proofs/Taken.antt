@@ -13,7 +13,8 @@ behind_nothing : (more : Option PlainArguments) → behind no_arguments more ≡
 behind_nothing None = refl
 behind_nothing (Some more) = refl
 
-pub taken_from_nothing : (first after : PlainArguments) (more : Option PlainArguments) → first.positionals ≡ [] → first.settings ≡ [] → behind first more ≡ Some after → more ≡ Some after
+pub taken_from_nothing : (first after : PlainArguments) (more : Option PlainArguments) → first.positionals ≡ [] → first.settings ≡ []
+    → behind first more ≡ Some after → more ≡ Some after
 taken_from_nothing first after more words options is =
     let made : List (List ℕ) → List PlainSetting → PlainArguments = λ p s. record { positionals = p; settings = s } in
     let nothing : first ≡ no_arguments = ap (λ p. made p first.settings) words ∙ ap (made []) options in
@@ -73,7 +74,8 @@ setting_taken word name value first after positional option equals name_is value
     let read : arguments_of None (word ∷ more) ≡ option_map (with_setting (name_in word) (value_in word)) (arguments_of None more) = rw (positional, option, equals, not_empty) in
     ap (behind first) read
     ∙ setting_behind first (name_in word) (value_in word) (arguments_of None more)
-    ∙ ap (λ (a : PlainArguments). behind a (arguments_of None more)) (ap (λ (n : List ℕ). and_setting first n (value_in word)) (sym name_is) ∙ ap (and_setting first name) (sym value_is) ∙ sym after_is)
+    ∙ ap (λ (a : PlainArguments). behind a (arguments_of None more))
+    (ap (λ (n : List ℕ). and_setting first n (value_in word)) (sym name_is) ∙ ap (and_setting first name) (sym value_is) ∙ sym after_is)
 
 -- ---- the next word
 

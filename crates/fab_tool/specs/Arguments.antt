@@ -82,6 +82,11 @@ abbrev pub are_options : (names : List (List ℕ)) → List PlainSetting → Boo
 are_options names [] = true
 are_options names (setting ∷ settings) = list_any (bytes_eq setting.name) names && not (has_setting setting.name settings) && are_options names settings
 
+-- the value of an option, where it is given
+abbrev pub value_of : (name : List ℕ) → List PlainSetting → Option (List ℕ)
+value_of name [] = None
+value_of name (setting ∷ settings) = if bytes_eq setting.name name then Some setting.value else value_of name settings
+
 -- ---- words that are none
 
 -- Words are refused as faulty only where they are none of what is asked for; memory may be refused at any time.

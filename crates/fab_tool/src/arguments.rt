@@ -3,7 +3,7 @@
 ghost use Rattle.std.specs.Prelude.{◌≡◌, ◌⊎◌, ℕ, List, ◌∷◌, map, option_map, option_copied, string_bytes, if◌then◌else◌, false, Some, None, OnOk, IfOk, IfErr};
 ghost use Rattle.std.specs.List.{list_any, before_first, after_first};
 ghost use Rattle.std.specs.Str.{bytes_eq};
-ghost use Rattle.fab_tool.specs.Arguments.{is_equals, is_positional, is_option, option_text, setting, arguments_of, has_setting, are_options, IsUsage};
+ghost use Rattle.fab_tool.specs.Arguments.{is_equals, is_positional, is_option, option_text, setting, arguments_of, has_setting, are_options, value_of, IsUsage};
 ghost use Rattle.fab_tool.specs.Plain.{plain_setting, plain_arguments};
 ghost use Rattle.fab_tool.specs.Taking.{behind, and_setting, Takes, Ends};
 
@@ -172,4 +172,16 @@ pub fn are_options(names: &[&str], settings: &[Setting<'_>]) -> bool
         }
     }
     true
+}
+
+/// The value of an option, where it is given.
+pub fn value_of<'a>(name: &str, settings: &[Setting<'a>]) -> Option<&'a str>
+    ensures { option_copied result ≡ value_of name.now (map plain_setting settings.now) }
+{
+    for setting in settings {
+        if setting.name == name {
+            return Some(setting.value);
+        }
+    }
+    None
 }

@@ -9,7 +9,7 @@ use crate::job::Job;
 use crate::words::parse;
 use fab_base::{Fault, Memory, Status};
 use fab_desk::{Desk, Sink, SinkFault};
-use fab_flow::{do_generate, do_matrix};
+use fab_flow::{do_assemble, do_generate, do_matrix};
 use std::alloc::Global;
 
 /// Does what the words ask for.
@@ -21,6 +21,15 @@ fn perform<D: Desk>(alloc: Global, words: &[String], desk: &mut D) -> Result<(),
     match parse(alloc, words)? {
         Job::Matrix(list, out) => do_matrix(alloc, desk, &list, &out),
         Job::Generate(fabric, out) => do_generate(alloc, desk, &fabric, &out),
+        Job::Assemble(fabric, blif, pcf, implementation, base) => do_assemble(
+            alloc,
+            desk,
+            &fabric,
+            &blif,
+            pcf.as_ref(),
+            &implementation,
+            &base,
+        ),
     }
 }
 
@@ -42,9 +51,11 @@ fn report<S: Sink>(alloc: Global, fault: &Fault, out: &mut S) -> Status
 
 /// Runs the command that the words, without the program's name, spell.
 ///
-/// The status is 0, or the number of the fault, whose report is put to `out`: 1 for words that spell no command, 2 and 3
-/// for a list or a fabric file that is absent or longer than `MAX_FILE_BYTES`, or for a file that it names, 4 to 6 for the first row that is
-/// refused, 6 for a generated text that is too long, 11 and 12 for a device that fails, and 13 for want of memory, which may come at any time.
+/// The status is 0, or the number of the fault, whose report is put to `out`: 1 for words that spell no command, 2 and
+/// 3 for a file of the words, or one that such a file names, that is absent or longer than `MAX_FILE_BYTES`, 4 to 6 for
+/// the first row that is refused, 6 for a generated text that is too long, 7 for a design for which the fabric has too
+/// few sites, 10 for an implementation that breaks a rule, 11 and 12 for a device that fails, and 13 for want of memory,
+/// which may come at any time.
 pub fn run<D: Desk, S: Sink>(alloc: Global, words: &[String], desk: &mut D, out: &mut S) -> Status
     ensures { IsAnswered (record {
       job = job_of (map string_bytes words.now);

@@ -1,12 +1,13 @@
 //! The words of a command line: the forms of its commands.
 
-ghost use Rattle.std.specs.Prelude.{◌≡◌, ℕ, List, map, string_bytes, None, Some, IfOk, IfErr};
+ghost use Rattle.std.specs.Prelude.{◌≡◌, ℕ, List, map, option_copied, string_bytes, None, Some, IfOk, IfErr};
+ghost use Rattle.std.specs.Option.{ForSome};
 ghost use Rattle.std.specs.Str.{IsUtf8};
 ghost use Rattle.fab_tool.specs.Plain.{plain_arguments};
 ghost use Rattle.fab_tool.specs.Arguments.{IsUsage};
-ghost use Rattle.fab_tool.specs.Words.{matrix_job, generate_job, job_of_command, job_of, IsText};
+ghost use Rattle.fab_tool.specs.Words.{matrix_job, generate_job, assemble_job, job_of_command, job_of, IsText};
 
-use crate::arguments::{Arguments, are_options};
+use crate::arguments::{Arguments, are_options, value_of};
 use crate::job::Job;
 use fab_base::{Fault, Memory, Name};
 use fab_lines::is_name;
@@ -19,6 +20,17 @@ fn name_of(alloc: Global, word: &str) -> Result<Name, Memory>
     ensures text { IfOk result IsUtf8 }
 {
     Name::of(alloc, word.as_bytes())
+}
+
+/// The name that the value of an option is, where it is given.
+fn name_of_option(alloc: Global, value: Option<&str>) -> Result<Option<Name>, Memory>
+    ensures name { IfOk result (λ name. name ≡ option_copied value.entry) }
+    ensures text { IfOk result (λ name. ForSome name IsUtf8) }
+{
+    match value {
+        None => Ok(None),
+        Some(word) => Ok(Some(name_of(alloc, word)?)),
+    }
 }
 
 /// `matrix LIST OUT`, where the stem of LIST is a name.
@@ -52,6 +64,23 @@ fn generate(alloc: Global, words: &[&str]) -> Result<Job, Fault>
     Ok(Job::Generate(fabric, out))
 }
 
+/// `assemble FABRIC BLIF IMPL BASE`.
+fn assemble(alloc: Global, pcf: Option<&str>, words: &[&str]) -> Result<Job, Fault>
+    ensures job { IfOk result (λ job. assemble_job (option_copied pcf.entry) (map (λ word. word.now) words.now) ≡ Some job) }
+    ensures text { IfOk result IsText }
+    ensures usage { IfErr result (IsUsage (assemble_job (option_copied pcf.entry) (map (λ word. word.now) words.now) ≡ None)) }
+{
+    let [fabric, blif, implementation, base] = words else {
+        return Err(Fault::Usage);
+    };
+    let fabric = name_of(alloc, fabric)?;
+    let blif = name_of(alloc, blif)?;
+    let pcf = name_of_option(alloc, pcf)?;
+    let implementation = name_of(alloc, implementation)?;
+    let base = name_of(alloc, base)?;
+    Ok(Job::Assemble(fabric, blif, pcf, implementation, base))
+}
+
 /// The job of a command with what stands behind it.
 fn job_of_command(alloc: Global, command: &str, arguments: &Arguments<'_>) -> Result<Job, Fault>
     ensures job { IfOk result (λ job. job_of_command command.now (plain_arguments arguments.now) ≡ Some job) }
@@ -63,6 +92,13 @@ fn job_of_command(alloc: Global, command: &str, arguments: &Arguments<'_>) -> Re
     }
     if command == "generate" && are_options(&[], &arguments.settings) {
         return generate(alloc, &arguments.positionals);
+    }
+    if command == "assemble" && are_options(&["pcf"], &arguments.settings) {
+        return assemble(
+            alloc,
+            value_of("pcf", &arguments.settings),
+            &arguments.positionals,
+        );
     }
     Err(Fault::Usage)
 }

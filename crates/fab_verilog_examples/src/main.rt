@@ -10,6 +10,7 @@ mod fabrics;
 mod faults;
 mod judging;
 mod kinds;
+mod lists;
 mod loading;
 mod matrices;
 mod modules;
@@ -24,6 +25,7 @@ use fabrics::put_fabrics;
 use faults::put_faults;
 use judging::put_verdicts;
 use kinds::put_kinds;
+use lists::put_lists;
 use loading::put_loading;
 use matrices::put_matrices;
 use primitives::put_primitives;
@@ -41,6 +43,7 @@ fn main(rt: HostRuntime) -> Result<(), Stop> {
     put_kinds(alloc, &mut desk, &mut out)?;
     put_primitives(alloc, &mut out)?;
     put_matrices(alloc, &mut desk, &mut out)?;
+    put_lists(alloc, &mut desk, &mut out)?;
     put_verdicts(alloc, &mut desk, &mut out)?;
     put_equations(alloc, &mut desk, &mut out)
 }

@@ -1,7 +1,8 @@
-use Rattle.std.proofs.Common.{◌∙◌, ap, sym, subst, Option, Some}
+use Rattle.std.proofs.Common.{◌<◌, ◌∙◌, ℕ, List, ap, sym, subst, Option, Some}
 use Rattle.std.proofs.Common.{OnOk, IfErr}
 use Rattle.fab_tool.specs.declared.job.Job.{Job}
-use Rattle.fab_tool.specs.Running.{DoesJob, JobLeaves}
+use Rattle.fab_tool.specs.declared.job.Job.TheVariants.{Assemble}
+use Rattle.fab_tool.specs.Running.{DoesJob, JobLeaves, JobHasCause}
 use Rattle.fab_tool.proofs.running.perform.Goals as goal
 
 pub returns-in-Matrix-clause-done : goal.returns-in-Matrix-clause-done
@@ -23,3 +24,25 @@ pub returns-in-Generate-clause-leaves : goal.returns-in-Generate-clause-leaves
 returns-in-Generate-clause-leaves g c =
     subst (λ (job : Option Job). IfErr c.do_generate.result (JobLeaves job (g.D.Desk.told c.args.desk.now) (g.D.Desk.told c.do_generate.new.desk)))
     (sym (c.in_ok-list.ensures.job ∙ ap (λ (job : Job). Some job) c.in-Generate.is)) c.do_generate.ensures.leaves
+
+pub returns-in-Assemble-clause-done : goal.returns-in-Assemble-clause-done
+returns-in-Assemble-clause-done g c =
+    let P : Option Job → Type 0 = λ job. OnOk c.do_assemble.result (DoesJob job (g.D.Desk.told c.args.desk.now) (g.D.Desk.told c.do_assemble.new.desk)) in
+    subst P (sym (c.in_ok-list.ensures.job ∙ ap (λ (job : Job). Some job) c.in-Assemble.is))
+    (subst (λ (pcf : Option (List ℕ)). P (Some (Assemble c.in-Assemble.fabric c.in-Assemble.blif pcf c.in-Assemble.implementation c.in-Assemble.base))) c.as_ref.ensures.value
+    c.do_assemble.ensures.done)
+
+pub returns-in-Assemble-clause-leaves : goal.returns-in-Assemble-clause-leaves
+returns-in-Assemble-clause-leaves g c =
+    let P : Option Job → Type 0 = λ job. IfErr c.do_assemble.result (JobLeaves job (g.D.Desk.told c.args.desk.now) (g.D.Desk.told c.do_assemble.new.desk)) in
+    subst P (sym (c.in_ok-list.ensures.job ∙ ap (λ (job : Job). Some job) c.in-Assemble.is))
+    (subst (λ (pcf : Option (List ℕ)). P (Some (Assemble c.in-Assemble.fabric c.in-Assemble.blif pcf c.in-Assemble.implementation c.in-Assemble.base))) c.as_ref.ensures.value
+    c.do_assemble.ensures.leaves)
+
+pub returns-in-Assemble-clause-cause : goal.returns-in-Assemble-clause-cause
+returns-in-Assemble-clause-cause g c =
+    let P : Option Job → Type 0 = λ job.
+    IfErr c.do_assemble.result (JobHasCause job (g.D.Desk.told c.args.desk.now) (g.D.Desk.reads c.args.desk.now < g.D.Desk.reads c.do_assemble.new.desk) (g.D.Desk.writes c.args.desk.now < g.D.Desk.writes c.do_assemble.new.desk)) in
+    subst P (sym (c.in_ok-list.ensures.job ∙ ap (λ (job : Job). Some job) c.in-Assemble.is))
+    (subst (λ (pcf : Option (List ℕ)). P (Some (Assemble c.in-Assemble.fabric c.in-Assemble.blif pcf c.in-Assemble.implementation c.in-Assemble.base))) c.as_ref.ensures.value
+    c.do_assemble.ensures.cause)
