@@ -7,3 +7,5 @@ pub mod Generated
 pub mod Counted
 pub mod Assembled
 pub mod AssembledOnce
+pub mod Mapped
+pub mod MappedOnce

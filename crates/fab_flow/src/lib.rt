@@ -4,11 +4,13 @@
 mod assembling;
 mod counting;
 mod generating;
+mod mapping;
 mod matrix;
 mod printing;
 mod storing;
 
 pub use assembling::do_assemble;
 pub use generating::do_generate;
+pub use mapping::do_map;
 pub use matrix::do_matrix;
 pub use storing::Output;
