@@ -7,3 +7,7 @@ pub mod Generated
 pub mod Counted
 pub mod Assembled
 pub mod AssembledOnce
+pub mod Mapped
+pub mod MappedOnce
+pub mod Flowed
+pub mod FlowedOnce

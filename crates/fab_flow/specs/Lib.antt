@@ -3,3 +3,5 @@ pub mod Ending
 pub mod Generating
 pub mod Matrix
 pub mod Assembling
+pub mod Mapping
+pub mod Flowing

@@ -39,7 +39,7 @@ use fab_state::print_state;
 use std::alloc::Global;
 
 /// Packs the netlist of a design for its fabric.
-fn packed_design(alloc: Global, design: &Design) -> Result<Packed, Fault>
+pub(crate) fn packed_design(alloc: Global, design: &Design) -> Result<Packed, Fault>
     ensures packed { IfOk result (λ packed. packed ≡ packed_of design.now.netlist) }
     ensures fits { OnOk result (Fits design.now.fabric design.now.netlist) }
     ensures short { IfErr result (λ fault. (fault ≡ faults.Memory) ⊎ (packing_for design.now.fabric design.now.netlist ≡ Err fault)) }
@@ -110,7 +110,7 @@ fn outputs_of(alloc: Global, assembled: &Assembled, base: &Name) -> Result<Vec<O
 }
 
 /// What is stored of an implementation of a design, where it is legal and its fabric has sites enough.
-fn assembly(
+pub(crate) fn assembly(
     alloc: Global,
     design: &Design,
     implementation: Implementation,

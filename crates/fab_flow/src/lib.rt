@@ -3,12 +3,16 @@
 
 mod assembling;
 mod counting;
+mod flowing;
 mod generating;
+mod mapping;
 mod matrix;
 mod printing;
 mod storing;
 
 pub use assembling::do_assemble;
+pub use flowing::do_flow;
 pub use generating::do_generate;
+pub use mapping::do_map;
 pub use matrix::do_matrix;
 pub use storing::Output;
