@@ -11,3 +11,5 @@ pub mod BitsMade
 pub mod BitsOnce
 pub mod Mapped
 pub mod MappedOnce
+pub mod Flowed
+pub mod FlowedOnce

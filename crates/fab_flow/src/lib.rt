@@ -4,6 +4,7 @@
 mod assembling;
 mod bits;
 mod counting;
+mod flowing;
 mod generating;
 mod mapping;
 mod matrix;
@@ -12,6 +13,7 @@ mod storing;
 
 pub use assembling::do_assemble;
 pub use bits::do_bits;
+pub use flowing::do_flow;
 pub use generating::do_generate;
 pub use mapping::do_map;
 pub use matrix::do_matrix;
