@@ -1,8 +1,7 @@
 -- What the command `features` makes, and why a bitstream file is not taken.
-use Rattle.std.proofs.Common.{◌≡◌, ◌⊎◌, ◌≤◌, ◌<◌, ◌^◌, ◌/◌, ◌+◌, ◌*◌, ℕ, Bool, List, [], ◌∷◌, All, length, Option, Some, Result, Ok, Err, IfOk, refl, sym, ap, ◌∙◌, inl, inr, subst, arith}
+use Rattle.std.proofs.Common.{◌≡◌, ◌⊎◌, ◌≤◌, ◌/◌, ◌+◌, ◌*◌, ℕ, Bool, List, [], ◌∷◌, length, Option, Some, Result, Ok, Err, IfOk, refl, sym, ap, ◌∙◌, inl, inr, subst, arith}
 use Rattle.std.specs.List.{flat_map}
 use Rattle.std.specs.Option.{ForSome}
-use Rattle.fab_base.specs.Reading.{fault_at}
 use Rattle.fab_base.specs.declared.TheConstants.{MAX_FILE_BYTES}
 use Rattle.fab_base.specs.declared.fault.Fault.{Fault}
 use Rattle.fab_base.specs.declared.fault.Fault.TheVariants as faults

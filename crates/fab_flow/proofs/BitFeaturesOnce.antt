@@ -1,6 +1,5 @@
 -- The command `features` has one first refusal, or is ready.
-use Rattle.std.proofs.Common.{◌≡◌, ◌<◌, ◌^◌, ◌%◌, ◌*◌, ◌+◌, ℕ, Bool, List, All, length, Option, Some, None, inl, inr, refl, sym, ap, ◌∙◌, subst, arith}
-use Rattle.std.specs.List.{flat_map}
+use Rattle.std.proofs.Common.{◌≡◌, ◌<◌, ◌%◌, ◌*◌, ◌+◌, ℕ, Bool, List, length, Option, Some, inl, inr, refl, sym, ap, ◌∙◌, subst, arith}
 use Rattle.std.proofs.lemmas.Bool.{cases_lt}
 use Rattle.fab_base.specs.Reading.{fault_at}
 use Rattle.fab_base.specs.declared.fault.Fault.{Fault}
@@ -12,13 +11,12 @@ use Rattle.fab_files.specs.Stages.{IsJudged, AreJudged}
 use Rattle.fab_files.proofs.Stages.{file_is_judged, turn_is_judged}
 use Rattle.fab_model.specs.Grid.{PlainFabric}
 use Rattle.fab_fabric.specs.Bits.{plain_bits}
-use Rattle.fab_frames.specs.Bytes.{word_bytes}
 use Rattle.fab_frames.specs.Refusals.{IsRefusal}
-use Rattle.fab_frames.specs.Stream.{IsFirstWrong, problem_at, stream}
+use Rattle.fab_frames.specs.Stream.{problem_at, stream}
 use Rattle.fab_frames.proofs.ByteWords.{length_bytes, bytes_tell_words, all_fit}
 use Rattle.fab_frames.proofs.Streams.{stream_fine}
 use Rattle.fab_read.specs.Fabrics.{SpellsFabric, MeetsFabric}
-use Rattle.fab_flow.specs.BitFeatures.{AreBytesOf, FeaturesFiles, IsReadyForFeatures, MeetsBitFeatures, MeetsBitstream, ReadsBits, RefusesBitstream, SpellsBits, cut, wrong}
+use Rattle.fab_flow.specs.BitFeatures.{AreBytesOf, FeaturesFiles, IsReadyForFeatures, MeetsBitFeatures, MeetsBitstream, RefusesBitstream, SpellsBits, cut, wrong}
 use Rattle.fab_flow.proofs.Once.{fabric_is_judged}
 use Rattle.fab_files.specs.Stages.{ReadsFrom}
 
