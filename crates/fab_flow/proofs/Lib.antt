@@ -13,3 +13,5 @@ pub mod Mapped
 pub mod MappedOnce
 pub mod Flowed
 pub mod FlowedOnce
+pub mod BitFeaturesMade
+pub mod BitFeaturesOnce

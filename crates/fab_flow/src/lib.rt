@@ -2,6 +2,7 @@
 #![tactic(auto)]
 
 mod assembling;
+mod bit_features;
 mod bits;
 mod counting;
 mod flowing;
@@ -12,6 +13,7 @@ mod printing;
 mod storing;
 
 pub use assembling::do_assemble;
+pub use bit_features::do_features;
 pub use bits::do_bits;
 pub use flowing::do_flow;
 pub use generating::do_generate;
