@@ -7,3 +7,5 @@ pub mod Generated
 pub mod Counted
 pub mod Assembled
 pub mod AssembledOnce
+pub mod BitsMade
+pub mod BitsOnce

@@ -3,3 +3,4 @@ pub mod Ending
 pub mod Generating
 pub mod Matrix
 pub mod Assembling
+pub mod Bits

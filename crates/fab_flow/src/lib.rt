@@ -2,6 +2,7 @@
 #![tactic(auto)]
 
 mod assembling;
+mod bits;
 mod counting;
 mod generating;
 mod matrix;
@@ -9,6 +10,7 @@ mod printing;
 mod storing;
 
 pub use assembling::do_assemble;
+pub use bits::do_bits;
 pub use generating::do_generate;
 pub use matrix::do_matrix;
 pub use storing::Output;
