@@ -1,5 +1,5 @@
 -- The configuration bits of a design are the bit map of its features.
-use Rattle.std.proofs.Common.{◌≡◌, ◌⊎◌, ℕ, ◌+◌, ◌-◌, ◌<◌, ◌≤◌, Bool, true, false, ◌&&◌, cond, List, [], ◌∷◌, length, codes, Contains, Option, Some, None, is_some, nat_eq, slice_get, sym, refl, ap, ◌∙◌, subst, inl, inr, arith, All, eq-eqb, eqb-true, lt-ltb, le-ltb}
+use Rattle.std.proofs.Common.{◌≡◌, ◌⊎◌, ℕ, ◌+◌, ◌-◌, ◌<◌, ◌≤◌, true, false, ◌&&◌, List, length, codes, Contains, Option, Some, None, is_some, nat_eq, slice_get, sym, refl, ap, ◌∙◌, subst, inl, inr, arith, All, eq-eqb, eqb-true, lt-ltb, le-ltb}
 use Rattle.std.specs.List.{list_any, find, flat_map, filter_map}
 use Rattle.std.specs.Option.{option_map, option_and_then}
 use Rattle.std.proofs.lemmas.Bool.{cases_lt}
@@ -23,7 +23,7 @@ use Rattle.fab_fabric.proofs.Pairs.{passes_named}
 use Rattle.fab_netlist.specs.Plain.{IsAt}
 use Rattle.fab_netlist.specs.WellMade.{table_bit}
 use Rattle.fab_netlist.specs.Packed.{PlainCell, PlainPacked}
-use Rattle.fab_netlist.proofs.Members.{in_none, first_or_later, first_in, later_in, in_left, in_right, parts_true, both_true}
+use Rattle.fab_netlist.proofs.Members.{in_none, first_in, in_left, in_right, parts_true}
 use Rattle.fab_implementation.specs.Plain.{Pad, Edge, PlainTree, PlainImplementation}
 use Rattle.fab_legal.specs.Legal.{IsLegal}
 use Rattle.fab_legal.specs.Steps.{IsStep}
@@ -54,58 +54,9 @@ use Rattle.fab_features.proofs.Configured.{one_line, step_of, line_kind}
 use Rattle.fab_features.proofs.Saids.{one_field, one_choice, no_both}
 use Rattle.fab_features.proofs.SaidNames.{field_said, pair_said}
 use Rattle.fab_features.proofs.Tables.{few_bels}
+use Rattle.fab_features.proofs.CellLines.{site_same, same_itself, line_of_cell, IsCellFeature, table_feature, latch_feature, of_cell, latch_listed}
 use Rattle.fab_features.proofs.Words.{of_all}
 use Rattle.fab_features.proofs.DesignLines.{get_item, item_at, found_in, only_found, into_found, from_found, relined, from_numbered, into_numbered, tile_placed, placed_there, pair_of_input, output_ordered, ordered_pair, plain_output}
-
--- ---- sites
-
-site_same : (a b : Site) → same_site a b ≡ true → a ≡ b
-site_same a b e =
-    let first = parts_true (nat_eq a.x b.x && nat_eq a.y b.y) (nat_eq a.bel b.bel) e in
-    let places = parts_true (nat_eq a.x b.x) (nat_eq a.y b.y) first.0 in
-    let x_is = eqb-true a.x b.x places.0 in
-    let y_is = eqb-true a.y b.y places.1 in
-    let bel_is = eqb-true a.bel b.bel first.1 in
-    λ j. record { x = x_is j; y = y_is j; bel = bel_is j }
-
-same_itself : (site : Site) → same_site site site ≡ true
-same_itself site = both_true (nat_eq site.x site.x && nat_eq site.y site.y) (nat_eq site.bel site.bel) (both_true (nat_eq site.x site.x) (nat_eq site.y site.y) (eq-eqb site.x site.x refl) (eq-eqb site.y site.y refl)) (eq-eqb site.bel site.bel refl)
-
--- the line and the cell that are found for a site
-line_of_cell : (packed : PlainPacked) (found : Option (ℕ × Site)) (cell : PlainCell) → option_and_then (λ (line : ℕ × Site). slice_get packed.cells line.0) found ≡ Some cell →
-    (line : ℕ × Site) × (found ≡ Some line) × (slice_get packed.cells line.0 ≡ Some cell)
-line_of_cell packed None cell e = absurd (never cell e)
-  where
-    never : (c : PlainCell) → None ≡ Some c → ⊥
-    never c e = cc
-line_of_cell packed (Some line) cell e = (line, refl, e)
-
--- ---- lines
-
--- the fields that the lines of a cell are of
-pub data IsCellFeature (cell : PlainCell) (site : Site) : Feature → Type 0 where
-  table_feature : IsCellFeature cell site (feature_of (field_name site (codes "INIT")) 15 0 cell.table)
-  latch_feature : is_some cell.latch ≡ true → IsCellFeature cell site (feature_of (field_name site (codes "FF")) 0 0 1)
-
-of_latch : (site : Site) (cell : PlainCell) (g : Feature) (latch : Bool) → is_some cell.latch ≡ latch → Contains (cond latch (feature_of (field_name site (codes "FF")) 0 0 1 ∷ []) []) g → IsCellFeature cell site g
-of_latch site cell g true is there =
-    elim (first_or_later (feature_of (field_name site (codes "FF")) 0 0 1) [] g there) [
-      | inl same ↦ subst (IsCellFeature cell site) same (latch_feature is)
-      | inr none ↦ absurd (in_none g none)
-    ]
-of_latch site cell g false is there = absurd (in_none g there)
-
-of_cell : (site : Site) (cell : PlainCell) (g : Feature) → Contains (cell_features site (Some cell)) g → IsCellFeature cell site g
-of_cell site cell g here =
-    elim (first_or_later (feature_of (field_name site (codes "INIT")) 15 0 cell.table) (cond (is_some cell.latch) (feature_of (field_name site (codes "FF")) 0 0 1 ∷ []) []) g here) [
-      | inl same ↦ subst (IsCellFeature cell site) same table_feature
-      | inr later ↦ of_latch site cell g (is_some cell.latch) refl later
-    ]
-
-latch_listed : (site : Site) (cell : PlainCell) → is_some cell.latch ≡ true → Contains (cell_features site (Some cell)) (feature_of (field_name site (codes "FF")) 0 0 1)
-latch_listed site cell latch =
-    let ff = feature_of (field_name site (codes "FF")) 0 0 1 in
-    later_in (feature_of (field_name site (codes "INIT")) 15 0 cell.table) (cond (is_some cell.latch) (ff ∷ []) []) ff (rw latch (first_in ff [] ff refl))
 
 module _ (fabric : PlainFabric) (packed : PlainPacked) (fixed : List Pad) (i : PlainImplementation) (legal : IsLegal fabric packed fixed i) (is_fabric : IsFabric fabric) (tiles : AreTiles fabric) where
   -- a feature of a tile is one of the design

@@ -14,4 +14,6 @@ pub mod BitMaps
 pub mod Words
 pub mod SaidNames
 pub mod DesignLines
+pub mod CellLines
 pub mod DesignMap
+pub mod Values

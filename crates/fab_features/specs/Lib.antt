@@ -8,3 +8,4 @@ pub mod Listing
 pub mod Lookups
 pub mod Lines
 pub mod Naming
+pub mod Spelled

@@ -193,8 +193,8 @@ fn set_trees(fabric: &Fabric, bits: &mut Bits, matrices: &[Matrix], trees: &[Tre
 /// The configuration bits of a legal implementation: those of its cells, and for each output that an edge enters the select bits of
 /// the edge's input. All others are 0.
 ///
-/// They are the bit map of the features of the implementation, if the names on the fabric are free and only MUX8LUTs lack a prefix, as
-/// on each fabric that files spell.
+/// They are the bit map of the features of the implementation, if the names on the fabric are free and only MUX8LUTs
+/// lack a prefix, as on each fabric that files spell.
 pub fn design_bits(
     alloc: Global,
     fabric: &Fabric,

@@ -178,8 +178,8 @@ pub fn matrix_name(alloc: Global, tile: &TileType, number: u32) -> Result<Name, 
     }
 }
 
-// The name of a field of a BEL, as `X1Y2.A.INIT`.
-fn field_name(alloc: Global, site: Site, field: &[u8]) -> Result<Name, Memory>
+/// The name of a field of a BEL, as `X1Y2.A.INIT`.
+pub fn field_name(alloc: Global, site: Site, field: &[u8]) -> Result<Name, Memory>
     requires { site.bel < 26 }
     ensures { IfOk result (λ name. name ≡ field_name site field.now) }
 {
@@ -189,8 +189,8 @@ fn field_name(alloc: Global, site: Site, field: &[u8]) -> Result<Name, Memory>
     Ok(Name::from(text))
 }
 
-// The name of a pair of the switch matrix, as `X1Y2.E1END0.LA_I0`.
-fn pair_name(
+/// The name of a pair of the switch matrix, as `X1Y2.E1END0.LA_I0`.
+pub fn pair_name(
     alloc: Global,
     x: u32,
     y: u32,
@@ -210,8 +210,13 @@ fn pair_name(
 
 // ---- lines
 
-// Adds a line; want of memory is also the answer where its number does not fit 32 bits.
-fn push_line(features: &mut Vec<Feature>, name: Name, high: u32, value: u128) -> Result<(), Memory>
+/// Adds a line; want of memory is also the answer where its number does not fit 32 bits.
+pub fn push_line(
+    features: &mut Vec<Feature>,
+    name: Name,
+    high: u32,
+    value: u128,
+) -> Result<(), Memory>
     ensures { OnOk result (Pushes features.old.items features.new.items (feature_of name high 0 value ∷ [])) }
 {
     let line = u32::try_from(features.len() + 1).map_err(|_| Memory)?;

@@ -6,8 +6,8 @@ ghost use Rattle.fab_legal.specs.Turns.{AreRight};
 ghost use Rattle.fab_fasm.specs.declared.feature.Feature.{Feature};
 ghost use Rattle.fab_features.specs.Wrong.{BreaksFirst, IsRightFeature};
 
-/// Where a line is wrong, not all lines are right. So `bits_of_features` gives bits exactly where no line is wrong, unless memory
-/// is refused.
+/// Where a line is wrong, not all lines are right. So `bits_of_features` gives bits exactly where no line is wrong,
+/// unless memory is refused.
 pub fn wrong_features_are_not_right()
     ensures { (fabric : PlainFabric) (features : List Feature) (rule : ℕ) (item : List ℕ) → BreaksFirst fabric features rule item → AreRight (IsRightFeature fabric) features → ⊥ }
 {}

@@ -1,4 +1,5 @@
-//! The features of a legal implementation, the configuration bits that features set, and the configuration bits of a legal implementation.
+//! The features and the configuration bits of a legal implementation, the bits that features set, and the features
+//! that bits spell.
 #![tactic(auto)]
 
 mod choices;
@@ -10,8 +11,10 @@ mod matrices;
 mod ones;
 mod reading;
 mod said;
+mod spelled;
 
 pub use design::design_bits;
 pub use features::features_of;
 pub use laws::wrong_features_are_not_right;
 pub use reading::bits_of_features;
+pub use spelled::features_of_bits;

@@ -174,12 +174,12 @@ fn no_inputs(alloc: Global, fabric: &Fabric) -> Result<Vec<Option<u32>>, Memory>
     Ok(table)
 }
 
-/// The configuration bits that features set, read line by line. A bit of a BEL is 1 where a feature has a 1 for it. The select bits of
-/// an output are the place of the input that is chosen for it, from 0, or 0 where none is. All others are 0.
+/// The configuration bits that features set, read line by line. A bit of a BEL is 1 where a feature has a 1 for it. The
+/// select bits of an output are the place of the input that is chosen for it, from 0, or 0 where none is.
 ///
-/// Rule 10 is broken by the first feature that the fabric lacks, or whose address has a bit more than the feature has; the item is its
-/// name. Rule 11 is broken by the first that chooses another input for an output than one before it; the item is the output, as
-/// `X1Y2.LA_I0`. A pair whose value is 0 chooses nothing, but the fabric must have it.
+/// The first line that breaks a rule is refused. Rule 10: the fabric lacks the feature, or the address has a bit more
+/// than the feature has; the item is its name. Rule 11: a line before it chooses another input for the same output; the
+/// item is the output, as `X1Y2.LA_I0`. A pair whose value is 0 chooses nothing, but the fabric must have it.
 pub fn bits_of_features(
     alloc: Global,
     fabric: &Fabric,

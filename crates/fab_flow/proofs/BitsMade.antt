@@ -1,7 +1,6 @@
 -- What the command `bits` makes, and why a list of features is not taken.
 use Rattle.std.proofs.Common.{◌≡◌, ◌≢◌, ◌⊎◌, ℕ, List, [], ◌∷◌, Option, Some, refl, sym, ◌∙◌, inl, inr, subst}
 use Rattle.std.specs.Option.{ForSome}
-use Rattle.std.specs.Str.Lines.{lines}
 use Rattle.fab_base.specs.declared.fault.Fault.{Fault}
 use Rattle.fab_base.specs.declared.fault.Fault.TheVariants as faults
 use Rattle.fab_desk.specs.Files.{Map}

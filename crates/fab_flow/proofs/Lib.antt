@@ -9,3 +9,5 @@ pub mod Assembled
 pub mod AssembledOnce
 pub mod BitsMade
 pub mod BitsOnce
+pub mod BitFeaturesMade
+pub mod BitFeaturesOnce

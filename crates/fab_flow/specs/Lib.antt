@@ -4,3 +4,4 @@ pub mod Generating
 pub mod Matrix
 pub mod Assembling
 pub mod Bits
+pub mod BitFeatures

@@ -2,6 +2,7 @@
 #![tactic(auto)]
 
 mod assembling;
+mod bit_features;
 mod bits;
 mod counting;
 mod generating;
@@ -10,6 +11,7 @@ mod printing;
 mod storing;
 
 pub use assembling::do_assemble;
+pub use bit_features::do_features;
 pub use bits::do_bits;
 pub use generating::do_generate;
 pub use matrix::do_matrix;

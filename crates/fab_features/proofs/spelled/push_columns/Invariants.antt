@@ -1,0 +1,11 @@
+use Rattle.std.specs.List.{flat_map}
+use Rattle.fab_model.specs.Tiles.{counted}
+use Rattle.fab_fabric.specs.Bits.{plain_bits}
+use Rattle.fab_fabric_text.specs.Places.{column_tiles}
+use Rattle.fab_features.specs.Listing.{Pushes}
+use Rattle.fab_features.specs.Spelled.{place_spells}
+use Rattle.fab_features.proofs.spelled.push_columns.Given as goal
+
+-- the lines of the columns so far
+abbrev pub invariant-loop-x : goal.invariant-loop-x
+invariant-loop-x l = Pushes l.fn.features.items l.features.items (flat_map (place_spells (plain_bits l.bits)) (flat_map (column_tiles l.fabric) (counted l.x (λ x. x))))
