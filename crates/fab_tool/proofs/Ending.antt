@@ -11,13 +11,15 @@ use Rattle.fab_files.specs.Files.{refuses}
 use Rattle.fab_flow.specs.Storing.{IsDone, Leaves}
 use Rattle.fab_flow.specs.Ending.{IsRefused, HasCause}
 use Rattle.fab_flow.specs.Assembling.{assembly_files, assemble_refusals}
+use Rattle.fab_flow.specs.Bits.{bits_files, bits_refusals}
 use Rattle.fab_flow.specs.Generating.{generate_refusals}
 use Rattle.fab_flow.specs.Matrix.{matrix_refusals}
 use Rattle.fab_flow.proofs.AssembledOnce as assembling
+use Rattle.fab_flow.proofs.BitsOnce as bits
 use Rattle.fab_flow.proofs.Once as generating
 use Rattle.fab_list_files.proofs.Once.{one_refusal, not_both}
 use Rattle.fab_tool.specs.declared.job.Job.{Job}
-use Rattle.fab_tool.specs.declared.job.Job.TheVariants.{Matrix, Generate, Assemble}
+use Rattle.fab_tool.specs.declared.job.Job.TheVariants.{Matrix, Generate, Assemble, Bits}
 use Rattle.fab_tool.specs.Running.{Makes, Meets, IsReady, refusals, Call, DoesJob, RefusesJob, IsJobReady, JobHasCause, JobLeaves, IsReported, IsOrMemory, answers, IsAnswered}
 
 -- ---- each command has one first refusal, or is ready
@@ -26,11 +28,13 @@ refused_once : (job : Job) (files : Map) (a b : Fault) → Meets job files (refu
 refused_once (Matrix list out) files a b x y = ap number_of (one_refusal files list a b x y)
 refused_once (Generate fabric out) files a b x y = ap number_of (generating.one_refusal files fabric a b x y)
 refused_once (Assemble fabric blif pcf implementation base) files a b x y = assembling.one_number files (assembly_files fabric blif pcf implementation base) a b x y
+refused_once (Bits fabric fasm out) files a b x y = ap number_of (bits.one_refusal files (bits_files fabric fasm out) a b x y)
 
 not_refused : (job : Job) (files : Map) (fault : Fault) → IsReady job files → Meets job files (refuses fault) → ⊥
 not_refused (Matrix list out) files fault ready x = not_both files list ready.0 fault ready.1 x
 not_refused (Generate fabric out) files fault ready x = generating.not_both files fabric fault ready x
 not_refused (Assemble fabric blif pcf implementation base) files fault ready x = assembling.not_both files (assembly_files fabric blif pcf implementation base) fault ready x
+not_refused (Bits fabric fasm out) files fault ready x = bits.not_both files (bits_files fabric fasm out) fault ready x
 
 -- what is done was ready
 done_ready : (job : Job) (files : Map) (told after : Option Map) → told ≡ Some files → IsDone (Makes job) told after → IsReady job files
@@ -39,6 +43,8 @@ done_ready (Generate fabric out) files told after is done = let made = (done.mad
 done_ready (Assemble fabric blif pcf implementation base) files told after is done =
     let made = done.made files is in
     record { design = made.design; implementation = made.implementation; spelled = made.spelled; implemented = made.implemented; fits = made.fits; legal = made.legal }
+done_ready (Bits fabric fasm out) files told after is done =
+    let made = done.made files is in record { fabric = made.fabric; features = made.features; spelled = made.spelled; read = made.read; right = made.right }
 
 -- ---- the fault behind an end
 
@@ -75,6 +81,8 @@ other_number (Generate fabric out) n is =
     (no_such generate_refusals n 0 refl is, no_such generate_refusals n 1 refl is, no_such generate_refusals n 11 refl is, no_such generate_refusals n 12 refl is, no_such generate_refusals n 13 refl is)
 other_number (Assemble fabric blif pcf implementation base) n is =
     (no_such assemble_refusals n 0 refl is, no_such assemble_refusals n 1 refl is, no_such assemble_refusals n 11 refl is, no_such assemble_refusals n 12 refl is, no_such assemble_refusals n 13 refl is)
+other_number (Bits fabric fasm out) n is =
+    (no_such bits_refusals n 0 refl is, no_such bits_refusals n 1 refl is, no_such bits_refusals n 11 refl is, no_such bits_refusals n 12 refl is, no_such bits_refusals n 13 refl is)
 
 -- a number stands behind another one too
 any_behind : (n m : ℕ) (numbers : List ℕ) → list_any (nat_eq n) numbers ≡ true → list_any (nat_eq n) (m ∷ numbers) ≡ true

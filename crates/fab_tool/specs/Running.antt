@@ -11,11 +11,12 @@ use Rattle.fab_files.specs.Files.{Event, refuses}
 use Rattle.fab_flow.specs.Storing.{PlainOutput, IsDone, Leaves}
 use Rattle.fab_flow.specs.Ending.{HasCause}
 use Rattle.fab_flow.specs.Assembling.{assembly_files, MakesAssembly, MeetsAssembly, IsReadyToAssemble, assemble_refusals}
+use Rattle.fab_flow.specs.Bits.{bits_files, MakesBits, MeetsBits, IsReadyForBits, bits_refusals}
 use Rattle.fab_flow.specs.Generating.{MakesFabric, MeetsGenerate, IsReadyToGenerate, generate_refusals}
 use Rattle.fab_flow.specs.Matrix.{MakesMatrix, IsReadyForMatrix, matrix_refusals}
 use Rattle.fab_list_files.specs.Sides.{MeetsPairs}
 use Rattle.fab_tool.specs.declared.job.Job.{Job}
-use Rattle.fab_tool.specs.declared.job.Job.TheVariants.{Matrix, Generate, Assemble}
+use Rattle.fab_tool.specs.declared.job.Job.TheVariants.{Matrix, Generate, Assemble, Bits}
 
 -- ---- the commands
 
@@ -24,24 +25,28 @@ abbrev pub Makes : Job → (files : Map) → List PlainOutput → Type 0
 Makes (Matrix list out) files outputs = MakesMatrix files list out outputs
 Makes (Generate fabric out) files outputs = MakesFabric files fabric out outputs
 Makes (Assemble fabric blif pcf implementation base) files outputs = MakesAssembly files (assembly_files fabric blif pcf implementation base) outputs
+Makes (Bits fabric fasm out) files outputs = MakesBits files (bits_files fabric fasm out) outputs
 
 -- what it comes upon before anything is refused: files that it asks for, and its first refusal
 abbrev pub Meets : Job → (files : Map) → Event → Type 0
 Meets (Matrix list out) files event = MeetsPairs files list event
 Meets (Generate fabric out) files event = MeetsGenerate files fabric event
 Meets (Assemble fabric blif pcf implementation base) files event = MeetsAssembly files (assembly_files fabric blif pcf implementation base) event
+Meets (Bits fabric fasm out) files event = MeetsBits files (bits_files fabric fasm out) event
 
 -- nothing is refused
 abbrev pub IsReady : Job → (files : Map) → Type 0
 IsReady (Matrix list out) files = IsReadyForMatrix files list
 IsReady (Generate fabric out) files = IsReadyToGenerate files fabric
 IsReady (Assemble fabric blif pcf implementation base) files = IsReadyToAssemble files (assembly_files fabric blif pcf implementation base)
+IsReady (Bits fabric fasm out) files = IsReadyForBits files (bits_files fabric fasm out)
 
 -- the numbers of the faults for which it refuses
 abbrev pub refusals : Job → List ℕ
 refusals (Matrix list out) = matrix_refusals
 refusals (Generate fabric out) = generate_refusals
 refusals (Assemble fabric blif pcf implementation base) = assemble_refusals
+refusals (Bits fabric fasm out) = bits_refusals
 
 -- ---- one call of the program
 

@@ -6,7 +6,7 @@ use Rattle.fab_lines.specs.Names.{is_name}
 use Rattle.fab_paths.specs.Paths.{stem}
 use Rattle.fab_tool.specs.Arguments.{PlainArguments, arguments_of, are_options, value_of}
 use Rattle.fab_tool.specs.declared.job.Job.{Job}
-use Rattle.fab_tool.specs.declared.job.Job.TheVariants.{Matrix, Generate, Assemble}
+use Rattle.fab_tool.specs.declared.job.Job.TheVariants.{Matrix, Generate, Assemble, Bits}
 
 -- ---- the positional words of each command
 
@@ -25,6 +25,11 @@ abbrev pub assemble_job : (pcf : Option (List ℕ)) → List (List ℕ) → Opti
 assemble_job pcf (fabric ∷ blif ∷ implementation ∷ base ∷ []) = Some (Assemble fabric blif pcf implementation base)
 assemble_job pcf words = None
 
+-- `bits FABRIC FASM OUT`
+abbrev pub bits_job : List (List ℕ) → Option Job
+bits_job (fabric ∷ fasm ∷ out ∷ []) = Some (Bits fabric fasm out)
+bits_job words = None
+
 -- ---- the forms
 
 -- each command with its options; a line that is none of these is no form
@@ -33,6 +38,7 @@ job_of_command command arguments =
     if bytes_eq command (codes "matrix") && are_options [] arguments.settings then matrix_job arguments.positionals else
     if bytes_eq command (codes "generate") && are_options [] arguments.settings then generate_job arguments.positionals else
     if bytes_eq command (codes "assemble") && are_options (codes "pcf" ∷ []) arguments.settings then assemble_job (value_of (codes "pcf") arguments.settings) arguments.positionals else
+    if bytes_eq command (codes "bits") && are_options [] arguments.settings then bits_job arguments.positionals else
     None
 
 -- The job that words spell, the first of which is the command; words that spell none are no form.
@@ -45,3 +51,4 @@ abbrev pub IsText : Job → Type 0
 IsText (Matrix list out) = IsUtf8 list × IsUtf8 out
 IsText (Generate fabric out) = IsUtf8 fabric × IsUtf8 out
 IsText (Assemble fabric blif pcf implementation base) = IsUtf8 fabric × IsUtf8 blif × ForSome pcf IsUtf8 × IsUtf8 implementation × IsUtf8 base
+IsText (Bits fabric fasm out) = IsUtf8 fabric × IsUtf8 fasm × IsUtf8 out

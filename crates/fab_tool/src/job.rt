@@ -12,4 +12,6 @@ pub enum Job {
     /// `assemble FABRIC BLIF IMPL BASE` with `--pcf FILE`: fabric, netlist, constraints and implementation, and what
     /// the names of the outputs begin with.
     Assemble(Name, Name, Option<Name>, Name, Name),
+    /// `bits FABRIC FASM OUT`: the bitstream of a list of features.
+    Bits(Name, Name, Name),
 }

@@ -9,7 +9,7 @@ use crate::job::Job;
 use crate::words::parse;
 use fab_base::{Fault, Memory, Status};
 use fab_desk::{Desk, Sink, SinkFault};
-use fab_flow::{do_assemble, do_generate, do_matrix};
+use fab_flow::{do_assemble, do_bits, do_generate, do_matrix};
 use std::alloc::Global;
 
 /// Does what the words ask for.
@@ -30,6 +30,7 @@ fn perform<D: Desk>(alloc: Global, words: &[String], desk: &mut D) -> Result<(),
             &implementation,
             &base,
         ),
+        Job::Bits(fabric, fasm, out) => do_bits(alloc, desk, &fabric, &fasm, &out),
     }
 }
 

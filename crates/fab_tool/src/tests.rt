@@ -84,6 +84,7 @@ fn ends_with_its_status_and_report(rt: HostRuntime) -> Result<(), Fail> {
             2,
             "missing p=q\n",
         ),
+        ("bits x.csv f x.v", 0, 0, 2, "missing f\n"),
         ("matrix x.list x.v", 1, 0, 11, "read fault x.list\n"),
         ("matrix x.list x.v", 2, 0, 12, "write fault x.v\n"),
         ("", 0, 1, 1, ""),
@@ -137,6 +138,8 @@ fn refuses_other_words(rt: HostRuntime) -> Result<(), Fail> {
         "assemble x.csv x.blif i x.v --pc p",
         "assemble x.csv x.blif i x.v -pcf p",
         "assemble x.csv x.blif i x.v --seed 1",
+        "bits x.csv f",
+        "bits x.csv f x.v --pcf p",
     ];
     for line in lines {
         let case = Case {

@@ -5,7 +5,7 @@ ghost use Rattle.std.specs.Option.{ForSome};
 ghost use Rattle.std.specs.Str.{IsUtf8};
 ghost use Rattle.fab_tool.specs.Plain.{plain_arguments};
 ghost use Rattle.fab_tool.specs.Arguments.{IsUsage};
-ghost use Rattle.fab_tool.specs.Words.{matrix_job, generate_job, assemble_job, job_of_command, job_of, IsText};
+ghost use Rattle.fab_tool.specs.Words.{matrix_job, generate_job, assemble_job, bits_job, job_of_command, job_of, IsText};
 
 use crate::arguments::{Arguments, are_options, value_of};
 use crate::job::Job;
@@ -81,6 +81,21 @@ fn assemble(alloc: Global, pcf: Option<&str>, words: &[&str]) -> Result<Job, Fau
     Ok(Job::Assemble(fabric, blif, pcf, implementation, base))
 }
 
+/// `bits FABRIC FASM OUT`.
+fn bits(alloc: Global, words: &[&str]) -> Result<Job, Fault>
+    ensures job { IfOk result (λ job. bits_job (map (λ word. word.now) words.now) ≡ Some job) }
+    ensures text { IfOk result IsText }
+    ensures usage { IfErr result (IsUsage (bits_job (map (λ word. word.now) words.now) ≡ None)) }
+{
+    let [fabric, fasm, out] = words else {
+        return Err(Fault::Usage);
+    };
+    let fabric = name_of(alloc, fabric)?;
+    let fasm = name_of(alloc, fasm)?;
+    let out = name_of(alloc, out)?;
+    Ok(Job::Bits(fabric, fasm, out))
+}
+
 /// The job of a command with what stands behind it.
 fn job_of_command(alloc: Global, command: &str, arguments: &Arguments<'_>) -> Result<Job, Fault>
     ensures job { IfOk result (λ job. job_of_command command.now (plain_arguments arguments.now) ≡ Some job) }
@@ -99,6 +114,9 @@ fn job_of_command(alloc: Global, command: &str, arguments: &Arguments<'_>) -> Re
             value_of("pcf", &arguments.settings),
             &arguments.positionals,
         );
+    }
+    if command == "bits" && are_options(&[], &arguments.settings) {
+        return bits(alloc, &arguments.positionals);
     }
     Err(Fault::Usage)
 }

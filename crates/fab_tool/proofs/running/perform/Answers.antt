@@ -46,3 +46,13 @@ returns-in-Assemble-clause-cause g c =
     subst P (sym (c.in_ok-list.ensures.job ∙ ap (λ (job : Job). Some job) c.in-Assemble.is))
     (subst (λ (pcf : Option (List ℕ)). P (Some (Assemble c.in-Assemble.fabric c.in-Assemble.blif pcf c.in-Assemble.implementation c.in-Assemble.base))) c.as_ref.ensures.value
     c.do_assemble.ensures.cause)
+
+pub returns-in-Bits-clause-done : goal.returns-in-Bits-clause-done
+returns-in-Bits-clause-done g c =
+    subst (λ (job : Option Job). OnOk c.do_bits.result (DoesJob job (g.D.Desk.told c.args.desk.now) (g.D.Desk.told c.do_bits.new.desk)))
+    (sym (c.in_ok-list.ensures.job ∙ ap (λ (job : Job). Some job) c.in-Bits.is)) c.do_bits.ensures.done
+
+pub returns-in-Bits-clause-leaves : goal.returns-in-Bits-clause-leaves
+returns-in-Bits-clause-leaves g c =
+    subst (λ (job : Option Job). IfErr c.do_bits.result (JobLeaves job (g.D.Desk.told c.args.desk.now) (g.D.Desk.told c.do_bits.new.desk)))
+    (sym (c.in_ok-list.ensures.job ∙ ap (λ (job : Job). Some job) c.in-Bits.is)) c.do_bits.ensures.leaves
