@@ -13,8 +13,5 @@ pub mod Mapped
 pub mod MappedOnce
 pub mod Flowed
 pub mod FlowedOnce
-<<<<<<< HEAD
 pub mod BitFeaturesMade
 pub mod BitFeaturesOnce
-=======
->>>>>>> c8c9c15f622d9afc77b684e0962ba6fd96f4fe73
