@@ -1,5 +1,5 @@
 -- Why a command ends and what it leaves, from what its parts do.
-use Rattle.std.proofs.Common.{◌≡◌, ℕ, true, List, ◌∷◌, ◌++◌, Option, Some, sym, ap, ◌∙◌, inl, inr, subst, option_map, nat_eq}
+use Rattle.std.proofs.Common.{◌≡◌, ℕ, true, false, List, ◌∷◌, ◌++◌, Option, Some, sym, ap, ◌∙◌, inl, inr, subst, option_map, nat_eq}
 use Rattle.std.specs.List.{list_any}
 use Rattle.std.specs.Option.{ForSome}
 use Rattle.fab_base.specs.declared.fault.Fault.{Fault}
@@ -7,7 +7,7 @@ use Rattle.fab_base.specs.declared.fault.Fault.TheVariants as faults
 use Rattle.fab_desk.specs.Files.{Map}
 use Rattle.fab_files.specs.Files.{Event, HasReadCause}
 use Rattle.fab_flow.specs.Storing.{PlainOutput, output, with_outputs, IsDone, Leaves, IsStoreFault, IsStopped}
-use Rattle.fab_flow.specs.Ending.{HasCause}
+use Rattle.fab_flow.specs.Ending.{HasCause, HasSearchCause}
 
 -- the numbers of what readers refuse are among these
 pub record Reads (numbers : List ℕ) : Type 0 where
@@ -39,6 +39,17 @@ module _ (told : Option Map) (reads writes : Type 0) (meets : Map → Event → 
   pub cause_of_store : (outputs : List PlainOutput) (before after : Option Map) (rose : Type 0) (given : Fault) → ForSome told ready → (rose → writes)
       → IsStopped outputs before after rose given → HasCause told reads writes meets ready numbers given
   cause_of_store outputs before after rose given is_ready higher stopped = store_cause stopped.next.name rose given is_ready higher stopped.fault_is
+
+-- The same of a command that searches, which refuses nothing with no path and with an overused wire.
+module _ (told : Option Map) (reads writes : Type 0) (meets : Map → Event → Type 0) (ready : Map → Type 0) (fails : Map → Fault → Type 0) (numbers : List ℕ) where
+  impossible : (number : ℕ) → list_any (nat_eq number) numbers ≡ false → list_any (nat_eq number) numbers ≡ true → ⊥
+  impossible number never possible = let differ = sym never ∙ possible in cc
+
+  pub searched : list_any (nat_eq 8) numbers ≡ false → list_any (nat_eq 9) numbers ≡ false → (given : Fault) → HasCause told reads writes meets ready numbers given
+      → HasSearchCause told reads writes meets ready fails numbers given
+  searched no_eight no_nine (faults.NoPath net wire text) cause = absurd (impossible 8 no_eight cause.possible)
+  searched no_eight no_nine (faults.Overused wire first second text) cause = absurd (impossible 9 no_nine cause.possible)
+  searched no_eight no_nine given cause = cause
 
 module _ (makes : Map → List PlainOutput → Type 0) (told : Option Map) where
   -- a part of the command that reads leaves the files as they were

@@ -11,3 +11,5 @@ pub mod BitsMade
 pub mod BitsOnce
 pub mod BitFeaturesMade
 pub mod BitFeaturesOnce
+pub mod Mapped
+pub mod MappedOnce

@@ -20,3 +20,10 @@ HasCause told reads_rose writes_rose meets ready numbers faults.Memory = Unit {0
 HasCause told reads_rose writes_rose meets ready numbers (faults.ReadFault file) = reads_rose × ForSome told (λ files. meets files (asks file))
 HasCause told reads_rose writes_rose meets ready numbers (faults.WriteFault file) = writes_rose × ForSome told ready
 HasCause told reads_rose writes_rose meets ready numbers fault = IsRefused told meets numbers fault
+
+-- The same of a command that searches. With no path and with an overused wire it refuses nothing: the search fails, and `fails files fault` says for
+-- what cause.
+abbrev pub HasSearchCause : (told : Option Map) → (reads_rose writes_rose : Type 0) → (meets : Map → Event → Type 0) → (ready : Map → Type 0) → (fails : Map → Fault → Type 0) → (numbers : List ℕ) → Fault → Type 0
+HasSearchCause told reads_rose writes_rose meets ready fails numbers (faults.NoPath net wire text) = ForSome told (λ files. fails files (faults.NoPath net wire text))
+HasSearchCause told reads_rose writes_rose meets ready fails numbers (faults.Overused wire first second text) = ForSome told (λ files. fails files (faults.Overused wire first second text))
+HasSearchCause told reads_rose writes_rose meets ready fails numbers fault = HasCause told reads_rose writes_rose meets ready numbers fault

@@ -5,3 +5,4 @@ pub mod Matrix
 pub mod Assembling
 pub mod Bits
 pub mod BitFeatures
+pub mod Mapping

@@ -39,7 +39,7 @@ use fab_state::print_state;
 use std::alloc::Global;
 
 /// Packs the netlist of a design for its fabric.
-fn packed_design(alloc: Global, design: &Design) -> Result<Packed, Fault>
+pub(crate) fn packed_design(alloc: Global, design: &Design) -> Result<Packed, Fault>
     ensures packed { IfOk result (λ packed. packed ≡ packed_of design.now.netlist) }
     ensures fits { OnOk result (Fits design.now.fabric design.now.netlist) }
     ensures short { IfErr result (λ fault. (fault ≡ faults.Memory) ⊎ (packing_for design.now.fabric design.now.netlist ≡ Err fault)) }

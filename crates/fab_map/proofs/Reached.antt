@@ -31,6 +31,11 @@ module _ (fabric : PlainFabric) (tiles : AreTiles fabric) (packed : PlainPacked)
   routed_on_fabric allowed trees done are same =
       subst (IsOnFabric fabric) (sym same) (with_last are.last (last_round fabric packed i are.run are.some_rounds) trees are.trees_are)
 
+  -- and an input's net is that of one of its lines
+  pub routed_inputs : (allowed : ℕ) (trees : List PlainTree) (done : PlainImplementation) → AreRouted fabric packed i allowed trees → done ≡ with_trees i trees → InputsWithin done
+  routed_inputs allowed trees done are same =
+      subst InputsWithin (sym (same ∙ ap (with_trees i) are.trees_are)) (trees_of_inputs fabric tiles packed i made placed are.last (last_round fabric packed i are.run are.some_rounds))
+
   -- ---- after all rounds
 
   module _ (allowed : ℕ) (wire : Wire) (first second : NetId) (told : List (List PlainTree)) (over : IsOverused fabric packed i allowed wire first second told) (some : 1 ≤ allowed) where

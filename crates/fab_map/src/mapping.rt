@@ -5,6 +5,7 @@ ghost use Rattle.fab_implementation.specs.OnFabric.{IsOnFabric};
 ghost use Rattle.fab_legal.specs.Legal.{IsLegal};
 ghost use Rattle.fab_ways.specs.Placing.{IsGoodPlacement};
 ghost use Rattle.fab_ways.specs.Mapping.{IsMapping};
+ghost use Rattle.fab_impl.specs.Spelled.{InputsWithin};
 ghost use Rattle.fab_place.specs.Fixings.{AreFixed, Fits};
 ghost use Rattle.fab_map.specs.Causes.{HasMapCause};
 
@@ -39,6 +40,7 @@ pub fn map(
     ensures mapping { IfOk result (IsMapping fabric.now packed.now fixed.now rounds) }
     ensures legal { IfOk result (IsLegal fabric.now packed.now fixed.now) }
     ensures on_fabric { IfOk result (IsOnFabric fabric.now) }
+    ensures inputs { IfOk result InputsWithin }
     ensures cause { IfErr result (HasMapCause fabric.now packed.now fixed.now rounds) }
 {
     let first = attempt(alloc, fabric, packed, fixed, seed, rounds);
@@ -65,10 +67,12 @@ fn again(
     requires mapping { IfOk before (IsMapping fabric.now packed.now fixed.now rounds) }
     requires legal { IfOk before (IsLegal fabric.now packed.now fixed.now) }
     requires on_fabric { IfOk before (IsOnFabric fabric.now) }
+    requires inputs { IfOk before InputsWithin }
     requires cause { IfErr before (HasMapCause fabric.now packed.now fixed.now rounds) }
     ensures mapping { IfOk result (IsMapping fabric.now packed.now fixed.now rounds) }
     ensures legal { IfOk result (IsLegal fabric.now packed.now fixed.now) }
     ensures on_fabric { IfOk result (IsOnFabric fabric.now) }
+    ensures inputs { IfOk result InputsWithin }
     ensures cause { IfErr result (HasMapCause fabric.now packed.now fixed.now rounds) }
 {
     match before {
@@ -93,6 +97,7 @@ fn attempt(
     ensures mapping { IfOk result (IsMapping fabric.now packed.now fixed.now rounds) }
     ensures legal { IfOk result (IsLegal fabric.now packed.now fixed.now) }
     ensures on_fabric { IfOk result (IsOnFabric fabric.now) }
+    ensures inputs { IfOk result InputsWithin }
     ensures cause { IfErr result (HasMapCause fabric.now packed.now fixed.now rounds) }
 {
     let placed = place(alloc, fabric, packed, fixed, seed)?;
@@ -116,6 +121,7 @@ fn routed_on(
     ensures mapping { IfOk result (IsMapping fabric.now packed.now _fixed.now rounds) }
     ensures legal { IfOk result (IsLegal fabric.now packed.now _fixed.now) }
     ensures on_fabric { IfOk result (IsOnFabric fabric.now) }
+    ensures inputs { IfOk result InputsWithin }
     ensures cause { IfErr result (HasMapCause fabric.now packed.now _fixed.now rounds) }
 {
     // what holds of every fabric is a clause of this call

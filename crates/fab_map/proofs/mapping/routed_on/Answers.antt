@@ -1,7 +1,7 @@
 use Rattle.std.proofs.Common.{sym, subst}
 use Rattle.fab_implementation.specs.Plain.{PlainImplementation}
 use Rattle.fab_legal.specs.Legal.{IsLegal}
-use Rattle.fab_map.proofs.Reached.{routed_on_fabric}
+use Rattle.fab_map.proofs.Reached.{routed_on_fabric, routed_inputs}
 use Rattle.fab_map.proofs.mapping.routed_on.Goals as goal
 
 pub returns-in-Ok-clause-legal : goal.returns-in-Ok-clause-legal
@@ -11,5 +11,10 @@ returns-in-Ok-clause-legal c =
 
 pub returns-in-Ok-clause-on_fabric : goal.returns-in-Ok-clause-on_fabric
 returns-in-Ok-clause-on_fabric c =
-    routed_on_fabric c.args.fabric.now c.types-types.ensures.are_tiles c.args.packed.now c.args.placed c.requires.fits.made c.requires.good.placed c.requires.on_fabric c.args.rounds c.in-Ok.routed.trees.items
+    routed_on_fabric c.args.fabric.now c.types-types.ensures.are_tiles c.args.packed.now c.args.placed c.requires.fits.made c.requires.good.placed c.requires.on_fabric _ c.in-Ok.routed.trees.items
+    c.with_trees.result c.in-Ok.ensures.routed c.with_trees.ensures
+
+pub returns-in-Ok-clause-inputs : goal.returns-in-Ok-clause-inputs
+returns-in-Ok-clause-inputs c =
+    routed_inputs c.args.fabric.now c.types-types.ensures.are_tiles c.args.packed.now c.args.placed c.requires.fits.made c.requires.good.placed c.requires.on_fabric _ c.in-Ok.routed.trees.items
     c.with_trees.result c.in-Ok.ensures.routed c.with_trees.ensures
