@@ -18,7 +18,7 @@ use Rattle.fab_designs.specs.Implementations.{ReadsImplementation, MeetsImplemen
 use Rattle.fab_designs.proofs.Judged.{SameNumber, design_is_judged, implementation_is_judged}
 use Rattle.fab_flow.specs.Assembling.{AssemblyFiles, Fits, IsReadyToAssemble, MeetsAssembly, MeetsBehindDesign, RefusesAssembly, short, illegal}
 
-refuses_is : {a b : Fault} → refuses a ≡ refuses b → a ≡ b
+pub refuses_is : {a b : Fault} → refuses a ≡ refuses b → a ≡ b
 refuses_is same = cc
 
 -- the fabric has sites enough, and the implementation is legal

@@ -13,3 +13,5 @@ pub mod BitFeaturesMade
 pub mod BitFeaturesOnce
 pub mod Mapped
 pub mod MappedOnce
+pub mod Flowed
+pub mod FlowedOnce

@@ -6,3 +6,4 @@ pub mod Assembling
 pub mod Bits
 pub mod BitFeatures
 pub mod Mapping
+pub mod Flowing

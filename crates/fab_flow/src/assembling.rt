@@ -110,7 +110,7 @@ fn outputs_of(alloc: Global, assembled: &Assembled, base: &Name) -> Result<Vec<O
 }
 
 /// What is stored of an implementation of a design, where it is legal and its fabric has sites enough.
-fn assembly(
+pub(crate) fn assembly(
     alloc: Global,
     design: &Design,
     implementation: Implementation,

@@ -68,7 +68,7 @@ fn check_length(alloc: Global, fabric: &Name, bytes: u64) -> Result<(), Fault>
 }
 
 /// The printed text of a fabric, where it is not too long.
-fn fabric_text(alloc: Global, name: &Name, fabric: &Fabric) -> Result<Vec<u8>, Fault>
+pub(crate) fn fabric_text(alloc: Global, name: &Name, fabric: &Fabric) -> Result<Vec<u8>, Fault>
     ensures printed { IfOk result (λ text. text.items ≡ text_bytes (generated_text fabric.now)) }
     ensures is_text { OnOk result (All IsNamed fabric.now.types → IsFabricText fabric.now (generated_text fabric.now)) }
     ensures drives { OnOk result (ShowsDrives fabric.now (generated_text fabric.now)) }

@@ -1,0 +1,162 @@
+-- What the command `flow` makes, and why nothing is made of a design that was read.
+use Rattle.std.proofs.Common.{◌≡◌, ◌≤◌, ◌⊎◌, ℕ, List, All, length, map, Option, refl, sym, ap, ◌∙◌, inl, inr, subst}
+use Rattle.std.specs.Option.{ForSome}
+use Rattle.fab_base.specs.declared.TheConstants.{MAX_FILE_BYTES}
+use Rattle.fab_base.specs.Reading.{fault_at}
+use Rattle.fab_base.specs.declared.fault.Fault.{Fault}
+use Rattle.fab_base.specs.declared.fault.Fault.TheVariants as faults
+use Rattle.fab_base.specs.declared.problem.Problem.TheVariants as problems
+use Rattle.fab_base.specs.declared.words.Quantity.TheVariants as quantities
+use Rattle.fab_desk.specs.Files.{Map}
+use Rattle.fab_files.specs.Files.{HasReadCause}
+use Rattle.fab_files.specs.Stages.{at_first, behind_it}
+use Rattle.fab_syntax.specs.Spelling.{text_bytes}
+use Rattle.fab_model.specs.Grid.{PlainFabric}
+use Rattle.fab_netlist.specs.Plain.{PlainNetlist}
+use Rattle.fab_netlist.specs.Packing.{packed}
+use Rattle.fab_netlist.specs.WellMade.{IsWellMade}
+use Rattle.fab_implementation.specs.Plain.{Pad, PlainImplementation}
+use Rattle.fab_legal.specs.Legal.{IsLegal}
+use Rattle.fab_legal.proofs.NotLegal.{broken_is_not_legal}
+use Rattle.fab_legal.proofs.PackedMade.{packed_is_well_made}
+use Rattle.fab_ways.specs.Mapping.{IsMapping}
+use Rattle.fab_gen_tile.specs.Words.{IsNamed}
+use Rattle.fab_drives.specs.Drives.{ShowsDrives}
+use Rattle.fab_text_loads.specs.Loads.{LoadsConfigurations}
+use Rattle.fab_text_loads.specs.Texts.{IsFabricText}
+use Rattle.fab_features.specs.Naming.{HasPrefixes}
+use Rattle.fab_impl.specs.Spelled.{implementation_text}
+use Rattle.fab_map.specs.Causes.{HasMapCause}
+use Rattle.fab_read.specs.Fabrics.{SpellsFabric}
+use Rattle.fab_fabric_names.proofs.Prefixes.{ArePrefixed, prefixes_kept}
+use Rattle.fab_fabric_names.proofs.Blocks.{names_kept}
+use Rattle.fab_fabric_names.proofs.Readings.{spelled_keep}
+use Rattle.fab_designs.specs.Designs.{PlainDesign, MeetsDesign, SpellsDesign}
+use Rattle.fab_flow.specs.declared.storing.Output.{Output}
+use Rattle.fab_flow.specs.Storing.{PlainOutput, Leaves, plain_output}
+use Rattle.fab_flow.specs.Generating.{generated_text, text_length, most_text_bytes, IsTooLong}
+use Rattle.fab_flow.specs.Assembling.{Fits, IsAssembly, RefusesAssembly, short as short_of_sites, illegal}
+use Rattle.fab_flow.specs.Mapping.{EndsUnmapped, memory, refused, failed}
+use Rattle.fab_flow.specs.Flowing.{FlowFiles, EndsFlow, FailsToFlow, HasFlowCause, IsFlow, IsReadyToFlow, MeetsFlow, RefusesFlow, flow_outputs, flow_refusals, long, short, no_memory, not_taken, not_mapped}
+use Rattle.fab_flow.proofs.Assembled.{is_short}
+use Rattle.fab_flow.proofs.Ending.{Reads, cause_of_read, searched}
+
+-- ---- what is made
+
+-- the outputs behind an implementation, with those that are assembled of it
+abbrev pub AreAssembled : (fabric : PlainFabric) (netlist : PlainNetlist) (implementation : PlainImplementation) (base text : List ℕ) (outputs : List PlainOutput) → Type 0
+AreAssembled fabric netlist implementation base text outputs =
+    (assembled : List PlainOutput) × IsAssembly fabric netlist implementation base assembled × (outputs ≡ flow_outputs base text (implementation_text fabric implementation) assembled)
+
+module _ (fabric : PlainFabric) (netlist : PlainNetlist) (fixed : List Pad) (allowed : ℕ) (base text : List ℕ) (implementation : PlainImplementation) (outputs : List PlainOutput) where
+  -- the text of a fabric, a mapping onto it, and what is assembled of this
+  pub flow_is : text ≡ text_bytes (generated_text fabric) → IsFabricText fabric (generated_text fabric) → ShowsDrives fabric (generated_text fabric)
+      → LoadsConfigurations fabric (generated_text fabric) → text_length fabric ≤ most_text_bytes → length text ≤ MAX_FILE_BYTES
+      → IsMapping fabric (packed netlist) fixed allowed implementation → IsLegal fabric (packed netlist) fixed implementation
+      → AreAssembled fabric netlist implementation base text outputs → IsFlow fabric netlist fixed allowed base outputs
+  flow_is printed is_text drives loads few readable mapping legal assembled = record {
+    implementation = implementation;
+    mapping = mapping;
+    legal = legal;
+    text = is_text;
+    drives = drives;
+    loads = loads;
+    short = few;
+    readable = subst (λ (bytes : List ℕ). length bytes ≤ MAX_FILE_BYTES) printed readable;
+    assembled = assembled.0;
+    assembly = assembled.1;
+    runs = assembled.1.runs (generated_text fabric) is_text;
+    outputs_are = assembled.2 ∙ ap (λ (bytes : List ℕ). flow_outputs base bytes (implementation_text fabric implementation) assembled.0) printed;
+  }
+
+-- on a fabric that files spell, names are as texts and features need them
+pub flow_of : (files : Map) (name : List ℕ) (fabric : PlainFabric) (netlist : PlainNetlist) (fixed : List Pad) (allowed : ℕ) (base : List ℕ) (made stored : List Output) → stored ≡ made
+    → SpellsFabric files name fabric → (All IsNamed fabric.types → All HasPrefixes fabric.types → IsFlow fabric netlist fixed allowed base (map plain_output made))
+    → IsFlow fabric netlist fixed allowed base (map plain_output stored)
+flow_of files name fabric netlist fixed allowed base made stored same spelled is =
+    subst (λ (items : List Output). IsFlow fabric netlist fixed allowed base (map plain_output items)) (sym same)
+    (is (spelled_keep IsNamed names_kept files name fabric spelled) (spelled_keep ArePrefixed prefixes_kept files name fabric spelled))
+
+-- ---- why nothing is made
+
+-- what is legal and has sites is not refused where it is assembled
+pub legal_is_assembled : (design : PlainDesign) (implementation : PlainImplementation) (fault : Fault) → IsWellMade design.netlist → Fits design.fabric design.netlist
+    → IsLegal design.fabric (packed design.netlist) design.fixed implementation → (fault ≡ faults.Memory) ⊎ RefusesAssembly design implementation fault → fault ≡ faults.Memory
+legal_is_assembled design implementation fault made fits legal (inl is) = is
+legal_is_assembled design implementation fault made fits legal (inr (short_of_sites is)) = absurd (let differ = sym is ∙ fits in cc)
+legal_is_assembled design implementation fault made fits legal (inr (illegal {rule = rule} {item = item} also broken)) =
+    absurd (broken_is_not_legal design.fabric (packed design.netlist) design.fixed implementation rule item (packed_is_well_made design.netlist _ _ (packed design.netlist) made fits) broken legal)
+
+module _ (name : List ℕ) (design : PlainDesign) (allowed : ℕ) where
+  pub text_ends : (fault : Fault) → (fault ≡ faults.Memory) ⊎ IsTooLong name design.fabric fault → EndsFlow name design allowed fault
+  text_ends fault (inl is) = subst (EndsFlow name design allowed) (sym is) no_memory
+  text_ends fault (inr is) = not_taken (long is)
+
+  pub mapping_ends : (fault : Fault) → text_length design.fabric ≤ most_text_bytes → EndsUnmapped design allowed fault → EndsFlow name design allowed fault
+  mapping_ends fault few memory = no_memory
+  mapping_ends fault few (refused is) = not_taken (short few is)
+  mapping_ends fault few (failed fits cause) = not_mapped few fits cause
+
+  pub memory_ends : (fault : Fault) → fault ≡ faults.Memory → EndsFlow name design allowed fault
+  memory_ends fault is = subst (EndsFlow name design allowed) (sym is) no_memory
+
+-- ---- the cause
+
+among : Reads flow_refusals
+among = record { missing = refl; long = refl; malformed = refl; unsupported = refl; limit = refl }
+
+module _ (told : Option Map) (names : FlowFiles) (allowed : ℕ) (reads writes : Type 0) where
+  -- a file of the design is refused
+  pub design_cause : (fault : Fault) → HasReadCause told reads (λ files. MeetsDesign files names.design) fault → HasFlowCause told names allowed reads writes fault
+  design_cause fault cause =
+      searched told reads writes (λ files. MeetsFlow files names) (λ files. IsReadyToFlow files names) (λ files. FailsToFlow files names allowed) flow_refusals refl refl fault
+      (cause_of_read told reads writes (λ files. MeetsFlow files names) (λ files. IsReadyToFlow files names) flow_refusals among
+      (λ files. MeetsDesign files names.design) (λ files event is x. at_first x) fault cause)
+
+  module _ (design : PlainDesign) (spelled : ForSome told (λ files. SpellsDesign files names.design design)) where
+    refusal_cause : (fault : Fault) → RefusesFlow names.design.fabric design fault → HasFlowCause told names allowed reads writes fault
+    refusal_cause fault (long is) =
+        let limit = fault_at names.design.fabric 0 (problems.Limit quantities.TextBytes (text_length design.fabric) most_text_bytes) in
+        subst (HasFlowCause told names allowed reads writes) (sym is.is)
+        (record { possible = refl; met = λ files there. behind_it (spelled files there) (limit, refl, long (record { long = is.long; is = refl })) })
+    refusal_cause fault (short few is) =
+        let told_short = is_short design.netlist _ _ fault is in
+        let given : Fault = faults.Short told_short.0 told_short.1 told_short.2 in
+        subst (HasFlowCause told names allowed reads writes) (sym told_short.3)
+        (record { possible = refl; met = λ files there. behind_it (spelled files there) (given, refl, subst (RefusesFlow names.design.fabric design) told_short.3 (short few is)) })
+
+    failure_cause : (fault : Fault) → text_length design.fabric ≤ most_text_bytes → Fits design.fabric design.netlist
+        → HasMapCause design.fabric (packed design.netlist) design.fixed allowed fault → HasFlowCause told names allowed reads writes fault
+    failure_cause faults.Memory few fits cause = tt
+    failure_cause (faults.NoPath net wire text) few fits cause =
+        λ files there. record { design = design; spelled = spelled files there; short = few; fits = fits; cause = cause }
+    failure_cause (faults.Overused wire first second text) few fits cause =
+        λ files there. record { design = design; spelled = spelled files there; short = few; fits = fits; cause = cause }
+    failure_cause fault few fits cause = absurd cause
+
+    -- nothing is made of the design
+    pub flow_cause : (fault : Fault) → EndsFlow names.design.fabric design allowed fault → HasFlowCause told names allowed reads writes fault
+    flow_cause fault no_memory = tt
+    flow_cause fault (not_taken is) = refusal_cause fault is
+    flow_cause fault (not_mapped few fits cause) = failure_cause fault few fits cause
+
+-- ---- what is left
+
+module _ (makes : Map → List PlainOutput → Type 0) (told after : Option Map) (kept : after ≡ told) (name : List ℕ) (design : PlainDesign) (allowed : ℕ) where
+  refusal_leaves : (fault : Fault) → RefusesFlow name design fault → Leaves makes told after fault
+  refusal_leaves fault (long is) = subst (Leaves makes told after) (sym is.is) kept
+  refusal_leaves fault (short few is) =
+      let told_short = is_short design.netlist _ _ fault is in
+      subst (Leaves makes told after) (sym told_short.3) kept
+
+  failure_leaves : (fault : Fault) → HasMapCause design.fabric (packed design.netlist) design.fixed allowed fault → Leaves makes told after fault
+  failure_leaves faults.Memory cause = inl kept
+  failure_leaves (faults.NoPath net wire text) cause = kept
+  failure_leaves (faults.Overused wire first second text) cause = kept
+  failure_leaves fault cause = absurd cause
+
+  -- the files are as they were
+  pub flow_leaves : (fault : Fault) → EndsFlow name design allowed fault → Leaves makes told after fault
+  flow_leaves fault no_memory = inl kept
+  flow_leaves fault (not_taken is) = refusal_leaves fault is
+  flow_leaves fault (not_mapped few fits cause) = failure_leaves fault cause

@@ -1,0 +1,117 @@
+-- What the command `flow` makes of a design, and why it ends otherwise.
+use Rattle.std.specs.Prelude.{◌≡◌, ◌≤◌, ℕ, List, [], ◌∷◌, ◌++◌, codes, length, Option, Err}
+use Rattle.fab_base.specs.declared.TheConstants.{MAX_FILE_BYTES}
+use Rattle.fab_base.specs.declared.fault.Fault.{Fault}
+use Rattle.fab_base.specs.declared.fault.Fault.TheVariants as faults
+use Rattle.fab_desk.specs.Files.{Map}
+use Rattle.fab_syntax.specs.Spelling.{text_bytes}
+use Rattle.fab_model.specs.Grid.{PlainFabric}
+use Rattle.fab_netlist.specs.Plain.{PlainNetlist}
+use Rattle.fab_netlist.specs.Packing.{packed}
+use Rattle.fab_implementation.specs.Plain.{Pad, PlainImplementation}
+use Rattle.fab_legal.specs.Legal.{IsLegal}
+use Rattle.fab_ways.specs.Mapping.{IsMapping}
+use Rattle.fab_files.specs.Files.{Event}
+use Rattle.fab_files.specs.Stages.{MeetsBehind, MeetsLast}
+use Rattle.fab_frames.specs.Stream.{stream}
+use Rattle.fab_drives.specs.Drives.{ShowsDrives}
+use Rattle.fab_text_loads.specs.Loads.{LoadsConfigurations}
+use Rattle.fab_text_loads.specs.Texts.{IsFabricText}
+use Rattle.fab_use.specs.Headline.{RunsDesign}
+use Rattle.fab_use.specs.Registers.{design_state}
+use Rattle.fab_impl.specs.Spelled.{implementation_text}
+use Rattle.fab_map.specs.Causes.{HasMapCause}
+use Rattle.fab_designs.specs.Designs.{DesignFiles, PlainDesign, design_files, SpellsDesign, MeetsDesign}
+use Rattle.fab_flow.specs.Storing.{PlainOutput, output}
+use Rattle.fab_flow.specs.Ending.{HasSearchCause}
+use Rattle.fab_flow.specs.Generating.{generated_text, text_length, most_text_bytes, IsTooLong}
+use Rattle.fab_flow.specs.Assembling.{Fits, IsAssembly, packing_for}
+
+-- the names of the files of a design, and what the names of the outputs begin with
+pub record FlowFiles : Type 0 where
+  pub design : DesignFiles
+  pub base : List ℕ
+
+abbrev pub flow_files : (fabric blif : List ℕ) → (pcf : Option (List ℕ)) → (base : List ℕ) → FlowFiles
+flow_files fabric blif pcf base = record { design = design_files fabric blif pcf; base = base }
+
+-- ---- what is done
+
+-- BASE.v with the text of a fabric, BASE.impl with the text of an implementation, and behind them what is assembled of it
+abbrev pub flow_outputs : (base text implementation : List ℕ) → (assembled : List PlainOutput) → List PlainOutput
+flow_outputs base text implementation assembled = output (base ++ codes ".v") text ∷ output (base ++ codes ".impl") implementation ∷ assembled
+
+-- The outputs are the text of a chip, and what makes a netlist run on it. `fixed` says on which sites some ports have to stand, and `allowed` how many
+-- rounds the router may take.
+pub record IsFlow (fabric : PlainFabric) (netlist : PlainNetlist) (fixed : List Pad) (allowed : ℕ) (base : List ℕ) (outputs : List PlainOutput) : Type 0 where
+  -- One implementation stands behind all outputs. It is a mapping of the packed netlist: placed so that no exchange lowers the cost, and routed,
+  pub implementation : PlainImplementation
+  pub mapping : IsMapping fabric (packed netlist) fixed allowed implementation
+  -- and it is legal: it breaks none of the nine rules, and the ports stand where they have to.
+  pub legal : IsLegal fabric (packed netlist) fixed implementation
+  -- What BASE.v spells is a text of the fabric. In it each wire has the value of what drives it under the configuration bits,
+  pub text : IsFabricText fabric (generated_text fabric)
+  pub drives : ShowsDrives fabric (generated_text fabric)
+  -- the words of the bitstream of any bits configure it so, whatever it held,
+  pub loads : LoadsConfigurations fabric (generated_text fabric)
+  -- and it is no longer than a file may be that is read.
+  pub short : text_length fabric ≤ most_text_bytes
+  pub readable : length (text_bytes (generated_text fabric)) ≤ MAX_FILE_BYTES
+  -- BASE.fasm has the features of this implementation, BASE.bit the words of its bits, and BASE.state its pads and what its flip-flops begin with.
+  pub assembled : List PlainOutput
+  pub assembly : IsAssembly fabric netlist implementation base assembled
+  -- The headline: the text in BASE.v, loaded with the words in BASE.bit, runs the netlist at the pads in BASE.state, from the values there.
+  pub runs : RunsDesign fabric (generated_text fabric) netlist implementation (stream fabric assembly.bits) (design_state (packed netlist) implementation)
+  -- These are the five files, in the order in which they are stored.
+  pub outputs_are : outputs ≡ flow_outputs base (text_bytes (generated_text fabric)) (implementation_text fabric implementation) assembled
+
+-- The files spell a design that its fabric has sites for, and the outputs are those of a flow from it.
+pub record MakesFlow (files : Map) (names : FlowFiles) (allowed : ℕ) (outputs : List PlainOutput) : Type 0 where
+  pub design : PlainDesign
+  pub spelled : SpellsDesign files names.design design
+  pub fits : Fits design.fabric design.netlist
+  pub made : IsFlow design.fabric design.netlist design.fixed allowed names.base outputs
+
+-- ---- the first refusal
+
+-- A design that was read is refused: the text of its fabric is too long, which is told at line 0 of the fabric file; or else the fabric is short of
+-- sites for it.
+pub data RefusesFlow (name : List ℕ) (design : PlainDesign) : Fault → Type 0 where
+  long : {fault : Fault} → IsTooLong name design.fabric fault → RefusesFlow name design fault
+  short : {fault : Fault} → text_length design.fabric ≤ most_text_bytes → packing_for design.fabric design.netlist ≡ Err fault → RefusesFlow name design fault
+
+-- What the command comes upon: first in the files of the design, and then in what these spell.
+abbrev pub MeetsFlow : (files : Map) (names : FlowFiles) → Event → Type 0
+MeetsFlow files names event = MeetsBehind (SpellsDesign files names.design) (MeetsDesign files names.design) (λ design. MeetsLast (RefusesFlow names.design.fabric design)) event
+
+-- nothing is refused
+pub record IsReadyToFlow (files : Map) (names : FlowFiles) : Type 0 where
+  pub design : PlainDesign
+  pub spelled : SpellsDesign files names.design design
+  pub short : text_length design.fabric ≤ most_text_bytes
+  pub fits : Fits design.fabric design.netlist
+
+-- ---- why the command ends with a fault
+
+-- Why nothing is made of a design that was read: memory was refused, the design is, or it is not, and there is a cause why it is not mapped.
+pub data EndsFlow (name : List ℕ) (design : PlainDesign) (allowed : ℕ) : Fault → Type 0 where
+  no_memory : EndsFlow name design allowed faults.Memory
+  not_taken : {fault : Fault} → RefusesFlow name design fault → EndsFlow name design allowed fault
+  not_mapped : {fault : Fault} → text_length design.fabric ≤ most_text_bytes → Fits design.fabric design.netlist
+      → HasMapCause design.fabric (packed design.netlist) design.fixed allowed fault → EndsFlow name design allowed fault
+
+-- nothing is refused, and for this cause the design that the files spell is not mapped
+pub record FailsToFlow (files : Map) (names : FlowFiles) (allowed : ℕ) (fault : Fault) : Type 0 where
+  pub design : PlainDesign
+  pub spelled : SpellsDesign files names.design design
+  pub short : text_length design.fabric ≤ most_text_bytes
+  pub fits : Fits design.fabric design.netlist
+  pub cause : HasMapCause design.fabric (packed design.netlist) design.fixed allowed fault
+
+-- absent, too long, malformed, unsupported, over a limit, and short of sites
+abbrev pub flow_refusals : List ℕ
+flow_refusals = 2 ∷ 3 ∷ 4 ∷ 5 ∷ 6 ∷ 7 ∷ []
+
+abbrev pub HasFlowCause : (told : Option Map) → (names : FlowFiles) → (allowed : ℕ) → (reads_rose writes_rose : Type 0) → Fault → Type 0
+HasFlowCause told names allowed reads_rose writes_rose fault =
+    HasSearchCause told reads_rose writes_rose (λ files. MeetsFlow files names) (λ files. IsReadyToFlow files names) (λ files. FailsToFlow files names allowed) flow_refusals fault

@@ -1,0 +1,130 @@
+//! The command `flow`: the text of a fabric, and a design placed, routed and assembled for it.
+
+ghost use Rattle.std.specs.Prelude.{◌≡◌, ◌<◌, ◌≤◌, List, All, map, option_copied, IfOk, IfErr, OnOk};
+ghost use Rattle.std.specs.Str.{IsUtf8};
+ghost use Rattle.fab_base.specs.declared.fault.Fault.TheVariants as faults;
+ghost use Rattle.fab_gen_tile.specs.Words.{IsNamed};
+ghost use Rattle.fab_netlist.specs.Cycles.{HasNoCycle};
+ghost use Rattle.fab_netlist.specs.Packing.{packed as packed_of};
+ghost use Rattle.fab_implementation.specs.OnFabric.{IsOnFabric};
+ghost use Rattle.fab_legal.specs.Legal.{IsLegal};
+ghost use Rattle.fab_state.specs.Constraints.{AreFixings, data_ports};
+ghost use Rattle.fab_impl.specs.Spelled.{InputsWithin, implementation_text};
+ghost use Rattle.fab_features.specs.Naming.{HasPrefixes};
+ghost use Rattle.fab_flow.specs.Assembling.{Fits, IsAssembly};
+ghost use Rattle.fab_flow.specs.Flowing.{EndsFlow, HasFlowCause, IsFlow, MakesFlow, flow_files, flow_outputs};
+ghost use Rattle.fab_flow.specs.Generating.{text_length, most_text_bytes};
+ghost use Rattle.fab_flow.specs.Storing.{IsDone, Leaves, PlainOutput, plain_output};
+
+use crate::assembling::assembly;
+use crate::generating::fabric_text;
+use crate::mapping::mapped_design;
+use crate::storing::{Output, put_output, store_all};
+use fab_base::{Fault, Memory, Name};
+use fab_designs::{Design, read_design};
+use fab_desk::Desk;
+use fab_impl::print_impl;
+use fab_legal::Implementation;
+use std::alloc::Global;
+
+/// The outputs for a text and an implementation, with others behind them.
+fn with_sources(
+    alloc: Global,
+    text: Vec<u8>,
+    implementation: Vec<u8>,
+    mut assembled: Vec<Output>,
+    base: &Name,
+) -> Result<Vec<Output>, Memory>
+    ensures are { IfOk result (λ outputs. map plain_output outputs.items ≡ flow_outputs base.now text.items implementation.items (map plain_output assembled.items)) }
+    ensures names { IsUtf8 base.now → All (λ output. IsUtf8 output.name) assembled.items → IfOk result (λ outputs. All (λ output. IsUtf8 output.name) outputs.items) }
+{
+    let mut outputs = Vec::new(alloc);
+    put_output(alloc, &mut outputs, base, b".v", text)?;
+    put_output(alloc, &mut outputs, base, b".impl", implementation)?;
+    outputs.append(&mut assembled)?;
+    Ok(outputs)
+}
+
+/// All outputs of a design that is mapped, with the text of its fabric. Only want of memory comes: what is legal is
+/// assembled.
+fn all_outputs(
+    alloc: Global,
+    design: &Design,
+    text: Vec<u8>,
+    implementation: Implementation,
+    base: &Name,
+) -> Result<Vec<Output>, Fault>
+    requires no_cycle { HasNoCycle design.now.netlist }
+    requires fits { Fits design.now.fabric design.now.netlist }
+    requires legal { IsLegal design.now.fabric (packed_of design.now.netlist) design.now.fixed implementation }
+    requires on_fabric { IsOnFabric design.now.fabric implementation }
+    requires inputs { InputsWithin implementation }
+    ensures made { IfOk result (λ outputs. All IsNamed design.now.fabric.types → All HasPrefixes design.now.fabric.types
+        → (assembled : List PlainOutput) × IsAssembly design.now.fabric design.now.netlist implementation base.now assembled
+        × (map plain_output outputs.items ≡ flow_outputs base.now text.items (implementation_text design.now.fabric implementation) assembled)) }
+    ensures names { IsUtf8 base.now → IfOk result (λ outputs. All (λ output. IsUtf8 output.name) outputs.items) }
+    ensures memory { IfErr result (λ fault. fault ≡ faults.Memory) }
+{
+    // what holds of every netlist is a clause of this call
+    design.netlist.is_well_made();
+    let printed = print_impl(alloc, &design.fabric, &implementation)?;
+    let assembled = assembly(alloc, design, implementation, base)?;
+    Ok(with_sources(alloc, text, printed, assembled, base)?)
+}
+
+/// Makes the text of a design's fabric, maps the design, and gives all that is stored of both.
+fn flowed(
+    alloc: Global,
+    name: &Name,
+    design: &Design,
+    seed: u64,
+    rounds: u32,
+    base: &Name,
+) -> Result<Vec<Output>, Fault>
+    requires no_cycle { HasNoCycle design.now.netlist }
+    requires fixings { AreFixings design.now.fabric (data_ports design.now.netlist) design.now.fixed }
+    requires some { 1 ≤ rounds }
+    requires few { rounds ≤ 64 }
+    ensures short { OnOk result (text_length design.now.fabric ≤ most_text_bytes) }
+    ensures fits { OnOk result (Fits design.now.fabric design.now.netlist) }
+    ensures made { IfOk result (λ outputs. All IsNamed design.now.fabric.types → All HasPrefixes design.now.fabric.types
+        → IsFlow design.now.fabric design.now.netlist design.now.fixed rounds base.now (map plain_output outputs.items)) }
+    ensures names { IsUtf8 base.now → IfOk result (λ outputs. All (λ output. IsUtf8 output.name) outputs.items) }
+    ensures ends { IfErr result (EndsFlow name.now design.now rounds) }
+{
+    let text = fabric_text(alloc, name, &design.fabric)?;
+    let implementation = mapped_design(alloc, design, seed, rounds)?;
+    all_outputs(alloc, design, text, implementation, base)
+}
+
+/// Reads a design, places and routes it in at most so many rounds, and stores all that it comes to: the text of the
+/// fabric in BASE.v, the implementation in BASE.impl, its features in BASE.fasm, the bitstream in BASE.bit, and in
+/// BASE.state the ports at their pads with what the flip-flops hold at first. The search begins with the seed.
+///
+/// The faults of the files come as `read_design` gives them. Behind them come the limit of `text bytes`, as of
+/// `do_generate`, and then `Short`, where the fabric has fewer LUT4c than the packed netlist has cells, or fewer IO
+/// pads than it has data ports. `NoPath` and `Overused` come as `map` of `fab_map` gives them. All outputs are made
+/// before the first is stored. `WriteFault` names an output; those before it are stored. With any other fault but want
+/// of memory the files are as before.
+pub fn do_flow<D: Desk>(
+    alloc: Global,
+    desk: &mut D,
+    fabric: &Name,
+    blif: &Name,
+    pcf: Option<&Name>,
+    seed: u64,
+    rounds: u32,
+    base: &Name,
+) -> Result<(), Fault>
+    requires text { IsUtf8 base.now }
+    requires some { 1 ≤ rounds }
+    requires few { rounds ≤ 64 }
+    ensures done { OnOk result (IsDone (λ files. MakesFlow files (flow_files fabric.now blif.now (option_copied pcf.entry) base.now) rounds) (D.told desk.old) (D.told desk.new)) }
+    ensures leaves { IfErr result (Leaves (λ files. MakesFlow files (flow_files fabric.now blif.now (option_copied pcf.entry) base.now) rounds) (D.told desk.old) (D.told desk.new)) }
+    ensures cause { IfErr result (HasFlowCause (D.told desk.old) (flow_files fabric.now blif.now (option_copied pcf.entry) base.now) rounds
+        (D.reads desk.old < D.reads desk.new) (D.writes desk.old < D.writes desk.new)) }
+{
+    let design = read_design(alloc, desk, fabric, blif, pcf)?;
+    let outputs = flowed(alloc, fabric, &design, seed, rounds, base)?;
+    store_all(alloc, desk, &outputs)
+}
