@@ -1,3 +1,4 @@
 pub mod OptionWords
+pub mod Decimals
 pub mod Taken
 pub mod Ending

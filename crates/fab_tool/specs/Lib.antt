@@ -1,4 +1,5 @@
 pub mod Arguments
+pub mod Numbers
 pub mod Plain
 pub mod Taking
 pub mod Words

@@ -12,6 +12,14 @@ pub enum Job {
     /// `assemble FABRIC BLIF IMPL BASE` with `--pcf FILE`: fabric, netlist, constraints and implementation, and what
     /// the names of the outputs begin with.
     Assemble(Name, Name, Option<Name>, Name, Name),
+    /// `map FABRIC BLIF OUT` with `--pcf FILE`, `--seed N` and `--rounds N`: fabric, netlist, constraints, seed, the
+    /// number of rounds, and the implementation.
+    Map(Name, Name, Option<Name>, u64, u32, Name),
+    /// `flow FABRIC BLIF BASE` with the same options: fabric, netlist, constraints, seed, the number of rounds, and what
+    /// the names of the outputs begin with.
+    Flow(Name, Name, Option<Name>, u64, u32, Name),
     /// `bits FABRIC FASM OUT`: the bitstream of a list of features.
     Bits(Name, Name, Name),
+    /// `features FABRIC BIT OUT`: the features that a bitstream spells.
+    Features(Name, Name, Name),
 }

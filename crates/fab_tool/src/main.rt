@@ -3,6 +3,7 @@
 
 mod arguments;
 mod job;
+mod numbers;
 mod running;
 mod words;
 

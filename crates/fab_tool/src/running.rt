@@ -9,7 +9,7 @@ use crate::job::Job;
 use crate::words::parse;
 use fab_base::{Fault, Memory, Status};
 use fab_desk::{Desk, Sink, SinkFault};
-use fab_flow::{do_assemble, do_bits, do_generate, do_matrix};
+use fab_flow::{do_assemble, do_bits, do_features, do_flow, do_generate, do_map, do_matrix};
 use std::alloc::Global;
 
 /// Does what the words ask for.
@@ -30,7 +30,28 @@ fn perform<D: Desk>(alloc: Global, words: &[String], desk: &mut D) -> Result<(),
             &implementation,
             &base,
         ),
+        Job::Map(fabric, blif, pcf, seed, rounds, out) => do_map(
+            alloc,
+            desk,
+            &fabric,
+            &blif,
+            pcf.as_ref(),
+            seed,
+            rounds,
+            &out,
+        ),
+        Job::Flow(fabric, blif, pcf, seed, rounds, base) => do_flow(
+            alloc,
+            desk,
+            &fabric,
+            &blif,
+            pcf.as_ref(),
+            seed,
+            rounds,
+            &base,
+        ),
         Job::Bits(fabric, fasm, out) => do_bits(alloc, desk, &fabric, &fasm, &out),
+        Job::Features(fabric, bit, out) => do_features(alloc, desk, &fabric, &bit, &out),
     }
 }
 

@@ -85,6 +85,9 @@ fn ends_with_its_status_and_report(rt: HostRuntime) -> Result<(), Fail> {
             "missing p=q\n",
         ),
         ("bits x.csv f x.v", 0, 0, 2, "missing f\n"),
+        ("features x.csv b x.v", 0, 0, 2, "missing b\n"),
+        ("map x.csv b x.v --seed 007", 0, 0, 2, "missing b\n"),
+        ("flow x.csv b x --rounds=64", 0, 0, 2, "missing b\n"),
         ("matrix x.list x.v", 1, 0, 11, "read fault x.list\n"),
         ("matrix x.list x.v", 2, 0, 12, "write fault x.v\n"),
         ("", 0, 1, 1, ""),
@@ -139,6 +142,10 @@ fn refuses_other_words(rt: HostRuntime) -> Result<(), Fail> {
         "assemble x.csv x.blif i x.v -pcf p",
         "assemble x.csv x.blif i x.v --seed 1",
         "bits x.csv f",
+        "map x.csv x.blif i --seed +1",
+        "map x.csv x.blif i --seed 18446744073709551616",
+        "flow x.csv x.blif x --rounds 65",
+        "flow x.csv x.blif x --rounds 0",
         "bits x.csv f x.v --pcf p",
     ];
     for line in lines {

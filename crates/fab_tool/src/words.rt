@@ -1,14 +1,15 @@
 //! The words of a command line: the forms of its commands.
 
-ghost use Rattle.std.specs.Prelude.{◌≡◌, ℕ, List, map, option_copied, string_bytes, None, Some, IfOk, IfErr};
+ghost use Rattle.std.specs.Prelude.{◌≡◌, ◌≤◌, ℕ, List, map, option_copied, string_bytes, None, Some, IfOk, IfErr};
 ghost use Rattle.std.specs.Option.{ForSome};
 ghost use Rattle.std.specs.Str.{IsUtf8};
 ghost use Rattle.fab_tool.specs.Plain.{plain_arguments};
 ghost use Rattle.fab_tool.specs.Arguments.{IsUsage};
-ghost use Rattle.fab_tool.specs.Words.{matrix_job, generate_job, assemble_job, bits_job, job_of_command, job_of, IsText};
+ghost use Rattle.fab_tool.specs.Words.{matrix_job, generate_job, assemble_job, map_job, flow_job, bits_job, features_job, job_of_command, job_of, IsText};
 
 use crate::arguments::{Arguments, are_options, value_of};
 use crate::job::Job;
+use crate::numbers::{rounds_of, seed_of};
 use fab_base::{Fault, Memory, Name};
 use fab_lines::is_name;
 use fab_paths::stem;
@@ -81,6 +82,56 @@ fn assemble(alloc: Global, pcf: Option<&str>, words: &[&str]) -> Result<Job, Fau
     Ok(Job::Assemble(fabric, blif, pcf, implementation, base))
 }
 
+/// `map FABRIC BLIF OUT`.
+fn mapping(
+    alloc: Global,
+    pcf: Option<&str>,
+    seed: Option<u64>,
+    rounds: Option<u32>,
+    words: &[&str],
+) -> Result<Job, Fault>
+    requires { ForSome rounds (λ number. (1 ≤ number) × (number ≤ 64)) }
+    ensures job { IfOk result (λ job. map_job (option_copied pcf.entry) seed rounds (map (λ word. word.now) words.now) ≡ Some job) }
+    ensures text { IfOk result IsText }
+    ensures usage { IfErr result (IsUsage (map_job (option_copied pcf.entry) seed rounds (map (λ word. word.now) words.now) ≡ None)) }
+{
+    let seed = seed.ok_or(Fault::Usage)?;
+    let rounds = rounds.ok_or(Fault::Usage)?;
+    let [fabric, blif, out] = words else {
+        return Err(Fault::Usage);
+    };
+    let fabric = name_of(alloc, fabric)?;
+    let blif = name_of(alloc, blif)?;
+    let pcf = name_of_option(alloc, pcf)?;
+    let out = name_of(alloc, out)?;
+    Ok(Job::Map(fabric, blif, pcf, seed, rounds, out))
+}
+
+/// `flow FABRIC BLIF BASE`.
+fn flow(
+    alloc: Global,
+    pcf: Option<&str>,
+    seed: Option<u64>,
+    rounds: Option<u32>,
+    words: &[&str],
+) -> Result<Job, Fault>
+    requires { ForSome rounds (λ number. (1 ≤ number) × (number ≤ 64)) }
+    ensures job { IfOk result (λ job. flow_job (option_copied pcf.entry) seed rounds (map (λ word. word.now) words.now) ≡ Some job) }
+    ensures text { IfOk result IsText }
+    ensures usage { IfErr result (IsUsage (flow_job (option_copied pcf.entry) seed rounds (map (λ word. word.now) words.now) ≡ None)) }
+{
+    let seed = seed.ok_or(Fault::Usage)?;
+    let rounds = rounds.ok_or(Fault::Usage)?;
+    let [fabric, blif, base] = words else {
+        return Err(Fault::Usage);
+    };
+    let fabric = name_of(alloc, fabric)?;
+    let blif = name_of(alloc, blif)?;
+    let pcf = name_of_option(alloc, pcf)?;
+    let base = name_of(alloc, base)?;
+    Ok(Job::Flow(fabric, blif, pcf, seed, rounds, base))
+}
+
 /// `bits FABRIC FASM OUT`.
 fn bits(alloc: Global, words: &[&str]) -> Result<Job, Fault>
     ensures job { IfOk result (λ job. bits_job (map (λ word. word.now) words.now) ≡ Some job) }
@@ -94,6 +145,21 @@ fn bits(alloc: Global, words: &[&str]) -> Result<Job, Fault>
     let fasm = name_of(alloc, fasm)?;
     let out = name_of(alloc, out)?;
     Ok(Job::Bits(fabric, fasm, out))
+}
+
+/// `features FABRIC BIT OUT`.
+fn features(alloc: Global, words: &[&str]) -> Result<Job, Fault>
+    ensures job { IfOk result (λ job. features_job (map (λ word. word.now) words.now) ≡ Some job) }
+    ensures text { IfOk result IsText }
+    ensures usage { IfErr result (IsUsage (features_job (map (λ word. word.now) words.now) ≡ None)) }
+{
+    let [fabric, bit, out] = words else {
+        return Err(Fault::Usage);
+    };
+    let fabric = name_of(alloc, fabric)?;
+    let bit = name_of(alloc, bit)?;
+    let out = name_of(alloc, out)?;
+    Ok(Job::Features(fabric, bit, out))
 }
 
 /// The job of a command with what stands behind it.
@@ -115,8 +181,29 @@ fn job_of_command(alloc: Global, command: &str, arguments: &Arguments<'_>) -> Re
             &arguments.positionals,
         );
     }
+    if command == "map" && are_options(&["pcf", "seed", "rounds"], &arguments.settings) {
+        return mapping(
+            alloc,
+            value_of("pcf", &arguments.settings),
+            seed_of(&arguments.settings),
+            rounds_of(&arguments.settings),
+            &arguments.positionals,
+        );
+    }
+    if command == "flow" && are_options(&["pcf", "seed", "rounds"], &arguments.settings) {
+        return flow(
+            alloc,
+            value_of("pcf", &arguments.settings),
+            seed_of(&arguments.settings),
+            rounds_of(&arguments.settings),
+            &arguments.positionals,
+        );
+    }
     if command == "bits" && are_options(&[], &arguments.settings) {
         return bits(alloc, &arguments.positionals);
+    }
+    if command == "features" && are_options(&[], &arguments.settings) {
+        return features(alloc, &arguments.positionals);
     }
     Err(Fault::Usage)
 }

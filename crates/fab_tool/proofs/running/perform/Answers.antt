@@ -1,7 +1,7 @@
 use Rattle.std.proofs.Common.{◌<◌, ◌∙◌, ℕ, List, ap, sym, subst, Option, Some}
 use Rattle.std.proofs.Common.{OnOk, IfErr}
 use Rattle.fab_tool.specs.declared.job.Job.{Job}
-use Rattle.fab_tool.specs.declared.job.Job.TheVariants.{Assemble}
+use Rattle.fab_tool.specs.declared.job.Job.TheVariants.{Assemble, Map, Flow}
 use Rattle.fab_tool.specs.Running.{DoesJob, JobLeaves, JobHasCause}
 use Rattle.fab_tool.proofs.running.perform.Goals as goal
 
@@ -56,3 +56,49 @@ pub returns-in-Bits-clause-leaves : goal.returns-in-Bits-clause-leaves
 returns-in-Bits-clause-leaves g c =
     subst (λ (job : Option Job). IfErr c.do_bits.result (JobLeaves job (g.D.Desk.told c.args.desk.now) (g.D.Desk.told c.do_bits.new.desk)))
     (sym (c.in_ok-list.ensures.job ∙ ap (λ (job : Job). Some job) c.in-Bits.is)) c.do_bits.ensures.leaves
+
+pub returns-in-Features-clause-done : goal.returns-in-Features-clause-done
+returns-in-Features-clause-done g c =
+    subst (λ (job : Option Job). OnOk c.do_features.result (DoesJob job (g.D.Desk.told c.args.desk.now) (g.D.Desk.told c.do_features.new.desk)))
+    (sym (c.in_ok-list.ensures.job ∙ ap (λ (job : Job). Some job) c.in-Features.is)) c.do_features.ensures.done
+
+pub returns-in-Features-clause-leaves : goal.returns-in-Features-clause-leaves
+returns-in-Features-clause-leaves g c =
+    subst (λ (job : Option Job). IfErr c.do_features.result (JobLeaves job (g.D.Desk.told c.args.desk.now) (g.D.Desk.told c.do_features.new.desk)))
+    (sym (c.in_ok-list.ensures.job ∙ ap (λ (job : Job). Some job) c.in-Features.is)) c.do_features.ensures.leaves
+
+pub returns-in-Map-clause-done : goal.returns-in-Map-clause-done
+returns-in-Map-clause-done g c =
+    let P : Option Job → Type 0 = λ job. OnOk c.do_map.result (DoesJob job (g.D.Desk.told c.args.desk.now) (g.D.Desk.told c.do_map.new.desk)) in
+    subst P (sym (c.in_ok-list.ensures.job ∙ ap (λ (job : Job). Some job) c.in-Map.is))
+    (subst (λ (pcf : Option (List ℕ)). P (Some (Map c.in-Map.fabric c.in-Map.blif pcf c.in-Map.seed c.in-Map.rounds c.in-Map.out))) c.as_ref-in-Map.ensures.value c.do_map.ensures.done)
+
+pub returns-in-Map-clause-leaves : goal.returns-in-Map-clause-leaves
+returns-in-Map-clause-leaves g c =
+    let P : Option Job → Type 0 = λ job. IfErr c.do_map.result (JobLeaves job (g.D.Desk.told c.args.desk.now) (g.D.Desk.told c.do_map.new.desk)) in
+    subst P (sym (c.in_ok-list.ensures.job ∙ ap (λ (job : Job). Some job) c.in-Map.is))
+    (subst (λ (pcf : Option (List ℕ)). P (Some (Map c.in-Map.fabric c.in-Map.blif pcf c.in-Map.seed c.in-Map.rounds c.in-Map.out))) c.as_ref-in-Map.ensures.value c.do_map.ensures.leaves)
+
+pub returns-in-Map-clause-cause : goal.returns-in-Map-clause-cause
+returns-in-Map-clause-cause g c =
+    let P : Option Job → Type 0 = λ job. IfErr c.do_map.result (JobHasCause job (g.D.Desk.told c.args.desk.now) (g.D.Desk.reads c.args.desk.now < g.D.Desk.reads c.do_map.new.desk) (g.D.Desk.writes c.args.desk.now < g.D.Desk.writes c.do_map.new.desk)) in
+    subst P (sym (c.in_ok-list.ensures.job ∙ ap (λ (job : Job). Some job) c.in-Map.is))
+    (subst (λ (pcf : Option (List ℕ)). P (Some (Map c.in-Map.fabric c.in-Map.blif pcf c.in-Map.seed c.in-Map.rounds c.in-Map.out))) c.as_ref-in-Map.ensures.value c.do_map.ensures.cause)
+
+pub returns-in-Flow-clause-done : goal.returns-in-Flow-clause-done
+returns-in-Flow-clause-done g c =
+    let P : Option Job → Type 0 = λ job. OnOk c.do_flow.result (DoesJob job (g.D.Desk.told c.args.desk.now) (g.D.Desk.told c.do_flow.new.desk)) in
+    subst P (sym (c.in_ok-list.ensures.job ∙ ap (λ (job : Job). Some job) c.in-Flow.is))
+    (subst (λ (pcf : Option (List ℕ)). P (Some (Flow c.in-Flow.fabric c.in-Flow.blif pcf c.in-Flow.seed c.in-Flow.rounds c.in-Flow.base))) c.as_ref-in-Flow.ensures.value c.do_flow.ensures.done)
+
+pub returns-in-Flow-clause-leaves : goal.returns-in-Flow-clause-leaves
+returns-in-Flow-clause-leaves g c =
+    let P : Option Job → Type 0 = λ job. IfErr c.do_flow.result (JobLeaves job (g.D.Desk.told c.args.desk.now) (g.D.Desk.told c.do_flow.new.desk)) in
+    subst P (sym (c.in_ok-list.ensures.job ∙ ap (λ (job : Job). Some job) c.in-Flow.is))
+    (subst (λ (pcf : Option (List ℕ)). P (Some (Flow c.in-Flow.fabric c.in-Flow.blif pcf c.in-Flow.seed c.in-Flow.rounds c.in-Flow.base))) c.as_ref-in-Flow.ensures.value c.do_flow.ensures.leaves)
+
+pub returns-in-Flow-clause-cause : goal.returns-in-Flow-clause-cause
+returns-in-Flow-clause-cause g c =
+    let P : Option Job → Type 0 = λ job. IfErr c.do_flow.result (JobHasCause job (g.D.Desk.told c.args.desk.now) (g.D.Desk.reads c.args.desk.now < g.D.Desk.reads c.do_flow.new.desk) (g.D.Desk.writes c.args.desk.now < g.D.Desk.writes c.do_flow.new.desk)) in
+    subst P (sym (c.in_ok-list.ensures.job ∙ ap (λ (job : Job). Some job) c.in-Flow.is))
+    (subst (λ (pcf : Option (List ℕ)). P (Some (Flow c.in-Flow.fabric c.in-Flow.blif pcf c.in-Flow.seed c.in-Flow.rounds c.in-Flow.base))) c.as_ref-in-Flow.ensures.value c.do_flow.ensures.cause)
