@@ -11,13 +11,11 @@ use Rattle.fab_desk.specs.Files.{Map}
 use Rattle.fab_files.specs.Files.{refuses}
 use Rattle.fab_flow.specs.Storing.{IsDone, Leaves}
 use Rattle.fab_flow.specs.Ending.{IsRefused, HasCause, HasSearchCause}
-use Rattle.fab_flow.specs.Assembling.{assembly_files, assemble_refusals}
-use Rattle.fab_flow.specs.BitFeatures.{features_files, features_refusals}
-use Rattle.fab_flow.specs.Bits.{bits_files, bits_refusals}
-use Rattle.fab_flow.specs.Generating.{generate_refusals}
-use Rattle.fab_flow.specs.Flowing.{flow_files, flow_refusals, FailsToFlow}
-use Rattle.fab_flow.specs.Mapping.{mapping_files, map_refusals, FailsToMap}
-use Rattle.fab_flow.specs.Matrix.{matrix_refusals}
+use Rattle.fab_flow.specs.Assembling.{assembly_files}
+use Rattle.fab_flow.specs.BitFeatures.{features_files}
+use Rattle.fab_flow.specs.Bits.{bits_files}
+use Rattle.fab_flow.specs.Flowing.{flow_files, FailsToFlow}
+use Rattle.fab_flow.specs.Mapping.{mapping_files, FailsToMap}
 use Rattle.fab_flow.proofs.AssembledOnce as assembling
 use Rattle.fab_flow.proofs.BitFeaturesOnce as features
 use Rattle.fab_flow.proofs.BitsOnce as bits
