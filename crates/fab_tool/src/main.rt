@@ -1,19 +1,11 @@
 //! fab: embedded FPGA fabrics, and designs on them.
 #![tactic(auto)]
 
-mod arguments;
-mod job;
-mod numbers;
-mod running;
-mod words;
-
+use fab_commands::run;
 use fab_desk::{FileDesk, OutSink};
-pub use job::Job;
-pub use running::run;
 use std::env;
 use std::io::ErrorKind;
 use std::process::ExitCode;
-pub use words::parse;
 
 fn main(rt: HostRuntime) -> ExitCode {
     let alloc = rt.alloc();
@@ -33,6 +25,3 @@ fn main(rt: HostRuntime) -> ExitCode {
     let status = run(alloc, &words, &mut desk, &mut out);
     ExitCode::from(status.0)
 }
-
-#[cfg(test)]
-mod tests;

@@ -1,0 +1,184 @@
+-- What a call of the program does to the files, what it puts out, and why it ends otherwise.
+use Rattle.std.specs.Prelude.{◌≡◌, ◌≢◌, ◌⊎◌, ◌<◌, ◌≤◌, ℕ, true, List, [], ◌∷◌, ◌++◌, take, nat_eq, Option, Some, None}
+use Rattle.std.specs.List.{list_any}
+use Rattle.std.specs.Option.{ForSome}
+use Rattle.fab_base.specs.declared.fault.Status.{Status}
+use Rattle.fab_base.specs.declared.fault.Fault.{Fault}
+use Rattle.fab_base.specs.declared.fault.Fault.TheVariants as faults
+use Rattle.fab_base.specs.Report.{number_of, report, status}
+use Rattle.fab_desk.specs.Files.{Map}
+use Rattle.fab_files.specs.Files.{Event, refuses}
+use Rattle.fab_designs.specs.Designs.{design_files}
+use Rattle.fab_flow.specs.Storing.{PlainOutput, IsDone, Leaves}
+use Rattle.fab_flow.specs.Assembling.{assembly_files, MakesAssembly, MeetsAssembly, IsReadyToAssemble, HasAssembleCause, assemble_refusals}
+use Rattle.fab_flow.specs.BitFeatures.{features_files, MakesFeatures, MeetsBitFeatures, IsReadyForFeatures, HasFeaturesCause, features_refusals}
+use Rattle.fab_flow.specs.Bits.{bits_files, MakesBits, MeetsBits, IsReadyForBits, HasBitsCause, bits_refusals}
+use Rattle.fab_flow.specs.Generating.{MakesFabric, MeetsGenerate, IsReadyToGenerate, HasGenerateCause, generate_refusals}
+use Rattle.fab_flow.specs.Flowing.{flow_files, MakesFlow, MeetsFlow, IsReadyToFlow, HasFlowCause, flow_refusals}
+use Rattle.fab_flow.specs.Mapping.{mapping_files, MakesMapping, MeetsMapping, IsReadyToMap, HasMappingCause, map_refusals}
+use Rattle.fab_flow.specs.Matrix.{MakesMatrix, IsReadyForMatrix, HasMatrixCause, matrix_refusals}
+use Rattle.fab_list_files.specs.Sides.{MeetsPairs}
+use Rattle.fab_commands.specs.declared.job.Job.{Job}
+use Rattle.fab_commands.specs.declared.job.Job.TheVariants.{Matrix, Generate, Assemble, Map as Mapping, Flow, Bits, Features}
+
+-- ---- the commands
+
+-- the outputs that a command makes of the files
+abbrev pub Makes : Job → (files : Map) → List PlainOutput → Type 0
+Makes (Matrix list out) files outputs = MakesMatrix files list out outputs
+Makes (Generate fabric out) files outputs = MakesFabric files fabric out outputs
+Makes (Assemble fabric blif pcf implementation base) files outputs = MakesAssembly files (assembly_files fabric blif pcf implementation base) outputs
+Makes (Mapping fabric blif pcf seed rounds out) files outputs = MakesMapping files (mapping_files (design_files fabric blif pcf) out) rounds outputs
+Makes (Flow fabric blif pcf seed rounds base) files outputs = MakesFlow files (flow_files fabric blif pcf base) rounds outputs
+Makes (Bits fabric fasm out) files outputs = MakesBits files (bits_files fabric fasm out) outputs
+Makes (Features fabric bit out) files outputs = MakesFeatures files (features_files fabric bit out) outputs
+
+-- what it comes upon before anything is refused: files that it asks for, and its first refusal
+abbrev pub Meets : Job → (files : Map) → Event → Type 0
+Meets (Matrix list out) files event = MeetsPairs files list event
+Meets (Generate fabric out) files event = MeetsGenerate files fabric event
+Meets (Assemble fabric blif pcf implementation base) files event = MeetsAssembly files (assembly_files fabric blif pcf implementation base) event
+Meets (Mapping fabric blif pcf seed rounds out) files event = MeetsMapping files (mapping_files (design_files fabric blif pcf) out) event
+Meets (Flow fabric blif pcf seed rounds base) files event = MeetsFlow files (flow_files fabric blif pcf base) event
+Meets (Bits fabric fasm out) files event = MeetsBits files (bits_files fabric fasm out) event
+Meets (Features fabric bit out) files event = MeetsBitFeatures files (features_files fabric bit out) event
+
+-- nothing is refused
+abbrev pub IsReady : Job → (files : Map) → Type 0
+IsReady (Matrix list out) files = IsReadyForMatrix files list
+IsReady (Generate fabric out) files = IsReadyToGenerate files fabric
+IsReady (Assemble fabric blif pcf implementation base) files = IsReadyToAssemble files (assembly_files fabric blif pcf implementation base)
+IsReady (Mapping fabric blif pcf seed rounds out) files = IsReadyToMap files (mapping_files (design_files fabric blif pcf) out)
+IsReady (Flow fabric blif pcf seed rounds base) files = IsReadyToFlow files (flow_files fabric blif pcf base)
+IsReady (Bits fabric fasm out) files = IsReadyForBits files (bits_files fabric fasm out)
+IsReady (Features fabric bit out) files = IsReadyForFeatures files (features_files fabric bit out)
+
+-- the numbers of the faults for which it refuses
+abbrev pub refusals : Job → List ℕ
+refusals (Matrix list out) = matrix_refusals
+refusals (Generate fabric out) = generate_refusals
+refusals (Assemble fabric blif pcf implementation base) = assemble_refusals
+refusals (Mapping fabric blif pcf seed rounds out) = map_refusals
+refusals (Flow fabric blif pcf seed rounds base) = flow_refusals
+refusals (Bits fabric fasm out) = bits_refusals
+refusals (Features fabric bit out) = features_refusals
+
+-- The numbers of the faults with which it may end though nothing is refused: a command that places and routes may find no path, or leave a wire shared.
+abbrev pub failures : Job → List ℕ
+failures (Matrix list out) = []
+failures (Generate fabric out) = []
+failures (Assemble fabric blif pcf implementation base) = []
+failures (Mapping fabric blif pcf seed rounds out) = 8 ∷ 9 ∷ []
+failures (Flow fabric blif pcf seed rounds base) = 8 ∷ 9 ∷ []
+failures (Bits fabric fasm out) = []
+failures (Features fabric bit out) = []
+
+-- why it ends with a fault
+abbrev pub HasJobCause : Job → (told : Option Map) → (reads_rose writes_rose : Type 0) → Fault → Type 0
+HasJobCause (Matrix list out) told reads_rose writes_rose fault = HasMatrixCause told list reads_rose writes_rose fault
+HasJobCause (Generate fabric out) told reads_rose writes_rose fault = HasGenerateCause told fabric reads_rose writes_rose fault
+HasJobCause (Assemble fabric blif pcf implementation base) told reads_rose writes_rose fault =
+    HasAssembleCause told (assembly_files fabric blif pcf implementation base) reads_rose writes_rose fault
+HasJobCause (Mapping fabric blif pcf seed rounds out) told reads_rose writes_rose fault = HasMappingCause told (mapping_files (design_files fabric blif pcf) out) rounds reads_rose writes_rose fault
+HasJobCause (Flow fabric blif pcf seed rounds base) told reads_rose writes_rose fault = HasFlowCause told (flow_files fabric blif pcf base) rounds reads_rose writes_rose fault
+HasJobCause (Bits fabric fasm out) told reads_rose writes_rose fault = HasBitsCause told (bits_files fabric fasm out) reads_rose writes_rose fault
+HasJobCause (Features fabric bit out) told reads_rose writes_rose fault = HasFeaturesCause told (features_files fabric bit out) reads_rose writes_rose fault
+
+-- ---- one call of the program
+
+-- The job that the words spell, if they spell one; what the desk tells of its files, and how many of its reads and writes failed so far; what was put to the
+-- sink, and how many of its calls failed so far: each when the call begins, and when it ends.
+pub record Call : Type 0 where
+  pub job : Option Job
+  pub told : Option Map
+  pub told_after : Option Map
+  pub reads : ℕ
+  pub reads_after : ℕ
+  pub writes : ℕ
+  pub writes_after : ℕ
+  pub put : Option (List ℕ)
+  pub put_after : Option (List ℕ)
+  pub failed : ℕ
+  pub failed_after : ℕ
+
+-- ---- status 0
+
+abbrev pub DoesJob : Option Job → (told after : Option Map) → Type 0
+DoesJob None told after = ⊥
+DoesJob (Some job) told after = IsDone (Makes job) told after
+
+-- ---- any other status
+
+-- the words come first, then what the command comes upon
+abbrev pub RefusesJob : Option Job → (files : Map) → Fault → Type 0
+RefusesJob None files fault = fault ≡ faults.Usage
+RefusesJob (Some job) files fault = Meets job files (refuses fault)
+
+abbrev pub IsJobReady : Option Job → (files : Map) → Type 0
+IsJobReady None files = ⊥
+IsJobReady (Some job) files = IsReady job files
+
+-- why a job ends with a fault
+abbrev pub JobHasCause : Option Job → (told : Option Map) → (reads_rose writes_rose : Type 0) → Fault → Type 0
+JobHasCause None told reads_rose writes_rose fault = (fault ≡ faults.Usage) ⊎ (fault ≡ faults.Memory)
+JobHasCause (Some job) told reads_rose writes_rose fault = HasJobCause job told reads_rose writes_rose fault
+
+-- and what it leaves
+abbrev pub JobLeaves : Option Job → (told after : Option Map) → Fault → Type 0
+JobLeaves None told after fault = after ≡ told
+JobLeaves (Some job) told after fault = Leaves (Makes job) told after fault
+
+-- the text was appended, or a front of it where the sink failed
+abbrev pub IsPut : (old : List ℕ) (new : Option (List ℕ)) (text : List ℕ) (put_failed : Type 0) → Type 0
+IsPut old new text put_failed = (new ≡ Some (old ++ text)) ⊎ (put_failed × ((n : ℕ) × (new ≡ Some (old ++ take n text))))
+
+-- A fault is reported by its number and its report; where there is no memory for the report, by 13 and nothing.
+abbrev pub IsReported : Fault → Status → (old new : Option (List ℕ)) (put_failed : Type 0) → Type 0
+IsReported fault status old new put_failed =
+    ((status ≡ number_of fault) × ForSome old (λ bytes. IsPut bytes new (report fault) put_failed))
+    ⊎ ((status ≡ number_of faults.Memory) × (new ≡ old))
+
+-- the one fault behind a status other than 0
+pub record IsExplained (call : Call) (answer : Status) : Type 0 where
+  pub fault : Fault
+  pub cause : JobHasCause call.job call.told (call.reads < call.reads_after) (call.writes < call.writes_after) fault
+  pub leaves : JobLeaves call.job call.told call.told_after fault
+  pub reported : IsReported fault answer call.put call.put_after (call.failed < call.failed_after)
+
+-- the status is the one that is due, unless memory was refused
+abbrev pub IsOrMemory : Status → (due : Status) → Type 0
+IsOrMemory status due = (status ≡ due) ⊎ (status ≡ number_of faults.Memory)
+
+-- the status is that of a search that may come to nothing
+abbrev pub MayFail : Option Job → Status → Type 0
+MayFail None answer = ⊥
+MayFail (Some job) answer = list_any (nat_eq answer.0) (failures job) ≡ true
+
+-- the statuses with which a job may end
+abbrev pub answers : Option Job → List ℕ
+answers None = 1 ∷ 13 ∷ []
+answers (Some job) = 0 ∷ 11 ∷ 12 ∷ 13 ∷ failures job ++ refusals job
+
+-- ---- the whole
+
+-- What holds of each call of the program and its status.
+pub record IsAnswered (call : Call) (answer : Status) : Type 0 where
+  -- with 0 exactly the outputs of the job are stored, and nothing is put out
+  pub done : answer ≡ status 0 → DoesJob call.job call.told call.told_after
+  pub silent : answer ≡ status 0 → call.put_after ≡ call.put
+  -- with 1 to 11 the files are as before; with 12 the outputs before the one that failed stand, and with 13 the first ones, maybe none (`leaves` of `explained`)
+  pub kept : (n : ℕ) → 1 ≤ n → n ≤ 11 → answer ≡ status n → call.told_after ≡ call.told
+  -- with any other status than 0 there is one fault behind it, which has its cause and is reported
+  pub explained : answer ≢ status 0 → IsExplained call answer
+  -- 1 comes exactly where the words are no form
+  pub only_usage : answer ≡ status 1 → call.job ≡ None
+  pub usage : call.job ≡ None → IsOrMemory answer (status 1)
+  -- Where no device fails, the first refusal is the answer. Where nothing is refused it is 0; or 8 or 9 of a command that places and routes, whose
+  -- cause stands in `explained`.
+  pub refuses : (files : Map) (fault : Fault) → call.told ≡ Some files → RefusesJob call.job files fault → call.reads_after ≡ call.reads → IsOrMemory answer (number_of fault)
+  pub completes : (files : Map) → call.told ≡ Some files → IsJobReady call.job files → call.reads_after ≡ call.reads → call.writes_after ≡ call.writes → IsOrMemory answer (status 0) ⊎ MayFail call.job answer
+  -- 11 comes only where a read failed in this call, and 12 only where a write did
+  pub read_fault : answer ≡ status 11 → call.reads < call.reads_after
+  pub write_fault : answer ≡ status 12 → call.writes < call.writes_after
+  -- on any desk, also one that does not tell its files, a job ends with one of its own statuses
+  pub possible : list_any (nat_eq answer.0) (answers call.job) ≡ true
