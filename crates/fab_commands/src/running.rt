@@ -10,20 +10,27 @@ use crate::words::parse;
 use fab_base::{Fault, Memory, Status};
 use fab_desk::{Desk, Sink, SinkFault};
 use fab_flow::{do_assemble, do_bits, do_features, do_flow, do_generate, do_map, do_matrix};
+use fab_progress::Progress;
 use std::alloc::Global;
 
 /// Does what the words ask for.
-fn perform<D: Desk>(alloc: Global, words: &[String], desk: &mut D) -> Result<(), Fault>
+fn perform<D: Desk, P: Progress>(
+    alloc: Global,
+    words: &[String],
+    desk: &mut D,
+    progress: &mut P,
+) -> Result<(), Fault>
     ensures done { OnOk result (DoesJob (job_of (map string_bytes words.now)) (D.told desk.old) (D.told desk.new)) }
     ensures leaves { IfErr result (JobLeaves (job_of (map string_bytes words.now)) (D.told desk.old) (D.told desk.new)) }
     ensures cause { IfErr result (JobHasCause (job_of (map string_bytes words.now)) (D.told desk.old) (D.reads desk.old < D.reads desk.new) (D.writes desk.old < D.writes desk.new)) }
 {
     match parse(alloc, words)? {
-        Job::Matrix(list, out) => do_matrix(alloc, desk, &list, &out),
-        Job::Generate(fabric, out) => do_generate(alloc, desk, &fabric, &out),
+        Job::Matrix(list, out) => do_matrix(alloc, desk, progress, &list, &out),
+        Job::Generate(fabric, out) => do_generate(alloc, desk, progress, &fabric, &out),
         Job::Assemble(fabric, blif, pcf, implementation, base) => do_assemble(
             alloc,
             desk,
+            progress,
             &fabric,
             &blif,
             pcf.as_ref(),
@@ -33,6 +40,7 @@ fn perform<D: Desk>(alloc: Global, words: &[String], desk: &mut D) -> Result<(),
         Job::Map(fabric, blif, pcf, seed, rounds, out) => do_map(
             alloc,
             desk,
+            progress,
             &fabric,
             &blif,
             pcf.as_ref(),
@@ -43,6 +51,7 @@ fn perform<D: Desk>(alloc: Global, words: &[String], desk: &mut D) -> Result<(),
         Job::Flow(fabric, blif, pcf, seed, rounds, base) => do_flow(
             alloc,
             desk,
+            progress,
             &fabric,
             &blif,
             pcf.as_ref(),
@@ -50,8 +59,8 @@ fn perform<D: Desk>(alloc: Global, words: &[String], desk: &mut D) -> Result<(),
             rounds,
             &base,
         ),
-        Job::Bits(fabric, fasm, out) => do_bits(alloc, desk, &fabric, &fasm, &out),
-        Job::Features(fabric, bit, out) => do_features(alloc, desk, &fabric, &bit, &out),
+        Job::Bits(fabric, fasm, out) => do_bits(alloc, desk, progress, &fabric, &fasm, &out),
+        Job::Features(fabric, bit, out) => do_features(alloc, desk, progress, &fabric, &bit, &out),
     }
 }
 
@@ -78,7 +87,13 @@ fn report<S: Sink>(alloc: Global, fault: &Fault, out: &mut S) -> Status
 /// the first row that is refused, 6 for a generated text that is too long, 7 for a design for which the fabric has too
 /// few sites, 10 for an implementation that breaks a rule, 11 and 12 for a device that fails, and 13 for want of memory,
 /// which may come at any time.
-pub fn run<D: Desk, S: Sink>(alloc: Global, words: &[String], desk: &mut D, out: &mut S) -> Status
+pub fn run<D: Desk, P: Progress, S: Sink>(
+    alloc: Global,
+    words: &[String],
+    desk: &mut D,
+    progress: &mut P,
+    out: &mut S,
+) -> Status
     ensures { IsAnswered (record {
       job = job_of (map string_bytes words.now);
       told = D.told desk.old;
@@ -93,7 +108,7 @@ pub fn run<D: Desk, S: Sink>(alloc: Global, words: &[String], desk: &mut D, out:
       failed_after = S.faults out.new;
     }) result }
 {
-    match perform(alloc, words, desk) {
+    match perform(alloc, words, desk, progress) {
         Ok(()) => Status(0),
         Err(fault) => report(alloc, &fault, out),
     }

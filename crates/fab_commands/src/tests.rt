@@ -3,6 +3,7 @@
 use crate::run;
 use fab_base::Status;
 use fab_desk::{MemDesk, MemSink};
+use fab_progress::Silent;
 use std::alloc::{AllocError, Global};
 use std::test::Fail;
 
@@ -46,7 +47,7 @@ fn ends_so(alloc: Global, case: &Case) -> Result<bool, Fail> {
     let words = words(alloc, case.line)?;
     let mut desk = desk_of(alloc, case.desk_fails)?;
     let mut out = MemSink::new(alloc, vec![in alloc; case.sink_fails]?);
-    let status = run(alloc, &words, &mut desk, &mut out);
+    let status = run(alloc, &words, &mut desk, &mut Silent, &mut out);
     let is_stored = desk.file("x.v").is_some();
     Ok(
         status == Status(case.status)

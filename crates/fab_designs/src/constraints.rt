@@ -13,12 +13,14 @@ use fab_fabric::Fabric;
 use fab_files::fetch;
 use fab_implementation::Fixed;
 use fab_netlist::Netlist;
+use fab_progress::{Progress, Step};
 use fab_state::read_pcf;
 use std::alloc::Global;
 
-fn read_file<D: Desk>(
+fn read_file<D: Desk, P: Progress>(
     alloc: Global,
     desk: &mut D,
+    progress: &mut P,
     file: &Name,
     fabric: &Fabric,
     netlist: &Netlist,
@@ -30,15 +32,17 @@ fn read_file<D: Desk>(
     ensures fixings { IfOk result (AreFixings fabric.now (data_ports netlist.now)) }
     ensures cause { IfErr result (HasReadCause (D.told desk.old) (D.reads desk.old < D.reads desk.new) (λ files. MeetsConstraints files (Some file.now) fabric.now netlist.now)) }
 {
+    progress.tell(Step::Reading(file));
     let bytes = fetch(alloc, desk, file)?;
     read_pcf(alloc, file, &bytes, fabric, netlist)
 }
 
 /// The sites on which a pcf file fixes the ports of a netlist; none where no file is named. Its faults come as `fetch` and
 /// `read_pcf` give them.
-pub fn read_constraints<D: Desk>(
+pub fn read_constraints<D: Desk, P: Progress>(
     alloc: Global,
     desk: &mut D,
+    progress: &mut P,
     pcf: Option<&Name>,
     fabric: &Fabric,
     netlist: &Netlist,
@@ -54,6 +58,6 @@ pub fn read_constraints<D: Desk>(
         None => Ok(Fixed {
             pads: Vec::new(alloc),
         }),
-        Some(file) => read_file(alloc, desk, file, fabric, netlist),
+        Some(file) => read_file(alloc, desk, progress, file, fabric, netlist),
     }
 }

@@ -15,6 +15,7 @@ use fab_desk::Desk;
 use fab_fabric::Fabric;
 use fab_implementation::Fixed;
 use fab_netlist::Netlist;
+use fab_progress::{Progress, Step};
 use fab_read::read_fabric;
 use std::alloc::Global;
 use std::marker::Model;
@@ -38,9 +39,10 @@ impl Model for Design {
     ghost view = { λ design. record { fabric = design.fabric; netlist = design.netlist; fixed = design.fixed } };
 }
 
-fn read<D: Desk>(
+fn read<D: Desk, P: Progress>(
     alloc: Global,
     desk: &mut D,
+    progress: &mut P,
     fabric: &Name,
     blif: &Name,
     pcf: Option<&Name>,
@@ -54,9 +56,11 @@ fn read<D: Desk>(
     ensures fixings { IfOk result (λ design. AreFixings design.fabric (data_ports design.netlist) design.fixed) }
     ensures cause { IfErr result (HasReadCause (D.told desk.old) (D.reads desk.old < D.reads desk.new) (λ files. MeetsDesign files (design_files fabric.now blif.now (option_copied pcf.entry)))) }
 {
+    progress.tell(Step::Reading(fabric));
     let fabric = read_fabric(alloc, desk, fabric)?;
+    progress.tell(Step::Reading(blif));
     let netlist = read_netlist(alloc, desk, blif)?;
-    let fixed = read_constraints(alloc, desk, pcf, &fabric, &netlist)?;
+    let fixed = read_constraints(alloc, desk, progress, pcf, &fabric, &netlist)?;
     Ok(Design {
         fabric,
         netlist,
@@ -69,9 +73,10 @@ fn read<D: Desk>(
 ///
 /// The faults of each file come as `read_fabric`, `read_blif` and `read_pcf` give them, those of an earlier file before
 /// those of a later one, which is then not asked for. `Missing`, `TooLong` and `ReadFault` name the file.
-pub fn read_design<D: Desk>(
+pub fn read_design<D: Desk, P: Progress>(
     alloc: Global,
     desk: &mut D,
+    progress: &mut P,
     fabric: &Name,
     blif: &Name,
     pcf: Option<&Name>,
@@ -87,5 +92,5 @@ pub fn read_design<D: Desk>(
     ensures fixings { IfOk result (λ design. AreFixings design.fabric (data_ports design.netlist) design.fixed) }
     ensures cause { IfErr result (HasReadCause (D.told desk.old) (D.reads desk.old < D.reads desk.new) (λ files. MeetsDesign files (design_files fabric.now blif.now (option_copied pcf.entry)))) }
 {
-    read(alloc, desk, fabric, blif, pcf)
+    read(alloc, desk, progress, fabric, blif, pcf)
 }

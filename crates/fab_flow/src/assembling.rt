@@ -35,6 +35,7 @@ use fab_frames::to_bytes;
 use fab_kinds::Kind;
 use fab_legal::{CheckFault, Implementation};
 use fab_netlist::{Packed, pack};
+use fab_progress::{Progress, Step};
 use fab_state::print_state;
 use std::alloc::Global;
 
@@ -139,9 +140,10 @@ pub(crate) fn assembly(
 /// fabric has fewer LUT4c than the packed netlist has cells, or fewer IO pads than it has data ports, and `Illegal`, with
 /// the first rule that the implementation breaks and what breaks it first. `WriteFault` names an output; those before it
 /// are stored. With any other fault but want of memory the files are as before.
-pub fn do_assemble<D: Desk>(
+pub fn do_assemble<D: Desk, P: Progress>(
     alloc: Global,
     desk: &mut D,
+    progress: &mut P,
     fabric: &Name,
     blif: &Name,
     pcf: Option<&Name>,
@@ -154,8 +156,9 @@ pub fn do_assemble<D: Desk>(
     ensures cause { IfErr result (HasAssembleCause (D.told desk.old) (assembly_files fabric.now blif.now (option_copied pcf.entry) implementation.now base.now)
         (D.reads desk.old < D.reads desk.new) (D.writes desk.old < D.writes desk.new)) }
 {
-    let design = read_design(alloc, desk, fabric, blif, pcf)?;
+    let design = read_design(alloc, desk, progress, fabric, blif, pcf)?;
+    progress.tell(Step::Reading(implementation));
     let read = read_implementation(alloc, desk, implementation, &design.fabric)?;
     let outputs = assembly(alloc, &design, read, base)?;
-    store_all(alloc, desk, &outputs)
+    store_all(alloc, desk, progress, &outputs)
 }

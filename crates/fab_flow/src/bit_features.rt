@@ -22,6 +22,7 @@ use fab_fasm::print_fasm;
 use fab_features::features_of_bits;
 use fab_files::fetch;
 use fab_frames::{bits_of, to_words};
+use fab_progress::{Progress, Step};
 use fab_read::read_fabric;
 use std::alloc::Global;
 
@@ -76,9 +77,10 @@ fn features_text(alloc: Global, fabric: &Fabric, bits: &Bits) -> Result<Vec<u8>,
 ///
 /// The faults of the fabric's files come as `read_fabric` gives them, and those of the bitstream file as `to_words` and then
 /// `bits_of` do; `Missing`, `TooLong` and `ReadFault` name it. `WriteFault` names the output. With any fault the files are as before.
-pub fn do_features<D: Desk>(
+pub fn do_features<D: Desk, P: Progress>(
     alloc: Global,
     desk: &mut D,
+    progress: &mut P,
     fabric: &Name,
     bit: &Name,
     out: &Name,
@@ -88,9 +90,11 @@ pub fn do_features<D: Desk>(
     ensures leaves { IfErr result (Leaves (λ files. MakesFeatures files (features_files fabric.now bit.now out.now)) (D.told desk.old) (D.told desk.new)) }
     ensures cause { IfErr result (HasFeaturesCause (D.told desk.old) (features_files fabric.now bit.now out.now) (D.reads desk.old < D.reads desk.new) (D.writes desk.old < D.writes desk.new)) }
 {
+    progress.tell(Step::Reading(fabric));
     let read = read_fabric(alloc, desk, fabric)?;
+    progress.tell(Step::Reading(bit));
     let bits = read_bits(alloc, desk, &read, bit)?;
     let text = features_text(alloc, &read, &bits)?;
     let outputs = one_output(alloc, out, text)?;
-    store_all(alloc, desk, &outputs)
+    store_all(alloc, desk, progress, &outputs)
 }

@@ -22,6 +22,7 @@ use fab_features::bits_of_features;
 use fab_files::fetch;
 use fab_frames::{frames, to_bytes};
 use fab_legal::CheckFault;
+use fab_progress::{Progress, Step};
 use fab_read::read_fabric;
 use std::alloc::Global;
 
@@ -78,9 +79,10 @@ fn bitstream(alloc: Global, fabric: &Fabric, features: &[Feature]) -> Result<Vec
 /// `TooLong` and `ReadFault` name it. Behind them comes `Illegal` for the first wrong line: rule 10 with the line's feature, which the
 /// fabric lacks or has fewer bits of; rule 11 with an output for which a line before it chooses another input. `WriteFault` names the
 /// output. With any fault the files are as before.
-pub fn do_bits<D: Desk>(
+pub fn do_bits<D: Desk, P: Progress>(
     alloc: Global,
     desk: &mut D,
+    progress: &mut P,
     fabric: &Name,
     fasm: &Name,
     out: &Name,
@@ -90,9 +92,11 @@ pub fn do_bits<D: Desk>(
     ensures leaves { IfErr result (Leaves (λ files. MakesBits files (bits_files fabric.now fasm.now out.now)) (D.told desk.old) (D.told desk.new)) }
     ensures cause { IfErr result (HasBitsCause (D.told desk.old) (bits_files fabric.now fasm.now out.now) (D.reads desk.old < D.reads desk.new) (D.writes desk.old < D.writes desk.new)) }
 {
+    progress.tell(Step::Reading(fabric));
     let read = read_fabric(alloc, desk, fabric)?;
+    progress.tell(Step::Reading(fasm));
     let features = read_features(alloc, desk, fasm)?;
     let bytes = bitstream(alloc, &read, &features)?;
     let outputs = one_output(alloc, out, bytes)?;
-    store_all(alloc, desk, &outputs)
+    store_all(alloc, desk, progress, &outputs)
 }

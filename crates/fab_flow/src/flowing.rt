@@ -25,6 +25,7 @@ use fab_designs::{Design, read_design};
 use fab_desk::Desk;
 use fab_impl::print_impl;
 use fab_legal::Implementation;
+use fab_progress::Progress;
 use std::alloc::Global;
 
 /// The outputs for a text and an implementation, with others behind them.
@@ -73,8 +74,9 @@ fn all_outputs(
 }
 
 /// Makes the text of a design's fabric, maps the design, and gives all that is stored of both.
-fn flowed(
+fn flowed<P: Progress>(
     alloc: Global,
+    progress: &mut P,
     name: &Name,
     design: &Design,
     seed: u64,
@@ -93,7 +95,7 @@ fn flowed(
     ensures ends { IfErr result (EndsFlow name.now design.now rounds) }
 {
     let text = fabric_text(alloc, name, &design.fabric)?;
-    let implementation = mapped_design(alloc, design, seed, rounds)?;
+    let implementation = mapped_design(alloc, progress, design, seed, rounds)?;
     all_outputs(alloc, design, text, implementation, base)
 }
 
@@ -106,9 +108,10 @@ fn flowed(
 /// pads than it has data ports. `NoPath` and `Overused` come as `map` of `fab_map` gives them. All outputs are made
 /// before the first is stored. `WriteFault` names an output; those before it are stored. With any other fault but want
 /// of memory the files are as before.
-pub fn do_flow<D: Desk>(
+pub fn do_flow<D: Desk, P: Progress>(
     alloc: Global,
     desk: &mut D,
+    progress: &mut P,
     fabric: &Name,
     blif: &Name,
     pcf: Option<&Name>,
@@ -124,7 +127,7 @@ pub fn do_flow<D: Desk>(
     ensures cause { IfErr result (HasFlowCause (D.told desk.old) (flow_files fabric.now blif.now (option_copied pcf.entry) base.now) rounds
         (D.reads desk.old < D.reads desk.new) (D.writes desk.old < D.writes desk.new)) }
 {
-    let design = read_design(alloc, desk, fabric, blif, pcf)?;
-    let outputs = flowed(alloc, fabric, &design, seed, rounds, base)?;
-    store_all(alloc, desk, &outputs)
+    let design = read_design(alloc, desk, progress, fabric, blif, pcf)?;
+    let outputs = flowed(alloc, progress, fabric, &design, seed, rounds, base)?;
+    store_all(alloc, desk, progress, &outputs)
 }

@@ -22,6 +22,7 @@ use fab_desk::Desk;
 use fab_fabric::Fabric;
 use fab_gen_loader::loader_module;
 use fab_gen_top::generate;
+use fab_progress::{Progress, Step};
 use fab_read::read_fabric;
 use fab_syntax::print;
 use std::alloc::Global;
@@ -88,9 +89,10 @@ pub(crate) fn fabric_text(alloc: Global, name: &Name, fabric: &Fabric) -> Result
 ///
 /// The faults of the fabric's files come as `read_fabric` gives them. A text that has more than 67043328 bytes without its loader is
 /// refused behind them, by the limit of `text bytes` at line 0 of the fabric file. `WriteFault` names the output. With any fault the files are as before.
-pub fn do_generate<D: Desk>(
+pub fn do_generate<D: Desk, P: Progress>(
     alloc: Global,
     desk: &mut D,
+    progress: &mut P,
     fabric: &Name,
     out: &Name,
 ) -> Result<(), Fault>
@@ -99,8 +101,9 @@ pub fn do_generate<D: Desk>(
     ensures leaves { IfErr result (Leaves (λ files. MakesFabric files fabric.now out.now) (D.told desk.old) (D.told desk.new)) }
     ensures cause { IfErr result (HasGenerateCause (D.told desk.old) fabric.now (D.reads desk.old < D.reads desk.new) (D.writes desk.old < D.writes desk.new)) }
 {
+    progress.tell(Step::Reading(fabric));
     let read = read_fabric(alloc, desk, fabric)?;
     let text = fabric_text(alloc, fabric, &read)?;
     let outputs = one_output(alloc, out, text)?;
-    store_all(alloc, desk, &outputs)
+    store_all(alloc, desk, progress, &outputs)
 }

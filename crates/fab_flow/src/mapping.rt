@@ -22,11 +22,13 @@ use fab_desk::Desk;
 use fab_impl::print_impl;
 use fab_implementation::Implementation;
 use fab_map::map;
+use fab_progress::Progress;
 use std::alloc::Global;
 
 /// Packs a design, and maps it.
-pub(crate) fn mapped_design(
+pub(crate) fn mapped_design<P: Progress>(
     alloc: Global,
+    _progress: &mut P,
     design: &Design,
     seed: u64,
     rounds: u32,
@@ -48,8 +50,9 @@ pub(crate) fn mapped_design(
 }
 
 /// What is stored of a mapping of a design.
-fn mapping(
+fn mapping<P: Progress>(
     alloc: Global,
+    progress: &mut P,
     design: &Design,
     seed: u64,
     rounds: u32,
@@ -63,7 +66,7 @@ fn mapping(
     ensures names { IsUtf8 out.now → IfOk result (λ outputs. All (λ output. IsUtf8 output.name) outputs.items) }
     ensures cause { IfErr result (EndsUnmapped design.now rounds) }
 {
-    let implementation = mapped_design(alloc, design, seed, rounds)?;
+    let implementation = mapped_design(alloc, progress, design, seed, rounds)?;
     let text = print_impl(alloc, &design.fabric, &implementation)?;
     Ok(one_output(alloc, out, text)?)
 }
@@ -73,9 +76,10 @@ fn mapping(
 /// The faults of the files come as `read_design` gives them. Behind them comes `Short`, where the fabric has fewer LUT4c
 /// than the packed netlist has cells, or fewer IO pads than it has data ports. `NoPath` and `Overused` come as `map` of
 /// `fab_map` gives them. `WriteFault` names OUT. With any fault but want of memory the files are as before.
-pub fn do_map<D: Desk>(
+pub fn do_map<D: Desk, P: Progress>(
     alloc: Global,
     desk: &mut D,
+    progress: &mut P,
     fabric: &Name,
     blif: &Name,
     pcf: Option<&Name>,
@@ -91,7 +95,7 @@ pub fn do_map<D: Desk>(
     ensures cause { IfErr result (HasMappingCause (D.told desk.old) (mapping_files (design_files fabric.now blif.now (option_copied pcf.entry)) out.now) rounds
         (D.reads desk.old < D.reads desk.new) (D.writes desk.old < D.writes desk.new)) }
 {
-    let design = read_design(alloc, desk, fabric, blif, pcf)?;
-    let outputs = mapping(alloc, &design, seed, rounds, out)?;
-    store_all(alloc, desk, &outputs)
+    let design = read_design(alloc, desk, progress, fabric, blif, pcf)?;
+    let outputs = mapping(alloc, progress, &design, seed, rounds, out)?;
+    store_all(alloc, desk, progress, &outputs)
 }

@@ -13,6 +13,7 @@ use fab_desk::Desk;
 use fab_list_files::read_pairs;
 use fab_matrix::list_module;
 use fab_paths::stem;
+use fab_progress::{Progress, Step};
 use std::alloc::Global;
 
 /// The name of the module that is made of a list.
@@ -35,14 +36,21 @@ fn matrix_text(alloc: Global, list: &Name, pairs: &[(Name, Name)]) -> Result<Vec
 /// Reads a switch list with the lists that it includes, and stores the module of its pairs under the output's name.
 ///
 /// The faults of the list come as `read_pairs` gives them. `WriteFault` names the output. With any fault the files are as before.
-pub fn do_matrix<D: Desk>(alloc: Global, desk: &mut D, list: &Name, out: &Name) -> Result<(), Fault>
+pub fn do_matrix<D: Desk, P: Progress>(
+    alloc: Global,
+    desk: &mut D,
+    progress: &mut P,
+    list: &Name,
+    out: &Name,
+) -> Result<(), Fault>
     requires { IsUtf8 out.now }
     ensures done { OnOk result (IsDone (λ files. MakesMatrix files list.now out.now) (D.told desk.old) (D.told desk.new)) }
     ensures leaves { IfErr result (Leaves (λ files. MakesMatrix files list.now out.now) (D.told desk.old) (D.told desk.new)) }
     ensures cause { IfErr result (HasMatrixCause (D.told desk.old) list.now (D.reads desk.old < D.reads desk.new) (D.writes desk.old < D.writes desk.new)) }
 {
+    progress.tell(Step::Reading(list));
     let pairs = read_pairs(alloc, desk, list)?;
     let text = matrix_text(alloc, list, &pairs)?;
     let outputs = one_output(alloc, out, text)?;
-    store_all(alloc, desk, &outputs)
+    store_all(alloc, desk, progress, &outputs)
 }

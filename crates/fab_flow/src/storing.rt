@@ -7,6 +7,7 @@ ghost use Rattle.fab_flow.specs.Storing.{output, plain_output, with_outputs, IsS
 
 use fab_base::{Fault, Memory, Name};
 use fab_desk::{Desk, DeskFault};
+use fab_progress::{Progress, Step};
 use std::alloc::Global;
 use std::str;
 
@@ -51,9 +52,10 @@ fn store<D: Desk>(alloc: Global, desk: &mut D, file: &Name, text: &[u8]) -> Resu
 /// Stores outputs one after the other, up to the first store that fails.
 ///
 /// `WriteFault` names the output at which the device fails; besides it only want of memory comes.
-pub(crate) fn store_all<D: Desk>(
+pub(crate) fn store_all<D: Desk, P: Progress>(
     alloc: Global,
     desk: &mut D,
+    progress: &mut P,
     outputs: &[Output],
 ) -> Result<(), Fault>
     requires { All (λ output. IsUtf8 output.name) outputs.now }
@@ -63,6 +65,7 @@ pub(crate) fn store_all<D: Desk>(
     ensures stopped { IfErr result (IsStopped (map plain_output outputs.now) (D.told desk.old) (D.told desk.new) (D.writes desk.old < D.writes desk.new)) }
 {
     for output in outputs {
+        progress.tell(Step::Writing(&output.name));
         store(alloc, desk, &output.name, &output.bytes)?;
     }
     Ok(())

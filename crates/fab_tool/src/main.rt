@@ -3,8 +3,9 @@
 
 use fab_commands::run;
 use fab_desk::{FileDesk, OutSink};
+use fab_progress::{ErrProgress, is_asked_for};
 use std::env;
-use std::io::ErrorKind;
+use std::io::{ErrorKind, IsTerminal};
 use std::process::ExitCode;
 
 fn main(rt: HostRuntime) -> ExitCode {
@@ -21,7 +22,9 @@ fn main(rt: HostRuntime) -> ExitCode {
         }
     }
     let mut desk = FileDesk::new(&rt);
+    let is_wanted = rt.stderr().is_terminal() || is_asked_for(&rt);
+    let mut progress = ErrProgress::new(alloc, &rt, is_wanted);
     let mut out = OutSink::new(&rt);
-    let status = run(alloc, &words, &mut desk, &mut out);
+    let status = run(alloc, &words, &mut desk, &mut progress, &mut out);
     ExitCode::from(status.0)
 }

@@ -6,6 +6,7 @@ use fab_base::Name;
 use fab_desk::{Desk, MemDesk, Sink};
 use fab_examples::{Stop, fetch};
 use fab_flow::do_assemble;
+use fab_progress::Silent;
 use std::alloc::Global;
 
 /// The file of the implementation.
@@ -30,6 +31,7 @@ fn assembled(alloc: Global, memory: &mut MemDesk, design: &str) -> Result<(), St
     do_assemble(
         alloc,
         memory,
+        &mut Silent,
         &fabric,
         &blif,
         Some(&pcf),

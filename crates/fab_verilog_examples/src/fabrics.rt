@@ -10,6 +10,7 @@ use fab_base::{MAX_FILE_BYTES, Name};
 use fab_desk::{Desk, MemDesk, Sink};
 use fab_examples::{Stop, fetch};
 use fab_flow::do_generate;
+use fab_progress::Silent;
 use std::alloc::Global;
 use std::str;
 
@@ -45,7 +46,7 @@ pub fn stored_text<D: Desk>(alloc: Global, desk: &mut D, name: &str) -> Result<V
     let fabric = format!(in alloc; "{name}.csv")?;
     let fabric = Name::of(alloc, fabric.as_bytes())?;
     let output = Name::of(alloc, OUTPUT.as_bytes())?;
-    do_generate(alloc, &mut memory, &fabric, &output)?;
+    do_generate(alloc, &mut memory, &mut Silent, &fabric, &output)?;
     Ok(fetch(alloc, &mut memory, OUTPUT)?)
 }
 

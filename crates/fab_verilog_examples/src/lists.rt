@@ -5,6 +5,7 @@ use fab_base::Name;
 use fab_desk::{Desk, MemDesk, Sink};
 use fab_examples::{Stop, fetch};
 use fab_flow::do_matrix;
+use fab_progress::Silent;
 use std::alloc::Global;
 
 /// Where the module of a list is stored.
@@ -20,7 +21,7 @@ fn put_list<S: Sink>(alloc: Global, out: &mut S, case: Case) -> Result<(), Stop>
     let mut memory = MemDesk::new(alloc, files, Vec::new(alloc))?;
     let list = Name::of(alloc, case.name.as_bytes())?;
     let output = Name::of(alloc, OUTPUT.as_bytes())?;
-    do_matrix(alloc, &mut memory, &list, &output)?;
+    do_matrix(alloc, &mut memory, &mut Silent, &list, &output)?;
     out.put(list.bytes())?;
     out.put(b":\n")?;
     out.put(&fetch(alloc, &mut memory, OUTPUT)?)?;

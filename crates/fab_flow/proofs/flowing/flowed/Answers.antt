@@ -15,7 +15,7 @@ use Rattle.fab_flow.proofs.flowing.flowed.Goals as goal
 -- ---- nothing is made
 
 pub returns-in_err-text-clause-ends : goal.returns-in_err-text-clause-ends
-returns-in_err-text-clause-ends c =
+returns-in_err-text-clause-ends g c =
     let residual = err_from_is_err_and c.from_residual.result c.from_residual.ensures.1 in
     let fault = c.in_err-text.field-0.0 in
     rw (residual.1, residual.2)
@@ -23,19 +23,19 @@ returns-in_err-text-clause-ends c =
     (subst (λ (d : PlainDesign). (fault ≡ faults.Memory) ⊎ IsTooLong c.args.name.now d.fabric fault) c.design.view_is c.in_err-text.ensures.long))
 
 pub returns-in_err-implementation-clause-ends : goal.returns-in_err-implementation-clause-ends
-returns-in_err-implementation-clause-ends c =
+returns-in_err-implementation-clause-ends g c =
     let residual = err_from_is_err_and c.from_residual-in_err-implementation.result c.from_residual-in_err-implementation.ensures.1 in
     rw (residual.1, residual.2)
     (mapping_ends c.args.name.now c.args.design.now c.args.rounds c.in_err-implementation.field-0.0
     (subst (λ (d : PlainDesign). text_length d.fabric ≤ most_text_bytes) c.design.view_is c.in_ok-text.ensures.short) c.in_err-implementation.ensures.cause)
 
 pub returns-clause-ends : goal.returns-clause-ends
-returns-clause-ends c = IfErr-weaker c.all_outputs.result _ _ (λ fault is. memory_ends c.args.name.now c.args.design.now c.args.rounds fault is) c.all_outputs.ensures.memory
+returns-clause-ends g c = IfErr-weaker c.all_outputs.result _ _ (λ fault is. memory_ends c.args.name.now c.args.design.now c.args.rounds fault is) c.all_outputs.ensures.memory
 
 -- ---- what is made
 
 pub returns-clause-made : goal.returns-clause-made
-returns-clause-made c =
+returns-clause-made g c =
     let design = c.args.design.now in
     let text = c.in_ok-text.text.items in
     let of = c.in_ok-text.ensures in
