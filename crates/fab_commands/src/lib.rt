@@ -11,6 +11,3 @@ mod words;
 pub use job::Job;
 pub use running::run;
 pub use words::parse;
-
-#[cfg(test)]
-mod tests;

@@ -18,7 +18,7 @@ use std::str;
 const OUTPUT: &str = "text.v";
 
 /// The files that stand in one.
-pub fn files_of(alloc: Global, bytes: &[u8]) -> Result<Vec<(String, Vec<u8>)>, Stop> {
+fn files_of(alloc: Global, bytes: &[u8]) -> Result<Vec<(String, Vec<u8>)>, Stop> {
     let mut files = Vec::new(alloc);
     for Case { name, text } in cases_of(alloc, bytes)? {
         files.push((

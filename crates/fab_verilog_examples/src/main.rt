@@ -1,8 +1,7 @@
 //! The Verilog side of fab on small inputs: texts that are read, judged and given equations, texts that are generated, the loader at
-//! work, and the parts that they are made of; and what commands store. Each input stands in a file, and what is made of it is printed.
+//! work, and the parts that they are made of. Each input stands in a file, and what is made of it is printed.
 #![tactic(auto)]
 
-mod assembling;
 mod bits;
 mod cases;
 mod edits;
@@ -18,7 +17,6 @@ mod modules;
 mod primitives;
 mod reading;
 
-use assembling::put_assembled;
 use bits::put_numbers;
 use equations::put_equations;
 use fab_desk::{FileDesk, OutSink};
@@ -46,7 +44,6 @@ fn main(rt: HostRuntime) -> Result<(), Stop> {
     put_primitives(alloc, &mut out)?;
     put_matrices(alloc, &mut desk, &mut out)?;
     put_lists(alloc, &mut desk, &mut out)?;
-    put_assembled(alloc, &mut desk, &mut out)?;
     put_verdicts(alloc, &mut desk, &mut out)?;
     put_equations(alloc, &mut desk, &mut out)
 }
