@@ -10,8 +10,10 @@ pub mod Cutting
 pub mod Written
 pub mod FeatureWords
 pub mod Texts
-pub mod AddressBack
-pub mod ValueBack
 pub mod Clean
-pub mod ReadBack
+pub mod Fronts
+pub mod PartsRead
+pub mod PartsFound
+pub mod PartsLaw
+pub mod PrintedParts
 pub mod TextBack

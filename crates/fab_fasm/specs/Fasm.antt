@@ -1,10 +1,9 @@
--- What the lines of a FASM text spell, and why a line is refused.
-use Rattle.std.specs.Prelude.{◌≡◌, ℕ, ◌+◌, false, List, [], ◌∷◌, ◌++◌, ◌==◌, length, Option, Some, None, Result, Ok, Err, if◌then◌else◌}
+-- Why a line of a FASM text is refused, and what is read of one that is not, as a computation.
+use Rattle.std.specs.Prelude.{ℕ, ◌+◌, false, List, [], ◌∷◌, ◌++◌, ◌==◌, length, Option, Some, None, Result, Ok, Err, if◌then◌else◌}
 use Rattle.fab_base.specs.declared.words.Reason.{Reason}
 use Rattle.fab_base.specs.declared.words.Reason.TheVariants as reasons
 use Rattle.fab_base.specs.declared.problem.Problem.{Problem}
 use Rattle.fab_base.specs.declared.problem.Problem.TheVariants as problems
-use Rattle.fab_lines.specs.Order.{IsFine}
 use Rattle.fab_fasm.specs.declared.feature.Feature.{Feature}
 use Rattle.fab_fasm.specs.Parts.{TwoParts, Addressed, has_return, unblanked, run, is_of_feature, is_feature, address_at, tail_fault}
 use Rattle.fab_fasm.specs.Values.{Valued, value_at}
@@ -42,7 +41,7 @@ line_of_text line text =
     if length (run is_of_feature text).0 == 0 then nothing_said (tail_fault reasons.Feature text)
     else feature_line line (run is_of_feature text)
 
--- The feature that a line of this number spells, none where it has none, or why the line is refused: the reason of the
+-- The feature that is read of a line of this number, none where it has none, or why the line is refused: the reason of the
 -- first part that is malformed, and else the limit that the value breaks. A carriage return that ends no line is no part
 -- of it, and is refused as a feature.
 unfoldable pub line_of : (line : ℕ) (text : List ℕ) → Result (Option Feature) Problem
@@ -64,15 +63,10 @@ abbrev pub said : Result (Option Feature) Problem → List Feature
 said (Ok (Some feature)) = feature ∷ []
 said _ = []
 
--- what lines spell, of which the first has this number
+-- what is read of lines, of which the first has this number
 abbrev pub features_from : (number : ℕ) (lines : List (List ℕ)) → List Feature
 features_from number [] = []
 features_from number (line ∷ lines) = said (line_of number line) ++ features_from (number + 1) lines
-
--- no line is refused, and these are the features in the order of their lines
-pub record SpellsFasm (lines : List (List ℕ)) (features : List Feature) : Type 0 where
-  pub fine : IsFine fasm_judge lines
-  pub in_order : features ≡ features_from 1 lines
 
 -- ---- the same as a computation, which the reader follows
 

@@ -6,3 +6,4 @@ pub mod Printing
 pub mod Limbs
 pub mod Leading
 pub mod Plain
+pub mod Spelled

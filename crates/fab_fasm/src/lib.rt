@@ -3,6 +3,7 @@
 
 mod address;
 mod feature;
+mod laws;
 mod leading;
 mod limbs;
 mod line;
@@ -14,5 +15,6 @@ mod reading;
 mod value;
 
 pub use feature::Feature;
+pub use laws::lines_are_their_parts;
 pub use printing::print_fasm;
 pub use reading::read_fasm;

@@ -2,9 +2,9 @@
 
 ghost use Rattle.std.specs.Prelude.{◌≡◌, ◌++◌, ◌/◌, ◌%◌, ◌^◌, All, IfOk, OnOk, codes, decimal};
 ghost use Rattle.std.specs.Str.Lines.{lines};
-ghost use Rattle.fab_fasm.specs.Fasm.{SpellsFasm};
 ghost use Rattle.fab_fasm.specs.Parts.{width_of};
 ghost use Rattle.fab_fasm.specs.Printing.{HasSpelling, address_text, binary, feature_text, numbered, printed, value_text};
+ghost use Rattle.fab_fasm.specs.Spelled.{SpellsFasm};
 
 use crate::address::width_of;
 use crate::feature::Feature;

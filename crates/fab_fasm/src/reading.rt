@@ -1,11 +1,12 @@
 //! A FASM file is read line by line.
 
-ghost use Rattle.std.specs.Prelude.{◌≡◌, ◌≢◌, ◌≤◌, IfErr, IfOk, length, []};
+ghost use Rattle.std.specs.Prelude.{◌≡◌, ◌≢◌, ◌≤◌, IfErr, IfOk, IsOkUnless, length, []};
 ghost use Rattle.std.specs.Str.Lines.{lines};
 ghost use Rattle.fab_base.specs.declared.fault.Fault.TheVariants as faults;
 ghost use Rattle.fab_base.specs.Reading.{Answers, Gives};
-ghost use Rattle.fab_lines.specs.Order.{IsFirstFault, placed, read_from};
-ghost use Rattle.fab_fasm.specs.Fasm.{SpellsFasm, after_line, fasm_judge};
+ghost use Rattle.fab_lines.specs.Order.{IsFine, IsFirstFault, placed, read_from};
+ghost use Rattle.fab_fasm.specs.Fasm.{after_line, fasm_judge};
+ghost use Rattle.fab_fasm.specs.Spelled.{SpellsFasm};
 
 use crate::feature::Feature;
 use crate::line::line_of;
@@ -71,6 +72,7 @@ fn read(alloc: Global, file: &Name, bytes: &[u8]) -> Result<Vec<Feature>, Fault>
 pub fn read_fasm(alloc: Global, file: &Name, bytes: &[u8]) -> Result<Vec<Feature>, Fault>
     requires { length bytes.now ≤ MAX_FILE_BYTES }
     ensures spelled { IfOk result (λ features. SpellsFasm (lines bytes.now) features.items) }
+    ensures reads { IsFine fasm_judge (lines bytes.now) → IsOkUnless result faults.Memory }
     ensures refusal { IfErr result (λ fault. fault ≢ faults.Memory → IsFirstFault fasm_judge file.now (lines bytes.now) fault) }
 {
     read(alloc, file, bytes)

@@ -1,7 +1,7 @@
 use Rattle.std.proofs.Common.{◌≡◌, ◌∙◌, ap, sym, subst, arith, length, take, List, ℕ}
 use Rattle.std.specs.Str.Lines.{lines}
 use Rattle.std.proofs.Math.Seq.{take-length}
-use Rattle.fab_fasm.specs.Fasm.{SpellsFasm}
+use Rattle.fab_fasm.specs.Spelled.{SpellsFasm}
 use Rattle.fab_fasm.specs.Printing.{printed, numbered}
 use Rattle.fab_fasm.proofs.TextBack.{printed_spells}
 use Rattle.fab_fasm.proofs.printing.print_fasm.Goals as goal
