@@ -93,11 +93,11 @@ prefix_passes test (first ∷ text) = elim (cases_Bool (test first)) [
 ]
 
 -- what stands round the first such byte
-record IsParted (byte : ℕ) (text : List ℕ) (parts : TwoParts) : Type 0 where
-  is : text ≡ parts.0 ++ byte ∷ parts.1
-  first : list_all (differs byte) parts.0 ≡ true
+pub record IsParted (byte : ℕ) (text : List ℕ) (parts : TwoParts) : Type 0 where
+  pub is : text ≡ parts.0 ++ byte ∷ parts.1
+  pub first : list_all (differs byte) parts.0 ≡ true
 
-parted_found : (byte : ℕ) (text : List ℕ) (parts : TwoParts) → parted byte text ≡ Some parts → IsParted byte text parts
+pub parted_found : (byte : ℕ) (text : List ℕ) (parts : TwoParts) → parted byte text ≡ Some parts → IsParted byte text parts
 unfolding parted
 parted_found byte text parts e =
     let n = prefix_len (differs byte) text in

@@ -60,3 +60,8 @@ HasReadCause told reads_rose meets (faults.Malformed place reason) = ForSome tol
 HasReadCause told reads_rose meets (faults.Unsupported place construct) = ForSome told (λ files. meets files (refuses (faults.Unsupported place construct)))
 HasReadCause told reads_rose meets (faults.Limit place quantity value bound) = ForSome told (λ files. meets files (refuses (faults.Limit place quantity value bound)))
 HasReadCause told reads_rose meets _ = ⊥
+
+-- The fault is no construct that fab does not support. A file by itself has none, and neither has a switch list.
+abbrev pub IsSupported : Fault → Type 0
+IsSupported (faults.Unsupported place construct) = ⊥
+IsSupported fault = Unit {0}

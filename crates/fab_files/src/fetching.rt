@@ -3,7 +3,7 @@
 ghost use Rattle.std.specs.Prelude.{◌≡◌, ◌<◌, ◌≤◌, Ok, Some, None, IfOk, IfErr, IfSome, option_map, vec_len, if◌then◌else◌};
 ghost use Rattle.std.specs.Option.{ForSome};
 ghost use Rattle.std.specs.Str.{is_utf8};
-ghost use Rattle.fab_files.specs.Files.{handed_out, handed_out_if_there, HasReadCause, MeetsFile, MeetsIfThere};
+ghost use Rattle.fab_files.specs.Files.{handed_out, handed_out_if_there, HasReadCause, IsSupported, MeetsFile, MeetsIfThere};
 
 use fab_base::{Fault, MAX_FILE_BYTES, Name};
 use fab_desk::{Desk, DeskFault};
@@ -31,6 +31,7 @@ pub fn fetch_if_there<D: Desk>(
     ensures small { IfOk result (λ found. IfSome found (λ bytes. vec_len bytes ≤ MAX_FILE_BYTES)) }
     ensures found { ForSome (D.told desk.old) (λ files. IfOk result (λ found. handed_out_if_there files file.now ≡ Ok (option_map (λ bytes. bytes.items) found))) }
     ensures cause { IfErr result (HasReadCause (D.told desk.old) (D.reads desk.old < D.reads desk.new) (λ files. MeetsIfThere files file.now)) }
+    ensures supported { IfErr result IsSupported }
 {
     let name = file.copy(alloc)?;
     let Some(text) = text_of(file) else {
@@ -54,6 +55,7 @@ pub fn fetch<D: Desk>(alloc: Global, desk: &mut D, file: &Name) -> Result<Vec<u8
     ensures small { IfOk result (λ bytes. vec_len bytes ≤ MAX_FILE_BYTES) }
     ensures found { ForSome (D.told desk.old) (λ files. IfOk result (λ bytes. handed_out files file.now ≡ Ok bytes.items)) }
     ensures cause { IfErr result (HasReadCause (D.told desk.old) (D.reads desk.old < D.reads desk.new) (λ files. MeetsFile files file.now)) }
+    ensures supported { IfErr result IsSupported }
 {
     match fetch_if_there(alloc, desk, file) {
         Ok(Some(bytes)) => Ok(bytes),

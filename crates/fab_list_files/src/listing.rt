@@ -5,7 +5,7 @@ ghost use Rattle.std.specs.Option.{ForSome};
 ghost use Rattle.fab_base.specs.Reading.{Answers};
 ghost use Rattle.fab_rows.specs.Rows.{rows_of};
 ghost use Rattle.fab_tables.specs.Lists.{Pair};
-ghost use Rattle.fab_files.specs.Files.{HasReadCause};
+ghost use Rattle.fab_files.specs.Files.{HasReadCause, IsSupported};
 ghost use Rattle.fab_list_files.specs.Lists.{Knowledge, with_pairs, opened, deed_of, ReadsList, MeetsList, ReadsListFile, MeetsListFile};
 ghost use Rattle.fab_list_files.specs.Following.{plain_deed, MayOpen, Leads, MeetsRow};
 
@@ -109,6 +109,7 @@ fn take_row<D: Desk, S: ListState>(
     ensures known { S.known state.new ≡ S.known state.old }
     ensures read { ForSome (D.told desk.old) (λ files. OnOk result (Leads files (S.known state.old) left file.now (S.pairs state.old) row.now (S.pairs state.new))) }
     ensures cause { IfErr result (HasReadCause (D.told desk.old) (D.reads desk.old < D.reads desk.new) (λ files. MeetsRow files (S.known state.old) left file.now (S.pairs state.old) row.now)) }
+    ensures supported { IfErr result IsSupported }
 {
     match judge_row(alloc, state, left, file, row) {
         Ok(deed) => match deed {
@@ -136,6 +137,7 @@ pub fn take_rows<D: Desk, S: ListState>(
     ensures known { S.known state.new ≡ S.known state.old }
     ensures read { ForSome (D.told desk.old) (λ files. OnOk result (ReadsList files (S.known state.old) left file.now (S.pairs state.old) (rows_of bytes.now) (S.pairs state.new))) }
     ensures cause { IfErr result (HasReadCause (D.told desk.old) (D.reads desk.old < D.reads desk.new) (λ files. MeetsList files (S.known state.old) left file.now (S.pairs state.old) (rows_of bytes.now))) }
+    ensures supported { IfErr result IsSupported }
 {
     let found = rows(alloc, bytes)?;
     for row in &found {
@@ -162,6 +164,7 @@ pub fn read_list_file<D: Desk, S: ListState>(
     ensures known { S.known state.new ≡ S.known state.old }
     ensures read { ForSome (D.told desk.old) (λ files. OnOk result (ReadsListFile files (S.known state.old) left file.now (S.pairs state.old) (S.pairs state.new))) }
     ensures cause { IfErr result (HasReadCause (D.told desk.old) (D.reads desk.old < D.reads desk.new) (λ files. MeetsListFile files (S.known state.old) left file.now (S.pairs state.old))) }
+    ensures supported { IfErr result IsSupported }
 {
     let bytes = fetch(alloc, desk, file)?;
     take_rows(alloc, desk, state, left, file, &bytes)

@@ -4,7 +4,7 @@ ghost use Rattle.std.specs.Prelude.{◌≡◌, ◌<◌, ◌≤◌, List, IfOk, I
 ghost use Rattle.std.specs.Option.{ForSome};
 ghost use Rattle.fab_base.specs.declared.fault.Fault.TheVariants as faults;
 ghost use Rattle.fab_tables.specs.Lists.{Pair};
-ghost use Rattle.fab_files.specs.Files.{HasReadCause};
+ghost use Rattle.fab_files.specs.Files.{HasReadCause, IsSupported};
 ghost use Rattle.fab_list_files.specs.Sides.{SpellsPairs, MeetsPairs};
 
 use crate::crowd::{MOST_INPUTS, find_crowd};
@@ -22,6 +22,7 @@ fn read<D: Desk>(alloc: Global, desk: &mut D, name: &Name) -> Result<Vec<(Name, 
     ensures reads { D.reads desk.old ≤ D.reads desk.new }
     ensures spelled { ForSome (D.told desk.old) (λ files. IfOk result (λ pairs. SpellsPairs files name.now pairs.items)) }
     ensures cause { IfErr result (HasReadCause (D.told desk.old) (D.reads desk.old < D.reads desk.new) (λ files. MeetsPairs files name.now)) }
+    ensures supported { IfErr result IsSupported }
 {
     let bytes = fetch(alloc, desk, name)?;
     let mut matrix = MatrixPairs::new(alloc);
@@ -51,6 +52,7 @@ pub fn read_pairs<D: Desk>(
     ensures spelled { ForSome (D.told desk.old) (λ files. IfOk result (λ pairs. SpellsPairs files name.now pairs.items)) }
     ensures complete { ForSome (D.told desk.old) (λ files. (pairs : List Pair) → SpellsPairs files name.now pairs → D.reads desk.new ≡ D.reads desk.old → IsOkUnless result faults.Memory) }
     ensures cause { IfErr result (HasReadCause (D.told desk.old) (D.reads desk.old < D.reads desk.new) (λ files. MeetsPairs files name.now)) }
+    ensures supported { IfErr result IsSupported }
 {
     read(alloc, desk, name)
 }

@@ -8,6 +8,7 @@ use Rattle.fab_desk.specs.Files.{Map}
 use Rattle.fab_list_files.specs.Lists.{deed_of, Knowledge, ReadsList, MeetsList, MeetsListFile, of_file, of_rows}
 use Rattle.fab_list_files.specs.Following.{Leads, MeetsRow}
 use Rattle.fab_list_files.proofs.Rows.{cause_weaker, cause_at, adds_lead, opens_lead, opens_meets, bad_meets, leads_further, leads_to_end, leads_to_event, drop_next}
+use Rattle.fab_list_files.proofs.Supported.{row_supported}
 use Rattle.fab_list_files.proofs.listing.+list.Goals as goal
 
 pub read_list_file-returns-in_err-bytes-clause-cause : goal.read_list_file-returns-in_err-bytes-clause-cause
@@ -137,3 +138,17 @@ take_rows-returns-clause-read g t c = λ files is.
     let all : rows ≡ rows_of c.args.bytes.now = c.deref-row-items.ensures.value ∙ c.in_ok-found.ensures in
     subst (λ (rs : List PlainRow). ReadsList files known c.args.left c.args.file.now before rs pairs) all
     (leads_to_end files known c.args.left c.args.file.now before rows pairs (drop c.loop-row.row-index rows) (drop_all c.loop-row.row-index rows (omega arith)) (c.loop-row.invariant.on files is))
+
+pub read_list_file-returns-in_err-bytes-clause-supported : goal.read_list_file-returns-in_err-bytes-clause-supported
+read_list_file-returns-in_err-bytes-clause-supported g t c =
+    let residual = err_from_is_err_and c.from_residual.result c.from_residual.ensures.1 in
+    rw (residual.1, residual.2) c.in_err-bytes.ensures.supported
+
+pub take_row-returns-in-Err-clause-supported : goal.take_row-returns-in-Err-clause-supported
+take_row-returns-in-Err-clause-supported g t c =
+    row_supported (g.S.ListState.known c.args.state.now) c.args.left c.args.file.now (g.S.ListState.pairs c.args.state.now) c.args.row.now.cells _ c.in-Err.problem c.at.result c.in-Err.ensures.deed c.at.ensures
+
+pub take_rows-returns-in_err-take_row-clause-supported : goal.take_rows-returns-in_err-take_row-clause-supported
+take_rows-returns-in_err-take_row-clause-supported g t c =
+    let residual = err_from_is_err_and c.from_residual-in_err-take_row.result c.from_residual-in_err-take_row.ensures.1 in
+    rw (residual.1, residual.2) c.in_err-take_row.ensures.supported

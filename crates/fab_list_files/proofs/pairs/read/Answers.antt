@@ -10,6 +10,7 @@ use Rattle.fab_files.specs.Files.{MeetsFile, handed_out, last_line}
 use Rattle.fab_list_files.specs.Lists.{most_open, ReadsList, MeetsList, ReadsListFile, of_file, of_rows}
 use Rattle.fab_list_files.specs.Sides.{on_both_sides, crowd, crowd_limit, most_inputs, MeetsPairs, of_list, of_crowd}
 use Rattle.fab_list_files.proofs.Rows.{cause_weaker, limit_cause}
+use Rattle.fab_list_files.proofs.Supported.{limit_supported}
 use Rattle.fab_list_files.proofs.pairs.read.Goals as goal
 
 pub returns-in_err-bytes-clause-cause : goal.returns-in_err-bytes-clause-cause
@@ -50,3 +51,16 @@ returns-in-Some-clause-cause g c =
     name (last_line c.deref.result.now) quantities.InputsOfAnOutput c.in-Some.inputs most_inputs c.at.result
     (λ files is. of_crowd (found files is) (read files is) crowded)
     (subst (λ (n : ℕ). IsFaultOr c.at.result (fault_at name n (crowd_limit c.in-Some.inputs))) last c.at.ensures)
+
+pub returns-in_err-bytes-clause-supported : goal.returns-in_err-bytes-clause-supported
+returns-in_err-bytes-clause-supported g c =
+    let residual = err_from_is_err_and c.from_residual.result c.from_residual.ensures.1 in
+    rw (residual.1, residual.2) c.in_err-bytes.ensures.supported
+
+pub returns-in_err-take_rows-clause-supported : goal.returns-in_err-take_rows-clause-supported
+returns-in_err-take_rows-clause-supported g c =
+    let residual = err_from_is_err_and c.from_residual-in_err-take_rows.result c.from_residual-in_err-take_rows.ensures.1 in
+    rw (residual.1, residual.2) c.in_err-take_rows.ensures.supported
+
+pub returns-in-Some-clause-supported : goal.returns-in-Some-clause-supported
+returns-in-Some-clause-supported g c = limit_supported c.args.name.now c.last_line.result quantities.InputsOfAnOutput c.in-Some.inputs most_inputs c.at.result c.at.ensures
