@@ -57,7 +57,10 @@ const STEPS: [(u32, u32); 40] = [
 ];
 
 /// How many exchanges of each item a step tries.
-const TRIES: u32 = 30;
+const TRIES: u32 = 40;
+
+/// How often a tile is drawn for an exchange.
+const DRAWS: u32 = 8;
 
 /// What a step of the annealing goes by.
 #[derive(Clone, Copy)]
@@ -103,7 +106,7 @@ fn draw_near(random: &mut Lcg64Xsh32, place: u32, window: u32, last: u32) -> u32
     low + below(random, high - low + 1)
 }
 
-/// A random site in a tile not far from that of a site of the first kind; none where the tile has none.
+/// A random site in a tile not far from that of a site, and of the same kind; none where the tile has none.
 fn draw_in_tile(
     board: &Board,
     lots: &Lots,
@@ -114,11 +117,13 @@ fn draw_in_tile(
     requires board { IsBoard board.now }
     requires lots { HasLots board.now lots.now }
     requires from { from < site_count board.now }
-    ensures { IfSome result (λ site. site < site_count board.now) }
+    ensures inside { IfSome result (λ site. site < site_count board.now) }
+    ensures kind { IfSome result (λ site. is_second board.now site ≡ is_second board.now from) }
 {
+    let second = board.is_second(from);
     let column = draw_near(random, board.column(from), step.window, step.last_column);
     let row = draw_near(random, board.row(from), step.window, step.last_row);
-    let lot = lots.at(false, column, row);
+    let lot = lots.at(second, column, row);
     let count = lot.len();
     if count == 0 {
         return None;
@@ -127,26 +132,7 @@ fn draw_in_tile(
     Some(lot[place])
 }
 
-/// A random site whose number is not far from that of a site of the second kind.
-fn draw_by_number(board: &Board, random: &mut Lcg64Xsh32, from: u32, step: Step) -> u32
-    requires board { IsBoard board.now }
-    requires from { from < site_count board.now }
-    ensures { result < site_count board.now }
-{
-    let count = board.sites();
-    let around = step.last_column + step.last_row + 2;
-    let share = count
-        .saturating_sub(board.second)
-        .saturating_mul(step.window)
-        / around;
-    let window = share.max(2);
-    let low = from.saturating_sub(window).max(board.second).min(count - 1);
-    let high = from.saturating_add(window).min(count - 1);
-    let drawn = below(random, high.saturating_sub(low) + 1);
-    (low + drawn).min(count - 1)
-}
-
-/// A random site of the kind of a site, not far from it.
+/// A random site of the kind of a site, not far from it. Sites of the second kind stand in few tiles, so a tile without one is drawn again.
 fn draw_site(
     board: &Board,
     lots: &Lots,
@@ -160,15 +146,12 @@ fn draw_site(
     ensures inside { IfSome result (λ site. site < site_count board.now) }
     ensures kind { IfSome result (λ site. is_second board.now site ≡ is_second board.now from) }
 {
-    let site = if board.is_second(from) {
-        draw_by_number(board, random, from, step)
-    } else {
-        draw_in_tile(board, lots, random, from, step)?
-    };
-    if board.is_second(site) != board.is_second(from) {
-        return None;
+    for _draw in 0..DRAWS {
+        if let Some(site) = draw_in_tile(board, lots, random, from, step) {
+            return Some(site);
+        }
     }
-    Some(site)
+    None
 }
 
 /// Tries one random exchange.
