@@ -183,7 +183,7 @@ impl Tables {
         }
     }
 
-    /// Gives a node a price and the node before it. Among entries of one key, nodes that fewer nets have are taken out first.
+    /// Gives a node a price and the node before it. Among entries of one key, nodes that fewer nets have or had are taken out first.
     pub(crate) fn take(&mut self, node: u32, cost: u64, before: u32, key: u64) -> Result<(), Memory>
         requires node { node < count_of self.old }
         requires queue { IsQueue self.old.queue }
@@ -193,7 +193,7 @@ impl Tables {
         ensures size { OnOk result (size self.new.queue ≤ size self.old.queue + 1) }
         ensures kept { OnOk result (IsKept self.old self.new) }
     {
-        let tie = self.nodes[node as usize].users.min(3);
+        let tie = tie_of(self.nodes[node as usize]);
         self.queue.push(key, tie, node)?;
         let mark = self.mark;
         let note = &mut self.nodes[node as usize];
@@ -215,6 +215,14 @@ impl Tables {
         let note = &mut self.nodes[node as usize];
         note.stamp = mark + 1;
     }
+}
+
+/// Where a node stands among entries of one key: how many nets have it, and whether it has a price above 1.
+fn tie_of(note: Node) -> u32
+    ensures { result < 4 }
+{
+    let users = note.users.min(2);
+    if note.price > 1 { users + 1 } else { users }
 }
 
 /// Forgets which tree took a node.
