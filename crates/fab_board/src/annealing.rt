@@ -6,6 +6,8 @@ ghost use Rattle.fab_board.specs.Standing.{IsKept, HasLots};
 use crate::board::Board;
 use crate::lots::Lots;
 use crate::placement::Placement;
+use crate::telling::tell_step;
+use fab_progress::Progress;
 use rand_core::SeedableRng;
 use rand_core::utils::NextWord;
 use rand_pcg::Lcg64Xsh32;
@@ -55,6 +57,9 @@ const STEPS: [(u32, u32); 40] = [
     (11304, 0),
     (10486, 0),
 ];
+
+/// How many steps there are.
+const STEP_COUNT: u32 = 40;
 
 /// How many exchanges of each item a step tries.
 const TRIES: u32 = 40;
@@ -208,7 +213,8 @@ fn anneal_at(
 }
 
 /// Goes through all steps, with random numbers from a seed.
-pub fn anneal(
+pub fn anneal<P: Progress>(
+    progress: &mut P,
     placement: &mut Placement,
     board: &Board,
     lots: &Lots,
@@ -227,6 +233,7 @@ pub fn anneal(
     let last_row = last_of(&board.rows);
     let widest = last_column.max(last_row) / 4;
     let mut random = Lcg64Xsh32::seed_from_u64(seed);
+    let mut done: u32 = 0;
     for (temperature, share) in STEPS {
         let step = Step {
             temperature,
@@ -235,6 +242,8 @@ pub fn anneal(
             last_row,
         };
         anneal_at(placement, board, lots, &mut random, step)?;
+        done = done.saturating_add(1);
+        tell_step(progress, placement, done, STEP_COUNT);
     }
     Ok(())
 }

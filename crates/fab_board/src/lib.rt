@@ -9,6 +9,7 @@ mod lots;
 mod nets;
 mod placement;
 mod placing;
+mod telling;
 
 pub use board::Board;
 pub use nets::Nets;

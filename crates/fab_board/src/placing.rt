@@ -7,6 +7,7 @@ use crate::board::Board;
 use crate::descent::descend;
 use crate::lots::Lots;
 use crate::placement::Placement;
+use fab_progress::Progress;
 use std::alloc::{AllocError, Global};
 
 /// The sites of the items after exchanges from these sites, so that no exchange within distance 4 lowers the cost. Items that are
@@ -14,8 +15,9 @@ use std::alloc::{AllocError, Global};
 ///
 /// Random exchanges come first, by a seed, and then those that lower the cost. Where that came out above the cost of the
 /// beginning, which is not to be expected, those that lower the cost start from there again.
-pub fn settled(
+pub fn settled<P: Progress>(
     alloc: Global,
+    progress: &mut P,
     board: &Board,
     sites: &[u32],
     seed: u64,
@@ -30,7 +32,7 @@ pub fn settled(
     let lots = Lots::of(alloc, board)?;
     let mut placement = Placement::new(alloc, board, sites)?;
     let start = placement.cost();
-    anneal(&mut placement, board, &lots, seed)?;
+    anneal(progress, &mut placement, board, &lots, seed)?;
     descend(&mut placement, board, &lots)?;
     if placement.cost() <= start {
         return Ok(placement.into_sites());

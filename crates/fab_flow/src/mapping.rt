@@ -21,14 +21,14 @@ use fab_designs::{Design, read_design};
 use fab_desk::Desk;
 use fab_impl::print_impl;
 use fab_implementation::Implementation;
-use fab_map::map;
+use fab_map::map_with_progress;
 use fab_progress::Progress;
 use std::alloc::Global;
 
 /// Packs a design, and maps it.
 pub(crate) fn mapped_design<P: Progress>(
     alloc: Global,
-    _progress: &mut P,
+    progress: &mut P,
     design: &Design,
     seed: u64,
     rounds: u32,
@@ -46,7 +46,15 @@ pub(crate) fn mapped_design<P: Progress>(
     // what holds of every netlist is a clause of this call
     design.netlist.is_well_made();
     let packed = packed_design(alloc, design)?;
-    map(alloc, &design.fabric, &packed, &design.fixed, seed, rounds)
+    map_with_progress(
+        alloc,
+        progress,
+        &design.fabric,
+        &packed,
+        &design.fixed,
+        seed,
+        rounds,
+    )
 }
 
 /// What is stored of a mapping of a design.

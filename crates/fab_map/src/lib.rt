@@ -6,4 +6,4 @@ mod names;
 mod reports;
 mod trees;
 
-pub use mapping::map;
+pub use mapping::{map, map_with_progress};

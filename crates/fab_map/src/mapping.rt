@@ -15,8 +15,9 @@ use fab_base::Fault;
 use fab_fabric::Fabric;
 use fab_implementation::{Fixed, Implementation};
 use fab_netlist::Packed;
-use fab_place::place;
-use fab_route::route;
+use fab_place::place_with_progress;
+use fab_progress::{Progress, Silent};
+use fab_route::route_with_progress;
 use std::alloc::Global;
 
 /// Maps a design onto a fabric: places it, and routes its nets in at most so many rounds. Where nets share a wire after the
@@ -43,16 +44,40 @@ pub fn map(
     ensures inputs { IfOk result InputsWithin }
     ensures cause { IfErr result (HasMapCause fabric.now packed.now fixed.now rounds) }
 {
-    let first = attempt(alloc, fabric, packed, fixed, seed, rounds);
+    map_with_progress(alloc, &mut Silent, fabric, packed, fixed, seed, rounds)
+}
+
+/// Maps a design as `map` does, and tells on the way how far placing and routing are.
+pub fn map_with_progress<P: Progress>(
+    alloc: Global,
+    progress: &mut P,
+    fabric: &Fabric,
+    packed: &Packed,
+    fixed: &Fixed,
+    seed: u64,
+    rounds: u32,
+) -> Result<Implementation, Fault>
+    requires fits { Fits fabric.now packed.now }
+    requires fixed { AreFixed fabric.now packed.now fixed.now }
+    requires some { 1 ≤ rounds }
+    requires few { rounds ≤ 64 }
+    ensures mapping { IfOk result (IsMapping fabric.now packed.now fixed.now rounds) }
+    ensures legal { IfOk result (IsLegal fabric.now packed.now fixed.now) }
+    ensures on_fabric { IfOk result (IsOnFabric fabric.now) }
+    ensures inputs { IfOk result InputsWithin }
+    ensures cause { IfErr result (HasMapCause fabric.now packed.now fixed.now rounds) }
+{
+    let first = attempt(alloc, progress, fabric, packed, fixed, seed, rounds);
     let next = seed.wrapping_add(1);
-    let second = again(alloc, fabric, packed, fixed, next, rounds, first);
+    let second = again(alloc, progress, fabric, packed, fixed, next, rounds, first);
     let last = seed.wrapping_add(2);
-    again(alloc, fabric, packed, fixed, last, rounds, second)
+    again(alloc, progress, fabric, packed, fixed, last, rounds, second)
 }
 
 /// Another attempt where one left a wire shared.
-fn again(
+fn again<P: Progress>(
     alloc: Global,
+    progress: &mut P,
     fabric: &Fabric,
     packed: &Packed,
     fixed: &Fixed,
@@ -76,14 +101,15 @@ fn again(
     ensures cause { IfErr result (HasMapCause fabric.now packed.now fixed.now rounds) }
 {
     match before {
-        Err(Fault::Overused(..)) => attempt(alloc, fabric, packed, fixed, seed, rounds),
+        Err(Fault::Overused(..)) => attempt(alloc, progress, fabric, packed, fixed, seed, rounds),
         answer => answer,
     }
 }
 
 /// Places a design, and routes it.
-fn attempt(
+fn attempt<P: Progress>(
     alloc: Global,
+    progress: &mut P,
     fabric: &Fabric,
     packed: &Packed,
     fixed: &Fixed,
@@ -100,13 +126,14 @@ fn attempt(
     ensures inputs { IfOk result InputsWithin }
     ensures cause { IfErr result (HasMapCause fabric.now packed.now fixed.now rounds) }
 {
-    let placed = place(alloc, fabric, packed, fixed, seed)?;
-    routed_on(alloc, fabric, packed, fixed, placed, rounds)
+    let placed = place_with_progress(alloc, progress, fabric, packed, fixed, seed)?;
+    routed_on(alloc, progress, fabric, packed, fixed, placed, rounds)
 }
 
 /// Routes a placed design.
-fn routed_on(
+fn routed_on<P: Progress>(
     alloc: Global,
+    progress: &mut P,
     fabric: &Fabric,
     packed: &Packed,
     _fixed: &Fixed,
@@ -126,7 +153,7 @@ fn routed_on(
 {
     // what holds of every fabric is a clause of this call
     let _types = fabric.types();
-    match route(alloc, fabric, packed, &placed, rounds) {
+    match route_with_progress(alloc, progress, fabric, packed, &placed, rounds) {
         Ok(routed) => Ok(with_trees(placed, routed.trees)),
         Err(fault) => Err(fault_of(alloc, fabric, packed, _fixed, placed, fault, rounds)?),
     }

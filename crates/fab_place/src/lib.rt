@@ -16,5 +16,5 @@ pub use costing::cost;
 pub use implementation::implementation_of;
 pub use nets::{Pin, nets_of};
 pub use pins::pins_of;
-pub use placing::place;
+pub use placing::{place, place_with_progress};
 pub use sites::sites_of_kind;

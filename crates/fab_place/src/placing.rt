@@ -18,6 +18,7 @@ use fab_fabric::{Fabric, Site};
 use fab_implementation::{Fixed, Implementation};
 use fab_kinds::Kind;
 use fab_netlist::Packed;
+use fab_progress::{Progress, Silent};
 use std::alloc::Global;
 
 /// Places a design. No exchange of what stands on two sites of one kind within distance 4 lowers the cost, which is not
@@ -35,14 +36,32 @@ pub fn place(
     ensures good { IfOk result (λ placed. IsGoodPlacement fabric.now packed.now fixed.now placed) }
     ensures on_fabric { IfOk result (λ placed. IsOnFabric fabric.now placed) }
 {
+    place_with_progress(alloc, &mut Silent, fabric, packed, fixed, seed)
+}
+
+/// Places a design as `place` does, and tells on the way how far it is.
+pub fn place_with_progress<P: Progress>(
+    alloc: Global,
+    progress: &mut P,
+    fabric: &Fabric,
+    packed: &Packed,
+    fixed: &Fixed,
+    seed: u64,
+) -> Result<Implementation, Memory>
+    requires fits { Fits fabric.now packed.now }
+    requires fixed { AreFixed fabric.now packed.now fixed.now }
+    ensures good { IfOk result (λ placed. IsGoodPlacement fabric.now packed.now fixed.now placed) }
+    ensures on_fabric { IfOk result (λ placed. IsOnFabric fabric.now placed) }
+{
     let luts = sites_of_kind(alloc, fabric, Kind::Lut4c)?;
     let pads = sites_of_kind(alloc, fabric, Kind::Io)?;
-    place_on(alloc, fabric, packed, fixed, &luts, &pads, seed)
+    place_on(alloc, progress, fabric, packed, fixed, &luts, &pads, seed)
 }
 
 /// Places a design on these sites for cells and for ports.
-fn place_on(
+fn place_on<P: Progress>(
     alloc: Global,
+    progress: &mut P,
     fabric: &Fabric,
     packed: &Packed,
     fixed: &Fixed,
@@ -58,7 +77,9 @@ fn place_on(
     ensures on_fabric { IfOk result (λ placed. IsOnFabric fabric.now placed) }
 {
     let sites = joined(alloc, luts, pads)?;
-    let numbers = numbers_of(alloc, fabric, packed, fixed, luts, pads, &sites, seed)?;
+    let numbers = numbers_of(
+        alloc, progress, fabric, packed, fixed, luts, pads, &sites, seed,
+    )?;
     implementation_of(alloc, packed, &sites, &numbers)
 }
 
@@ -83,8 +104,9 @@ fn put_sites(sites: &mut Vec<Site>, more: &[Site]) -> Result<(), Memory>
 }
 
 /// The numbers of the sites on which the items stand in the end.
-fn numbers_of(
+fn numbers_of<P: Progress>(
     alloc: Global,
+    progress: &mut P,
     fabric: &Fabric,
     packed: &Packed,
     fixed: &Fixed,
@@ -106,6 +128,6 @@ fn numbers_of(
     let constrained = constrained_pads(alloc, packed, fixed, pads)?;
     let board = board_of(alloc, packed, sites, first_pad, &constrained)?;
     let start = start_of(alloc, cells, first_pad, pad_count, &constrained)?;
-    let numbers = settled(alloc, &board, &start, seed)?;
+    let numbers = settled(alloc, progress, &board, &start, seed)?;
     Ok(numbers)
 }

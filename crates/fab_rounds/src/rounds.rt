@@ -10,6 +10,7 @@ use crate::net::{CutOff, Net};
 use crate::round::run_round;
 use crate::tree::{Round, Tree};
 use fab_base::Memory;
+use fab_progress::{Progress, Step};
 use fab_search::{Field, Tables};
 use std::alloc::Global;
 
@@ -51,6 +52,18 @@ fn least_shared(tables: &Tables, nodes: u32) -> Option<u32>
     None
 }
 
+/// Tells of a round how many nodes it leaves in several trees.
+fn tell_round<P: Progress>(progress: &mut P, tables: &Tables, nodes: u32, round: u32)
+    requires nodes { count_of tables.now ≡ nodes }
+    requires round { round < 64 }
+{
+    let shared = (0..nodes).filter(|node| tables.users(*node) >= 2).count();
+    progress.tell(Step::Routing {
+        round: round + 1,
+        shared,
+    });
+}
+
 /// Adds to each node what its shared use in this round adds to its price.
 fn remember(past: &mut Vec<u32>, tables: &Tables)
     requires long { length past.old.items ≡ count_of tables.now }
@@ -76,8 +89,9 @@ fn latest<'a>(rounds: &'a [Round], bare: &'a [Tree]) -> &'a [Tree]
 
 /// Rounds over nets in a graph of so many nodes, until no node stands in two trees, or up to a limit. An `Err` tells of the first net with a
 /// sink that no walk from its roots comes to, and of its first such sink. The bounds on nets and rounds keep each price below 2^42.
-pub fn run_rounds<F: Field>(
+pub fn run_rounds<F: Field, P: Progress>(
     alloc: Global,
+    progress: &mut P,
     field: &F,
     nodes: u32,
     nets: &[Net],
@@ -112,6 +126,7 @@ pub fn run_rounds<F: Field>(
             Ok(trees) => trees,
             Err(cut) => return Ok(Err(cut)),
         };
+        tell_round(progress, &tables, nodes, number);
         remember(&mut past, &tables);
         rounds.push(Round { trees })?;
         if least_shared(&tables, nodes).is_none() {

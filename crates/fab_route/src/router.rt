@@ -28,6 +28,7 @@ use fab_base::Memory;
 use fab_fabric::{Fabric, Wire};
 use fab_implementation::{Implementation, Tree};
 use fab_netlist::{NetId, Packed};
+use fab_progress::{Progress, Silent};
 use fab_rounds::{CutOff, Net, Routed as Run, run_rounds};
 use std::alloc::Global;
 
@@ -75,12 +76,32 @@ pub fn route(
     ensures legal { IfOk result (λ routed. (fixed : List Pad) → ConstraintsHold fixed placed.now → IsLegal fabric.now packed.now fixed (with_trees placed.now routed.trees.items)) }
     ensures fault { IfErr result (IsTrueFault fabric.now packed.now placed.now rounds) }
 {
+    route_with_progress(alloc, &mut Silent, fabric, packed, placed, rounds)
+}
+
+/// Routes a placed design as `route` does, and tells of each round when it is done.
+pub fn route_with_progress<P: Progress>(
+    alloc: Global,
+    progress: &mut P,
+    fabric: &Fabric,
+    packed: &Packed,
+    placed: &Implementation,
+    rounds: u32,
+) -> Result<Routed, RouteFault>
+    requires made { IsWellMadePacked packed.now }
+    requires placed { ArePlaced fabric.now packed.now placed.now }
+    requires some { 1 ≤ rounds }
+    requires few { rounds ≤ 64 }
+    ensures routed { IfOk result (λ routed. AreRouted fabric.now packed.now placed.now rounds routed.trees.items) }
+    ensures legal { IfOk result (λ routed. (fixed : List Pad) → ConstraintsHold fixed placed.now → IsLegal fabric.now packed.now fixed (with_trees placed.now routed.trees.items)) }
+    ensures fault { IfErr result (IsTrueFault fabric.now packed.now placed.now rounds) }
+{
     let sinks = sinks_by_net(alloc, fabric, packed, placed)?;
     let nodes = Nodes::new(alloc, fabric)?;
     let nets = nets_of(alloc, fabric, &nodes, packed, placed, &sinks)?;
     let bounds = Bounds::new(alloc, fabric, &nodes, &nets, &sinks)?;
     let guide = Guide { nodes, bounds };
-    match run_rounds(alloc, &guide, guide.nodes.count(), &nets, rounds)? {
+    match run_rounds(alloc, progress, &guide, guide.nodes.count(), &nets, rounds)? {
         Err(cut) => Err(no_path(fabric, packed, placed, &guide.nodes, &nets, &sinks, cut)),
         Ok(run) => tell(
             alloc,

@@ -2,13 +2,13 @@ use Rattle.fab_board.proofs.Falling.{keeps_refl, keeps_trans}
 use Rattle.fab_board.proofs.annealing.anneal.Goals as goal
 
 pub returns-then-is_empty-clause-keeps : goal.returns-then-is_empty-clause-keeps
-returns-then-is_empty-clause-keeps c = keeps_refl c.args.board.now c.args.placement.now.sites.items
+returns-then-is_empty-clause-keeps g c = keeps_refl c.args.board.now c.args.placement.now.sites.items
 
 pub loop-temperature-init : goal.loop-temperature-init
-loop-temperature-init c = record { kept = c.requires.kept; keeps = keeps_refl c.args.board.now c.args.placement.now.sites.items }
+loop-temperature-init g c = record { kept = c.requires.kept; keeps = keeps_refl c.args.board.now c.args.placement.now.sites.items }
 
 pub loop-temperature-preserved : goal.loop-temperature-preserved
-loop-temperature-preserved c = record {
+loop-temperature-preserved g c = record {
   kept = c.in_ok-anneal_at.ensures.kept;
   keeps = keeps_trans c.args.board.now c.args.placement.now.sites.items c.loop-temperature.placement.sites.items c.anneal_at.new.placement.sites.items c.loop-temperature.invariant.keeps c.in_ok-anneal_at.ensures.keeps;
 }

@@ -4,7 +4,7 @@ use Rattle.fab_board.proofs.Falling.{keeps_trans, kept_cost, kept_placed}
 use Rattle.fab_board.proofs.placing.settled.Goals as goal
 
 pub returns-then-cost-start : goal.returns-then-cost-start
-returns-then-cost-start c =
+returns-then-cost-start g c =
     let board = c.args.board.now in
     let at_start = c.in_ok-placement.placement in
     let annealed = c.anneal.new.placement in
@@ -23,7 +23,7 @@ returns-then-cost-start c =
     }
 
 pub returns : goal.returns
-returns c =
+returns g c =
     let board = c.args.board.now in
     let at_start = c.in_ok-again.again in
     let last = c.descend-2.new.placement in

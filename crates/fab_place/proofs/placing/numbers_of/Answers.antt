@@ -10,30 +10,30 @@ use Rattle.fab_place.proofs.Settling.{few_luts, few_pads, pads_apart, pads_insid
 use Rattle.fab_place.proofs.placing.numbers_of.Goals as goal
 
 pub overflow_cast-first_pad : goal.overflow_cast-first_pad
-overflow_cast-first_pad c = omega (arith, few_luts c.args.fabric.now c.args.packed.now c.args.fixed.now c.args.luts.now c.args.pads.now c.requires.luts c.requires.pads c.types-types.ensures.is_fabric)
+overflow_cast-first_pad g c = omega (arith, few_luts c.args.fabric.now c.args.packed.now c.args.fixed.now c.args.luts.now c.args.pads.now c.requires.luts c.requires.pads c.types-types.ensures.is_fabric)
 
 pub overflow_cast-pad_count : goal.overflow_cast-pad_count
-overflow_cast-pad_count c = omega (arith, few_pads c.args.fabric.now c.args.packed.now c.args.fixed.now c.args.luts.now c.args.pads.now c.requires.luts c.requires.pads c.types-types.ensures.is_fabric)
+overflow_cast-pad_count g c = omega (arith, few_pads c.args.fabric.now c.args.packed.now c.args.fixed.now c.args.luts.now c.args.pads.now c.requires.luts c.requires.pads c.types-types.ensures.is_fabric)
 
 pub constrained_pads-requires-clause-few : goal.constrained_pads-requires-clause-few
-constrained_pads-requires-clause-few c = omega (arith, few_pads c.args.fabric.now c.args.packed.now c.args.fixed.now c.args.luts.now c.args.pads.now c.requires.luts c.requires.pads c.types-types.ensures.is_fabric)
+constrained_pads-requires-clause-few g c = omega (arith, few_pads c.args.fabric.now c.args.packed.now c.args.fixed.now c.args.luts.now c.args.pads.now c.requires.luts c.requires.pads c.types-types.ensures.is_fabric)
 
 pub constrained_pads-requires-clause-pads_apart : goal.constrained_pads-requires-clause-pads_apart
-constrained_pads-requires-clause-pads_apart c = pads_apart c.args.fabric.now c.args.packed.now c.args.fixed.now c.args.luts.now c.args.pads.now c.requires.luts c.requires.pads
+constrained_pads-requires-clause-pads_apart g c = pads_apart c.args.fabric.now c.args.packed.now c.args.fixed.now c.args.luts.now c.args.pads.now c.requires.luts c.requires.pads
 
 pub start_of-requires-clause-few : goal.start_of-requires-clause-few
-start_of-requires-clause-few c = omega (arith, few_luts c.args.fabric.now c.args.packed.now c.args.fixed.now c.args.luts.now c.args.pads.now c.requires.luts c.requires.pads c.types-types.ensures.is_fabric)
+start_of-requires-clause-few g c = omega (arith, few_luts c.args.fabric.now c.args.packed.now c.args.fixed.now c.args.luts.now c.args.pads.now c.requires.luts c.requires.pads c.types-types.ensures.is_fabric)
 
 pub start_of-requires-clause-few_pads : goal.start_of-requires-clause-few_pads
-start_of-requires-clause-few_pads c = omega (arith, few_pads c.args.fabric.now c.args.packed.now c.args.fixed.now c.args.luts.now c.args.pads.now c.requires.luts c.requires.pads c.types-types.ensures.is_fabric)
+start_of-requires-clause-few_pads g c = omega (arith, few_pads c.args.fabric.now c.args.packed.now c.args.fixed.now c.args.luts.now c.args.pads.now c.requires.luts c.requires.pads c.types-types.ensures.is_fabric)
 
 pub start_of-requires-clause-inside : goal.start_of-requires-clause-inside
-start_of-requires-clause-inside c =
+start_of-requires-clause-inside g c =
     subst (λ (found : List (Option ℕ)). All (λ pad. IfSome pad (λ number. number < length c.args.pads.now)) found) (sym c.deref-2.ensures.value)
     (pads_inside c.args.fabric.now c.args.packed.now c.args.fixed.now c.args.luts.now c.args.pads.now c.requires.luts c.requires.pads c.requires.fits c.requires.fixed c.in_ok-constrained.constrained.items c.in_ok-constrained.ensures)
 
 pub settled-requires-clause-board : goal.settled-requires-clause-board
-settled-requires-clause-board c =
+settled-requires-clause-board g c =
     let board = c.in_ok-board.board in
     let luts = c.args.luts.now in
     let is = subst (λ (found : List (Option ℕ)). IsBoardOf c.args.packed.now (luts ++ c.args.pads.now) (length luts) found board) c.deref.ensures.value
@@ -41,7 +41,7 @@ settled-requires-clause-board c =
     board_good c.args.fabric.now c.args.packed.now c.args.fixed.now c.args.luts.now c.args.pads.now c.requires.luts c.requires.pads c.requires.fits c.requires.fixed c.in_ok-constrained.constrained.items c.in_ok-constrained.ensures board is c.types-types.ensures.is_fabric
 
 pub settled-requires-clause-placed : goal.settled-requires-clause-placed
-settled-requires-clause-placed c =
+settled-requires-clause-placed g c =
     let board = c.in_ok-board.board in
     let luts = c.args.luts.now in
     let constrained = c.in_ok-constrained.constrained.items in
@@ -55,7 +55,7 @@ settled-requires-clause-placed c =
     (start_placed c.args.fabric.now c.args.packed.now c.args.fixed.now c.args.luts.now c.args.pads.now c.requires.luts c.requires.pads c.requires.fits c.requires.fixed constrained c.in_ok-constrained.ensures board is)
 
 pub returns : goal.returns
-returns c =
+returns g c =
     let board = c.in_ok-board.board in
     let luts = c.args.luts.now in
     let constrained = c.in_ok-constrained.constrained.items in

@@ -5,7 +5,7 @@ use Rattle.fab_place.proofs.Settling.{good_end, on_fabric_end}
 use Rattle.fab_place.proofs.placing.place_on.Goals as goal
 
 pub returns-clause-good : goal.returns-clause-good
-returns-clause-good c =
+returns-clause-good g c =
     let sites = c.in_ok-sites.sites.items in
     let numbers = c.in_ok-numbers.numbers.items in
     IfOk-weaker c.implementation_of.result _ _
@@ -13,7 +13,7 @@ returns-clause-good c =
     (is ∙ ap (λ (ns : List ℕ). standing c.args.packed.now c.deref-2.result.now ns) c.deref-3.ensures.value)) c.implementation_of.ensures
 
 pub returns-clause-on_fabric : goal.returns-clause-on_fabric
-returns-clause-on_fabric c =
+returns-clause-on_fabric g c =
     let sites = c.in_ok-sites.sites.items in
     let numbers = c.in_ok-numbers.numbers.items in
     IfOk-weaker c.implementation_of.result _ _

@@ -12,17 +12,17 @@ use Rattle.fab_route.specs.Answers.{AreRouted}
 use Rattle.fab_route.specs.Plain.{graph_of}
 use Rattle.fab_route.specs.Told.{IsNodeRun}
 use Rattle.fab_route.specs.declared.router.Routed.{Routed}
-use Rattle.fab_route.proofs.router.route.Goals as goal
+use Rattle.fab_route.proofs.router.route_with_progress.Goals as goal
 
 pub run_rounds-requires-clause-nets : goal.run_rounds-requires-clause-nets
-run_rounds-requires-clause-nets c =
+run_rounds-requires-clause-nets g c =
     subst (λ (ns : List Net). All (IsInside (graph_of c.in_ok-nodes.nodes).nodes) ns) (sym c.deref-2.ensures.value) c.in_ok-nets.ensures.inside
 
 pub returns-in-Err-clause-fault : goal.returns-in-Err-clause-fault
-returns-in-Err-clause-fault c = c.no_path.ensures c.args.rounds
+returns-in-Err-clause-fault g c = c.no_path.ensures c.args.rounds
 
 pub tell-requires-clause-run : goal.tell-requires-clause-run
-tell-requires-clause-run c =
+tell-requires-clause-run g c =
     subst (λ (ns : List Net). IsNodeRun (graph_of c.in_ok-nodes.nodes) (nets_of ns) c.args.rounds c.in-Ok.run') (c.deref-2.ensures.value ∙ sym c.deref-in-Ok.ensures.value) (record {
       run = rw c.in-Ok.is at c.in_ok-cut.ensures.run;
       some_rounds = (rw c.in-Ok.is at c.in_ok-cut.ensures.begun) c.requires.some;
@@ -33,7 +33,7 @@ tell-requires-clause-run c =
     })
 
 pub returns-clause-legal : goal.returns-clause-legal
-returns-clause-legal c =
+returns-clause-legal g c =
     IfOk-weaker c.tell.result (λ (routed : Routed). AreRouted c.args.fabric.now c.args.packed.now c.args.placed.now c.args.rounds routed.trees.items)
     (λ (routed : Routed). (fixed : List Pad) → ConstraintsHold fixed c.args.placed.now → IsLegal c.args.fabric.now c.args.packed.now fixed (with_trees c.args.placed.now routed.trees.items))
     (λ routed is. λ fixed holds.
