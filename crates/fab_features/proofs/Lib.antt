@@ -17,3 +17,4 @@ pub mod DesignLines
 pub mod CellLines
 pub mod DesignMap
 pub mod Values
+pub mod PartsOfNames

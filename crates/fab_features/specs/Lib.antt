@@ -9,3 +9,4 @@ pub mod Lookups
 pub mod Lines
 pub mod Naming
 pub mod Spelled
+pub mod NameParts

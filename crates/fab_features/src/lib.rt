@@ -15,6 +15,6 @@ mod spelled;
 
 pub use design::design_bits;
 pub use features::features_of;
-pub use laws::wrong_features_are_not_right;
+pub use laws::{names_are_read, wrong_features_are_not_right};
 pub use reading::bits_of_features;
 pub use spelled::features_of_bits;

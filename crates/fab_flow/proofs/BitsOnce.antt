@@ -14,7 +14,8 @@ use Rattle.fab_netlist.specs.Plain.{IsAt}
 use Rattle.fab_legal.proofs.Lists.{same_at}
 use Rattle.fab_legal.specs.Turns.{AreRight}
 use Rattle.fab_fasm.specs.declared.feature.Feature.{Feature}
-use Rattle.fab_fasm.specs.Fasm.{SpellsFasm}
+use Rattle.fab_fasm.specs.Spelled.{SpellsFasm}
+use Rattle.fab_fasm.proofs.PartsLaw.{spelled_fine, spelled_is}
 use Rattle.fab_read.specs.Fabrics.{SpellsFabric, MeetsFabric}
 use Rattle.fab_features.specs.Said.{choice}
 use Rattle.fab_features.specs.Wrong.{BreaksBehind, BreaksFirst, IsRightFeature, unknown, contrary, output_name}
@@ -90,9 +91,9 @@ features_are_judged fabric features = record {
 
 fasm_text_is_judged : (file : List ℕ) → AreJudged (λ a b. a ≡ b) (λ bytes. SpellsFasm (lines bytes)) (RefusesFeatures file)
 fasm_text_is_judged file = record {
-  once = λ bytes a b x y. x.in_order ∙ sym y.in_order;
+  once = λ bytes a b x y. spelled_is (lines bytes) a x ∙ sym (spelled_is (lines bytes) b y);
   refused_once = λ bytes a b x y. fault_once x y;
-  apart = λ bytes features fault x y. fine_not_refused x.fine y.first;
+  apart = λ bytes features fault x y. fine_not_refused (spelled_fine (lines bytes) features x) y.first;
 }
 
 -- a file spells one list of features, or is refused for one fault

@@ -12,7 +12,8 @@ use Rattle.fab_model.specs.Grid.{PlainFabric}
 use Rattle.fab_fabric.specs.Bits.{AreBitsOf, plain_bits}
 use Rattle.fab_legal.specs.Turns.{AreRight}
 use Rattle.fab_fasm.specs.declared.feature.Feature.{Feature}
-use Rattle.fab_fasm.specs.Fasm.{SpellsFasm, fasm_judge}
+use Rattle.fab_fasm.specs.Fasm.{fasm_judge}
+use Rattle.fab_fasm.specs.Spelled.{SpellsFasm}
 use Rattle.fab_frames.specs.Bytes.{word_bytes}
 use Rattle.fab_frames.specs.Stream.{stream}
 use Rattle.fab_read.specs.Fabrics.{SpellsFabric, MeetsFabric}
@@ -32,7 +33,7 @@ bits_files fabric fasm out = record { fabric = fabric; fasm = fasm; out = out }
 
 -- ---- a file of features
 
--- the lines of the file spell these features
+-- the lines of the file say these features, each by its parts
 abbrev pub ReadsFeatures : (files : Map) (file : List ℕ) → List Feature → Type 0
 ReadsFeatures files file features = ReadsFrom files file (λ bytes. SpellsFasm (lines bytes)) features
 
