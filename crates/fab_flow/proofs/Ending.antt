@@ -5,7 +5,7 @@ use Rattle.std.specs.Option.{ForSome}
 use Rattle.fab_base.specs.declared.fault.Fault.{Fault}
 use Rattle.fab_base.specs.declared.fault.Fault.TheVariants as faults
 use Rattle.fab_desk.specs.Files.{Map}
-use Rattle.fab_files.specs.Files.{Event, HasReadCause}
+use Rattle.fab_files.specs.Files.{Event, HasReadCause, IsSupported}
 use Rattle.fab_flow.specs.Storing.{PlainOutput, output, with_outputs, IsDone, Leaves, IsStoreFault, IsStopped}
 use Rattle.fab_flow.specs.Ending.{HasCause, HasSearchCause}
 
@@ -17,7 +17,25 @@ pub record Reads (numbers : List ℕ) : Type 0 where
   pub unsupported : list_any (nat_eq 5) numbers ≡ true
   pub limit : list_any (nat_eq 6) numbers ≡ true
 
+-- the same of a reader that comes upon no unsupported construct
+pub record ReadsSupported (numbers : List ℕ) : Type 0 where
+  pub missing : list_any (nat_eq 2) numbers ≡ true
+  pub long : list_any (nat_eq 3) numbers ≡ true
+  pub malformed : list_any (nat_eq 4) numbers ≡ true
+  pub limit : list_any (nat_eq 6) numbers ≡ true
+
 module _ (told : Option Map) (reads writes : Type 0) (meets : Map → Event → Type 0) (ready : Map → Type 0) (numbers : List ℕ) where
+  -- where all of the command's files are read by one such reader, what it comes upon the command does
+  pub cause_of_supported : ReadsSupported numbers → (given : Fault) → IsSupported given → HasReadCause told reads meets given → HasCause told reads writes meets ready numbers given
+  cause_of_supported among faults.Memory supported cause = tt
+  cause_of_supported among (faults.ReadFault file) supported cause = cause
+  cause_of_supported among (faults.Missing file) supported cause = record { possible = among.missing; met = cause }
+  cause_of_supported among (faults.TooLong file) supported cause = record { possible = among.long; met = cause }
+  cause_of_supported among (faults.Malformed place reason) supported cause = record { possible = among.malformed; met = cause }
+  cause_of_supported among (faults.Unsupported place construct) supported cause = absurd supported
+  cause_of_supported among (faults.Limit place quantity value bound) supported cause = record { possible = among.limit; met = cause }
+  cause_of_supported among given supported cause = absurd cause
+
   -- what a part of the command that reads comes upon, the command does
   pub cause_of_read : Reads numbers → (part : Map → Event → Type 0) → ((files : Map) (event : Event) → told ≡ Some files → part files event → meets files event)
       → (given : Fault) → HasReadCause told reads part given → HasCause told reads writes meets ready numbers given

@@ -42,9 +42,9 @@ pub record MakesMatrix (files : Map) (list out : List ℕ) (outputs : List Plain
 abbrev pub IsReadyForMatrix : (files : Map) (list : List ℕ) → Type 0
 IsReadyForMatrix files list = (pairs : List Pair) × SpellsPairs files list pairs
 
--- absent, too long, malformed, unsupported and over a limit
+-- absent, too long, malformed and over a limit: a list has no construct that is unsupported
 abbrev pub matrix_refusals : List ℕ
-matrix_refusals = 2 ∷ 3 ∷ 4 ∷ 5 ∷ 6 ∷ []
+matrix_refusals = 2 ∷ 3 ∷ 4 ∷ 6 ∷ []
 
 -- What is refused is what a reader of the list comes upon.
 abbrev pub HasMatrixCause : (told : Option Map) → (list : List ℕ) → (reads_rose writes_rose : Type 0) → Fault → Type 0

@@ -50,8 +50,8 @@ pub(crate) fn packed_design(alloc: Global, design: &Design) -> Result<Packed, Fa
     pack(alloc, &design.netlist, luts, pads)
 }
 
-/// The fault of a check.
-fn fault_of(fault: CheckFault) -> Fault
+/// The fault of a check of an implementation, or of features.
+pub(crate) fn fault_of(fault: CheckFault) -> Fault
     ensures { result ≡ fault_of fault }
 {
     match fault {

@@ -9,10 +9,10 @@ ghost use Rattle.fab_fabric.specs.Bits.{AreBitsOf, plain_bits};
 ghost use Rattle.fab_legal.specs.Turns.{AreRight};
 ghost use Rattle.fab_features.specs.Features.{IsBitMapOf};
 ghost use Rattle.fab_features.specs.Wrong.{IsRightFeature};
-ghost use Rattle.fab_flow.specs.Assembling.{fault_of};
 ghost use Rattle.fab_flow.specs.Bits.{HasBitsCause, IsBitstreamOf, MakesBits, MeetsFeatures, ReadsFeatures, RefusesBits, bits_files};
 ghost use Rattle.fab_flow.specs.Storing.{IsDone, Leaves};
 
+use crate::assembling::fault_of;
 use crate::storing::{one_output, store_all};
 use fab_base::{Fault, Name};
 use fab_desk::Desk;
@@ -21,7 +21,6 @@ use fab_fasm::{Feature, read_fasm};
 use fab_features::bits_of_features;
 use fab_files::fetch;
 use fab_frames::{frames, to_bytes};
-use fab_legal::CheckFault;
 use fab_progress::{Progress, Step};
 use fab_read::read_fabric;
 use std::alloc::Global;
@@ -36,16 +35,6 @@ fn read_features<D: Desk>(alloc: Global, desk: &mut D, file: &Name) -> Result<Ve
 {
     let bytes = fetch(alloc, desk, file)?;
     read_fasm(alloc, file, &bytes)
-}
-
-/// The fault of a wrong feature.
-fn fault_of(fault: CheckFault) -> Fault
-    ensures { result ≡ fault_of fault }
-{
-    match fault {
-        CheckFault::Broken(broken) => Fault::Illegal(broken.rule, broken.item),
-        CheckFault::Memory => Fault::Memory,
-    }
 }
 
 /// The configuration bits that features set, where none of them is wrong.

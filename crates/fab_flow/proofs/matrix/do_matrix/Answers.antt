@@ -1,11 +1,19 @@
-use Rattle.std.proofs.Common.{◌∙◌, ap, map, arith}
-use Rattle.std.proofs.lemmas.Result.{IfErr-weaker, on_ok_weaker}
+use Rattle.std.proofs.Common.{◌∙◌, ap, map, arith, refl}
+use Rattle.std.proofs.lemmas.Result.{IfErr-weaker, on_ok_weaker, err_from_is_err_and}
 use Rattle.fab_list_files.specs.Sides.{MeetsPairs}
 use Rattle.fab_flow.specs.Storing.{plain_output}
 use Rattle.fab_flow.specs.Matrix.{MakesMatrix, IsReadyForMatrix, matrix_refusals}
-use Rattle.fab_flow.proofs.Ending.{cause_of_store, leaves_of_store, done_of_store}
+use Rattle.fab_flow.proofs.Ending.{cause_of_supported, cause_of_store, leaves_of_store, done_of_store}
 use Rattle.fab_flow.proofs.Spelled.{matrix_made}
 use Rattle.fab_flow.proofs.matrix.do_matrix.Goals as goal
+
+pub returns-in_err-pairs-clause-cause : goal.returns-in_err-pairs-clause-cause
+returns-in_err-pairs-clause-cause g c =
+    let residual = err_from_is_err_and c.from_residual.result c.from_residual.ensures.1 in
+    let list = c.args.list.now in
+    rw (residual.1, residual.2)
+    (cause_of_supported (g.D.Desk.told c.args.desk.now) _ _ (λ files. MeetsPairs files list) (λ files. IsReadyForMatrix files list) matrix_refusals
+    (record { missing = refl; long = refl; malformed = refl; limit = refl }) c.in_err-pairs.field-0.0 c.in_err-pairs.ensures.supported c.in_err-pairs.ensures.cause)
 
 pub returns-clause-done : goal.returns-clause-done
 returns-clause-done g c =
