@@ -1,6 +1,6 @@
 //! What placing and routing answer for a design, as text.
 
-ghost use Rattle.std.specs.Prelude.{◌≡◌, ◌≤◌, [], IfOk};
+ghost use Rattle.std.specs.Prelude.{◌≤◌, IfOk};
 ghost use Rattle.fab_legal.specs.Legal.{ArePlaced};
 ghost use Rattle.fab_legal.specs.WellMade.{IsWellMadePacked};
 ghost use Rattle.fab_place.specs.Fixings.{Fits};
