@@ -1,0 +1,8 @@
+pub mod Lengths
+pub mod Bits
+pub mod Entries
+pub mod TreesGrow
+pub mod Leading
+pub mod Compiling
+pub mod Placed
+pub mod Evaluated

@@ -1,0 +1,48 @@
+use Rattle.std.proofs.Common.{length, ap₂, ◌∙◌, arith}
+use Rattle.fab_tern.specs.Operators.{agreed}
+use Rattle.fab_compiled.specs.Terns.{seen}
+use Rattle.fab_compiled.proofs.Entries.{room_left, no_entry, yes_entry, open_entry}
+use Rattle.fab_compiled.proofs.evaluation.+entry.Goals as goal
+
+pub overflow_mul-stride : goal.overflow_mul-stride
+overflow_mul-stride t c =
+    let room = room_left _ _ _ c.in-Some.ensures.cases.0 c.args.first c.args.stride (length c.args.view.now.leads.now) c.requires.within in
+    omega (arith, room, c.requires.small)
+
+pub overflow_add-first : goal.overflow_add-first
+overflow_add-first t c =
+    let room = room_left _ _ _ c.in-Some.ensures.cases.0 c.args.first c.args.stride (length c.args.view.now.leads.now) c.requires.within in
+    omega (arith, room, c.requires.small)
+
+pub overflow_mul-stride-in-Yes : goal.overflow_mul-stride-in-Yes
+overflow_mul-stride-in-Yes t c =
+    let room = room_left _ _ _ c.in-Some.ensures.cases.0 c.args.first c.args.stride (length c.args.view.now.leads.now) c.requires.within in
+    omega (arith, room, c.requires.small)
+
+pub overflow_mul-stride-in-Open : goal.overflow_mul-stride-in-Open
+overflow_mul-stride-in-Open t c =
+    let room = room_left _ _ _ c.in-Some.ensures.cases.0 c.args.first c.args.stride (length c.args.view.now.leads.now) c.requires.within in
+    omega (arith, room, c.requires.small)
+
+pub overflow_add-first-in-Open : goal.overflow_add-first-in-Open
+overflow_add-first-in-Open t c =
+    let room = room_left _ _ _ c.in-Some.ensures.cases.0 c.args.first c.args.stride (length c.args.view.now.leads.now) c.requires.within in
+    omega (arith, room, c.requires.small)
+
+pub overflow_mul-stride-in-Open-2 : goal.overflow_mul-stride-in-Open-2
+overflow_mul-stride-in-Open-2 t c =
+    let room = room_left _ _ _ c.in-Some.ensures.cases.0 c.args.first c.args.stride (length c.args.view.now.leads.now) c.requires.within in
+    omega (arith, room, c.requires.small)
+
+pub returns-in-No : goal.returns-in-No
+returns-in-No t c =
+    c.entry.ensures ∙ no_entry _ _ _ c.in-Some.ensures.cases.0 (seen c.args.view.now.terns.now c.args.view.now.leads.now) c.args.first c.args.stride c.in-No.is
+
+pub returns-in-Yes : goal.returns-in-Yes
+returns-in-Yes t c =
+    c.entry-in-Yes.ensures ∙ yes_entry _ _ _ c.in-Some.ensures.cases.0 (seen c.args.view.now.terns.now c.args.view.now.leads.now) c.args.first c.args.stride c.in-Yes.is
+
+pub returns-in-Open : goal.returns-in-Open
+returns-in-Open t c =
+    c.agreed.ensures ∙ ap₂ agreed c.entry-even.ensures c.entry-in-Open.ensures
+    ∙ open_entry _ _ _ c.in-Some.ensures.cases.0 (seen c.args.view.now.terns.now c.args.view.now.leads.now) c.args.first c.args.stride c.in-Open.is

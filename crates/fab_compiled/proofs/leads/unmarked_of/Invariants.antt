@@ -1,0 +1,7 @@
+use Rattle.std.proofs.Common.{ℕ, ◌+◌, ◌<◌}
+use Rattle.fab_compiled.specs.Leading.{IsMarked}
+use Rattle.fab_compiled.proofs.leads.unmarked_of.Given as goal
+
+-- the points so far are marked
+abbrev pub invariant-loop-next : goal.invariant-loop-next
+invariant-loop-next l = (k : ℕ) → k < l.next → IsMarked l.marks (l.first + (l.place + k))

@@ -1,0 +1,6 @@
+pub mod Terns
+pub mod Trees
+pub mod Evaluation
+pub mod Leading
+pub mod Compiling
+pub mod Values

@@ -1,0 +1,17 @@
+//! Ternary values of expressions whose names are places already: compiled once for all instances of a module, and evaluated without memory.
+#![tactic(auto)]
+
+mod compiler;
+mod evaluation;
+pub mod laws;
+mod leads;
+mod operators;
+mod tree;
+mod view;
+
+pub use compiler::{Compiled, compile};
+pub use evaluation::eval;
+pub use leads::{Lead, follow};
+pub use operators::through;
+pub use tree::Tree;
+pub use view::View;
