@@ -8,7 +8,7 @@ use crate::streams::put_streams;
 use crate::tiles::put_tiles;
 use crate::wires::put_wires;
 use fab_base::{Fault, Name};
-use fab_examples::Stop;
+use fab_examples::{Stop, report_of};
 use fab_fabric::{Bits, Fabric};
 use fab_read::read_fabric;
 use std::alloc::Global;
@@ -69,27 +69,54 @@ fn put_answer(
     }
 }
 
-/// The questions of a case, each with its answer.
-fn answers(alloc: Global, fabric: &Fabric, asked: &[Name]) -> Result<Vec<u8>, Stop> {
-    let mut out = Vec::new(alloc);
-    let mut bits = Bits::new(alloc, fabric)?;
+/// Puts a question and its answer.
+fn put_question(
+    alloc: Global,
+    out: &mut Vec<u8>,
+    fabric: &Fabric,
+    bits: &mut Bits,
+    question: &[u8],
+) -> Result<(), Stop>
+    requires { AreBitsOf fabric.now bits.old }
+    ensures { AreBitsOf fabric.now bits.new }
+{
+    out.extend_from_slice(b"  ")?;
+    out.extend_from_slice(question)?;
+    out.push(b':')?;
+    let words = parts_of(alloc, question, b' ')?;
+    put_answer(alloc, out, fabric, bits, &words)
+}
+
+/// Puts the questions, each with its answer.
+fn put_questions(
+    alloc: Global,
+    out: &mut Vec<u8>,
+    fabric: &Fabric,
+    bits: &mut Bits,
+    asked: &[Name],
+) -> Result<(), Stop>
+    requires { AreBitsOf fabric.now bits.old }
+{
     for question in asked {
-        let words = parts_of(alloc, question.bytes(), b' ')?;
-        out.extend_from_slice(b"  ")?;
-        out.extend_from_slice(question.bytes())?;
-        out.push(b':')?;
-        put_answer(alloc, &mut out, fabric, &mut bits, &words)?;
+        put_question(alloc, out, fabric, bits, question.bytes())?;
         out.push(b'\n')?;
     }
+    Ok(())
+}
+
+/// The questions of a case, each with its answer.
+fn answers(alloc: Global, fabric: &Fabric, asked: &[Name]) -> Result<Vec<u8>, Stop> {
+    let mut bits = Bits::new(alloc, fabric)?;
+    let mut out = Vec::new(alloc);
+    put_questions(alloc, &mut out, fabric, &mut bits, asked)?;
     Ok(out)
 }
 
 /// What is asked of a case's fabric with the answers, or the report of its refusal.
-pub fn asked_text(alloc: Global, case: Case) -> Result<Vec<u8>, Stop> {
-    let file = case.front.copy(alloc)?;
-    let (mut desk, asked) = case.into_desk(alloc)?;
-    match read_fabric(alloc, &mut desk, &file) {
-        Ok(fabric) => answers(alloc, &fabric, &asked),
-        Err(fault) => Ok(fault.text(alloc)?.into_vec()),
+pub fn asked_text(alloc: Global, case: &mut Case) -> Result<Vec<u8>, Stop> {
+    let mut desk = case.take_desk(alloc)?;
+    match read_fabric(alloc, &mut desk, &case.front) {
+        Ok(fabric) => answers(alloc, &fabric, &case.asked),
+        Err(fault) => Ok(report_of(alloc, fault)?),
     }
 }

@@ -3,6 +3,8 @@
 //! long, and with `!` a call of the desk that fails. Each of its own files begins with `@` and its name. All goes on up to the next of these
 //! signs.
 
+ghost use Rattle.std.specs.Prelude.{◌<◌, length};
+
 use crate::asked::asked_text;
 use crate::fabrics::fabric_text;
 use crate::lists::list_text;
@@ -13,7 +15,7 @@ use fab_desk::{Desk, MemDesk, Sink};
 use fab_examples::{Stop, fetch};
 use fab_lines::{capped_number, first_line, place_or_end};
 use std::alloc::{AllocError, Global};
-use std::str;
+use std::{mem, str};
 
 /// What a case is read as.
 #[derive(Clone, Copy, Debug)]
@@ -96,6 +98,37 @@ impl Case {
         Ok(())
     }
 
+    /// Takes its own files.
+    fn take_files(&mut self, alloc: Global, files: &[u8]) -> Result<(), AllocError> {
+        for piece in files.split(|byte| *byte == b'@') {
+            if !piece.is_empty() {
+                let (name, bytes) = first_line(piece);
+                self.add_file(alloc, name, Vec::from_slice(alloc, bytes)?)?;
+            }
+        }
+        Ok(())
+    }
+
+    /// What it comes to with what stands behind its title.
+    fn text<D: Desk>(
+        &mut self,
+        alloc: Global,
+        desk: &mut D,
+        subject: Subject,
+        behind: &[u8],
+    ) -> Result<Vec<u8>, Stop> {
+        let (lines, files) = behind.split_at(place_or_end(behind, b'@'));
+        self.take_lines(alloc, desk, lines)?;
+        self.take_files(alloc, files)?;
+        match subject {
+            Subject::Words => words_text(alloc, self),
+            Subject::Texts => texts_text(alloc, self),
+            Subject::Lists => list_text(alloc, self),
+            Subject::Fabrics => fabric_text(alloc, self),
+            Subject::Asked => asked_text(alloc, self),
+        }
+    }
+
     /// The name of its first file.
     pub fn first_name(&self, alloc: Global) -> Result<Name, Stop> {
         match self.files.first() {
@@ -104,46 +137,42 @@ impl Case {
         }
     }
 
-    /// A desk with its files, and what is asked.
-    pub fn into_desk(self, alloc: Global) -> Result<(MemDesk, Vec<Name>), Memory> {
-        let Case {
-            front: _,
-            asked,
-            files,
-            failing,
-        } = self;
-        Ok((MemDesk::new(alloc, files, failing)?, asked))
+    /// A desk with its files, which it has no longer.
+    pub fn take_desk(&mut self, alloc: Global) -> Result<MemDesk, Memory> {
+        let files = mem::replace(&mut self.files, Vec::new(alloc));
+        let failing = mem::replace(&mut self.failing, Vec::new(alloc));
+        MemDesk::new(alloc, files, failing)
     }
 }
 
-/// A case by its title and what stands behind it.
-fn case_of<D: Desk>(
+/// What a case of this title comes to, by what stands behind the title.
+fn case_text<D: Desk>(
     alloc: Global,
     desk: &mut D,
+    subject: Subject,
     title: &[u8],
     behind: &[u8],
-) -> Result<Case, Stop> {
+) -> Result<Vec<u8>, Stop> {
     let mut case = Case::of(alloc, title)?;
-    let own = place_or_end(behind, b'@');
-    case.take_lines(alloc, desk, &behind[..own])?;
-    for piece in behind[own..].split(|byte| *byte == b'@') {
-        if !piece.is_empty() {
-            let (name, bytes) = first_line(piece);
-            case.add_file(alloc, name, Vec::from_slice(alloc, bytes)?)?;
-        }
-    }
-    Ok(case)
+    case.text(alloc, desk, subject, behind)
 }
 
-/// What a case comes to.
-fn text_of(alloc: Global, subject: Subject, case: Case) -> Result<Vec<u8>, Stop> {
-    match subject {
-        Subject::Words => words_text(alloc, &case),
-        Subject::Texts => texts_text(alloc, &case),
-        Subject::Lists => list_text(alloc, case),
-        Subject::Fabrics => fabric_text(alloc, case),
-        Subject::Asked => asked_text(alloc, case),
-    }
+/// Prints the title of a case and what it comes to.
+fn print_case<D: Desk, S: Sink>(
+    alloc: Global,
+    desk: &mut D,
+    out: &mut S,
+    subject: Subject,
+    case: &[u8],
+) -> Result<(), Stop>
+    requires { 0 < length case.now }
+{
+    let (title, behind) = first_line(case);
+    let text = case_text(alloc, desk, subject, title, behind)?;
+    out.put(title)?;
+    out.put(subject.sign())?;
+    out.put(&text)?;
+    Ok(())
 }
 
 /// Prints the title and what each of the cases that stand in one file comes to.
@@ -157,11 +186,7 @@ pub fn print_cases<D: Desk, S: Sink>(
     let bytes = fetch(alloc, desk, file)?;
     for text in bytes.split(|byte| *byte == b'%') {
         if !text.is_empty() {
-            let (title, behind) = first_line(text);
-            let case = case_of(alloc, desk, title, behind)?;
-            out.put(title)?;
-            out.put(subject.sign())?;
-            out.put(&text_of(alloc, subject, case)?)?;
+            print_case(alloc, desk, out, subject, text)?;
         }
     }
     Ok(())

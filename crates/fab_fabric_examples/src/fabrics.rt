@@ -2,16 +2,20 @@
 
 use crate::cases::Case;
 use crate::summary::summary;
-use fab_examples::Stop;
+use fab_base::{Fault, Name};
+use fab_desk::MemDesk;
+use fab_examples::{Stop, shown_or_report};
 use fab_read::read_fabric;
 use std::alloc::Global;
 
+fn fabric_summary(alloc: Global, desk: &mut MemDesk, file: &Name) -> Result<Vec<u8>, Fault> {
+    let fabric = read_fabric(alloc, desk, file)?;
+    Ok(summary(alloc, &fabric)?)
+}
+
 /// The summary of a case's fabric, or the report of its refusal.
-pub fn fabric_text(alloc: Global, case: Case) -> Result<Vec<u8>, Stop> {
-    let file = case.front.copy(alloc)?;
-    let (mut desk, _) = case.into_desk(alloc)?;
-    match read_fabric(alloc, &mut desk, &file) {
-        Ok(fabric) => Ok(summary(alloc, &fabric)?),
-        Err(fault) => Ok(fault.text(alloc)?.into_vec()),
-    }
+pub fn fabric_text(alloc: Global, case: &mut Case) -> Result<Vec<u8>, Stop> {
+    let mut desk = case.take_desk(alloc)?;
+    let summary = fabric_summary(alloc, &mut desk, &case.front);
+    Ok(shown_or_report(alloc, summary)?)
 }

@@ -1,8 +1,9 @@
 //! Switch lists with the files that they include.
 
 use crate::cases::Case;
-use fab_base::Name;
-use fab_examples::Stop;
+use fab_base::{Fault, Name};
+use fab_desk::MemDesk;
+use fab_examples::{Stop, shown_or_report};
 use fab_list_files::read_pairs;
 use std::alloc::{AllocError, Global};
 
@@ -19,12 +20,15 @@ fn pairs_text(alloc: Global, pairs: &[(Name, Name)]) -> Result<Vec<u8>, AllocErr
     Ok(line)
 }
 
+fn list_pairs(alloc: Global, desk: &mut MemDesk, list: &Name) -> Result<Vec<u8>, Fault> {
+    let pairs = read_pairs(alloc, desk, list)?;
+    Ok(pairs_text(alloc, &pairs)?)
+}
+
 /// The pairs of a case's list, or the report of its refusal.
-pub fn list_text(alloc: Global, case: Case) -> Result<Vec<u8>, Stop> {
+pub fn list_text(alloc: Global, case: &mut Case) -> Result<Vec<u8>, Stop> {
     let list = case.first_name(alloc)?;
-    let (mut desk, _) = case.into_desk(alloc)?;
-    match read_pairs(alloc, &mut desk, &list) {
-        Ok(pairs) => Ok(pairs_text(alloc, &pairs)?),
-        Err(fault) => Ok(fault.text(alloc)?.into_vec()),
-    }
+    let mut desk = case.take_desk(alloc)?;
+    let pairs = list_pairs(alloc, &mut desk, &list);
+    Ok(shown_or_report(alloc, pairs)?)
 }

@@ -4,7 +4,7 @@ ghost use Rattle.fab_fabric.specs.Bits.{AreBitsOf};
 
 use crate::shown::{hexadecimal, number_of, parts_of};
 use fab_base::{Fault, MAX_FILE_BYTES, Memory, Name};
-use fab_examples::Stop;
+use fab_examples::{Stop, report_of};
 use fab_fabric::{Bits, Fabric};
 use fab_frames::{bits_of, frames, to_bytes, to_words};
 use std::alloc::Global;
@@ -102,9 +102,15 @@ fn read_again(
         return Err(Fault::TooLong(file.copy(alloc)?));
     }
     let bits = bits_of(alloc, fabric, file, words)?;
+    Ok(bits_text(alloc, fabric, &bits, words)?)
+}
+
+fn bits_text(alloc: Global, fabric: &Fabric, bits: &Bits, words: &[u32]) -> Result<Vec<u8>, Memory>
+    requires { AreBitsOf fabric.now bits.now }
+{
     let mut out = Vec::new(alloc);
-    put_bits(alloc, &mut out, fabric, &bits)?;
-    let again = frames(alloc, fabric, &bits)?;
+    put_bits(alloc, &mut out, fabric, bits)?;
+    let again = frames(alloc, fabric, bits)?;
     if again.as_slice() == words {
         out.extend_from_slice(b"\nthe same words again")?;
     }
@@ -142,7 +148,7 @@ fn put_report(out: &mut Vec<u8>, report: &[u8]) -> Result<(), Memory> {
 fn put_read(alloc: Global, out: &mut Vec<u8>, read: Result<Vec<u8>, Fault>) -> Result<(), Memory> {
     match read {
         Ok(text) => out.extend_from_slice(&text)?,
-        Err(fault) => put_report(out, fault.text(alloc)?.bytes())?,
+        Err(fault) => put_report(out, &report_of(alloc, fault)?)?,
     }
     Ok(())
 }
@@ -158,22 +164,31 @@ pub fn put_streams(
     requires { AreBitsOf fabric.now bits.now }
 {
     let mut words = frames(alloc, fabric, bits)?;
+    put_stream(alloc, out, fabric, &mut words, question)
+}
+
+// Puts what is asked of the words of a stream.
+fn put_stream(
+    alloc: Global,
+    out: &mut Vec<u8>,
+    fabric: &Fabric,
+    words: &mut Vec<u32>,
+    question: &[&[u8]],
+) -> Result<(), Stop> {
     match question {
-        [b"words"] => put_words(alloc, out, &words)?,
+        [b"words"] => Ok(put_words(alloc, out, words)?),
         [b"read", name, edits @ ..] => {
-            edit_all(alloc, &mut words, edits)?;
+            edit_all(alloc, words, edits)?;
             let file = Name::of(alloc, name)?;
-            put_read(alloc, out, read_again(alloc, fabric, &file, &words))?;
+            let read = read_again(alloc, fabric, &file, words);
+            Ok(put_read(alloc, out, read)?)
         }
         [b"bytes", name, count] => {
+            let count = number_of(count)? as usize;
             let file = Name::of(alloc, name)?;
-            put_read(
-                alloc,
-                out,
-                read_bytes(alloc, &file, &words, number_of(count)? as usize),
-            )?;
+            let read = read_bytes(alloc, &file, words, count);
+            Ok(put_read(alloc, out, read)?)
         }
-        _ => return Err(Stop::Fault(Fault::Usage)),
+        _ => Err(Stop::Fault(Fault::Usage)),
     }
-    Ok(())
 }

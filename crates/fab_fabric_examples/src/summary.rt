@@ -89,16 +89,20 @@ fn put_bel(out: &mut Vec<u8>, bel: &Bel) -> Result<(), Memory> {
 }
 
 /// How many of a tile's matrix names are those of outputs.
-fn output_count(alloc: Global, tile: &TileType) -> Result<u32, Memory> {
-    let names = MatrixNames::new(alloc, tile)?;
+fn outputs_among(alloc: Global, tile: &TileType, names: &MatrixNames) -> Result<u32, Memory> {
     let mut outputs: u32 = 0;
     for number in 0..tile.matrix_names() {
         let name = tile.matrix_name(alloc, number)?;
         if names.output(name.bytes()).is_some() {
-            outputs = outputs.checked_add(1).ok_or(Memory)?;
+            outputs = outputs.saturating_add(1);
         }
     }
     Ok(outputs)
+}
+
+fn output_count(alloc: Global, tile: &TileType) -> Result<u32, Memory> {
+    let names = MatrixNames::new(alloc, tile)?;
+    outputs_among(alloc, tile, &names)
 }
 
 /// The numbers of a tile's names, and how many of them are those of outputs and of inputs.

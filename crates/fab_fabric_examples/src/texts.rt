@@ -7,7 +7,7 @@ ghost use Rattle.fab_base.specs.declared.words.Reason.TheVariants as reasons;
 use crate::cases::Case;
 use crate::shown::{put_bracketed, put_number};
 use fab_base::{Fault, MAX_FILE_BYTES, Memory, Name, Problem, Reason};
-use fab_examples::Stop;
+use fab_examples::{Stop, report_of};
 use fab_lines::{LineReader, first_line, last_line, read_lines};
 use fab_rows::{Row, rows};
 use fab_tables::read_list;
@@ -89,7 +89,7 @@ fn put_count(
             put_number(out, count)?;
             out.push(b'\n')?;
         }
-        Err(fault) => out.extend_from_slice(fault.text(alloc)?.bytes())?,
+        Err(fault) => out.extend_from_slice(&report_of(alloc, fault)?)?,
     }
     Ok(())
 }
