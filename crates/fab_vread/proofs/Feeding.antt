@@ -4,7 +4,7 @@ use Rattle.fab_base.specs.declared.fault.Fault.{Fault}
 use Rattle.fab_base.specs.declared.fault.Fault.TheVariants as faults
 use Rattle.fab_base.specs.Reading.{Fails, Gives}
 use Rattle.fab_syntax.specs.declared.tree.Text.{Text}
-use Rattle.fab_syntax.specs.Plain.{PlainModule, plain_text}
+use Rattle.fab_syntax.specs.Plain.{plain_text}
 use Rattle.fab_vread.specs.declared.reader.Reader.{Reader}
 use Rattle.fab_vread.specs.declared.reader.Standing.{Standing}
 use Rattle.fab_vread.specs.declared.reader.Standing.TheVariants as standings

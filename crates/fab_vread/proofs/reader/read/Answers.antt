@@ -1,4 +1,4 @@
-use Rattle.std.proofs.Common.{◌≡◌, ◌⊎◌, [], List, refl, subst, sym, inl, inr, IfOk, Ok, Result}
+use Rattle.std.proofs.Common.{◌≡◌, ◌⊎◌, [], refl, subst, sym, inl, inr, IfOk, Ok, Result}
 use Rattle.std.specs.Result.{IfErr}
 use Rattle.fab_base.specs.declared.fault.Fault.{Fault}
 use Rattle.fab_base.specs.declared.fault.Fault.TheVariants as faults
