@@ -1,8 +1,8 @@
 -- The tiles of a fabric that files spell have names, and they are within the limits of a tile.
-use Rattle.std.proofs.Common.{◌≡◌, ◌⊎◌, ℕ, ◌<◌, ◌≤◌, Bool, true, false, ◌&&◌, List, [], ◌∷◌, map, filter, length, get_or, slice_get, nat_eq, nat_lt, cond, Option, Some, None, refl, sym, ap, subst, ◌∙◌, inl, inr, arith, suc, All}
+use Rattle.std.proofs.Common.{◌≡◌, ℕ, ◌<◌, ◌≤◌, Bool, true, false, List, [], ◌∷◌, map, filter, length, get_or, nat_eq, nat_lt, cond, Option, Some, None, refl, sym, ap, subst, ◌∙◌, inl, inr, arith, suc}
 use Rattle.std.specs.Prelude.{find, not}
 use Rattle.std.specs.List.{position_or_len}
-use Rattle.std.proofs.lemmas.Bool.{cases_Bool, cases_lt, eqb-true}
+use Rattle.std.proofs.lemmas.Bool.{cases_lt, eqb-true}
 use Rattle.std.proofs.lemmas.Bool.Decides.{nat_tests}
 use Rattle.std.proofs.lemmas.List.{get_or-map, length-map}
 use Rattle.std.proofs.lemmas.List.Folds.{find_at}
@@ -19,7 +19,7 @@ use Rattle.fab_blocks.specs.Cells.{is_null, is_tile_name}
 use Rattle.fab_blocks.specs.Blocks.{PlainBlock, bare}
 use Rattle.fab_blocks.specs.Rows.{with_bel_of}
 use Rattle.fab_list_files.specs.Sides.{crowd, input_count}
-use Rattle.fab_read.specs.Tiles.{End, ReadsTile, bits_problem, crowd_or, paired, pairs_problem}
+use Rattle.fab_read.specs.Tiles.{End, ReadsTile, bits_problem, crowd_or, paired}
 use Rattle.fab_fabric_names.proofs.Keeping.{Keeps}
 
 -- a tile with a name
