@@ -121,9 +121,9 @@ named_tile files end block tile named read =
     let same : IsNamed (with_table (paired block read.pairs) read.table) = record { sources = named.sources; dests = named.dests; prefixes = named.prefixes } in
     subst IsNamed (sym read.is) same
 
-pub names_kept : Keeps IsNamed
+pub names_kept : Keeps IsNamed IsNamed
 names_kept = record {
-  new = named_new;
+  new = λ name is. named_new name;
   wire = named_wire;
   bel = named_bel;
   matrix = λ block file named. record { sources = named.sources; dests = named.dests; prefixes = named.prefixes };

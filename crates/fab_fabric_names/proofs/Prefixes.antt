@@ -44,9 +44,9 @@ prefixed_bel block (Some kind) holder file prefix all fine =
     All-push IsPrefixed block.bels (record { kind = kind; prefix = prefix }) all
     (λ none. of_kind kind (may_lack (may_lack_prefix (Some kind)) (ap (λ (p : List ℕ). (length p == 0) && not (may_lack_prefix (Some kind))) (sym none) ∙ lacking block (Some kind) holder file prefix reason)))
 
-pub prefixes_kept : Keeps ArePrefixed
+pub prefixes_kept : Keeps ArePrefixed ArePrefixed
 prefixes_kept = record {
-  new = λ name. All-nil IsPrefixed;
+  new = λ name is. All-nil IsPrefixed;
   wire = λ block cells all fine. all;
   bel = prefixed_bel;
   matrix = λ block file all. all;

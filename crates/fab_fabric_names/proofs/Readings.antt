@@ -18,12 +18,13 @@ use Rattle.fab_blocks.specs.declared.mode.Place.TheVariants as places
 use Rattle.fab_blocks.specs.declared.mode.Said.{Said}
 use Rattle.fab_blocks.specs.declared.mode.Said.TheVariants as said
 use Rattle.fab_blocks.specs.Blocks.{PlainBlock, bare, new_block, with_row, with_matrix}
-use Rattle.fab_blocks.specs.Cells.{first_problem, cell_at}
+use Rattle.fab_blocks.specs.Cells.{first_problem, cell_at, is_tile_name}
 use Rattle.fab_blocks.specs.Inner.{foreign_row, value_problem, parameter_row, path_problem, depth_problem, include_row, tiles_row, outer_row, inner_parameter, beside, wire_cells, wire_row, bel_row, matrix_row, block_row, file_named}
 use Rattle.fab_blocks.specs.Rows.{WireCells, row_of, wire_problem, kind_of, bel_problem, matrix_problem, with_bel_of}
 use Rattle.fab_blocks.specs.Reading.{PlainReading, PlainHolder, start, with_mode, with_grid, with_parameters, with_type}
-use Rattle.fab_blocks.specs.Saying.{Step, stands, may_begin, lines_of, line_problem, with_line, parameters_begun, begin_problem, begin_grid, end_grid, grid_line, begin_parameters, end_parameters, begin_tile, handed_out, end_tile, with_said, with_block, row_in, say, said_of}
+use Rattle.fab_blocks.specs.Saying.{Step, stands, may_begin, lines_of, line_problem, with_line, parameters_begun, begin_problem, begin_reason, begin_limit, begin_grid, end_grid, grid_line, begin_parameters, end_parameters, begin_tile, handed_out, end_tile, with_said, with_block, row_in, say, said_of}
 use Rattle.fab_blocks.specs.Words.{word_of}
+use Rattle.fab_blocks.proofs.Readings.{passed, no_problem}
 use Rattle.fab_read.specs.Rows.{end_at, ReadsRows, ends, takes_row, opens_file, ends_tile}
 use Rattle.fab_read.specs.Fabrics.{SpellsFabric}
 use Rattle.fab_fabric_names.proofs.Keeping.{Keeps}
@@ -32,7 +33,7 @@ either : {X : Type 0} (P : X → Type 0) (test : Bool) (x y : X) → P x → P y
 either P true x y p q = p
 either P false x y p q = q
 
-module _ (P : PlainTile → Type 0) (keeps : Keeps P) where
+module _ (P Q : PlainTile → Type 0) (keeps : Keeps P Q) where
   -- ---- what is to be kept
 
   abbrev IsOpenKept : Mode → Type 0
@@ -40,7 +41,7 @@ module _ (P : PlainTile → Type 0) (keeps : Keeps P) where
   IsOpenKept _ = Unit {0}
 
   record IsKeptReading (reading : PlainReading) : Type 0 where
-    pub types : All P reading.types
+    pub types : All Q reading.types
     pub open_block : IsOpenKept reading.mode
 
   -- the block that a row hands out
@@ -131,6 +132,17 @@ module _ (P : PlainTile → Type 0) (keeps : Keeps P) where
     judged_step None after kept = (kept, tt)
     judged_step (Some problem) after kept = tt
 
+    judged_when : (problem : Option Problem) (after : PlainReading) → (problem ≡ None → IsKeptReading after) → OnStep (judged problem (after, said.Taken))
+    judged_when None after kept_after = (kept_after refl, tt)
+    judged_when (Some problem) after kept_after = tt
+
+    -- a block that begins has the name of a tile
+    begun_name : (cells : List (List ℕ)) → begin_problem before holder cells ≡ None → is_tile_name (cell_at cells 1) ≡ true
+    unfolding begin_reason
+    begun_name cells fine =
+        let reason = (no_problem (begin_reason before holder cells) (begin_limit before (cell_at cells 1)) fine).0 in
+        (passed (is_tile_name (cell_at cells 1)) _ _ (passed (length cells == 2) _ _ reason).1).0
+
     with_open : (mode : Mode) → IsOpenKept mode → IsKeptReading (with_mode before mode)
     with_open mode open_kept = record { types = kept.types; open_block = open_kept }
 
@@ -173,7 +185,8 @@ module _ (P : PlainTile → Type 0) (keeps : Keeps P) where
 
     tile_begins : (cells : List (List ℕ)) → OnStep (begin_tile before holder cells)
     unfolding begin_tile
-    tile_begins cells = judged_step (begin_problem before holder cells) (with_mode before (modes.Tile (new_block (cell_at cells 1)))) (with_open (modes.Tile (new_block (cell_at cells 1))) (keeps.new (cell_at cells 1)))
+    tile_begins cells = judged_when (begin_problem before holder cells) (with_mode before (modes.Tile (new_block (cell_at cells 1)))) (λ fine.
+        with_open (modes.Tile (new_block (cell_at cells 1))) (keeps.new (cell_at cells 1) (begun_name cells fine)))
 
     block_out : (mode : Mode) (own : Bool) → IsOpenKept mode → OnStep (handed_out before mode own)
     block_out (modes.Tile block) true open_kept = (with_open modes.Outside tt, open_kept)
@@ -210,8 +223,8 @@ module _ (P : PlainTile → Type 0) (keeps : Keeps P) where
 
   -- ---- all rows
 
-  kept_type : (reading : PlainReading) (tile : PlainTile) → IsKeptReading reading → P tile → IsKeptReading (with_type reading tile)
-  kept_type reading tile before kept = record { types = All-push P reading.types tile before.types kept; open_block = before.open_block }
+  kept_type : (reading : PlainReading) (tile : PlainTile) → IsKeptReading reading → Q tile → IsKeptReading (with_type reading tile)
+  kept_type reading tile before kept = record { types = All-push Q reading.types tile before.types kept; open_block = before.open_block }
 
   module _ (files : Map) where
     kept_rows : {holder : PlainHolder} {before : PlainReading} {rows : List PlainRow} {after : PlainReading} → ReadsRows files holder before rows after → IsKeptReading before → IsKeptReading after
@@ -224,11 +237,11 @@ module _ (P : PlainTile → Type 0) (keeps : Keeps P) where
         kept_rows rest (kept_type next tile step.0 (keeps.tile files (end_at holder row) block tile step.1 read))
 
   kept_start : IsKeptReading start
-  kept_start = record { types = All-nil P; open_block = tt }
+  kept_start = record { types = All-nil Q; open_block = tt }
 
-  pub spelled_keep : (files : Map) (name : List ℕ) (fabric : PlainFabric) → SpellsFabric files name fabric → All P fabric.types
+  pub spelled_keep : (files : Map) (name : List ℕ) (fabric : PlainFabric) → SpellsFabric files name fabric → All Q fabric.types
   spelled_keep files name fabric spelled =
       let parts = spelled.parts in
-      let kept : All P parts.reading.types = (kept_rows files parts.read.reads kept_start).types in
-      let types : All P spelled.types = subst (All P) (sym parts.types_are) kept in
-      subst (λ (f : PlainFabric). All P f.types) (sym spelled.is) types
+      let kept : All Q parts.reading.types = (kept_rows files parts.read.reads kept_start).types in
+      let types : All Q spelled.types = subst (All Q) (sym parts.types_are) kept in
+      subst (λ (f : PlainFabric). All Q f.types) (sym spelled.is) types

@@ -14,6 +14,7 @@ mod lists;
 mod loading;
 mod matrices;
 mod modules;
+mod pieces;
 mod primitives;
 mod reading;
 
@@ -28,6 +29,7 @@ use kinds::put_kinds;
 use lists::put_lists;
 use loading::put_loading;
 use matrices::put_matrices;
+use pieces::put_pieces;
 use primitives::put_primitives;
 use reading::put_readings;
 
@@ -36,6 +38,7 @@ fn main(rt: HostRuntime) -> Result<(), Stop> {
     let mut desk = FileDesk::new(&rt);
     let mut out = OutSink::new(&rt);
     put_readings(alloc, &mut desk, &mut out)?;
+    put_pieces(alloc, &mut desk, &mut out)?;
     put_fabrics(alloc, &mut desk, &mut out)?;
     put_loading(alloc, &mut desk, &mut out)?;
     put_faults(alloc, &mut desk, &mut out)?;

@@ -16,10 +16,10 @@ fn again(alloc: Global, name: &str, text: &Text) -> Result<Vec<u8>, Memory> {
     Ok(out)
 }
 
-// What is read of a text, or the report of its refusal.
-fn shown(alloc: Global, case: Case) -> Result<Vec<u8>, Fault> {
-    match tree_of(alloc, case) {
-        Ok(tree) => Ok(again(alloc, case.name, &tree)?),
+/// What was read of a text of this name, or the report of its refusal.
+pub fn shown(alloc: Global, name: &str, found: Result<Text, Fault>) -> Result<Vec<u8>, Fault> {
+    match found {
+        Ok(tree) => Ok(again(alloc, name, &tree)?),
         Err(fault) => Ok(fault.text(alloc)?.into_vec()),
     }
 }
@@ -33,7 +33,7 @@ fn put_texts<D: Desk, S: Sink>(
 ) -> Result<(), Stop> {
     let bytes = fetch(alloc, desk, file)?;
     for case in cases_of(alloc, &bytes)? {
-        out.put(&shown(alloc, case)?)?;
+        out.put(&shown(alloc, case.name, tree_of(alloc, case))?)?;
     }
     Ok(())
 }
@@ -47,7 +47,7 @@ fn put_deep_line<S: Sink>(alloc: Global, out: &mut S) -> Result<(), Stop> {
         name: "a_million_brackets",
         text: &text,
     };
-    out.put(&shown(alloc, case)?)?;
+    out.put(&shown(alloc, case.name, tree_of(alloc, case))?)?;
     Ok(())
 }
 

@@ -23,3 +23,4 @@ pub mod Determined
 pub mod Contract
 pub mod Stepping
 pub mod Looping
+pub mod Feeding

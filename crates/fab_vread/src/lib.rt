@@ -6,7 +6,8 @@ mod laws;
 mod levels;
 mod parser;
 mod places;
+mod progress;
 mod reader;
 
 pub use laws::{lexemes_are_tokens, refusals_are_one, spelled_texts_are_printable};
-pub use reader::read;
+pub use reader::{Reader, read};

@@ -1,217 +1,151 @@
-//! A text is read byte by byte, and its first token that cannot stand there is reported.
+//! Texts are read in pieces, or as a whole.
 
-ghost use Rattle.std.specs.Prelude.{◌≡◌, ◌⊎◌, ◌≤◌, ◌<◌, ◌+◌, length, map, List, IfOk};
+ghost use Rattle.std.specs.Prelude.{◌≡◌, ◌⊎◌, ◌≤◌, ◌+◌, ◌++◌, [], ℕ, length, List, IfOk, IsErr, OnOk, OnErr, Ok, Err, Result};
 ghost use Rattle.std.specs.Result.{IfErr};
-ghost use Rattle.fab_base.specs.Reading.{Gives, fault_at, IsFaultOr};
-ghost use Rattle.fab_syntax.specs.Plain.{PlainModule, plain_module, plain_text};
+ghost use Rattle.fab_base.specs.declared.fault.Fault.{Fault};
+ghost use Rattle.fab_base.specs.declared.fault.Fault.TheVariants as faults;
+ghost use Rattle.fab_base.specs.Reading.{Fails, Gives};
+ghost use Rattle.fab_syntax.specs.Plain.{PlainModule, plain_text};
 ghost use Rattle.fab_syntax.specs.Spelling.{text_bytes};
 ghost use Rattle.fab_grammar.specs.Grammar.{SpellsText};
 ghost use Rattle.fab_grammar.specs.Printable.{IsPrintableText};
-ghost use Rattle.fab_vread.specs.Progress.{plain_progress};
-ghost use Rattle.fab_vread.specs.Refusals.{IsRefusal, next_line};
-ghost use Rattle.fab_vread.specs.Machine.{limit, first_progress, line_checked, past, after_lexeme, after_optional, after_char, and_go, read_from, is_done, closing, finished, read_of};
+ghost use Rattle.fab_vread.specs.Refusals.{IsRefusal};
 
-use crate::expressions::{MAX_BITS, Over};
-use crate::levels::MAX_DEPTH;
-use crate::parser::{Parser, State, put};
-use crate::places::{Header, Place};
-use fab_base::{Fault, MAX_FILE_BYTES, Name, Problem, Quantity, Reason};
+use crate::parser::put;
+use crate::progress::Progress;
+use fab_base::{Fault, MAX_FILE_BYTES, Memory, Name};
 use fab_syntax::Text;
-use fab_tokens::{Scan, Token, finish, take_byte};
 use std::alloc::Global;
 use std::mem;
 
-/// How far a text has been read.
+/// What has come of the pieces so far.
 #[derive(Drop)]
-struct Reader {
-    parser: Parser,
-    /// The line of the last token.
-    token_line: u32,
-    /// What the bytes since the last token are.
-    scan: Scan,
-    /// The line of the last byte.
-    last: u32,
-    /// The line of the next byte.
-    line: u32,
+enum Standing {
+    /// All their bytes were taken.
+    Going,
+    /// The first fault in them.
+    Refused(Fault),
+    /// Memory was refused.
+    Spent,
 }
 
-fn limit(over: Over) -> Problem
-    ensures { result ≡ limit over }
-{
-    match over {
-        Over::Depth => Problem::Limit(
-            Quantity::ExpressionDepth,
-            MAX_DEPTH as u64 + 1,
-            MAX_DEPTH as u64,
-        ),
-        Over::Bits(bits) => Problem::Limit(Quantity::LiteralBits, bits, MAX_BITS as u64),
-    }
-}
-
-fn past(over: Option<Over>, at: u32, line: u32) -> Option<Problem>
-    ensures { result ≡ past over at line }
-{
-    match over {
-        Some(over) if at < line => Some(limit(over)),
-        _ => None,
-    }
-}
-
-/// The line of the byte behind this one.
-fn next_line(line: u32, byte: u8) -> u32
-    requires { line < 4294967295 }
-    ensures value { result ≡ next_line line byte }
-    ensures near { result ≤ line + 1 }
-{
-    if byte == b'\n' { line + 1 } else { line }
+/// A reader of one Verilog text that comes in pieces, cut anywhere. It keeps what the pieces spell, and none of their bytes.
+#[derive(Drop)]
+pub struct Reader {
+    alloc: Global,
+    file: Name,
+    progress: Progress,
+    standing: Standing,
+    fed: usize,
+    ghost lines: { progress.line ≤ fed + 1 },
 }
 
 impl Reader {
-    fn new(alloc: Global) -> Reader
-        ensures first { plain_progress result ≡ first_progress }
-        ensures line { result.line ≡ 1 }
-    {
-        Reader {
-            parser: Parser::new(alloc),
-            token_line: 1,
-            scan: Scan::Between,
-            last: 1,
-            line: 1,
-        }
-    }
+    ghost use Rattle.fab_vread.specs.declared.reader.Standing.TheVariants as standings;
+    ghost use Rattle.fab_vread.specs.Progress.{plain_progress};
+    ghost use Rattle.fab_vread.specs.Machine.{Progress as PlainProgress, finished, read_from, read_of};
+    ghost use Rattle.fab_vread.specs.Pieces.{HasRead, IsSpent, StandsAt, fed_len};
 
-    /// What is above its bound is reported when its line is over.
-    fn check_line(&self, alloc: Global, file: &Name) -> Result<(), Fault>
-        ensures { Gives (λ _. plain_progress self.now) result (line_checked file.now (plain_progress self.now) (past self.now.parser.over self.now.token_line self.now.line)) }
+    /// A reader of a file's text, which was fed nothing yet. The error comes where memory is refused.
+    pub fn new(alloc: Global, file: &Name) -> Result<Reader, Memory>
+        ensures { IfOk result (HasRead file.now []) }
     {
-        match past(self.parser.over, self.token_line, self.line) {
-            None => Ok(()),
-            Some(problem) => Err(problem.at(alloc, file, self.token_line)),
-        }
-    }
-
-    #[tactic(auto, unfolding(crate::specs::Machine::after_lexeme))]
-    fn take_token(&mut self, alloc: Global, file: &Name, token: Token) -> Result<(), Fault>
-        ensures given { Gives (λ _. plain_progress self.new) result (after_lexeme file.now (plain_progress self.old) token) }
-        ensures scan { self.new.scan ≡ self.old.scan }
-        ensures last { self.new.last ≡ self.old.last }
-        ensures line { self.new.line ≡ self.old.line }
-    {
-        self.check_line(alloc, file)?;
-        if let Err(problem) = self.parser.take(alloc, token) {
-            return Err(problem.at(alloc, file, self.line));
-        }
-        self.token_line = self.line;
-        Ok(())
-    }
-
-    fn take_optional(
-        &mut self,
-        alloc: Global,
-        file: &Name,
-        token: Option<Token>,
-    ) -> Result<(), Fault>
-        ensures given { Gives (λ _. plain_progress self.new) result (after_optional file.now (plain_progress self.old) token) }
-        ensures line { self.new.line ≡ self.old.line }
-    {
-        match token {
-            None => Ok(()),
-            Some(token) => self.take_token(alloc, file, token),
-        }
-    }
-
-    fn take_byte(&mut self, alloc: Global, file: &Name, byte: u8) -> Result<(), Fault>
-        requires { self.old.line < 4294967295 }
-        ensures given { Gives (λ _. plain_progress self.new) result (after_char file.now (plain_progress self.old) byte) }
-        ensures line { self.new.line ≤ self.old.line + 1 }
-    {
-        let scan = mem::replace(&mut self.scan, Scan::Between);
-        let step = take_byte(alloc, scan, byte)?;
-        self.take_optional(alloc, file, step.first)?;
-        self.take_optional(alloc, file, step.second)?;
-        put(&mut self.scan, step.scan);
-        self.last = self.line;
-        self.line = next_line(self.line, byte);
-        Ok(())
-    }
-
-    /// Takes bytes of a text.
-    fn take_bytes(&mut self, alloc: Global, file: &Name, bytes: &[u8]) -> Result<(), Fault>
-        requires { self.old.line + length bytes.now ≤ 4294967295 }
-        ensures { Gives (λ _. plain_progress self.new) result (read_from file.now (plain_progress self.old) bytes.now) }
-    {
-        let mut rest = bytes;
-        while let Some((byte, after)) = rest.split_first() {
-            self.take_byte(alloc, file, *byte)?;
-            rest = after;
-        }
-        Ok(())
-    }
-
-    fn is_done(&self) -> bool
-        ensures { result ≡ is_done (plain_progress self.now).machine }
-    {
-        match &self.parser.state {
-            State::Outside(Place::Header(Header::Start)) => 0 < self.parser.modules.len(),
-            _ => false,
-        }
-    }
-
-    /// Whether the text may end here, and nothing is above its bound.
-    fn check_end(&self, alloc: Global, file: &Name) -> Result<(), Fault>
-        ensures { Gives (λ _. map plain_module self.now.parser.modules.items) result (closing file.now (plain_progress self.now)) }
-    {
-        if !self.is_done() {
-            return Err(Problem::Malformed(Reason::Token).at(alloc, file, self.line));
-        }
-        match self.parser.over {
-            Some(over) => Err(limit(over).at(alloc, file, self.token_line)),
-            None => Ok(()),
-        }
-    }
-
-    fn close(&mut self, alloc: Global, file: &Name) -> Result<Text, Fault>
-        ensures { Gives plain_text result (closing file.now (plain_progress self.old)) }
-    {
-        self.check_end(alloc, file)?;
-        Ok(Text {
-            modules: mem::replace(&mut self.parser.modules, Vec::new(alloc)),
+        Ok(Reader {
+            alloc,
+            file: file.copy(alloc)?,
+            progress: Progress::new(alloc),
+            standing: Standing::Going,
+            fed: 0,
         })
     }
 
-    /// The text ends. After this the reader is of no more use.
-    fn finish(&mut self, alloc: Global, file: &Name) -> Result<Text, Fault>
-        ensures { Gives plain_text result (finished file.now (plain_progress self.old)) }
+    /// Keeps a fault of the pieces.
+    fn refuse(&mut self, fault: Fault) -> Result<(), Memory>
+        ensures stands { (come : Result PlainProgress Fault) → Fails fault come → OnOk result (StandsAt self.new.standing (plain_progress self.new.progress) come) }
+        ensures spent { OnErr result (IsSpent self.new) }
+        ensures file { self.new.file ≡ self.old.file }
+        ensures fed { self.new.fed ≡ self.old.fed }
     {
-        self.line = self.last;
-        let scan = mem::replace(&mut self.scan, Scan::Between);
-        let token = finish(alloc, scan)?;
-        self.take_optional(alloc, file, token)?;
-        self.check_line(alloc, file)?;
-        self.close(alloc, file)
+        match fault {
+            Fault::Memory => {
+                put(&mut self.standing, Standing::Spent);
+                Err(Memory)
+            }
+            first => {
+                put(&mut self.standing, Standing::Refused(first));
+                Ok(())
+            }
+        }
     }
 
-    /// Takes a text up to its end. Apart from `read_text`: where the function that owns a reader has several ways out, each part
-    /// of the reader is a case of its proof.
-    fn take_text(&mut self, alloc: Global, file: &Name, bytes: &[u8]) -> Result<Text, Fault>
-        requires { self.old.line + length bytes.now ≤ 4294967295 }
-        ensures { Gives plain_text result (and_go (read_from file.now (plain_progress self.old) bytes.now) (λ p. finished file.now p)) }
+    /// Takes a piece that is counted already, where nothing is refused.
+    fn take(&mut self, piece: &[u8]) -> Result<(), Memory>
+        requires going { self.old.standing ≡ standings.Going }
+        requires room { self.old.progress.line + length piece.now ≤ self.old.fed + 1 }
+        requires few { self.old.fed ≤ MAX_FILE_BYTES }
+        ensures stands { OnOk result (StandsAt self.new.standing (plain_progress self.new.progress) (read_from self.old.file (plain_progress self.old.progress) piece.now)) }
+        ensures spent { OnErr result (IsSpent self.new) }
+        ensures file { self.new.file ≡ self.old.file }
+        ensures fed { self.new.fed ≡ self.old.fed }
     {
-        self.take_bytes(alloc, file, bytes)?;
-        self.finish(alloc, file)
+        match self.progress.take_bytes(self.alloc, &self.file, piece) {
+            Ok(()) => Ok(()),
+            Err(fault) => self.refuse(fault),
+        }
     }
-}
 
-#[tactic(auto, unfolding(crate::specs::Machine::read_of))]
-fn read_text(alloc: Global, file: &Name, bytes: &[u8]) -> Result<Text, Fault>
-    requires { length bytes.now ≤ MAX_FILE_BYTES }
-    ensures { Gives plain_text result (read_of file.now bytes.now) }
-{
-    let mut reader = Reader::new(alloc);
-    let found = reader.take_text(alloc, file, bytes);
-    // let go by a call: in this function, each form of each part would be a case of the proof that has the whole reader in it
-    mem::drop(reader);
-    found
+    /// Takes the next piece of the text. Where the text is refused, `finish` says so: what stands behind the first fault is passed
+    /// over. The error comes where memory is refused, and where it was for an earlier piece.
+    pub fn feed(&mut self, piece: &[u8]) -> Result<(), Memory>
+        requires { fed_len self.old + length piece.now ≤ MAX_FILE_BYTES }
+        ensures read { (file bytes : List ℕ) → HasRead file bytes self.old → OnOk result (HasRead file (bytes ++ piece.now) self.new) }
+        ensures counted { fed_len self.new ≡ fed_len self.old + length piece.now }
+        ensures spent { OnErr result (IsSpent self.new) }
+        ensures stays { IsSpent self.old → IsErr result }
+    {
+        self.fed += piece.len();
+        match &self.standing {
+            Standing::Going => self.take(piece),
+            Standing::Refused(_) => Ok(()),
+            Standing::Spent => Err(Memory),
+        }
+    }
+
+    fn end(&mut self) -> Result<Text, Fault>
+        ensures { Gives plain_text result (finished self.old.file (plain_progress self.old.progress)) }
+    {
+        let mut progress = mem::replace(&mut self.progress, Progress::new(self.alloc));
+        let found = progress.finish(self.alloc, &self.file);
+        // let go by a call: in this function, each form of each part would be a case of the proof
+        mem::drop(progress);
+        found
+    }
+
+    fn close(&mut self) -> Result<Text, Fault>
+        ensures given { (file bytes : List ℕ) → HasRead file bytes self.old → Gives plain_text result (read_of file bytes) }
+        ensures spent { IsSpent self.old → result ≡ Err faults.Memory }
+    {
+        match mem::replace(&mut self.standing, Standing::Spent) {
+            Standing::Going => self.end(),
+            Standing::Refused(fault) => Err(fault),
+            Standing::Spent => Err(Fault::Memory),
+        }
+    }
+
+    /// The text that the pieces spell, as `read` gives it for all of them as one piece, or its fault: wherever they were cut, the
+    /// answer is the same. Where memory was refused for a piece, it is want of memory.
+    pub fn finish(mut self) -> Result<Text, Fault>
+        ensures found { (file bytes : List ℕ) → HasRead file bytes self → IfOk result (λ text. SpellsText 300 128 bytes (plain_text text)) }
+        ensures only { (file bytes : List ℕ) → HasRead file bytes self → (modules : List PlainModule) → SpellsText 300 128 bytes modules → Gives plain_text result (Ok modules) }
+        ensures printable { (file bytes : List ℕ) → HasRead file bytes self → IfOk result (λ text. IsPrintableText (plain_text text)) }
+        ensures printed { (file bytes : List ℕ) → HasRead file bytes self → (modules : List PlainModule) → IsPrintableText modules → bytes ≡ text_bytes modules → Gives plain_text result (Ok modules) }
+        ensures refused { (file bytes : List ℕ) → HasRead file bytes self → IfErr result (λ fault. (fault ≡ faults.Memory) ⊎ IsRefusal file bytes fault) }
+        ensures spent { IsSpent self → result ≡ Err faults.Memory }
+    {
+        let found = self.close();
+        mem::drop(self);
+        found
+    }
 }
 
 /// Reads a Verilog text. Where its bytes spell a tree, with at most 300 brackets open in one another within an expression
@@ -229,5 +163,8 @@ pub fn read(alloc: Global, file: &Name, bytes: &[u8]) -> Result<Text, Fault>
     ensures printed { (modules : List PlainModule) → IsPrintableText modules → bytes.now ≡ text_bytes modules → Gives plain_text result (Ok modules) }
     ensures refused { IfErr result (λ fault. (fault ≡ Fault.Memory) ⊎ IsRefusal file.now bytes.now fault) }
 {
-    read_text(alloc, file, bytes)
+    let mut reader = Reader::new(alloc, file)?;
+    // where memory is refused, `finish` says so again
+    let _ = reader.feed(bytes);
+    reader.finish()
 }

@@ -4,4 +4,4 @@ use Rattle.fab_fabric_names.proofs.Readings.{spelled_keep}
 use Rattle.fab_fabric_names.proofs.spelled_fabrics_are_named.Goals as goal
 
 pub returns : goal.returns
-returns c = spelled_keep IsNamed names_kept
+returns c = spelled_keep IsNamed IsNamed names_kept

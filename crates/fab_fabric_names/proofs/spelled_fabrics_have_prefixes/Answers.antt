@@ -3,4 +3,4 @@ use Rattle.fab_fabric_names.proofs.Readings.{spelled_keep}
 use Rattle.fab_fabric_names.proofs.spelled_fabrics_have_prefixes.Goals as goal
 
 pub returns : goal.returns
-returns c = spelled_keep ArePrefixed prefixes_kept
+returns c = spelled_keep ArePrefixed ArePrefixed prefixes_kept

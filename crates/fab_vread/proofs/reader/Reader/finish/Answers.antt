@@ -1,30 +1,17 @@
-use Rattle.std.proofs.Common.{ap, subst, ◌∙◌}
-use Rattle.std.proofs.lemmas.Result.{err_from_is_err_and}
-use Rattle.fab_base.specs.Reading.{Gives}
-use Rattle.fab_syntax.specs.Plain.{plain_text}
-use Rattle.fab_tokens.specs.Scanning.{at_end}
-use Rattle.fab_vread.specs.Progress.{plain_progress}
-use Rattle.fab_vread.proofs.Stepping.{end_fails, check_fails, closes_as}
+use Rattle.fab_vread.proofs.Contract.{found_of, only_of, printable_of, printed_of, refused_of}
 use Rattle.fab_vread.proofs.reader.Reader.finish.Goals as goal
 
-pub returns-in_err-take_optional : goal.returns-in_err-take_optional
-returns-in_err-take_optional c =
-    let told = err_from_is_err_and c.from_residual-in_err-take_optional.result c.from_residual-in_err-take_optional.ensures.1 in
-    let is = c.in_ok-token.ensures ∙ ap at_end c.replace-scan.ensures.value in
-    rw (told.1, told.2) (end_fails c.args.file.now (plain_progress c.args.self.now) c.replace-scan.new.dest c.in_ok-token.token c.in_err-take_optional.field-0.0
-    is c.in_err-take_optional.ensures.given)
+pub returns-clause-found : goal.returns-clause-found
+returns-clause-found c = λ file bytes has. found_of file bytes c.close-found.result (c.close-found.ensures.given file bytes has)
 
-pub returns-in_err-check_line : goal.returns-in_err-check_line
-returns-in_err-check_line c =
-    let told = err_from_is_err_and c.from_residual-in_err-check_line.result c.from_residual-in_err-check_line.ensures.1 in
-    let is = c.in_ok-token.ensures ∙ ap at_end c.replace-scan.ensures.value in
-    rw (told.1, told.2) (check_fails c.args.file.now (plain_progress c.args.self.now) (plain_progress c.take_optional.new.self) c.replace-scan.new.dest c.in_ok-token.token
-    c.in_err-check_line.field-0.0 is c.in_ok-take_optional.ensures.given c.in_err-check_line.ensures)
+pub returns-clause-only : goal.returns-clause-only
+returns-clause-only c = λ file bytes has. only_of file bytes c.close-found.result (c.close-found.ensures.given file bytes has)
 
-pub returns : goal.returns
-returns c =
-    let is = c.in_ok-token.ensures ∙ ap at_end c.replace-scan.ensures.value in
-    subst (λ given. Gives plain_text c.close.result given)
-    (closes_as c.args.file.now (plain_progress c.args.self.now) (plain_progress c.take_optional.new.self) (plain_progress c.take_optional.new.self) c.replace-scan.new.dest
-    c.in_ok-token.token is c.in_ok-take_optional.ensures.given c.in_ok-check_line.ensures)
-    c.close.ensures
+pub returns-clause-printable : goal.returns-clause-printable
+returns-clause-printable c = λ file bytes has. printable_of file bytes c.close-found.result (c.close-found.ensures.given file bytes has)
+
+pub returns-clause-printed : goal.returns-clause-printed
+returns-clause-printed c = λ file bytes has. printed_of file bytes c.close-found.result (c.close-found.ensures.given file bytes has)
+
+pub returns-clause-refused : goal.returns-clause-refused
+returns-clause-refused c = λ file bytes has. refused_of file bytes c.close-found.result (c.close-found.ensures.given file bytes has)

@@ -4,10 +4,10 @@ use Rattle.std.proofs.lemmas.Result.{err_from_is_err_and}
 use Rattle.fab_vread.specs.Machine.{read_from}
 use Rattle.fab_vread.specs.Progress.{plain_progress}
 use Rattle.fab_vread.proofs.Looping.{byte_taken, byte_fails, bytes_end}
-use Rattle.fab_vread.proofs.reader.Reader.take_bytes.Goals as goal
+use Rattle.fab_vread.proofs.progress.Progress.take_bytes.Goals as goal
 
-pub returns-in_err-take_byte : goal.returns-in_err-take_byte
-returns-in_err-take_byte c =
+pub returns-in_err-take_byte-clause-given : goal.returns-in_err-take_byte-clause-given
+returns-in_err-take_byte-clause-given c =
     let told = err_from_is_err_and c.from_residual.result c.from_residual.ensures.1 in
     let file = c.args.file.now in
     let p = plain_progress c.loop-byte.self in
@@ -29,7 +29,7 @@ loop-byte-preserved c =
       lines = omega arith;
     }
 
-pub returns : goal.returns
-returns c =
+pub returns-clause-given : goal.returns-clause-given
+returns-clause-given c =
     bytes_end c.args.file.now (plain_progress c.loop-byte.self) c.loop-byte.rest.now (read_from c.args.file.now (plain_progress c.args.self.now) c.args.bytes.now)
     (nil_from_length c.loop-byte.rest.now c.in_default.ensures.cases) c.loop-byte.invariant.so_far

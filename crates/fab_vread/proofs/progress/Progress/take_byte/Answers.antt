@@ -4,7 +4,7 @@ use Rattle.fab_tokens.specs.declared.scanner.Scan.{Scan}
 use Rattle.fab_tokens.specs.Scanning.{after_byte}
 use Rattle.fab_vread.specs.Progress.{plain_progress}
 use Rattle.fab_vread.proofs.Stepping.{first_fails, second_fails, byte_goes}
-use Rattle.fab_vread.proofs.reader.Reader.take_byte.Goals as goal
+use Rattle.fab_vread.proofs.progress.Progress.take_byte.Goals as goal
 
 pub returns-in_err-take_optional-clause-given : goal.returns-in_err-take_optional-clause-given
 returns-in_err-take_optional-clause-given c =

@@ -1,0 +1,3 @@
+pub mod Stimuli
+pub mod Spelled
+pub mod Traces

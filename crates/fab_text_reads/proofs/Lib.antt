@@ -1,0 +1,9 @@
+pub mod Words
+pub mod Each
+pub mod Tested
+pub mod TileWords
+pub mod TileTexts
+pub mod TileModules
+pub mod TopTexts
+pub mod Loaders
+pub mod Texts
