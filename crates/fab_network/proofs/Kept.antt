@@ -1,5 +1,5 @@
 -- What is kept for points.
-use Rattle.std.proofs.Common.{◌≡◌, ℕ, zero, suc, ◌+◌, ◌<◌, true, false, List, [], ◌∷◌, length, refl, sym, ap, ◌∙◌, subst, inl, inr, arith, slice_set}
+use Rattle.std.proofs.Common.{◌≡◌, ℕ, zero, suc, ◌+◌, ◌<◌, true, List, [], ◌∷◌, length, refl, sym, ap, ◌∙◌, subst, inl, inr, arith, slice_set}
 use Rattle.std.proofs.lemmas.Bool.{cases_eq}
 use Rattle.fab_systems.specs.Ternary.{no, yes, unknown, IsBelow}
 use Rattle.fab_systems.specs.Ternary.{Tern as PlainTern}
@@ -49,8 +49,3 @@ known_below unknown u h k = cc
 
 pub known_grows : (t u : PlainTern) → is_known t ≡ true → IsBelow t u → is_known u ≡ true
 known_grows t u h k = ap is_known (sym (known_below t u h k)) ∙ h
-
-pub not_known : (t : PlainTern) → is_known t ≡ false → t ≡ unknown
-not_known no h = cc
-not_known yes h = cc
-not_known unknown h = refl

@@ -1,5 +1,5 @@
 -- A pass, look by look.
-use Rattle.std.proofs.Common.{◌≡◌, ℕ, ◌+◌, ◌<◌, Bool, true, false, List, length, refl, sym, ap, ◌∙◌, subst, inl, inr, ◌⊎◌, arith, slice_set, slice_index}
+use Rattle.std.proofs.Common.{◌≡◌, ℕ, ◌+◌, ◌<◌, Bool, true, false, List, length, refl, sym, ap, ◌∙◌, subst, inl, inr, arith, slice_set, slice_index}
 use Rattle.std.proofs.lemmas.Bool.{cases_Bool, cases_eq, cases_lt, false≢true}
 use Rattle.std.proofs.lemmas.List.{length-set}
 use Rattle.fab_systems.specs.Ternary.{unknown, IsBelow}
@@ -10,11 +10,11 @@ use Rattle.fab_ternary.specs.Terns.{plain_tern, is_known}
 use Rattle.fab_compiled.specs.Terns.{seen}
 use Rattle.fab_compiled.specs.Leading.{PointTerns, AreAbove}
 use Rattle.fab_network.specs.Network.{AreFit}
-use Rattle.fab_network.specs.Passes.{kept_tern, open_count, changed_after, open_after, shows, shows_now, AreRising, EachListed, AreSolved, AreBacked, AreOwn, StaysBelow, Scene, IsVisit, IsPassed}
+use Rattle.fab_network.specs.Passes.{kept_tern, open_count, changed_after, open_after, shows, shows_now, AreRising, EachListed, AreBacked, AreOwn, StaysBelow, Scene, IsVisit, IsPassed}
 use Rattle.fab_network.specs.declared.passes.Visit.{Visit}
 use Rattle.fab_network.specs.declared.passes.Visit.TheVariants.{Known, Still, Found}
 use Rattle.fab_network.proofs.Sources.{shown_grows}
-use Rattle.fab_network.proofs.Kept.{kept_same, kept_other, open_fewer, rising_set, known_below, known_grows, not_known}
+use Rattle.fab_network.proofs.Kept.{kept_same, kept_other, open_fewer, rising_set, known_grows}
 
 module _ (scene : Scene) (fit : AreFit scene.trees scene.drives) (points : length scene.drives ≡ length scene.leads) (own : AreOwn scene.order scene.leads) where
   -- what points show rises with what is kept
@@ -174,23 +174,3 @@ module _ (scene : Scene) (fit : AreFit scene.trees scene.drives) (points : lengt
     visit_passed new Known is = known_passed new is
     visit_passed new Still is = still_passed new is
     visit_passed new Found is = found_passed new is
-
-  -- ---- the end
-
-  -- where a pass has found nothing, or has left no point open, each point has what it shows
-  pub all_solved : (old new : List Tern) (changed open_left : Bool) → IsPassed scene (length scene.order) old new changed open_left → (changed ≡ false) ⊎ (open_left ≡ false) →
-      AreSolved scene.trees scene.drives scene.held scene.order (seen new scene.leads)
-  all_solved old new changed open_left passed last place l =
-      let q = slice_index scene.order place in
-      let known_case : is_known (kept_tern new q) ≡ true → seen new scene.leads q ≡ shows_now scene new q =
-      λ k. known_below (seen new scene.leads q) (shows_now scene new q) (ap is_known (own_seen new place l) ∙ k) (passed.backed place l) in
-      elim last [
-        | inl c ↦ elim (cases_Bool (is_known (kept_tern new q))) [
-          | inl k ↦ known_case k
-          | inr n ↦ (let same = passed.same c in
-              let none_new : kept_tern new q ≡ unknown = not_known (kept_tern new q) n in
-              let none_old : kept_tern old q ≡ unknown = ap (λ terns. kept_tern terns q) (sym same.0) ∙ none_new in
-              own_seen new place l ∙ none_new ∙ sym (ap (λ terns. shows_now scene terns q) same.0 ∙ same.1 place l none_old))
-        ]
-        | inr o ↦ known_case (passed.all o place l)
-      ]
