@@ -14,8 +14,8 @@ pub struct View<'v> {
 }
 
 impl<'v> View<'v> {
-    // What a point has.
-    pub(crate) fn at(&self, point: usize) -> Tern
+    /// What a point has.
+    pub fn at(&self, point: usize) -> Tern
         requires leads { IsView self.now.terns.now self.now.leads.now }
         requires within { point < length self.now.leads.now }
         ensures { plain_tern result ≡ seen self.now.terns.now self.now.leads.now point }

@@ -1,0 +1,100 @@
+-- Passes over points that are not known yet.
+use Rattle.std.specs.Prelude.{◌≡◌, ℕ, ◌+◌, ◌<◌, Bool, true, false, List, [], ◌∷◌, length, slice_index, slice_get, slice_set}
+use Rattle.fab_systems.specs.Ternary.{unknown, IsBelow}
+use Rattle.fab_systems.specs.Ternary.{Tern as PlainTern}
+use Rattle.fab_ternary.specs.declared.Tern.{Tern}
+use Rattle.fab_ternary.specs.declared.Tern.TheVariants.{No, Yes, Open}
+use Rattle.fab_ternary.specs.Terns.{plain_tern, is_known}
+use Rattle.fab_compiled.specs.declared.tree.Tree.{Tree}
+use Rattle.fab_compiled.specs.Terns.{seen, tern_or_unknown}
+use Rattle.fab_compiled.specs.Leading.{PointTerns, AreAbove}
+use Rattle.fab_network.specs.declared.network.Drive.{Drive}
+use Rattle.fab_network.specs.declared.passes.Visit.{Visit}
+use Rattle.fab_network.specs.declared.passes.Visit.TheVariants.{Known, Still, Found}
+use Rattle.fab_network.specs.Network.{shown_tern}
+
+-- what is kept for a point
+abbrev pub kept_tern : List Tern → (point : ℕ) → PlainTern
+kept_tern terns point = tern_or_unknown (slice_get terns point)
+
+-- what is known stays
+abbrev pub AreRising : (old new : List Tern) → Type 0
+AreRising old new = (point : ℕ) → IsBelow (kept_tern old point) (kept_tern new point)
+
+-- what a point shows, where latches hold these values
+abbrev pub shows : List Tree → List Drive → (held : List Tern) → PointTerns → (point : ℕ) → PlainTern
+shows trees drives held t point = shown_tern trees drives (kept_tern held point) t point
+
+-- what holds of the first points of a list
+abbrev pub EachListed : (count : ℕ) (order : List ℕ) → (ℕ → Type 0) → Type 0
+EachListed count order P = (place : ℕ) → place < count → P (slice_index order place)
+
+abbrev pub IsListed : (order : List ℕ) (point : ℕ) → Type 0
+IsListed order point = (place : ℕ) × (place < length order) × (slice_index order place ≡ point)
+
+-- each of these points has what it shows
+abbrev pub AreSolved : List Tree → List Drive → (held : List Tern) → (order : List ℕ) → PointTerns → Type 0
+AreSolved trees drives held order t = EachListed (length order) order (λ point. t point ≡ shows trees drives held t point)
+
+-- each of these points shows no less than it has
+abbrev pub AreBacked : List Tree → List Drive → (held : List Tern) → (order : List ℕ) → PointTerns → Type 0
+AreBacked trees drives held order t = EachListed (length order) order (λ point. IsBelow (t point) (shows trees drives held t point))
+
+-- all points have what those have to which they are led
+abbrev pub AreLed : List ℕ → PointTerns → Type 0
+AreLed leads t = (point : ℕ) → point < length leads → t point ≡ t (slice_index leads point)
+
+-- What is known stays below all assignments that give these points what they show.
+abbrev pub StaysBelow : List Tree → List Drive → (held : List Tern) → (order leads : List ℕ) → (old new : List Tern) → Type 0
+StaysBelow trees drives held order leads old new =
+    (t : PointTerns) → AreSolved trees drives held order t → AreLed leads t → AreAbove old leads t → AreAbove new leads t
+
+-- points that stand for themselves
+abbrev pub AreOwn : (order leads : List ℕ) → Type 0
+AreOwn order leads = EachListed (length order) order (λ point. (point < length leads) × (slice_index leads point ≡ point))
+
+abbrev pub open_count : List Tern → ℕ
+open_count [] = 0
+open_count (Open ∷ terns) = 1 + open_count terns
+open_count (Yes ∷ terns) = open_count terns
+open_count (No ∷ terns) = open_count terns
+
+-- all that stays the same while points are looked at
+pub record Scene : Type 0 where
+  pub trees : List Tree
+  pub drives : List Drive
+  pub held : List Tern
+  pub order : List ℕ
+  pub leads : List ℕ
+
+-- what a point shows now
+abbrev pub shows_now : Scene → (terns : List Tern) → (point : ℕ) → PlainTern
+shows_now scene terns point = shows scene.trees scene.drives scene.held (seen terns scene.leads) point
+
+-- what a look at one point does
+abbrev pub IsVisit : Scene → (point : ℕ) → (old new : List Tern) → Visit → Type 0
+IsVisit scene point old new Known = (new ≡ old) × (is_known (kept_tern old point) ≡ true)
+IsVisit scene point old new Still = (new ≡ old) × (kept_tern old point ≡ unknown) × (shows_now scene old point ≡ unknown)
+IsVisit scene point old new Found =
+    (kept_tern old point ≡ unknown) × (t : Tern) × (new ≡ slice_set old point t) × (is_known (plain_tern t) ≡ true) × (plain_tern t ≡ shows_now scene old point)
+
+abbrev pub changed_after : Bool → Visit → Bool
+changed_after changed Known = changed
+changed_after changed Still = changed
+changed_after changed Found = true
+
+abbrev pub open_after : Bool → Visit → Bool
+open_after open_left Known = open_left
+open_after open_left Still = true
+open_after open_left Found = open_left
+
+-- what looks at the first points of the list have done
+pub record IsPassed (scene : Scene) (count : ℕ) (old now : List Tern) (changed open_left : Bool) : Type 0 where
+  pub long : length now ≡ length old
+  pub rising : AreRising old now
+  pub below : StaysBelow scene.trees scene.drives scene.held scene.order scene.leads old now
+  pub backed : AreBacked scene.trees scene.drives scene.held scene.order (seen now scene.leads)
+  pub same : changed ≡ false → (now ≡ old) × EachListed count scene.order (λ point. kept_tern old point ≡ unknown → shows_now scene old point ≡ unknown)
+  pub fewer : changed ≡ true → open_count now < open_count old
+  pub all : open_left ≡ false → EachListed count scene.order (λ point. is_known (kept_tern now point) ≡ true)
+  pub others : (point : ℕ) → (IsListed scene.order point → ⊥) → kept_tern now point ≡ kept_tern old point

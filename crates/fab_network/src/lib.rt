@@ -1,0 +1,10 @@
+//! The equations of a text over compiled expressions, and passes over some of its points that lead up to their least ternary values.
+#![tactic(auto)]
+
+mod leading;
+mod network;
+mod passes;
+
+pub use leading::lead_of_source;
+pub use network::{Drive, Network, Source, evaluate};
+pub use passes::settle;

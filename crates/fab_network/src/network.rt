@@ -1,0 +1,83 @@
+//! What points show, by numbers.
+
+ghost use Rattle.std.specs.Prelude.{◌≡◌, ◌<◌, ◌≤◌, ◌^◌, Some, length};
+ghost use Rattle.fab_ternary.specs.Terns.{plain_tern};
+ghost use Rattle.fab_compiled.specs.Terns.{seen, IsView};
+ghost use Rattle.fab_network.specs.Network.{drive_tern, source_tern, shown_tern, AreFit, IsFitDrive, IsFitSource};
+
+use fab_compiled::{Tree, View, eval, through};
+use fab_ternary::Tern;
+
+/// A bit of a compiled expression over the points of an instance, of which the first is given.
+#[derive(Clone, Copy, Debug, PartialEq, Eq)]
+pub struct Source {
+    pub tree: u32,
+    pub first: u32,
+    pub bit: u32,
+}
+
+/// What a point shows.
+#[derive(Clone, Copy, Debug, PartialEq, Eq)]
+pub enum Drive {
+    /// What is given to it: an input of the top, or a flip-flop.
+    Given,
+    /// What another point has.
+    Same(u32),
+    /// The bit of an expression.
+    Value(Source),
+    /// A latch: its gate and its data.
+    Hold(Source, Source),
+}
+
+/// What the points of a text show, over compiled expressions.
+#[derive(Drop)]
+pub struct Network {
+    /// By the number of the point.
+    pub drives: Vec<Drive>,
+    pub trees: Vec<Tree>,
+}
+
+/// What a source has.
+pub fn evaluate(trees: &[Tree], source: Source, view: &View) -> Tern
+    requires fit { IsFitSource trees.now (length view.now.leads.now) source }
+    requires view { IsView view.now.terns.now view.now.leads.now }
+    requires small { length view.now.leads.now ≤ 2 ^ 32 }
+    ensures { plain_tern result ≡ source_tern trees.now (seen view.now.terns.now view.now.leads.now) source }
+{
+    let tree = &trees[source.tree as usize];
+    eval(tree, u64::from(source.bit), source.first as usize, view)
+}
+
+// What a point shows, where a latch holds this value; nothing is known of it where there is no such point.
+pub(crate) fn shown(network: &Network, point: usize, held: Tern, view: &View) -> Tern
+    requires fit { AreFit network.now.trees.items network.now.drives.items }
+    requires points { length network.now.drives.items ≡ length view.now.leads.now }
+    requires view { IsView view.now.terns.now view.now.leads.now }
+    requires small { length view.now.leads.now ≤ 2 ^ 32 }
+    requires within { point < length view.now.leads.now }
+    ensures { plain_tern result ≡ shown_tern network.now.trees.items network.now.drives.items (plain_tern held) (seen view.now.terns.now view.now.leads.now) point }
+{
+    match network.drives.get(point) {
+        Some(drive) => shown_by(&network.trees, *drive, point, held, view),
+        None => Tern::Open,
+    }
+}
+
+// What a point shows by its drive.
+fn shown_by(trees: &[Tree], drive: Drive, point: usize, held: Tern, view: &View) -> Tern
+    requires fit { IsFitDrive trees.now (length view.now.leads.now) drive }
+    requires view { IsView view.now.terns.now view.now.leads.now }
+    requires small { length view.now.leads.now ≤ 2 ^ 32 }
+    requires within { point < length view.now.leads.now }
+    ensures { plain_tern result ≡ drive_tern trees.now (plain_tern held) (seen view.now.terns.now view.now.leads.now) point (Some drive) }
+{
+    match drive {
+        Drive::Given => view.at(point),
+        Drive::Same(other) => view.at(other as usize),
+        Drive::Value(source) => evaluate(trees, source, view),
+        Drive::Hold(gate, latched) => {
+            let gate = evaluate(trees, gate, view);
+            through(gate, evaluate(trees, latched, view), held)
+        }
+    }
+}

@@ -1,0 +1,134 @@
+//! Passes over points that are not known yet, until nothing more comes to be known.
+
+ghost use Rattle.std.specs.Prelude.{◌≡◌, ◌<◌, ◌≤◌, ◌^◌, ℕ, List, length, slice_index};
+ghost use Rattle.fab_ternary.specs.Terns.{plain_tern};
+ghost use Rattle.fab_compiled.specs.Terns.{seen, IsView};
+ghost use Rattle.fab_network.specs.Network.{AreFit};
+ghost use Rattle.fab_network.specs.Passes.{changed_after, kept_tern, open_after, AreBacked, AreOwn, AreRising, AreSolved, IsListed, IsPassed, IsVisit, StaysBelow};
+
+use crate::network::{Network, shown};
+use fab_compiled::View;
+use fab_ternary::Tern;
+
+/// What a look at a point finds.
+#[derive(Clone, Copy, Debug)]
+enum Visit {
+    /// It was known before.
+    Known,
+    /// What it shows is not known yet.
+    Still,
+    /// It has come to be known.
+    Found,
+}
+
+/// What a pass finds.
+#[derive(Clone, Copy, Debug)]
+struct Pass {
+    /// Whether a point has come to be known.
+    changed: bool,
+    /// Whether a point is still open.
+    open: bool,
+}
+
+impl Pass {
+    // One more look in the pass.
+    fn noting(self, visit: Visit) -> Pass
+        ensures changed { result.changed ≡ changed_after self.changed visit }
+        ensures open { result.open ≡ open_after self.open visit }
+    {
+        match visit {
+            Visit::Known => self,
+            Visit::Still => Pass {
+                changed: self.changed,
+                open: true,
+            },
+            Visit::Found => Pass {
+                changed: true,
+                open: self.open,
+            },
+        }
+    }
+}
+
+/// Gives points that stand for themselves what they show, as far as it is known: passes over them in their order, until one finds nothing. Where
+/// each of them depends on those before it alone, and all that it depends on is known, one pass is enough.
+pub fn settle(network: &Network, order: &[u32], held: &[Tern], leads: &[u32], terns: &mut [Tern])
+    requires fit { AreFit network.now.trees.items network.now.drives.items }
+    requires points { length network.now.drives.items ≡ length leads.now }
+    requires terns { length terns.old ≡ length leads.now }
+    requires held { length held.now ≡ length leads.now }
+    requires view { IsView terns.old leads.now }
+    requires small { length leads.now ≤ 2 ^ 32 }
+    requires own { AreOwn order.now leads.now }
+    requires backed { AreBacked network.now.trees.items network.now.drives.items held.now order.now (seen terns.old leads.now) }
+    ensures rising { AreRising terns.old terns.new }
+    ensures below { StaysBelow network.now.trees.items network.now.drives.items held.now order.now leads.now terns.old terns.new }
+    ensures solved { AreSolved network.now.trees.items network.now.drives.items held.now order.now (seen terns.new leads.now) }
+    ensures others { (point : ℕ) → (IsListed order.now point → ⊥) → kept_tern terns.new point ≡ kept_tern terns.old point }
+{
+    'passes: loop {
+        let pass = pass_over(network, order, held, leads, terns);
+        if !pass.changed || !pass.open {
+            return;
+        }
+    }
+}
+
+// One look at each point.
+fn pass_over(
+    network: &Network,
+    order: &[u32],
+    held: &[Tern],
+    leads: &[u32],
+    terns: &mut [Tern],
+) -> Pass
+    requires fit { AreFit network.now.trees.items network.now.drives.items }
+    requires points { length network.now.drives.items ≡ length leads.now }
+    requires terns { length terns.old ≡ length leads.now }
+    requires held { length held.now ≡ length leads.now }
+    requires view { IsView terns.old leads.now }
+    requires small { length leads.now ≤ 2 ^ 32 }
+    requires own { AreOwn order.now leads.now }
+    requires backed { AreBacked network.now.trees.items network.now.drives.items held.now order.now (seen terns.old leads.now) }
+    ensures { IsPassed (record { trees = network.now.trees.items; drives = network.now.drives.items; held = held.now; order = order.now; leads = leads.now })
+        (length order.now) terns.old terns.new result.changed result.open }
+{
+    let mut pass = Pass {
+        changed: false,
+        open: false,
+    };
+    for point in order {
+        let found = look_at(network, *point as usize, held, leads, terns);
+        pass = pass.noting(found);
+    }
+    pass
+}
+
+// One look at a point.
+fn look_at(
+    network: &Network,
+    point: usize,
+    held: &[Tern],
+    leads: &[u32],
+    terns: &mut [Tern],
+) -> Visit
+    requires fit { AreFit network.now.trees.items network.now.drives.items }
+    requires points { length network.now.drives.items ≡ length leads.now }
+    requires terns { length terns.old ≡ length leads.now }
+    requires held { length held.now ≡ length leads.now }
+    requires view { IsView terns.old leads.now }
+    requires small { length leads.now ≤ 2 ^ 32 }
+    requires within { point < length leads.now }
+    ensures { (order : List ℕ) → IsVisit (record { trees = network.now.trees.items; drives = network.now.drives.items; held = held.now; order = order; leads = leads.now })
+        point terns.old terns.new result }
+{
+    if !terns[point].is_open() {
+        return Visit::Known;
+    }
+    let found = shown(network, point, held[point], &View { terns, leads });
+    if found.is_open() {
+        return Visit::Still;
+    }
+    terns[point] = found;
+    Visit::Found
+}
