@@ -99,6 +99,8 @@ def rows(is_small=False):
     parts = dict(TABLES, **fixtures("log.list"))
     inv = dict(duo, **fixtures("inv.blif", "inv.pcf"))
     tog = dict(duo, **fixtures("tog.blif", "tog.pcf"))
+    grid = read(*("examples/counter/" + name for name in (
+        "fabric.csv", "logic.csv", "logic.list", "pads.csv", "pads.list")))
     found = [
         row(8, "matrix m.list m.v", LISTS),
         row(6, "generate duo.csv f.v", duo),
@@ -109,15 +111,14 @@ def rows(is_small=False):
         row(4, "map turn.csv k.blif i --rounds 4", turn),
         row(4, "flow duo.csv tog.blif made --pcf tog.pcf", tog),
         row(4, "flow turn.csv k.blif made --seed=7", turn),
-        row(6, "flow turn.csv top.blif made", dict(turn, **{"top.blif": NESTED})),
+        row(6, "flow fabric.csv top.blif made", dict(grid, **{"top.blif": NESTED})),
         row(8, "bits duo.csv tog.fasm b", dict(duo, **fixtures("tog.fasm"))),
         row(6, "features duo.csv inv.bit f", dict(duo, **fixtures("inv.bit"))),
         row(6, "features parts.csv last.bit f", dict(parts, **{"last.bit": fixtures("inv.bit")["inv.bit"]})),
     ]
     if is_small:
         return found
-    counter = read(*("examples/counter/" + name for name in (
-        "fabric.csv", "logic.csv", "logic.list", "pads.csv", "pads.list", "counter.blif", "counter.pcf", "counter.impl")))
+    counter = dict(grid, **read(*("examples/counter/counter" + end for end in (".blif", ".pcf", ".impl"))))
     shape = read(*("examples/shapes/" + name for name in (
         "hole.csv", "logic.csv", "logic.list", "pads2.csv", "pads2.list")))
     return found + [
