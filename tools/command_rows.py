@@ -1,0 +1,148 @@
+"""Well-formed rows of every command: its words, and the files that it reads. For tools/check_garbage and tools/check_memory."""
+import os
+
+ROOT = os.path.dirname(os.path.dirname(os.path.abspath(__file__)))
+DATA = "crates/fab_command_examples/data/"
+
+# A fabric of the fixtures again, in all that fabric files may hold: tiles in a file of their own, an included file, a
+# matrix table, and a table of the places of configuration bits.
+TABLES = {
+    "parts.csv": b"""FabricBegin
+IO,LOG
+FabricEnd
+ParametersBegin
+ConfigBitMode,frame_based
+FrameBitsPerRow,32
+Tile,tiles.csv
+ParametersEnd
+""",
+    "tiles.csv": b"""TILE,IO
+EAST,E1BEG,1,0,NULL,2
+WEST,NULL,-1,0,W1END,1
+INCLUDE,constants.csv
+BEL,IO_1_bidirectional_frame_config_pass.v,A_
+BEL,IO_1_bidirectional_frame_config_pass.v,B_
+MATRIX,pads.csv
+EndTILE
+TILE,LOG
+EAST,NULL,1,0,E1END,2
+WEST,W1BEG,-1,0,NULL,1
+JUMP,J_BEG,0,0,J_END,1
+INCLUDE,constants.csv
+BEL,LUT4c_frame_config.v,LA_
+MATRIX,outer.list
+EndTILE
+""",
+    "constants.csv": b"JUMP,NULL,0,0,GND,1\nJUMP,NULL,0,0,VCC,1\n",
+    "pads.csv": b"""IO,A_O,B_O,W1END0,GND0,VCC0
+E1BEG0,1,1,0,0,0
+E1BEG1,1,1,0,0,0
+A_I,0,0,1,0,0
+B_I,0,0,1,0,0
+A_T,0,0,0,1,1
+B_T,0,0,0,1,1
+""",
+    "IO_ConfigMem.csv": b"""frame_name,frame_index,bits_used_in_frame,used_bits_mask,ConfigBits_ranges
+frame0,0,2,1100_0000_0000_0000_0000_0000_0000_0000,1:0
+frame1,3,2,0000_0000_0000_0000_0000_0000_0000_0011,2;3
+frame2,4,0,0000_0000_0000_0000_0000_0000_0000_0000,NULL
+""",
+    "outer.list": b"INCLUDE,log.list\n",
+}
+# A netlist with a copy of a model, an alias and lines that have no effect.
+NESTED = b""".model top
+.inputs a b clk
+.outputs z \\
+ q
+.subckt gate x=a y=b o=n # a copy
+.attr src "top.v:1"
+.conn n z
+.names n d
+0 1
+.latch d q re clk 0
+.end
+.model gate
+.inputs x y
+.outputs o
+.names x y o
+1- 1
+-1 1
+.end
+"""
+LISTS = {
+    "m.list": b"# a switch list\nO[0|1],[A|B]\nINCLUDE,more.list\n{2}P,[C|D]\n",
+    "more.list": b"O0,C\n{2}O[0|1],[A|B|C|D]\n",
+}
+
+
+def read(*paths):
+    """The files of these paths, by the last part of their names."""
+    files = {}
+    for path in paths:
+        with open(os.path.join(ROOT, path), "rb") as file:
+            files[os.path.basename(path)] = file.read()
+    return files
+
+
+def fixtures(*names):
+    return read(*(DATA + name for name in names))
+
+
+def row(weight, words, files):
+    return weight, [word.encode() for word in words.split()], files
+
+
+def rows(is_small=False):
+    """Rows of weight, words and files. The small ones take some milliseconds each."""
+    duo = fixtures("duo.csv", "io.list", "log.list")
+    turn = fixtures("turn.csv", "turnio.list", "turn.list", "k.blif")
+    parts = dict(TABLES, **fixtures("log.list"))
+    inv = dict(duo, **fixtures("inv.blif", "inv.pcf"))
+    tog = dict(duo, **fixtures("tog.blif", "tog.pcf"))
+    grid = read(*("examples/counter/" + name for name in (
+        "fabric.csv", "logic.csv", "logic.list", "pads.csv", "pads.list")))
+    found = [
+        row(8, "matrix m.list m.v", LISTS),
+        row(6, "generate duo.csv f.v", duo),
+        row(8, "generate parts.csv f.v", parts),
+        row(6, "assemble duo.csv inv.blif inv.impl made --pcf inv.pcf", dict(inv, **fixtures("inv.impl"))),
+        row(4, "assemble duo.csv tog.blif tog.impl made", dict(tog, **fixtures("tog.impl"))),
+        row(4, "map duo.csv inv.blif i --pcf inv.pcf --seed 3", inv),
+        row(4, "map turn.csv k.blif i --rounds 4", turn),
+        row(4, "flow duo.csv tog.blif made --pcf tog.pcf", tog),
+        row(4, "flow turn.csv k.blif made --seed=7", turn),
+        row(6, "flow fabric.csv top.blif made", dict(grid, **{"top.blif": NESTED})),
+        row(8, "bits duo.csv tog.fasm b", dict(duo, **fixtures("tog.fasm"))),
+        row(6, "features duo.csv inv.bit f", dict(duo, **fixtures("inv.bit"))),
+        row(6, "features parts.csv last.bit f", dict(parts, **{"last.bit": fixtures("inv.bit")["inv.bit"]})),
+    ]
+    if is_small:
+        return found
+    counter = dict(grid, **read(*("examples/counter/counter" + end for end in (".blif", ".pcf", ".impl"))))
+    shape = read(*("examples/shapes/" + name for name in (
+        "hole.csv", "logic.csv", "logic.list", "pads2.csv", "pads2.list")))
+    return found + [
+        row(4, "assemble fabric.csv counter.blif counter.impl made --pcf counter.pcf", counter),
+        row(4, "flow fabric.csv counter.blif made --pcf counter.pcf", counter),
+        row(2, "map hole.csv pwm.blif i --rounds 8", dict(shape, **read("examples/designs/pwm.blif"))),
+        row(2, "flow hole.csv traffic.blif made", dict(shape, **read("examples/designs/traffic.blif"))),
+    ]
+
+
+def refused_rows():
+    """Small rows that end with 2, 4, 6, 7, 8, 9 and 10."""
+    duo = fixtures("duo.csv", "io.list", "log.list")
+    pair = fixtures("pair.csv", "io.list", "log2.list", "k.blif")
+    inv = dict(duo, **fixtures("inv.blif", "inv.pcf", "inv.impl"))
+    two = b".model two\n.inputs a\n.outputs y\n.names a n\n0 1\n.names n y\n0 1\n.end\n"
+    return [
+        row(1, "matrix m.list m.v", {"m.list": b"INCLUDE,absent.list\n"}),
+        row(1, "matrix m.list m.v", {"m.list": b"A,B\nA\n"}),
+        row(1, "matrix m.list m.v", {"m.list": b"{4097}A,{4097}B\n"}),
+        row(1, "map duo.csv two.blif i", dict(duo, **{"two.blif": two})),
+        row(1, "map duo.csv cross.blif i --pcf cross.pcf", dict(duo, **fixtures("cross.blif", "cross.pcf"))),
+        row(1, "map pair.csv k.blif i --rounds 2", pair),
+        row(1, "assemble duo.csv inv.blif inv.impl made", dict(inv, **{
+            "inv.impl": inv["inv.impl"].replace(b"edge X0Y0/VCC0 X0Y0/B_T\n", b"")})),
+        row(1, "bits duo.csv f.fasm b", dict(duo, **{"f.fasm": b"X1Y0.A.FG\n"})),
+    ]
