@@ -127,7 +127,7 @@ pub made_of : (files : Map) (name : List ℕ) (fabric : PlainFabric) (netlist : 
     → IsAssembly fabric netlist implementation base (map plain_output stored)
 made_of files name fabric netlist implementation base made stored same spelled is =
     subst (λ (items : List Output). IsAssembly fabric netlist implementation base (map plain_output items)) (sym same)
-    (is (spelled_keep IsNamed names_kept files name fabric spelled) (spelled_keep ArePrefixed prefixes_kept files name fabric spelled))
+    (is (spelled_keep IsNamed IsNamed names_kept files name fabric spelled) (spelled_keep ArePrefixed ArePrefixed prefixes_kept files name fabric spelled))
 
 -- ---- refusals
 

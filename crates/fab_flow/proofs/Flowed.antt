@@ -75,7 +75,7 @@ pub flow_of : (files : Map) (name : List ℕ) (fabric : PlainFabric) (netlist : 
     → IsFlow fabric netlist fixed allowed base (map plain_output stored)
 flow_of files name fabric netlist fixed allowed base made stored same spelled is =
     subst (λ (items : List Output). IsFlow fabric netlist fixed allowed base (map plain_output items)) (sym same)
-    (is (spelled_keep IsNamed names_kept files name fabric spelled) (spelled_keep ArePrefixed prefixes_kept files name fabric spelled))
+    (is (spelled_keep IsNamed IsNamed names_kept files name fabric spelled) (spelled_keep ArePrefixed ArePrefixed prefixes_kept files name fabric spelled))
 
 -- ---- why nothing is made
 

@@ -26,7 +26,7 @@ pub fabric_made : (files : Map) (name out text : List ℕ) (fabric : PlainFabric
     → (All IsNamed fabric.types → IsFabricText fabric (generated_text fabric)) → ShowsDrives fabric (generated_text fabric) → (All IsNamed fabric.types → LoadsConfigurations fabric (generated_text fabric))
     → text_length fabric ≤ most_text_bytes → length text ≤ MAX_FILE_BYTES → outputs ≡ output out text ∷ [] → MakesFabric files name out outputs
 fabric_made files name out text fabric outputs spelled printed is_text drives loads short readable are =
-    let named = spelled_keep IsNamed names_kept files name fabric spelled in
+    let named = spelled_keep IsNamed IsNamed names_kept files name fabric spelled in
     record {
       text = text;
       made = record { fabric = fabric; spelled = spelled; printed = printed; is_text = is_text named; drives = drives; loads = loads named; short = short; readable = readable };
