@@ -29,3 +29,7 @@ module _ (text : List PlainModule) (tables : List Table) (exprs : List (Bor Expr
       let there : slice_get tables is_placed.i.number ≡ Some table =
       ap (slice_get tables) (sym is_placed.of_module) ∙ slice_get_read tables (length tables) here.«module» table refl module_kept is in
       (keeps.tables_are.1 is_placed.i.number is_placed.i.here table stands there).names ∙ ap (λ (j : Instance). declarations j.here) same
+
+  pub number_kept : (i : Instance) → IsNumbered text number i → here.«module» ≡ i.number
+  number_kept i numbered =
+      is_placed.of_module ∙ ap (λ (j : Instance). j.number) (same_value (slice_get (instances text) number) is_placed.i i is_placed.is numbered)

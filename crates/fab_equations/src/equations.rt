@@ -3,6 +3,7 @@
 ghost use Rattle.std.specs.Prelude.{◌≡◌, ◌<◌, ◌≤◌, Some, false, length, slice_get, replicate, IfOk, IfErr, OnOk};
 ghost use Rattle.fab_syntax.specs.Plain.{plain_expr, plain_text};
 ghost use Rattle.fab_syntax.specs.Sound.{IsSound};
+ghost use Rattle.fab_sound.specs.Narrow.{AreNarrow};
 ghost use Rattle.fab_values.specs.Declarations.{bits_of, declarations};
 ghost use Rattle.fab_equations.specs.Instances.{Instance, expressions, instances, most_points, points, whole_count};
 ghost use Rattle.fab_equations.specs.Numbering.{IsNumbered};
@@ -97,6 +98,30 @@ impl<'a> Equations<'a> {
         ensures { result ≡ length (instances (plain_text self.now)) }
     {
         self.placed.len() as u32
+    }
+
+    /// The number of the module of an instance.
+    pub fn module_of(&self, instance: u32) -> u32
+        requires { instance < length (instances (plain_text self.now)) }
+        ensures { (i : Instance) → IsNumbered (plain_text self.now) instance i → result ≡ i.number }
+    {
+        self.placed[instance as usize].module
+    }
+
+    /// That the text is sound, and that its widths are counted in 64 bits: for the proofs of crates above.
+    pub fn text_is_sound(&self)
+        ensures sound { IsSound (plain_text self.now) }
+        ensures narrow { AreNarrow (plain_text self.now) }
+    {
+        // What is kept of a text is known where a part of it is read.
+        let _text = self.text;
+    }
+
+    /// How many expressions there are.
+    pub fn expressions(&self) -> usize
+        ensures { result ≡ length (expressions (plain_text self.now)) }
+    {
+        self.exprs.len()
     }
 
     /// An expression by its number.

@@ -209,8 +209,8 @@ impl<'a> Equations<'a> {
         })
     }
 
-    // The instance of a name in another; none where there is no such instance.
-    fn child(&self, instance: u32, name: &[u8]) -> Option<u32>
+    /// The instance of a name in another; none where there is no such instance.
+    pub fn child(&self, instance: u32, name: &[u8]) -> Option<u32>
         requires { instance < length (instances (plain_text self.now)) }
         ensures { (i : Instance) → IsNumbered (plain_text self.now) instance i → IsChildNamed (plain_text self.now) i name.now result }
     {
