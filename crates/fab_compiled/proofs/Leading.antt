@@ -34,7 +34,7 @@ pub same_leads : (terns : List Tern) (leads : List ℕ) (marks : List Bool) (fir
     ((t : PointTerns) → AreAbove terns leads t → bit_under t first tree bit ≡ bit_under t first part place) →
     Leads terns leads marks first part place lead → Leads terns leads marks first tree bit lead
 same_leads terns leads marks first tree part bit place (Known b) same h = λ t above. same t above ∙ h t above
-same_leads terns leads marks first tree part bit place (Point lead) same h = λ t above follow. same t above ∙ h t above follow
+same_leads terns leads marks first tree part bit place (Point lead) same h = (λ t above follow. same t above ∙ h.0 t above follow, h.1)
 same_leads terns leads marks first tree part bit place Own same h = λ t u above over agree. same t above ∙ h t u above over agree ∙ sym (same u over)
 same_leads terns leads marks first tree part bit place (Unmarked point) same h = h
 
@@ -76,10 +76,13 @@ module _ (terns : List Tern) (leads : List ℕ) (marks : List Bool) (first : ℕ
   point_leads tree place count bit is l (Known b) h = absurd h
   point_leads tree place count bit is l Own h = absurd h
   point_leads tree place count bit is l (Unmarked point) h = h
-  point_leads tree place count bit is l (Point lead) h = λ t above follow.
-      let value : bit_under t first tree bit ≡ t (first + place + bit) =
-      ap (λ (x : Tree). bit_under t first x bit) is ∙ first_at count (λ k. t (first + (place + k))) bit l ∙ ap t (omega arith) in
-      value ∙ follow (first + place + bit) h.0 ∙ ap t (index_is leads (first + place + bit) lead h.1)
+  point_leads tree place count bit is l (Point lead) h = (
+    λ t above follow.
+        let value : bit_under t first tree bit ≡ t (first + place + bit) =
+        ap (λ (x : Tree). bit_under t first x bit) is ∙ first_at count (λ k. t (first + (place + k))) bit l ∙ ap t (omega arith) in
+        value ∙ follow (first + place + bit) h.0 ∙ ap t (index_is leads (first + place + bit) lead h.1),
+    (first + place + bit, h.0, index_is leads (first + place + bit) lead h.1),
+  )
 
   pub low_leads : (tree low high : Tree) (bit width : ℕ) → ((at : ℕ → PlainTern) → tree_value at tree ≡ tree_value at low ++ tree_value at high) →
       tree_width low ≡ width → IsMade low → bit < width → (lead : Lead) → Leads terns leads marks first low bit lead → Leads terns leads marks first tree bit lead

@@ -35,6 +35,10 @@ FollowLeads leads marks t = (point : ℕ) → IsMarked marks point → t point �
 abbrev pub AgreeOnMarked : (marks : List Bool) → (t u : PointTerns) → Type 0
 AgreeOnMarked marks t u = (point : ℕ) → IsMarked marks point → t point ≡ u point
 
+-- a marked point is led to this one
+abbrev pub IsLedTo : List ℕ → (marks : List Bool) → (lead : ℕ) → Type 0
+IsLedTo leads marks lead = (point : ℕ) × IsMarked marks point × (slice_index leads point ≡ lead)
+
 -- a bit of an expression over the points of an instance
 abbrev pub bit_under : PointTerns → (first : ℕ) → Tree → (bit : ℕ) → PlainTern
 bit_under t first tree bit = tern_at (tree_value (λ place. t (first + place)) tree) bit
@@ -43,7 +47,7 @@ bit_under t first tree bit = tern_at (tree_value (λ place. t (first + place)) t
 abbrev pub Leads : List Tern → List ℕ → (marks : List Bool) → (first : ℕ) → Tree → (bit : ℕ) → Lead → Type 0
 Leads terns leads marks first tree bit (Known b) = (t : PointTerns) → AreAbove terns leads t → bit_under t first tree bit ≡ known b
 Leads terns leads marks first tree bit (Point lead) =
-    (t : PointTerns) → AreAbove terns leads t → FollowLeads leads marks t → bit_under t first tree bit ≡ t lead
+    ((t : PointTerns) → AreAbove terns leads t → FollowLeads leads marks t → bit_under t first tree bit ≡ t lead) × IsLedTo leads marks lead
 Leads terns leads marks first tree bit Own =
     (t u : PointTerns) → AreAbove terns leads t → AreAbove terns leads u → AgreeOnMarked marks t u → bit_under t first tree bit ≡ bit_under u first tree bit
 Leads terns leads marks first tree bit (Unmarked point) = slice_get marks point ≡ Some false

@@ -10,7 +10,7 @@ use Rattle.fab_compiled.specs.Leading.{PointTerns}
 use Rattle.fab_compiled.proofs.TreesGrow.{tree_grows}
 use Rattle.fab_network.specs.declared.network.Source.{Source}
 use Rattle.fab_network.specs.declared.network.Drive.{Drive}
-use Rattle.fab_network.specs.declared.network.Drive.TheVariants.{Given, Same, Value, Hold}
+use Rattle.fab_network.specs.declared.network.Drive.TheVariants.{Given, Flop, Same, Value, Hold}
 use Rattle.fab_network.specs.Network.{tern_in, source_tern, drive_tern, shown_tern, IsFitSource, IsFitDrive, AreFit}
 
 module _ (trees : List Tree) (count : ℕ) (t u : PointTerns) (grow : (point : ℕ) → point < count → IsBelow (t point) (u point)) where
@@ -24,6 +24,7 @@ module _ (trees : List Tree) (count : ℕ) (t u : PointTerns) (grow : (point : �
   drive_grows : (held : Tern) (point : ℕ) → point < count → (drive : Drive) → IsFitDrive trees count drive →
       IsBelow (drive_tern trees held t point (Some drive)) (drive_tern trees held u point (Some drive))
   drive_grows held point within Given fit = grow point within
+  drive_grows held point within (Flop clock next) fit = grow point within
   drive_grows held point within (Same other) fit = grow other fit
   drive_grows held point within (Value source) fit = source_grows source fit
   drive_grows held point within (Hold gate latched) fit =

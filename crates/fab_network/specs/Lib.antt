@@ -1,3 +1,4 @@
 pub mod Network
+pub mod Solved
 pub mod Passes
 pub mod Leading

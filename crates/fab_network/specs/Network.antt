@@ -8,7 +8,7 @@ use Rattle.fab_compiled.specs.Evaluation.{IsWithin}
 use Rattle.fab_compiled.specs.Leading.{PointTerns, bit_under}
 use Rattle.fab_network.specs.declared.network.Source.{Source}
 use Rattle.fab_network.specs.declared.network.Drive.{Drive}
-use Rattle.fab_network.specs.declared.network.Drive.TheVariants.{Given, Same, Value, Hold}
+use Rattle.fab_network.specs.declared.network.Drive.TheVariants.{Given, Flop, Same, Value, Hold}
 
 abbrev pub tern_in : Option Tree → PointTerns → (first bit : ℕ) → Tern
 tern_in None t first bit = unknown
@@ -21,11 +21,12 @@ source_tern trees t source = tern_in (slice_get trees source.tree) t source.firs
 abbrev pub drive_tern : List Tree → (held : Tern) → PointTerns → (point : ℕ) → Option Drive → Tern
 drive_tern trees held t point None = unknown
 drive_tern trees held t point (Some Given) = t point
+drive_tern trees held t point (Some (Flop clock next)) = t point
 drive_tern trees held t point (Some (Same other)) = t other
 drive_tern trees held t point (Some (Value source)) = source_tern trees t source
 drive_tern trees held t point (Some (Hold gate latched)) = through (source_tern trees t gate) (source_tern trees t latched) held
 
--- What a point shows, where a latch holds this value; what is given shows itself.
+-- What a point shows, where a latch holds this value; an input and a flip-flop show themselves.
 abbrev pub shown_tern : List Tree → List Drive → (held : Tern) → PointTerns → (point : ℕ) → Tern
 shown_tern trees drives held t point = drive_tern trees held t point (slice_get drives point)
 
@@ -40,6 +41,7 @@ pub record IsFitSource (trees : List Tree) (count : ℕ) (source : Source) : Typ
 
 abbrev pub IsFitDrive : List Tree → (count : ℕ) → Drive → Type 0
 IsFitDrive trees count Given = Unit {0}
+IsFitDrive trees count (Flop clock next) = IsFitSource trees count next
 IsFitDrive trees count (Same other) = other < count
 IsFitDrive trees count (Value source) = IsFitSource trees count source
 IsFitDrive trees count (Hold gate latched) = IsFitSource trees count gate × IsFitSource trees count latched

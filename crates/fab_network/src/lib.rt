@@ -6,5 +6,5 @@ mod network;
 mod passes;
 
 pub use leading::lead_of_source;
-pub use network::{Drive, Network, Source, evaluate};
+pub use network::{Clock, Drive, Network, Source, evaluate};
 pub use passes::settle;

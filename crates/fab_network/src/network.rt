@@ -16,11 +16,24 @@ pub struct Source {
     pub bit: u32,
 }
 
+/// The clock of a flip-flop, as an input of the top.
+#[derive(Clone, Copy, Debug, PartialEq, Eq)]
+pub enum Clock {
+    /// `CLK`, at which words are loaded.
+    Loader,
+    /// `UserCLK`, which ends a cycle of the design.
+    User,
+    /// An input of another name.
+    Other,
+}
+
 /// What a point shows.
 #[derive(Clone, Copy, Debug, PartialEq, Eq)]
 pub enum Drive {
-    /// What is given to it: an input of the top, or a flip-flop.
+    /// An input of the top: what is given to it.
     Given,
+    /// A flip-flop: what it holds. At a tick of its clock it takes the bit of an expression.
+    Flop(Clock, Source),
     /// What another point has.
     Same(u32),
     /// The bit of an expression.
@@ -72,7 +85,7 @@ fn shown_by(trees: &[Tree], drive: Drive, point: usize, held: Tern, view: &View)
     ensures { plain_tern result ≡ drive_tern trees.now (plain_tern held) (seen view.now.terns.now view.now.leads.now) point (Some drive) }
 {
     match drive {
-        Drive::Given => view.at(point),
+        Drive::Given | Drive::Flop(_, _) => view.at(point),
         Drive::Same(other) => view.at(other as usize),
         Drive::Value(source) => evaluate(trees, source, view),
         Drive::Hold(gate, latched) => {
