@@ -1,0 +1,12 @@
+mod Lists
+mod Growing
+mod Closing
+mod Steps
+mod Waiting
+mod Settling
+mod Keeping
+mod Asking
+mod Finding
+mod Rooms
+mod Blank
+mod Starting

@@ -1,0 +1,17 @@
+use Rattle.std.proofs.Common.{refl, arith}
+use Rattle.fab_demand.proofs.Rooms.{closed_room}
+use Rattle.fab_demand.proofs.search.Search.know.Goals as goal
+
+pub returns : goal.returns
+returns c = (
+  c.known.result,
+  c.known.ensures,
+  record {
+    asked = c.close.ensures.asked;
+    done = c.close.ensures.done;
+    stack = c.close.ensures.stack;
+    room = closed_room c.args.self.now c.close.new.self c.args.point _ c.requires.room c.requires.done c.close.ensures.asked refl refl (omega arith)
+        c.close.ensures.done c.close.ensures.stack
+        (omega (arith, c.close.ensures.own_room)) (omega (arith, c.close.ensures.stack_room));
+  },
+)

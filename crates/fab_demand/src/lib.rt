@@ -1,0 +1,10 @@
+//! The points that a simulation has to look at: all that is asked for, and what it needs, led as far as what is known decides it.
+#![tactic(auto)]
+
+mod cycles;
+mod demand;
+pub mod laws;
+mod look;
+mod search;
+
+pub use demand::Demand;
