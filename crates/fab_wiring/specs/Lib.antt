@@ -1,0 +1,5 @@
+pub mod Wiring
+pub mod Given
+pub mod Laws
+pub mod Clocks
+pub mod Trees
