@@ -1,0 +1,10 @@
+pub mod Names
+pub mod Bits
+pub mod Reading
+pub mod Statuses
+pub mod Steps
+pub mod Streams
+pub mod Looking
+pub mod Rounds
+pub mod Stored
+pub mod Marking

@@ -1,0 +1,4 @@
+pub mod Causes
+pub mod Search
+pub mod Flops
+pub mod Registers
