@@ -1,0 +1,3 @@
+pub mod Exist
+pub mod Agree
+pub mod Loading
