@@ -1,0 +1,9 @@
+pub mod Drivers
+pub mod Sites
+pub mod Fed
+pub mod Known
+pub mod Registers
+pub mod Cycles
+pub mod Start
+pub mod Headline
+pub mod Once
