@@ -1,0 +1,69 @@
+-- Where a state stands in a text, and why it does not.
+use Rattle.std.specs.Prelude.{◌≡◌, ◌⊎◌, ℕ, ◌+◌, ◌<◌, List, [], length, slice_get, Option, None, Some}
+use Rattle.fab_base.specs.Reading.{fault_at}
+use Rattle.fab_base.specs.declared.fault.Fault.{Fault}
+use Rattle.fab_base.specs.declared.fault.Fault.TheVariants as faults
+use Rattle.fab_base.specs.declared.problem.Problem.TheVariants as problems
+use Rattle.fab_base.specs.declared.words.Reason.TheVariants as reasons
+use Rattle.fab_syntax.specs.Plain.{PlainModule}
+use Rattle.fab_syntax.specs.declared.tree.Shape.TheVariants.{Scalar, Vector}
+use Rattle.fab_meaning.specs.Runs.{clock_name, user_clock_name}
+use Rattle.fab_meaning.specs.Loading.{data_name, strobe_name}
+use Rattle.fab_values.specs.declared.names.Role.TheVariants as roles
+use Rattle.fab_state.specs.Plain.{PlainState}
+use Rattle.fab_equations.specs.Equations.{IsPoint}
+use Rattle.fab_state_points.specs.Finding.{AreBits, IsDeclared}
+use Rattle.fab_state_points.specs.Entries.{entries_of, entry_point, HasEntry, in_entries, out_entries, reason_of, register_entries}
+use Rattle.fab_state_points.specs.declared.entry.Entry.{Entry}
+use Rattle.fab_state_points.specs.declared.points.Stream.{Stream}
+use Rattle.fab_state_points.specs.declared.points.StatePoints.{StatePoints}
+
+-- The two clocks and the inputs that carry words.
+pub record HasStream (text : List PlainModule) : Type 0 where
+  pub loader : IsDeclared text [] clock_name Scalar roles.Input
+  pub user : IsDeclared text [] user_clock_name Scalar roles.Input
+  pub strobe : IsDeclared text [] strobe_name Scalar roles.Input
+  pub words : IsDeclared text [] data_name (Vector 32) roles.Input
+
+-- the points of the inputs that carry words
+pub record IsStreamAt (text : List PlainModule) (stream : Stream) : Type 0 where
+  pub strobe : AreBits text [] strobe_name Scalar stream.strobe
+  pub words : AreBits text [] data_name (Vector 32) stream.data_word
+
+-- the same, or that the top lacks one of these inputs
+abbrev pub IsFoundStream : List PlainModule → Option Stream → Type 0
+IsFoundStream text None = ¬ HasStream text
+IsFoundStream text (Some stream) = HasStream text × IsStreamAt text stream
+
+-- ---- the lines of a state
+
+-- each line has its point, of the number in its place
+pub record AreAt (text : List PlainModule) (lines : List Entry) (numbers : List ℕ) : Type 0 where
+  pub long : length numbers ≡ length lines
+  pub each : (place : ℕ) (entry : Entry) (number : ℕ) → slice_get lines place ≡ Some entry → slice_get numbers place ≡ Some number →
+      HasEntry text entry × IsPoint text number (entry_point entry)
+
+pub record StandsAt (text : List PlainModule) (state : PlainState) (points : StatePoints) : Type 0 where
+  pub has : HasStream text
+  pub stream : IsStreamAt text points.stream
+  pub ins : AreAt text (in_entries state.ins) points.ins.items
+  pub outs : AreAt text (out_entries state.outs) points.outs.items
+  pub ffs : AreAt text (register_entries state.ffs) points.ffs.items
+
+-- ---- refusals
+
+-- The first line that has no point, where so many entries stand before these lines. Entries are counted from 1, and the first is the header.
+pub record IsFirstAbsent (text : List PlainModule) (file : List ℕ) (before : ℕ) (lines : List Entry) (fault : Fault) : Type 0 where
+  pub place : ℕ
+  pub entry : Entry
+  pub is : slice_get lines place ≡ Some entry
+  pub absent : ¬ HasEntry text entry
+  pub earlier : (other : ℕ) (found : Entry) → other < place → slice_get lines other ≡ Some found → HasEntry text found
+  pub fault_is : fault ≡ fault_at file (before + place + 1) (problems.Malformed (reason_of entry))
+
+-- A text without a stream is refused at the header, and any other one at the first line of the state that has no point.
+abbrev pub IsRefusedState : (file : List ℕ) → List PlainModule → PlainState → Fault → Type 0
+IsRefusedState file text state fault =
+    (fault ≡ faults.Memory)
+    ⊎ (((¬ HasStream text) × (fault ≡ fault_at file 1 (problems.Malformed reasons.NoPort)))
+    ⊎ (HasStream text × IsFirstAbsent text file 1 (entries_of state) fault))

@@ -1,0 +1,11 @@
+//! The points of a text on which the lines of a state stand, or why a line stands nowhere.
+#![tactic(auto)]
+
+mod entry;
+mod finding;
+mod names;
+mod points;
+
+pub use entry::Entry;
+pub use finding::point_of;
+pub use points::{StatePoints, Stream, state_points};
