@@ -1,0 +1,9 @@
+pub mod Lists
+pub mod Asking
+pub mod Gathered
+pub mod Writing
+pub mod Ticking
+pub mod Offering
+pub mod Telling
+pub mod Stepping
+pub mod Running

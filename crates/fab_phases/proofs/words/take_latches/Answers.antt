@@ -1,0 +1,46 @@
+use Rattle.std.proofs.Common.{length, ap, sym, ◌∙◌, arith, get_or, ◌<◌}
+use Rattle.std.proofs.lemmas.Option.{slice_get-get_or}
+use Rattle.fab_systems.specs.Ternary.{Tern as PlainTern}
+use Rattle.fab_tern.specs.Shown.{through}
+use Rattle.fab_ternary.specs.declared.Tern.TheVariants.{No}
+use Rattle.fab_ternary.specs.Terns.{plain_tern}
+use Rattle.fab_phases.proofs.Ticking.{eval_at, fit_at, kept_get, latch_step, latches_done, no_latch}
+use Rattle.fab_phases.proofs.words.take_latches.Goals as goal
+
+pub evaluate-latched-requires-clause-fit : goal.evaluate-latched-requires-clause-fit
+evaluate-latched-requires-clause-fit c =
+    let latch = get_or c.args.latches.now c.loop-latch.latch-index no_latch in
+    let fits = c.requires.latches c.loop-latch.latch-index latch (slice_get-get_or c.args.latches.now c.loop-latch.latch-index no_latch c.loop-latch-test.true) in
+    fit_at c.args.network.now c.deref.result.now (length c.view.result.leads.now) latch.latched c.deref.ensures.value
+    (c.requires.points ∙ ap length (sym c.view.ensures.leads)) fits.latched
+
+pub slice_copy_out-through : goal.slice_copy_out-through
+slice_copy_out-through c =
+    let latch = get_or c.args.latches.now c.loop-latch.latch-index no_latch in
+    let fits = c.requires.latches c.loop-latch.latch-index latch (slice_get-get_or c.args.latches.now c.loop-latch.latch-index no_latch c.loop-latch-test.true) in
+    omega (arith, fits.point)
+
+pub bounds-given-point : goal.bounds-given-point
+bounds-given-point c =
+    let latch = get_or c.args.latches.now c.loop-latch.latch-index no_latch in
+    let fits = c.requires.latches c.loop-latch.latch-index latch (slice_get-get_or c.args.latches.now c.loop-latch.latch-index no_latch c.loop-latch-test.true) in
+    omega (arith, fits.point)
+
+pub loop-latch-preserved : goal.loop-latch-preserved
+loop-latch-preserved c =
+    let latch = get_or c.args.latches.now c.loop-latch.latch-index no_latch in
+    let at = slice_get-get_or c.args.latches.now c.loop-latch.latch-index no_latch c.loop-latch-test.true in
+    let fits = c.requires.latches c.loop-latch.latch-index latch at in
+    let less : latch.point < length c.loop-latch.given = omega (arith, fits.point) in
+    let given = plain_tern c.evaluate-latched.result in
+    latch_step c.args.network.now (plain_tern c.args.gate) c.args.latches.now c.args.demand.now c.loop-latch.latch-index c.args.given.now c.loop-latch.given latch given
+    c.through.result at less
+    (eval_at c.args.network.now.trees.items c.deref.result.now c.args.demand.now.terns c.view.result.terns.now c.args.demand.now.leads c.view.result.leads.now latch.latched
+    given c.deref.ensures.value c.view.ensures.terns c.view.ensures.leads c.evaluate-latched.ensures)
+    (c.through.ensures ∙ ap (λ (held : PlainTern). through (plain_tern c.args.gate) given held) (kept_get c.loop-latch.given latch.point No less))
+    c.loop-latch.invariant
+
+pub returns : goal.returns
+returns c =
+    latches_done c.args.network.now (plain_tern c.args.gate) c.args.latches.now c.args.demand.now c.loop-latch.latch-index c.args.given.now c.loop-latch.given (omega arith)
+    c.loop-latch.invariant

@@ -1,0 +1,19 @@
+use Rattle.std.proofs.Common.{length, refl, arith}
+use Rattle.std.proofs.lemmas.Option.{slice_get_read}
+use Rattle.fab_phases.proofs.Ticking.{run_step, runs_done}
+use Rattle.fab_phases.proofs.words.take_runs.Goals as goal
+
+pub take_run-requires-clause-run : goal.take_run-requires-clause-run
+take_run-requires-clause-run c =
+    c.requires.runs c.loop-run.run-index c.run-item.result
+    (slice_get_read c.args.runs.now (length c.args.runs.now) c.loop-run.run-index c.run-item.result refl c.loop-run-test.true c.run-item.is)
+
+pub loop-run-preserved : goal.loop-run-preserved
+loop-run-preserved c =
+    run_step c.args.network.now c.args.runs.now c.args.demand.now c.loop-run.run-index c.args.given.now c.loop-run.given c.take_run.new.given c.run-item.result
+    (slice_get_read c.args.runs.now (length c.args.runs.now) c.loop-run.run-index c.run-item.result refl c.loop-run-test.true c.run-item.is)
+    c.take_run.ensures c.loop-run.invariant
+
+pub returns : goal.returns
+returns c =
+    runs_done c.args.network.now c.args.runs.now c.args.demand.now c.loop-run.run-index c.args.given.now c.loop-run.given (omega arith) c.loop-run.invariant

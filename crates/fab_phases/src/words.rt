@@ -1,0 +1,134 @@
+//! How words are loaded.
+
+ghost use Rattle.std.specs.Prelude.{◌≡◌, ◌+◌, ◌≤◌, Bool, List, length};
+ghost use Rattle.fab_ternary.specs.Terns.{plain_tern};
+ghost use Rattle.fab_network.specs.Network.{AreFit};
+ghost use Rattle.fab_network.specs.Passes.{kept_tern};
+ghost use Rattle.fab_phases.specs.Loading.{IsSolvable};
+ghost use Rattle.fab_phases.specs.Words.{AreLoadSteps, IsLoadingAt, IsLoadStep, IsOffered};
+ghost use Rattle.fab_phases.specs.Ticks.{AreFitFlops, AreFitLatches, AreFitRuns, IsFitRun, LeavesFlops, LeavesLatches, LeavesRun, LeavesRuns};
+
+use crate::loading::{Latch, LoadedFlop, Loading, Run};
+use fab_compiled::through;
+use fab_demand::Demand;
+use fab_network::{Network, evaluate};
+use fab_ternary::Tern;
+
+/// Loads words one by one. Inputs take the bits of a word from the first of its points on.
+pub fn load_words(
+    network: &Network,
+    loading: &Loading,
+    first: u32,
+    words: &[u32],
+    demand: &mut Demand,
+    given: &mut [Tern],
+)
+    requires fit { AreFit network.now.trees.items network.now.drives.items }
+    requires solvable { IsSolvable network.now }
+    requires points { length network.now.drives.items ≡ length demand.old.leads }
+    requires given { length given.old ≡ length demand.old.leads }
+    requires loading { (loads : List Bool) × IsLoadingAt network.now loading.now loads first demand.old given.old }
+    ensures points { length demand.new.leads ≡ length demand.old.leads }
+    ensures steps { (loads : List Bool) → IsLoadingAt network.now loading.now loads first demand.old given.old →
+        AreLoadSteps network.now loads first words.now (kept_tern given.old) (kept_tern given.new) }
+{
+    for word in words {
+        load_word(network, loading, first, *word, demand, given);
+    }
+}
+
+// Loads a word.
+fn load_word(
+    network: &Network,
+    loading: &Loading,
+    first: u32,
+    word: u32,
+    demand: &mut Demand,
+    given: &mut [Tern],
+)
+    requires fit { AreFit network.now.trees.items network.now.drives.items }
+    requires solvable { IsSolvable network.now }
+    requires points { length network.now.drives.items ≡ length demand.old.leads }
+    requires given { length given.old ≡ length demand.old.leads }
+    requires loading { (loads : List Bool) × IsLoadingAt network.now loading.now loads first demand.old given.old }
+    ensures points { length demand.new.leads ≡ length demand.old.leads }
+    ensures loading { (loads : List Bool) → IsLoadingAt network.now loading.now loads first demand.old given.old →
+        IsLoadingAt network.now loading.now loads first demand.new given.new }
+    ensures step { (loads : List Bool) → IsLoadingAt network.now loading.now loads first demand.old given.old →
+        IsLoadStep network.now loads first word (kept_tern given.old) (kept_tern given.new) }
+{
+    offer(first, word, given);
+    demand.settle(network, given);
+    take_flops(network, &loading.flops, demand, given);
+    take_runs(network, &loading.runs, demand, given);
+}
+
+/// Gives the bits of a word to inputs, from the first of their points on.
+pub fn offer(first: u32, word: u32, given: &mut [Tern])
+    requires { first + 32 ≤ length given.old }
+    ensures { IsOffered first word (kept_tern given.old) (kept_tern given.new) }
+{
+    let mut rest = word;
+    for bit in 0..32 {
+        given[first as usize + bit] = Tern::known(rest % 2 == 1);
+        rest /= 2;
+    }
+}
+
+// Flip-flops take their next values.
+fn take_flops(network: &Network, flops: &[LoadedFlop], demand: &Demand, given: &mut [Tern])
+    requires points { length network.now.drives.items ≡ length demand.now.leads }
+    requires given { length given.old ≡ length demand.now.leads }
+    requires flops { AreFitFlops network.now flops.now }
+    ensures { LeavesFlops network.now flops.now demand.now given.old given.new }
+{
+    for flop in flops {
+        given[flop.point as usize] = evaluate(&network.trees, flop.next, &demand.view());
+    }
+}
+
+// Latches take what their points have. Where a gate is 0, they hold what they held.
+fn take_runs(network: &Network, runs: &[Run], demand: &Demand, given: &mut [Tern])
+    requires points { length network.now.drives.items ≡ length demand.now.leads }
+    requires given { length given.old ≡ length demand.now.leads }
+    requires runs { AreFitRuns network.now runs.now }
+    ensures { LeavesRuns network.now runs.now demand.now given.old given.new }
+{
+    for run in runs {
+        take_run(network, run, demand, given);
+    }
+}
+
+// The latches of a run.
+fn take_run(network: &Network, run: &Run, demand: &Demand, given: &mut [Tern])
+    requires points { length network.now.drives.items ≡ length demand.now.leads }
+    requires given { length given.old ≡ length demand.now.leads }
+    requires run { IsFitRun network.now run.now }
+    ensures { LeavesRun network.now run.now demand.now given.old given.new }
+{
+    let gate = evaluate(&network.trees, run.gate, &demand.view());
+    match gate {
+        Tern::No => {}
+        Tern::Yes | Tern::Open => take_latches(network, gate, &run.latches, demand, given),
+    }
+}
+
+// Latches with a gate of this value.
+fn take_latches(
+    network: &Network,
+    gate: Tern,
+    latches: &[Latch],
+    demand: &Demand,
+    given: &mut [Tern],
+)
+    requires points { length network.now.drives.items ≡ length demand.now.leads }
+    requires given { length given.old ≡ length demand.now.leads }
+    requires latches { AreFitLatches network.now latches.now }
+    ensures { LeavesLatches network.now (plain_tern gate) latches.now demand.now given.old given.new }
+{
+    for latch in latches {
+        let point = latch.point as usize;
+        let latched = evaluate(&network.trees, latch.latched, &demand.view());
+        given[point] = through(gate, latched, given[point]);
+    }
+}
