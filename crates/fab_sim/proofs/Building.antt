@@ -1,0 +1,200 @@
+-- How a machine is made.
+use Rattle.std.proofs.Common.{◌≡◌, ◌⊎◌, ℕ, ◌+◌, ◌<◌, ◌≤◌, Bool, true, false, List, [], length, Option, None, Some, refl, sym, ap, ◌∙◌, subst, inl}
+use Rattle.std.proofs.Common.{inr, arith, slice_set, replicate, take, drop, ◌++◌, ◌↔◌}
+use Rattle.std.specs.List.{slice_get}
+use Rattle.std.proofs.lemmas.Bool.{cases_eq}
+use Rattle.std.proofs.Common.{length-set}
+use Rattle.std.proofs.lemmas.List.{length-replicate, take-append-le, take_all}
+use Rattle.std.proofs.lemmas.Option.{slice_get_within}
+use Rattle.fab_syntax.specs.Plain.{PlainModule}
+use Rattle.fab_systems.specs.Ternary.{no, unknown}
+use Rattle.fab_ternary.specs.declared.Tern.{Tern}
+use Rattle.fab_ternary.specs.declared.Tern.TheVariants.{No, Yes, Open}
+use Rattle.fab_compiled.specs.Leading.{PointTerns}
+use Rattle.fab_network.specs.Passes.{kept_tern}
+use Rattle.fab_network.proofs.Kept.{kept_same, kept_other}
+use Rattle.fab_syntax.specs.Declarations.{is_input_of}
+use Rattle.fab_syntax.specs.declared.tree.Shape.{Shape}
+use Rattle.fab_syntax.specs.declared.tree.Shape.TheVariants.{Vector}
+use Rattle.fab_ternary.specs.Terns.{plain_tern}
+use Rattle.fab_compiled.specs.Terns.{tern_or_unknown}
+use Rattle.fab_compiled.specs.declared.tree.Tree.{Tree}
+use Rattle.fab_meaning.specs.Points.{Point, point, Driver, outside, copy, bit_of, flop, hold, Drives, module_at}
+use Rattle.fab_meaning.specs.Loading.{IsLoading, data_name, strobe_name}
+use Rattle.fab_values.specs.Declarations.{declared_at, found_in}
+use Rattle.fab_values.specs.declared.names.Role.TheVariants as roles
+use Rattle.fab_equations.specs.Instances.{points as text_points}
+use Rattle.fab_equations.specs.Equations.{IsPoint}
+use Rattle.fab_equations.proofs.Numbering.{some_there}
+use Rattle.fab_equations.proofs.Placing.{get_replicate}
+use Rattle.fab_equations.proofs.Roles.{input_role, is_input_role}
+use Rattle.fab_network.specs.declared.network.Clock.TheVariants.{Loader}
+use Rattle.fab_network.specs.declared.network.Drive.{Drive}
+use Rattle.fab_network.specs.declared.network.Drive.TheVariants.{Given, Flop, Same, Value, Hold}
+use Rattle.fab_network.specs.declared.network.Network.{Network}
+use Rattle.fab_demand.specs.Asked.{Asked}
+use Rattle.fab_demand.specs.Demand.{IsAsked}
+use Rattle.fab_demand.specs.Laws.{GivenIsKept}
+use Rattle.fab_wiring.specs.Wiring.{AreDrives, IsDriveOf}
+use Rattle.fab_wiring.specs.Given.{HoldsValue}
+use Rattle.fab_load_points.specs.Registers.{IsStored}
+use Rattle.fab_phases.specs.Loading.{AreLoading}
+use Rattle.fab_phases.specs.Words.{IsLoadingAt}
+use Rattle.fab_phases.specs.declared.loading.Loading.{Loading}
+use Rattle.fab_phases.proofs.Running.{differs_none}
+use Rattle.fab_state.specs.Plain.{PlainState}
+use Rattle.fab_state_points.specs.Finding.{IsDeclared}
+use Rattle.fab_state_points.specs.Standing.{StandsAt}
+use Rattle.fab_state_points.specs.declared.points.StatePoints.{StatePoints}
+use Rattle.fab_sim.specs.Making.{AreLoads, IsGivenFirst, IsWordOpened}
+
+-- ---- what is given at first
+
+pub record IsOpenedSoFar (first count : ℕ) (old : PointTerns) (now : List Tern) : Type 0 where
+  pub word : (bit : ℕ) → bit < count → kept_tern now (first + bit) ≡ unknown
+  pub others : (number : ℕ) → (number < first) ⊎ (first + 32 ≤ number) → kept_tern now number ≡ old number
+
+pub opened_none : (first : ℕ) (now : List Tern) → IsOpenedSoFar first 0 (kept_tern now) now
+opened_none first now = record { word = λ bit less. absurd (omega arith); others = λ number outside. refl }
+
+pub opened_more : (first count : ℕ) (old : PointTerns) (now : List Tern) → count < 32 → first + 32 ≤ length now → IsOpenedSoFar first count old now →
+    IsOpenedSoFar first (count + 1) old (slice_set now (first + count) Open)
+opened_more first count old now less room so_far =
+    let within : first + count < length now = omega arith in
+    record {
+      word = λ bit l.
+          elim (cases_eq bit count) [
+            | inl e ↦ ap (λ (n : ℕ). kept_tern (slice_set now (first + count) Open) (first + n)) e ∙ kept_same now (first + count) Open within
+            | inr apart ↦
+                let other : first + bit ≡ first + count → ⊥ = λ e. apart (omega arith) in
+                kept_other now (first + count) Open (first + bit) other ∙ so_far.word bit (omega (arith, apart))
+          ];
+      others = λ number outside.
+          let other : number ≡ first + count → ⊥ = λ e. elim outside [ inl l ↦ omega arith | inr g ↦ omega arith ] in
+          kept_other now (first + count) Open number other ∙ so_far.others number outside;
+    }
+
+pub opened_all : (first count : ℕ) (old : PointTerns) (now : List Tern) → 32 ≤ count → IsOpenedSoFar first count old now →
+    IsWordOpened first old (kept_tern now)
+opened_all first count old now all so_far = record { word = λ bit less. so_far.word bit (omega arith); others = so_far.others }
+
+all_no : (count number : ℕ) → number < count → kept_tern (replicate count No) number ≡ no
+all_no count number less =
+    let long : length (replicate count No) ≡ count = length-replicate count No in
+    let there = some_there (replicate count No) number (omega arith) in
+    ap tern_or_unknown there.1 ∙ ap plain_tern (get_replicate count number No there.0 there.1).1
+
+pub given_first : (count strobe first : ℕ) (given : List Tern) → strobe < count →
+    IsWordOpened first (kept_tern (slice_set (replicate count No) strobe Yes)) (kept_tern given) → IsGivenFirst count strobe first (kept_tern given)
+given_first count strobe first given less opened =
+    let long : length (replicate count No) ≡ count = length-replicate count No in
+    let inside : strobe < length (replicate count No) = omega arith in
+    record {
+      strobe_is = λ outside. opened.others strobe outside ∙ kept_same (replicate count No) strobe Yes inside;
+      word = opened.word;
+      others = λ number bound apart outside. opened.others number outside ∙ kept_other (replicate count No) strobe Yes number apart ∙ all_no count number bound;
+    }
+
+-- ---- what is gathered
+
+pub made_loading : GivenIsKept → (network : Network) (loading : Loading) (loads : List Bool) (first : ℕ) (demand : Asked) (given : List Tern) →
+    IsAsked network Loader (kept_tern given) demand → AreLoading network demand loads loading →
+    ((bit : ℕ) → bit < 32 → slice_get network.drives.items (first + bit) ≡ Some Given) → ((bit : ℕ) → bit < 32 → kept_tern given (first + bit) ≡ unknown) →
+    IsLoadingAt network loading loads first demand given
+made_loading kept network loading loads first demand given is_asked are inputs word = record {
+  base = kept_tern given;
+  asked = demand;
+  is_asked = is_asked;
+  differs = differs_none demand;
+  gathered = are;
+  inputs = λ bit less. (inputs bit less, word bit less);
+  kept = kept network Loader (kept_tern given) demand.terns demand.leads;
+}
+
+-- ---- the inputs of a text
+
+-- a name that is declared as an input of the top is one
+input_of : (text : List PlainModule) (name : List ℕ) (shape : Shape) → IsDeclared text [] name shape roles.Input → is_input_of (module_at text []) name ≡ true
+input_of text name shape is = by (module_at text []) is.is
+  where
+    by : (o : Option PlainModule) → found_in (declared_at o) name ≡ Some is.local → is_input_of o name ≡ true
+    by None e = cc
+    by (Some m) e = input_role 0 m.ports m.items name is.local e ∙ ap is_input_role is.role_is
+
+pub outside_at : (text : List PlainModule) (name : List ℕ) (shape : Shape) (bit : ℕ) → IsDeclared text [] name shape roles.Input →
+    Drives text (point [] name bit) outside
+outside_at text name shape bit is = inl (record { top = refl; input = input_of text name shape is; is = refl })
+
+given_by : (text : List PlainModule) (trees : List Tree) (drive : Drive) → IsDriveOf text trees outside drive → drive ≡ Given
+given_by text trees Given of = refl
+given_by text trees (Flop clock next) of = absurd of
+given_by text trees (Same other) of = absurd of
+given_by text trees (Value source) of = absurd of
+given_by text trees (Hold gate latched) of = absurd of
+
+-- the drive of an input
+pub given_at : (text : List PlainModule) (network : Network) (number : ℕ) (p : Point) → AreDrives text network.trees.items network.drives.items →
+    IsPoint text number p →
+    Drives text p outside → slice_get network.drives.items number ≡ Some Given
+given_at text network number p are is drives =
+    let wired = are number p outside is drives in
+    wired.is ∙ ap (λ (d : Drive). Some d) (given_by text network.trees.items wired.drive wired.of)
+
+pub word_given : (text : List PlainModule) (network : Network) (state : PlainState) (points : StatePoints) →
+    AreDrives text network.trees.items network.drives.items →
+    StandsAt text state points → (bit : ℕ) → bit < 32 → slice_get network.drives.items (points.stream.data_word + bit) ≡ Some Given
+word_given text network state points are stands bit less =
+    given_at text network (points.stream.data_word + bit) (point [] data_name bit) are (stands.stream.words bit less)
+    (outside_at text data_name (Vector 32) bit stands.has.words)
+
+pub strobe_within : (text : List PlainModule) (state : PlainState) (points : StatePoints) → StandsAt text state points →
+    points.stream.strobe < length (text_points text)
+strobe_within text state points stands =
+    let at = slice_get_within (text_points text) (points.stream.strobe + 0) (point [] strobe_name 0) (stands.stream.strobe 0 (omega arith)) in
+    omega arith
+
+-- ---- the marks of loading points
+
+stored_of : (d : Driver) → HoldsValue d → IsStored d
+stored_of outside h = absurd h
+stored_of (copy other) h = absurd h
+stored_of (bit_of path e bit) h = absurd h
+stored_of (flop path clock next bit) h = tt
+stored_of (hold path gate e bit) h = tt
+
+of_stored : (d : Driver) → IsStored d → HoldsValue d
+of_stored outside h = absurd h
+of_stored (copy other) h = absurd h
+of_stored (bit_of path e bit) h = absurd h
+of_stored (flop path clock next bit) h = tt
+of_stored (hold path gate e bit) h = tt
+
+pub are_loads : (text : List PlainModule) (loads : List Bool) → length loads ≡ length (text_points text) →
+    ((number : ℕ) (p : Point) (d : Driver) → IsPoint text number p → Drives text p d → IsStored d → ((slice_get loads number ≡ Some true) ↔ IsLoading text p)) →
+    ((number : ℕ) (p : Point) (d : Driver) → IsPoint text number p → Drives text p d → ¬ IsStored d → slice_get loads number ≡ Some false) → AreLoads text loads
+are_loads text loads long stored others = record {
+  long = long;
+  sound = λ number p d is drives holds marked. (stored number p d is drives (stored_of d holds)).0 marked;
+  whole = λ number p d is drives holds loading. (stored number p d is drives (stored_of d holds)).1 loading;
+  others = λ number p d is drives free. others number p d is drives (λ h. free (of_stored d h));
+}
+
+-- ---- what is written back
+
+-- a slice of a whole vector
+written : (n : ℕ) (old new : List Tern) → n ≡ length old → length new ≡ length old → take n (new ++ drop (length new) old) ≡ new
+written n old new is long = take-append-le n new (drop (length new) old) (omega (arith, is, long)) ∙ take_all n new (omega (arith, is, long))
+
+pub first_written : (count strobe first len : ℕ) (all before new : List Tern) → strobe < count → len ≡ length all → all ≡ replicate count No →
+    before ≡ slice_set all strobe Yes →
+    length new ≡ length before → IsWordOpened first (kept_tern before) (kept_tern new) →
+    IsGivenFirst count strobe first (kept_tern (take len (new ++ drop (length new) (slice_set all strobe Yes))))
+first_written count strobe first len all before new less len_is all_is before_is long opened =
+    let old = slice_set all strobe Yes in
+    let old_long : length old ≡ length all = length-set all strobe Yes in
+    let new_long : length new ≡ length old = long ∙ ap length before_is in
+    let made : IsWordOpened first (kept_tern (slice_set (replicate count No) strobe Yes)) (kept_tern new) =
+    subst (λ (xs : List Tern). IsWordOpened first (kept_tern xs) (kept_tern new)) (before_is ∙ ap (λ (xs : List Tern). slice_set xs strobe Yes) all_is) opened
+    in
+    subst (λ (xs : List Tern). IsGivenFirst count strobe first (kept_tern xs)) (sym (written len old new (omega arith) new_long))
+    (given_first count strobe first new less made)

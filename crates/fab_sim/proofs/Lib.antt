@@ -1,0 +1,9 @@
+pub mod Points
+pub mod Sites
+pub mod Numbers
+pub mod Building
+pub mod Made
+pub mod Loaded
+pub mod Setting
+pub mod Started
+pub mod Cycling

@@ -1,0 +1,40 @@
+-- A machine that is made is new.
+use Rattle.std.proofs.Common.{◌≡◌, ℕ, Bool, List, Vec, Global, length, map, sym, ap, ◌∙◌, subst}
+use Rattle.fab_syntax.specs.Plain.{PlainModule}
+use Rattle.fab_network.specs.declared.network.Network.{Network}
+use Rattle.fab_network.specs.Passes.{kept_tern}
+use Rattle.fab_phases.specs.Words.{IsLoadingAt}
+use Rattle.fab_state.specs.Plain.{PlainState, Register}
+use Rattle.fab_state_points.specs.Standing.{StandsAt}
+use Rattle.fab_state_points.specs.declared.points.StatePoints.{StatePoints}
+use Rattle.fab_sim.specs.Once.{StandsOnce}
+use Rattle.fab_sim.specs.Making.{AreLoads, IsGivenFirst, IsNetworkOf}
+use Rattle.fab_sim.specs.Machine.{IsNew}
+use Rattle.fab_sim.specs.Made.{IsMadeOf}
+use Rattle.fab_sim.specs.declared.machine.Machine.{Machine}
+
+pub made_new : (text : List PlainModule) (state : PlainState) (network : Network) (points : StatePoints) (loads : List Bool) (values : Vec Bool Global)
+    (machine : Machine) →
+    IsNetworkOf text network → StandsOnce state → StandsAt text state points → AreLoads text loads → values.items ≡ map (λ (register : Register). register.1)
+    state.ffs →
+    IsMadeOf network points loads machine → machine.values ≡ values → IsNew text state machine
+made_new text state network points loads values machine of once stands are values_are made values_is = record {
+  of = record {
+    network = subst (IsNetworkOf text) (sym made.network_is) of;
+    once = once;
+    stands = subst (StandsAt text state) (sym made.points_are) stands;
+    values = ap (λ (v : Vec Bool Global). v.items) values_is ∙ values_are;
+    given = made.given ∙ of.long;
+    demand = made.demand ∙ of.long;
+  };
+  loads = loads;
+  are = are;
+  loading =
+      subst (λ (n : Network). IsLoadingAt n machine.loading loads machine.points.stream.data_word machine.demand machine.given.items) (sym made.network_is)
+      (subst (λ (p : StatePoints). IsLoadingAt network machine.loading loads p.stream.data_word machine.demand machine.given.items) (sym made.points_are)
+      made.loading);
+  first =
+      subst (λ (n : ℕ). IsGivenFirst n machine.points.stream.strobe machine.points.stream.data_word (kept_tern machine.given.items)) of.long
+      (subst (λ (p : StatePoints). IsGivenFirst (length network.drives.items) p.stream.strobe p.stream.data_word (kept_tern machine.given.items))
+      (sym made.points_are) made.first);
+}

@@ -1,0 +1,39 @@
+use Rattle.std.proofs.Common.{◌+◌, ℕ, List, refl, sym, ◌∙◌, subst, arith}
+use Rattle.std.proofs.lemmas.Option.{slice_get_within}
+use Rattle.fab_ternary.specs.declared.Tern.{Tern}
+use Rattle.fab_network.specs.declared.network.Clock.TheVariants.{Loader}
+use Rattle.fab_network.specs.declared.network.Drive.TheVariants.{Given}
+use Rattle.fab_network.specs.Passes.{kept_tern}
+use Rattle.fab_demand.specs.Demand.{IsAsked}
+use Rattle.fab_sim.specs.Making.{IsGivenFirst}
+use Rattle.fab_sim.proofs.Building.{made_loading}
+use Rattle.fab_sim.proofs.making.machine_of.Goals as goal
+
+pub given_of-requires-clause-word : goal.given_of-requires-clause-word
+given_of-requires-clause-word c =
+    let last = slice_get_within c.args.network.drives.items (c.args.points.stream.data_word + 31) Given (c.requires.word 31 (omega arith)) in
+    omega (arith, last)
+
+pub loading_of-requires-clause-asked : goal.loading_of-requires-clause-asked
+loading_of-requires-clause-asked c =
+    let made = c.in_ok-demand.ensures in
+    made.clear.enough c.args.network Loader (kept_tern c.deref.result.now)
+
+pub returns-clause-made : goal.returns-clause-made
+returns-clause-made c =
+    let given = c.in_ok-given.ensures in
+    let demand = c.in_ok-demand.ensures in
+    let loading = c.in_ok-loading.ensures in
+    let network = c.args.network in
+    let stream = c.args.points.stream in
+    let asked = subst (λ (ts : List Tern). IsAsked network Loader (kept_tern ts) c.loading_of.new.demand) c.deref.ensures.value loading.asked in
+    record {
+      network_is = refl;
+      points_are = refl;
+      given = given.long ∙ sym c.requires.long;
+      demand = loading.more.long ∙ demand.long ∙ sym c.requires.long;
+      first = subst (λ (n : ℕ). IsGivenFirst n stream.strobe stream.data_word (kept_tern c.in_ok-given.given.items)) (sym c.requires.long) given.first;
+      loading = made_loading c.given_is_kept.ensures network c.in_ok-loading.loading c.args.loads.now stream.data_word c.loading_of.new.demand
+          c.in_ok-given.given.items asked
+          loading.loading c.requires.word given.first.word;
+    }

@@ -1,0 +1,5 @@
+pub mod Once
+pub mod Making
+pub mod Starting
+pub mod Machine
+pub mod Made

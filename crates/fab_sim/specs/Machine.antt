@@ -1,0 +1,56 @@
+-- What a machine keeps of a text and a state, before words are loaded and from then on.
+use Rattle.std.specs.Prelude.{◌≡◌, ℕ, Bool, List, length, map, slice_get, Some}
+use Rattle.fab_syntax.specs.Plain.{PlainModule}
+use Rattle.fab_systems.specs.Ternary.{no}
+use Rattle.fab_meaning.specs.Points.{Point, Driver, Drives}
+use Rattle.fab_tern.specs.Shown.{Terns}
+use Rattle.fab_state.specs.Plain.{PlainState}
+use Rattle.fab_equations.specs.Instances.{points}
+use Rattle.fab_equations.specs.Equations.{IsPoint}
+use Rattle.fab_compiled.specs.Leading.{PointTerns}
+use Rattle.fab_network.specs.declared.network.Drive.TheVariants.{Given}
+use Rattle.fab_network.specs.Passes.{kept_tern}
+use Rattle.fab_wiring.specs.Given.{HoldsValue}
+use Rattle.fab_phases.specs.Words.{IsLoadingAt}
+use Rattle.fab_phases.specs.Cycles.{IsIn, IsRunningAt}
+use Rattle.fab_state_points.specs.Standing.{StandsAt}
+use Rattle.fab_sim.specs.Once.{StandsOnce}
+use Rattle.fab_sim.specs.Making.{AreLoads, IsGivenFirst, IsNetworkOf}
+use Rattle.fab_sim.specs.declared.machine.Machine.{Machine}
+
+-- A machine is that of the text and the state.
+pub record IsMachineOf (text : List PlainModule) (state : PlainState) (machine : Machine) : Type 0 where
+  pub network : IsNetworkOf text machine.network
+  pub once : StandsOnce state
+  pub stands : StandsAt text state machine.points
+  pub values : machine.values.items ≡ map (λ register. register.1) state.ffs
+  pub given : length machine.given.items ≡ length (points text)
+  pub demand : length machine.demand.leads ≡ length (points text)
+
+-- No word has been loaded.
+pub record IsNew (text : List PlainModule) (state : PlainState) (machine : Machine) : Type 0 where
+  pub of : IsMachineOf text state machine
+  pub loads : List Bool
+  pub are : AreLoads text loads
+  pub loading : IsLoadingAt machine.network machine.loading loads machine.points.stream.data_word machine.demand machine.given.items
+  pub first : IsGivenFirst (length (points text)) machine.points.stream.strobe machine.points.stream.data_word (kept_tern machine.given.items)
+
+-- Words are loaded, and flip-flops and latches hold this, as far as the outputs to come depend on it.
+pub record IsAt (text : List PlainModule) (state : PlainState) (machine : Machine) (held : Terns) : Type 0 where
+  pub of : IsMachineOf text state machine
+  pub holds : PointTerns
+  pub running : IsRunningAt machine.network machine.points.ins.items machine.points.outs.items machine.demand machine.given.items holds
+  pub agree : (number : ℕ) (p : Point) (d : Driver) → IsPoint text number p → Drives text p d → HoldsValue d → holds number ≡ held p
+  pub low : (number : ℕ) → slice_get machine.network.drives.items number ≡ Some Given → (IsIn machine.points.ins.items number → ⊥) → holds number ≡ no
+
+-- ---- what calls ask for
+
+-- a machine to which words can be loaded
+abbrev pub CanLoad : Machine → Type 0
+CanLoad machine = (text : List PlainModule) × (state : PlainState) × IsNew text state machine
+
+-- a machine that can go through a cycle with so many inputs and outputs
+abbrev pub CanCycle : Machine → (inputs outputs : ℕ) → Type 0
+CanCycle machine inputs outputs =
+    (text : List PlainModule) × (state : PlainState) × (held : Terns) × IsAt text state machine held × (inputs ≡ length state.ins) ×
+    (outputs ≡ length state.outs)

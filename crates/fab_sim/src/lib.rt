@@ -1,0 +1,8 @@
+//! The simulator: a text with the pads and flip-flops of a state, to which words are loaded and which then runs cycle by cycle.
+#![tactic(auto)]
+
+mod machine;
+mod making;
+mod starting;
+
+pub use machine::Machine;

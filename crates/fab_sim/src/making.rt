@@ -1,0 +1,85 @@
+//! How a machine is made.
+
+ghost use Rattle.std.specs.Prelude.{◌≡◌, ◌+◌, ◌<◌, ◌≤◌, ◌^◌, ℕ, Some, length, map, slice_get, IfOk};
+ghost use Rattle.fab_network.specs.Network.{AreFit};
+ghost use Rattle.fab_network.specs.Passes.{kept_tern};
+ghost use Rattle.fab_network.specs.declared.network.Drive.TheVariants.{Given};
+ghost use Rattle.fab_sim.specs.Making.{IsGivenFirst, IsWordOpened};
+ghost use Rattle.fab_sim.specs.Made.{IsMadeOf};
+
+use crate::machine::Machine;
+use fab_base::Memory;
+use fab_demand::Demand;
+use fab_demand::laws::given_is_kept;
+use fab_fabric::Site;
+use fab_network::Network;
+use fab_phases::loading_of;
+use fab_state_points::{StatePoints, Stream};
+use fab_ternary::Tern;
+use std::alloc::Global;
+
+/// The values of flip-flops.
+pub fn values_of(alloc: Global, ffs: &[(Site, bool)]) -> Result<Vec<bool>, Memory>
+    ensures { IfOk result (λ values. values.items ≡ map (λ register. register.1) ffs.now) }
+{
+    let mut values = Vec::new(alloc);
+    for (_, value) in ffs {
+        values.push(*value)?;
+    }
+    Ok(values)
+}
+
+/// The machine of a network of so many points, among which those are marked that loading sets.
+pub fn machine_of(
+    alloc: Global,
+    network: Network,
+    points: StatePoints,
+    values: Vec<bool>,
+    loads: &[bool],
+    count: usize,
+) -> Result<Machine, Memory>
+    requires long { length network.drives.items ≡ count }
+    requires few { count ≤ 2 ^ 32 }
+    requires fit { AreFit network.trees.items network.drives.items }
+    requires loads { length loads.now ≡ count }
+    requires strobe { points.stream.strobe < count }
+    requires word { (bit : ℕ) → bit < 32 → slice_get network.drives.items (points.stream.data_word + bit) ≡ Some Given }
+    ensures made { IfOk result (IsMadeOf network points loads.now) }
+    ensures values { IfOk result (λ machine. machine.values ≡ values) }
+{
+    given_is_kept();
+    let given = given_of(alloc, count, points.stream)?;
+    let mut demand = Demand::new(alloc, count)?;
+    let loading = loading_of(alloc, &network, loads, &given, &mut demand)?;
+    Ok(Machine {
+        network,
+        points,
+        values,
+        loading,
+        demand,
+        given,
+    })
+}
+
+// What is given at first: WriteStrobe is 1, the inputs of a word are open, and all else is 0.
+fn given_of(alloc: Global, count: usize, stream: Stream) -> Result<Vec<Tern>, Memory>
+    requires strobe { stream.strobe < count }
+    requires word { stream.data_word + 32 ≤ count }
+    ensures long { IfOk result (λ given. length given.items ≡ count) }
+    ensures first { IfOk result (λ given. IsGivenFirst count stream.strobe stream.data_word (kept_tern given.items)) }
+{
+    let mut given = vec![in alloc; Tern::No; count]?;
+    given[stream.strobe as usize] = Tern::Yes;
+    open_word(stream.data_word, &mut given);
+    Ok(given)
+}
+
+// Opens the inputs of a word.
+fn open_word(first: u32, given: &mut [Tern])
+    requires { first + 32 ≤ length given.old }
+    ensures { IsWordOpened first (kept_tern given.old) (kept_tern given.new) }
+{
+    for bit in 0..32 {
+        given[first as usize + bit] = Tern::Open;
+    }
+}
