@@ -1,4 +1,4 @@
--- From the parts of an assembly to the headline.
+-- From the parts of an assembly to the headline, as a whole and step by step.
 use Rattle.std.proofs.Common.{◌≡◌, ℕ, List, length, Ok, refl, sym, ap, ◌∙◌, subst, arith, le-ltb}
 use Rattle.fab_syntax.specs.Plain.{PlainModule}
 use Rattle.fab_model.specs.Grid.{PlainFabric}
@@ -18,6 +18,7 @@ use Rattle.fab_text_loads.specs.Texts.{IsFabricText}
 use Rattle.fab_use.specs.Registers.{design_state}
 use Rattle.fab_use.specs.Configuring.{Configures}
 use Rattle.fab_use.specs.Headline.{RunsDesign, LegalDesignsRun}
+use Rattle.fab_settling.specs.Settling.{SettlesDesign, LegalDesignsSettle}
 
 -- a netlist is packed where there is a site for each cell and each port
 packs : (netlist : PlainNetlist) → packing netlist (length (works netlist)) (length (ports netlist)) ≡ Ok (packed netlist)
@@ -30,14 +31,26 @@ pub packed_made : (netlist : PlainNetlist) (design : PlainPacked) → PackedIsWe
 packed_made netlist design law made is =
     subst IsWellMadePacked (sym is) (law netlist (length (works netlist)) (length (ports netlist)) (packed netlist) made (packs netlist))
 
-pub assembled_runs : (fabric : PlainFabric) (text : List PlainModule) (netlist : PlainNetlist) (design : PlainPacked) (fixed : List Pad) (i : PlainImplementation) (bits : PlainBits)
-    (words : List ℕ) (state : PlainState) → LegalDesignsRun → IsFabric fabric → AreTiles fabric → IsFabricText fabric text → IsWellMade netlist → HasNoCycle netlist →
-    design ≡ packed netlist → IsLegal fabric design fixed i → Configures fabric design i bits → words ≡ stream fabric bits → state ≡ design_state design i →
-    RunsDesign fabric text netlist i words state
-assembled_runs fabric text netlist design fixed i bits words state law is_fabric are_tiles is_text made no_cycle is legal configures words_are state_is =
-    let runs : RunsDesign fabric text netlist i (stream fabric bits) (design_state (packed netlist) i) =
-    law fabric text netlist fixed i bits is_fabric are_tiles is_text made no_cycle (subst (λ (p : PlainPacked). IsLegal fabric p fixed i) is legal)
-    (subst (λ (p : PlainPacked). Configures fabric p i bits) is configures) in
-    let same : state ≡ design_state (packed netlist) i = state_is ∙ ap (λ (p : PlainPacked). design_state p i) is in
-    subst (λ (w : List ℕ). RunsDesign fabric text netlist i w state) (sym words_are)
-    (subst (λ (s : PlainState). RunsDesign fabric text netlist i (stream fabric bits) s) (sym same) runs)
+-- what stands when the words of an implementation are made
+module _ (fabric : PlainFabric) (text : List PlainModule) (netlist : PlainNetlist) (design : PlainPacked) (fixed : List Pad) (i : PlainImplementation)
+    (bits : PlainBits) (words : List ℕ) (is_fabric : IsFabric fabric) (are_tiles : AreTiles fabric) (is_text : IsFabricText fabric text)
+    (made : IsWellMade netlist) (no_cycle : HasNoCycle netlist) (is : design ≡ packed netlist) (legal : IsLegal fabric design fixed i)
+    (configures : Configures fabric design i bits) (words_are : words ≡ stream fabric bits) where
+  packed_legal : IsLegal fabric (packed netlist) fixed i
+  packed_legal = subst (λ (p : PlainPacked). IsLegal fabric p fixed i) is legal
+
+  packed_configures : Configures fabric (packed netlist) i bits
+  packed_configures = subst (λ (p : PlainPacked). Configures fabric p i bits) is configures
+
+  pub assembled_runs : (state : PlainState) → LegalDesignsRun → state ≡ design_state design i → RunsDesign fabric text netlist i words state
+  assembled_runs state law state_is =
+      let runs : RunsDesign fabric text netlist i (stream fabric bits) (design_state (packed netlist) i) =
+      law fabric text netlist fixed i bits is_fabric are_tiles is_text made no_cycle packed_legal packed_configures in
+      let same : state ≡ design_state (packed netlist) i = state_is ∙ ap (λ (p : PlainPacked). design_state p i) is in
+      subst (λ (w : List ℕ). RunsDesign fabric text netlist i w state) (sym words_are)
+      (subst (λ (s : PlainState). RunsDesign fabric text netlist i (stream fabric bits) s) (sym same) runs)
+
+  pub assembled_settles : LegalDesignsSettle → SettlesDesign fabric text netlist i words
+  assembled_settles law =
+      subst (λ (w : List ℕ). SettlesDesign fabric text netlist i w) (sym words_are)
+      (law fabric text netlist fixed i bits is_fabric are_tiles is_text made no_cycle packed_legal packed_configures)

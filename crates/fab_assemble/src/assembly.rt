@@ -14,6 +14,7 @@ ghost use Rattle.fab_text_loads.specs.Texts.{IsFabricText};
 ghost use Rattle.fab_use.specs.Registers.{design_state};
 ghost use Rattle.fab_use.specs.Configuring.{Configures};
 ghost use Rattle.fab_use.specs.Headline.{RunsDesign};
+ghost use Rattle.fab_settling.specs.Settling.{SettlesDesign};
 ghost use Rattle.fab_gen_tile.specs.Words.{IsNamed};
 ghost use Rattle.fab_features.specs.Design.{design_features};
 ghost use Rattle.fab_features.specs.Features.{IsBitMapOf};
@@ -27,6 +28,7 @@ use fab_frames::frames;
 use fab_legal::{CheckFault, Fixed, Implementation, check, packed_is_well_made};
 use fab_netlist::{Netlist, Packed};
 use fab_runs::legal_designs_run;
+use fab_settling::legal_designs_settle;
 use fab_state::State;
 use std::alloc::Global;
 
@@ -44,7 +46,8 @@ pub struct Assembled {
 }
 
 /// Assembles an implementation of a packed netlist, if it is legal: its features, its configuration bits, the words that load
-/// them and the state from which it starts. In each text of the fabric the words then run the netlist.
+/// them and the state from which it starts. In each text of the fabric the words then run the netlist, whatever order the
+/// text settles in.
 ///
 /// # Errors
 ///
@@ -69,11 +72,13 @@ pub fn assemble(
     ensures words { IfOk result (λ it. it.words.items ≡ stream fabric.now (plain_bits it.bits)) }
     ensures state { IfOk result (λ it. it.state ≡ design_state packed.now implementation) }
     ensures runs { IfOk result (λ it. (text : List PlainModule) → IsFabricText fabric.now text → RunsDesign fabric.now text netlist.now implementation it.words.items it.state) }
+    ensures settles { IfOk result (λ it. (text : List PlainModule) → IsFabricText fabric.now text → SettlesDesign fabric.now text netlist.now implementation it.words.items) }
     ensures err { IfErr result (Explains fabric.now packed.now fixed.now implementation) }
 {
     netlist.is_well_made();
     packed_is_well_made();
     legal_designs_run();
+    legal_designs_settle();
     let _types = fabric.types();
     let legal = check(alloc, fabric, packed, fixed, implementation)?;
     let features = features_of(alloc, fabric, packed, &legal)?;

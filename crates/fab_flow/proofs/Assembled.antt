@@ -46,6 +46,7 @@ use Rattle.fab_flow.specs.declared.storing.Output.{Output}
 use Rattle.fab_use.specs.Configuring.{Configures}
 use Rattle.fab_use.specs.Headline.{RunsDesign}
 use Rattle.fab_use.specs.Registers.{bound_pad, design_state, register_of}
+use Rattle.fab_settling.specs.Settling.{SettlesDesign}
 use Rattle.fab_designs.specs.Designs.{PlainDesign, MeetsDesign, SpellsDesign}
 use Rattle.fab_designs.specs.Implementations.{MeetsImplementation, ReadsImplementation}
 use Rattle.fab_flow.specs.Assembling.{AssemblyFiles, Fits, HasAssembleCause, IsAssembly, IsReadyToAssemble, MeetsAssembly, RefusesAssembly, assemble_refusals, assembly_outputs, fault_of, illegal, packing_for, short}
@@ -105,8 +106,9 @@ pub assembly_is : (fabric : PlainFabric) (netlist : PlainNetlist) (implementatio
     (features : List Feature) (bits : PlainBits) (words : List ℕ) (state : PlainState) → outputs ≡ assembly_outputs base features words state
     → features ≡ design_features fabric (packed netlist) implementation → Configures fabric (packed netlist) implementation bits → IsBitMapOf fabric features bits → words ≡ stream fabric bits
     → state ≡ design_state (packed netlist) implementation → ((text : List PlainModule) → IsFabricText fabric text → RunsDesign fabric text netlist implementation words state)
+    → ((text : List PlainModule) → IsFabricText fabric text → SettlesDesign fabric text netlist implementation words)
     → IsAssembly fabric netlist implementation base outputs
-assembly_is fabric netlist implementation base outputs features bits words state are features_are configures bit_map words_are state_is runs =
+assembly_is fabric netlist implementation base outputs features bits words state are features_are configures bit_map words_are state_is runs settles =
     record {
       bits = bits;
       configures = configures;
@@ -119,6 +121,7 @@ assembly_is fabric netlist implementation base outputs features bits words state
       runs = λ text is.
           subst (λ (s : PlainState). RunsDesign fabric text netlist implementation (stream fabric bits) s) state_is
           (subst (λ (w : List ℕ). RunsDesign fabric text netlist implementation w state) words_are (runs text is));
+      settles = λ text is. subst (λ (w : List ℕ). SettlesDesign fabric text netlist implementation w) words_are (settles text is);
     }
 
 -- the same of outputs, on a fabric that files spell

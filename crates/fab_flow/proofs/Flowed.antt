@@ -66,6 +66,7 @@ module _ (fabric : PlainFabric) (netlist : PlainNetlist) (fixed : List Pad) (all
     assembled = assembled.0;
     assembly = assembled.1;
     runs = assembled.1.runs (generated_text fabric) is_text;
+    settles = assembled.1.settles (generated_text fabric) is_text;
     outputs_are = assembled.2 ∙ ap (λ (bytes : List ℕ). flow_outputs base bytes (implementation_text fabric implementation) assembled.0) printed;
   }
 

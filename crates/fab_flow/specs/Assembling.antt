@@ -29,6 +29,7 @@ use Rattle.fab_text_loads.specs.Texts.{IsFabricText}
 use Rattle.fab_use.specs.Configuring.{Configures}
 use Rattle.fab_use.specs.Headline.{RunsDesign}
 use Rattle.fab_use.specs.Registers.{design_state}
+use Rattle.fab_settling.specs.Settling.{SettlesDesign}
 use Rattle.fab_features.specs.Design.{design_features}
 use Rattle.fab_features.specs.Features.{IsBitMapOf}
 use Rattle.fab_designs.specs.Designs.{DesignFiles, PlainDesign, design_files, SpellsDesign, MeetsDesign}
@@ -64,13 +65,14 @@ assembly_outputs base features words state =
 
 -- The outputs are the features of an implementation of a netlist, the bitstream of configuration bits that are those of the implementation and those
 -- that the features set, and its state. In each text of the fabric the words run the netlist, from its initial values where flip-flops hold what the
--- state says.
+-- state says; and they do so whatever order the text settles in.
 pub record IsAssembly (fabric : PlainFabric) (netlist : PlainNetlist) (implementation : PlainImplementation) (base : List ℕ) (outputs : List PlainOutput) : Type 0 where
   pub bits : PlainBits
   pub configures : Configures fabric (packed netlist) implementation bits
   pub bit_map : IsBitMapOf fabric (design_features fabric (packed netlist) implementation) bits
   pub outputs_are : outputs ≡ assembly_outputs base (design_features fabric (packed netlist) implementation) (stream fabric bits) (design_state (packed netlist) implementation)
   pub runs : (text : List PlainModule) → IsFabricText fabric text → RunsDesign fabric text netlist implementation (stream fabric bits) (design_state (packed netlist) implementation)
+  pub settles : (text : List PlainModule) → IsFabricText fabric text → SettlesDesign fabric text netlist implementation (stream fabric bits)
 
 -- The files spell a design and an implementation of it, which is legal under the design's constraints, and the outputs are what is made of these.
 pub record MakesAssembly (files : Map) (names : AssemblyFiles) (outputs : List PlainOutput) : Type 0 where

@@ -19,6 +19,7 @@ use Rattle.fab_text_loads.specs.Loads.{LoadsConfigurations}
 use Rattle.fab_text_loads.specs.Texts.{IsFabricText}
 use Rattle.fab_use.specs.Headline.{RunsDesign}
 use Rattle.fab_use.specs.Registers.{design_state}
+use Rattle.fab_settling.specs.Settling.{SettlesDesign}
 use Rattle.fab_impl.specs.Spelled.{implementation_text}
 use Rattle.fab_map.specs.Causes.{HasMapCause}
 use Rattle.fab_designs.specs.Designs.{DesignFiles, PlainDesign, design_files, SpellsDesign, MeetsDesign}
@@ -62,6 +63,8 @@ pub record IsFlow (fabric : PlainFabric) (netlist : PlainNetlist) (fixed : List 
   pub assembly : IsAssembly fabric netlist implementation base assembled
   -- The headline: the text in BASE.v, loaded with the words in BASE.bit, runs the netlist at the pads in BASE.state, from the values there.
   pub runs : RunsDesign fabric (generated_text fabric) netlist implementation (stream fabric assembly.bits) (design_state (packed netlist) implementation)
+  -- It does so step by step, whatever order its points are activated in.
+  pub settles : SettlesDesign fabric (generated_text fabric) netlist implementation (stream fabric assembly.bits)
   -- These are the five files, in the order in which they are stored.
   pub outputs_are : outputs ≡ flow_outputs base (text_bytes (generated_text fabric)) (implementation_text fabric implementation) assembled
 

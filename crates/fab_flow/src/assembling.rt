@@ -17,6 +17,7 @@ ghost use Rattle.fab_text_loads.specs.Texts.{IsFabricText};
 ghost use Rattle.fab_use.specs.Configuring.{Configures};
 ghost use Rattle.fab_use.specs.Headline.{RunsDesign};
 ghost use Rattle.fab_use.specs.Registers.{design_state};
+ghost use Rattle.fab_settling.specs.Settling.{SettlesDesign};
 ghost use Rattle.fab_gen_tile.specs.Words.{IsNamed};
 ghost use Rattle.fab_features.specs.Design.{design_features};
 ghost use Rattle.fab_features.specs.Features.{IsBitMapOf};
@@ -77,6 +78,7 @@ fn assembled(
     ensures words { IfOk result (λ it. it.words.items ≡ stream design.now.fabric (plain_bits it.bits)) }
     ensures state { IfOk result (λ it. it.state ≡ design_state (packed_of design.now.netlist) implementation) }
     ensures runs { IfOk result (λ it. (text : List PlainModule) → IsFabricText design.now.fabric text → RunsDesign design.now.fabric text design.now.netlist implementation it.words.items it.state) }
+    ensures settles { IfOk result (λ it. (text : List PlainModule) → IsFabricText design.now.fabric text → SettlesDesign design.now.fabric text design.now.netlist implementation it.words.items) }
     ensures refused { IfErr result (λ fault. (fault ≡ faults.Memory) ⊎ RefusesAssembly design.now implementation fault) }
 {
     let packed = packed_design(alloc, design)?;

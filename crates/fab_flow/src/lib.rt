@@ -19,4 +19,4 @@ pub use flowing::do_flow;
 pub use generating::do_generate;
 pub use mapping::do_map;
 pub use matrix::do_matrix;
-pub use storing::Output;
+pub use storing::{Output, one_output, store_all};

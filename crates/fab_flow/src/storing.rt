@@ -52,7 +52,7 @@ fn store<D: Desk>(alloc: Global, desk: &mut D, file: &Name, text: &[u8]) -> Resu
 /// Stores outputs one after the other, up to the first store that fails.
 ///
 /// `WriteFault` names the output at which the device fails; besides it only want of memory comes.
-pub(crate) fn store_all<D: Desk, P: Progress>(
+pub fn store_all<D: Desk, P: Progress>(
     alloc: Global,
     desk: &mut D,
     progress: &mut P,
@@ -92,7 +92,7 @@ pub(crate) fn put_output(
 }
 
 /// The outputs of a command that has one.
-pub(crate) fn one_output(alloc: Global, file: &Name, bytes: Vec<u8>) -> Result<Vec<Output>, Memory>
+pub fn one_output(alloc: Global, file: &Name, bytes: Vec<u8>) -> Result<Vec<Output>, Memory>
     ensures are { IfOk result (λ outputs. map plain_output outputs.items ≡ output file.now bytes.items ∷ []) }
     ensures names { IsUtf8 file.now → IfOk result (λ outputs. All (λ output. IsUtf8 output.name) outputs.items) }
 {

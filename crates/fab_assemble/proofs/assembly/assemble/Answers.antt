@@ -3,7 +3,7 @@ use Rattle.fab_fabric.specs.Bits.{plain_bits}
 use Rattle.fab_implementation.specs.Plain.{PlainImplementation}
 use Rattle.fab_use.specs.Configuring.{Configures}
 use Rattle.fab_use.specs.Registers.{design_state}
-use Rattle.fab_assemble.proofs.Runs.{packed_made, assembled_runs}
+use Rattle.fab_assemble.proofs.Runs.{packed_made, assembled_runs, assembled_settles}
 use Rattle.fab_assemble.proofs.assembly.assemble.Goals as goal
 
 pub check-requires-clause-made : goal.check-requires-clause-made
@@ -15,7 +15,19 @@ returns-clause-runs c text is_text =
     let packed = c.args.packed.now in
     let i = c.args.implementation in
     let bits = plain_bits c.in_ok-bits.bits in
-    assembled_runs fabric text c.args.netlist.now packed c.args.fixed.now i bits c.in_ok-words.words.items c.in_ok-state.state c.legal_designs_run.ensures
+    assembled_runs fabric text c.args.netlist.now packed c.args.fixed.now i bits c.in_ok-words.words.items
     c.types-types.ensures.is_fabric c.types-types.ensures.are_tiles is_text c.is_well_made.ensures c.requires.no_cycle c.requires.packed c.in_ok-legal.ensures.legal
     (subst (λ (j : PlainImplementation). Configures fabric packed j bits) c.in_ok-legal.ensures.same c.in_ok-bits.ensures.configures) c.in_ok-words.ensures
+    c.in_ok-state.state c.legal_designs_run.ensures
     (c.in_ok-state.ensures ∙ ap (λ (j : PlainImplementation). design_state packed j) (c.get.ensures ∙ c.in_ok-legal.ensures.same))
+
+pub returns-clause-settles : goal.returns-clause-settles
+returns-clause-settles c text is_text =
+    let fabric = c.args.fabric.now in
+    let packed = c.args.packed.now in
+    let i = c.args.implementation in
+    let bits = plain_bits c.in_ok-bits.bits in
+    assembled_settles fabric text c.args.netlist.now packed c.args.fixed.now i bits c.in_ok-words.words.items
+    c.types-types.ensures.is_fabric c.types-types.ensures.are_tiles is_text c.is_well_made.ensures c.requires.no_cycle c.requires.packed c.in_ok-legal.ensures.legal
+    (subst (λ (j : PlainImplementation). Configures fabric packed j bits) c.in_ok-legal.ensures.same c.in_ok-bits.ensures.configures) c.in_ok-words.ensures
+    c.legal_designs_settle.ensures

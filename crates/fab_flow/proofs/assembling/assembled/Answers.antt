@@ -5,6 +5,7 @@ use Rattle.fab_base.specs.declared.fault.Fault.TheVariants as faults
 use Rattle.fab_syntax.specs.Plain.{PlainModule}
 use Rattle.fab_text_loads.specs.Texts.{IsFabricText}
 use Rattle.fab_use.specs.Headline.{RunsDesign}
+use Rattle.fab_settling.specs.Settling.{SettlesDesign}
 use Rattle.fab_fabric.specs.Bits.{plain_bits}
 use Rattle.fab_gen_tile.specs.Words.{IsNamed}
 use Rattle.fab_features.specs.Features.{IsBitMapOf}
@@ -24,6 +25,11 @@ pub returns-in-Ok-clause-runs : goal.returns-in-Ok-clause-runs
 returns-in-Ok-clause-runs c =
     subst (λ (d : PlainDesign). (text : List PlainModule) → IsFabricText d.fabric text → RunsDesign d.fabric text d.netlist c.args.implementation c.in-Ok.assembled.words.items c.in-Ok.assembled.state)
     c.design.view_is c.in-Ok.ensures.runs
+
+pub returns-in-Ok-clause-settles : goal.returns-in-Ok-clause-settles
+returns-in-Ok-clause-settles c =
+    subst (λ (d : PlainDesign). (text : List PlainModule) → IsFabricText d.fabric text → SettlesDesign d.fabric text d.netlist c.args.implementation c.in-Ok.assembled.words.items)
+    c.design.view_is c.in-Ok.ensures.settles
 
 pub returns-in-Ok-clause-map : goal.returns-in-Ok-clause-map
 returns-in-Ok-clause-map c =

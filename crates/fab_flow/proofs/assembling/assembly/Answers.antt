@@ -20,4 +20,4 @@ returns-clause-made c = λ named prefixed.
     let made = c.in_ok-assembled.assembled in
     let of = c.in_ok-assembled.ensures in
     assembly_is design.fabric design.netlist c.args.implementation c.args.base.now _ made.features.items (plain_bits made.bits) made.words.items made.state
-    c.in_ok-outputs_of.ensures.are of.features of.configures (of.map named prefixed) of.words of.state of.runs
+    c.in_ok-outputs_of.ensures.are of.features of.configures (of.map named prefixed) of.words of.state of.runs of.settles

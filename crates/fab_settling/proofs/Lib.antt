@@ -1,0 +1,5 @@
+pub mod Origins
+pub mod OneStep
+pub mod Blocks
+pub mod EachCycle
+pub mod Law
