@@ -1,0 +1,4 @@
+pub mod Steps
+pub mod Drawing
+pub mod DesignDraws
+pub mod Pushed
