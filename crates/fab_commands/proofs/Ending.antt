@@ -22,10 +22,13 @@ use Rattle.fab_flow.proofs.BitsOnce as bits
 use Rattle.fab_flow.proofs.FlowedOnce.{one_flow_number, flow_not_both}
 use Rattle.fab_flow.proofs.MappedOnce as mapping
 use Rattle.fab_flow.proofs.Once as generating
+use Rattle.fab_simulate.specs.Simulating.{simulation_files}
+use Rattle.fab_simulate.proofs.Behind.{ready_of}
+use Rattle.fab_simulate.proofs.SimulatedOnce as simulating
 use Rattle.fab_designs.specs.Designs.{design_files}
 use Rattle.fab_list_files.proofs.Once.{one_refusal, not_both}
-use Rattle.fab_commands.specs.declared.job.Job.{Job}
-use Rattle.fab_commands.specs.declared.job.Job.TheVariants.{Matrix, Generate, Assemble, Map as Mapping, Flow, Bits, Features}
+use Rattle.fab_words.specs.declared.job.Job.{Job}
+use Rattle.fab_words.specs.declared.job.Job.TheVariants.{Matrix, Generate, Assemble, Map as Mapping, Flow, Bits, Features, Simulate}
 use Rattle.fab_commands.specs.Running.{Makes, Meets, IsReady, refusals, failures, HasJobCause, MayFail, Call, DoesJob, RefusesJob, IsJobReady, JobHasCause, JobLeaves, IsReported, IsOrMemory, answers, IsAnswered}
 
 -- ---- each command has one first refusal, or is ready
@@ -38,6 +41,7 @@ refused_once (Mapping fabric blif pcf seed rounds out) files a b x y = mapping.o
 refused_once (Flow fabric blif pcf seed rounds base) files a b x y = one_flow_number files (flow_files fabric blif pcf base) a b x y
 refused_once (Bits fabric fasm out) files a b x y = ap number_of (bits.one_refusal files (bits_files fabric fasm out) a b x y)
 refused_once (Features fabric bit out) files a b x y = ap number_of (features.one_refusal files (features_files fabric bit out) a b x y)
+refused_once (Simulate verilog bit state stimulus trace) files a b x y = ap number_of (simulating.one_refusal files (simulation_files verilog bit state stimulus trace) a b x y)
 
 not_refused : (job : Job) (files : Map) (fault : Fault) → IsReady job files → Meets job files (refuses fault) → ⊥
 not_refused (Matrix list out) files fault ready x = not_both files list ready.0 fault ready.1 x
@@ -47,6 +51,7 @@ not_refused (Mapping fabric blif pcf seed rounds out) files fault ready x = mapp
 not_refused (Flow fabric blif pcf seed rounds base) files fault ready x = flow_not_both files (flow_files fabric blif pcf base) fault ready x
 not_refused (Bits fabric fasm out) files fault ready x = bits.not_both files (bits_files fabric fasm out) fault ready x
 not_refused (Features fabric bit out) files fault ready x = features.not_both files (features_files fabric bit out) fault ready x
+not_refused (Simulate verilog bit state stimulus trace) files fault ready x = simulating.not_both files (simulation_files verilog bit state stimulus trace) fault ready x
 
 -- what is done was ready
 done_ready : (job : Job) (files : Map) (told after : Option Map) → told ≡ Some files → IsDone (Makes job) told after → IsReady job files
@@ -60,6 +65,8 @@ done_ready (Flow fabric blif pcf seed rounds base) files told after is done = le
 done_ready (Bits fabric fasm out) files told after is done =
     let made = done.made files is in record { fabric = made.fabric; features = made.features; spelled = made.spelled; read = made.read; right = made.right }
 done_ready (Features fabric bit out) files told after is done = let made = done.made files is in record { fabric = made.fabric; bits = made.bits; spelled = made.spelled; read = made.read }
+done_ready (Simulate verilog bit state stimulus trace) files told after is done =
+    ready_of files (simulation_files verilog bit state stimulus trace) done.outputs (done.made files is)
 
 -- ---- the fault behind an end
 
@@ -119,6 +126,7 @@ kind told reads writes (Flow fabric blif pcf seed rounds base) fault cause =
     search_kind told reads writes (Flow fabric blif pcf seed rounds base) (λ files. FailsToFlow files (flow_files fabric blif pcf base) rounds) refl (λ files f fails. flow_ready files fabric blif pcf rounds base seed f fails) fault cause
 kind told reads writes (Bits fabric fasm out) fault cause = kind_of told reads writes (Bits fabric fasm out) fault cause
 kind told reads writes (Features fabric bit out) fault cause = kind_of told reads writes (Features fabric bit out) fault cause
+kind told reads writes (Simulate verilog bit state stimulus trace) fault cause = kind_of told reads writes (Simulate verilog bit state stimulus trace) fault cause
 
 no_such : (numbers : List ℕ) (n other : ℕ) → list_any (nat_eq other) numbers ≡ false → list_any (nat_eq n) numbers ≡ true → n ≢ other
 no_such numbers n other absent is same = absurd (let no : false ≡ true = sym absent ∙ subst (λ m. list_any (nat_eq m) numbers ≡ true) same is in cc)
@@ -132,6 +140,7 @@ refusals_lack (Mapping fabric blif pcf seed rounds out) = (refl, refl, refl, ref
 refusals_lack (Flow fabric blif pcf seed rounds base) = (refl, refl, refl, refl, refl)
 refusals_lack (Bits fabric fasm out) = (refl, refl, refl, refl, refl)
 refusals_lack (Features fabric bit out) = (refl, refl, refl, refl, refl)
+refusals_lack (Simulate verilog bit state stimulus trace) = (refl, refl, refl, refl, refl)
 
 other_number : (job : Job) (n : ℕ) → list_any (nat_eq n) (refusals job) ≡ true → (n ≢ 0) × (n ≢ 1) × (n ≢ 11) × (n ≢ 12) × (n ≢ 13)
 other_number job n is =
@@ -147,6 +156,7 @@ failures_lack (Mapping fabric blif pcf seed rounds out) = (refl, refl, refl)
 failures_lack (Flow fabric blif pcf seed rounds base) = (refl, refl, refl)
 failures_lack (Bits fabric fasm out) = (refl, refl, refl)
 failures_lack (Features fabric bit out) = (refl, refl, refl)
+failures_lack (Simulate verilog bit state stimulus trace) = (refl, refl, refl)
 
 other_failure : (job : Job) (n : ℕ) → list_any (nat_eq n) (failures job) ≡ true → (n ≢ 1) × (n ≢ 11) × (n ≢ 12)
 other_failure job n is =

@@ -17,9 +17,10 @@ use Rattle.fab_flow.specs.Generating.{MakesFabric, MeetsGenerate, IsReadyToGener
 use Rattle.fab_flow.specs.Flowing.{flow_files, MakesFlow, MeetsFlow, IsReadyToFlow, HasFlowCause, flow_refusals}
 use Rattle.fab_flow.specs.Mapping.{mapping_files, MakesMapping, MeetsMapping, IsReadyToMap, HasMappingCause, map_refusals}
 use Rattle.fab_flow.specs.Matrix.{MakesMatrix, IsReadyForMatrix, HasMatrixCause, matrix_refusals}
+use Rattle.fab_simulate.specs.Simulating.{simulation_files, MakesTrace, MeetsSimulation, IsReadyToSimulate, HasSimulateCause, simulate_refusals}
 use Rattle.fab_list_files.specs.Sides.{MeetsPairs}
-use Rattle.fab_commands.specs.declared.job.Job.{Job}
-use Rattle.fab_commands.specs.declared.job.Job.TheVariants.{Matrix, Generate, Assemble, Map as Mapping, Flow, Bits, Features}
+use Rattle.fab_words.specs.declared.job.Job.{Job}
+use Rattle.fab_words.specs.declared.job.Job.TheVariants.{Matrix, Generate, Assemble, Map as Mapping, Flow, Bits, Features, Simulate}
 
 -- ---- the commands
 
@@ -32,6 +33,7 @@ Makes (Mapping fabric blif pcf seed rounds out) files outputs = MakesMapping fil
 Makes (Flow fabric blif pcf seed rounds base) files outputs = MakesFlow files (flow_files fabric blif pcf base) rounds outputs
 Makes (Bits fabric fasm out) files outputs = MakesBits files (bits_files fabric fasm out) outputs
 Makes (Features fabric bit out) files outputs = MakesFeatures files (features_files fabric bit out) outputs
+Makes (Simulate verilog bit state stimulus trace) files outputs = MakesTrace files (simulation_files verilog bit state stimulus trace) outputs
 
 -- what it comes upon before anything is refused: files that it asks for, and its first refusal
 abbrev pub Meets : Job → (files : Map) → Event → Type 0
@@ -42,6 +44,7 @@ Meets (Mapping fabric blif pcf seed rounds out) files event = MeetsMapping files
 Meets (Flow fabric blif pcf seed rounds base) files event = MeetsFlow files (flow_files fabric blif pcf base) event
 Meets (Bits fabric fasm out) files event = MeetsBits files (bits_files fabric fasm out) event
 Meets (Features fabric bit out) files event = MeetsBitFeatures files (features_files fabric bit out) event
+Meets (Simulate verilog bit state stimulus trace) files event = MeetsSimulation files (simulation_files verilog bit state stimulus trace) event
 
 -- nothing is refused
 abbrev pub IsReady : Job → (files : Map) → Type 0
@@ -52,6 +55,7 @@ IsReady (Mapping fabric blif pcf seed rounds out) files = IsReadyToMap files (ma
 IsReady (Flow fabric blif pcf seed rounds base) files = IsReadyToFlow files (flow_files fabric blif pcf base)
 IsReady (Bits fabric fasm out) files = IsReadyForBits files (bits_files fabric fasm out)
 IsReady (Features fabric bit out) files = IsReadyForFeatures files (features_files fabric bit out)
+IsReady (Simulate verilog bit state stimulus trace) files = IsReadyToSimulate files (simulation_files verilog bit state stimulus trace)
 
 -- the numbers of the faults for which it refuses
 abbrev pub refusals : Job → List ℕ
@@ -62,6 +66,7 @@ refusals (Mapping fabric blif pcf seed rounds out) = map_refusals
 refusals (Flow fabric blif pcf seed rounds base) = flow_refusals
 refusals (Bits fabric fasm out) = bits_refusals
 refusals (Features fabric bit out) = features_refusals
+refusals (Simulate verilog bit state stimulus trace) = simulate_refusals
 
 -- The numbers of the faults with which it may end though nothing is refused: a command that places and routes may find no path, or leave a wire shared.
 abbrev pub failures : Job → List ℕ
@@ -72,6 +77,7 @@ failures (Mapping fabric blif pcf seed rounds out) = 8 ∷ 9 ∷ []
 failures (Flow fabric blif pcf seed rounds base) = 8 ∷ 9 ∷ []
 failures (Bits fabric fasm out) = []
 failures (Features fabric bit out) = []
+failures (Simulate verilog bit state stimulus trace) = []
 
 -- why it ends with a fault
 abbrev pub HasJobCause : Job → (told : Option Map) → (reads_rose writes_rose : Type 0) → Fault → Type 0
@@ -83,6 +89,8 @@ HasJobCause (Mapping fabric blif pcf seed rounds out) told reads_rose writes_ros
 HasJobCause (Flow fabric blif pcf seed rounds base) told reads_rose writes_rose fault = HasFlowCause told (flow_files fabric blif pcf base) rounds reads_rose writes_rose fault
 HasJobCause (Bits fabric fasm out) told reads_rose writes_rose fault = HasBitsCause told (bits_files fabric fasm out) reads_rose writes_rose fault
 HasJobCause (Features fabric bit out) told reads_rose writes_rose fault = HasFeaturesCause told (features_files fabric bit out) reads_rose writes_rose fault
+HasJobCause (Simulate verilog bit state stimulus trace) told reads_rose writes_rose fault =
+    HasSimulateCause told (simulation_files verilog bit state stimulus trace) reads_rose writes_rose fault
 
 -- ---- one call of the program
 

@@ -2,15 +2,15 @@
 
 ghost use Rattle.std.specs.Prelude.{◌≡◌, ◌<◌, ◌⊎◌, map, string_bytes, None, IfErr, OnOk, Err};
 ghost use Rattle.fab_base.specs.declared.fault.Fault.TheVariants as faults;
-ghost use Rattle.fab_commands.specs.Words.{job_of};
+ghost use Rattle.fab_words.specs.Words.{job_of};
 ghost use Rattle.fab_commands.specs.Running.{DoesJob, JobLeaves, JobHasCause, IsReported, IsAnswered};
 
-use crate::job::Job;
-use crate::words::parse;
 use fab_base::{Fault, Memory, Status};
 use fab_desk::{Desk, Sink, SinkFault};
 use fab_flow::{do_assemble, do_bits, do_features, do_flow, do_generate, do_map, do_matrix};
 use fab_progress::Progress;
+use fab_simulate::do_simulate;
+use fab_words::{Job, parse};
 use std::alloc::Global;
 
 /// Does what the words ask for.
@@ -61,6 +61,9 @@ fn perform<D: Desk, P: Progress>(
         ),
         Job::Bits(fabric, fasm, out) => do_bits(alloc, desk, progress, &fabric, &fasm, &out),
         Job::Features(fabric, bit, out) => do_features(alloc, desk, progress, &fabric, &bit, &out),
+        Job::Simulate(verilog, bit, state, stimulus, trace) => do_simulate(
+            alloc, desk, progress, &verilog, &bit, &state, &stimulus, &trace,
+        ),
     }
 }
 

@@ -1,7 +1,7 @@
 use Rattle.std.proofs.Common.{◌<◌, ◌∙◌, ℕ, List, ap, sym, subst, Option, Some}
 use Rattle.std.proofs.Common.{OnOk, IfErr}
-use Rattle.fab_commands.specs.declared.job.Job.{Job}
-use Rattle.fab_commands.specs.declared.job.Job.TheVariants.{Assemble, Map, Flow}
+use Rattle.fab_words.specs.declared.job.Job.{Job}
+use Rattle.fab_words.specs.declared.job.Job.TheVariants.{Assemble, Map, Flow}
 use Rattle.fab_commands.specs.Running.{DoesJob, JobLeaves, JobHasCause}
 use Rattle.fab_commands.proofs.running.perform.Goals as goal
 
@@ -102,3 +102,13 @@ returns-in-Flow-clause-cause g c =
     let P : Option Job → Type 0 = λ job. IfErr c.do_flow.result (JobHasCause job (g.D.Desk.told c.args.desk.now) (g.D.Desk.reads c.args.desk.now < g.D.Desk.reads c.do_flow.new.desk) (g.D.Desk.writes c.args.desk.now < g.D.Desk.writes c.do_flow.new.desk)) in
     subst P (sym (c.in_ok-list.ensures.job ∙ ap (λ (job : Job). Some job) c.in-Flow.is))
     (subst (λ (pcf : Option (List ℕ)). P (Some (Flow c.in-Flow.fabric c.in-Flow.blif pcf c.in-Flow.seed c.in-Flow.rounds c.in-Flow.base))) c.as_ref-in-Flow.ensures.value c.do_flow.ensures.cause)
+
+pub returns-in-Simulate-clause-done : goal.returns-in-Simulate-clause-done
+returns-in-Simulate-clause-done g c =
+    subst (λ (job : Option Job). OnOk c.do_simulate.result (DoesJob job (g.D.Desk.told c.args.desk.now) (g.D.Desk.told c.do_simulate.new.desk)))
+    (sym (c.in_ok-list.ensures.job ∙ ap (λ (job : Job). Some job) c.in-Simulate.is)) c.do_simulate.ensures.done
+
+pub returns-in-Simulate-clause-leaves : goal.returns-in-Simulate-clause-leaves
+returns-in-Simulate-clause-leaves g c =
+    subst (λ (job : Option Job). IfErr c.do_simulate.result (JobLeaves job (g.D.Desk.told c.args.desk.now) (g.D.Desk.told c.do_simulate.new.desk)))
+    (sym (c.in_ok-list.ensures.job ∙ ap (λ (job : Job). Some job) c.in-Simulate.is)) c.do_simulate.ensures.leaves

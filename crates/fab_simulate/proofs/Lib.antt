@@ -1,0 +1,10 @@
+pub mod Placed
+pub mod Clocks
+pub mod Standings
+pub mod Goings
+pub mod Stimulated
+pub mod Behind
+pub mod Traced
+pub mod SpellingOnce
+pub mod StandingOnce
+pub mod SimulatedOnce

@@ -1,0 +1,9 @@
+//! The command `simulate`: what a Verilog text shows where a bitstream is loaded, cycle by cycle.
+#![tactic(auto)]
+
+mod device;
+mod running;
+mod simulating;
+mod standing;
+
+pub use simulating::do_simulate;

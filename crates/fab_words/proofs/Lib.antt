@@ -1,0 +1,11 @@
+pub mod Decimals
+pub mod Jobs
+pub mod Lexing
+pub mod OptionWords
+pub mod Parsed
+pub mod Rules
+pub mod Steps
+pub mod Taken
+pub mod Told
+pub mod Values
+pub mod Walks

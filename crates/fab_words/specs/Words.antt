@@ -1,0 +1,88 @@
+-- The job that the words of a command line spell.
+use Rattle.std.specs.Prelude.{ℕ, ◌≤◌, List, [], ◌∷◌, codes, Option, Some, None, option_and_then, if◌then◌else◌}
+use Rattle.std.specs.Option.{ForSome}
+use Rattle.std.specs.Str.{IsUtf8}
+use Rattle.fab_lines.specs.Names.{is_name}
+use Rattle.fab_paths.specs.Paths.{stem}
+use Rattle.fab_words.specs.Arguments.{value_of}
+use Rattle.fab_words.specs.Forms.{form_of, synopsis, values_in}
+use Rattle.fab_words.specs.Numbers.{seed_of, rounds_of}
+use Rattle.fab_words.specs.declared.forms.Form.{Form}
+use Rattle.fab_words.specs.declared.forms.Form.TheVariants as form
+use Rattle.fab_words.specs.declared.job.Job.{Job}
+use Rattle.fab_words.specs.declared.job.Job.TheVariants.{Matrix, Generate, Assemble, Map, Flow, Bits, Features, Simulate}
+
+-- ---- the job of each form
+
+-- the stem of LIST is a name
+abbrev pub matrix_job : (list out : Option (List ℕ)) → Option Job
+matrix_job (Some list) (Some out) = if is_name (stem list) then Some (Matrix list out) else None
+matrix_job list out = None
+
+abbrev pub generate_job : (fabric out : Option (List ℕ)) → Option Job
+generate_job (Some fabric) (Some out) = Some (Generate fabric out)
+generate_job fabric out = None
+
+abbrev pub assemble_job : (fabric blif implementation base pcf : Option (List ℕ)) → Option Job
+assemble_job (Some fabric) (Some blif) (Some implementation) (Some base) pcf = Some (Assemble fabric blif pcf implementation base)
+assemble_job fabric blif implementation base pcf = None
+
+-- the numbers are given where the options write such numbers
+abbrev pub map_job : (fabric blif out pcf : Option (List ℕ)) (seed rounds : Option ℕ) → Option Job
+map_job (Some fabric) (Some blif) (Some out) pcf (Some seed) (Some rounds) = Some (Map fabric blif pcf seed rounds out)
+map_job fabric blif out pcf seed rounds = None
+
+abbrev pub flow_job : (fabric blif base pcf : Option (List ℕ)) (seed rounds : Option ℕ) → Option Job
+flow_job (Some fabric) (Some blif) (Some base) pcf (Some seed) (Some rounds) = Some (Flow fabric blif pcf seed rounds base)
+flow_job fabric blif base pcf seed rounds = None
+
+abbrev pub bits_job : (fabric fasm out : Option (List ℕ)) → Option Job
+bits_job (Some fabric) (Some fasm) (Some out) = Some (Bits fabric fasm out)
+bits_job fabric fasm out = None
+
+abbrev pub features_job : (fabric bit out : Option (List ℕ)) → Option Job
+features_job (Some fabric) (Some bit) (Some out) = Some (Features fabric bit out)
+features_job fabric bit out = None
+
+abbrev pub simulate_job : (verilog bit state stimulus trace : Option (List ℕ)) → Option Job
+simulate_job (Some verilog) (Some bit) (Some state) (Some stimulus) (Some trace) = Some (Simulate verilog bit state stimulus trace)
+simulate_job verilog bit state stimulus trace = None
+
+-- the job of a form whose names have these values
+abbrev pub job_of_form : Form → (value : List ℕ → Option (List ℕ)) → Option Job
+job_of_form form.Matrix value = matrix_job (value (codes "LIST")) (value (codes "OUT"))
+job_of_form form.Generate value = generate_job (value (codes "FABRIC")) (value (codes "OUT"))
+job_of_form form.Assemble value = assemble_job (value (codes "FABRIC")) (value (codes "BLIF")) (value (codes "IMPL")) (value (codes "BASE"))
+    (value (codes "pcf"))
+job_of_form form.Map value =
+    map_job (value (codes "FABRIC")) (value (codes "BLIF")) (value (codes "OUT")) (value (codes "pcf")) (seed_of (value (codes "seed")))
+    (rounds_of (value (codes "rounds")))
+job_of_form form.Flow value =
+    flow_job (value (codes "FABRIC")) (value (codes "BLIF")) (value (codes "BASE")) (value (codes "pcf")) (seed_of (value (codes "seed")))
+    (rounds_of (value (codes "rounds")))
+job_of_form form.Bits value = bits_job (value (codes "FABRIC")) (value (codes "FASM")) (value (codes "OUT"))
+job_of_form form.Features value = features_job (value (codes "FABRIC")) (value (codes "BIT")) (value (codes "OUT"))
+job_of_form form.Simulate value =
+    simulate_job (value (codes "VERILOG")) (value (codes "BIT")) (value (codes "STATE")) (value (codes "STIM")) (value (codes "TRACE"))
+
+-- ---- the words
+
+-- the job of a form with the words of a line
+abbrev pub job_in : (words : List (List ℕ)) → Form → Option Job
+job_in words known = option_and_then (λ values. job_of_form known (λ name. value_of name values)) (values_in (synopsis known) words)
+
+-- The job that words spell, the first of which is the command; words that spell none are no form.
+abbrev pub job_of : List (List ℕ) → Option Job
+job_of [] = None
+job_of (command ∷ words) = option_and_then (job_in (command ∷ words)) (form_of command)
+
+-- what is needed of a job: its file names are text, and rounds are from 1 to 64
+abbrev pub IsText : Job → Type 0
+IsText (Matrix list out) = IsUtf8 list × IsUtf8 out
+IsText (Generate fabric out) = IsUtf8 fabric × IsUtf8 out
+IsText (Assemble fabric blif pcf implementation base) = IsUtf8 fabric × IsUtf8 blif × ForSome pcf IsUtf8 × IsUtf8 implementation × IsUtf8 base
+IsText (Map fabric blif pcf seed rounds out) = IsUtf8 fabric × IsUtf8 blif × ForSome pcf IsUtf8 × IsUtf8 out × (1 ≤ rounds) × (rounds ≤ 64)
+IsText (Flow fabric blif pcf seed rounds base) = IsUtf8 fabric × IsUtf8 blif × ForSome pcf IsUtf8 × IsUtf8 base × (1 ≤ rounds) × (rounds ≤ 64)
+IsText (Bits fabric fasm out) = IsUtf8 fabric × IsUtf8 fasm × IsUtf8 out
+IsText (Features fabric bit out) = IsUtf8 fabric × IsUtf8 bit × IsUtf8 out
+IsText (Simulate verilog bit state stimulus trace) = IsUtf8 verilog × IsUtf8 bit × IsUtf8 state × IsUtf8 stimulus × IsUtf8 trace

@@ -1,0 +1,28 @@
+//! The jobs of the command line.
+
+use fab_base::Name;
+
+/// What a command line asks for. The names stand in the order in which the work of the command takes them.
+#[derive(Debug, Drop)]
+pub enum Job {
+    /// `matrix LIST OUT`: the module of a switch list.
+    Matrix(Name, Name),
+    /// `generate FABRIC OUT`: the text of a fabric.
+    Generate(Name, Name),
+    /// `assemble FABRIC BLIF IMPL BASE` with `--pcf FILE`: fabric, netlist, constraints and implementation, and what
+    /// the names of the outputs begin with.
+    Assemble(Name, Name, Option<Name>, Name, Name),
+    /// `map FABRIC BLIF OUT` with `--pcf FILE`, `--seed N` and `--rounds N`: fabric, netlist, constraints, seed, the
+    /// number of rounds, and the implementation.
+    Map(Name, Name, Option<Name>, u64, u32, Name),
+    /// `flow FABRIC BLIF BASE` with the same options: fabric, netlist, constraints, seed, the number of rounds, and what
+    /// the names of the outputs begin with.
+    Flow(Name, Name, Option<Name>, u64, u32, Name),
+    /// `bits FABRIC FASM OUT`: the bitstream of a list of features.
+    Bits(Name, Name, Name),
+    /// `features FABRIC BIT OUT`: the features that a bitstream spells.
+    Features(Name, Name, Name),
+    /// `simulate VERILOG BIT STATE STIM TRACE`: what a text shows, loaded with a bitstream, in the state of its flip-flops and
+    /// with a stimulus, as a trace.
+    Simulate(Name, Name, Name, Name, Name),
+}
