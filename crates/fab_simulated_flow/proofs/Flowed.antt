@@ -1,0 +1,145 @@
+-- What is simulated of the files of a flow.
+use Rattle.std.proofs.Common.{◌≡◌, ℕ, Bool, List, [], ◌∷◌, ◌++◌, map, codes, Some, sym, ap, ◌∙◌, subst}
+use Rattle.std.specs.List.{flat_map}
+use Rattle.fab_bits.specs.Bits.{digits}
+use Rattle.fab_desk.specs.Files.{Map}
+use Rattle.fab_syntax.specs.Plain.{PlainModule}
+use Rattle.fab_syntax.specs.Spelling.{text_bytes}
+use Rattle.fab_grammar.specs.Grammar.{SpellsText}
+use Rattle.fab_grammar.proofs.Once.{text_once}
+use Rattle.fab_fabric.specs.Fabric.{AreTiles, IsFabric}
+use Rattle.fab_netlist.specs.Cycles.{HasNoCycle}
+use Rattle.fab_netlist.specs.Packing.{packed}
+use Rattle.fab_netlist.specs.Plain.{PlainNetlist}
+use Rattle.fab_netlist.specs.WellMade.{IsWellMade}
+use Rattle.fab_model.specs.Grid.{PlainFabric}
+use Rattle.fab_implementation.specs.Plain.{PlainImplementation}
+use Rattle.fab_frames.specs.Bytes.{word_bytes}
+use Rattle.fab_frames.specs.Stream.{stream}
+use Rattle.fab_texts.specs.Rows.{Word, rows_of, words_of}
+use Rattle.fab_texts.proofs.PrintedRows.{rows_again}
+use Rattle.fab_state.specs.Plain.{PlainState}
+use Rattle.fab_state.specs.Spelled.{HasSpelling, Says, Spells, state_lines, state_text}
+use Rattle.fab_state.proofs.Printed.{state_rows}
+use Rattle.fab_state.proofs.ReadBack.{spelled_is_read}
+use Rattle.fab_ternary.specs.Terns.{plain_tern}
+use Rattle.fab_stimulus.specs.Stimuli.{ports_of}
+use Rattle.fab_stimulus.specs.Spelled as stimuli
+use Rattle.fab_stimulus.specs.Traces.{trace_text}
+use Rattle.fab_impl.specs.Spelled.{implementation_text}
+use Rattle.fab_use.specs.Registers.{design_state}
+use Rattle.fab_features.specs.Design.{design_features}
+use Rattle.fab_text_reads.specs.Laws.{GeneratedTextsAreRead}
+use Rattle.fab_simulation.specs.Simulation.{Simulates}
+use Rattle.fab_simulated_designs.specs.Designs.{ShowsNetlist}
+use Rattle.fab_simulated_designs.specs.Laws.{LegalDesignsSimulate}
+use Rattle.fab_flow.specs.Storing.{PlainOutput, output, with_outputs}
+use Rattle.fab_flow.specs.Generating.{generated_text}
+use Rattle.fab_flow.specs.Flowing.{FlowFiles, MakesFlow, flow_outputs}
+use Rattle.fab_simulate.specs.Simulating.{MakesTrace, simulation_files}
+use Rattle.fab_simulated_flow.specs.Laws.{TracesNetlist}
+use Rattle.fab_simulated_flow.proofs.Digits.{same_digits}
+use Rattle.fab_simulated_flow.proofs.Shown.{input_names, output_names, shown_values}
+use Rattle.fab_simulated_flow.proofs.Stored as stored_files
+
+-- a printed state says itself alone
+state_again : (bytes : List ℕ) (printed said : PlainState) → HasSpelling printed → bytes ≡ state_text printed → Says (rows_of bytes) said → said ≡ printed
+state_again bytes printed said has is says =
+    let spells : Spells (rows_of bytes) printed = record {
+      lines = ap (λ (b : List ℕ). words_of (rows_of b)) is ∙ rows_again (state_lines printed) (state_rows printed has);
+      fresh = has.fresh;
+    } in
+    says.1 ∙ sym (spelled_is_read (rows_of bytes) printed spells).1
+
+module _ (read_again : GeneratedTextsAreRead) (simulate : LegalDesignsSimulate) (files : Map) (names : FlowFiles) (allowed : ℕ) (stored : List PlainOutput)
+    (flow : MakesFlow files names allowed stored) (is_fabric : IsFabric flow.design.fabric) (are_tiles : AreTiles flow.design.fabric)
+    (well_made : IsWellMade flow.design.netlist)
+    (has : HasSpelling (design_state (packed flow.design.netlist) flow.made.implementation)) (stimulus trace : List ℕ) (outputs : List PlainOutput)
+    (made : MakesTrace (with_outputs stored files)
+    (simulation_files (names.base ++ codes ".v") (names.base ++ codes ".bit") (names.base ++ codes ".state") stimulus trace) outputs) where
+  abbrev fabric : PlainFabric
+  fabric = flow.design.fabric
+
+  abbrev netlist : PlainNetlist
+  netlist = flow.design.netlist
+
+  abbrev implementation : PlainImplementation
+  implementation = flow.made.implementation
+
+  abbrev state : PlainState
+  state = design_state (packed netlist) implementation
+
+  abbrev words : List ℕ
+  words = stream fabric flow.made.assembly.bits
+
+  abbrev after : Map
+  after =
+      stored_files.after files names.base (text_bytes (generated_text fabric)) (implementation_text fabric implementation)
+      (design_features fabric (packed netlist) implementation) words state
+
+  after_is : with_outputs stored files ≡ after
+  after_is =
+      ap (λ (list : List PlainOutput). with_outputs list files)
+      (flow.made.outputs_are
+      ∙ ap (flow_outputs names.base (text_bytes (generated_text fabric)) (implementation_text fabric implementation)) flow.made.assembly.outputs_are)
+
+  stands : (name bytes : List ℕ) → after name ≡ Some bytes → with_outputs stored files name ≡ Some bytes
+  stands name bytes there = ap (λ (m : Map). m name) after_is ∙ there
+
+  no_cycle : HasNoCycle netlist
+  no_cycle = subst HasNoCycle (sym flow.spelled.netlist.spelled.1) flow.spelled.netlist.spelled.0.acyclic
+
+  text_is : made.text ≡ generated_text fabric
+  text_is =
+      let bytes_are = stored_files.found_is (with_outputs stored files) (names.base ++ codes ".v") made.device.bytes (text_bytes (generated_text fabric))
+      (stands _ _ (stored_files.text_stands files names.base _ _ _ words state)) made.device.found in
+      text_once 300 128 300 128 made.device.bytes made.text (generated_text fabric) made.device.spelled.spelled
+      (subst (λ (b : List ℕ). SpellsText 300 128 b (generated_text fabric)) (sym bytes_are)
+      (read_again files names.design.fabric fabric flow.spelled.fabric is_fabric are_tiles).1)
+
+  words_are : map (digits 32) made.made.words ≡ map (digits 32) words
+  words_are =
+      let bytes_are = stored_files.found_is (with_outputs stored files) (names.base ++ codes ".bit") made.made.loaded.bytes (flat_map word_bytes words)
+      (stands _ _ (stored_files.words_stand files names.base _ _ _ words state)) made.made.loaded.found in
+      same_digits made.made.words words (sym made.made.loaded.spelled.bytes_are ∙ bytes_are)
+
+  state_is : made.made.state ≡ state
+  state_is =
+      let bytes_are = stored_files.found_is (with_outputs stored files) (names.base ++ codes ".state") made.made.stands.bytes (state_text state)
+      (stands _ _ (stored_files.state_stands files names.base _ _ _ words state)) made.made.stands.found in
+      state_again made.made.stands.bytes state made.made.state has bytes_are made.made.stands.spelled.says
+
+  simulates : Simulates (generated_text fabric) state (map (digits 32) words) made.made.lines (map (map plain_tern) made.made.traces.shown)
+  simulates =
+      let lines = made.made.lines in
+      let shown = map (map plain_tern) made.made.traces.shown in
+      subst (λ (s : PlainState). Simulates (generated_text fabric) s (map (digits 32) words) lines shown) state_is
+      (subst (λ (w : List (List Bool)). Simulates (generated_text fabric) made.made.state w lines shown) words_are
+      (subst (λ (t : List PlainModule). Simulates t made.made.state (map (digits 32) made.made.words) lines shown) text_is made.made.traces.simulates))
+
+  shows : ShowsNetlist fabric (generated_text fabric) netlist implementation flow.made.assembly.bits made.made.lines
+      (map (map plain_tern) made.made.traces.shown) simulates
+  shows =
+      simulate fabric (generated_text fabric) netlist flow.design.fixed implementation flow.made.assembly.bits is_fabric are_tiles flow.made.text
+      well_made no_cycle flow.made.legal
+      flow.made.assembly.configures made.made.lines (map (map plain_tern) made.made.traces.shown) simulates
+
+  pub traces_netlist : TracesNetlist (with_outputs stored files) stimulus trace netlist outputs
+  traces_netlist =
+      let ins_are : ports_of made.made.state.ins ≡ (packed netlist).inputs =
+      ap (λ (s : PlainState). ports_of s.ins) state_is ∙ input_names implementation.ins (packed netlist).inputs in
+      let outs_are : ports_of made.made.state.outs ≡ map (λ port. port.0) (packed netlist).outputs =
+      ap (λ (s : PlainState). ports_of s.outs) state_is ∙ output_names implementation.outs (packed netlist).outputs in
+      let values = shown_values netlist made.made.traces.shown shows.nows shows.shows in
+      let given = made.made.given in
+      record {
+        lines = made.made.lines;
+        given = record {
+          bytes = given.bytes;
+          found = given.found;
+          spelled = subst (λ (ports : List Word). stimuli.Says ports (rows_of given.bytes) made.made.lines) ins_are given.spelled.says;
+        };
+        nows = shows.nows;
+        run = shows.run;
+        outputs_are = made.outputs_are ∙ ap (λ (b : List ℕ). output trace b ∷ []) (made.made.traces.bytes_are ∙ (λ j. trace_text (outs_are j) (values j)));
+      }

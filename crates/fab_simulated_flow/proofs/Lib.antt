@@ -1,0 +1,4 @@
+pub mod Stored
+pub mod Digits
+pub mod Shown
+pub mod Flowed

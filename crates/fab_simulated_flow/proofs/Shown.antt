@@ -1,0 +1,60 @@
+-- Values that are known, as ternary bits and as plain ones; and the names of ports in the state of a design.
+use Rattle.std.proofs.Common.{◌≡◌, ℕ, Bool, true, false, List, [], ◌∷◌, map, refl, sym, ap, ◌∙◌}
+use Rattle.fab_systems.specs.Ternary.{known, no, yes, unknown}
+use Rattle.fab_systems.specs.Ternary.{Tern as PlainTern}
+use Rattle.fab_netlist.specs.Plain.{PlainNetlist}
+use Rattle.fab_netlist.specs.declared.net_id.NetId.{NetId}
+use Rattle.fab_implementation.specs.Plain.{Pad}
+use Rattle.fab_ternary.specs.declared.Tern.{Tern}
+use Rattle.fab_ternary.specs.declared.Tern.TheVariants as terns
+use Rattle.fab_ternary.specs.Terns.{plain_tern}
+use Rattle.fab_stimulus.specs.Stimuli.{ports_of}
+use Rattle.fab_use.specs.Registers.{bound_pad}
+use Rattle.fab_simulated_designs.specs.Designs.{shown_by}
+use Rattle.fab_simulated_flow.specs.Laws.{known_tern, port_values}
+
+-- the bit that a plain one is
+abbrev back : PlainTern → Tern
+back no = terns.No
+back yes = terns.Yes
+back unknown = terns.Open
+
+back_again : (t : Tern) → back (plain_tern t) ≡ t
+back_again terns.No = refl
+back_again terns.Yes = refl
+back_again terns.Open = refl
+
+line_again : (line : List Tern) → map back (map plain_tern line) ≡ line
+line_again [] = refl
+line_again (t ∷ line) = let here = back_again t in let rest = line_again line in λ j. here j ∷ rest j
+
+lines_again : (lines : List (List Tern)) → map (map back) (map (map plain_tern) lines) ≡ lines
+lines_again [] = refl
+lines_again (line ∷ lines) = let here = line_again line in let rest = lines_again lines in λ j. here j ∷ rest j
+
+known_back : (b : Bool) → back (known b) ≡ known_tern b
+known_back false = refl
+known_back true = refl
+
+values_back : (nets : ℕ → Bool) (outputs : List ℕ) → map back (map (λ net. known (nets net)) outputs) ≡ map (λ net. known_tern (nets net)) outputs
+values_back nets [] = refl
+values_back nets (net ∷ outputs) = let here = known_back (nets net) in let rest = values_back nets outputs in λ j. here j ∷ rest j
+
+shown_back : (netlist : PlainNetlist) (nows : List (ℕ → Bool)) → map (map back) (map (shown_by netlist) nows) ≡ map (port_values netlist) nows
+shown_back netlist [] = refl
+shown_back netlist (now ∷ nows) = let here = values_back now netlist.outputs in let rest = shown_back netlist nows in λ j. here j ∷ rest j
+
+-- what shows the values of a netlist has them
+pub shown_values : (netlist : PlainNetlist) (shown : List (List Tern)) (nows : List (ℕ → Bool)) → map (map plain_tern) shown ≡ map (shown_by netlist) nows →
+    shown ≡ map (port_values netlist) nows
+shown_values netlist shown nows same = sym (lines_again shown) ∙ ap (map (map back)) same ∙ shown_back netlist nows
+
+-- ---- ports
+
+pub input_names : (lines : List Pad) (ports : List (List ℕ)) → ports_of (map (bound_pad lines) ports) ≡ ports
+input_names lines [] = refl
+input_names lines (port ∷ ports) = ap (λ (names : List (List ℕ)). port ∷ names) (input_names lines ports)
+
+pub output_names : (lines : List Pad) (ports : List (List ℕ × NetId)) → ports_of (map (λ port. bound_pad lines port.0) ports) ≡ map (λ port. port.0) ports
+output_names lines [] = refl
+output_names lines (port ∷ ports) = ap (λ (names : List (List ℕ)). port.0 ∷ names) (output_names lines ports)
