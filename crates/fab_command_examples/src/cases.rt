@@ -7,6 +7,12 @@
 //! - `-` names of files that are not to stand there afterwards;
 //! - `^` a file on the desk that is too long;
 //! - `!` a call of the desk that fails, and `$` one of the sink;
+//! - `*` names of files that are fetched, and `+` names of files that are stored, in the order of these calls of the desk. The words are
+//!   run again for each of these calls, which fails: the status is 11 or 12, the report has the name, and of the outputs of the case exactly
+//!   those stand that were stored before. And again where the sink fails too, and nothing is reported;
+//! - `/` a bitstream and `|` an implementation on the desk. The words are run again on each front of it that is shorter. It is malformed, a
+//!   bitstream at the word that is cut or missing, an implementation at its last line, and no output of the case stands. But an
+//!   implementation that lacks its last line feed alone is as good as the whole;
 //! - `=` the status, and behind it the line of the report.
 //!
 //! Behind the lines stand files of the case's own: each begins with `@`, one of the signs `<`, `>`, `~`, `[` and `]`, and its name. The report
@@ -41,6 +47,37 @@ pub struct Expected {
     pub bytes: Vec<u8>,
 }
 
+/// What is asked of the desk.
+#[derive(Clone, Copy, Debug)]
+pub enum Request {
+    Fetch,
+    Store,
+}
+
+/// A call of the desk.
+#[derive(Debug, Drop)]
+pub struct Call {
+    /// The name of the file.
+    pub name: String,
+    pub request: Request,
+}
+
+/// What a file is made of.
+#[derive(Clone, Copy, Debug)]
+pub enum Unit {
+    /// Words of a bitstream.
+    Words,
+    /// Lines of an implementation.
+    Lines,
+}
+
+/// A file on the desk that is cut at each of its bytes.
+#[derive(Debug, Drop)]
+pub struct Cut {
+    pub name: String,
+    pub unit: Unit,
+}
+
 /// A case.
 #[derive(Debug, Drop)]
 pub struct Case {
@@ -56,6 +93,9 @@ pub struct Case {
     pub expected: Vec<Expected>,
     /// The names of files that are not to stand on the desk afterwards.
     pub absent: Vec<String>,
+    /// The calls of the desk, in their order, each of which fails in turn.
+    pub calls: Vec<Call>,
+    pub cuts: Vec<Cut>,
 }
 
 fn text_of(alloc: Global, bytes: &[u8]) -> Result<String, Stop> {
@@ -78,7 +118,8 @@ fn form_of(sign: u8) -> Result<Form, Stop> {
 }
 
 impl Case {
-    fn new(alloc: Global) -> Case {
+    /// A case without words and files, whose status is 0.
+    pub fn new(alloc: Global) -> Case {
         Case {
             lines: Vec::new(alloc),
             files: Vec::new(alloc),
@@ -87,11 +128,13 @@ impl Case {
             status: 0,
             expected: Vec::new(alloc),
             absent: Vec::new(alloc),
+            calls: Vec::new(alloc),
+            cuts: Vec::new(alloc),
         }
     }
 
     /// Takes bytes under a name, as what the sign says.
-    fn add(&mut self, sign: u8, name: String, bytes: Vec<u8>) -> Result<(), Stop> {
+    pub fn add(&mut self, sign: u8, name: String, bytes: Vec<u8>) -> Result<(), Stop> {
         if sign == b'<' {
             self.files.push((name, bytes))?;
             return Ok(());
@@ -135,16 +178,35 @@ impl Case {
         Ok(())
     }
 
+    fn add_calls(&mut self, alloc: Global, request: Request, names: &[u8]) -> Result<(), Stop> {
+        for name in names.split(|byte| *byte == b' ') {
+            let name = text_of(alloc, name)?;
+            self.calls.push(Call { name, request })?;
+        }
+        Ok(())
+    }
+
+    fn add_cut(&mut self, alloc: Global, unit: Unit, name: &[u8]) -> Result<(), Stop> {
+        let name = text_of(alloc, name)?;
+        self.cuts.push(Cut { name, unit })?;
+        Ok(())
+    }
+
+    /// Takes a line as the whole report.
+    pub fn add_report(&mut self, alloc: Global, line: &[u8]) -> Result<(), Stop> {
+        let mut report = Vec::from_slice(alloc, line)?;
+        report.push(b'\n')?;
+        self.add(b'>', String::new(alloc), report)
+    }
+
     /// Takes the status, and the line of the report behind it.
     fn take_ending(&mut self, alloc: Global, ending: &[u8]) -> Result<(), Stop> {
         let (number, behind) = ending.split_at(place_or_end(ending, b' '));
         self.status = number_of(number)?;
-        let Some(line) = behind.get(1..) else {
-            return Ok(());
-        };
-        let mut report = Vec::from_slice(alloc, line)?;
-        report.push(b'\n')?;
-        self.add(b'>', String::new(alloc), report)
+        match behind.get(1..) {
+            None => Ok(()),
+            Some(line) => self.add_report(alloc, line),
+        }
     }
 
     fn take_line<D: Desk>(&mut self, alloc: Global, desk: &mut D, line: &[u8]) -> Result<(), Stop> {
@@ -155,6 +217,10 @@ impl Case {
             [b'$', number @ ..] => Ok(self.failing_puts.push(number_of(number)?)?),
             [b'=', ending @ ..] => self.take_ending(alloc, ending),
             [b'-', names @ ..] => self.add_absent(alloc, names),
+            [b'*', names @ ..] => self.add_calls(alloc, Request::Fetch, names),
+            [b'+', names @ ..] => self.add_calls(alloc, Request::Store, names),
+            [b'/', name @ ..] => self.add_cut(alloc, Unit::Words, name),
+            [b'|', name @ ..] => self.add_cut(alloc, Unit::Lines, name),
             [b'^', name @ ..] => {
                 let bytes = vec![in alloc; b'#'; MAX_FILE_BYTES + 1]?;
                 self.add(b'<', text_of(alloc, name)?, bytes)
@@ -190,6 +256,14 @@ impl Case {
             self.take_piece(alloc, piece)?;
         }
         Ok(())
+    }
+}
+
+impl Case {
+    /// The bytes of the first file of a name on the desk.
+    pub fn file(&self, name: &str) -> Option<&[u8]> {
+        let file = self.files.iter().find(|file| file.0.as_str() == name)?;
+        Some(file.1.as_slice())
     }
 }
 

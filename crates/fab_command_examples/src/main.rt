@@ -5,6 +5,7 @@
 
 mod cases;
 mod comparing;
+mod derived;
 mod running;
 
 use fab_desk::{FileDesk, OutSink};
@@ -23,6 +24,9 @@ fn main(rt: HostRuntime) -> Result<(), Stop> {
         "search.cases",
         "bits.cases",
         "faults.cases",
+        "cuts.cases",
+        "refused.cases",
+        "simulate.cases",
     ] {
         run_cases(alloc, &mut desk, &mut out, file)?;
     }

@@ -1,7 +1,8 @@
 //! The calls of cases.
 
-use crate::cases::{Case, case_of};
+use crate::cases::{Case, Cut, case_of};
 use crate::comparing::Ending;
+use crate::derived::copied;
 use fab_commands::run;
 use fab_desk::{Desk, MemDesk, MemSink, Sink};
 use fab_examples::{Stop, fetch};
@@ -20,17 +21,6 @@ fn words_of(alloc: Global, line: &str) -> Result<Vec<String>, Stop> {
         words.push(String::from_str(alloc, word)?)?;
     }
     Ok(words)
-}
-
-fn copied(alloc: Global, files: &[(String, Vec<u8>)]) -> Result<Vec<(String, Vec<u8>)>, Stop> {
-    let mut copies = Vec::new(alloc);
-    for file in files {
-        copies.push((
-            String::from_str(alloc, file.0.as_str())?,
-            Vec::from_slice(alloc, &file.1)?,
-        ))?;
-    }
-    Ok(copies)
 }
 
 /// How a call with these words ends.
@@ -70,13 +60,90 @@ fn ends_so<S: Sink>(alloc: Global, out: &mut S, case: &Case, line: &str) -> Resu
 }
 
 // Runs each line of words, and tells whether all end as the case has it.
-fn all_end_so<S: Sink>(alloc: Global, out: &mut S, case: &Case) -> Result<bool, Stop> {
+fn lines_end_so<S: Sink>(
+    alloc: Global,
+    out: &mut S,
+    lines: &[String],
+    case: &Case,
+) -> Result<bool, Stop> {
     let mut all = true;
-    for line in &case.lines {
+    for line in lines {
         let ends = ends_so(alloc, out, case, line.as_str())?;
         all = all && ends;
     }
     Ok(all)
+}
+
+// Lets one call fail, first alone and then with the sink.
+fn fault_ends_so<S: Sink>(
+    alloc: Global,
+    out: &mut S,
+    case: &Case,
+    place: usize,
+) -> Result<bool, Stop> {
+    let mut all = true;
+    for is_told in [true, false] {
+        let failing = case.with_fault(alloc, place, is_told)?;
+        let ends = lines_end_so(alloc, out, &case.lines, &failing)?;
+        all = all && ends;
+    }
+    Ok(all)
+}
+
+// Lets each of the calls of a case fail in turn.
+fn faults_end_so<S: Sink>(alloc: Global, out: &mut S, case: &Case) -> Result<bool, Stop> {
+    let mut all = true;
+    for place in 0..case.calls.len() {
+        let ends = fault_ends_so(alloc, out, case, place)?;
+        all = all && ends;
+    }
+    Ok(all)
+}
+
+fn front_ends_so<S: Sink>(
+    alloc: Global,
+    out: &mut S,
+    case: &Case,
+    cut: &Cut,
+    front: &[u8],
+    behind: &[u8],
+) -> Result<bool, Stop> {
+    let shorter = case.with_front(alloc, cut, front, behind)?;
+    lines_end_so(alloc, out, &case.lines, &shorter)
+}
+
+// Takes each front of a file that is shorter than the file.
+fn fronts_end_so<S: Sink>(
+    alloc: Global,
+    out: &mut S,
+    case: &Case,
+    cut: &Cut,
+) -> Result<bool, Stop> {
+    let mut all = true;
+    let bytes = case.file(cut.name.as_str()).ok_or(Stop::Data)?;
+    for length in 0..bytes.len() {
+        let (front, behind) = bytes.split_at(length);
+        let ends = front_ends_so(alloc, out, case, cut, front, behind)?;
+        all = all && ends;
+    }
+    Ok(all)
+}
+
+fn cuts_end_so<S: Sink>(alloc: Global, out: &mut S, case: &Case) -> Result<bool, Stop> {
+    let mut all = true;
+    for cut in &case.cuts {
+        let ends = fronts_end_so(alloc, out, case, cut)?;
+        all = all && ends;
+    }
+    Ok(all)
+}
+
+// Runs each line of words on the case, with each call that fails and on each front, and tells whether all end as they are to.
+fn all_end_so<S: Sink>(alloc: Global, out: &mut S, case: &Case) -> Result<bool, Stop> {
+    let lines = lines_end_so(alloc, out, &case.lines, case)?;
+    let faults = faults_end_so(alloc, out, case)?;
+    let cuts = cuts_end_so(alloc, out, case)?;
+    Ok(lines && faults && cuts)
 }
 
 fn put_case<S: Sink>(alloc: Global, out: &mut S, title: &str, case: &Case) -> Result<(), Stop> {
