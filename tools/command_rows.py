@@ -115,6 +115,10 @@ def rows(is_small=False):
         row(8, "bits duo.csv tog.fasm b", dict(duo, **fixtures("tog.fasm"))),
         row(6, "features duo.csv inv.bit f", dict(duo, **fixtures("inv.bit"))),
         row(6, "features parts.csv last.bit f", dict(parts, **{"last.bit": fixtures("inv.bit")["inv.bit"]})),
+        row(6, "simulate duo.v inv.bit inv.state inv.stim t", dict(
+            fixtures("duo.v", "inv.bit", "inv.state"), **{"inv.stim": b"a\n0\n1\n1\n"})),
+        row(4, "simulate duo.v tog.bit tog.state tog.stim t", dict(
+            fixtures("duo.v", "tog.bit", "tog.state"), **{"tog.stim": b"-\n-\n-\n"})),
     ]
     if is_small:
         return found
@@ -145,4 +149,6 @@ def refused_rows():
         row(1, "assemble duo.csv inv.blif inv.impl made", dict(inv, **{
             "inv.impl": inv["inv.impl"].replace(b"edge X0Y0/VCC0 X0Y0/B_T\n", b"")})),
         row(1, "bits duo.csv f.fasm b", dict(duo, **{"f.fasm": b"X1Y0.A.FG\n"})),
+        row(1, "simulate duo.v inv.bit f.state f.stim t", dict(
+            fixtures("duo.v", "inv.bit"), **{"f.state": b"fabulous-state 1\nff X1Y0.B 1\nend\n"})),
     ]
