@@ -13,6 +13,10 @@ pub enum Step<'a> {
     /// It routes a design: this round, counted from 1, is done, and left so many inputs of switch matrices in the trees of
     /// several nets.
     Routing { round: u32, shared: usize },
+    /// It loads the words of a bitstream into a text.
+    Loading,
+    /// It simulates a text: this cycle of all, counted from 1, is done.
+    Simulating { cycle: usize, cycles: usize },
     /// It writes a file.
     Writing(&'a Name),
 }
@@ -32,6 +36,8 @@ impl fmt::Display for Step<'_> {
             Step::Routing { round, shared } => {
                 write!(f, "routing, round {round}, {shared} shared")
             }
+            Step::Loading => write!(f, "loading"),
+            Step::Simulating { cycle, cycles } => write!(f, "cycle {cycle} of {cycles}"),
             Step::Writing(name) => write!(f, "writing {}", text_of(name)),
         }
     }
@@ -62,6 +68,14 @@ mod tests {
                     shared: 7,
                 },
                 "routing, round 1, 7 shared",
+            ),
+            (Step::Loading, "loading"),
+            (
+                Step::Simulating {
+                    cycle: 1000,
+                    cycles: 2500,
+                },
+                "cycle 1000 of 2500",
             ),
             (Step::Writing(&name), "writing a/b.csv"),
         ];
