@@ -9,8 +9,8 @@ use Rattle.fab_base.specs.declared.fault.Fault.TheVariants as faults
 use Rattle.fab_base.specs.Report.{number_of, status}
 use Rattle.fab_desk.specs.Files.{Map}
 use Rattle.fab_files.specs.Files.{refuses}
-use Rattle.fab_flow.specs.Storing.{IsDone, Leaves}
-use Rattle.fab_flow.specs.Ending.{IsRefused, HasCause, HasSearchCause}
+use Rattle.fab_outputs.specs.Storing.{IsDone, Leaves}
+use Rattle.fab_outputs.specs.Ending.{IsRefused, HasCause, HasSearchCause}
 use Rattle.fab_flow.specs.Assembling.{assembly_files}
 use Rattle.fab_flow.specs.BitFeatures.{features_files}
 use Rattle.fab_flow.specs.Bits.{bits_files}

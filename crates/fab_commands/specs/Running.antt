@@ -9,7 +9,7 @@ use Rattle.fab_base.specs.Report.{number_of, report, status}
 use Rattle.fab_desk.specs.Files.{Map}
 use Rattle.fab_files.specs.Files.{Event, refuses}
 use Rattle.fab_designs.specs.Designs.{design_files}
-use Rattle.fab_flow.specs.Storing.{PlainOutput, IsDone, Leaves}
+use Rattle.fab_outputs.specs.Storing.{PlainOutput, IsDone, Leaves}
 use Rattle.fab_flow.specs.Assembling.{assembly_files, MakesAssembly, MeetsAssembly, IsReadyToAssemble, HasAssembleCause, assemble_refusals}
 use Rattle.fab_flow.specs.BitFeatures.{features_files, MakesFeatures, MeetsBitFeatures, IsReadyForFeatures, HasFeaturesCause, features_refusals}
 use Rattle.fab_flow.specs.Bits.{bits_files, MakesBits, MeetsBits, IsReadyForBits, HasBitsCause, bits_refusals}

@@ -42,7 +42,7 @@ use Rattle.fab_read.specs.Fabrics.{SpellsFabric}
 use Rattle.fab_fabric_names.proofs.Prefixes.{ArePrefixed, prefixes_kept}
 use Rattle.fab_fabric_names.proofs.Blocks.{names_kept}
 use Rattle.fab_fabric_names.proofs.Readings.{spelled_keep}
-use Rattle.fab_flow.specs.declared.storing.Output.{Output}
+use Rattle.fab_outputs.specs.declared.storing.Output.{Output}
 use Rattle.fab_use.specs.Configuring.{Configures}
 use Rattle.fab_use.specs.Headline.{RunsDesign}
 use Rattle.fab_use.specs.Registers.{bound_pad, design_state, register_of}
@@ -50,8 +50,8 @@ use Rattle.fab_settling.specs.Settling.{SettlesDesign}
 use Rattle.fab_designs.specs.Designs.{PlainDesign, MeetsDesign, SpellsDesign}
 use Rattle.fab_designs.specs.Implementations.{MeetsImplementation, ReadsImplementation}
 use Rattle.fab_flow.specs.Assembling.{AssemblyFiles, Fits, HasAssembleCause, IsAssembly, IsReadyToAssemble, MeetsAssembly, RefusesAssembly, assemble_refusals, assembly_outputs, fault_of, illegal, packing_for, short}
-use Rattle.fab_flow.specs.Storing.{PlainOutput, Leaves, plain_output}
-use Rattle.fab_flow.proofs.Ending.{Reads, cause_of_read, leaves_of_memory}
+use Rattle.fab_outputs.specs.Storing.{PlainOutput, Leaves, plain_output}
+use Rattle.fab_outputs.proofs.Ending.{Reads, cause_of_read, leaves_of_memory}
 
 -- ---- letters
 

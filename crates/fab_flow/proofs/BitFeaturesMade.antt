@@ -21,9 +21,10 @@ use Rattle.fab_frames.specs.Refusals.{IsCut, IsRefusal}
 use Rattle.fab_frames.specs.Stream.{stream}
 use Rattle.fab_frames.proofs.ByteWords.{length_bytes}
 use Rattle.fab_features.specs.Spelled.{features_in}
-use Rattle.fab_flow.specs.BitFeatures.{AreBytesOf, FeaturesFiles, HasFeaturesCause, IsReadyForFeatures, MakesFeatures, MeetsBitFeatures, MeetsBitstream, ReadsBits, RefusesBitstream, SpellsBits, cut, features_refusals, wrong}
-use Rattle.fab_flow.specs.Storing.{PlainOutput, output}
-use Rattle.fab_flow.proofs.Ending.{Reads, cause_of_read}
+use Rattle.fab_outputs.specs.Bitstreams.{AreBytesOf}
+use Rattle.fab_flow.specs.BitFeatures.{FeaturesFiles, HasFeaturesCause, IsReadyForFeatures, MakesFeatures, MeetsBitFeatures, MeetsBitstream, ReadsBits, RefusesBitstream, SpellsBits, cut, features_refusals, wrong}
+use Rattle.fab_outputs.specs.Storing.{PlainOutput, output}
+use Rattle.fab_outputs.proofs.Ending.{Reads, cause_of_read}
 
 -- ---- the bytes of a bitstream
 

@@ -16,7 +16,8 @@ use Rattle.fab_frames.specs.Stream.{problem_at, stream}
 use Rattle.fab_frames.proofs.ByteWords.{length_bytes, bytes_tell_words, all_fit}
 use Rattle.fab_frames.proofs.Streams.{stream_fine}
 use Rattle.fab_read.specs.Fabrics.{SpellsFabric, MeetsFabric}
-use Rattle.fab_flow.specs.BitFeatures.{AreBytesOf, FeaturesFiles, IsReadyForFeatures, MeetsBitFeatures, MeetsBitstream, RefusesBitstream, SpellsBits, cut, wrong}
+use Rattle.fab_outputs.specs.Bitstreams.{AreBytesOf}
+use Rattle.fab_flow.specs.BitFeatures.{FeaturesFiles, IsReadyForFeatures, MeetsBitFeatures, MeetsBitstream, RefusesBitstream, SpellsBits, cut, wrong}
 use Rattle.fab_flow.proofs.Once.{fabric_is_judged}
 use Rattle.fab_files.specs.Stages.{ReadsFrom}
 

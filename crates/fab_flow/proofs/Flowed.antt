@@ -32,14 +32,14 @@ use Rattle.fab_fabric_names.proofs.Prefixes.{ArePrefixed, prefixes_kept}
 use Rattle.fab_fabric_names.proofs.Blocks.{names_kept}
 use Rattle.fab_fabric_names.proofs.Readings.{spelled_keep}
 use Rattle.fab_designs.specs.Designs.{PlainDesign, MeetsDesign, SpellsDesign}
-use Rattle.fab_flow.specs.declared.storing.Output.{Output}
-use Rattle.fab_flow.specs.Storing.{PlainOutput, Leaves, plain_output}
+use Rattle.fab_outputs.specs.declared.storing.Output.{Output}
+use Rattle.fab_outputs.specs.Storing.{PlainOutput, Leaves, plain_output}
 use Rattle.fab_flow.specs.Generating.{generated_text, text_length, most_text_bytes, IsTooLong}
 use Rattle.fab_flow.specs.Assembling.{Fits, IsAssembly, RefusesAssembly, short as short_of_sites, illegal}
 use Rattle.fab_flow.specs.Mapping.{EndsUnmapped, memory, refused, failed}
 use Rattle.fab_flow.specs.Flowing.{FlowFiles, EndsFlow, FailsToFlow, HasFlowCause, IsFlow, IsReadyToFlow, MeetsFlow, RefusesFlow, flow_outputs, flow_refusals, long, short, no_memory, not_taken, not_mapped}
 use Rattle.fab_flow.proofs.Assembled.{is_short}
-use Rattle.fab_flow.proofs.Ending.{Reads, cause_of_read, searched}
+use Rattle.fab_outputs.proofs.Ending.{Reads, cause_of_read, searched}
 
 -- ---- what is made
 

@@ -18,9 +18,9 @@ use Rattle.fab_text_loads.specs.Texts.{IsFabricText}
 use Rattle.fab_read.specs.Fabrics.{SpellsFabric}
 use Rattle.fab_fabric_names.proofs.Blocks.{names_kept}
 use Rattle.fab_fabric_names.proofs.Readings.{spelled_keep}
-use Rattle.fab_flow.specs.Storing.{PlainOutput, output, Leaves}
+use Rattle.fab_outputs.specs.Storing.{PlainOutput, output, Leaves}
 use Rattle.fab_flow.specs.Generating.{generated_text, text_length, most_text_bytes, IsTooLong, MakesFabric, HasGenerateCause}
-use Rattle.fab_flow.proofs.Ending.{leaves_of_memory}
+use Rattle.fab_outputs.proofs.Ending.{leaves_of_memory}
 
 pub fabric_made : (files : Map) (name out text : List ℕ) (fabric : PlainFabric) (outputs : List PlainOutput) → SpellsFabric files name fabric → text ≡ text_bytes (generated_text fabric)
     → (All IsNamed fabric.types → IsFabricText fabric (generated_text fabric)) → ShowsDrives fabric (generated_text fabric) → (All IsNamed fabric.types → LoadsConfigurations fabric (generated_text fabric))

@@ -1,5 +1,3 @@
-pub mod OneByOne
-pub mod Ending
 pub mod Once
 pub mod Lengths
 pub mod Spelled

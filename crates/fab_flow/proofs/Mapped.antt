@@ -29,9 +29,9 @@ use Rattle.fab_designs.proofs.DataPorts.{data_ports_are_ports}
 use Rattle.fab_map.specs.Causes.{HasMapCause}
 use Rattle.fab_flow.specs.Assembling.{Fits, packing_for}
 use Rattle.fab_flow.specs.Mapping.{MappingFiles, EndsUnmapped, FailsToMap, HasMappingCause, IsReadyToMap, MeetsMapping, RefusesMapping, map_refusals, memory, refused, failed}
-use Rattle.fab_flow.specs.Storing.{PlainOutput, IsStopped, Leaves}
+use Rattle.fab_outputs.specs.Storing.{PlainOutput, IsStopped, Leaves}
 use Rattle.fab_flow.proofs.Assembled.{is_short}
-use Rattle.fab_flow.proofs.Ending.{Reads, cause_of_read, cause_of_store, searched}
+use Rattle.fab_outputs.proofs.Ending.{Reads, cause_of_read, cause_of_store, searched}
 
 -- ---- what mapping asks for
 

@@ -11,7 +11,7 @@ use Rattle.fab_matrix.specs.Selects.{Selects}
 use Rattle.fab_syntax.specs.Plain.{PlainModule}
 use Rattle.fab_syntax.specs.Spelling.{text_bytes}
 use Rattle.fab_tables.specs.Lists.{Pair}
-use Rattle.fab_flow.specs.Storing.{PlainOutput, output}
+use Rattle.fab_outputs.specs.Storing.{PlainOutput, output}
 use Rattle.fab_flow.specs.Matrix.{module_name, IsModuleOf, MakesMatrix}
 
 not_config : (name : List ℕ) → is_wire_name name ≡ true → name ≢ config_name

@@ -34,8 +34,8 @@ use Rattle.fab_features.specs.Design.{design_features}
 use Rattle.fab_features.specs.Features.{IsBitMapOf}
 use Rattle.fab_designs.specs.Designs.{DesignFiles, PlainDesign, design_files, SpellsDesign, MeetsDesign}
 use Rattle.fab_designs.specs.Implementations.{ReadsImplementation, MeetsImplementation}
-use Rattle.fab_flow.specs.Storing.{PlainOutput, output}
-use Rattle.fab_flow.specs.Ending.{HasCause}
+use Rattle.fab_outputs.specs.Storing.{PlainOutput, output}
+use Rattle.fab_outputs.specs.Ending.{HasCause}
 
 -- the names of the files of a design and of its implementation, and what the names of the outputs begin with
 pub record AssemblyFiles : Type 0 where

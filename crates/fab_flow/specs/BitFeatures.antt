@@ -1,6 +1,5 @@
 -- What the command `features` does to the files, and why it ends otherwise.
-use Rattle.std.specs.Prelude.{◌≡◌, ◌<◌, ◌^◌, ℕ, Bool, List, [], ◌∷◌, All, Option}
-use Rattle.std.specs.List.{flat_map}
+use Rattle.std.specs.Prelude.{◌≡◌, ℕ, Bool, List, [], ◌∷◌, Option}
 use Rattle.fab_base.specs.declared.fault.Fault.{Fault}
 use Rattle.fab_desk.specs.Files.{Map}
 use Rattle.fab_files.specs.Files.{Event}
@@ -8,13 +7,13 @@ use Rattle.fab_files.specs.Stages.{ReadsFrom, MeetsIn, MeetsBehind}
 use Rattle.fab_model.specs.Grid.{PlainFabric}
 use Rattle.fab_fabric.specs.Bits.{AreBitsOf, plain_bits}
 use Rattle.fab_fasm.specs.Printing.{printed}
-use Rattle.fab_frames.specs.Bytes.{word_bytes}
 use Rattle.fab_frames.specs.Refusals.{IsCut, IsRefusal}
 use Rattle.fab_frames.specs.Stream.{stream}
 use Rattle.fab_read.specs.Fabrics.{SpellsFabric, MeetsFabric}
 use Rattle.fab_features.specs.Spelled.{features_in}
-use Rattle.fab_flow.specs.Storing.{PlainOutput, output}
-use Rattle.fab_flow.specs.Ending.{HasCause}
+use Rattle.fab_outputs.specs.Bitstreams.{AreBytesOf}
+use Rattle.fab_outputs.specs.Ending.{HasCause}
+use Rattle.fab_outputs.specs.Storing.{PlainOutput, output}
 
 -- the names of the fabric file, of the bitstream file, and of the output
 pub record FeaturesFiles : Type 0 where
@@ -26,11 +25,6 @@ abbrev pub features_files : (fabric bit out : List ℕ) → FeaturesFiles
 features_files fabric bit out = record { fabric = fabric; bit = bit; out = out }
 
 -- ---- a bitstream file
-
--- the words have 32 bits, and the bytes are theirs, the most significant byte of each first
-pub record AreBytesOf (words bytes : List ℕ) : Type 0 where
-  pub fit : All (λ word. word < 2 ^ 32) words
-  pub bytes_are : bytes ≡ flat_map word_bytes words
 
 -- The bytes are those of the bitstream of these configuration bits of the fabric.
 pub record SpellsBits (fabric : PlainFabric) (bytes : List ℕ) (bits : List (List (List Bool))) : Type 0 where

@@ -19,8 +19,8 @@ use Rattle.fab_frames.specs.Stream.{stream}
 use Rattle.fab_read.specs.Fabrics.{SpellsFabric, MeetsFabric}
 use Rattle.fab_features.specs.Features.{IsBitMapOf}
 use Rattle.fab_features.specs.Wrong.{IsRightFeature, BreaksFirst}
-use Rattle.fab_flow.specs.Storing.{PlainOutput, output}
-use Rattle.fab_flow.specs.Ending.{HasCause}
+use Rattle.fab_outputs.specs.Storing.{PlainOutput, output}
+use Rattle.fab_outputs.specs.Ending.{HasCause}
 
 -- the names of the fabric file, of the FASM file, and of the output
 pub record BitsFiles : Type 0 where

@@ -23,8 +23,8 @@ use Rattle.fab_settling.specs.Settling.{SettlesDesign}
 use Rattle.fab_impl.specs.Spelled.{implementation_text}
 use Rattle.fab_map.specs.Causes.{HasMapCause}
 use Rattle.fab_designs.specs.Designs.{DesignFiles, PlainDesign, design_files, SpellsDesign, MeetsDesign}
-use Rattle.fab_flow.specs.Storing.{PlainOutput, output}
-use Rattle.fab_flow.specs.Ending.{HasSearchCause}
+use Rattle.fab_outputs.specs.Storing.{PlainOutput, output}
+use Rattle.fab_outputs.specs.Ending.{HasSearchCause}
 use Rattle.fab_flow.specs.Generating.{generated_text, text_length, most_text_bytes, IsTooLong}
 use Rattle.fab_flow.specs.Assembling.{Fits, IsAssembly, packing_for}
 

@@ -20,8 +20,8 @@ use Rattle.fab_fabric_text.specs.Text.{used_kinds, standing_types, tile_modules,
 use Rattle.fab_drives.specs.Drives.{ShowsDrives}
 use Rattle.fab_text_loads.specs.Loads.{LoadsConfigurations}
 use Rattle.fab_text_loads.specs.Texts.{IsFabricText}
-use Rattle.fab_flow.specs.Storing.{PlainOutput, output}
-use Rattle.fab_flow.specs.Ending.{HasCause}
+use Rattle.fab_outputs.specs.Storing.{PlainOutput, output}
+use Rattle.fab_outputs.specs.Ending.{HasCause}
 
 -- ---- the text of a fabric
 

@@ -1,5 +1,3 @@
-pub mod Storing
-pub mod Ending
 pub mod Generating
 pub mod Matrix
 pub mod Assembling

@@ -13,8 +13,8 @@ use Rattle.fab_impl.specs.Spelled.{implementation_text}
 use Rattle.fab_map.specs.Causes.{HasMapCause}
 use Rattle.fab_designs.specs.Designs.{DesignFiles, PlainDesign, SpellsDesign, MeetsDesign}
 use Rattle.fab_flow.specs.Assembling.{Fits, packing_for}
-use Rattle.fab_flow.specs.Storing.{PlainOutput, output}
-use Rattle.fab_flow.specs.Ending.{HasSearchCause}
+use Rattle.fab_outputs.specs.Storing.{PlainOutput, output}
+use Rattle.fab_outputs.specs.Ending.{HasSearchCause}
 
 -- the names of the files of a design, and of the output
 pub record MappingFiles : Type 0 where

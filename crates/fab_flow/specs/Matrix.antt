@@ -9,8 +9,8 @@ use Rattle.fab_tables.specs.Lists.{Pair}
 use Rattle.fab_list_files.specs.Sides.{SpellsPairs, MeetsPairs}
 use Rattle.fab_matrix.specs.Matrix.{list_matrix, list_outputs}
 use Rattle.fab_matrix.specs.Selects.{Selects}
-use Rattle.fab_flow.specs.Storing.{PlainOutput, output}
-use Rattle.fab_flow.specs.Ending.{HasCause}
+use Rattle.fab_outputs.specs.Storing.{PlainOutput, output}
+use Rattle.fab_outputs.specs.Ending.{HasCause}
 
 -- ---- what is done
 

@@ -12,9 +12,8 @@ ghost use Rattle.fab_frames.specs.Refusals.{IsRefusal};
 ghost use Rattle.fab_frames.specs.Stream.{stream};
 ghost use Rattle.fab_features.specs.Spelled.{features_in};
 ghost use Rattle.fab_flow.specs.BitFeatures.{HasFeaturesCause, MakesFeatures, MeetsBitstream, ReadsBits, RefusesBitstream, SpellsBits, features_files};
-ghost use Rattle.fab_flow.specs.Storing.{IsDone, Leaves};
+ghost use Rattle.fab_outputs.specs.Storing.{IsDone, Leaves};
 
-use crate::storing::{one_output, store_all};
 use fab_base::{Fault, MAX_FILE_BYTES, Memory, Name};
 use fab_desk::Desk;
 use fab_fabric::{Bits, Fabric};
@@ -22,6 +21,7 @@ use fab_fasm::print_fasm;
 use fab_features::features_of_bits;
 use fab_files::fetch;
 use fab_frames::{bits_of, to_words};
+use fab_outputs::{one_output, store_all};
 use fab_progress::{Progress, Step};
 use fab_read::read_fabric;
 use std::alloc::Global;

@@ -14,17 +14,17 @@ ghost use Rattle.fab_features.specs.Naming.{HasPrefixes};
 ghost use Rattle.fab_flow.specs.Assembling.{Fits, IsAssembly};
 ghost use Rattle.fab_flow.specs.Flowing.{EndsFlow, HasFlowCause, IsFlow, MakesFlow, flow_files, flow_outputs};
 ghost use Rattle.fab_flow.specs.Generating.{text_length, most_text_bytes};
-ghost use Rattle.fab_flow.specs.Storing.{IsDone, Leaves, PlainOutput, plain_output};
+ghost use Rattle.fab_outputs.specs.Storing.{IsDone, Leaves, PlainOutput, plain_output};
 
 use crate::assembling::assembly;
 use crate::generating::fabric_text;
 use crate::mapping::mapped_design;
-use crate::storing::{Output, put_output, store_all};
 use fab_base::{Fault, Memory, Name};
 use fab_designs::{Design, read_design};
 use fab_desk::Desk;
 use fab_impl::print_impl;
 use fab_legal::Implementation;
+use fab_outputs::{Output, put_output, store_all};
 use fab_progress::Progress;
 use std::alloc::Global;
 

@@ -13,15 +13,15 @@ ghost use Rattle.fab_drives.specs.Drives.{ShowsDrives};
 ghost use Rattle.fab_text_loads.specs.Loads.{LoadsConfigurations};
 ghost use Rattle.fab_text_loads.specs.Texts.{IsFabricText};
 ghost use Rattle.fab_flow.specs.Generating.{generated_text, text_length, most_text_bytes, IsTooLong, MakesFabric, HasGenerateCause};
-ghost use Rattle.fab_flow.specs.Storing.{IsDone, Leaves};
+ghost use Rattle.fab_outputs.specs.Storing.{IsDone, Leaves};
 
 use crate::printing::printed_module;
-use crate::storing::{one_output, store_all};
 use fab_base::{Fault, Memory, Name, Problem, Quantity};
 use fab_desk::Desk;
 use fab_fabric::Fabric;
 use fab_gen_loader::loader_module;
 use fab_gen_top::generate;
+use fab_outputs::{one_output, store_all};
 use fab_progress::{Progress, Step};
 use fab_read::read_fabric;
 use fab_syntax::print;

@@ -10,7 +10,6 @@ mod generating;
 mod mapping;
 mod matrix;
 mod printing;
-mod storing;
 
 pub use assembling::do_assemble;
 pub use bit_features::do_features;
@@ -19,4 +18,3 @@ pub use flowing::do_flow;
 pub use generating::do_generate;
 pub use mapping::do_map;
 pub use matrix::do_matrix;
-pub use storing::{Output, one_output, store_all};

@@ -12,16 +12,16 @@ ghost use Rattle.fab_impl.specs.Spelled.{InputsWithin};
 ghost use Rattle.fab_designs.specs.Designs.{design_files};
 ghost use Rattle.fab_flow.specs.Assembling.{Fits, packing_for};
 ghost use Rattle.fab_flow.specs.Mapping.{IsMapped, MakesMapping, mapping_files, HasMappingCause, EndsUnmapped};
-ghost use Rattle.fab_flow.specs.Storing.{IsDone, Leaves, plain_output};
+ghost use Rattle.fab_outputs.specs.Storing.{IsDone, Leaves, plain_output};
 
 use crate::assembling::packed_design;
-use crate::storing::{Output, one_output, store_all};
 use fab_base::{Fault, Name};
 use fab_designs::{Design, read_design};
 use fab_desk::Desk;
 use fab_impl::print_impl;
 use fab_implementation::Implementation;
 use fab_map::map_with_progress;
+use fab_outputs::{Output, one_output, store_all};
 use fab_progress::Progress;
 use std::alloc::Global;
 

@@ -4,14 +4,14 @@ ghost use Rattle.std.specs.Prelude.{◌≡◌, ◌≢◌, ◌<◌, All, IfOk, If
 ghost use Rattle.std.specs.Str.{IsUtf8};
 ghost use Rattle.fab_matrix.specs.Matrix.{config_name};
 ghost use Rattle.fab_flow.specs.Matrix.{module_name, IsModuleOf, MakesMatrix, HasMatrixCause};
-ghost use Rattle.fab_flow.specs.Storing.{IsDone, Leaves};
+ghost use Rattle.fab_outputs.specs.Storing.{IsDone, Leaves};
 
 use crate::printing::printed_module;
-use crate::storing::{one_output, store_all};
 use fab_base::{Fault, Memory, Name};
 use fab_desk::Desk;
 use fab_list_files::read_pairs;
 use fab_matrix::list_module;
+use fab_outputs::{one_output, store_all};
 use fab_paths::stem;
 use fab_progress::{Progress, Step};
 use std::alloc::Global;

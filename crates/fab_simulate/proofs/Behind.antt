@@ -5,15 +5,15 @@ use Rattle.fab_base.specs.declared.fault.Fault.TheVariants as faults
 use Rattle.fab_desk.specs.Files.{Map}
 use Rattle.fab_files.specs.Files.{Event, HasReadCause}
 use Rattle.fab_files.specs.Stages.{ReadsFrom, at_first, behind_it, of_bytes}
-use Rattle.fab_list_files.proofs.Rows.{cause_weaker}
+use Rattle.fab_outputs.proofs.Causes.{cause_weaker}
 use Rattle.fab_syntax.specs.Plain.{PlainModule}
 use Rattle.fab_syntax.specs.Sound.{IsSound}
 use Rattle.fab_grammar.specs.Grammar.{SpellsText}
 use Rattle.fab_equations.specs.Instances.{whole_count, most_points}
 use Rattle.fab_equations.specs.Equations.{IsRefused}
-use Rattle.fab_flow.specs.declared.storing.Output.{Output}
-use Rattle.fab_flow.specs.Storing.{PlainOutput, plain_output}
-use Rattle.fab_flow.proofs.Ending.{Reads, cause_of_read}
+use Rattle.fab_outputs.specs.declared.storing.Output.{Output}
+use Rattle.fab_outputs.specs.Storing.{PlainOutput, plain_output}
+use Rattle.fab_outputs.proofs.Ending.{Reads, cause_of_read}
 use Rattle.fab_state.specs.Plain.{PlainState}
 use Rattle.fab_simulate.specs.Going.{IsStimulated}
 use Rattle.fab_simulate.specs.Simulating.{HasSimulateCause, IsReadyToSimulate, IsTrace, MakesTrace, MeetsBehindDevice, MeetsDevice, MeetsSimulation, MeetsStimulus, ReadsDevice, ReadsState, ReadsWords, SimulationFiles, simulate_refusals, unfit}

@@ -25,9 +25,9 @@ use Rattle.fab_stimulus.specs.Stimuli.{ports_of, stimulus_format}
 use Rattle.fab_stimulus.specs.Spelled as stimuli
 use Rattle.fab_stimulus.specs.Traces.{trace_text}
 use Rattle.fab_simulation.specs.Simulation.{Simulates}
-use Rattle.fab_flow.specs.BitFeatures.{AreBytesOf}
-use Rattle.fab_flow.specs.Storing.{PlainOutput, output}
-use Rattle.fab_flow.specs.Ending.{HasCause}
+use Rattle.fab_outputs.specs.Bitstreams.{AreBytesOf}
+use Rattle.fab_outputs.specs.Storing.{PlainOutput, output}
+use Rattle.fab_outputs.specs.Ending.{HasCause}
 
 -- the names of the files that are read, in this order, and of the output
 pub record SimulationFiles : Type 0 where

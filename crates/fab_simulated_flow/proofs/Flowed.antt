@@ -33,7 +33,7 @@ use Rattle.fab_text_reads.specs.Laws.{GeneratedTextsAreRead}
 use Rattle.fab_simulation.specs.Simulation.{Simulates}
 use Rattle.fab_simulated_designs.specs.Designs.{ShowsNetlist}
 use Rattle.fab_simulated_designs.specs.Laws.{LegalDesignsSimulate}
-use Rattle.fab_flow.specs.Storing.{PlainOutput, output, with_outputs}
+use Rattle.fab_outputs.specs.Storing.{PlainOutput, output, with_outputs}
 use Rattle.fab_flow.specs.Generating.{generated_text}
 use Rattle.fab_flow.specs.Flowing.{FlowFiles, MakesFlow, flow_outputs}
 use Rattle.fab_simulate.specs.Simulating.{MakesTrace, simulation_files}

@@ -6,7 +6,7 @@ use Rattle.std.proofs.lemmas.Bool.{cases_Bool}
 use Rattle.fab_base.specs.declared.TheConstants.{MAX_FILE_BYTES}
 use Rattle.fab_desk.specs.Files.{Map}
 use Rattle.fab_files.specs.Files.{handed_out}
-use Rattle.fab_flow.specs.Storing.{PlainOutput, output, with_outputs}
+use Rattle.fab_outputs.specs.Storing.{PlainOutput, output, with_outputs}
 use Rattle.fab_flow.specs.Assembling.{assembly_outputs}
 use Rattle.fab_flow.specs.Flowing.{flow_outputs}
 use Rattle.fab_fasm.specs.declared.feature.Feature.{Feature}

@@ -15,7 +15,7 @@ use Rattle.fab_ternary.specs.declared.Tern.TheVariants as terns
 use Rattle.fab_stimulus.specs.Spelled.{Says}
 use Rattle.fab_stimulus.specs.Traces.{trace_text}
 use Rattle.fab_simulated_designs.specs.Designs.{initial_latches}
-use Rattle.fab_flow.specs.Storing.{PlainOutput, output, with_outputs}
+use Rattle.fab_outputs.specs.Storing.{PlainOutput, output, with_outputs}
 use Rattle.fab_flow.specs.Flowing.{FlowFiles, MakesFlow}
 use Rattle.fab_simulate.specs.Simulating.{MakesTrace, simulation_files}
 

@@ -2,10 +2,10 @@ use Rattle.std.proofs.Common.{◌<◌, ◌∙◌, All, map, arith, sym, subst}
 use Rattle.std.specs.Option.{ForSome, option_copied}
 use Rattle.std.specs.Str.{IsUtf8}
 use Rattle.std.proofs.lemmas.Result.{IfErr-weaker, on_ok_weaker, err_from_is_err_and}
-use Rattle.fab_flow.specs.declared.storing.Output.{Output}
-use Rattle.fab_flow.specs.Storing.{plain_output}
+use Rattle.fab_outputs.specs.declared.storing.Output.{Output}
+use Rattle.fab_outputs.specs.Storing.{plain_output}
 use Rattle.fab_flow.specs.Assembling.{AssemblyFiles, IsAssembly, IsReadyToAssemble, MakesAssembly, MeetsAssembly, assemble_refusals, assembly_files}
-use Rattle.fab_flow.proofs.Ending.{cause_of_store, leaves_of_store, done_of_store}
+use Rattle.fab_outputs.proofs.Ending.{cause_of_store, leaves_of_store, done_of_store}
 use Rattle.fab_flow.proofs.Assembled.{assembly_cause, assembly_leaves, design_cause, implementation_cause, made_of, read_behind}
 use Rattle.fab_flow.proofs.assembling.do_assemble.Goals as goal
 

@@ -1,7 +1,7 @@
 use Rattle.std.proofs.Common.{All, codes, refl, sym, subst}
 use Rattle.std.specs.Str.{IsUtf8}
 use Rattle.std.proofs.lemmas.List.Elements.{All-nil}
-use Rattle.fab_flow.specs.declared.storing.Output.{Output}
+use Rattle.fab_outputs.specs.declared.storing.Output.{Output}
 use Rattle.fab_flow.proofs.assembling.outputs_of.Goals as goal
 
 pub returns-clause-names : goal.returns-clause-names

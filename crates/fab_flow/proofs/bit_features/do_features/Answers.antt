@@ -1,8 +1,8 @@
 use Rattle.std.proofs.Common.{◌<◌, ◌∙◌, ap, map, arith}
 use Rattle.std.proofs.lemmas.Result.{IfErr-weaker, on_ok_weaker, err_from_is_err_and}
-use Rattle.fab_flow.specs.Storing.{plain_output}
+use Rattle.fab_outputs.specs.Storing.{plain_output}
 use Rattle.fab_flow.specs.BitFeatures.{FeaturesFiles, IsReadyForFeatures, MakesFeatures, MeetsBitFeatures, features_files, features_refusals}
-use Rattle.fab_flow.proofs.Ending.{cause_of_store, leaves_of_store, done_of_store}
+use Rattle.fab_outputs.proofs.Ending.{cause_of_store, leaves_of_store, done_of_store}
 use Rattle.fab_flow.proofs.BitFeaturesMade.{bits_behind, bitstream_cause, fabric_cause, features_made}
 use Rattle.fab_flow.proofs.bit_features.do_features.Goals as goal
 

@@ -1,8 +1,8 @@
 use Rattle.std.proofs.Common.{◌<◌, ◌∙◌, ap, map, arith}
 use Rattle.std.proofs.lemmas.Result.{IfErr-weaker, on_ok_weaker, err_from_is_err_and}
-use Rattle.fab_flow.specs.Storing.{plain_output}
+use Rattle.fab_outputs.specs.Storing.{plain_output}
 use Rattle.fab_flow.specs.Bits.{BitsFiles, IsReadyForBits, MakesBits, MeetsBits, bits_files, bits_refusals}
-use Rattle.fab_flow.proofs.Ending.{cause_of_store, leaves_of_store, done_of_store}
+use Rattle.fab_outputs.proofs.Ending.{cause_of_store, leaves_of_store, done_of_store}
 use Rattle.fab_flow.proofs.BitsMade.{bits_cause, bits_leaves, bits_made, fabric_cause, fasm_cause, features_behind}
 use Rattle.fab_flow.proofs.bits.do_bits.Goals as goal
 

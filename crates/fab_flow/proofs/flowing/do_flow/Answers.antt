@@ -4,10 +4,10 @@ use Rattle.std.specs.Str.{IsUtf8}
 use Rattle.std.proofs.lemmas.Result.{IfErr-weaker, on_ok_weaker, err_from_is_err_and}
 use Rattle.fab_desk.specs.Files.{Map}
 use Rattle.fab_files.specs.Files.{Event}
-use Rattle.fab_flow.specs.declared.storing.Output.{Output}
-use Rattle.fab_flow.specs.Storing.{PlainOutput, plain_output}
+use Rattle.fab_outputs.specs.declared.storing.Output.{Output}
+use Rattle.fab_outputs.specs.Storing.{PlainOutput, plain_output}
 use Rattle.fab_flow.specs.Flowing.{FlowFiles, FailsToFlow, IsFlow, IsReadyToFlow, MakesFlow, MeetsFlow, flow_files, flow_refusals}
-use Rattle.fab_flow.proofs.Ending.{cause_of_store, leaves_of_store, done_of_store, searched}
+use Rattle.fab_outputs.proofs.Ending.{cause_of_store, leaves_of_store, done_of_store, searched}
 use Rattle.fab_flow.proofs.Flowed.{design_cause, flow_cause, flow_leaves, flow_of}
 use Rattle.fab_flow.proofs.flowing.do_flow.Goals as goal
 

@@ -7,7 +7,7 @@ use Rattle.fab_drives.specs.Drives.{ShowsDrives}
 use Rattle.fab_text_loads.specs.Loads.{LoadsConfigurations}
 use Rattle.fab_text_loads.specs.Texts.{IsFabricText}
 use Rattle.fab_designs.specs.Designs.{PlainDesign}
-use Rattle.fab_flow.specs.Storing.{plain_output}
+use Rattle.fab_outputs.specs.Storing.{plain_output}
 use Rattle.fab_flow.specs.Generating.{generated_text, text_length, most_text_bytes, IsTooLong}
 use Rattle.fab_flow.proofs.Flowed.{flow_is, text_ends, mapping_ends, memory_ends}
 use Rattle.fab_flow.proofs.flowing.flowed.Goals as goal

@@ -2,9 +2,9 @@ use Rattle.std.proofs.Common.{◌∙◌, ap, map, arith, refl}
 use Rattle.std.proofs.lemmas.Result.{IfErr-weaker, on_ok_weaker, err_from_is_err_and}
 use Rattle.fab_files.specs.Stages.{at_first}
 use Rattle.fab_read.specs.Fabrics.{MeetsFabric}
-use Rattle.fab_flow.specs.Storing.{plain_output}
+use Rattle.fab_outputs.specs.Storing.{plain_output}
 use Rattle.fab_flow.specs.Generating.{MakesFabric, MeetsGenerate, IsReadyToGenerate, generate_refusals}
-use Rattle.fab_flow.proofs.Ending.{cause_of_read, cause_of_store, leaves_of_read, leaves_of_store, done_of_store}
+use Rattle.fab_outputs.proofs.Ending.{cause_of_read, cause_of_store, leaves_of_read, leaves_of_store, done_of_store}
 use Rattle.fab_flow.proofs.Generated.{fabric_made, text_cause, text_leaves}
 use Rattle.fab_flow.proofs.generating.do_generate.Goals as goal
 

@@ -3,10 +3,10 @@ use Rattle.std.specs.Option.{option_copied}
 use Rattle.std.specs.Str.{IsUtf8}
 use Rattle.std.proofs.lemmas.Result.{IfErr-weaker, on_ok_weaker, err_from_is_err_and}
 use Rattle.fab_designs.specs.Designs.{design_files}
-use Rattle.fab_flow.specs.declared.storing.Output.{Output}
-use Rattle.fab_flow.specs.Storing.{plain_output}
+use Rattle.fab_outputs.specs.declared.storing.Output.{Output}
+use Rattle.fab_outputs.specs.Storing.{plain_output}
 use Rattle.fab_flow.specs.Mapping.{MappingFiles, IsMapped, MakesMapping, mapping_files}
-use Rattle.fab_flow.proofs.Ending.{leaves_of_store, done_of_store}
+use Rattle.fab_outputs.proofs.Ending.{leaves_of_store, done_of_store}
 use Rattle.fab_flow.proofs.Mapped.{design_cause, mapping_cause, mapping_leaves, output_cause}
 use Rattle.fab_flow.proofs.mapping.do_map.Goals as goal
 

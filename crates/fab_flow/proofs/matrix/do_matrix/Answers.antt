@@ -1,9 +1,9 @@
 use Rattle.std.proofs.Common.{◌∙◌, ap, map, arith, refl}
 use Rattle.std.proofs.lemmas.Result.{IfErr-weaker, on_ok_weaker, err_from_is_err_and}
 use Rattle.fab_list_files.specs.Sides.{MeetsPairs}
-use Rattle.fab_flow.specs.Storing.{plain_output}
+use Rattle.fab_outputs.specs.Storing.{plain_output}
 use Rattle.fab_flow.specs.Matrix.{MakesMatrix, IsReadyForMatrix, matrix_refusals}
-use Rattle.fab_flow.proofs.Ending.{cause_of_supported, cause_of_store, leaves_of_store, done_of_store}
+use Rattle.fab_outputs.proofs.Ending.{cause_of_supported, cause_of_store, leaves_of_store, done_of_store}
 use Rattle.fab_flow.proofs.Spelled.{matrix_made}
 use Rattle.fab_flow.proofs.matrix.do_matrix.Goals as goal
 

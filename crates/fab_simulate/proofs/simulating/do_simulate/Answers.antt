@@ -3,9 +3,9 @@ use Rattle.std.specs.Option.{ForSome}
 use Rattle.std.specs.Str.{IsUtf8}
 use Rattle.std.proofs.lemmas.Result.{IfErr-weaker, on_ok_weaker, err_from_is_err_and}
 use Rattle.fab_syntax.specs.Plain.{plain_text}
-use Rattle.fab_flow.specs.declared.storing.Output.{Output}
-use Rattle.fab_flow.specs.Storing.{plain_output}
-use Rattle.fab_flow.proofs.Ending.{cause_of_store, leaves_of_store, done_of_store}
+use Rattle.fab_outputs.specs.declared.storing.Output.{Output}
+use Rattle.fab_outputs.specs.Storing.{plain_output}
+use Rattle.fab_outputs.proofs.Ending.{cause_of_store, leaves_of_store, done_of_store}
 use Rattle.fab_simulate.specs.Simulating.{IsReadyToSimulate, MakesTrace, MeetsSimulation, SimulationFiles, simulate_refusals, simulation_files}
 use Rattle.fab_simulate.proofs.Behind.{made_of, ready_of, read_cause, text_cause}
 use Rattle.fab_simulate.proofs.simulating.do_simulate.Goals as goal

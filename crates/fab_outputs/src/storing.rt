@@ -3,7 +3,7 @@
 ghost use Rattle.std.specs.Prelude.{◌≡◌, ◌<◌, ◌≤◌, [], ◌∷◌, ◌++◌, All, map, option_map, IfOk, IfErr, OnOk, OnErr};
 ghost use Rattle.std.specs.Str.{IsUtf8};
 ghost use Rattle.fab_desk.specs.Files.{with_file};
-ghost use Rattle.fab_flow.specs.Storing.{output, plain_output, with_outputs, IsStoreFault, IsStopped};
+ghost use Rattle.fab_outputs.specs.Storing.{output, plain_output, with_outputs, IsStoreFault, IsStopped};
 
 use fab_base::{Fault, Memory, Name};
 use fab_desk::{Desk, DeskFault};
@@ -72,7 +72,7 @@ pub fn store_all<D: Desk, P: Progress>(
 }
 
 /// Adds an output, whose name is a beginning and an ending.
-pub(crate) fn put_output(
+pub fn put_output(
     alloc: Global,
     outputs: &mut Vec<Output>,
     base: &Name,

@@ -6,8 +6,8 @@ use Rattle.fab_base.specs.declared.fault.Fault.{Fault}
 use Rattle.fab_base.specs.declared.fault.Fault.TheVariants as faults
 use Rattle.fab_desk.specs.Files.{Map}
 use Rattle.fab_files.specs.Files.{Event, HasReadCause, IsSupported}
-use Rattle.fab_flow.specs.Storing.{PlainOutput, output, with_outputs, IsDone, Leaves, IsStoreFault, IsStopped}
-use Rattle.fab_flow.specs.Ending.{HasCause, HasSearchCause}
+use Rattle.fab_outputs.specs.Storing.{PlainOutput, output, with_outputs, IsDone, Leaves, IsStoreFault, IsStopped}
+use Rattle.fab_outputs.specs.Ending.{HasCause, HasSearchCause}
 
 -- the numbers of what readers refuse are among these
 pub record Reads (numbers : List ℕ) : Type 0 where

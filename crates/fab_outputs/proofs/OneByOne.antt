@@ -5,8 +5,8 @@ use Rattle.std.proofs.Math.Seq.{split_at}
 use Rattle.fab_base.specs.declared.fault.Fault.{Fault}
 use Rattle.fab_base.specs.declared.fault.Fault.TheVariants as faults
 use Rattle.fab_desk.specs.Files.{Map, with_file}
-use Rattle.fab_flow.specs.declared.storing.Output.{Output}
-use Rattle.fab_flow.specs.Storing.{PlainOutput, plain_output, with_outputs, IsStoreFault, IsStopped}
+use Rattle.fab_outputs.specs.declared.storing.Output.{Output}
+use Rattle.fab_outputs.specs.Storing.{PlainOutput, plain_output, with_outputs, IsStoreFault, IsStopped}
 
 with_one_more : (outputs : List PlainOutput) (last : PlainOutput) (files : Map) → with_outputs (outputs ++ last ∷ []) files ≡ with_file last.name last.bytes (with_outputs outputs files)
 with_one_more [] last files = refl

@@ -2,9 +2,9 @@ use Rattle.std.proofs.Common.{◌<◌, ◌∙◌, sym, subst, arith}
 use Rattle.std.specs.Str.{IsUtf8}
 use Rattle.std.proofs.lemmas.Result.{err_from_is_err_and}
 use Rattle.std.proofs.lemmas.List.Elements.{All-get_or}
-use Rattle.fab_flow.specs.declared.storing.Output.{Output}
-use Rattle.fab_flow.proofs.OneByOne.{stored_so_far, stopped_at, higher_fault}
-use Rattle.fab_flow.proofs.storing.store_all.Goals as goal
+use Rattle.fab_outputs.specs.declared.storing.Output.{Output}
+use Rattle.fab_outputs.proofs.OneByOne.{stored_so_far, stopped_at, higher_fault}
+use Rattle.fab_outputs.proofs.storing.store_all.Goals as goal
 
 pub store-requires : goal.store-requires
 store-requires g c =

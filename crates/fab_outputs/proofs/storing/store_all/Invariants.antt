@@ -1,6 +1,6 @@
 use Rattle.std.proofs.Common.{◌≡◌, ◌≤◌, map, take, option_map}
-use Rattle.fab_flow.specs.Storing.{plain_output, with_outputs}
-use Rattle.fab_flow.proofs.storing.store_all.Given as goal
+use Rattle.fab_outputs.specs.Storing.{plain_output, with_outputs}
+use Rattle.fab_outputs.proofs.storing.store_all.Given as goal
 
 abbrev pub invariant-loop-output : goal.invariant-loop-output
 invariant-loop-output g l =

@@ -2,8 +2,8 @@ use Rattle.std.proofs.Common.{◌≡◌, ◌++◌, All, List, ℕ, sym, ap, ◌�
 use Rattle.std.specs.Str.{IsUtf8}
 use Rattle.std.proofs.lemmas.List.Elements.{All-push}
 use Rattle.std.proofs.lemmas.Str.{IsUtf8-append}
-use Rattle.fab_flow.specs.declared.storing.Output.{Output}
-use Rattle.fab_flow.proofs.storing.put_output.Goals as goal
+use Rattle.fab_outputs.specs.declared.storing.Output.{Output}
+use Rattle.fab_outputs.proofs.storing.put_output.Goals as goal
 
 pub returns-clause-names : goal.returns-clause-names
 returns-clause-names c = λ base ending before.

@@ -4,7 +4,7 @@ use Rattle.std.specs.Option.{ForSome}
 use Rattle.fab_base.specs.declared.fault.Fault.{Fault}
 use Rattle.fab_base.specs.declared.fault.Fault.TheVariants as faults
 use Rattle.fab_desk.specs.Files.{Map, with_file}
-use Rattle.fab_flow.specs.declared.storing.Output.{Output}
+use Rattle.fab_outputs.specs.declared.storing.Output.{Output}
 
 -- an output: the name of a file, and the bytes that it is to hold
 pub record PlainOutput : Type 0 where
