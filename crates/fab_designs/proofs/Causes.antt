@@ -1,23 +1,13 @@
 -- Why the readers of a design's files end with the refusal of a file's bytes.
-use Rattle.std.proofs.Common.{◌≡◌, ◌≢◌, ℕ, List, Option, Some, inr, subst}
+use Rattle.std.proofs.Common.{◌≡◌, ◌≢◌, ℕ, List, Option, Some}
 use Rattle.fab_base.specs.declared.fault.Fault.{Fault}
 use Rattle.fab_base.specs.declared.fault.Fault.TheVariants as faults
 use Rattle.fab_desk.specs.Files.{Map}
-use Rattle.fab_lines.specs.Order.{Format, IsTextFault}
 use Rattle.fab_files.specs.Files.{Event, refuses, HasReadCause}
 use Rattle.fab_blif.specs.Blif.{IsContentFault, RefusesBlif}
 use Rattle.fab_blif.proofs.Content.{refused_for_content}
-use Rattle.fab_read.proofs.Causes.{placed_cause}
 
 module _ (told : Option Map) (rose : Type 0) (meets : Map → Event → Type 0) where
-  -- a text is refused for its first refusal, unless memory was
-  pub text_cause : {L : Type 0} {format : Format L} {file : List ℕ} {text : List L} {last : ℕ} (fault : Fault) → (fault ≢ faults.Memory → IsTextFault format file text last fault)
-      → ((files : Map) → told ≡ Some files → IsTextFault format file text last fault → meets files (refuses fault)) → HasReadCause told rose meets fault
-  text_cause faults.Memory refused met = tt
-  text_cause {file = file} fault refused met =
-      let why = refused (λ same. cc) in
-      placed_cause told rose meets file why.number why.problem fault (λ files is. subst (λ (f : Fault). meets files (refuses f)) why.is (met files is why)) (inr why.is)
-
   -- what a file holds is refused where it is met
   content_cause : (fault : Fault) → IsContentFault fault → ((files : Map) → told ≡ Some files → meets files (refuses fault)) → HasReadCause told rose meets fault
   content_cause (faults.Malformed place reason) is met = met

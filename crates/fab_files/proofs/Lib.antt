@@ -1,3 +1,4 @@
+pub mod Causes
 pub mod Text
 pub mod Complete
 pub mod Stages

@@ -10,9 +10,8 @@ use Rattle.fab_base.specs.declared.words.Reason.TheVariants as reasons
 use Rattle.fab_desk.specs.Files.{Map}
 use Rattle.fab_files.specs.Files.{Event, HasReadCause, refuses}
 use Rattle.fab_files.specs.Stages.{at_first, behind_it}
-use Rattle.fab_list_files.proofs.Rows.{cause_weaker}
+use Rattle.fab_files.proofs.Causes.{cause_weaker, placed_cause}
 use Rattle.fab_read.specs.Fabrics.{SpellsFabric, MeetsFabric}
-use Rattle.fab_read.proofs.Causes.{placed_cause}
 use Rattle.fab_model.specs.Grid.{PlainFabric}
 use Rattle.fab_fabric.specs.Bits.{AreBitsOf, plain_bits}
 use Rattle.fab_fasm.specs.Printing.{printed}

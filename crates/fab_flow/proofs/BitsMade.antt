@@ -6,9 +6,8 @@ use Rattle.fab_base.specs.declared.fault.Fault.TheVariants as faults
 use Rattle.fab_desk.specs.Files.{Map}
 use Rattle.fab_files.specs.Files.{Event, HasReadCause, refuses}
 use Rattle.fab_files.specs.Stages.{at_first, behind_it}
-use Rattle.fab_list_files.proofs.Rows.{cause_weaker}
+use Rattle.fab_files.proofs.Causes.{cause_weaker, placed_cause}
 use Rattle.fab_read.specs.Fabrics.{SpellsFabric, MeetsFabric}
-use Rattle.fab_read.proofs.Causes.{placed_cause}
 use Rattle.fab_model.specs.Grid.{PlainFabric}
 use Rattle.fab_legal.specs.Turns.{AreRight}
 use Rattle.fab_legal.specs.declared.broken.CheckFault.{CheckFault}

@@ -32,18 +32,6 @@ some_left left file (Err problem) other is = absurd cc
 pub opens_some_left : (known : Knowledge) (left : ℕ) (file : List ℕ) (before : List Pair) (cells : List (List ℕ)) (other : List ℕ) → deed_of known left file before cells ≡ Ok (opens other) → 0 < left
 opens_some_left known left file before cells other is = some_left left file (body_of (known before) cells) other is
 
--- a fault of what is met for one reason is met for another
-pub cause_weaker : (told earlier : Option Map) (rose more_rose : Type 0) (meets more : Map → Event → Type 0) (fault : Fault) →
-    told ≡ earlier → (rose → more_rose) → ((files : Map) → earlier ≡ Some files → (event : Event) → meets files event → more files event) → HasReadCause told rose meets fault → HasReadCause earlier more_rose more fault
-cause_weaker told earlier rose more_rose meets more faults.Memory same higher further cause = tt
-cause_weaker told earlier rose more_rose meets more (faults.ReadFault file) same higher further cause = (higher cause.0, λ files is. further files is (asks file) (cause.1 files (same ∙ is)))
-cause_weaker told earlier rose more_rose meets more (faults.Missing file) same higher further cause = λ files is. further files is (refuses (faults.Missing file)) (cause files (same ∙ is))
-cause_weaker told earlier rose more_rose meets more (faults.TooLong file) same higher further cause = λ files is. further files is (refuses (faults.TooLong file)) (cause files (same ∙ is))
-cause_weaker told earlier rose more_rose meets more (faults.Malformed place reason) same higher further cause = λ files is. further files is (refuses (faults.Malformed place reason)) (cause files (same ∙ is))
-cause_weaker told earlier rose more_rose meets more (faults.Unsupported place construct) same higher further cause = λ files is. further files is (refuses (faults.Unsupported place construct)) (cause files (same ∙ is))
-cause_weaker told earlier rose more_rose meets more (faults.Limit place quantity value bound) same higher further cause = λ files is. further files is (refuses (faults.Limit place quantity value bound)) (cause files (same ∙ is))
-cause_weaker told earlier rose more_rose meets more fault same higher further cause = cause
-
 -- a problem at a place is what is refused there
 pub cause_at : (told : Option Map) (rose : Type 0) (meets : Map → Event → Type 0) (file : List ℕ) (line : ℕ) (problem : Problem) (fault : Fault) {Y : Type 0} (given : Result Y Problem) →
     ((files : Map) (why : Problem) → given ≡ Err why → meets files (refuses (fault_at file line why))) → Refuses problem given → IsFaultOr fault (fault_at file line problem) → HasReadCause told rose meets fault

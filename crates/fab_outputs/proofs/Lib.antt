@@ -1,3 +1,2 @@
 pub mod OneByOne
 pub mod Ending
-pub mod Causes

@@ -1,5 +1,4 @@
 pub mod RowByRow
-pub mod Causes
 pub mod Opened
 pub mod Whole
 pub mod Wires

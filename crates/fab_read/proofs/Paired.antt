@@ -11,7 +11,7 @@ use Rattle.fab_files.specs.Files.{Event, asks, refuses, HasReadCause, MeetsIfThe
 use Rattle.fab_blocks.specs.Blocks.{PlainBlock, bare}
 use Rattle.fab_read.specs.Following.{unless, judged_tile, judged_pairs, ReadsPaired}
 use Rattle.fab_read.specs.Tiles.{End, ReadsMatrix, MeetsMatrix, table_file, ReadsTable, MeetsTable, asks_table, long_table, block_problem, pairs_problem, at_end, ReadsPairs, ReadsTile, MeetsTile, bad_block, in_matrix, bad_pairs, in_places}
-use Rattle.fab_read.proofs.Causes.{placed_cause}
+use Rattle.fab_files.proofs.Causes.{placed_cause}
 
 -- a table is asked for, or is too long
 pub asks_or_long : (files : Map) (tile : PlainTile) (file : List ℕ) (event : Event) → MeetsIfThere files file event → MeetsTable files tile (Some file) event

@@ -5,7 +5,7 @@ use Rattle.fab_base.specs.declared.fault.Fault.TheVariants as faults
 use Rattle.fab_desk.specs.Files.{Map}
 use Rattle.fab_files.specs.Files.{Event, HasReadCause}
 use Rattle.fab_files.specs.Stages.{ReadsFrom, at_first, behind_it, of_bytes}
-use Rattle.fab_outputs.proofs.Causes.{cause_weaker}
+use Rattle.fab_files.proofs.Causes.{cause_weaker}
 use Rattle.fab_syntax.specs.Plain.{PlainModule}
 use Rattle.fab_syntax.specs.Sound.{IsSound}
 use Rattle.fab_grammar.specs.Grammar.{SpellsText}

@@ -9,7 +9,7 @@ use Rattle.fab_base.specs.declared.words.Reason.TheVariants as reasons
 use Rattle.fab_base.specs.declared.words.Quantity.TheVariants as quantities
 use Rattle.fab_desk.specs.Files.{Map}
 use Rattle.fab_files.specs.Files.{Event, HasReadCause, refuses}
-use Rattle.fab_outputs.proofs.Causes.{placed_cause}
+use Rattle.fab_files.proofs.Causes.{placed_cause}
 use Rattle.fab_syntax.specs.Plain.{PlainModule}
 use Rattle.fab_equations.specs.Instances.{whole_count, most_points, in_64_bits}
 use Rattle.fab_equations.specs.Equations.{IsRefused}

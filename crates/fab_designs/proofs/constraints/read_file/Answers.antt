@@ -3,9 +3,8 @@ use Rattle.std.proofs.lemmas.Result.{IfOk-weaker, IfErr-weaker, err_from_is_err_
 use Rattle.fab_desk.specs.Files.{Map}
 use Rattle.fab_files.specs.Files.{MeetsFile, handed_out}
 use Rattle.fab_files.specs.Stages.{of_file, of_bytes}
-use Rattle.fab_list_files.proofs.Rows.{cause_weaker}
+use Rattle.fab_files.proofs.Causes.{cause_weaker, text_cause}
 use Rattle.fab_designs.specs.Designs.{MeetsConstraints}
-use Rattle.fab_designs.proofs.Causes.{text_cause}
 use Rattle.fab_designs.proofs.constraints.read_file.Goals as goal
 
 pub returns-in_err-bytes-clause-cause : goal.returns-in_err-bytes-clause-cause

@@ -2,7 +2,7 @@ use Rattle.std.proofs.Common.{◌≡◌, ◌<◌, refl, ◌∙◌, arith}
 use Rattle.std.specs.Option.{option_copied}
 use Rattle.std.proofs.lemmas.Result.{err_from_is_err_and}
 use Rattle.fab_files.specs.Stages.{at_first, behind_it}
-use Rattle.fab_list_files.proofs.Rows.{cause_weaker}
+use Rattle.fab_files.proofs.Causes.{cause_weaker}
 use Rattle.fab_read.specs.Fabrics.{MeetsFabric}
 use Rattle.fab_designs.specs.Designs.{DesignFiles, design_files, MeetsDesign, MeetsNetlist, MeetsConstraints}
 use Rattle.fab_designs.proofs.design.read.Goals as goal

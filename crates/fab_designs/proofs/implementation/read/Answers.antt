@@ -3,9 +3,8 @@ use Rattle.std.proofs.lemmas.Result.{IfOk-weaker, IfErr-weaker, err_from_is_err_
 use Rattle.fab_desk.specs.Files.{Map}
 use Rattle.fab_files.specs.Files.{MeetsFile, handed_out}
 use Rattle.fab_files.specs.Stages.{of_file, of_bytes}
-use Rattle.fab_list_files.proofs.Rows.{cause_weaker}
+use Rattle.fab_files.proofs.Causes.{cause_weaker, text_cause}
 use Rattle.fab_designs.specs.Implementations.{MeetsImplementation}
-use Rattle.fab_designs.proofs.Causes.{text_cause}
 use Rattle.fab_designs.proofs.Parts.{said_is_spelled, inputs_are_lines}
 use Rattle.fab_designs.proofs.implementation.read.Goals as goal
 

@@ -3,7 +3,7 @@ use Rattle.std.proofs.lemmas.Result.{IfErr-weaker, err_from_is_err_and}
 use Rattle.fab_desk.specs.Files.{Map}
 use Rattle.fab_files.specs.Files.{MeetsFile, handed_out}
 use Rattle.fab_files.specs.Stages.{of_file, of_bytes}
-use Rattle.fab_list_files.proofs.Rows.{cause_weaker}
+use Rattle.fab_files.proofs.Causes.{cause_weaker}
 use Rattle.fab_designs.specs.Designs.{MeetsNetlist}
 use Rattle.fab_designs.proofs.Causes.{blif_cause}
 use Rattle.fab_designs.proofs.Parts.{netlist_read}

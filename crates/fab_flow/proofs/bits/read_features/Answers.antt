@@ -3,7 +3,7 @@ use Rattle.std.proofs.lemmas.Result.{IfOk-weaker, IfErr-weaker, err_from_is_err_
 use Rattle.fab_desk.specs.Files.{Map}
 use Rattle.fab_files.specs.Files.{MeetsFile, handed_out}
 use Rattle.fab_files.specs.Stages.{of_file, of_bytes}
-use Rattle.fab_list_files.proofs.Rows.{cause_weaker}
+use Rattle.fab_files.proofs.Causes.{cause_weaker}
 use Rattle.fab_flow.specs.Bits.{MeetsFeatures}
 use Rattle.fab_flow.proofs.BitsMade.{fasm_refused}
 use Rattle.fab_flow.proofs.bits.read_features.Goals as goal

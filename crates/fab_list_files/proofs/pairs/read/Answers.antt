@@ -9,7 +9,8 @@ use Rattle.fab_tables.specs.Lists.{Pair}
 use Rattle.fab_files.specs.Files.{MeetsFile, handed_out, last_line}
 use Rattle.fab_list_files.specs.Lists.{most_open, ReadsList, MeetsList, ReadsListFile, of_file, of_rows}
 use Rattle.fab_list_files.specs.Sides.{on_both_sides, crowd, crowd_limit, most_inputs, MeetsPairs, of_list, of_crowd}
-use Rattle.fab_list_files.proofs.Rows.{cause_weaker, limit_cause}
+use Rattle.fab_list_files.proofs.Rows.{limit_cause}
+use Rattle.fab_files.proofs.Causes.{cause_weaker}
 use Rattle.fab_list_files.proofs.Supported.{limit_supported}
 use Rattle.fab_list_files.proofs.pairs.read.Goals as goal
 

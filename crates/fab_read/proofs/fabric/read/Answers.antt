@@ -9,11 +9,10 @@ use Rattle.fab_desk.specs.Files.{Map}
 use Rattle.fab_model.specs.Tables.{HasTable}
 use Rattle.fab_blocks.specs.Reading.{PlainReading, PlainGridLine, start}
 use Rattle.fab_fabric.specs.Fabric.{fabric_of, wire_count}
-use Rattle.fab_list_files.proofs.Rows.{cause_weaker}
+use Rattle.fab_files.proofs.Causes.{cause_weaker, placed_cause}
 use Rattle.fab_read.specs.Rows.{MeetsRowsFile}
 use Rattle.fab_read.specs.Following.{ReadsFileTo}
 use Rattle.fab_read.specs.Fabrics.{top, strange_line, column_count, places, most_wires, MeetsFabric, of_rows}
-use Rattle.fab_read.proofs.Causes.{placed_cause}
 use Rattle.fab_read.proofs.Grids.{some_lines, rows_are, reading_is_fabric}
 use Rattle.fab_read.proofs.Whole.{grid_absent, tile_absent, wires_past}
 use Rattle.fab_read.proofs.fabric.read.Goals as goal

@@ -2,9 +2,8 @@ use Rattle.std.proofs.Common.{◌≡◌, ◌<◌, Some, Ok, refl}
 use Rattle.std.proofs.lemmas.Result.{IfOk-weaker, IfErr-weaker, err_from_is_err_and}
 use Rattle.fab_desk.specs.Files.{Map}
 use Rattle.fab_files.specs.Files.{MeetsIfThere}
-use Rattle.fab_list_files.proofs.Rows.{cause_weaker}
+use Rattle.fab_files.proofs.Causes.{cause_weaker, text_cause}
 use Rattle.fab_read.specs.Tiles.{table_bytes, by_default, by_table, MeetsTable, bad_table}
-use Rattle.fab_read.proofs.Causes.{text_cause}
 use Rattle.fab_read.proofs.Paired.{asks_or_long}
 use Rattle.fab_read.proofs.table.read_table.Goals as goal
 

@@ -1,7 +1,8 @@
 use Rattle.std.proofs.Common.{◌<◌, refl, ap, subst}
 use Rattle.std.proofs.lemmas.Result.{err_from_is_err_and}
 use Rattle.fab_base.specs.Reading.{IsFaultOr, fault_at}
-use Rattle.fab_list_files.proofs.Rows.{cause_weaker, cause_at}
+use Rattle.fab_list_files.proofs.Rows.{cause_at}
+use Rattle.fab_files.proofs.Causes.{cause_weaker}
 use Rattle.std.specs.Option.{option_copied}
 use Rattle.fab_read.specs.Following.{judged_tile}
 use Rattle.fab_read.specs.Tiles.{End, MeetsMatrix, MeetsTile}

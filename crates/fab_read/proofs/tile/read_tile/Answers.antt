@@ -1,7 +1,7 @@
 use Rattle.std.proofs.Common.{◌≡◌, ◌<◌, ◌∙◌, arith}
 use Rattle.std.specs.Option.{option_copied}
 use Rattle.std.proofs.lemmas.Result.{err_from_is_err_and}
-use Rattle.fab_list_files.proofs.Rows.{cause_weaker}
+use Rattle.fab_files.proofs.Causes.{cause_weaker}
 use Rattle.fab_read.specs.Tiles.{table_file, MeetsTable, MeetsTile}
 use Rattle.fab_read.proofs.Paired.{reads_tile, meets_places}
 use Rattle.fab_read.proofs.tile.read_tile.Goals as goal

@@ -3,7 +3,7 @@ use Rattle.std.proofs.lemmas.Result.{IfOk-weaker, IfErr-weaker, err_from_is_err_
 use Rattle.fab_desk.specs.Files.{Map}
 use Rattle.fab_files.specs.Files.{MeetsFile, handed_out}
 use Rattle.fab_files.specs.Stages.{of_file, of_bytes}
-use Rattle.fab_outputs.proofs.Causes.{cause_weaker, text_cause}
+use Rattle.fab_files.proofs.Causes.{cause_weaker, text_cause}
 use Rattle.fab_simulate.specs.Simulating.{MeetsStimulus}
 use Rattle.fab_simulate.proofs.Stimulated.{lines_are_full, stimulus_is_spelled}
 use Rattle.fab_simulate.proofs.simulating.read_lines.Goals as goal

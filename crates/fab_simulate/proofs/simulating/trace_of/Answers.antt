@@ -1,7 +1,7 @@
 use Rattle.std.proofs.Common.{◌≡◌, ◌<◌, ◌∙◌, refl, arith}
 use Rattle.std.proofs.lemmas.Result.{IfErr-weaker, IfOk-weaker, err_from_is_err_and}
 use Rattle.fab_files.specs.Stages.{at_first, behind_it}
-use Rattle.fab_outputs.proofs.Causes.{cause_weaker}
+use Rattle.fab_files.proofs.Causes.{cause_weaker}
 use Rattle.fab_syntax.specs.Plain.{plain_text}
 use Rattle.fab_simulate.specs.Simulating.{MeetsBehindDevice, MeetsState, MeetsWords}
 use Rattle.fab_simulate.proofs.Behind.{is_trace, stimulus_cause}

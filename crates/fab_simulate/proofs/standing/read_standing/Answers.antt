@@ -3,7 +3,7 @@ use Rattle.std.proofs.lemmas.Result.{IfOk-weaker, IfErr-weaker, err_from_is_err_
 use Rattle.fab_desk.specs.Files.{Map}
 use Rattle.fab_files.specs.Files.{MeetsFile, handed_out}
 use Rattle.fab_files.specs.Stages.{of_file, of_bytes}
-use Rattle.fab_outputs.proofs.Causes.{cause_weaker}
+use Rattle.fab_files.proofs.Causes.{cause_weaker}
 use Rattle.fab_syntax.specs.Plain.{plain_text}
 use Rattle.fab_simulate.specs.Simulating.{MeetsState, RefusesState}
 use Rattle.fab_simulate.proofs.Placed.{refused_cause, state_is_placed}
