@@ -7,17 +7,15 @@ ghost use Rattle.fab_legal.specs.Nets.{InputsAreLines};
 ghost use Rattle.fab_legal.specs.Legal.{IsLegal};
 ghost use Rattle.fab_legal.specs.Broken.{Explains};
 
-use crate::broken::{CheckFault, broken_by};
-use crate::nets::check_nets;
-use crate::routes::check_routes;
-use crate::shared::shared;
-use crate::standing::check_sinks;
-use crate::texts::wire_text;
-use fab_fabric::{Fabric, Wire};
+use crate::broken::CheckFault;
+use crate::placed::place;
+use crate::trees::check_trees;
+use fab_fabric::Fabric;
 use fab_implementation::{Fixed, Implementation};
 use fab_netlist::Packed;
 use std::alloc::Global;
 use std::marker::Model;
+use std::mem;
 
 /// An implementation that a check accepted. What the check promises says for which fabric, design and constraints it is legal.
 #[derive(Debug, Drop)]
@@ -58,11 +56,31 @@ pub fn check(
     ensures legal { OnOk result (IsLegal fabric.now packed.now fixed.now implementation) }
     ensures err { IfErr result (Explains fabric.now packed.now fixed.now implementation) }
 {
-    let placed = check_routes(alloc, fabric, packed, fixed, &implementation)?;
-    let numbers = check_nets(alloc, fabric, packed, &implementation, &placed)?;
-    let sets = check_sinks(alloc, fabric, packed, &implementation, &placed, &numbers)?;
-    match shared(alloc, &sets)? {
-        None => Ok(Legal { implementation }),
-        Some(wire) => Err(broken_by(9, wire_text(alloc, fabric, Wire(wire))?)),
+    match check_rules(alloc, fabric, packed, fixed, &implementation) {
+        Ok(()) => Ok(Legal { implementation }),
+        Err(fault) => {
+            mem::drop(implementation);
+            Err(fault)
+        }
     }
+}
+
+// Checks the nine rules.
+fn check_rules(
+    alloc: Global,
+    fabric: &Fabric,
+    packed: &Packed,
+    fixed: &Fixed,
+    implementation: &Implementation,
+) -> Result<(), CheckFault>
+    requires made { IsWellMadePacked packed.now }
+    requires on_fabric { IsOnFabric fabric.now implementation.now }
+    requires lines { All (InputsAreLines implementation.now) implementation.now.trees }
+    ensures legal { OnOk result (IsLegal fabric.now packed.now fixed.now implementation.now) }
+    ensures err { IfErr result (Explains fabric.now packed.now fixed.now implementation.now) }
+{
+    let placed = place(alloc, fabric, packed, fixed, implementation)?;
+    let checked = check_trees(alloc, fabric, packed, implementation, &placed);
+    mem::drop(placed);
+    checked
 }

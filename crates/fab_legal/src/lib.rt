@@ -10,13 +10,13 @@ mod nets;
 mod placed;
 mod ports;
 mod reach;
-mod routes;
 mod shared;
 mod sinks;
 mod standing;
 mod steps;
 mod texts;
 mod tiles;
+mod trees;
 
 pub use broken::{Broken, CheckFault};
 pub use fab_implementation::{Fixed, Implementation, Tree};

@@ -1,6 +1,6 @@
 //! The nets of an implementation: which they are, and where they may begin.
 
-ghost use Rattle.std.specs.Prelude.{◌≡◌, ◌<◌, ◌≤◌, ◌↔◌, ℕ, Some, IsTrue, IfOk, OnOk, IfErr, All, MatchOption, length, map, nat_eq};
+ghost use Rattle.std.specs.Prelude.{◌≡◌, ◌<◌, ◌≤◌, ◌↔◌, ℕ, [], Some, IsTrue, IfOk, OnOk, IfErr, All, MatchOption, length, map, nat_eq};
 ghost use Rattle.indexmap.specs.IndexSet.{insert_key};
 ghost use Rattle.fab_kinds.specs.declared.kind.Kind.TheVariants as kinds;
 ghost use Rattle.fab_fabric.specs.Fabric.{wire_count};
@@ -26,6 +26,7 @@ use fab_implementation::{Implementation, Tree};
 use fab_netlist::{NetId, Packed};
 use indexmap::IndexSet;
 use std::alloc::Global;
+use std::mem;
 
 // O of a pad and of a LUT4c.
 const PAD_OUTPUT: u32 = 2;
@@ -170,6 +171,38 @@ fn add(numbers: &mut IndexSet<u32>, number: u32) -> Result<(), Memory>
     Ok(())
 }
 
+// Adds the numbers of the nets of an implementation, each of which exists, is named once and begins where it may.
+fn put_nets(
+    alloc: Global,
+    fabric: &Fabric,
+    _packed: &Packed,
+    implementation: &Implementation,
+    placed: &Placed,
+    numbers: &mut IndexSet<u32>,
+) -> Result<(), CheckFault>
+    requires made { IsWellMadePacked _packed.now }
+    requires wires { All (λ tree. All (HasWires fabric.now) tree.edges) implementation.now.trees }
+    requires lines { All (InputsAreLines implementation.now) implementation.now.trees }
+    requires sites { ArePlaced fabric.now _packed.now implementation.now }
+    requires kept { AreKept _packed.now implementation.now placed.now }
+    requires none { numbers.old.keys ≡ [] }
+    ensures ok { OnOk result (NetsBeginRight fabric.now _packed.now implementation.now) }
+    ensures numbers { OnOk result (numbers.new.keys ≡ map (tree_number placed.now) implementation.now.trees) }
+    ensures err { IfErr result (Breaks 7 (IsNetItem fabric.now _packed.now implementation.now)) }
+{
+    for tree in &implementation.trees {
+        let net = packed_id(placed, tree.net);
+        if !is_new(placed, numbers, net) {
+            return Err(broken_by(7, net_text(alloc, implementation, tree.net)?));
+        }
+        if let Some(place) = wrong_tree(alloc, fabric, placed, net, &tree.edges)? {
+            return Err(broken_by(7, wire_text(alloc, fabric, tree.edges[place].0)?));
+        }
+        add(numbers, net_number(placed, net))?;
+    }
+    Ok(())
+}
+
 /// The numbers of the nets of an implementation, each of which exists, is named once and begins where it may.
 pub fn check_nets(
     alloc: Global,
@@ -188,15 +221,11 @@ pub fn check_nets(
     ensures err { IfErr result (Breaks 7 (IsNetItem fabric.now packed.now implementation.now)) }
 {
     let mut numbers = IndexSet::new(alloc);
-    for tree in &implementation.trees {
-        let net = packed_id(placed, tree.net);
-        if !is_new(placed, &numbers, net) {
-            return Err(broken_by(7, net_text(alloc, implementation, tree.net)?));
+    match put_nets(alloc, fabric, packed, implementation, placed, &mut numbers) {
+        Ok(()) => Ok(numbers),
+        Err(fault) => {
+            mem::drop(numbers);
+            Err(fault)
         }
-        if let Some(place) = wrong_tree(alloc, fabric, placed, net, &tree.edges)? {
-            return Err(broken_by(7, wire_text(alloc, fabric, tree.edges[place].0)?));
-        }
-        add(&mut numbers, net_number(placed, net))?;
     }
-    Ok(numbers)
 }

@@ -8,7 +8,7 @@ ghost use Rattle.fab_legal.specs.Lines.{CellsHaveSites, SitesDiffer, PortsHavePa
 ghost use Rattle.fab_implementation.specs.OnFabric.{IsOnFabric};
 ghost use Rattle.fab_legal.specs.Legal.{ArePlaced};
 ghost use Rattle.fab_legal.specs.Broken.{IsCellItem, IsSiteItem, IsPortItem, Explains};
-ghost use Rattle.fab_legal.specs.Keeping.{AreSites, ArePads};
+ghost use Rattle.fab_legal.specs.Keeping.{AreSites, ArePads, BindsPads};
 ghost use Rattle.fab_legal.specs.Kept.{AreKept, HasOne, IsCounted, IsWithin, wrong_port, IsBound};
 ghost use Rattle.fab_legal.specs.declared.ports.PadBinding.TheVariants as pad_bindings;
 ghost use Rattle.fab_legal.specs.Answers.{Breaks};
@@ -24,6 +24,7 @@ use fab_kinds::Kind;
 use fab_netlist::Packed;
 use indexmap::IndexSet;
 use std::alloc::Global;
+use std::mem;
 
 /// The sites of the cells and ports of a design.
 #[derive(Debug, Drop)]
@@ -146,6 +147,55 @@ fn bound_pads(binding: PadBinding) -> Pads
     }
 }
 
+// What lines give to the input ports.
+fn bind_ins(
+    alloc: Global,
+    fabric: &Fabric,
+    packed: &Packed,
+    implementation: &Implementation,
+) -> Result<PadBinding, Memory>
+    requires { IsWellMadePacked packed.now }
+    ensures { IfOk result (BindsPads fabric.now packed.now.inputs implementation.now.ins) }
+{
+    let names = input_ports(alloc, &packed.inputs)?;
+    bind_pads(alloc, fabric, names, &implementation.ins)
+}
+
+// What lines give to the output ports.
+fn bind_outs(
+    alloc: Global,
+    fabric: &Fabric,
+    packed: &Packed,
+    implementation: &Implementation,
+) -> Result<PadBinding, Memory>
+    requires { IsWellMadePacked packed.now }
+    ensures { IfOk result (BindsPads fabric.now (output_ports packed.now) implementation.now.outs) }
+{
+    let names = output_ports(alloc, &packed.outputs)?;
+    bind_pads(alloc, fabric, names, &implementation.outs)
+}
+
+// What lines give to the ports, inputs and outputs.
+fn bind_ports(
+    alloc: Global,
+    fabric: &Fabric,
+    packed: &Packed,
+    implementation: &Implementation,
+) -> Result<(PadBinding, PadBinding), Memory>
+    requires { IsWellMadePacked packed.now }
+    ensures ins { IfOk result (λ bound. BindsPads fabric.now packed.now.inputs implementation.now.ins bound.0) }
+    ensures outs { IfOk result (λ bound. BindsPads fabric.now (output_ports packed.now) implementation.now.outs bound.1) }
+{
+    let ins = bind_ins(alloc, fabric, packed, implementation)?;
+    match bind_outs(alloc, fabric, packed, implementation) {
+        Ok(outs) => Ok((ins, outs)),
+        Err(Memory) => {
+            mem::drop(ins);
+            Err(Memory)
+        }
+    }
+}
+
 // The ports with their pads, inputs and outputs.
 fn place_ports(
     alloc: Global,
@@ -159,11 +209,9 @@ fn place_ports(
     ensures outs { IfOk result (λ pads. ArePads (output_ports packed.now) implementation.now.outs pads.1) }
     ensures err { IfErr result (Breaks 3 (IsPortItem fabric.now packed.now implementation.now)) }
 {
-    let inputs = input_ports(alloc, &packed.inputs)?;
-    let outputs = output_ports(alloc, &packed.outputs)?;
-    let ins = bind_pads(alloc, fabric, inputs, &implementation.ins)?;
-    let outs = bind_pads(alloc, fabric, outputs, &implementation.outs)?;
+    let (ins, outs) = bind_ports(alloc, fabric, packed, implementation)?;
     if let Some(name) = wrong_port(packed, implementation, &ins, &outs) {
+        mem::drop((ins, outs));
         return Err(broken_by(3, name.copy(alloc)?));
     }
     Ok((bound_pads(ins), bound_pads(outs)))
@@ -205,7 +253,10 @@ pub fn place(
     let placed = Placed { cells, ins, outs };
     match wrong_pad(&placed, &fixed.pads) {
         None => Ok(placed),
-        Some(place) => Err(broken_by(4, fixed.pads[place].0.copy(alloc)?)),
+        Some(place) => {
+            mem::drop(placed);
+            Err(broken_by(4, fixed.pads[place].0.copy(alloc)?))
+        }
     }
 }
 

@@ -18,6 +18,7 @@ use fab_fabric::{Fabric, Wire};
 use fab_implementation::Tree;
 use indexmap::IndexSet;
 use std::alloc::Global;
+use std::mem;
 
 // The wires that edges enter.
 pub fn entered(alloc: Global, edges: &[(Wire, Wire)]) -> Result<IndexSet<u32>, Memory>
@@ -41,22 +42,22 @@ fn left(alloc: Global, edges: &[(Wire, Wire)]) -> Result<IndexSet<u32>, Memory>
     Ok(set)
 }
 
-// The wires from which edges lead and that none enters.
-fn roots(
-    alloc: Global,
+// Adds the wires from which edges lead and that none enters.
+fn put_roots(
+    set: &mut IndexSet<u32>,
     lefts: &IndexSet<u32>,
     entered: &IndexSet<u32>,
-) -> Result<IndexSet<u32>, Memory>
-    ensures { IfOk result (λ set. IsRootSet lefts.now.keys entered.now.keys set.keys) }
+) -> Result<(), Memory>
+    requires { set.old.keys ≡ [] }
+    ensures { OnOk result (IsRootSet lefts.now.keys entered.now.keys set.new.keys) }
 {
-    let mut set = IndexSet::new(alloc);
     for wire in lefts.as_slice() {
         if entered.contains(wire) {
             continue;
         }
         set.insert(*wire)?;
     }
-    Ok(set)
+    Ok(())
 }
 
 // So many empty groups.
@@ -117,8 +118,55 @@ fn follow(
     }
 }
 
-// The wires of a net that are reached along its edges.
-fn reached(
+// Adds the wires of a net that are reached along its edges.
+fn put_reached(
+    set: &mut IndexSet<u32>,
+    _edges: &[(Wire, Wire)],
+    entered: &IndexSet<u32>,
+    lefts: &IndexSet<u32>,
+    groups: &[Vec<u32>],
+) -> Result<(), Memory>
+    requires set { set.old.keys ≡ [] }
+    requires entered { entered.now.keys ≡ insert_all nat_eq [] (map entered_number _edges.now) }
+    requires lefts { lefts.now.keys ≡ insert_all nat_eq [] (map left_number _edges.now) }
+    requires len { length groups.now ≡ length lefts.now.keys }
+    requires groups { (place : ℕ) → group_at groups.now place ≡ targets lefts.now.keys _edges.now place }
+    ensures { OnOk result (IsReachedSet _edges.now set.new.keys) }
+{
+    put_roots(set, lefts, entered)?;
+    let mut next = 0;
+    while next < set.len() {
+        let wire = set.as_slice()[next];
+        follow(set, lefts, groups, wire)?;
+        next += 1;
+    }
+    Ok(())
+}
+
+// The wires of a net that are reached, where these are those that its edges leave and enter.
+fn reached_among(
+    alloc: Global,
+    edges: &[(Wire, Wire)],
+    entered: &IndexSet<u32>,
+    lefts: &IndexSet<u32>,
+) -> Result<IndexSet<u32>, Memory>
+    requires entered { entered.now.keys ≡ insert_all nat_eq [] (map entered_number edges.now) }
+    requires lefts { lefts.now.keys ≡ insert_all nat_eq [] (map left_number edges.now) }
+    ensures { IfOk result (λ set. IsReachedSet edges.now set.keys) }
+{
+    let groups = groups(alloc, lefts, edges)?;
+    let mut set = IndexSet::new(alloc);
+    match put_reached(&mut set, edges, entered, lefts, &groups) {
+        Ok(()) => Ok(set),
+        Err(Memory) => {
+            mem::drop(set);
+            Err(Memory)
+        }
+    }
+}
+
+// The wires of a net that are reached, where these are those that its edges enter.
+fn reached_past(
     alloc: Global,
     edges: &[(Wire, Wire)],
     entered: &IndexSet<u32>,
@@ -127,24 +175,31 @@ fn reached(
     ensures { IfOk result (λ set. IsReachedSet edges.now set.keys) }
 {
     let lefts = left(alloc, edges)?;
-    let groups = groups(alloc, &lefts, edges)?;
-    let mut set = roots(alloc, &lefts, entered)?;
-    let mut next = 0;
-    while next < set.len() {
-        let wire = set.as_slice()[next];
-        follow(&mut set, &lefts, &groups, wire)?;
-        next += 1;
-    }
-    Ok(set)
+    let found = reached_among(alloc, edges, entered, &lefts);
+    mem::drop(lefts);
+    found
 }
 
-// The place of the first edge that enters a wire which an edge before it enters, or which is not reached.
-fn wrong_entry(alloc: Global, edges: &[(Wire, Wire)]) -> Result<Option<usize>, Memory>
-    ensures { IfOk result (λ found. MatchOption found (AreRight (IsRightEntry edges.now) edges.now) (IsFirstWrongAt (IsRightEntry edges.now) edges.now)) }
+// The wires of a net that are reached along its edges.
+fn reached(alloc: Global, edges: &[(Wire, Wire)]) -> Result<IndexSet<u32>, Memory>
+    ensures { IfOk result (λ set. IsReachedSet edges.now set.keys) }
 {
     let entered = entered(alloc, edges)?;
-    let reached = reached(alloc, edges, &entered)?;
-    let mut seen: IndexSet<u32> = IndexSet::new(alloc);
+    let found = reached_past(alloc, edges, &entered);
+    mem::drop(entered);
+    found
+}
+
+// The place of the first edge that enters a wire which an edge before it enters, or which is not among those that are reached.
+fn first_wrong(
+    seen: &mut IndexSet<u32>,
+    edges: &[(Wire, Wire)],
+    reached: &IndexSet<u32>,
+) -> Result<Option<usize>, Memory>
+    requires seen { seen.old.keys ≡ [] }
+    requires reached { IsReachedSet edges.now reached.now.keys }
+    ensures { IfOk result (λ found. MatchOption found (AreRight (IsRightEntry edges.now) edges.now) (IsFirstWrongAt (IsRightEntry edges.now) edges.now)) }
+{
     for (place, edge) in edges.iter().enumerate() {
         let again = seen.contains(&edge.1.0);
         if again {
@@ -157,6 +212,17 @@ fn wrong_entry(alloc: Global, edges: &[(Wire, Wire)]) -> Result<Option<usize>, M
         seen.insert(edge.1.0)?;
     }
     Ok(None)
+}
+
+// The place of the first edge that enters a wire which an edge before it enters, or which is not reached.
+fn wrong_entry(alloc: Global, edges: &[(Wire, Wire)]) -> Result<Option<usize>, Memory>
+    ensures { IfOk result (λ found. MatchOption found (AreRight (IsRightEntry edges.now) edges.now) (IsFirstWrongAt (IsRightEntry edges.now) edges.now)) }
+{
+    let reached = reached(alloc, edges)?;
+    let mut seen = IndexSet::new(alloc);
+    let found = first_wrong(&mut seen, edges, &reached);
+    mem::drop((seen, reached));
+    found
 }
 
 /// Each wire that an edge of a net enters is entered once and reached.

@@ -1,16 +1,24 @@
 //! The wires of the nets, and whether one stands in two of them.
 
-ghost use Rattle.std.specs.Prelude.{◌≡◌, ℕ, [], IfOk, map, fold, nat_eq};
+ghost use Rattle.std.specs.Prelude.{◌≡◌, ℕ, [], All, IfErr, IfOk, OnOk, map, fold, nat_eq};
 ghost use Rattle.std.specs.List.{flat_map};
 ghost use Rattle.indexmap.specs.IndexSet.{insert_all};
+ghost use Rattle.fab_implementation.specs.OnFabric.{HasWires};
+ghost use Rattle.fab_legal.specs.Answers.{Breaks};
+ghost use Rattle.fab_legal.specs.Broken.{IsSharedItem};
+ghost use Rattle.fab_legal.specs.Legal.{NetsAreApart, NetsBeginRight};
 ghost use Rattle.fab_legal.specs.Tables.{edge_numbers, key_lists, HaveWires, IsLeast, IsShared, lesser, keep_least};
 
+use crate::broken::{CheckFault, broken_by};
 use crate::reach::put_all;
+use crate::texts::wire_text;
 use fab_base::Memory;
-use fab_fabric::Wire;
-use fab_implementation::Tree;
+use fab_fabric::{Fabric, Wire};
+use fab_implementation::{Implementation, Tree};
+use fab_netlist::Packed;
 use indexmap::IndexSet;
 use std::alloc::Global;
+use std::mem;
 
 // The wires of edges.
 fn edge_wires(alloc: Global, edges: &[(Wire, Wire)]) -> Result<IndexSet<u32>, Memory>
@@ -58,8 +66,8 @@ fn least_owned(owned: &IndexSet<u32>, wires: &[u32], other: Option<u32>) -> Opti
     least
 }
 
-/// The least wire that stands in two nets, if there is one.
-pub fn shared(alloc: Global, sets: &[IndexSet<u32>]) -> Result<Option<u32>, Memory>
+// The least wire that stands in two nets, if there is one.
+fn shared(alloc: Global, sets: &[IndexSet<u32>]) -> Result<Option<u32>, Memory>
     ensures { IfOk result (λ least. IsLeast (IsShared (key_lists sets.now)) least) }
 {
     let mut owned = IndexSet::new(alloc);
@@ -70,4 +78,26 @@ pub fn shared(alloc: Global, sets: &[IndexSet<u32>]) -> Result<Option<u32>, Memo
         put_all(&mut owned, wires)?;
     }
     Ok(least)
+}
+
+/// No wire stands in two nets, where these are the wires of each.
+pub fn check_apart(
+    alloc: Global,
+    fabric: &Fabric,
+    _packed: &Packed,
+    _implementation: &Implementation,
+    sets: Vec<IndexSet<u32>>,
+) -> Result<(), CheckFault>
+    requires wires { All (λ tree. All (HasWires fabric.now) tree.edges) _implementation.now.trees }
+    requires nets { NetsBeginRight fabric.now _packed.now _implementation.now }
+    requires sets { HaveWires _implementation.now.trees (key_lists sets.items) }
+    ensures ok { OnOk result (NetsAreApart _implementation.now) }
+    ensures err { IfErr result (Breaks 9 (IsSharedItem fabric.now _implementation.now)) }
+{
+    let least = shared(alloc, &sets);
+    mem::drop(sets);
+    match least? {
+        None => Ok(()),
+        Some(wire) => Err(broken_by(9, wire_text(alloc, fabric, Wire(wire))?)),
+    }
 }

@@ -9,20 +9,20 @@ use Rattle.fab_legal.proofs.Lists.{at_read}
 use Rattle.fab_legal.proofs.Cells.{breaks_by}
 use Rattle.fab_legal.proofs.SinkLists.{have_kinds}
 use Rattle.fab_legal.proofs.NetSteps.{name_item, start_item, nets_more, numbers_more}
-use Rattle.fab_legal.proofs.nets.check_nets.Goals as goal
+use Rattle.fab_legal.proofs.nets.put_nets.Goals as goal
 
 pub wrong_tree-requires-clause-luts : goal.wrong_tree-requires-clause-luts
 wrong_tree-requires-clause-luts c =
-    (have_kinds c.args.fabric.now c.args.packed.now c.args.implementation.now c.args.placed.now c.requires.kept c.requires.sites.cells c.requires.sites.ports).luts
+    (have_kinds c.args.fabric.now c.args._packed.now c.args.implementation.now c.args.placed.now c.requires.kept c.requires.sites.cells c.requires.sites.ports).luts
 
 pub wrong_tree-requires-clause-pads : goal.wrong_tree-requires-clause-pads
 wrong_tree-requires-clause-pads c =
-    (have_kinds c.args.fabric.now c.args.packed.now c.args.implementation.now c.args.placed.now c.requires.kept c.requires.sites.cells c.requires.sites.ports).in_pads
+    (have_kinds c.args.fabric.now c.args._packed.now c.args.implementation.now c.args.placed.now c.requires.kept c.requires.sites.cells c.requires.sites.ports).in_pads
 
 pub returns-then-not-is_new-clause-err : goal.returns-then-not-is_new-clause-err
 returns-then-not-is_new-clause-err c =
     let f = c.args.fabric.now in
-    let p = c.args.packed.now in
+    let p = c.args._packed.now in
     let i = c.args.implementation.now in
     let placed = c.args.placed.now in
     let n = c.loop-tree.tree-index in
@@ -38,7 +38,7 @@ returns-then-not-is_new-clause-err c =
 pub returns-in-Some-clause-err : goal.returns-in-Some-clause-err
 returns-in-Some-clause-err c =
     let f = c.args.fabric.now in
-    let p = c.args.packed.now in
+    let p = c.args._packed.now in
     let i = c.args.implementation.now in
     let placed = c.args.placed.now in
     let n = c.loop-tree.tree-index in
@@ -57,7 +57,7 @@ returns-in-Some-clause-err c =
 pub loop-tree-preserved : goal.loop-tree-preserved
 loop-tree-preserved c =
     let f = c.args.fabric.now in
-    let p = c.args.packed.now in
+    let p = c.args._packed.now in
     let i = c.args.implementation.now in
     let placed = c.args.placed.now in
     let n = c.loop-tree.tree-index in

@@ -3,7 +3,7 @@ use Rattle.indexmap.specs.IndexSet.{insert_all}
 use Rattle.fab_legal.specs.Turns.{FirstAreRight}
 use Rattle.fab_legal.specs.Nets.{IsRightEntry}
 use Rattle.fab_legal.specs.Tables.{entered_number}
-use Rattle.fab_legal.proofs.reach.wrong_entry.Given as goal
+use Rattle.fab_legal.proofs.reach.first_wrong.Given as goal
 
 abbrev pub invariant-loop-place : goal.invariant-loop-place
 invariant-loop-place l = record {

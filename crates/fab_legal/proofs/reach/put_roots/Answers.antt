@@ -2,7 +2,7 @@ use Rattle.std.proofs.Common.{◌+◌, List, ℕ, get_or, take, sym, ◌∙◌, 
 use Rattle.fab_legal.specs.Tables.{IsRootSet}
 use Rattle.fab_legal.proofs.Lists.{at_default}
 use Rattle.fab_legal.proofs.ReachSearch.{no_root, root_more}
-use Rattle.fab_legal.proofs.reach.roots.Goals as goal
+use Rattle.fab_legal.proofs.reach.put_roots.Goals as goal
 
 pub loop-wire-preserved-then-contains : goal.loop-wire-preserved-then-contains
 loop-wire-preserved-then-contains c =

@@ -1,10 +1,10 @@
 use Rattle.std.proofs.Common.{◌+◌, ◌-◌, length}
 use Rattle.fab_legal.specs.Tables.{missing}
 use Rattle.fab_legal.proofs.ReachSearch.{Searching}
-use Rattle.fab_legal.proofs.reach.reached.Given as goal
+use Rattle.fab_legal.proofs.reach.put_reached.Given as goal
 
 abbrev pub invariant-loop-next : goal.invariant-loop-next
-invariant-loop-next l = Searching l.edges l.set.keys l.next
+invariant-loop-next l = Searching l._edges l.set.keys l.next
 
 abbrev pub decreases-loop-next : goal.decreases-loop-next
-decreases-loop-next l = missing l.edges l.set.keys + (length l.set.keys - l.next)
+decreases-loop-next l = missing l._edges l.set.keys + (length l.set.keys - l.next)
