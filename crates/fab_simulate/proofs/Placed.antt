@@ -1,5 +1,5 @@
 -- Why a file ends the command whose bytes are refused at a line.
-use Rattle.std.proofs.Common.{◌≡◌, ◌⊎◌, ◌/◌, ◌+◌, ℕ, List, length, Option, Some, inl, inr, sym, ap, ◌∙◌, subst}
+use Rattle.std.proofs.Common.{◌≡◌, ◌⊎◌, ◌/◌, ◌+◌, ℕ, List, length, Option, Some, inl, inr, sym, ap, subst}
 use Rattle.fab_base.specs.Reading.{fault_at}
 use Rattle.fab_base.specs.declared.fault.Fault.{Fault}
 use Rattle.fab_base.specs.declared.fault.Fault.TheVariants as faults

@@ -13,12 +13,16 @@ ghost use Rattle.fab_simulate.specs.Going.{CanGoThrough, CanRun, GoesThrough};
 ghost use Rattle.fab_simulate.specs.Simulating.{Traces};
 
 use fab_base::Memory;
+use fab_progress::{Progress, Step};
 use fab_sim::Machine;
 use fab_simulation::simulations_exist;
 use fab_state::State;
 use fab_stimulus::print_trace;
 use fab_ternary::Tern;
 use std::alloc::Global;
+
+/// How many cycles lie between two that are told.
+const TOLD_CYCLES: usize = 1000;
 
 /// What so many output ports show in a cycle with these values at the input ports.
 fn shown(
@@ -36,9 +40,17 @@ fn shown(
     Ok(outputs)
 }
 
+/// Tells of a cycle that is done, counted from 1, where it is a thousandth or the last of all.
+fn tell_cycle<P: Progress>(progress: &mut P, cycle: usize, cycles: usize) {
+    if cycle % TOLD_CYCLES == 0 || cycle == cycles {
+        progress.tell(Step::Simulating { cycle, cycles });
+    }
+}
+
 /// What they show in each cycle, where the values of each line stand at the input ports.
-fn cycles(
+fn cycles<P: Progress>(
     alloc: Global,
+    progress: &mut P,
     machine: &mut Machine,
     lines: &[Vec<bool>],
     ports: usize,
@@ -51,13 +63,15 @@ fn cycles(
     for line in lines {
         let outputs = shown(alloc, machine, line, ports)?;
         traced.push(outputs)?;
+        tell_cycle(progress, traced.len(), lines.len());
     }
     Ok(traced)
 }
 
 /// Loads words, and gives what the output ports of a state show in each cycle.
-fn simulated(
+fn simulated<P: Progress>(
     alloc: Global,
+    progress: &mut P,
     machine: &mut Machine,
     state: &State,
     words: &[u32],
@@ -69,13 +83,15 @@ fn simulated(
         (map (λ line. map plain_tern line.items) traced.items)) }
 {
     simulations_exist();
+    progress.tell(Step::Loading);
     machine.load(words);
-    cycles(alloc, machine, lines, state.outs.len())
+    cycles(alloc, progress, machine, lines, state.outs.len())
 }
 
 /// The printed trace of the output ports of a state.
-pub fn trace_text(
+pub fn trace_text<P: Progress>(
     alloc: Global,
+    progress: &mut P,
     machine: &mut Machine,
     state: &State,
     words: &[u32],
@@ -85,6 +101,6 @@ pub fn trace_text(
     ensures { (text : List PlainModule) → IsNew text state.now machine.old →
         IfOk result (λ bytes. Traces text state.now words.now (map (λ line. line.items) lines.now) bytes.items) }
 {
-    let traced = simulated(alloc, machine, state, words, lines)?;
+    let traced = simulated(alloc, progress, machine, state, words, lines)?;
     print_trace(alloc, state, &traced)
 }

@@ -69,7 +69,7 @@ fn stimulated<D: Desk, P: Progress>(
 {
     progress.tell(Step::Reading(stimulus));
     let read = read_lines(alloc, desk, stimulus, state)?;
-    Ok(trace_text(alloc, machine, state, words, &read.lines)?)
+    Ok(trace_text(alloc, progress, machine, state, words, &read.lines)?)
 }
 
 /// The trace of a text, from the files that come behind it.

@@ -21,7 +21,7 @@ returns-in_err-bytes-clause-cause g c =
 pub returns-clause-spelled : goal.returns-clause-spelled
 returns-clause-spelled g c = λ files is.
     let found : handed_out files c.args.file.now ≡ Ok c.deref.result.now = rw c.deref.ensures.value (c.in_ok-bytes.ensures.found files is) in
-    IfOk-weaker c.read.result _ _ (λ text spelled. record { bytes = c.deref.result.now; found = found; spelled = spelled }) c.read.ensures.found
+    IfOk-weaker c.text_of_bytes.result _ _ (λ text spelled. record { bytes = c.deref.result.now; found = found; spelled = spelled }) c.text_of_bytes.ensures.spelled
 
 pub returns-clause-cause : goal.returns-clause-cause
 returns-clause-cause g c =
@@ -29,6 +29,6 @@ returns-clause-cause g c =
     let rose = g.D.Desk.reads c.args.desk.now < g.D.Desk.reads c.fetch.new.desk in
     let file = c.args.file.now in
     let found : (files : Map) → told ≡ Some files → handed_out files file ≡ Ok c.deref.result.now = λ files is. rw c.deref.ensures.value (c.in_ok-bytes.ensures.found files is) in
-    IfErr-weaker c.read.result _ _
+    IfErr-weaker c.text_of_bytes.result _ _
     (λ fault refused. refused_cause told rose (λ files. MeetsDevice files file) file (IsRefusal file c.deref.result.now) fault (λ why. (why.line, why.problem, why.told)) refused
-    (λ files is why. of_bytes (found files is) (misspelled why))) c.read.ensures.refused
+    (λ files is why. of_bytes (found files is) (misspelled why))) c.text_of_bytes.ensures.refused

@@ -7,14 +7,14 @@ use Rattle.fab_simulate.proofs.Goings.{HasGone, all_shown, drop_mapped, full_at,
 use Rattle.fab_simulate.proofs.running.cycles.Goals as goal
 
 pub shown-requires : goal.shown-requires
-shown-requires c =
+shown-requires g c =
     let state = c.requires.1 in
     let gone = c.loop-line.invariant c.requires.0 state c.requires.2 c.requires.3 in
     let full = full_at (λ line. line.items) c.args.lines.now state c.loop-line.line-index c.line-item.result c.loop-line-test.true c.line-item.is c.requires.4 in
     (c.requires.0, state, gone.goes.held, gone.goes.at, ap length c.deref.ensures.value ∙ full, c.requires.5)
 
 pub loop-line-preserved : goal.loop-line-preserved
-loop-line-preserved c = λ text state shown goes.
+loop-line-preserved g c = λ text state shown goes.
     let gone = c.loop-line.invariant text state shown goes in
     let line = c.line-item.result in
     let lines = map (λ line. line.items) c.args.lines.now in
@@ -32,7 +32,7 @@ loop-line-preserved c = λ text state shown goes.
     subst (λ d. HasGone text state c.shown.new.machine later shown d) (sym more) on
 
 pub returns : goal.returns
-returns c = λ text state shown goes.
+returns g c = λ text state shown goes.
     let lines = map (λ line. line.items) c.args.lines.now in
     let done = map (λ line. map plain_tern line.items) c.loop-line.traced.items in
     let long = length-map c.args.lines.now (λ line. line.items) in

@@ -8,6 +8,6 @@ use Rattle.fab_simulate.proofs.Goings.{HasGone}
 use Rattle.fab_simulate.proofs.running.cycles.Given as goal
 
 abbrev pub invariant-loop-line : goal.invariant-loop-line
-invariant-loop-line l =
+invariant-loop-line g l =
     (text : List PlainModule) (state : PlainState) (shown : List (List PlainTern)) → GoesThrough text state l.fn.machine (map (λ line. line.items) l.fn.lines) shown →
     HasGone text state l.machine (drop l.line-index (map (λ line. line.items) l.fn.lines)) shown (map (λ line. map plain_tern line.items) l.traced.items)

@@ -7,7 +7,7 @@ use Rattle.fab_simulate.proofs.Goings.{goes_from_new, has_simulation}
 use Rattle.fab_simulate.proofs.running.simulated.Goals as goal
 
 pub cycles-requires : goal.cycles-requires
-cycles-requires c =
+cycles-requires g c =
     let state = c.args.state.now in
     let machine = c.args.machine.now in
     let lines = map (λ line. line.items) c.args.lines.now in
@@ -21,7 +21,7 @@ cycles-requires c =
     )
 
 pub returns : goal.returns
-returns c = λ text new.
+returns g c = λ text new.
     let state = c.args.state.now in
     let machine = c.args.machine.now in
     let words = map (digits 32) c.args.words.now in
