@@ -1,9 +1,9 @@
 -- Covers and latches by the words that were drawn for them.
 use Rattle.std.proofs.Common.{◌≡◌, ℕ, ◌+◌, ◌*◌, ap, ◌∙◌, add-zero}
 use Rattle.rand_pcg.specs.Lcg.{Lcg}
-use Rattle.fab_sample.specs.Draws.{after, word_at}
+use Rattle.fab_draws.specs.Draws.{after, word_at}
 use Rattle.fab_sample.specs.Drawn.{cover_of, drawn_cover, latch_of, drawn_latch}
-use Rattle.fab_sample.proofs.Drawing.{words_here}
+use Rattle.fab_draws.proofs.Drawing.{words_here}
 
 pub cover_here : (size number : ℕ) (start here : Lcg) → here ≡ after (4 * number) start
     → cover_of size (2 * size + number) (word_at here 0) (word_at here 1) (word_at here 2) (word_at here 3) ≡ drawn_cover size (word_at start) number

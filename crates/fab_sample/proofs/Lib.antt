@@ -1,4 +1,3 @@
 pub mod Steps
-pub mod Drawing
 pub mod DesignDraws
 pub mod Pushed

@@ -5,7 +5,7 @@ use Rattle.fab_sample.specs.declared.net.Net.{Net}
 use Rattle.fab_sample.specs.declared.net.Net.TheVariants as nets
 use Rattle.fab_sample.specs.declared.design.Cover.{Cover}
 use Rattle.fab_sample.specs.declared.design.Latch.{Latch}
-use Rattle.fab_sample.specs.Draws.{behind, is_one}
+use Rattle.fab_draws.specs.Draws.{behind, is_one}
 
 -- the nets in their order: inputs, then latches, then covers
 abbrev pub net_at : (size place : ℕ) → Net

@@ -5,7 +5,7 @@ use Rattle.fab_sample.specs.declared.net.Net.{Net}
 use Rattle.fab_sample.specs.declared.net.Net.TheVariants as nets
 use Rattle.fab_sample.specs.declared.design.Cover.{Cover}
 use Rattle.fab_sample.specs.declared.design.Latch.{Latch}
-use Rattle.fab_sample.specs.Draws.{is_one}
+use Rattle.fab_draws.specs.Draws.{is_one}
 use Rattle.fab_sample.specs.Lines.{Line, words}
 
 abbrev pub net_name : Net → Line

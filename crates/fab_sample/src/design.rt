@@ -1,12 +1,12 @@
 //! The design of a sample, as it is drawn.
 
 ghost use Rattle.std.specs.Prelude.{◌≡◌, ◌<◌, ◌≤◌, ◌*◌, ◌%◌, IfOk, OnOk};
-ghost use Rattle.fab_sample.specs.Draws.{after, behind, word_at};
+ghost use Rattle.fab_draws.specs.Draws.{after, behind, word_at};
 ghost use Rattle.fab_sample.specs.Drawn.{cover_of, covers, latch_of, latches, net_at};
 
-use crate::draws::{draw_below, draw_bit};
 use crate::net::{Net, net_at};
 use fab_base::Memory;
+use fab_draws::{draw_below, draw_bit};
 use rand_pcg::Lcg64Xsh32;
 use std::alloc::Global;
 

@@ -2,7 +2,6 @@
 #![tactic(auto)]
 
 mod design;
-mod draws;
 mod fabric;
 mod file;
 mod lines;

@@ -1,7 +1,7 @@
 //! A sample is drawn and printed.
 
 ghost use Rattle.std.specs.Prelude.{◌≡◌, ◌≤◌, ◌++◌, [], ◌∷◌, IfOk, OnOk, map};
-ghost use Rattle.fab_sample.specs.Draws.{draws_of};
+ghost use Rattle.fab_draws.specs.Draws.{draws_of};
 ghost use Rattle.fab_sample.specs.Drawn.{covers, sample_latches, sample_stimulus};
 ghost use Rattle.fab_sample.specs.Files.{design_files, fabric_files, sample_files};
 

@@ -1,15 +1,15 @@
 //! The stimulus of a sample.
 
 ghost use Rattle.std.specs.Prelude.{◌≡◌, ◌<◌, ◌≤◌, ◌*◌, ◌++◌, IfOk, OnOk, map};
-ghost use Rattle.fab_sample.specs.Draws.{after, word_at};
+ghost use Rattle.fab_draws.specs.Draws.{after, word_at};
 ghost use Rattle.fab_sample.specs.Drawn.{stimulus_line, stimulus_lines};
 ghost use Rattle.fab_sample.specs.Lines.{text};
 ghost use Rattle.fab_sample.specs.Netlists.{digit, stimulus_text_lines};
 
-use crate::draws::draw_bit;
 use crate::lines::put;
 use crate::net::{inputs, put_names};
 use fab_base::{Memory, Name};
+use fab_draws::draw_bit;
 use rand_pcg::Lcg64Xsh32;
 use std::alloc::Global;
 

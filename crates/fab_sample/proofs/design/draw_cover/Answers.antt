@@ -1,9 +1,9 @@
 use Rattle.std.proofs.Common.{◌≡◌, ◌%◌, ◌∙◌, ap, ℕ}
 use Rattle.fab_sample.specs.declared.net.Net.{Net}
 use Rattle.fab_sample.specs.declared.design.Cover.{Cover}
-use Rattle.fab_sample.specs.Draws.{word_at}
+use Rattle.fab_draws.specs.Draws.{word_at}
 use Rattle.fab_sample.specs.Drawn.{net_at}
-use Rattle.fab_sample.proofs.Drawing.{more_drawn, word_here}
+use Rattle.fab_draws.proofs.Drawing.{more_drawn, word_here}
 use Rattle.fab_sample.proofs.design.draw_cover.Goals as goal
 
 pub returns-clause-cover : goal.returns-clause-cover

@@ -1,8 +1,8 @@
 use Rattle.std.proofs.Common.{◌≡◌, ◌+◌, ◌*◌, ◌∷◌, ◌++◌, [], ◌∙◌, ap, sym, arith}
 use Rattle.fab_sample.specs.declared.design.Cover.{Cover}
-use Rattle.fab_sample.specs.Draws.{after, word_at}
+use Rattle.fab_draws.specs.Draws.{after, word_at}
 use Rattle.fab_sample.specs.Drawn.{drawn_cover}
-use Rattle.fab_sample.proofs.Drawing.{after_none, more_drawn}
+use Rattle.fab_draws.proofs.Drawing.{after_none, more_drawn}
 use Rattle.fab_sample.proofs.DesignDraws.{cover_here}
 use Rattle.fab_sample.proofs.Steps.{map_more}
 use Rattle.fab_sample.proofs.design.draw_covers.Goals as goal

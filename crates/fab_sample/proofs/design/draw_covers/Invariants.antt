@@ -1,6 +1,6 @@
 use Rattle.std.proofs.Common.{◌≡◌, ◌*◌, map}
 use Rattle.std.specs.List.{range_with_len}
-use Rattle.fab_sample.specs.Draws.{after, word_at}
+use Rattle.fab_draws.specs.Draws.{after, word_at}
 use Rattle.fab_sample.specs.Drawn.{drawn_cover}
 use Rattle.fab_sample.proofs.design.draw_covers.Given as goal
 

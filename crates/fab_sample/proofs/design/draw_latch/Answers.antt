@@ -1,7 +1,7 @@
 use Rattle.std.proofs.Common.{◌≡◌, ◌*◌, ◌%◌, ◌∙◌, ap, ℕ, Bool}
 use Rattle.fab_sample.specs.declared.design.Latch.{Latch}
-use Rattle.fab_sample.specs.Draws.{is_one, word_at}
-use Rattle.fab_sample.proofs.Drawing.{more_drawn, word_here}
+use Rattle.fab_draws.specs.Draws.{is_one, word_at}
+use Rattle.fab_draws.proofs.Drawing.{more_drawn, word_here}
 use Rattle.fab_sample.proofs.design.draw_latch.Goals as goal
 
 pub returns-clause-latch : goal.returns-clause-latch

@@ -1,8 +1,8 @@
 use Rattle.std.proofs.Common.{◌*◌, ◌∙◌, ap}
 use Rattle.rand_pcg.specs.Lcg.{Lcg}
-use Rattle.fab_sample.specs.Draws.{behind, word_at}
+use Rattle.fab_draws.specs.Draws.{behind, word_at}
 use Rattle.fab_sample.specs.Drawn.{covers, latches, stimulus_lines}
-use Rattle.fab_sample.proofs.Drawing.{seeded, words_here}
+use Rattle.fab_draws.proofs.Drawing.{seeded, words_here}
 use Rattle.fab_sample.proofs.sample.draw.Goals as goal
 
 pub returns-clause-covers : goal.returns-clause-covers

@@ -1,6 +1,6 @@
 use Rattle.std.proofs.Common.{◌≡◌, ◌∷◌, ◌++◌, [], ◌∙◌, ap, sym, ℕ, Bool, add-zero}
-use Rattle.fab_sample.specs.Draws.{is_one, word_at}
-use Rattle.fab_sample.proofs.Drawing.{after_none, more_drawn, word_here}
+use Rattle.fab_draws.specs.Draws.{is_one, word_at}
+use Rattle.fab_draws.proofs.Drawing.{after_none, more_drawn, word_here}
 use Rattle.fab_sample.proofs.Steps.{map_more}
 use Rattle.fab_sample.proofs.stimulus.draw_line.Goals as goal
 

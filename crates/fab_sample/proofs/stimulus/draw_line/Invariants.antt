@@ -1,6 +1,6 @@
 use Rattle.std.proofs.Common.{◌≡◌, map}
 use Rattle.std.specs.List.{range_with_len}
-use Rattle.fab_sample.specs.Draws.{after, is_one, word_at}
+use Rattle.fab_draws.specs.Draws.{after, is_one, word_at}
 use Rattle.fab_sample.proofs.stimulus.draw_line.Given as goal
 
 abbrev pub invariant-loop-place : goal.invariant-loop-place

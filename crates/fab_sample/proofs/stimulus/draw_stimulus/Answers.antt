@@ -1,7 +1,7 @@
 use Rattle.std.proofs.Common.{◌≡◌, ◌+◌, ◌*◌, ◌∷◌, ◌++◌, [], List, map, ◌∙◌, ap, sym, arith, Bool}
-use Rattle.fab_sample.specs.Draws.{after, word_at}
+use Rattle.fab_draws.specs.Draws.{after, word_at}
 use Rattle.fab_sample.specs.Drawn.{drawn_line, stimulus_line}
-use Rattle.fab_sample.proofs.Drawing.{after_none, more_drawn, words_here}
+use Rattle.fab_draws.proofs.Drawing.{after_none, more_drawn, words_here}
 use Rattle.fab_sample.proofs.Steps.{map_more, map_of_push}
 use Rattle.fab_sample.proofs.stimulus.draw_stimulus.Goals as goal
 

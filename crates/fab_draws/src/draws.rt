@@ -1,7 +1,7 @@
 //! Numbers that are drawn from a generator.
 
 ghost use Rattle.std.specs.Prelude.{◌≡◌, ◌<◌, ◌%◌};
-ghost use Rattle.fab_sample.specs.Draws.{after, is_one, word_at};
+ghost use Rattle.fab_draws.specs.Draws.{after, is_one, word_at};
 
 use rand_core::utils::NextWord;
 use rand_pcg::Lcg64Xsh32;

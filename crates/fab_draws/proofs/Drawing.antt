@@ -3,7 +3,7 @@ use Rattle.std.proofs.Common.{◌≡◌, ℕ, zero, suc, ◌+◌, ap, refl, sym,
 use Rattle.rand_pcg.specs.Lcg.{Lcg, next_state, state_after}
 use Rattle.rand_core.specs.Pcg32Seed.{pcg32_seed}
 use Rattle.rand_pcg.specs.Pcg.{multiplier_64, pcg32, pcg32_of_seed}
-use Rattle.fab_sample.specs.Draws.{after, behind, generator_of, word_at}
+use Rattle.fab_draws.specs.Draws.{after, behind, generator_of, word_at}
 
 state_after-add : (w m p j k s : ℕ) → state_after w m p (j + k) s ≡ state_after w m p k (state_after w m p j s)
 unfolding state_after
