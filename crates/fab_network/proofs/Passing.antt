@@ -10,7 +10,7 @@ use Rattle.fab_ternary.specs.Terns.{plain_tern, is_known}
 use Rattle.fab_compiled.specs.Terns.{seen}
 use Rattle.fab_compiled.specs.Leading.{PointTerns, AreAbove}
 use Rattle.fab_network.specs.Network.{AreFit}
-use Rattle.fab_network.specs.Passes.{kept_tern, open_count, changed_after, open_after, shows, shows_now, AreRising, EachListed, AreBacked, AreOwn, StaysBelow, Scene, IsVisit, IsPassed}
+use Rattle.fab_network.specs.Passes.{kept_tern, open_count, changed_after, unsettled_after, shows, shows_now, AreRising, EachListed, AreBacked, AreOwn, StaysBelow, Scene, IsVisit, IsPassed}
 use Rattle.fab_network.specs.declared.passes.Visit.{Visit}
 use Rattle.fab_network.specs.declared.passes.Visit.TheVariants.{Known, Still, Found}
 use Rattle.fab_network.proofs.Sources.{shown_grows}
@@ -49,7 +49,7 @@ module _ (scene : Scene) (fit : AreFit scene.trees scene.drives) (points : lengt
 
   -- ---- one more look
 
-  module _ (count : ℕ) (old now : List Tern) (changed open_left : Bool) (passed : IsPassed scene count old now changed open_left) (room : count < length scene.order)
+  module _ (count : ℕ) (old now : List Tern) (changed unsettled : Bool) (passed : IsPassed scene count old now changed unsettled) (room : count < length scene.order)
       (long : length now ≡ length scene.leads) where
     abbrev here : ℕ
     here = slice_index scene.order count
@@ -65,9 +65,9 @@ module _ (scene : Scene) (fit : AreFit scene.trees scene.drives) (points : lengt
           | inr after ↦ (let e : count ≡ place = omega arith in subst (λ n. P (slice_index scene.order n)) e at)
         ]
 
-    pub known_passed : (new : List Tern) → IsVisit scene here now new Known → IsPassed scene (count + 1) old new changed open_left
+    pub known_passed : (new : List Tern) → IsVisit scene here now new Known → IsPassed scene (count + 1) old new changed unsettled
     known_passed new (stays, is) =
-        let made : IsPassed scene (count + 1) old now changed open_left = record {
+        let made : IsPassed scene (count + 1) old now changed unsettled = record {
           long = passed.long;
           rising = passed.rising;
           below = passed.below;
@@ -81,7 +81,7 @@ module _ (scene : Scene) (fit : AreFit scene.trees scene.drives) (points : lengt
           all = λ e. one_more (λ q. is_known (kept_tern now q) ≡ true) (passed.all e) is;
           others = passed.others;
         } in
-        subst (λ (terns : List Tern). IsPassed scene (count + 1) old terns changed open_left) (sym stays) made
+        subst (λ (terns : List Tern). IsPassed scene (count + 1) old terns changed unsettled) (sym stays) made
 
     pub still_passed : (new : List Tern) → IsVisit scene here now new Still → IsPassed scene (count + 1) old new changed true
     still_passed new (stays, none, shows_none) =
@@ -151,7 +151,7 @@ module _ (scene : Scene) (fit : AreFit scene.trees scene.drives) (points : lengt
             | inr n ↦ omega (arith, ap open_count (passed.same n).0, fewer_now)
           ]
 
-      pub found_passed_at : IsPassed scene (count + 1) old next true open_left
+      pub found_passed_at : IsPassed scene (count + 1) old next true unsettled
       found_passed_at = record {
         long = length-set now here t ∙ passed.long;
         rising = λ q. below_trans (kept_tern old q) (kept_tern now q) (kept_tern next q) (passed.rising q) (rise q);
@@ -165,12 +165,12 @@ module _ (scene : Scene) (fit : AreFit scene.trees scene.drives) (points : lengt
         others = λ q n. kept_other now here t q (λ e. n (count, room, sym e)) ∙ passed.others q n;
       }
 
-    pub found_passed : (new : List Tern) → IsVisit scene here now new Found → IsPassed scene (count + 1) old new true open_left
+    pub found_passed : (new : List Tern) → IsVisit scene here now new Found → IsPassed scene (count + 1) old new true unsettled
     found_passed new (none, t, stays, is, given) =
-        subst (λ (terns : List Tern). IsPassed scene (count + 1) old terns true open_left) (sym stays) (found_passed_at none t is given)
+        subst (λ (terns : List Tern). IsPassed scene (count + 1) old terns true unsettled) (sym stays) (found_passed_at none t is given)
 
     pub visit_passed : (new : List Tern) (visit : Visit) → IsVisit scene here now new visit →
-        IsPassed scene (count + 1) old new (changed_after changed visit) (open_after open_left visit)
+        IsPassed scene (count + 1) old new (changed_after changed visit) (unsettled_after unsettled visit)
     visit_passed new Known is = known_passed new is
     visit_passed new Still is = still_passed new is
     visit_passed new Found is = found_passed new is

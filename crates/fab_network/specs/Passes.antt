@@ -83,18 +83,18 @@ changed_after changed Known = changed
 changed_after changed Still = changed
 changed_after changed Found = true
 
-abbrev pub open_after : Bool → Visit → Bool
-open_after open_left Known = open_left
-open_after open_left Still = true
-open_after open_left Found = open_left
+abbrev pub unsettled_after : Bool → Visit → Bool
+unsettled_after unsettled Known = unsettled
+unsettled_after unsettled Still = true
+unsettled_after unsettled Found = unsettled
 
 -- what looks at the first points of the list have done
-pub record IsPassed (scene : Scene) (count : ℕ) (old now : List Tern) (changed open_left : Bool) : Type 0 where
+pub record IsPassed (scene : Scene) (count : ℕ) (old now : List Tern) (changed unsettled : Bool) : Type 0 where
   pub long : length now ≡ length old
   pub rising : AreRising old now
   pub below : StaysBelow scene.trees scene.drives scene.held scene.order scene.leads old now
   pub backed : AreBacked scene.trees scene.drives scene.held scene.order (seen now scene.leads)
   pub same : changed ≡ false → (now ≡ old) × EachListed count scene.order (λ point. kept_tern old point ≡ unknown → shows_now scene old point ≡ unknown)
   pub fewer : changed ≡ true → open_count now < open_count old
-  pub all : open_left ≡ false → EachListed count scene.order (λ point. is_known (kept_tern now point) ≡ true)
+  pub all : unsettled ≡ false → EachListed count scene.order (λ point. is_known (kept_tern now point) ≡ true)
   pub others : (point : ℕ) → (IsListed scene.order point → ⊥) → kept_tern now point ≡ kept_tern old point

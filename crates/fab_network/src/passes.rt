@@ -4,7 +4,7 @@ ghost use Rattle.std.specs.Prelude.{◌≡◌, ◌<◌, ◌≤◌, ◌^◌, ℕ,
 ghost use Rattle.fab_ternary.specs.Terns.{plain_tern};
 ghost use Rattle.fab_compiled.specs.Terns.{seen, IsView};
 ghost use Rattle.fab_network.specs.Network.{AreFit};
-ghost use Rattle.fab_network.specs.Passes.{changed_after, kept_tern, open_after, AreBacked, AreOwn, AreRising, AreSolved, IsListed, IsPassed, IsVisit, StaysBelow};
+ghost use Rattle.fab_network.specs.Passes.{changed_after, kept_tern, unsettled_after, AreBacked, AreOwn, AreRising, AreSolved, IsListed, IsPassed, IsVisit, StaysBelow};
 
 use crate::network::{Network, shown};
 use fab_compiled::View;
@@ -26,25 +26,25 @@ enum Visit {
 struct Pass {
     /// Whether a point has come to be known.
     changed: bool,
-    /// Whether a point is still open.
-    open: bool,
+    /// Whether a point is still unknown.
+    unsettled: bool,
 }
 
 impl Pass {
     // One more look in the pass.
     fn noting(self, visit: Visit) -> Pass
         ensures changed { result.changed ≡ changed_after self.changed visit }
-        ensures open { result.open ≡ open_after self.open visit }
+        ensures unsettled { result.unsettled ≡ unsettled_after self.unsettled visit }
     {
         match visit {
             Visit::Known => self,
             Visit::Still => Pass {
                 changed: self.changed,
-                open: true,
+                unsettled: true,
             },
             Visit::Found => Pass {
                 changed: true,
-                open: self.open,
+                unsettled: self.unsettled,
             },
         }
     }
@@ -68,7 +68,7 @@ pub fn settle(network: &Network, order: &[u32], held: &[Tern], leads: &[u32], te
 {
     'passes: loop {
         let pass = pass_over(network, order, held, leads, terns);
-        if !pass.changed || !pass.open {
+        if !pass.changed || !pass.unsettled {
             return;
         }
     }
@@ -91,11 +91,11 @@ fn pass_over(
     requires own { AreOwn order.now leads.now }
     requires backed { AreBacked network.now.trees.items network.now.drives.items held.now order.now (seen terns.old leads.now) }
     ensures { IsPassed (record { trees = network.now.trees.items; drives = network.now.drives.items; held = held.now; order = order.now; leads = leads.now })
-        (length order.now) terns.old terns.new result.changed result.open }
+        (length order.now) terns.old terns.new result.changed result.unsettled }
 {
     let mut pass = Pass {
         changed: false,
-        open: false,
+        unsettled: false,
     };
     for point in order {
         let found = look_at(network, *point as usize, held, leads, terns);

@@ -14,7 +14,7 @@ loop-point-preserved c =
     let count = c.loop-point.point-index in
     let new = c.look_at-found.new.terns in
     let made =
-    visit_passed scene c.requires.fit c.requires.points c.requires.own count c.args.terns.now c.loop-point.terns c.loop-point.pass.changed c.loop-point.pass.open
+    visit_passed scene c.requires.fit c.requires.points c.requires.own count c.args.terns.now c.loop-point.terns c.loop-point.pass.changed c.loop-point.pass.unsettled
     c.loop-point.invariant c.loop-point-test.true (c.loop-point.auto.terns ∙ c.requires.terns) new c.look_at-found.result (c.look_at-found.ensures c.args.order.now) in
-    subst (λ (b : Bool). IsPassed scene (count + 1) c.args.terns.now new b c.noting-pass.result.open) (sym c.noting-pass.ensures.changed)
-    (subst (λ (b : Bool). IsPassed scene (count + 1) c.args.terns.now new (changed_after c.loop-point.pass.changed c.look_at-found.result) b) (sym c.noting-pass.ensures.open) made)
+    subst (λ (b : Bool). IsPassed scene (count + 1) c.args.terns.now new b c.noting-pass.result.unsettled) (sym c.noting-pass.ensures.changed)
+    (subst (λ (b : Bool). IsPassed scene (count + 1) c.args.terns.now new (changed_after c.loop-point.pass.changed c.look_at-found.result) b) (sym c.noting-pass.ensures.unsettled) made)

@@ -4,4 +4,4 @@ use Rattle.fab_network.proofs.passes.pass_over.Given as goal
 abbrev pub invariant-loop-point : goal.invariant-loop-point
 invariant-loop-point l =
     IsPassed (record { trees = l.network.trees.items; drives = l.network.drives.items; held = l.held; order = l.order; leads = l.leads })
-    l.point-index l.initial.terns l.terns l.pass.changed l.pass.open
+    l.point-index l.initial.terns l.terns l.pass.changed l.pass.unsettled
