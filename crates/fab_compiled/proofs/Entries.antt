@@ -28,14 +28,14 @@ module _ (at : ℕ → Tern) where
   abbrev pub table : (size first stride : ℕ) → List Tern
   table size first stride = first_terns (2 ^ size) (λ k. at (first + stride * k))
 
-  even_entries : (size first stride : ℕ) → evens (table (suc size) first stride) ≡ table size first (2 * stride)
+  pub even_entries : (size first stride : ℕ) → evens (table (suc size) first stride) ≡ table size first (2 * stride)
   even_entries size first stride =
       let g : (k : ℕ) → at (first + stride * (2 * k)) ≡ at (first + 2 * stride * k) = λ k. ap at (omega arith) in
       let double : 2 ^ suc size ≡ 2 * 2 ^ size = omega (arith, pow-suc 2 size) in
       ap (λ m. evens (first_terns m (λ k. at (first + stride * k)))) double
       ∙ evens_first (2 ^ size) (λ k. at (first + stride * k)) ∙ (λ j. first_terns (2 ^ size) (λ k. g k j))
 
-  odd_entries : (size first stride : ℕ) → odds (table (suc size) first stride) ≡ table size (first + stride) (2 * stride)
+  pub odd_entries : (size first stride : ℕ) → odds (table (suc size) first stride) ≡ table size (first + stride) (2 * stride)
   odd_entries size first stride =
       let g : (k : ℕ) → at (first + stride * (2 * k + 1)) ≡ at (first + stride + 2 * stride * k) = λ k. ap at (omega arith) in
       let double : 2 ^ suc size ≡ 2 * 2 ^ size = omega (arith, pow-suc 2 size) in
@@ -61,7 +61,7 @@ entries_odd size first stride count h = let e : stride * 2 ^ suc size ≡ 2 * st
 
 -- ---- an index bit by bit, as it is kept
 
-entries_room : (size first stride count : ℕ) → first + stride * 2 ^ suc size < count + stride → first + stride < count
+pub entries_room : (size first stride count : ℕ) → first + stride * 2 ^ suc size < count + stride → first + stride < count
 entries_room size first stride count h =
     let one : 1 ≤ 2 ^ size = omega (arith, pow_pos size) in
     let more : stride * 1 ≤ stride * 2 ^ size = mul-le-mul_left stride one in

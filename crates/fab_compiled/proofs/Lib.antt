@@ -3,6 +3,7 @@ pub mod Bits
 pub mod Entries
 pub mod TreesGrow
 pub mod Leading
+pub mod Picking
 pub mod Compiling
 pub mod Placed
 pub mod Evaluated

@@ -1,12 +1,15 @@
 //! Where a bit of an expression leads, as far as the values that are known decide it.
 
-ghost use Rattle.std.specs.Prelude.{◌≡◌, ◌+◌, ◌^◌, ◌<◌, ◌≤◌, false, length, slice_get, MatchOption, Some};
+ghost use Rattle.std.specs.Prelude.{◌≡◌, ◌+◌, ◌^◌, ◌<◌, ◌≤◌, length};
 ghost use Rattle.fab_compiled.specs.Trees.{tree_width, IsMade};
 ghost use Rattle.fab_compiled.specs.Terns.{IsView};
 ghost use Rattle.fab_compiled.specs.Evaluation.{IsWithin};
-ghost use Rattle.fab_compiled.specs.Leading.{AreMarked, Leads, OwnLeads, PointLeads, RangeIsMarked};
+ghost use Rattle.fab_compiled.specs.Leading.{Leads, OwnLeads, PointLeads};
+ghost use Rattle.fab_compiled.specs.Picks.{PickLeads};
 
 use crate::evaluation::eval;
+use crate::marking::{unmarked, unmarked_of};
+use crate::picks::{Table, unmarked_index};
 use crate::tree::Tree;
 use crate::view::View;
 use fab_ternary::Tern;
@@ -67,9 +70,44 @@ fn lead_of(tree: &Tree, bit: u64, first: usize, view: &View, marks: &[bool]) -> 
             Tern::No => lead_of(no, bit, first, view, marks),
             Tern::Open => own_lead(tree, first, marks),
         },
-        Tree::Const(_) | Tree::Pick(_, _, _) | Tree::Not(_) => own_lead(tree, first, marks),
+        Tree::Pick(place, width, index) => pick_lead(*place, *width, index, first, view, marks),
+        Tree::Const(_) | Tree::Not(_) => own_lead(tree, first, marks),
         Tree::And(_, _) | Tree::Or(_, _) | Tree::Xor(_, _) => own_lead(tree, first, marks),
         Tree::Equal(_, _, _) | Tree::Minus(_, _, _) => own_lead(tree, first, marks),
+    }
+}
+
+// Where an entry leads that an index picks. It stands for itself as soon as the table is marked, and all of the index on which it depends as far as
+// the entries are known: an input that the loaded table does not look at is not asked for.
+fn pick_lead(
+    place: u32,
+    width: u32,
+    index: &Tree,
+    first: usize,
+    view: &View,
+    marks: &[bool],
+) -> Lead
+    requires made { IsMade index.now }
+    requires view { IsView view.now.terns.now view.now.leads.now }
+    requires few { length view.now.leads.now ≤ 2 ^ 32 }
+    requires begins { first ≤ length view.now.leads.now }
+    requires inside { IsWithin index.now first (length view.now.leads.now) }
+    requires width { tree_width index.now ≡ width }
+    requires table { first + place + 2 ^ width ≤ length view.now.leads.now }
+    requires marks { length marks.now ≡ length view.now.leads.now }
+    ensures { PickLeads view.now.terns.now view.now.leads.now marks.now first place width index.now result }
+{
+    if let Some(point) = unmarked_of(first, place as usize, 2usize.pow(width), marks) {
+        return Lead::Unmarked(point);
+    }
+    let table = Table {
+        first: first + place as usize,
+        stride: 1,
+        size: width,
+    };
+    match unmarked_index(table, index, 0, first, view, marks) {
+        Some(point) => Lead::Unmarked(point),
+        None => Lead::Own,
     }
 }
 
@@ -99,56 +137,4 @@ fn own_lead(tree: &Tree, first: usize, marks: &[bool]) -> Lead
         Some(point) => Lead::Unmarked(point),
         None => Lead::Own,
     }
-}
-
-// A point of an expression that is not marked, if there is one.
-fn unmarked(tree: &Tree, first: usize, marks: &[bool]) -> Option<u32>
-    requires made { IsMade tree.now }
-    requires begins { first ≤ length marks.now }
-    requires inside { IsWithin tree.now first (length marks.now) }
-    requires small { length marks.now ≤ 2 ^ 32 }
-    ensures { MatchOption result (AreMarked marks.now first tree.now) (λ point. slice_get marks.now point ≡ Some false) }
-{
-    match tree {
-        Tree::Const(_) => None,
-        Tree::Bits(place, count) => { unmarked_of(first, *place as usize, *count as usize, marks) }
-        Tree::Pick(place, width, index) => {
-            match unmarked_of(first, *place as usize, 2usize.pow(*width), marks) {
-                Some(point) => Some(point),
-                None => unmarked(index, first, marks),
-            }
-        }
-        Tree::Not(inner) => unmarked(inner, first, marks),
-        Tree::Cat(left, _, right)
-        | Tree::And(left, right)
-        | Tree::Or(left, right)
-        | Tree::Xor(left, right)
-        | Tree::Equal(_, left, right)
-        | Tree::Minus(_, left, right) => match unmarked(left, first, marks) {
-            Some(point) => Some(point),
-            None => unmarked(right, first, marks),
-        },
-        Tree::Cond(test, yes, no) => match unmarked(test, first, marks) {
-            Some(point) => Some(point),
-            None => match unmarked(yes, first, marks) {
-                Some(point) => Some(point),
-                None => unmarked(no, first, marks),
-            },
-        },
-    }
-}
-
-// The first of some points that follow one another that is not marked, if there is one.
-fn unmarked_of(first: usize, place: usize, count: usize, marks: &[bool]) -> Option<u32>
-    requires within { first + (place + count) ≤ length marks.now }
-    requires small { length marks.now ≤ 2 ^ 32 }
-    ensures { MatchOption result (RangeIsMarked marks.now first place count) (λ point. slice_get marks.now point ≡ Some false) }
-{
-    for next in 0..count {
-        let point = first + (place + next);
-        if !marks[point] {
-            return Some(point as u32);
-        }
-    }
-    None
 }

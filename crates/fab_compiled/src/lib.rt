@@ -5,7 +5,9 @@ mod compiler;
 mod evaluation;
 pub mod laws;
 mod leads;
+mod marking;
 mod operators;
+mod picks;
 mod tree;
 mod view;
 

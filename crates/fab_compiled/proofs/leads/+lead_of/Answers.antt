@@ -5,6 +5,8 @@ use Rattle.fab_compiled.specs.Trees.{tree_value, tree_width, IsMade}
 use Rattle.fab_compiled.specs.Evaluation.{value_seen, IsWithin}
 use Rattle.fab_compiled.specs.Leading.{Leads}
 use Rattle.fab_compiled.proofs.Leading.{own_leads, point_leads, low_leads, high_leads, yes_branch, no_branch}
+use Rattle.fab_compiled.specs.Picks.{PickLeads}
+use Rattle.fab_compiled.proofs.Picking.{pick_leads}
 use Rattle.fab_compiled.proofs.leads.+lead_of.Goals as goal
 
 pub returns-in-Bits : goal.returns-in-Bits
@@ -59,6 +61,14 @@ returns-in-No t c =
     c.lead_of-in-No.result
     (subst (λ (x : Tree). Leads c.args.view.now.terns.now c.args.view.now.leads.now c.args.marks.now c.args.first x c.args.bit c.lead_of-in-No.result)
     c.deref-in-No.ensures c.lead_of-in-No.ensures)
+
+pub returns-in-Pick : goal.returns-in-Pick
+returns-in-Pick t c =
+    let within : c.args.bit < 1 = subst (λ (x : Tree). c.args.bit < tree_width x) c.in-Pick.is c.requires.within in
+    pick_leads c.args.view.now.terns.now c.args.view.now.leads.now c.args.marks.now c.args.first c.in-Pick.place c.in-Pick.width c.args.bit c.args.tree.now c.in-Pick.index.value
+    (λ at. ap (tree_value at) c.in-Pick.is) within c.pick_lead.result
+    (subst (λ (x : Tree). PickLeads c.args.view.now.terns.now c.args.view.now.leads.now c.args.marks.now c.args.first c.in-Pick.place c.in-Pick.width x c.pick_lead.result)
+    c.deref-in-Pick.ensures c.pick_lead.ensures)
 
 pub returns-in-Open : goal.returns-in-Open
 returns-in-Open t c =

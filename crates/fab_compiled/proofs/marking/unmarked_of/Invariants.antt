@@ -1,6 +1,6 @@
 use Rattle.std.proofs.Common.{ℕ, ◌+◌, ◌<◌}
 use Rattle.fab_compiled.specs.Leading.{IsMarked}
-use Rattle.fab_compiled.proofs.leads.unmarked_of.Given as goal
+use Rattle.fab_compiled.proofs.marking.unmarked_of.Given as goal
 
 -- the points so far are marked
 abbrev pub invariant-loop-next : goal.invariant-loop-next

@@ -1,0 +1,9 @@
+use Rattle.std.proofs.Common.{◌≡◌, ◌^◌, ◌<◌, ℕ, sym, subst, arith, rules}
+use Rattle.fab_compiled.proofs.Picking.{own_pick}
+use Rattle.fab_compiled.proofs.leads.pick_lead.Goals as goal
+
+pub returns-in-None : goal.returns-in-None
+returns-in-None c =
+    let pow : c.pow.result ≡ 2 ^ c.args.width = first_of (search rules, cc, grind arith) in
+    own_pick c.args.view.now.terns.now c.args.view.now.leads.now c.args.marks.now c.args.first c.args.place c.args.width c.args.index.now
+    (λ k l. c.in_default.ensures k (subst (λ (n : ℕ). k < n) (sym pow) l)) (c.in-None.ensures)
