@@ -1,19 +1,16 @@
 -- What an entry depends on that an index picks of a table.
-use Rattle.std.proofs.Common.{◌≡◌, ℕ, suc, ◌+◌, ◌-◌, ◌*◌, ◌^◌, ◌<◌, ◌≤◌, Bool, true, false, List, [], ◌∷◌, ◌++◌, length, drop, slice_get, Option, None, Some, MatchOption, refl, sym, ap, ap₂, ◌∙◌, subst, arith}
-use Rattle.std.proofs.lemmas.Bool.{false≢true}
+use Rattle.std.proofs.Common.{◌≡◌, ℕ, suc, ◌+◌, ◌-◌, ◌*◌, ◌^◌, ◌<◌, ◌≤◌, Bool, false, List, [], ◌∷◌, ◌++◌, length, drop, slice_get, Option, None, Some, MatchOption, refl, sym, ap, ap₂, ◌∙◌, subst, arith}
 use Rattle.std.proofs.lemmas.List.{drop_more, length-drop}
 use Rattle.std.proofs.Math.ListN.{drop_of_length-le}
-use Rattle.fab_systems.specs.Ternary.{no, yes, unknown, IsBelow}
+use Rattle.fab_systems.specs.Ternary.{no, yes, unknown}
 use Rattle.fab_systems.specs.Ternary.{Tern as PlainTern}
 use Rattle.fab_tern.specs.Operators.{tern_at, agreed, evens, odds, entry}
 use Rattle.fab_tern.specs.Shown.{first_terns}
 use Rattle.fab_ternary.specs.declared.Tern.{Tern}
-use Rattle.fab_ternary.specs.Terns.{is_known}
 use Rattle.fab_compiled.specs.declared.leads.Lead.{Lead}
 use Rattle.fab_compiled.specs.declared.leads.Lead.TheVariants.{Known, Point, Own, Unmarked}
 use Rattle.fab_compiled.specs.declared.picks.Table.{Table}
 use Rattle.fab_compiled.specs.declared.tree.Tree.{Tree, Bits}
-use Rattle.fab_compiled.specs.Terns.{seen}
 use Rattle.fab_compiled.specs.Trees.{tree_value, tree_width, IsMade}
 use Rattle.fab_compiled.specs.Leading.{PointTerns, AreAbove, AreMarked, IsMarked, RangeIsMarked, bit_under, Leads}
 use Rattle.fab_compiled.specs.Picks.{entries, evens_of, odds_of, index_under, picked, AreSame, IsAlike, IsPickedAlike, IsTableBelow, PickLeads}
@@ -35,17 +32,6 @@ agreed_self : (t : PlainTern) → agreed t t ≡ t
 agreed_self no = refl
 agreed_self yes = refl
 agreed_self unknown = refl
-
-pub agreed_same : (t u x y : PlainTern) → is_known (agreed t u) ≡ true → IsBelow t x → IsBelow u y → x ≡ y
-agreed_same no no x y k h g = sym h ∙ g
-agreed_same no yes x y k h g = absurd (false≢true k)
-agreed_same no unknown x y k h g = absurd (false≢true k)
-agreed_same yes no x y k h g = absurd (false≢true k)
-agreed_same yes yes x y k h g = sym h ∙ g
-agreed_same yes unknown x y k h g = absurd (false≢true k)
-agreed_same unknown no x y k h g = absurd (false≢true k)
-agreed_same unknown yes x y k h g = absurd (false≢true k)
-agreed_same unknown unknown x y k h g = absurd (false≢true k)
 
 -- a bit does not matter that chooses between the same
 choose_same : (at : ℕ → PlainTern) (size first stride : ℕ) (b : PlainTern) (rest : List PlainTern) →
@@ -82,11 +68,6 @@ odds_alike t u it some e =
 -- ---- where the entries of a table lie
 
 module _ (it : Table) (count : ℕ) (below : IsTableBelow count it) where
-  pub last_below : it.size ≡ 0 → it.first < count
-  last_below e =
-      let h : it.first + it.stride * 2 ^ 0 < count + it.stride = subst (λ (n : ℕ). it.first + it.stride * 2 ^ n < count + it.stride) e below in
-      omega (arith, h)
-
   split_below : 0 < it.size → it.first + it.stride * 2 ^ suc (it.size - 1) < count + it.stride
   split_below some =
       let e : it.size ≡ suc (it.size - 1) = omega arith in
@@ -104,17 +85,6 @@ module _ (it : Table) (count : ℕ) (below : IsTableBelow count it) where
 -- ---- tables with the same entries
 
 module _ (terns : List Tern) (leads : List ℕ) (left right : Table) (sizes : left.size ≡ right.size) where
-  pub last_same : left.size ≡ 0 → left.first < length leads → right.first < length leads →
-      is_known (agreed (seen terns leads left.first) (seen terns leads right.first)) ≡ true → AreSame terns leads left right
-  last_same none l r known t above [] long =
-      let e : t left.first ≡ t right.first =
-      agreed_same (seen terns leads left.first) (seen terns leads right.first) (t left.first) (t right.first) known (above left.first l) (above right.first r) in
-      let p : left.first + left.stride * 0 ≡ left.first = omega arith in
-      let q : right.first ≡ right.first + right.stride * 0 = omega arith in
-      ap (λ n. tern_at (first_terns (2 ^ n) (λ k. t (left.first + left.stride * k))) 0) none ∙ ap t p ∙ e ∙ ap t q
-      ∙ ap (λ n. tern_at (first_terns (2 ^ n) (λ k. t (right.first + right.stride * k))) 0) (sym none ∙ sizes)
-  last_same none l r known t above (b ∷ index) long = absurd (omega (arith, none, long))
-
   pub halves_same : 0 < left.size → AreSame terns leads (evens_of left) (evens_of right) → AreSame terns leads (odds_of left) (odds_of right) → AreSame terns leads left right
   halves_same some even odd t above [] long = absurd (omega (arith, some, long))
   halves_same some even odd t above (b ∷ index) long =
