@@ -7,4 +7,6 @@ pub mod Streams
 pub mod Looking
 pub mod Rounds
 pub mod Stored
+pub mod TopBits
 pub mod Marking
+pub mod Copies

@@ -19,11 +19,11 @@ use Rattle.fab_equations.proofs.Places.{names_have_points}
 use Rattle.fab_equations.proofs.Points.{found_width, not_found_width, point_at, points_are_declared, points_differ, declared_are_points}
 use Rattle.fab_load_points.specs.Causes.{StandsFor, IsFirstOf}
 
-none_mapped : {X Y : Type 0} (f : X → Y) (o : Option X) → None ≡ option_map f o → o ≡ None
+pub none_mapped : {X Y : Type 0} (f : X → Y) (o : Option X) → None ≡ option_map f o → o ≡ None
 none_mapped f None e = refl
 none_mapped f (Some x) e = cc
 
-some_mapped : {X Y : Type 0} (f : X → Y) (o : Option X) (y : Y) → Some y ≡ option_map f o → (x : X) × (o ≡ Some x) × (y ≡ f x)
+pub some_mapped : {X Y : Type 0} (f : X → Y) (o : Option X) (y : Y) → Some y ≡ option_map f o → (x : X) × (o ≡ Some x) × (y ≡ f x)
 some_mapped f None y e = cc
 some_mapped f (Some x) y e = (x, refl, cc)
 

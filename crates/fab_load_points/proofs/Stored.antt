@@ -7,12 +7,14 @@ use Rattle.fab_meaning.specs.Points.{Path, Point, point, outside, copy, bit_of, 
 use Rattle.fab_meaning.specs.Points.{Driver as MeantDriver}
 use Rattle.fab_meaning.specs.Runs.{clock_of, clock_name}
 use Rattle.fab_equations.specs.Equations.{IsPoint, IsDriven, Means}
+use Rattle.fab_equations.proofs.Numbering.{same_value}
 use Rattle.fab_equations.specs.declared.driver.Source.{Source}
 use Rattle.fab_equations.specs.declared.driver.Driver.{Driver}
 use Rattle.fab_equations.specs.declared.driver.Driver.TheVariants as by_number
 use Rattle.fab_load_points.specs.Causes.{StandsFor, IsFirstOf}
 use Rattle.fab_load_points.specs.Flops.{IsLoaderPoint}
-use Rattle.fab_load_points.specs.Registers.{IsStored, bit_stored}
+use Rattle.fab_load_points.specs.Points.{bit_driven}
+use Rattle.fab_load_points.specs.Registers.{IsStored, stored_mark}
 use Rattle.fab_load_points.proofs.Reading.{means_so}
 use Rattle.fab_load_points.proofs.Streams.{first_known}
 
@@ -22,20 +24,20 @@ use Rattle.fab_load_points.proofs.Streams.{first_known}
 abbrev HasBit : MeantDriver → ℕ → Type 0
 HasBit outside b = Unit {0}
 HasBit (copy other) b = Unit {0}
-HasBit (bit_of path e bit) b = Unit {0}
+HasBit (bit_of path e bit) b = bit ≡ b
 HasBit (flop path clock next bit) b = bit ≡ b
 HasBit (hold path gate e bit) b = bit ≡ b
 
 join_has_bit : (path : Path) (i : List ℕ) (input : Bool) (port : List ℕ) (to : Option PlainExpr) (p : Point) (d : MeantDriver) → JoinDrives path i input port to p d → HasBit d p.bit
 join_has_bit path i true port None p d h = absurd h
 join_has_bit path i false port None p d h = absurd h
-join_has_bit path i true port (Some e) p d h = subst (λ x. HasBit x p.bit) (sym h.1) tt
+join_has_bit path i true port (Some e) p d h = subst (λ x. HasBit x p.bit) (sym h.1) refl
 join_has_bit path i false port (Some e) p d h = subst (λ x. HasBit x p.bit) (sym h.3) tt
 
 item_has_bit : (text : List PlainModule) (path : Path) (item : PlainItem) (p : Point) (d : MeantDriver) → ItemDrives text path item p d → HasBit d p.bit
 item_has_bit text path (wire shape name) p d h = absurd h
 item_has_bit text path (reg shape name) p d h = absurd h
-item_has_bit text path (assign target e) p d h = subst (λ x. HasBit x p.bit) (sym h.1) tt
+item_has_bit text path (assign target e) p d h = subst (λ x. HasBit x p.bit) (sym h.1) refl
 item_has_bit text path (latch target gate e) p d h = subst (λ x. HasBit x p.bit) (sym h.1) refl
 item_has_bit text path (clocked clock target e) p d h = subst (λ x. HasBit x p.bit) (sym h.1) refl
 item_has_bit text path (instance module_name i joins) p d h = join_has_bit path i (is_input_of (module_named text module_name) h.0.port) h.0.port h.0.to p d h.2
@@ -78,30 +80,29 @@ module _ (text : List PlainModule) (sound : IsSound text) (number : ℕ) where
           first_known text sound [] clock_name loader first clock (subst (λ x. IsPoint text clock (point [] x 0)) name m.4.2),
         )
 
-  -- ---- flip-flops and latches
+  -- ---- the drivers of points
 
-  pub stored_some : (driver : Driver) → IsDriven text number driver → (bit : ℕ) → bit_stored driver ≡ Some bit → (p : Point) (d : MeantDriver) → IsPoint text number p → Drives text p d →
-      IsStored d × (bit ≡ p.bit)
-  stored_some by_number.Outside driven bit e p d is drives = cc
-  stored_some (by_number.Same other) driven bit e p d is drives = cc
-  stored_some (by_number.Value source) driven bit e p d is drives = cc
-  stored_some (by_number.Flop clock next) driven bit e p d is drives =
-      let m = means_so text sound number (by_number.Flop clock next) p d driven is drives in
-      let here : HasBit (flop m.0 m.1 m.2 next.bit) p.bit = subst (λ x. HasBit x p.bit) m.5 (has_bit text p d drives) in
-      let same : next.bit ≡ bit = cc in
-      (subst IsStored (sym m.5) tt, sym same ∙ here)
-  stored_some (by_number.Hold gate latched) driven bit e p d is drives =
-      let m = means_so text sound number (by_number.Hold gate latched) p d driven is drives in
-      let here : HasBit (hold m.0 m.1 m.2 latched.bit) p.bit = subst (λ x. HasBit x p.bit) m.6 (has_bit text p d drives) in
-      let same : latched.bit ≡ bit = cc in
-      (subst IsStored (sym m.6) tt, sym same ∙ here)
+  -- an expression of its own gives a point the bit of its number
+  pub own_bit : (driver : Driver) → IsDriven text number driver → (bit : ℕ) → bit_driven driver ≡ Some bit → (p : Point) → IsPoint text number p → bit ≡ p.bit
+  own_bit driver driven bit e p is =
+      let at : driven.of ≡ p = same_value _ driven.of p driven.is is in
+      at_driver driver driven.by driven.means (subst (λ (q : Point). HasBit driven.by q.bit) at (has_bit text driven.of driven.by driven.drives)) bit e
+    where
+      at_driver : (driver : Driver) (d : MeantDriver) → Means text driver d → HasBit d p.bit → (bit : ℕ) → bit_driven driver ≡ Some bit → bit ≡ p.bit
+      at_driver by_number.Outside d m own bit e = cc
+      at_driver (by_number.Same other) d m own bit e = cc
+      at_driver (by_number.Value source) d m own bit e = let same : source.bit ≡ bit = cc in sym same ∙ subst (λ x. HasBit x p.bit) m.3 own
+      at_driver (by_number.Flop clock next) d m own bit e = let same : next.bit ≡ bit = cc in sym same ∙ subst (λ x. HasBit x p.bit) m.5 own
+      at_driver (by_number.Hold gate latched) d m own bit e = let same : latched.bit ≡ bit = cc in sym same ∙ subst (λ x. HasBit x p.bit) m.6 own
 
-  pub stored_none : (driver : Driver) → IsDriven text number driver → bit_stored driver ≡ None → (p : Point) (d : MeantDriver) → IsPoint text number p → Drives text p d → ¬ IsStored d
-  stored_none by_number.Outside driven e p d is drives =
-      let m = means_so text sound number by_number.Outside p d driven is drives in λ stored. subst IsStored m stored
-  stored_none (by_number.Same other) driven e p d is drives =
-      let m = means_so text sound number (by_number.Same other) p d driven is drives in λ stored. subst IsStored m.2 stored
-  stored_none (by_number.Value source) driven e p d is drives =
-      let m = means_so text sound number (by_number.Value source) p d driven is drives in λ stored. subst IsStored m.3 stored
-  stored_none (by_number.Flop clock next) driven e p d is drives = cc
-  stored_none (by_number.Hold gate latched) driven e p d is drives = cc
+  -- the mark of a flip-flop or a latch is kept, and that of another point is none
+  pub stored_kept : (mark : Bool) (driver : Driver) → IsDriven text number driver → (p : Point) (d : MeantDriver) → IsPoint text number p → Drives text p d →
+      (IsStored d → stored_mark mark driver ≡ mark) × (¬ IsStored d → stored_mark mark driver ≡ false)
+  stored_kept mark driver driven p d is drives = by driver (means_so text sound number driver p d driven is drives)
+    where
+      by : (driver : Driver) → Means text driver d → (IsStored d → stored_mark mark driver ≡ mark) × (¬ IsStored d → stored_mark mark driver ≡ false)
+      by by_number.Outside m = (λ stored. absurd (subst IsStored m stored), λ other. refl)
+      by (by_number.Same other) m = (λ stored. absurd (subst IsStored m.2 stored), λ not. refl)
+      by (by_number.Value source) m = (λ stored. absurd (subst IsStored m.3 stored), λ not. refl)
+      by (by_number.Flop clock next) m = (λ stored. refl, λ not. absurd (not (subst IsStored (sym m.5) tt)))
+      by (by_number.Hold gate latched) m = (λ stored. refl, λ not. absurd (not (subst IsStored (sym m.6) tt)))

@@ -28,7 +28,7 @@ item_inside text path (latch target gate e) p h = let apart = h.1 in cc
 item_inside text path (clocked clock target e) p h = let apart = h.1 in cc
 item_inside text path (instance module_name i joins) p h = join_inside path i (is_input_of (module_named text module_name) h.0.port) h.0.port h.0.to p h.2
 
-driven_outside : (text : List PlainModule) (p : Point) → Drives text p outside → IsDrivenOutside text p outside
+pub driven_outside : (text : List PlainModule) (p : Point) → Drives text p outside → IsDrivenOutside text p outside
 driven_outside text p (inl h) = h
 driven_outside text p (inr h) = absurd (item_inside text h.path h.item p h.drives)
 

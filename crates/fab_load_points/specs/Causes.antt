@@ -26,6 +26,10 @@ pub record IsStreamOf (text : List PlainModule) (stream : Stream) : Type 0 where
   pub strobe : IsFirstOf text [] strobe_name stream.strobe
   pub bits : IsFirstOf text [] data_name stream.«data»
 
+-- the point of a number is a bit of a name of the top
+abbrev pub IsTopBit : List PlainModule → (name : List ℕ) → (number : ℕ) → Type 0
+IsTopBit text name number = (bit : ℕ) × IsPoint text number (point [] name bit)
+
 -- ---- what is read
 
 -- Some names stand on a list: these, and none but them beside those that stood there before. Names without bits are left out.

@@ -2,3 +2,4 @@ pub mod Causes
 pub mod Search
 pub mod Flops
 pub mod Registers
+pub mod Points

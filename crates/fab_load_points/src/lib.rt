@@ -1,10 +1,12 @@
-//! Which flip-flops and latches of a text loading sets.
+//! Which points of a text loading sets.
 #![tactic(auto)]
 
 mod causes;
 mod flops;
+mod points;
 mod registers;
 mod search;
 mod stream;
 
-pub use registers::loading_registers;
+pub use points::loading_points;
+pub use registers::{loading_registers, registers_among};

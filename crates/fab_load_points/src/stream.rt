@@ -1,13 +1,16 @@
 //! The inputs of the top that carry words, and where names of instances begin.
 
-ghost use Rattle.std.specs.Prelude.{◌≡◌, ◌⊎◌, ◌↔◌, ◌<◌, [], Some, length, IsTrue};
+ghost use Rattle.std.specs.Prelude.{◌≡◌, ◌⊎◌, ◌↔◌, ◌+◌, ◌<◌, ◌≤◌, [], Some, length, IsTrue};
+ghost use Rattle.fab_syntax.specs.Declarations.{width};
 ghost use Rattle.fab_syntax.specs.Plain.{plain_text};
 ghost use Rattle.fab_syntax.specs.Sound.{IsSound};
+ghost use Rattle.fab_meaning.specs.Loading.{data_name, strobe_name};
+ghost use Rattle.fab_meaning.specs.Runs.{clock_name};
 ghost use Rattle.fab_equations.specs.Instances.{Instance, instances};
 ghost use Rattle.fab_equations.specs.Numbering.{IsNumbered};
-ghost use Rattle.fab_load_points.specs.Causes.{IsFirstOf, IsStreamOf};
+ghost use Rattle.fab_load_points.specs.Causes.{IsFirstOf, IsStreamOf, IsTopBit};
 
-use fab_equations::Equations;
+use fab_equations::{Declared, Equations};
 use fab_values::bits_of_shape;
 
 /// The first points of the inputs of the top that carry words, as far as the top has names like them.
@@ -38,6 +41,38 @@ impl Stream {
         let point = Some(point);
         self.clock == point || self.strobe == point || self.data == point
     }
+}
+
+/// Whether a point is a bit of one of them.
+pub fn carries_words(equations: &Equations, number: u32) -> bool
+    requires { IsSound (plain_text equations.now) }
+    ensures { IsTrue result ↔ (IsTopBit (plain_text equations.now) clock_name number ⊎ (IsTopBit (plain_text equations.now) strobe_name number
+        ⊎ IsTopBit (plain_text equations.now) data_name number)) }
+{
+    is_top_bit(equations, b"CLK", number)
+        || is_top_bit(equations, b"WriteStrobe", number)
+        || is_top_bit(equations, b"WriteData", number)
+}
+
+// Whether a point is a bit of a name of the top.
+fn is_top_bit(equations: &Equations, name: &[u8], number: u32) -> bool
+    requires { IsSound (plain_text equations.now) }
+    ensures { IsTrue result ↔ IsTopBit (plain_text equations.now) name.now number }
+{
+    if equations.instances() == 0 {
+        return false;
+    }
+    match equations.local(0, name) {
+        Some(declared) => is_bit(declared, number),
+        None => false,
+    }
+}
+
+// Whether a point is a bit of a declared name.
+fn is_bit(declared: Declared, number: u32) -> bool
+    ensures { IsTrue result ↔ ((declared.first ≤ number) × (number < declared.first + width declared.shape)) }
+{
+    declared.first <= number && number - declared.first < bits_of_shape(declared.shape)
 }
 
 // The first point of a name of the top; none where the top has no bit of such a name.
