@@ -1,0 +1,4 @@
+pub mod Boards
+pub mod Activating
+pub mod Drawing
+pub mod Standing
