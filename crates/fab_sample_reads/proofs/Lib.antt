@@ -1,3 +1,5 @@
 pub mod TextLines
 pub mod JudgedRows
 pub mod Statements
+pub mod Sameness
+pub mod TaggedWords
