@@ -3,3 +3,4 @@ pub mod JudgedRows
 pub mod Statements
 pub mod Sameness
 pub mod TaggedWords
+pub mod SampleTexts
