@@ -1,6 +1,13 @@
+pub mod Sameness
 pub mod TextLines
 pub mod JudgedRows
 pub mod Statements
-pub mod Sameness
+pub mod PlacedItems
+pub mod DrivenOnce
+pub mod OrderedCovers
+pub mod WholeTexts
+pub mod NamedNetlists
 pub mod TaggedWords
 pub mod SampleTexts
+pub mod SampleItems
+pub mod SampleNetlists

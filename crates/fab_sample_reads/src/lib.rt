@@ -1,2 +1,10 @@
-//! The law that the files of a sample are read. Each function does nothing: its contract is a law.
+//! The law that the netlists of samples are read. Each function does nothing: its contract is a law.
 #![tactic(auto)]
+
+ghost use Rattle.fab_sample_reads.specs.Laws.{SampleNetlistsAreRead};
+
+/// The netlist that is drawn for a sample of any size from 2 to 16 is a BLIF file, of the model that was drawn, and fits on two look-up
+/// tables for each tile of logic and two pads for each row.
+pub fn sample_netlists_are_read()
+    ensures { SampleNetlistsAreRead }
+{}
