@@ -1,23 +1,21 @@
 -- A design of items is fine: each net is driven once, what is read is driven, and there are no clocks.
-use Rattle.std.proofs.Common.{◌≡◌, ℕ, ◌+◌, ◌≤◌, ◌*◌, Bool, true, false, not, cond, List, [], ◌∷◌, ◌++◌, length, map, filter, Option, Some, None, nat_eq, refl, sym, ap, ◌∙◌, ◌⊎◌, inl, inr, arith, eq-eqb, eqb-true}
+use Rattle.std.proofs.Common.{◌≡◌, ℕ, ◌+◌, ◌≤◌, ◌*◌, Bool, true, false, not, cond, List, [], ◌∷◌, ◌++◌, length, map, filter, None, nat_eq, refl, sym, ap, ◌∙◌, ◌⊎◌, inl, inr, arith}
 use Rattle.std.specs.List.{AllByRecursion as Each, count_by, flat_map, list_any}
 use Rattle.std.specs.Str.{bytes_eq}
 use Rattle.std.proofs.lemmas.Bool.{cases_Bool, false≢true}
 use Rattle.std.proofs.lemmas.List.{map-append}
-use Rattle.std.proofs.lemmas.Slice.Eq.{bytes_eq-Decides}
 use Rattle.fab_models.specs.Words.{Word}
 use Rattle.fab_models.specs.Judge.{is_among}
 use Rattle.fab_blif.specs.Flat.{PlainNet}
 use Rattle.fab_blif.specs.Design.{PlainDesign, PlainClock, design_of, nets_of}
-use Rattle.fab_blif.specs.Judged.{is_of, drivers, OneDriver, EachHasOne, inner_drivers, input_ports, readers, is_driven, is_undriven, least_line, least, undriven_line}
-use Rattle.fab_blif.specs.Clocks.{clock_uses, is_clock, first_use, named_faults, data_faults, faults_at, clock_faults}
+use Rattle.fab_blif.specs.Judged.{is_of, EachHasOne, inner_drivers, input_ports, readers, is_driven, least, undriven_line}
+use Rattle.fab_blif.specs.Clocks.{clock_uses, is_clock, first_use, named_faults, data_faults, clock_faults}
 use Rattle.fab_blif.specs.Refusals.{IsFineDesign}
-use Rattle.fab_blif.proofs.Below.{IsThere, IsNamed, all_named, name_back, name_in}
+use Rattle.fab_blif.proofs.Below.{all_named, name_back, name_in}
 use Rattle.fab_blif.proofs.Each.{each_joined}
 use Rattle.fab_sample_reads.specs.Items.{Item, cover_outputs, latch_outputs}
-use Rattle.fab_sample_reads.proofs.JudgedRows.{not_first}
 use Rattle.fab_sample_reads.proofs.Sameness.{same_bytes, bytes_same, nat_same, same_nat, count_first, count_joined}
-use Rattle.fab_sample_reads.proofs.PlacedItems.{plain, inner_nets_of, port_nets_of, num, There, design, inner_words, inner_nets, port_nets, read_words, read_nets, no_clocks, model_placed, outputs_there, latches_there, ports_there, few_nets}
+use Rattle.fab_sample_reads.proofs.PlacedItems.{plain, num, There, design, inner_words, inner_nets, port_nets, read_words, read_nets, no_clocks, model_placed, outputs_there, latches_there, ports_there, few_nets}
 
 -- no name stands twice
 abbrev pub IsOnce : List Word → Type 0

@@ -1,23 +1,22 @@
 -- No line of a model of covers and latches is refused.
-use Rattle.std.proofs.Common.{◌≡◌, ℕ, Bool, true, false, ◌||◌, List, [], ◌∷◌, ◌++◌, length, map, codes, Option, Some, None, refl, sym, ap, subst, ◌∙◌, inl, inr, arith, append_assoc, append-nil}
-use Rattle.std.specs.Prelude.{not, find}
-use Rattle.std.specs.List.{list_any, list_all, flat_map}
+use Rattle.std.proofs.Common.{◌≡◌, ℕ, Bool, true, false, ◌||◌, List, [], ◌∷◌, ◌++◌, map, codes, Option, Some, None, refl, sym, ap, subst, ◌∙◌, inl, inr, append_assoc, append-nil}
+use Rattle.std.specs.Prelude.{find}
+use Rattle.std.specs.List.{list_any, flat_map}
 use Rattle.std.specs.Str.{bytes_eq}
 use Rattle.std.proofs.lemmas.Bool.{cases_Bool}
 use Rattle.std.proofs.lemmas.List.{map_push}
 use Rattle.std.proofs.lemmas.List.Folds.{list_any-append}
 use Rattle.indexmap.specs.IndexSet.{insert_all}
-use Rattle.fab_base.specs.declared.problem.Problem.{Problem}
 use Rattle.fab_lines.specs.Order.{IsFine}
 use Rattle.fab_lines.proofs.Judging.{fine_none, fine_more}
 use Rattle.fab_models.specs.declared.words.Kind.{Kind}
 use Rattle.fab_models.specs.declared.words.Kind.TheVariants as kinds
 use Rattle.fab_models.specs.Words.{Word, words, kind_of, is_foreign}
 use Rattle.fab_models.specs.Context.{Context, context_of}
-use Rattle.fab_models.specs.Judge.{judge_words, judge, is_among, names_twice, problem_of, malformed_by, construct_problem}
+use Rattle.fab_models.specs.Judge.{judge_words, judge, is_among, names_twice}
 use Rattle.fab_models.specs.Following.{beginning, context_after}
 use Rattle.fab_models.proofs.ContextLines.{context_more}
-use Rattle.fab_sample_reads.specs.Items.{Row, row_line, Pattern, Item, cover, wire, latch, sign, pattern_row, item_rows, model_rows}
+use Rattle.fab_sample_reads.specs.Items.{Row, row_line, Pattern, Item, cover, wire, latch, pattern_row, item_rows, model_rows}
 use Rattle.fab_sample_reads.proofs.TextLines.{is_row, are_rows, row_words, row_not_foreign, both_true}
 
 -- ---- rows that follow a context
@@ -101,10 +100,11 @@ module _ (inputs outputs : List Word) where
 
   behind_rows : (patterns : List Pattern) → Follows (within inputs outputs (Some 3) (Some true)) (map pattern_row patterns) (within inputs outputs (Some 3) (Some true))
   behind_rows [] = refl
-  behind_rows (pattern ∷ patterns) =
-      (pattern_next pattern,
-      subst (λ kind. Follows (context_after (within inputs outputs (Some 3) (Some true)) kind (pattern_row pattern)) (map pattern_row patterns) (within inputs outputs (Some 3) (Some true)))
-      (sym (pattern_kind pattern)) (behind_rows patterns))
+  behind_rows (pattern ∷ patterns) = (
+    pattern_next pattern,
+    subst (λ kind. Follows (context_after (within inputs outputs (Some 3) (Some true)) kind (pattern_row pattern)) (map pattern_row patterns) (within inputs outputs (Some 3) (Some true)))
+        (sym (pattern_kind pattern)) (behind_rows patterns),
+  )
 
   -- some context within the model is left
   LeavesSome : Context → List Row → Type 0
@@ -113,10 +113,15 @@ module _ (inputs outputs : List Word) where
   from_names : (patterns : List Pattern) → LeavesSome (within inputs outputs (Some 3) None) (map pattern_row patterns)
   unfolding LeavesSome
   from_names [] = (Some 3, None, refl)
-  from_names (pattern ∷ patterns) =
-      (Some 3, Some true, (pattern_first pattern,
+  from_names (pattern ∷ patterns) = (
+    Some 3,
+    Some true,
+    (
+      pattern_first pattern,
       subst (λ kind. Follows (context_after (within inputs outputs (Some 3) None) kind (pattern_row pattern)) (map pattern_row patterns) (within inputs outputs (Some 3) (Some true)))
-      (sym (pattern_kind pattern)) (behind_rows patterns)))
+          (sym (pattern_kind pattern)) (behind_rows patterns),
+    ),
+  )
 
   one_item : (item : Item) (width : Option ℕ) (on : Option Bool) → LeavesSome (within inputs outputs width on) (item_rows item)
   unfolding LeavesSome

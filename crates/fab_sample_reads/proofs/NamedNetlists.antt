@@ -1,5 +1,5 @@
 -- The netlist of a model of items, by names.
-use Rattle.std.proofs.Common.{◌≡◌, ℕ, suc, ◌+◌, ◌-◌, ◌≤◌, Bool, true, false, not, List, [], ◌∷◌, ◌++◌, length, map, filter, Option, None, position, refl, sym, ap, ◌∙◌, inl, inr, arith, append-nil, length-append}
+use Rattle.std.proofs.Common.{◌≡◌, ℕ, suc, ◌+◌, ◌-◌, ◌≤◌, not, List, [], ◌∷◌, length, map, filter, None, position, refl, ap, ◌∙◌, inl, inr, arith, length-append}
 use Rattle.std.specs.Prelude.{slice_get, option_and_then}
 use Rattle.std.specs.List.{AllByRecursion as Each, flat_map}
 use Rattle.std.proofs.lemmas.Bool.{cases_Bool}
@@ -7,17 +7,16 @@ use Rattle.std.proofs.lemmas.List.Sums.{length-filter, count_by-le-length}
 use Rattle.fab_models.specs.Words.{Word}
 use Rattle.fab_models.specs.Covers.{table_of}
 use Rattle.fab_netlist.specs.declared.netlist.Latch.{Latch}
-use Rattle.fab_netlist.specs.Plain.{PlainCover, PlainNetlist, name_of}
+use Rattle.fab_netlist.specs.Plain.{PlainCover, PlainNetlist}
 use Rattle.fab_netlist.specs.WellMade.{ports}
 use Rattle.fab_netlist.specs.Kept.{is_kept}
-use Rattle.fab_netlist.specs.Packing.{works, others, is_paired, Work, of_cover, of_latch, pair}
-
-use Rattle.fab_blif.specs.Flat.{PlainNet, Placed, net_eq}
-use Rattle.fab_blif.specs.Design.{PlainClock, uses, covers_by, latches_by, data_inputs, netlist_of, inputs_by, clock_number, is_number}
+use Rattle.fab_netlist.specs.Packing.{works, others, is_paired, of_cover, of_latch, pair}
+use Rattle.fab_blif.specs.Flat.{PlainNet, net_eq}
+use Rattle.fab_blif.specs.Design.{PlainClock, covers_by, latches_by, data_inputs, netlist_of, is_number}
 use Rattle.fab_blif.proofs.Below.{IsNamed, all_named, name_back, name_in}
-use Rattle.fab_sample_reads.specs.Items.{Item, cover, wire, latch, sign, pattern_row, item_rows, cover_outputs, latch_outputs, edges}
+use Rattle.fab_sample_reads.specs.Items.{Item, cover, wire, latch, sign, pattern_row, item_rows}
 use Rattle.fab_sample_reads.specs.Named.{NamedCover, NamedLatch, named_cover, named_latch, item_covers, item_latches, IsOfItems}
-use Rattle.fab_sample_reads.proofs.PlacedItems.{plain, num, There, design, model_placed, placed_from, no_clocks, output_ports, input_uses_are, used_nets, ports_there}
+use Rattle.fab_sample_reads.proofs.PlacedItems.{plain, num, There, model_placed, placed_from, no_clocks, output_ports, input_uses_are, used_nets, ports_there}
 use Rattle.fab_sample_reads.proofs.DrivenOnce.{nets, made}
 use Rattle.fab_sample_reads.proofs.OrderedCovers.{length-mapped}
 
@@ -98,8 +97,14 @@ module _ (inputs outputs : List Word) (items : List Item) where
   pub port_count : length (ports (netlist_of (made inputs outputs items))) ≡ length inputs + length outputs
   port_count =
       let all_nets = nets inputs outputs items in
-      omega (arith, length-append (netlist_of (made inputs outputs items)).inputs (netlist_of (made inputs outputs items)).outputs, ap length input_nets, ap length output_nets,
-      length-mapped (num all_nets) inputs, length-mapped (num all_nets) outputs)
+      omega (
+        arith,
+        length-append (netlist_of (made inputs outputs items)).inputs (netlist_of (made inputs outputs items)).outputs,
+        ap length input_nets,
+        ap length output_nets,
+        length-mapped (num all_nets) inputs,
+        length-mapped (num all_nets) outputs,
+      )
 
   others_few : (netlist : PlainNetlist) (place : ℕ) (latches : List Latch) → length (others netlist place latches) ≤ length latches
   others_few netlist place [] = omega arith
@@ -112,8 +117,15 @@ module _ (inputs outputs : List Word) (items : List Item) where
   works_few netlist =
       let kept = filter (is_kept netlist) netlist.covers in
       let left = others netlist 0 netlist.latches in
-      omega (arith, length-append (map (λ (it : PlainCover). of_cover it (pair netlist it)) kept) (map of_latch left), length-mapped (λ (it : PlainCover). of_cover it (pair netlist it)) kept,
-      length-mapped of_latch left, length-filter (is_kept netlist) netlist.covers, count_by-le-length (is_kept netlist) netlist.covers, others_few netlist 0 netlist.latches)
+      omega (
+        arith,
+        length-append (map (λ (it : PlainCover). of_cover it (pair netlist it)) kept) (map of_latch left),
+        length-mapped (λ (it : PlainCover). of_cover it (pair netlist it)) kept,
+        length-mapped of_latch left,
+        length-filter (is_kept netlist) netlist.covers,
+        count_by-le-length (is_kept netlist) netlist.covers,
+        others_few netlist 0 netlist.latches,
+      )
 
   -- a cell for each cover and for each latch, at the most
   pub cell_count : length (works (netlist_of (made inputs outputs items))) ≤ length (flat_map item_covers items) + length (flat_map item_latches items)

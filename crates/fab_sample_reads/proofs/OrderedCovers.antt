@@ -1,20 +1,19 @@
 -- Covers that read only what comes before them do not read one another round.
-use Rattle.std.proofs.Common.{◌≡◌, ℕ, zero, suc, ◌+◌, ◌<◌, Bool, true, false, List, [], ◌∷◌, ◌++◌, length, map, get_or, Contains, refl, sym, ap, subst, ◌∙◌, inl, inr, arith}
+use Rattle.std.proofs.Common.{◌≡◌, ℕ, zero, suc, ◌<◌, true, false, List, [], ◌∷◌, length, map, get_or, Contains, refl, sym, ap, subst, ◌∙◌, inl, inr, arith}
 use Rattle.std.specs.List.{AllByRecursion as Each, flat_map}
 use Rattle.std.specs.Str.{bytes_eq}
 use Rattle.std.proofs.lemmas.Bool.{cases_Bool}
 use Rattle.fab_models.specs.Words.{Word}
 use Rattle.fab_models.specs.Judge.{is_among}
-use Rattle.fab_netlist.specs.Plain.{PlainCover, PlainNetlist, cover_at, no_cover}
-use Rattle.fab_netlist.specs.Cycles.{Reads, HasNoCycle, IsRank}
+use Rattle.fab_netlist.specs.Plain.{PlainCover, no_cover}
+use Rattle.fab_netlist.specs.Cycles.{HasNoCycle, IsRank}
 use Rattle.fab_netlist.proofs.Members.{in_none, first_or_later}
 use Rattle.fab_netlist.proofs.Ranks.{rank_no_cycle}
 use Rattle.fab_blif.specs.Flat.{PlainNet}
-use Rattle.fab_blif.specs.Design.{netlist_of, nets_of}
+use Rattle.fab_blif.specs.Design.{netlist_of}
 use Rattle.fab_blif.proofs.Below.{all_named}
 use Rattle.fab_sample_reads.specs.Items.{Item, Edge, edges}
-use Rattle.fab_sample_reads.proofs.JudgedRows.{not_first}
-use Rattle.fab_sample_reads.proofs.PlacedItems.{num, There, design, edge_of, edge_nets, edges_placed, EdgeThere, edges_there, model_placed}
+use Rattle.fab_sample_reads.proofs.PlacedItems.{num, There, edge_of, edge_nets, edges_placed, EdgeThere, edges_there, model_placed}
 use Rattle.fab_sample_reads.proofs.DrivenOnce.{nets, made, num_one}
 use Rattle.fab_sample_reads.proofs.Sameness.{bytes_same}
 

@@ -1,16 +1,16 @@
 -- The lines of the flattened text of a model of items, and what they say of nets by number.
-use Rattle.std.proofs.Common.{◌≡◌, ℕ, ◌+◌, ◌-◌, ◌≤◌, ◌*◌, List, [], ◌∷◌, ◌++◌, length, map, None, refl, sym, ap, ◌∙◌, inl, inr, arith, append-nil, length-append}
-use Rattle.std.specs.List.{AllByRecursion as Each, flat_map, zip, list_any, fold}
+use Rattle.std.proofs.Common.{◌≡◌, ℕ, ◌+◌, ◌-◌, ◌≤◌, ◌*◌, List, [], ◌∷◌, ◌++◌, length, map, None, refl, ap, ◌∙◌, inl, inr, arith, append-nil, length-append}
+use Rattle.std.specs.List.{AllByRecursion as Each, flat_map, list_any}
 use Rattle.std.proofs.lemmas.Bool.{cases_Bool}
 use Rattle.std.proofs.lemmas.List.{map-append}
 use Rattle.indexmap.specs.IndexSet.{insert_all, insert_key}
 use Rattle.fab_models.specs.Words.{Word}
 use Rattle.fab_models.specs.Covers.{table_of}
-use Rattle.fab_models.specs.Plain.{PlainStatement, PlainModel}
+use Rattle.fab_models.specs.Plain.{PlainModel}
 use Rattle.fab_netlist.specs.declared.netlist.Latch.{Latch}
 use Rattle.fab_netlist.specs.Plain.{PlainCover}
 use Rattle.fab_blif.specs.Flat.{PlainNet, net_eq, Placed, placed_inputs, placed_outputs, placed_cover, placed_latch, lines_at, lines_of, flat_lines, top_copy}
-use Rattle.fab_blif.specs.Design.{PlainDesign, PlainClock, design_by, uses, number_in, named, inputs_by, outputs_by, clock_ports_by, covers_by, latches_by, latch_lines, clocks_by}
+use Rattle.fab_blif.specs.Design.{PlainDesign, design_by, uses, number_in, named, inputs_by, outputs_by, clock_ports_by, covers_by, latches_by, latch_lines, clocks_by}
 use Rattle.fab_blif.specs.Judged.{output_uses, input_uses, latch_uses, inner_drivers, input_ports, readers}
 use Rattle.fab_blif.proofs.Below.{IsThere, IsNamed}
 use Rattle.fab_sample_reads.specs.Items.{Item, cover, wire, latch, sign, pattern_row, item_rows, statements_from, model_said, cover_outputs, cover_inputs, latch_outputs, latch_inputs, Edge, edges}
@@ -244,5 +244,12 @@ pub few_nets : (inputs outputs : List Word) (items : List Item)
     → length (insert_all net_eq [] (flat_map named (model_placed inputs outputs items))) ≤ length inputs + length outputs + 4 * length items
 few_nets inputs outputs items =
     let rest = flat_map named (placed_from 4 items) in
-    omega (arith, all_keys [] (map plain inputs ++ (map plain outputs ++ rest)), length-append (map plain inputs) (map plain outputs ++ rest), length-append (map plain outputs) rest,
-    length-plain inputs, length-plain outputs, named_few 4 items)
+    omega (
+      arith,
+      all_keys [] (map plain inputs ++ (map plain outputs ++ rest)),
+      length-append (map plain inputs) (map plain outputs ++ rest),
+      length-append (map plain outputs) rest,
+      length-plain inputs,
+      length-plain outputs,
+      named_few 4 items,
+    )

@@ -1,11 +1,10 @@
 -- The items of a sample are readable.
-use Rattle.std.proofs.Common.{◌≡◌, ℕ, zero, suc, ◌+◌, ◌-◌, ◌*◌, ◌%◌, ◌^◌, ◌≤◌, ◌<◌, Bool, true, false, ◌&&◌, ◌||◌, cond, List, [], ◌∷◌, ◌++◌, length, map, codes, decimal, not, refl, sym, ap, subst, ◌∙◌, ◌⊎◌, inl, inr, arith, append-nil, append_assoc, length-append}
-use Rattle.std.specs.Prelude.{nat_lt, ◌==◌}
+use Rattle.std.proofs.Common.{◌≡◌, ℕ, zero, suc, ◌+◌, ◌-◌, ◌*◌, ◌%◌, ◌^◌, ◌≤◌, ◌<◌, Bool, true, false, cond, List, [], ◌∷◌, ◌++◌, length, map, codes, decimal, not, refl, sym, ap, subst, ◌∙◌, ◌⊎◌, inl, inr, arith, append-nil, append_assoc, length-append}
+use Rattle.std.specs.Prelude.{◌==◌}
 use Rattle.std.specs.List.{AllByRecursion as Each, count_by, flat_map, list_all, list_any, range_with_len, enumerate_from}
 use Rattle.std.specs.Str.{bytes_eq}
 use Rattle.std.proofs.lemmas.Bool.{cases_Bool, cases_lt, lt-ltb, le-ltb, false≢true}
 use Rattle.std.proofs.lemmas.Bool.Decides.{nat_tests}
-use Rattle.std.proofs.lemmas.List.{map-append}
 use Rattle.std.proofs.lemmas.Nat.{mul-le}
 use Rattle.std.proofs.lemmas.List.Concat.{flat_map-append}
 use Rattle.std.proofs.lemmas.List.Folds.{list_any-append}
@@ -13,19 +12,16 @@ use Rattle.std.proofs.lemmas.List.FromFn.{length-map-range_with_len, length-rang
 use Rattle.fab_models.specs.Words.{Word}
 use Rattle.fab_models.specs.Judge.{is_among, names_twice}
 use Rattle.fab_blif.proofs.Each.{each_joined}
-use Rattle.fab_sample.specs.declared.net.Net.{Net}
 use Rattle.fab_sample.specs.declared.net.Net.TheVariants as sample
-use Rattle.fab_sample.specs.declared.design.Cover.{Cover}
-use Rattle.fab_sample.specs.declared.design.Latch.{Latch}
 use Rattle.fab_sample.specs.Netlists.{net_name}
 use Rattle.fab_sample.specs.Drawn.{net_at, drawn_cover, drawn_latch, covers, latches}
-use Rattle.fab_sample_reads.specs.Items.{Row, Pattern, Item, sign, pattern_row, item_rows, model_rows, cover_outputs, cover_inputs, latch_outputs, latch_inputs, Edge, edges}
+use Rattle.fab_sample_reads.specs.Items.{Pattern, Item, sign, pattern_row, item_rows, model_rows, cover_outputs, cover_inputs, latch_outputs, latch_inputs, Edge, edges}
 use Rattle.fab_sample_reads.specs.Named.{item_covers, item_latches}
-use Rattle.fab_sample_reads.specs.Samples.{pattern_if_on, patterns_of, cover_item, latch_item, output_item, sample_items, input_words, output_words, sample_rows}
+use Rattle.fab_sample_reads.specs.Samples.{patterns_of, cover_item, latch_item, output_item, sample_items, input_words, output_words}
 use Rattle.fab_sample_reads.proofs.TextLines.{is_plain, is_word, is_row, are_rows, all_joined}
 use Rattle.fab_sample_reads.proofs.JudgedRows.{ArePorts}
 use Rattle.fab_sample_reads.proofs.DrivenOnce.{IsOnce, drive_words, nets}
-use Rattle.fab_sample_reads.proofs.Sameness.{same_bytes, bytes_same, not_same, count_first, count_joined}
+use Rattle.fab_sample_reads.proofs.Sameness.{bytes_same, not_same, count_first, count_joined}
 use Rattle.fab_sample_reads.proofs.PlacedItems.{read_words}
 use Rattle.fab_sample_reads.proofs.OrderedCovers.{AreOrdered, driven_by}
 use Rattle.fab_sample_reads.proofs.TaggedWords.{tagged, tagged_word, tagged_one, run, in_run, one_counted, counted_once}
@@ -143,9 +139,13 @@ module _ (size : ℕ) (draws later : ℕ → ℕ) (some : 1 ≤ size) (most : si
 
   drives_once : IsOnce (((run 110 0 (size * size) ++ run 111 0 size) ++ run 113 0 size) ++ run 105 0 size)
   drives_once name =
-      omega (arith, count_joined (bytes_eq name) ((run 110 0 (size * size) ++ run 111 0 size) ++ run 113 0 size) (run 105 0 size),
-      count_joined (bytes_eq name) (run 110 0 (size * size) ++ run 111 0 size) (run 113 0 size), count_joined (bytes_eq name) (run 110 0 (size * size)) (run 111 0 size),
-      counted_once name (size * size) size size size (omega (arith, square)) (omega (arith, most)) (omega (arith, most)) (omega (arith, most)))
+      omega (
+        arith,
+        count_joined (bytes_eq name) ((run 110 0 (size * size) ++ run 111 0 size) ++ run 113 0 size) (run 105 0 size),
+        count_joined (bytes_eq name) (run 110 0 (size * size) ++ run 111 0 size) (run 113 0 size),
+        count_joined (bytes_eq name) (run 110 0 (size * size)) (run 111 0 size),
+        counted_once name (size * size) size size size (omega (arith, square)) (omega (arith, most)) (omega (arith, most)) (omega (arith, most)),
+      )
 
   -- ---- what is read
 
@@ -211,10 +211,13 @@ module _ (size : ℕ) (draws later : ℕ → ℕ) (some : 1 ≤ size) (most : si
       drawn word known one few = net_driven (word % known) (omega (arith, one, few))
 
       by_cover : (number : ℕ) → 0 ≤ number → number < 0 + size * size → Each IsDriven (cover_inputs (cover_at size draws later number))
-      by_cover number least within =
-          (drawn (draws (4 * number)) (2 * size + number) (omega (arith, some)) (omega (arith, within)),
-          (drawn (draws (4 * number + 1)) (2 * size + number) (omega (arith, some)) (omega (arith, within)),
-          (drawn (draws (4 * number + 2)) (2 * size + number) (omega (arith, some)) (omega (arith, within)), tt)))
+      by_cover number least within = (
+        drawn (draws (4 * number)) (2 * size + number) (omega (arith, some)) (omega (arith, within)),
+        (
+          drawn (draws (4 * number + 1)) (2 * size + number) (omega (arith, some)) (omega (arith, within)),
+          (drawn (draws (4 * number + 2)) (2 * size + number) (omega (arith, some)) (omega (arith, within)), tt),
+        ),
+      )
 
       by_output : (number : ℕ) → 0 ≤ number → number < 0 + size → Each IsDriven (cover_inputs (output_at size draws later number))
       by_output number least within = (cover_driven (size * size - size + number) (omega (arith, within, large)), tt)
@@ -298,16 +301,16 @@ module _ (size : ℕ) (draws later : ℕ → ℕ) (some : 1 ≤ size) (most : si
       → is_among (driven_by (map cover_edge (range_with_len first count) ++ map output_edge (range_with_len 0 size))) (net_name (net_at size place)) ≡ false
   net_before first count place within before = elim (net_cases size place) [
     | inl input ↦ subst (λ net. is_among (driven_by (map cover_edge (range_with_len first count) ++ map output_edge (range_with_len 0 size))) (net_name net) ≡ false) (sym input.0)
-    (not_driven (tagged 105 place) first count (λ number least most same. letters 105 110 (decimal place) (decimal number) (λ e. omega (arith, e)) same) (λ number same. letters 105 111 (decimal place) (decimal number) (λ e. omega (arith, e)) same))
+        (not_driven (tagged 105 place) first count (λ number least most same. letters 105 110 (decimal place) (decimal number) (λ e. omega (arith, e)) same) (λ number same. letters 105 111 (decimal place) (decimal number) (λ e. omega (arith, e)) same))
     | inr (inl latch) ↦ subst (λ net. is_among (driven_by (map cover_edge (range_with_len first count) ++ map output_edge (range_with_len 0 size))) (net_name net) ≡ false) (sym latch.0)
-    (not_driven (tagged 113 (place - size)) first count (λ number least most same. letters 113 110 (decimal (place - size)) (decimal number) (λ e. omega (arith, e)) same)
-    (λ number same. letters 113 111 (decimal (place - size)) (decimal number) (λ e. omega (arith, e)) same))
+        (not_driven (tagged 113 (place - size)) first count (λ number least most same. letters 113 110 (decimal (place - size)) (decimal number) (λ e. omega (arith, e)) same)
+        (λ number same. letters 113 111 (decimal (place - size)) (decimal number) (λ e. omega (arith, e)) same))
     | inr (inr cover) ↦ subst (λ net. is_among (driven_by (map cover_edge (range_with_len first count) ++ map output_edge (range_with_len 0 size))) (net_name net) ≡ false) (sym cover.0)
-    (not_driven (tagged 110 (place - 2 * size)) first count
-    (λ number least most same. (
+        (not_driven (tagged 110 (place - 2 * size)) first count
+        (λ number least most same. (
         let both = tagged_one 110 110 (place - 2 * size) number (wide (place - 2 * size) (omega (arith, before, within, square))) (wide number (omega (arith, most, within, square))) same in
         omega (arith, both.1, least, before, cover.1)))
-    (λ number same. letters 110 111 (decimal (place - 2 * size)) (decimal number) (λ e. omega (arith, e)) same))
+        (λ number same. letters 110 111 (decimal (place - 2 * size)) (decimal number) (λ e. omega (arith, e)) same))
   ]
     where
       letters : (letter other : ℕ) (a b : List ℕ) → (letter ≡ other → ⊥) → letter ∷ a ≡ other ∷ b → ⊥
@@ -319,15 +322,17 @@ module _ (size : ℕ) (draws later : ℕ → ℕ) (some : 1 ≤ size) (most : si
 
   outputs_ordered : (first count : ℕ) → AreOrdered (map output_edge (range_with_len first count))
   outputs_ordered first zero = tt
-  outputs_ordered first (suc count) =
-      ((not_output (tagged 110 (size * size - size + first)) first (suc count) (λ number same. (let e : 110 ≡ 111 = first_byte 110 111 (decimal (size * size - size + first)) (decimal number) same in omega (arith, e))), tt),
-      outputs_ordered (first + 1) count)
+  outputs_ordered first (suc count) = (
+    (not_output (tagged 110 (size * size - size + first)) first (suc count) (λ number same. (let e : 110 ≡ 111 = first_byte 110 111 (decimal (size * size - size + first)) (decimal number) same in omega (arith, e))), tt),
+    outputs_ordered (first + 1) count,
+  )
 
   covers_ordered : (first count : ℕ) → first + count ≤ size * size → AreOrdered (map cover_edge (range_with_len first count) ++ map output_edge (range_with_len 0 size))
   covers_ordered first zero within = outputs_ordered 0 size
-  covers_ordered first (suc count) within =
-      ((drawn_before first (suc count) (draws (4 * first)) within, (drawn_before first (suc count) (draws (4 * first + 1)) within, (drawn_before first (suc count) (draws (4 * first + 2)) within, tt))),
-      covers_ordered (first + 1) count (omega (arith, within)))
+  covers_ordered first (suc count) within = (
+    (drawn_before first (suc count) (draws (4 * first)) within, (drawn_before first (suc count) (draws (4 * first + 1)) within, (drawn_before first (suc count) (draws (4 * first + 2)) within, tt))),
+    covers_ordered (first + 1) count (omega (arith, within)),
+  )
 
   ordered : AreOrdered (flat_map edges (items size draws later))
   ordered = subst AreOrdered (sym edges_are) (covers_ordered 0 (size * size) (omega arith))
@@ -420,10 +425,20 @@ module _ (size : ℕ) (draws later : ℕ → ℕ) (some : 1 ≤ size) (most : si
     once = subst IsOnce (sym drives_are) drives_once;
     driven = subst (λ (drives : List Word). Each (λ name. is_among drives name ≡ true) (read_words (nets (input_words size) (output_words size) (items size draws later)) (input_words size) (output_words size) (items size draws later))) (sym drives_are) all_read;
     ordered = ordered;
-    few = omega (arith, square, most, ap length inputs_are, ap length output_words_are, length-map-range_with_len (tagged 105) 0 size, length-map-range_with_len (tagged 111) 0 size,
-    length-append (map (cover_at size draws later) (range_with_len 0 (size * size))) (map (latch_at size draws later) (range_with_len 0 size) ++ map (output_at size draws later) (range_with_len 0 size)),
-    length-append (map (latch_at size draws later) (range_with_len 0 size)) (map (output_at size draws later) (range_with_len 0 size)),
-    length-map-range_with_len (cover_at size draws later) 0 (size * size), length-map-range_with_len (latch_at size draws later) 0 size, length-map-range_with_len (output_at size draws later) 0 size);
+    few = omega (
+      arith,
+      square,
+      most,
+      ap length inputs_are,
+      ap length output_words_are,
+      length-map-range_with_len (tagged 105) 0 size,
+      length-map-range_with_len (tagged 111) 0 size,
+      length-append (map (cover_at size draws later) (range_with_len 0 (size * size))) (map (latch_at size draws later) (range_with_len 0 size) ++ map (output_at size draws later) (range_with_len 0 size)),
+      length-append (map (latch_at size draws later) (range_with_len 0 size)) (map (output_at size draws later) (range_with_len 0 size)),
+      length-map-range_with_len (cover_at size draws later) 0 (size * size),
+      length-map-range_with_len (latch_at size draws later) 0 size,
+      length-map-range_with_len (output_at size draws later) 0 size,
+    );
   }
 
   -- ---- counts
@@ -452,12 +467,23 @@ module _ (size : ℕ) (draws later : ℕ → ℕ) (some : 1 ≤ size) (most : si
 
   pub cover_count : length (flat_map item_covers (items size draws later)) ≡ size * size + size
   cover_count =
-      omega (arith, counted_items item_covers, one_of item_covers (cover_at size draws later) (λ number. refl) (range_with_len 0 (size * size)),
-      none_of item_covers (latch_at size draws later) (λ number. refl) (range_with_len 0 size), one_of item_covers (output_at size draws later) (λ number. refl) (range_with_len 0 size),
-      length-range_with_len 0 (size * size), length-range_with_len 0 size)
+      omega (
+        arith,
+        counted_items item_covers,
+        one_of item_covers (cover_at size draws later) (λ number. refl) (range_with_len 0 (size * size)),
+        none_of item_covers (latch_at size draws later) (λ number. refl) (range_with_len 0 size),
+        one_of item_covers (output_at size draws later) (λ number. refl) (range_with_len 0 size),
+        length-range_with_len 0 (size * size),
+        length-range_with_len 0 size,
+      )
 
   pub latch_count : length (flat_map item_latches (items size draws later)) ≡ size
   latch_count =
-      omega (arith, counted_items item_latches, none_of item_latches (cover_at size draws later) (λ number. refl) (range_with_len 0 (size * size)),
-      one_of item_latches (latch_at size draws later) (λ number. refl) (range_with_len 0 size), none_of item_latches (output_at size draws later) (λ number. refl) (range_with_len 0 size),
-      length-range_with_len 0 size)
+      omega (
+        arith,
+        counted_items item_latches,
+        none_of item_latches (cover_at size draws later) (λ number. refl) (range_with_len 0 (size * size)),
+        one_of item_latches (latch_at size draws later) (λ number. refl) (range_with_len 0 size),
+        none_of item_latches (output_at size draws later) (λ number. refl) (range_with_len 0 size),
+        length-range_with_len 0 size,
+      )

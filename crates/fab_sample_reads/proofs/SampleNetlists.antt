@@ -1,27 +1,25 @@
 -- The netlists of samples are read.
-use Rattle.std.proofs.Common.{◌≡◌, ℕ, ◌+◌, ◌*◌, ◌≤◌, false, List, [], ◌∷◌, ◌++◌, length, map, codes, nat_lt, Ok, refl, sym, ap, subst, ◌∙◌, arith, length-append, append-nil}
-use Rattle.std.specs.List.{flat_map, range_with_len}
+use Rattle.std.proofs.Common.{◌≡◌, ℕ, ◌*◌, ◌≤◌, false, List, length, codes, nat_lt, Ok, refl, sym, ap, subst, arith}
+use Rattle.std.specs.List.{flat_map}
 use Rattle.std.proofs.lemmas.Bool.Decides.{nat_tests}
-use Rattle.std.proofs.lemmas.List.FromFn.{length-map-range_with_len}
 use Rattle.std.proofs.lemmas.Nat.{mul-le}
 use Rattle.fab_netlist.specs.Plain.{PlainNetlist}
 use Rattle.fab_netlist.specs.WellMade.{ports}
 use Rattle.fab_netlist.specs.Packing.{packed, packing, works}
 use Rattle.fab_blif.specs.Flat.{Placed}
 use Rattle.fab_blif.specs.Design.{design_of, netlist_of}
-use Rattle.fab_blif.specs.Blif.{IsBlif, models_in, netlist_in}
-use Rattle.fab_sample.specs.declared.design.Cover.{Cover}
+use Rattle.fab_blif.specs.Blif.{netlist_in}
 use Rattle.fab_sample.specs.Draws.{behind}
-use Rattle.fab_sample.specs.Drawn.{covers, latches, sample_latches}
-use Rattle.fab_sample_reads.specs.Items.{Item, rows_text, model_rows, model_said}
-use Rattle.fab_sample_reads.specs.Named.{NamedCover, NamedLatch, item_covers, item_latches, IsOfItems}
-use Rattle.fab_sample_reads.specs.Samples.{input_words, output_words, sample_items, sample_rows, sample_model}
+use Rattle.fab_sample.specs.Drawn.{covers, sample_latches}
+use Rattle.fab_sample_reads.specs.Items.{Item}
+use Rattle.fab_sample_reads.specs.Named.{item_covers, item_latches, IsOfItems}
+use Rattle.fab_sample_reads.specs.Samples.{input_words, output_words, sample_items}
 use Rattle.fab_sample_reads.specs.Laws.{netlist_text, ReadsNetlist, SampleNetlistsAreRead}
 use Rattle.fab_sample_reads.proofs.WholeTexts.{IsReadable, model_text, text_models, text_flat, text_blif}
 use Rattle.fab_sample_reads.proofs.DrivenOnce.{made}
 use Rattle.fab_sample_reads.proofs.NamedNetlists.{of_items, port_count, cell_count}
 use Rattle.fab_sample_reads.proofs.SampleTexts.{sample_text}
-use Rattle.fab_sample_reads.proofs.SampleItems.{items, items_are, readable, cover_count, latch_count, input_count, output_count}
+use Rattle.fab_sample_reads.proofs.SampleItems.{items_are, readable, cover_count, latch_count, input_count, output_count}
 
 packs : (netlist : PlainNetlist) (tables pads : ℕ) → length (works netlist) ≤ tables → length (ports netlist) ≤ pads → packing netlist tables pads ≡ Ok (packed netlist)
 packs netlist tables pads cells few =
@@ -49,9 +47,15 @@ module _ (size : ℕ) (draws : ℕ → ℕ) (least : 2 ≤ size) (most : size �
       let netlist : netlist_in bytes ≡ netlist_of (made ins outs all) = ap (λ (l : List Placed). netlist_of (design_of l)) (text_flat (codes "sample") ins outs all fit) in
       let twice : size * 2 ≤ size * size = mul-le size 2 size size (omega arith) least in
       let cells : length (works (netlist_of (made ins outs all))) ≤ 2 * (size * size) =
-      omega (arith, cell_count ins outs all, twice,
-      ap (λ (l : List Item). length (flat_map item_covers l)) (items_are size draws words), ap (λ (l : List Item). length (flat_map item_latches l)) (items_are size draws words),
-      cover_count size draws words some most, latch_count size draws words some most) in
+      omega (
+        arith,
+        cell_count ins outs all,
+        twice,
+        ap (λ (l : List Item). length (flat_map item_covers l)) (items_are size draws words),
+        ap (λ (l : List Item). length (flat_map item_latches l)) (items_are size draws words),
+        cover_count size draws words some most,
+        latch_count size draws words some most,
+      ) in
       let pads : length (ports (netlist_of (made ins outs all))) ≡ 2 * size =
       omega (arith, port_count ins outs all, input_count size draws words some most, output_count size draws words some most) in
       subst (ReadsNetlist size drawn held) text (record {
@@ -61,7 +65,7 @@ module _ (size : ℕ) (draws : ℕ → ℕ) (least : 2 ≤ size) (most : size �
         cells = subst (λ (n : PlainNetlist). length (works n) ≤ 2 * (size * size)) (sym netlist) cells;
         pads = subst (λ (n : PlainNetlist). length (ports n) ≡ 2 * size) (sym netlist) pads;
         fits = subst (λ (n : PlainNetlist). (tables pads : ℕ) → 2 * (size * size) ≤ tables → 2 * size ≤ pads → packing n tables pads ≡ Ok (packed n)) (sym netlist)
-        (λ tables few enough room. packs (netlist_of (made ins outs all)) tables few (omega (arith, cells, enough)) (omega (arith, pads, room)));
+            (λ tables few enough room. packs (netlist_of (made ins outs all)) tables few (omega (arith, cells, enough)) (omega (arith, pads, room)));
       })
 
 pub netlists_read : SampleNetlistsAreRead

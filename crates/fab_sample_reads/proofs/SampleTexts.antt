@@ -1,5 +1,5 @@
 -- The text of a sample's netlist is that of its items.
-use Rattle.std.proofs.Common.{◌≡◌, ℕ, zero, suc, ◌+◌, ◌-◌, ◌*◌, ◌≤◌, Bool, true, false, cond, List, [], ◌∷◌, ◌++◌, length, map, codes, refl, sym, ap, ◌∙◌, inl, inr, arith, append_assoc}
+use Rattle.std.proofs.Common.{◌≡◌, ℕ, zero, suc, ◌+◌, ◌-◌, ◌*◌, ◌≤◌, List, [], ◌∷◌, ◌++◌, map, codes, refl, sym, ap, ◌∙◌, inl, inr, arith, append_assoc}
 use Rattle.std.specs.List.{flat_map, range_with_len, enumerate_from}
 use Rattle.std.proofs.lemmas.Bool.{cases_Bool}
 use Rattle.std.proofs.lemmas.List.{map-append}
@@ -8,9 +8,9 @@ use Rattle.fab_sample.specs.declared.design.Cover.{Cover}
 use Rattle.fab_sample.specs.declared.design.Latch.{Latch}
 use Rattle.fab_sample.specs.declared.net.Net.TheVariants as nets
 use Rattle.fab_sample.specs.Lines.{Line, text, words}
-use Rattle.fab_sample.specs.Netlists.{net_name, bit_of, on_row, row_if_on, on_rows, cover_lines, latch_line, output_lines, digit, all_cover_lines, all_latch_lines, all_output_lines, netlist_lines}
+use Rattle.fab_sample.specs.Netlists.{net_name, bit_of, on_row, row_if_on, cover_lines, latch_line, output_lines, digit, all_cover_lines, all_latch_lines, all_output_lines, netlist_lines}
 use Rattle.fab_sample_reads.specs.Items.{Row, row_line, rows_text, Item, pattern_row, item_rows}
-use Rattle.fab_sample_reads.specs.Samples.{pattern_if_on, patterns_of, cover_item, latch_item, output_item, sample_items, input_words, output_words, sample_rows}
+use Rattle.fab_sample_reads.specs.Samples.{pattern_if_on, cover_item, latch_item, output_item, sample_items, input_words, output_words, sample_rows}
 
 abbrev item_lines : Item → List Line
 item_lines item = map row_line (item_rows item)

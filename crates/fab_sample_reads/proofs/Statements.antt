@@ -1,11 +1,10 @@
 -- The model that rows of words spell.
-use Rattle.std.proofs.Common.{◌≡◌, ℕ, suc, ◌+◌, Bool, true, false, List, [], ◌∷◌, ◌++◌, length, map, filter, codes, Option, None, refl, sym, ap, subst, ◌∙◌, inl, inr, arith, append_assoc, append-nil}
+use Rattle.std.proofs.Common.{◌≡◌, ℕ, ◌+◌, true, false, List, [], ◌∷◌, ◌++◌, length, map, filter, codes, refl, sym, ap, ◌∙◌, arith, append_assoc}
 use Rattle.std.specs.List.{AllByRecursion as Each, list_any, flat_map, enumerate_from, before_first}
-use Rattle.std.proofs.lemmas.Bool.{cases_Bool}
 use Rattle.std.proofs.lemmas.List.Folds.{list_any-append}
 use Rattle.fab_models.specs.declared.words.Kind.{Kind}
 use Rattle.fab_models.specs.declared.words.Kind.TheVariants as kinds
-use Rattle.fab_models.specs.Words.{Word, words, kind_of, is_model, is_row, is_statement, ends_cover, is_row_kind, begins_model}
+use Rattle.fab_models.specs.Words.{Word, kind_of, is_model, is_row, is_statement, ends_cover, is_row_kind}
 use Rattle.fab_models.specs.Covers.{table_of}
 use Rattle.fab_models.specs.Plain as bodies
 use Rattle.fab_models.specs.Plain.{PlainBody, PlainStatement, PlainModel}
@@ -139,7 +138,7 @@ models_said : (name : Word) (inputs outputs : List Word) (items : List Item) →
 models_said name inputs outputs items =
     let after = (codes ".inputs" ∷ inputs) ∷ (codes ".outputs" ∷ outputs) ∷ flat_map item_rows items ++ end_row ∷ [] in
     let none = numbered_no_model 2 after (items_no_model items) in
-    let all : statements (enumerate_from 2 after) ≡ (model_said name inputs outputs items).statements = 
+    let all : statements (enumerate_from 2 after) ≡ (model_said name inputs outputs items).statements =
     ap (λ (l : List PlainStatement). record { line = 2; body = bodies.inputs inputs } ∷ record { line = 3; body = bodies.outputs outputs } ∷ l) (items_said 4 items) in
     λ j. record { line = 1; name = name; statements = (ap statements (before_none begins (enumerate_from 2 after) none) ∙ all) j } ∷ no_models (enumerate_from 2 after) none j
 

@@ -1,11 +1,11 @@
 -- Names of a letter and a number: they are words, and no two of them are the same.
-use Rattle.std.proofs.Common.{◌≡◌, ℕ, zero, suc, ◌+◌, ◌-◌, ◌*◌, ◌/◌, ◌%◌, ◌^◌, ◌≤◌, ◌<◌, Bool, true, false, cond, not, ◌&&◌, ◌||◌, List, [], ◌∷◌, ◌++◌, length, map, decimal, nat_eq, nat_le, refl, sym, ap, subst, ◌∙◌, inl, inr, arith}
+use Rattle.std.proofs.Common.{◌≡◌, ℕ, zero, suc, ◌+◌, ◌%◌, ◌^◌, ◌≤◌, ◌<◌, Bool, true, false, cond, List, [], ◌∷◌, map, decimal, nat_eq, nat_le, refl, sym, ap, ◌∙◌, inl, inr, arith}
 use Rattle.std.specs.Prelude.{◌==◌}
-use Rattle.std.specs.List.{AllByRecursion as Each, count_by, list_all, list_any, range_with_len}
+use Rattle.std.specs.List.{count_by, list_all, range_with_len}
 use Rattle.std.specs.Str.{bytes_eq}
 use Rattle.std.proofs.lemmas.Bool.{cases_Bool, cases_lt, false≢true}
 use Rattle.std.proofs.lemmas.Bool.Decides.{nat_tests}
-use Rattle.std.proofs.lemmas.Fmt.{decimal_injective, decimal_by_steps, decimal_nonempty}
+use Rattle.std.proofs.lemmas.Fmt.{decimal_injective, decimal_by_steps}
 use Rattle.fab_models.specs.Words.{Word, is_filled}
 use Rattle.fab_models.specs.Judge.{is_among}
 use Rattle.fab_sample_reads.proofs.TextLines.{is_plain, is_word, all_joined}
@@ -63,8 +63,12 @@ module _ where
   unfolding begins_with
   none_counted name letter first zero other = omega arith
   none_counted name letter first (suc count) other =
-      omega (arith, count_first (bytes_eq name) (tagged letter first) (run letter (first + 1) count), none_counted name letter (first + 1) count other,
-      ap (λ (b : Bool). cond {A = ℕ} b 1 0) (not_here name other))
+      omega (
+        arith,
+        count_first (bytes_eq name) (tagged letter first) (run letter (first + 1) count),
+        none_counted name letter (first + 1) count other,
+        ap (λ (b : Bool). cond {A = ℕ} b 1 0) (not_here name other),
+      )
     where
       not_here : (word : Word) → begins_with word letter ≡ false → bytes_eq word (tagged letter first) ≡ false
       not_here [] h = refl
@@ -74,9 +78,12 @@ module _ where
   none_before : (name : Word) (letter first count : ℕ) → first + count ≤ 2 ^ 64 → ((number : ℕ) → first ≤ number → number < 2 ^ 64 → name ≡ tagged letter number → ⊥) → count_by (bytes_eq name) (run letter first count) ≤ 0
   none_before name letter first zero below none = omega arith
   none_before name letter first (suc count) below none =
-      omega (arith, count_first (bytes_eq name) (tagged letter first) (run letter (first + 1) count),
-      none_before name letter (first + 1) count (omega (arith, below)) (λ number after within. none number (omega (arith, after)) within),
-      ap (λ (b : Bool). cond {A = ℕ} b 1 0) (not_same name (tagged letter first) (none first (omega arith) (omega (arith, below)))))
+      omega (
+        arith,
+        count_first (bytes_eq name) (tagged letter first) (run letter (first + 1) count),
+        none_before name letter (first + 1) count (omega (arith, below)) (λ number after within. none number (omega (arith, after)) within),
+        ap (λ (b : Bool). cond {A = ℕ} b 1 0) (not_same name (tagged letter first) (none first (omega arith) (omega (arith, below)))),
+      )
 
   pub one_counted : (name : Word) (letter first count : ℕ) → first + count ≤ 2 ^ 64 → count_by (bytes_eq name) (run letter first count) ≤ 1
   one_counted name letter first zero below = omega arith
@@ -118,8 +125,14 @@ module _ where
   pub counted_once : (name : Word) (covers outputs latches inputs : ℕ) → covers ≤ 2 ^ 64 → outputs ≤ 2 ^ 64 → latches ≤ 2 ^ 64 → inputs ≤ 2 ^ 64
       → count_by (bytes_eq name) (run 110 0 covers) + count_by (bytes_eq name) (run 111 0 outputs) + count_by (bytes_eq name) (run 113 0 latches) + count_by (bytes_eq name) (run 105 0 inputs) ≤ 1
   counted_once name covers outputs latches inputs a b c d =
-      omega (arith, one_letter name, counted_by_letter name 110 0 covers (omega (arith, a)), counted_by_letter name 111 0 outputs (omega (arith, b)),
-      counted_by_letter name 113 0 latches (omega (arith, c)), counted_by_letter name 105 0 inputs (omega (arith, d)))
+      omega (
+        arith,
+        one_letter name,
+        counted_by_letter name 110 0 covers (omega (arith, a)),
+        counted_by_letter name 111 0 outputs (omega (arith, b)),
+        counted_by_letter name 113 0 latches (omega (arith, c)),
+        counted_by_letter name 105 0 inputs (omega (arith, d)),
+      )
 
 -- ---- which stand in a run
 

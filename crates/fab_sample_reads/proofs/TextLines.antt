@@ -1,14 +1,12 @@
 -- The lines of a text that is made of words, and their words.
-use Rattle.std.proofs.Common.{◌≡◌, ℕ, suc, ◌+◌, ◌-◌, ◌<◌, ◌≤◌, Bool, true, false, ◌&&◌, ◌||◌, eqb, List, [], ◌∷◌, ◌++◌, length, take, get_or, filter, map, codes, refl, sym, ap, ◌∙◌, ◌⊎◌, inl, inr, arith, append_assoc, All, length-append}
-use Rattle.std.specs.Prelude.{not, ◌==◌, slice_index}
-use Rattle.std.specs.List.{before_first, list_all, list_any, prefix_len, slice_split, flat_map, join_with_byte}
+use Rattle.std.proofs.Common.{◌≡◌, ℕ, suc, ◌-◌, ◌<◌, ◌≤◌, Bool, true, false, ◌&&◌, ◌||◌, eqb, List, [], ◌∷◌, ◌++◌, length, get_or, filter, map, refl, ap, ◌∙◌, ◌⊎◌, inl, inr, arith, append_assoc, All, length-append}
+use Rattle.std.specs.Prelude.{not, ◌==◌}
+use Rattle.std.specs.List.{list_all, list_any, slice_split}
 use Rattle.std.specs.Str.Lines.{lines, lines_of_parts, strip_carriage_return}
 use Rattle.std.proofs.lemmas.Bool.{cases_Bool}
 use Rattle.std.proofs.lemmas.Bool.Decides.{nat_tests}
-use Rattle.std.proofs.lemmas.List.{get_or-append-add}
 use Rattle.std.proofs.lemmas.List.Splits.{slice_split_at, slice_split_none, length-slice_split}
 use Rattle.std.proofs.lemmas.List.Elements.{All-cons, All-nil}
-use Rattle.std.proofs.lemmas.List.Concat.{flat_map-cons}
 use Rattle.fab_lines.specs.Parts.{uncommented}
 use Rattle.fab_lines.specs.Joined.{goes_on, joined, joined_lines}
 use Rattle.fab_models.specs.Words.{Word, is_of_word, is_foreign, is_filled, words}

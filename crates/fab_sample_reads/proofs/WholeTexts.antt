@@ -1,30 +1,29 @@
 -- The text of a model of items is a BLIF file.
-use Rattle.std.proofs.Common.{◌≡◌, ℕ, zero, suc, ◌+◌, ◌<◌, ◌≤◌, ◌*◌, Bool, true, false, List, [], ◌∷◌, ◌++◌, length, map, Contains, None, refl, sym, ap, subst, ◌∙◌, inl, inr, arith}
+use Rattle.std.proofs.Common.{◌≡◌, ℕ, zero, suc, ◌+◌, ◌≤◌, ◌*◌, true, List, [], ◌∷◌, length, refl, sym, ap, subst, ◌∙◌, arith}
 use Rattle.std.specs.List.{AllByRecursion as Each, flat_map, sum_by}
 use Rattle.std.proofs.lemmas.List.Sums.{sum_by-cons}
-use Rattle.fab_lines.specs.Joined.{joined_lines}
 use Rattle.fab_lines.specs.Order.{IsFine}
 use Rattle.fab_models.specs.Words.{Word}
 use Rattle.fab_models.specs.Judge.{judge, is_among}
 use Rattle.fab_models.specs.Plain as bodies
 use Rattle.fab_models.specs.Plain.{PlainBody, PlainStatement, PlainModel}
 use Rattle.fab_models.specs.Spelled.{spelled}
-use Rattle.fab_instances.specs.Places.{statements_of, model_names}
-use Rattle.fab_instances.specs.Order.{NamesDiffer, NoLine, IsInstanceLine}
+use Rattle.fab_instances.specs.Places.{statements_of}
+use Rattle.fab_instances.specs.Order.{NamesDiffer, IsInstanceLine}
 use Rattle.fab_instances.specs.Counting.{instances, instances_in, instances_at}
 use Rattle.fab_instances.specs.Refusals.{AreFineModels}
 use Rattle.fab_blif.specs.Flat.{Placed, flat_lines}
-use Rattle.fab_blif.specs.Design.{PlainDesign, design_of, netlist_of}
+use Rattle.fab_blif.specs.Design.{design_of, netlist_of}
 use Rattle.fab_blif.specs.Refusals.{IsFineDesign}
 use Rattle.fab_netlist.specs.Cycles.{HasNoCycle}
-use Rattle.fab_blif.specs.Blif.{IsBlif, models_in, design_in, netlist_in}
+use Rattle.fab_blif.specs.Blif.{IsBlif, models_in}
 use Rattle.fab_blif.proofs.Each.{of_member}
-use Rattle.fab_sample_reads.specs.Items.{Row, row_line, rows_text, Item, cover, wire, latch, item_rows, model_rows, statements_from, model_said, edges}
+use Rattle.fab_sample_reads.specs.Items.{rows_text, Item, cover, wire, latch, item_rows, model_rows, statements_from, model_said, edges}
 use Rattle.fab_sample_reads.proofs.TextLines.{are_rows, rows_joined}
 use Rattle.fab_sample_reads.proofs.JudgedRows.{ArePorts, model_fine}
 use Rattle.fab_sample_reads.proofs.Statements.{model_spelled}
 use Rattle.fab_sample_reads.proofs.PlacedItems.{model_placed, model_flat, read_words}
-use Rattle.fab_sample_reads.proofs.DrivenOnce.{nets, made, IsOnce, drive_words, fine_design}
+use Rattle.fab_sample_reads.proofs.DrivenOnce.{nets, IsOnce, drive_words, fine_design}
 use Rattle.fab_sample_reads.proofs.OrderedCovers.{AreOrdered, no_cycle}
 
 -- ---- no instances
