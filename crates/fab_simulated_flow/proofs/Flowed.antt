@@ -7,11 +7,9 @@ use Rattle.fab_syntax.specs.Plain.{PlainModule}
 use Rattle.fab_syntax.specs.Spelling.{text_bytes}
 use Rattle.fab_grammar.specs.Grammar.{SpellsText}
 use Rattle.fab_grammar.proofs.Once.{text_once}
-use Rattle.fab_fabric.specs.Fabric.{AreTiles, IsFabric}
 use Rattle.fab_netlist.specs.Cycles.{HasNoCycle}
 use Rattle.fab_netlist.specs.Packing.{packed}
 use Rattle.fab_netlist.specs.Plain.{PlainNetlist}
-use Rattle.fab_netlist.specs.WellMade.{IsWellMade}
 use Rattle.fab_model.specs.Grid.{PlainFabric}
 use Rattle.fab_implementation.specs.Plain.{PlainImplementation}
 use Rattle.fab_frames.specs.Bytes.{word_bytes}
@@ -33,6 +31,7 @@ use Rattle.fab_text_reads.specs.Laws.{GeneratedTextsAreRead}
 use Rattle.fab_simulation.specs.Simulation.{Simulates}
 use Rattle.fab_simulated_designs.specs.Designs.{ShowsNetlist}
 use Rattle.fab_simulated_designs.specs.Laws.{LegalDesignsSimulate}
+use Rattle.fab_spelled_designs.specs.Laws.{IsSound, LegalDesignsAreSpelled, SpelledDesignsAreSound}
 use Rattle.fab_outputs.specs.Storing.{PlainOutput, output, with_outputs}
 use Rattle.fab_flow.specs.Generating.{generated_text}
 use Rattle.fab_flow.specs.Flowing.{FlowFiles, MakesFlow, flow_outputs}
@@ -51,10 +50,9 @@ state_again bytes printed said has is says =
     } in
     says.1 ∙ sym (spelled_is_read (rows_of bytes) printed spells).1
 
-module _ (read_again : GeneratedTextsAreRead) (simulate : LegalDesignsSimulate) (files : Map) (names : FlowFiles) (allowed : ℕ) (stored : List PlainOutput)
-    (flow : MakesFlow files names allowed stored) (is_fabric : IsFabric flow.design.fabric) (are_tiles : AreTiles flow.design.fabric)
-    (well_made : IsWellMade flow.design.netlist)
-    (has : HasSpelling (design_state (packed flow.design.netlist) flow.made.implementation)) (stimulus trace : List ℕ) (outputs : List PlainOutput)
+module _ (read_again : GeneratedTextsAreRead) (simulate : LegalDesignsSimulate) (are_sound : SpelledDesignsAreSound) (are_spelled : LegalDesignsAreSpelled)
+    (files : Map) (names : FlowFiles) (allowed : ℕ) (stored : List PlainOutput) (flow : MakesFlow files names allowed stored) (stimulus trace : List ℕ)
+    (outputs : List PlainOutput)
     (made : MakesTrace (with_outputs stored files)
     (simulation_files (names.base ++ codes ".v") (names.base ++ codes ".bit") (names.base ++ codes ".state") stimulus trace) outputs) where
   abbrev fabric : PlainFabric
@@ -86,6 +84,12 @@ module _ (read_again : GeneratedTextsAreRead) (simulate : LegalDesignsSimulate) 
   stands : (name bytes : List ℕ) → after name ≡ Some bytes → with_outputs stored files name ≡ Some bytes
   stands name bytes there = ap (λ (m : Map). m name) after_is ∙ there
 
+  sound : IsSound flow.design
+  sound = are_sound files names.design flow.design flow.spelled
+
+  has : HasSpelling state
+  has = (are_spelled files names.design flow.design implementation flow.spelled flow.made.legal).state
+
   no_cycle : HasNoCycle netlist
   no_cycle = subst HasNoCycle (sym flow.spelled.netlist.spelled.1) flow.spelled.netlist.spelled.0.acyclic
 
@@ -95,7 +99,7 @@ module _ (read_again : GeneratedTextsAreRead) (simulate : LegalDesignsSimulate) 
       (stands _ _ (stored_files.text_stands files names.base _ _ _ words state)) made.device.found in
       text_once 300 128 300 128 made.device.bytes made.text (generated_text fabric) made.device.spelled.spelled
       (subst (λ (b : List ℕ). SpellsText 300 128 b (generated_text fabric)) (sym bytes_are)
-      (read_again files names.design.fabric fabric flow.spelled.fabric is_fabric are_tiles).1)
+      (read_again files names.design.fabric fabric flow.spelled.fabric sound.fabric sound.tiles).1)
 
   words_are : map (digits 32) made.made.words ≡ map (digits 32) words
   words_are =
@@ -120,8 +124,8 @@ module _ (read_again : GeneratedTextsAreRead) (simulate : LegalDesignsSimulate) 
   shows : ShowsNetlist fabric (generated_text fabric) netlist implementation flow.made.assembly.bits made.made.lines
       (map (map plain_tern) made.made.traces.shown) simulates
   shows =
-      simulate fabric (generated_text fabric) netlist flow.design.fixed implementation flow.made.assembly.bits is_fabric are_tiles flow.made.text
-      well_made no_cycle flow.made.legal
+      simulate fabric (generated_text fabric) netlist flow.design.fixed implementation flow.made.assembly.bits sound.fabric sound.tiles flow.made.text
+      sound.netlist no_cycle flow.made.legal
       flow.made.assembly.configures made.made.lines (map (map plain_tern) made.made.traces.shown) simulates
 
   pub traces_netlist : TracesNetlist (with_outputs stored files) stimulus trace netlist outputs

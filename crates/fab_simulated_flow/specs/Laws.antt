@@ -2,14 +2,10 @@
 use Rattle.std.specs.Prelude.{◌≡◌, ℕ, Bool, true, false, List, [], ◌∷◌, ◌++◌, map, codes}
 use Rattle.fab_desk.specs.Files.{Map}
 use Rattle.fab_files.specs.Stages.{ReadsFrom}
-use Rattle.fab_fabric.specs.Fabric.{AreTiles, IsFabric}
 use Rattle.fab_netlist.specs.Plain.{PlainNetlist}
 use Rattle.fab_netlist.specs.Meaning.{IsRun}
 use Rattle.fab_netlist.specs.Packing.{packed}
-use Rattle.fab_netlist.specs.WellMade.{IsWellMade}
 use Rattle.fab_texts.specs.Rows.{rows_of}
-use Rattle.fab_state.specs.Spelled.{HasSpelling}
-use Rattle.fab_use.specs.Registers.{design_state}
 use Rattle.fab_ternary.specs.declared.Tern.{Tern}
 use Rattle.fab_ternary.specs.declared.Tern.TheVariants as terns
 use Rattle.fab_stimulus.specs.Spelled.{Says}
@@ -36,13 +32,10 @@ pub record TracesNetlist (files : Map) (stimulus trace : List ℕ) (netlist : Pl
   pub run : IsRun netlist (initial_latches netlist) lines nows
   pub outputs_are : outputs ≡ output trace (trace_text (map (λ port. port.0) (packed netlist).outputs) (map (port_values netlist) nows)) ∷ []
 
--- Where the five files of a flow stand, what `simulate` makes of BASE.v, BASE.bit and BASE.state is the trace of the netlist. The fabric and the
--- netlist are such as fab reads, and the names of ports can stand in a state.
+-- Where the five files of a flow stand, what `simulate` makes of BASE.v, BASE.bit and BASE.state is the trace of the netlist.
 abbrev pub FlowFilesSimulate : Type 0
 FlowFilesSimulate =
     (files : Map) (names : FlowFiles) (allowed : ℕ) (stored : List PlainOutput) (flow : MakesFlow files names allowed stored) →
-    IsFabric flow.design.fabric → AreTiles flow.design.fabric → IsWellMade flow.design.netlist →
-    HasSpelling (design_state (packed flow.design.netlist) flow.made.implementation) →
     (stimulus trace : List ℕ) (outputs : List PlainOutput) →
     MakesTrace (with_outputs stored files)
     (simulation_files (names.base ++ codes ".v") (names.base ++ codes ".bit") (names.base ++ codes ".state") stimulus trace) outputs →

@@ -2,4 +2,5 @@ use Rattle.fab_simulated_flow.proofs.Flowed.{traces_netlist}
 use Rattle.fab_simulated_flow.proofs.flow_files_simulate.Goals as goal
 
 pub returns : goal.returns
-returns c = traces_netlist c.generated_texts_are_read.ensures c.legal_designs_simulate.ensures
+returns c =
+    traces_netlist c.generated_texts_are_read.ensures c.legal_designs_simulate.ensures c.spelled_designs_are_sound.ensures c.legal_designs_are_spelled.ensures

@@ -1,0 +1,4 @@
+pub mod Lines
+pub mod Spoken
+pub mod Named
+pub mod SmallTables

@@ -1,0 +1,4 @@
+pub mod Tiles
+pub mod Rows
+pub mod Words
+pub mod Whole
