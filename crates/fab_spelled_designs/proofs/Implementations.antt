@@ -154,10 +154,11 @@ module _ (fabric : PlainFabric) (is : IsFabric fabric) (tiles : AreTiles fabric)
 
   tree_rows : (tree : PlainTree) → Contains it.trees tree → Each IsRow (tree_lines fabric it.ins tree)
   tree_rows tree here =
-      let edges = All-contains (λ (t : PlainTree). All (HasWires fabric) t.edges) it.trees tree edges_there here in
-      (net_row tree.net (tree_net tree here),
-      each_mapped IsRow (edge_line fabric) tree.edges (each_from_members (λ edge. IsRow (edge_line fabric edge)) tree.edges (λ edge there.
-          edge_row edge (All-contains (HasWires fabric) tree.edges edge edges there))))
+      let edges = All-contains (λ (t : PlainTree). All (HasWires fabric) t.edges) it.trees tree edges_there here in (
+        net_row tree.net (tree_net tree here),
+        each_mapped IsRow (edge_line fabric) tree.edges (each_from_members (λ edge. IsRow (edge_line fabric edge)) tree.edges (λ edge there.
+            edge_row edge (All-contains (HasWires fabric) tree.edges edge edges there))),
+      )
 
   abbrev pad_rows : Word → List Pad → List (List Word)
   pad_rows side pads = map (pad_line side) pads

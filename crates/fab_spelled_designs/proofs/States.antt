@@ -174,16 +174,16 @@ module _ (fabric : PlainFabric) (is : IsFabric fabric) (packed : PlainPacked) (m
   fresh : IsFresh state
   fresh = record {
     in_sites = each_sited in_site pad_site packed.inputs state.ins ins_are (each_writable bytes_eq bytes_eq-Decides fabric is kinds.Io (IsInput packed) implementation.ins legal.placed.ports.ins ins_apart
-    packed.inputs (λ port here. here));
+        packed.inputs (λ port here. here));
     out_sites = each_sited out_site pad_site (output_ports packed) state.outs outs_are (each_writable bytes_eq bytes_eq-Decides fabric is kinds.Io (IsOutput packed) implementation.outs legal.placed.ports.outs outs_apart
-    (output_ports packed) (λ port here. here));
+        (output_ports packed) (λ port here. here));
     ff_sites = each_sited (cell_site implementation) register_site numbers state.ffs ffs_are (each_writable nat_eq Decides-eqb fabric is kinds.Lut4c (IsCell packed) implementation.cells legal.placed.cells cells_apart
-    numbers numbered);
+        numbers numbered);
     ports = subst Differ (sym ports_are) made.ports_differ;
     ins = subst Differ (sym ins_are) (sites_differ bytes_eq bytes_eq-Decides fabric is kinds.Io (IsInput packed) implementation.ins legal.placed.ports.ins ins_apart packed.inputs (λ port here. here)
-    (differ_left packed.inputs (output_ports packed) made.ports_differ));
+        (differ_left packed.inputs (output_ports packed) made.ports_differ));
     outs = subst Differ (sym outs_are) (sites_differ bytes_eq bytes_eq-Decides fabric is kinds.Io (IsOutput packed) implementation.outs legal.placed.ports.outs outs_apart (output_ports packed) (λ port here. here)
-    (differ_right packed.inputs (output_ports packed) made.ports_differ));
+        (differ_right packed.inputs (output_ports packed) made.ports_differ));
     ffs = subst Differ (sym ffs_are) (sites_differ nat_eq Decides-eqb fabric is kinds.Lut4c (IsCell packed) implementation.cells legal.placed.cells cells_apart numbers numbered (numbers_from 0 packed.cells).differ);
   }
 
