@@ -10,4 +10,5 @@ pub mod NamedNetlists
 pub mod TaggedWords
 pub mod SampleTexts
 pub mod SampleItems
+pub mod ShortTexts
 pub mod SampleNetlists

@@ -60,7 +60,7 @@ module _ (size : ℕ) (draws later : ℕ → ℕ) where
 
   -- ---- what each kind of item gives
 
-  flat_items : {X : Type 0} (F : Item → List X)
+  pub flat_items : {X : Type 0} (F : Item → List X)
       → flat_map F items ≡ flat_map F (map cover_at (range_with_len 0 (size * size))) ++ (flat_map F (map latch_at (range_with_len 0 size)) ++ flat_map F (map output_at (range_with_len 0 size)))
   flat_items {X} F =
       flat_map-append F (map cover_at (range_with_len 0 (size * size))) (map latch_at (range_with_len 0 size) ++ map output_at (range_with_len 0 size))
@@ -75,18 +75,18 @@ flat_none F f none [] = refl
 flat_none F f none (x ∷ xs) = (λ j. none x j ++ flat_none F f none xs j)
 
 -- what holds of all numbers of a run
-each_number : (P : ℕ → Type 0) (first count : ℕ) → ((number : ℕ) → first ≤ number → number < first + count → P number) → Each P (range_with_len first count)
+pub each_number : (P : ℕ → Type 0) (first count : ℕ) → ((number : ℕ) → first ≤ number → number < first + count → P number) → Each P (range_with_len first count)
 each_number P first zero all = tt
 each_number P first (suc count) all = (all first (omega arith) (omega arith), each_number P (first + 1) count (λ number least most. all number (omega (arith, least)) (omega (arith, most))))
 
-each_flat_map : {X Y : Type 0} (P : Y → Type 0) (F : X → List Y) (f : ℕ → X) (numbers : List ℕ) → Each (λ number. Each P (F (f number))) numbers → Each P (flat_map F (map f numbers))
+pub each_flat_map : {X Y : Type 0} (P : Y → Type 0) (F : X → List Y) (f : ℕ → X) (numbers : List ℕ) → Each (λ number. Each P (F (f number))) numbers → Each P (flat_map F (map f numbers))
 each_flat_map P F f [] all = tt
 each_flat_map P F f (number ∷ numbers) all = each_joined P (F (f number)) (flat_map F (map f numbers)) all.0 (each_flat_map P F f numbers all.1)
 
 -- ---- nets
 
 -- a net of a place is an input, a latch or a cover
-net_cases : (size place : ℕ) → ((net_at size place ≡ sample.Input place) × (place < size)) ⊎ (((net_at size place ≡ sample.Latch (place - size)) × (place - size < size)) ⊎ ((net_at size place ≡ sample.Cover (place - 2 * size)) × (2 * size ≤ place)))
+pub net_cases : (size place : ℕ) → ((net_at size place ≡ sample.Input place) × (place < size)) ⊎ (((net_at size place ≡ sample.Latch (place - size)) × (place - size < size)) ⊎ ((net_at size place ≡ sample.Cover (place - 2 * size)) × (2 * size ≤ place)))
 net_cases size place = elim (cases_lt place size) [
   | inl below ↦ inl (rw (lt-ltb place size below) refl, below)
   | inr at ↦ elim (cases_lt place (2 * size)) [
@@ -99,10 +99,10 @@ first_byte : (a b : ℕ) (front back : List ℕ) → a ∷ front ≡ b ∷ back 
 first_byte a b front back same = cc
 
 module _ (size : ℕ) (draws later : ℕ → ℕ) (some : 1 ≤ size) (most : size ≤ 16) where
-  square : size * size ≤ 256
+  pub square : size * size ≤ 256
   square = mul-le size size 16 16 most most
 
-  large : size ≤ size * size
+  pub large : size ≤ size * size
   large = omega (arith, mul-le 1 size size size some (omega arith))
 
   wide : (number : ℕ) → number ≤ 256 → number < 2 ^ 64
@@ -125,14 +125,11 @@ module _ (size : ℕ) (draws later : ℕ → ℕ) (some : 1 ≤ size) (most : si
       ++ flat_none latch_outputs (output_at size draws later) (λ x. refl) (range_with_len 0 size) j))
       ∙ append-nil (run 113 0 size)
 
-  inputs_are : input_words size ≡ run 105 0 size
+  pub inputs_are : input_words size ≡ run 105 0 size
   inputs_are = mapped_twice net_name (λ number. sample.Input number) (range_with_len 0 size)
 
-  output_words_are : output_words size ≡ run 111 0 size
+  pub output_words_are : output_words size ≡ run 111 0 size
   output_words_are = mapped_twice net_name (λ number. sample.Output number) (range_with_len 0 size)
-
-  drives : List Word
-  drives = ((run 110 0 (size * size) ++ run 111 0 size) ++ run 113 0 size) ++ run 105 0 size
 
   drives_are : drive_words (input_words size) (output_words size) (items size draws later) ≡ ((run 110 0 (size * size) ++ run 111 0 size) ++ run 113 0 size) ++ run 105 0 size
   drives_are = λ j. (outputs_are j ++ latches_are j) ++ inputs_are j

@@ -3,6 +3,7 @@ use Rattle.std.proofs.Common.{◌≡◌, ℕ, ◌*◌, ◌≤◌, false, List, l
 use Rattle.std.specs.List.{flat_map}
 use Rattle.std.proofs.lemmas.Bool.Decides.{nat_tests}
 use Rattle.std.proofs.lemmas.Nat.{mul-le}
+use Rattle.fab_base.specs.declared.TheConstants.{MAX_FILE_BYTES}
 use Rattle.fab_netlist.specs.Plain.{PlainNetlist}
 use Rattle.fab_netlist.specs.WellMade.{ports}
 use Rattle.fab_netlist.specs.Packing.{packed, packing, works}
@@ -11,7 +12,7 @@ use Rattle.fab_blif.specs.Design.{design_of, netlist_of}
 use Rattle.fab_blif.specs.Blif.{netlist_in}
 use Rattle.fab_sample.specs.Draws.{behind}
 use Rattle.fab_sample.specs.Drawn.{covers, sample_latches}
-use Rattle.fab_sample_reads.specs.Items.{Item}
+use Rattle.fab_sample_reads.specs.Items.{Item, rows_text, model_rows}
 use Rattle.fab_sample_reads.specs.Named.{item_covers, item_latches, IsOfItems}
 use Rattle.fab_sample_reads.specs.Samples.{input_words, output_words, sample_items}
 use Rattle.fab_sample_reads.specs.Laws.{netlist_text, ReadsNetlist, SampleNetlistsAreRead}
@@ -19,6 +20,7 @@ use Rattle.fab_sample_reads.proofs.WholeTexts.{IsReadable, model_text, text_mode
 use Rattle.fab_sample_reads.proofs.DrivenOnce.{made}
 use Rattle.fab_sample_reads.proofs.NamedNetlists.{of_items, port_count, cell_count}
 use Rattle.fab_sample_reads.proofs.SampleTexts.{sample_text}
+use Rattle.fab_sample_reads.proofs.ShortTexts.{short_model}
 use Rattle.fab_sample_reads.proofs.SampleItems.{items_are, readable, cover_count, latch_count, input_count, output_count}
 
 packs : (netlist : PlainNetlist) (tables pads : ℕ) → length (works netlist) ≤ tables → length (ports netlist) ≤ pads → packing netlist tables pads ≡ Ok (packed netlist)
@@ -58,7 +60,10 @@ module _ (size : ℕ) (draws : ℕ → ℕ) (least : 2 ≤ size) (most : size �
       ) in
       let pads : length (ports (netlist_of (made ins outs all))) ≡ 2 * size =
       omega (arith, port_count ins outs all, input_count size draws words some most, output_count size draws words some most) in
+      let short : length bytes ≤ MAX_FILE_BYTES =
+      subst (λ (l : List Item). length (rows_text (model_rows (codes "sample") ins outs l)) ≤ MAX_FILE_BYTES) (sym (items_are size draws words)) (short_model size draws words some most) in
       subst (ReadsNetlist size drawn held) text (record {
+        short = short;
         blif = text_blif (codes "sample") ins outs all fit;
         model = text_models (codes "sample") ins outs all fit;
         netlist = subst (λ (n : PlainNetlist). IsOfItems n ins outs all) (sym netlist) (of_items ins outs all);

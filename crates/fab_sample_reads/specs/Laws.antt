@@ -1,5 +1,6 @@
 -- What is read of the files of a sample.
 use Rattle.std.specs.Prelude.{◌≡◌, ◌≤◌, ℕ, ◌*◌, List, [], ◌∷◌, length, Ok}
+use Rattle.fab_base.specs.declared.TheConstants.{MAX_FILE_BYTES}
 use Rattle.fab_netlist.specs.WellMade.{ports}
 use Rattle.fab_netlist.specs.Packing.{packed, packing, works}
 use Rattle.fab_blif.specs.Blif.{IsBlif, models_in, netlist_in}
@@ -17,10 +18,12 @@ netlist_text size covers latches = text (netlist_lines size covers latches)
 
 -- These bytes are read as the netlist of these covers and latches.
 pub record ReadsNetlist (size : ℕ) (drawn : List Cover) (latches : List Latch) (bytes : List ℕ) : Type 0 where
-  -- They are a BLIF file of one model, which says no more and no less,
+  -- They are no more than a file may have,
+  pub short : length bytes ≤ MAX_FILE_BYTES
+  -- and a BLIF file of one model, which says no more and no less.
   pub blif : IsBlif bytes
   pub model : models_in bytes ≡ sample_model size drawn latches ∷ []
-  -- and its netlist has these ports, covers and latches.
+  -- Its netlist has these ports, covers and latches.
   pub netlist : IsOfItems (netlist_in bytes) (input_words size) (output_words size) (sample_items size drawn latches)
   -- It wants two look-up tables for each tile in a square of logic, at the most, and two pads for each row of it.
   pub cells : length (works (netlist_in bytes)) ≤ 2 * (size * size)
