@@ -10,7 +10,7 @@ use Rattle.fab_netlist.specs.Packing.{packed, packing, works}
 use Rattle.fab_blif.specs.Flat.{Placed}
 use Rattle.fab_blif.specs.Design.{design_of, netlist_of}
 use Rattle.fab_blif.specs.Blif.{netlist_in}
-use Rattle.fab_sample.specs.Draws.{behind}
+use Rattle.fab_draws.specs.Draws.{behind}
 use Rattle.fab_sample.specs.Drawn.{covers, sample_latches}
 use Rattle.fab_sample_reads.specs.Items.{Item, rows_text, model_rows}
 use Rattle.fab_sample_reads.specs.Named.{item_covers, item_latches, IsOfItems}
