@@ -66,7 +66,7 @@ module _ (size : ℕ) (draws later : ℕ → ℕ) (some : 1 ≤ size) (most : si
     | inl input ↦ subst (λ net. IsShort (net_name net)) (sym input.0) (omega (arith, short_tagged 105 place (omega (arith, input.1, most))))
     | inr (inl latch) ↦ subst (λ net. IsShort (net_name net)) (sym latch.0) (omega (arith, short_tagged 113 (place - size) (omega (arith, latch.1, most))))
     | inr (inr cover) ↦ subst (λ net. IsShort (net_name net)) (sym cover.0)
-    (omega (arith, short_tagged 110 (place - 2 * size) (omega (arith, below, square size draws later some most))))
+        (omega (arith, short_tagged 110 (place - 2 * size) (omega (arith, below, square size draws later some most))))
   ]
 
   short_drawn : (word known : ℕ) → 1 ≤ known → known ≤ 2 * size + size * size → IsShort (net_name (net_at size (word % known)))
@@ -76,30 +76,47 @@ module _ (size : ℕ) (draws later : ℕ → ℕ) (some : 1 ≤ size) (most : si
   short_cover number least within =
       let known = 2 * size + number in
       let one : 1 ≤ known = omega (arith, some) in
-      let few : known ≤ 2 * size + size * size = omega (arith, within) in
-      (record {
-        few = omega arith;
-        words = (omega arith, (short_drawn (draws (4 * number)) known one few, (short_drawn (draws (4 * number + 1)) known one few, (short_drawn (draws (4 * number + 2)) known one few,
-        (omega (arith, short_tagged 110 number (omega (arith, within, square size draws later some most))), tt)))));
-      }, short_patterns (patterns_of (drawn_cover size draws number).table))
+      let few : known ≤ 2 * size + size * size = omega (arith, within) in (
+        record {
+          few = omega arith;
+          words = (
+            omega arith,
+            (
+              short_drawn (draws (4 * number)) known one few,
+              (
+                short_drawn (draws (4 * number + 1)) known one few,
+                (
+                  short_drawn (draws (4 * number + 2)) known one few,
+                  (omega (arith, short_tagged 110 number (omega (arith, within, square size draws later some most))), tt),
+                ),
+              ),
+            ),
+          );
+        },
+        short_patterns (patterns_of (drawn_cover size draws number).table),
+      )
 
   short_latch : (number : ℕ) → 0 ≤ number → number < 0 + size → Each IsShortRow (item_rows (latch_at size draws later number))
   short_latch number least within =
       let wide = square size draws later some most in
-      let read = later (2 * number) % (size * size) in
-      (record {
-        few = omega arith;
-        words = (omega arith, (omega (arith, short_tagged 110 read (omega (arith, wide, large size draws later some most, some))), (omega (arith, short_tagged 113 number (omega (arith, within, most))), (omega arith, tt))));
-      }, tt)
+      let read = later (2 * number) % (size * size) in (
+        record {
+          few = omega arith;
+          words = (omega arith, (omega (arith, short_tagged 110 read (omega (arith, wide, large size draws later some most, some))), (omega (arith, short_tagged 113 number (omega (arith, within, most))), (omega arith, tt))));
+        },
+        tt,
+      )
 
   short_output : (number : ℕ) → 0 ≤ number → number < 0 + size → Each IsShortRow (item_rows (output_at size draws later number))
   short_output number least within =
       let wide = square size draws later some most in
-      let read = size * size - size + number in
-      (record {
-        few = omega arith;
-        words = (omega arith, (omega (arith, short_tagged 110 read (omega (arith, wide, large size draws later some most, within))), (omega (arith, short_tagged 111 number (omega (arith, within, most))), tt)));
-      }, (record { few = omega arith; words = (omega arith, (omega arith, tt)) }, tt))
+      let read = size * size - size + number in (
+        record {
+          few = omega arith;
+          words = (omega arith, (omega (arith, short_tagged 110 read (omega (arith, wide, large size draws later some most, within))), (omega (arith, short_tagged 111 number (omega (arith, within, most))), tt)));
+        },
+        (record { few = omega arith; words = (omega arith, (omega arith, tt)) }, tt),
+      )
 
   short_items : Each IsShortRow (flat_map item_rows (items size draws later))
   short_items =
@@ -115,9 +132,17 @@ module _ (size : ℕ) (draws later : ℕ → ℕ) (some : 1 ≤ size) (most : si
       let first = flat_map item_rows (map (cover_at size draws later) (range_with_len 0 (size * size))) in
       let second = flat_map item_rows (map (latch_at size draws later) (range_with_len 0 size)) in
       let third = flat_map item_rows (map (output_at size draws later) (range_with_len 0 size)) in
-      omega (arith, ap length (flat_items size draws later item_rows), length-append first (second ++ third), length-append second third,
-      nine_each (cover_at size draws later) cover_nine (range_with_len 0 (size * size)), nine_each (latch_at size draws later) (λ number. omega arith) (range_with_len 0 size),
-      nine_each (output_at size draws later) (λ number. omega arith) (range_with_len 0 size), length-range_with_len 0 (size * size), length-range_with_len 0 size)
+      omega (
+        arith,
+        ap length (flat_items size draws later item_rows),
+        length-append first (second ++ third),
+        length-append second third,
+        nine_each (cover_at size draws later) cover_nine (range_with_len 0 (size * size)),
+        nine_each (latch_at size draws later) (λ number. omega arith) (range_with_len 0 size),
+        nine_each (output_at size draws later) (λ number. omega arith) (range_with_len 0 size),
+        length-range_with_len 0 (size * size),
+        length-range_with_len 0 size,
+      )
     where
       cover_nine : (number : ℕ) → length (item_rows (cover_at size draws later number)) ≤ 9
       cover_nine number =
@@ -134,9 +159,14 @@ module _ (size : ℕ) (draws later : ℕ → ℕ) (some : 1 ≤ size) (most : si
   short_model =
       let rows = flat_map item_rows (items size draws later) in
       let end : Row = codes ".end" ∷ [] in
-      let all : Each IsShortRow (model_rows (codes "sample") (input_words size) (output_words size) (items size draws later)) =
-      (record { few = omega arith; words = (omega arith, (omega arith, tt)) },
-      (ports_row (codes ".inputs") (input_words size) 105 (omega arith) (inputs_are size draws later some most),
-      (ports_row (codes ".outputs") (output_words size) 111 (omega arith) (output_words_are size draws later some most),
-      each_joined IsShortRow rows (end ∷ []) short_items (record { few = omega arith; words = (omega arith, tt) }, tt)))) in
+      let all : Each IsShortRow (model_rows (codes "sample") (input_words size) (output_words size) (items size draws later)) = (
+        record { few = omega arith; words = (omega arith, (omega arith, tt)) },
+        (
+          ports_row (codes ".inputs") (input_words size) 105 (omega arith) (inputs_are size draws later some most),
+          (
+            ports_row (codes ".outputs") (output_words size) 111 (omega arith) (output_words_are size draws later some most),
+            each_joined IsShortRow rows (end ∷ []) short_items (record { few = omega arith; words = (omega arith, tt) }, tt),
+          ),
+        ),
+      ) in
       omega (arith, text_length (model_rows (codes "sample") (input_words size) (output_words size) (items size draws later)) all, length-append rows (end ∷ []), rows_count, square size draws later some most, most)
