@@ -1,0 +1,9 @@
+pub mod Runs
+pub mod ListRuns
+pub mod Blocks
+pub mod Lists
+pub mod TilesRead
+pub mod Selected
+pub mod Sizes
+pub mod Assembled
+pub mod Counted
