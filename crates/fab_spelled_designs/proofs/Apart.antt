@@ -1,9 +1,8 @@
 -- Lists whose items differ.
-use Rattle.std.proofs.Common.{◌≡◌, ◌≢◌, ◌⊎◌, ℕ, zero, suc, ◌+◌, ◌<◌, ◌≤◌, Bool, true, false, ◌&&◌, List, [], ◌∷◌, ◌++◌, map, length, get_or, take, All, AllPairs, Contains, refl, sym, ap, ◌∙◌, subst, inl, inr, arith}
+use Rattle.std.proofs.Common.{◌≡◌, ◌≢◌, ℕ, zero, suc, ◌<◌, Bool, true, ◌&&◌, List, [], ◌∷◌, map, get_or, take, AllPairs, Contains, refl, sym, ◌∙◌, subst, inl, inr, arith}
 use Rattle.std.specs.List.{AllByRecursion as Each, list_all}
 use Rattle.std.proofs.lemmas.Bool.{cases_lt}
 use Rattle.fab_netlist.specs.Plain.{IsAt}
-use Rattle.fab_netlist.proofs.Counts.{at_mapped}
 use Rattle.fab_legal.specs.Turns.{AreRight}
 use Rattle.fab_legal.specs.Lines.{IsNew}
 use Rattle.fab_legal.proofs.Lists.{at_default, at_from_mapped, same_at}

@@ -1,5 +1,5 @@
 -- What the laws of fabrics, of netlists and of legal implementations say together of a design that files spell.
-use Rattle.std.proofs.Common.{◌≡◌, ◌<◌, ◌&&◌, ◌++◌, ℕ, Bool, true, All, List, [], ◌∷◌, map, refl, sym, ap, subst, ◌∙◌, arith}
+use Rattle.std.proofs.Common.{◌≡◌, ◌<◌, ◌++◌, ℕ, true, All, List, [], ◌∷◌, map, sym, ap, subst, ◌∙◌, arith}
 use Rattle.std.specs.List.{AllByRecursion as Each, filter, list_all}
 use Rattle.std.proofs.lemmas.Bool.{and_parts}
 use Rattle.std.proofs.lemmas.List.{map-append}
@@ -14,7 +14,7 @@ use Rattle.fab_netlist.specs.Plain.{PlainCover, PlainNetlist, name_of}
 use Rattle.fab_netlist.specs.WellMade.{IsWellMade, ports}
 use Rattle.fab_implementation.specs.Plain.{PlainImplementation}
 use Rattle.fab_legal.specs.Legal.{IsLegal}
-use Rattle.fab_legal.specs.WellMade.{IsWellMadePacked, output_name, output_ports, ports as design_ports}
+use Rattle.fab_legal.specs.WellMade.{IsWellMadePacked, output_name, ports as design_ports}
 use Rattle.fab_legal.proofs.PackedMade.{packed_made}
 use Rattle.fab_state.specs.Spelled as states
 use Rattle.fab_impl.specs.Spelled as texts
@@ -64,10 +64,10 @@ small_cells : (netlist : PlainNetlist) → Each (λ cover. cover.table < 65536) 
 small_cells netlist covers =
     let kept = filter (is_kept netlist) netlist.covers in
     let lone = others netlist 0 netlist.latches in
-    let of : PlainCover → Work = λ cover. of_cover cover (pair netlist cover) in
+    let paired : PlainCover → Work = λ cover. of_cover cover (pair netlist cover) in
     let works_small : Each (λ work. HasSmallTable (cell_of netlist work)) (works netlist) =
-    each_joined (λ work. HasSmallTable (cell_of netlist work)) (map of kept) (map of_latch lone)
-    (each_mapped (λ work. HasSmallTable (cell_of netlist work)) of kept (each_kept (λ (cover : PlainCover). cover.table < 65536) (is_kept netlist) netlist.covers covers))
+    each_joined (λ work. HasSmallTable (cell_of netlist work)) (map paired kept) (map of_latch lone)
+    (each_mapped (λ work. HasSmallTable (cell_of netlist work)) paired kept (each_kept (λ (cover : PlainCover). cover.table < 65536) (is_kept netlist) netlist.covers covers))
     (each_mapped (λ work. HasSmallTable (cell_of netlist work)) of_latch lone (each_number (λ place. HasSmallTable (cell_of netlist (of_latch place))) (λ place. omega arith) lone)) in
     All-from_recursion HasSmallTable (packed netlist).cells (each_mapped HasSmallTable (cell_of netlist) (works netlist) works_small)
 

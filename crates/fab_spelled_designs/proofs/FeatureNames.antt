@@ -1,5 +1,5 @@
 -- Names joined by dots are names of features.
-use Rattle.std.proofs.Common.{◌≡◌, ◌≢◌, ℕ, ◌+◌, ◌<◌, ◌==◌, ◌&&◌, Bool, true, false, All, List, [], ◌∷◌, ◌++◌, codes, decimal, refl, sym, ap, ◌∙◌, append_assoc, arith}
+use Rattle.std.proofs.Common.{◌≡◌, ℕ, ◌+◌, ◌<◌, ◌==◌, Bool, true, false, All, List, [], ◌∷◌, ◌++◌, decimal, refl, ap, ◌∙◌, append_assoc, arith}
 use Rattle.std.specs.List.{list_all, slice_split}
 use Rattle.std.proofs.lemmas.Bool.{and_from, and_parts}
 use Rattle.std.proofs.lemmas.Bool.Decides.{nat_tests}
@@ -37,10 +37,14 @@ front_name : (name rest : List ℕ) → is_identifier name ≡ true → is_featu
 front_name name rest is more =
     ap (list_all is_identifier) (slice_split_at is_dot name 46 rest (undotted name is) refl) ∙ and_from (is_identifier name) (list_all is_identifier (slice_split is_dot rest)) is more
 
+-- a dot between two texts
+dotted : (front back : List ℕ) → (front ++ 46 ∷ []) ++ back ≡ front ++ 46 ∷ back
+dotted front back = append_assoc front (46 ∷ []) back
+
 -- ---- places and sites
 
 place_identifier : (x y : ℕ) → is_identifier (place_name x y) ≡ true
-place_identifier x y = all_append is_of_name (decimal x) (89 ∷ decimal y) (decimal_named x) (decimal_named y)
+place_identifier x y = all_append is_of_name (decimal x ++ 89 ∷ []) (decimal y) (all_append is_of_name (decimal x) (89 ∷ []) (decimal_named x) refl) (decimal_named y)
 
 letter_identifier : (bel : ℕ) → bel < 26 → is_identifier ((65 + bel) ∷ []) ≡ true
 letter_identifier bel few =
@@ -51,14 +55,21 @@ letter_identifier bel few =
 -- as X1Y2.A.INIT
 pub field_spelled : (site : Site) (field : List ℕ) → site.bel < 26 → is_identifier field ≡ true → is_feature (field_name site field) ≡ true
 field_spelled site field few is =
-    let same : field_name site field ≡ place_name site.x site.y ++ 46 ∷ (65 + site.bel) ∷ 46 ∷ field = append_assoc (place_name site.x site.y) (46 ∷ (65 + site.bel) ∷ []) (46 ∷ field) in
+    let place = place_name site.x site.y in
+    let same : field_name site field ≡ place ++ 46 ∷ (65 + site.bel) ∷ 46 ∷ field =
+    dotted (site_name site.x site.y site.bel) field ∙ ap (λ (front : List ℕ). front ++ 46 ∷ field) (dotted place ((65 + site.bel) ∷ []))
+    ∙ append_assoc place (46 ∷ (65 + site.bel) ∷ []) (46 ∷ field) in
     ap is_feature same
-    ∙ front_name (place_name site.x site.y) ((65 + site.bel) ∷ 46 ∷ field) (place_identifier site.x site.y)
+    ∙ front_name place ((65 + site.bel) ∷ 46 ∷ field) (place_identifier site.x site.y)
     (front_name ((65 + site.bel) ∷ []) field (letter_identifier site.bel few) (last_name field is))
 
 -- as X1Y2.E1END0.LA_I0
 pub pair_spelled : (fabric : PlainFabric) (x y input output : ℕ) → is_identifier (name_at fabric x y input) ≡ true → is_identifier (name_at fabric x y output) ≡ true →
     is_feature (pair_name fabric x y input output) ≡ true
 pair_spelled fabric x y input output from to =
-    front_name (place_name x y) (name_at fabric x y input ++ 46 ∷ name_at fabric x y output) (place_identifier x y)
-    (front_name (name_at fabric x y input) (name_at fabric x y output) from (last_name (name_at fabric x y output) to))
+    let place = place_name x y in
+    let first = name_at fabric x y input in
+    let second = name_at fabric x y output in
+    let same : pair_name fabric x y input output ≡ place ++ 46 ∷ (first ++ 46 ∷ second) =
+    dotted ((place ++ 46 ∷ []) ++ first) second ∙ ap (λ (front : List ℕ). front ++ 46 ∷ second) (dotted place first) ∙ append_assoc place (46 ∷ first) (46 ∷ second) in
+    ap is_feature same ∙ front_name place (first ++ 46 ∷ second) (place_identifier x y) (front_name first second from (last_name second to))

@@ -1,12 +1,12 @@
 -- The features of a legal implementation can be spelled.
-use Rattle.std.proofs.Common.{◌≡◌, ℕ, ◌+◌, ◌-◌, ◌<◌, ◌≤◌, Bool, true, false, All, List, [], ◌∷◌, length, Contains, Option, Some, None, nat_eq, codes, refl, sym, ap, subst, ◌∙◌, inl, inr, arith, eqb-true}
+use Rattle.std.proofs.Common.{◌≡◌, ℕ, ◌-◌, ◌<◌, true, All, List, length, Contains, Option, Some, None, nat_eq, codes, refl, sym, ap, subst, ◌∙◌, inl, inr, arith, eqb-true}
 use Rattle.std.specs.List.{flat_map, filter_map}
 use Rattle.std.specs.Option.{option_map}
 use Rattle.std.proofs.lemmas.List.Elements.{All-contains, All-contains_itself}
 use Rattle.std.proofs.lemmas.Option.{slice_get_within, get_or_from_slice_get}
 use Rattle.fab_select.specs.Selection.{in_order}
 use Rattle.fab_model.specs.Grid.{PlainFabric, tile_at}
-use Rattle.fab_model.specs.Tiles.{IsPair, IsTile, PlainTile, counted, is_matrix_output, numbered_pairs, wire_passes}
+use Rattle.fab_model.specs.Tiles.{IsPair, PlainTile, counted, is_matrix_output, numbered_pairs, wire_passes}
 use Rattle.fab_model.specs.Wires.{IsMatrixOutput, PlainWire, dest_of, plain_wires}
 use Rattle.fab_fabric.specs.Fabric.{AreTiles, IsFabric, wires_at}
 use Rattle.fab_fabric.specs.Wires.{IsIndexOf, wire_index}
@@ -25,7 +25,7 @@ use Rattle.fab_legal.proofs.SinkLaw.{in_flat}
 use Rattle.fab_fabric_text.specs.Places.{PlacedTile, placed_tiles}
 use Rattle.fab_fasm.specs.declared.feature.Feature.{Feature}
 use Rattle.fab_fasm.specs.Printing.{HasSpelling}
-use Rattle.fab_features.specs.Design.{cell_features, cell_on, design_features, edge_feature, edge_into, feature_of, output_feature, site_features, site_in, tile_features}
+use Rattle.fab_features.specs.Design.{cell_features, cell_on, design_features, edge_feature, edge_into, output_feature, site_features, site_in, tile_features}
 use Rattle.fab_features.proofs.CellLines.{IsCellFeature, latch_feature, line_of_cell, of_cell, table_feature}
 use Rattle.fab_features.proofs.Configured.{step_of}
 use Rattle.fab_features.proofs.DesignLines.{found_in, from_found, from_numbered, ordered_pair, placed_there, plain_output, relined}
@@ -34,6 +34,9 @@ use Rattle.fab_features.proofs.Tables.{few_bels}
 use Rattle.fab_features.proofs.Words.{from_counted}
 use Rattle.fab_spelled_designs.proofs.FeatureNames.{field_spelled, pair_spelled}
 use Rattle.fab_spelled_designs.proofs.Written.{HasWords, name_named}
+
+same_some : {X : Type 0} (a b : X) → Some a ≡ Some b → a ≡ b
+same_some a b e = cc
 
 relined_spelled : (line : ℕ) (feature : Feature) → HasSpelling feature → HasSpelling (relined line feature)
 relined_spelled line feature has = record { named = has.named; ordered = has.ordered; bounded = has.bounded; narrow = has.narrow; fitting = has.fitting }
@@ -99,7 +102,7 @@ module _ (fabric : PlainFabric) (is : IsFabric fabric) (tiles : AreTiles fabric)
   edge_found : (found : Option Edge) (x y output : ℕ) (feature : Feature) → option_map (edge_feature fabric x y output) found ≡ Some feature →
       (edge : Edge) × (found ≡ Some edge) × (edge_feature fabric x y output edge ≡ feature)
   edge_found None x y output feature e = absurd cc
-  edge_found (Some edge) x y output feature e = (edge, refl, cc)
+  edge_found (Some edge) x y output feature e = (edge, refl, same_some (edge_feature fabric x y output edge) feature e)
 
   output_spelled : (x y : ℕ) (tile : PlainTile) (feature : Feature) → tile_at fabric x y ≡ Some tile → Contains (filter_map (output_feature fabric i x y) (in_order nat_eq (numbered_pairs tile))) feature →
       HasSpelling feature

@@ -1,34 +1,33 @@
 -- A legal implementation of a packed netlist whose ports are words is spelled by its own text.
-use Rattle.std.proofs.Common.{◌≡◌, ◌≢◌, ℕ, ◌+◌, ◌<◌, ◌≤◌, ◌++◌, Bool, true, false, All, AllPairs, List, [], ◌∷◌, map, take, length, get_or, codes, nat_lt, cond, Contains, Some, None, refl, sym, ap, subst, ◌∙◌, inl, inr, arith, lt-ltb}
+use Rattle.std.proofs.Common.{◌≡◌, ℕ, ◌<◌, ◌≤◌, ◌++◌, Bool, true, All, List, [], ◌∷◌, map, take, length, get_or, codes, nat_lt, cond, Contains, Some, None, refl, sym, ap, subst, ◌∙◌, inl, inr, arith, lt-ltb}
 use Rattle.std.specs.Prelude.{position}
-use Rattle.std.specs.List.{AllByRecursion as Each, flat_map, list_all}
+use Rattle.std.specs.List.{AllByRecursion as Each, flat_map}
 use Rattle.std.specs.Str.{bytes_eq}
 use Rattle.std.proofs.lemmas.Bool.{cases_lt, false≢true}
-use Rattle.std.proofs.lemmas.List.{get_or_past, length-map}
+use Rattle.std.proofs.lemmas.List.{get_or_past}
 use Rattle.std.proofs.lemmas.List.Elements.{All-contains}
 use Rattle.fab_kinds.specs.declared.kind.Kind.{Kind}
 use Rattle.fab_kinds.specs.declared.kind.Kind.TheVariants as kinds
 use Rattle.fab_model.specs.Grid.{PlainFabric}
-use Rattle.fab_fabric.specs.Fabric.{AreTiles, IsFabric, wire_count}
+use Rattle.fab_fabric.specs.Fabric.{AreTiles, IsFabric}
 use Rattle.fab_fabric.specs.declared.wire.Site.{Site}
 use Rattle.fab_netlist.specs.declared.net_id.NetId.{NetId}
 use Rattle.fab_netlist.specs.declared.net_id.NetId.TheVariants as nets
 use Rattle.fab_netlist.specs.Packed.{PlainPacked}
 use Rattle.fab_netlist.proofs.Members.{in_left, in_right, mapped_in}
-use Rattle.fab_implementation.specs.OnFabric.{HasSites, HasWires, IsOnFabric, IsSite}
+use Rattle.fab_implementation.specs.OnFabric.{HasSites, HasWires, IsOnFabric}
 use Rattle.fab_implementation.specs.Plain.{Edge, Pad, PlainImplementation, PlainTree}
 use Rattle.fab_legal.specs.Legal.{IsLegal}
-use Rattle.fab_legal.specs.Lines.{HaveSites, IsCell, IsInput, IsOutput, IsRightLine, named}
+use Rattle.fab_legal.specs.Lines.{HaveSites, IsCell, IsInput, IsOutput, named}
 use Rattle.fab_legal.specs.Nets.{IsNet, net_among}
 use Rattle.fab_legal.specs.WellMade.{IsWellMadePacked, output_ports, ports as design_ports}
 use Rattle.fab_legal.proofs.Lists.{at_default, at_from_mapped}
 use Rattle.fab_legal.proofs.Once.{before_in, known_thing}
 use Rattle.fab_legal.proofs.PortNumbers.{own_number}
 use Rattle.fab_ways.proofs.Bounded.{step_from_within, step_within}
-use Rattle.fab_impl.specs.FirstPlaces.{first_place, ports}
 use Rattle.fab_impl.specs.Lines.{Cell}
-use Rattle.fab_impl.specs.Names.{cell_text, most_cell}
-use Rattle.fab_impl.specs.Spelled.{HasSpelling, IsNameable, IsNamed, cell_line, edge_line, ending, header, implementation_lines, inner_lines, net_line, pad_line, tree_lines}
+use Rattle.fab_impl.specs.Names.{most_cell}
+use Rattle.fab_impl.specs.Spelled.{HasSpelling, IsNameable, IsNamed, cell_line, edge_line, ending, implementation_lines, inner_lines, net_line, pad_line, tree_lines}
 use Rattle.fab_texts.specs.Places.{site_text}
 use Rattle.fab_texts.specs.Printed.{is_last_word, is_row}
 use Rattle.fab_texts.specs.Rows.{Word}
@@ -165,14 +164,17 @@ module _ (fabric : PlainFabric) (is : IsFabric fabric) (tiles : AreTiles fabric)
 
   inner_rows : Each IsRow (inner_lines fabric it)
   inner_rows =
-      each_joined IsRow (map cell_line it.cells) (pad_rows (codes "in") it.ins ++ pad_rows (codes "out") it.outs ++ flat_map (tree_lines fabric it.ins) it.trees)
-      (each_mapped IsRow cell_line it.cells (each_from_members (λ cell. IsRow (cell_line cell)) it.cells cell_row))
-      (each_joined IsRow (pad_rows (codes "in") it.ins) (pad_rows (codes "out") it.outs ++ flat_map (tree_lines fabric it.ins) it.trees)
-      (each_mapped IsRow (pad_line (codes "in")) it.ins (each_from_members (λ pad. IsRow (pad_line (codes "in") pad)) it.ins in_row))
-      (each_joined IsRow (pad_rows (codes "out") it.outs) (flat_map (tree_lines fabric it.ins) it.trees)
-      (each_mapped IsRow (pad_line (codes "out")) it.outs (each_from_members (λ pad. IsRow (pad_line (codes "out") pad)) it.outs out_row))
-      (each_flat (λ tree. Each IsRow (tree_lines fabric it.ins tree)) IsRow (tree_lines fabric it.ins) (λ tree rows. rows) it.trees
-      (each_from_members (λ tree. Each IsRow (tree_lines fabric it.ins tree)) it.trees tree_rows))))
+      let cells = map cell_line it.cells in
+      let ins = pad_rows (codes "in") it.ins in
+      let outs = pad_rows (codes "out") it.outs in
+      let cell_rows = each_mapped IsRow cell_line it.cells (each_from_members (λ cell. IsRow (cell_line cell)) it.cells cell_row) in
+      let in_rows = each_mapped IsRow (pad_line (codes "in")) it.ins (each_from_members (λ pad. IsRow (pad_line (codes "in") pad)) it.ins in_row) in
+      let out_rows = each_mapped IsRow (pad_line (codes "out")) it.outs (each_from_members (λ pad. IsRow (pad_line (codes "out") pad)) it.outs out_row) in
+      let all_trees =
+      each_flat (λ tree. Each IsRow (tree_lines fabric it.ins tree)) IsRow (tree_lines fabric it.ins) (λ tree rows. rows) it.trees
+      (each_from_members (λ tree. Each IsRow (tree_lines fabric it.ins tree)) it.trees tree_rows) in
+      each_joined IsRow (cells ++ ins ++ outs) (flat_map (tree_lines fabric it.ins) it.trees)
+      (each_joined IsRow (cells ++ ins) outs (each_joined IsRow cells ins cell_rows in_rows) out_rows) all_trees
 
   pub implementation_spelled : HasSpelling fabric it
   implementation_spelled = record {

@@ -1,5 +1,5 @@
 -- The sites that the lines of a legal implementation give to things: they can be written, and no two things have one site.
-use Rattle.std.proofs.Common.{◌≡◌, ◌≢◌, ℕ, ◌+◌, ◌*◌, ◌<◌, ◌&&◌, Bool, true, false, List, map, length, get_or, nat_lt, Contains, Decides, Option, Some, None, refl, sym, ap, ◌∙◌, subst, arith, if◌then◌else◌}
+use Rattle.std.proofs.Common.{◌≡◌, ℕ, Bool, List, map, Contains, Decides, Some, ap, subst, arith}
 use Rattle.std.specs.List.{AllByRecursion as Each}
 use Rattle.fab_kinds.specs.declared.kind.Kind.{Kind}
 use Rattle.fab_model.specs.Grid.{PlainFabric, tile_at}

@@ -1,5 +1,5 @@
 -- Words of names, numbers and signs can stand in lines, also at their ends.
-use Rattle.std.proofs.Common.{◌≡◌, ℕ, zero, suc, ◌+◌, ◌-◌, ◌<◌, ◌==◌, ◌&&◌, Bool, true, false, not, All, List, [], ◌∷◌, ◌++◌, length, get_or, decimal, Option, Some, None, refl, sym, ap, subst, ◌∙◌, arith}
+use Rattle.std.proofs.Common.{◌≡◌, ℕ, zero, suc, ◌-◌, ◌<◌, ◌==◌, ◌&&◌, Bool, true, not, All, List, [], ◌∷◌, ◌++◌, length, get_or, decimal, Option, Some, None, refl, ap, subst, ◌∙◌, arith}
 use Rattle.std.specs.List.{AllByRecursion as Each, list_all}
 use Rattle.std.specs.Option.{option_map_or}
 use Rattle.std.proofs.lemmas.Bool.{and_from, and_parts}
@@ -10,7 +10,6 @@ use Rattle.fab_model.specs.Grid.{PlainFabric, tile_at}
 use Rattle.fab_model.specs.Tiles.{PlainTile, matrix_names}
 use Rattle.fab_fabric.specs.Fabric.{wire_count, wires_at}
 use Rattle.fab_fabric.specs.Names.{full_name, name_at, place_name}
-use Rattle.fab_fabric.specs.Wires.{numbered_wire, wire_index}
 use Rattle.fab_fabric.specs.declared.wire.Wire.{Wire}
 use Rattle.fab_fabric.proofs.Numbered.{some_place}
 use Rattle.fab_impl.specs.Names.{cell_text, wire_names, wire_text}
@@ -64,11 +63,12 @@ pub cell_word : (cell : ℕ) → is_last_word (cell_text cell) ≡ true
 cell_word cell = plain_word (99 ∷ decimal cell) (omega arith) (decimal_plain cell)
 
 place_plain : (x y : ℕ) → list_all is_plain (place_name x y) ≡ true
-place_plain x y = all_append is_plain (decimal x) (89 ∷ decimal y) (decimal_plain x) (decimal_plain y)
+place_plain x y = all_append is_plain (decimal x ++ 89 ∷ []) (decimal y) (all_append is_plain (decimal x) (89 ∷ []) (decimal_plain x) refl) (decimal_plain y)
 
 full_word : (x y : ℕ) (name : Word) → is_identifier name ≡ true → is_last_word (full_name x y name) ≡ true
 full_word x y name is =
-    plain_word (full_name x y name) (omega arith) (all_append is_plain (place_name x y) (47 ∷ name) (place_plain x y) (identifier_plain name is))
+    plain_word (full_name x y name) (omega arith)
+    (all_append is_plain (place_name x y ++ 47 ∷ []) name (all_append is_plain (place_name x y) (47 ∷ []) (place_plain x y) refl) (identifier_plain name is))
 
 -- what holds of all types holds of the tile at a place
 pub of_tile : (P : PlainTile → Type 0) (fabric : PlainFabric) (x y : ℕ) (tile : PlainTile) → All P fabric.types → tile_at fabric x y ≡ Some tile → P tile

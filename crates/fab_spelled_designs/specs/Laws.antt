@@ -1,5 +1,5 @@
 -- What is printed of a design that files spell is read back.
-use Rattle.std.specs.Prelude.{All, ℕ, List}
+use Rattle.std.specs.Prelude.{All}
 use Rattle.fab_desk.specs.Files.{Map}
 use Rattle.fab_fabric.specs.Fabric.{AreTiles, IsFabric}
 use Rattle.fab_netlist.specs.Packing.{packed}
