@@ -275,7 +275,8 @@ module _ (s : Setting) (laws : KnownLaws) (stay : LoadedPointsStay) (grow : Driv
           r.site r.cell r.bound r.init r.latched in
           let free = v.free s.fabric s.netlist s.fixed s.implementation begun.now begun.held now values latches s.are s.made s.legal met r.number r.site
           r.cell r.bound r.init r.latched in
-          let ticks : Ticks (Has s) s.text user_clock_name rest.held rest.now next.standing.held = λ q d has drives. cycle.ends.ticks.keeps q d (declared q has) drives in
+          let ticks : Ticks (Has s) s.text user_clock_name rest.held rest.now next.standing.held =
+          λ q d has drives. cycle.ends.ticks.keeps q d (declared q has) drives in
           let at_rest = s.laws.registers s.fabric s.text (packed s.netlist) s.fixed s.implementation rest.held rest.now next.standing.held s.is s.are
           s.is_text s.legal r.number r.init r.site r.cell r.bound r.latched in
           let at_now = s.laws.registers s.fabric s.text (packed s.netlist) s.fixed s.implementation begun.held now after_tick s.is s.are s.is_text s.legal

@@ -1,5 +1,6 @@
 -- What is held at the start: the configuration, and in the flip-flops of the design what the latches begin with.
-use Rattle.std.proofs.Common.{◌≡◌, ℕ, zero, suc, ◌+◌, List, [], ◌∷◌, map, Contains, Option, Some, None, option_map, sym, ap, ◌∙◌, subst, inl, inr, arith, nat_eq}
+use Rattle.std.proofs.Common.{◌≡◌, ℕ, zero, suc, ◌+◌, List, [], ◌∷◌, map, Contains, Option, Some, None, option_map}
+use Rattle.std.proofs.Common.{sym, ap, ◌∙◌, subst, inl, inr, arith, nat_eq}
 use Rattle.std.specs.List.{cons_option, filter_map, enumerate_from}
 use Rattle.fab_bits.specs.Bits.{digits}
 use Rattle.fab_systems.specs.Ternary.{known}
