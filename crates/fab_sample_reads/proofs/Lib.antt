@@ -12,3 +12,4 @@ pub mod SampleTexts
 pub mod SampleItems
 pub mod ShortTexts
 pub mod SampleNetlists
+pub mod SampleStimuli

@@ -34,7 +34,7 @@ numbered {X} f first at zero same = refl
 numbered {X} f first at (suc count) same =
     (λ j. (same j, f at) ∷ numbered f (first + 1) (at + 1) count (ap (λ k. k + 1) same) j)
 
-mapped_twice : {X Y Z : Type 0} (g : Y → Z) (f : X → Y) (xs : List X) → map g (map f xs) ≡ map (λ x. g (f x)) xs
+pub mapped_twice : {X Y Z : Type 0} (g : Y → Z) (f : X → Y) (xs : List X) → map g (map f xs) ≡ map (λ x. g (f x)) xs
 mapped_twice g f [] = refl
 mapped_twice g f (x ∷ xs) = ap (λ l. g (f x) ∷ l) (mapped_twice g f xs)
 

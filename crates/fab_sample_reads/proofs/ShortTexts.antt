@@ -23,7 +23,7 @@ record IsShortRow (row : Row) : Type 0 where
   few : length row ≤ 17
   words : Each IsShort row
 
-line_length : (row : Row) → Each IsShort row → length (row_line row) ≤ 9 * length row
+pub line_length : (row : Row) → Each IsShort row → length (row_line row) ≤ 9 * length row
 line_length [] all = omega arith
 line_length (word ∷ []) all = omega (arith, all.0)
 line_length (word ∷ next ∷ row) all = omega (arith, all.0, line_length (next ∷ row) all.1, length-append word (32 ∷ row_line (next ∷ row)))
@@ -36,7 +36,7 @@ text_length (row ∷ rows) all =
 short_tagged : (letter number : ℕ) → number ≤ 256 → length (tagged letter number) ≤ 4
 short_tagged letter number few = omega (arith, length-decimal-le 3 number (omega arith) (omega (arith, few)) (omega (arith, few)))
 
-short_run : (letter first count : ℕ) → first + count ≤ 256 → Each IsShort (run letter first count)
+pub short_run : (letter first count : ℕ) → first + count ≤ 256 → Each IsShort (run letter first count)
 short_run letter first zero few = tt
 short_run letter first (suc count) few = (omega (arith, short_tagged letter first (omega (arith, few))), short_run letter (first + 1) count (omega (arith, few)))
 
@@ -51,7 +51,7 @@ few_on table (spelled ∷ all) = elim (cases_Bool (bit_of table spelled)) [
   | inr f ↦ rw f (omega (arith, few_on table all))
 ]
 
-length-mapped : {X Y : Type 0} (f : X → Y) (xs : List X) → length (map f xs) ≡ length xs
+pub length-mapped : {X Y : Type 0} (f : X → Y) (xs : List X) → length (map f xs) ≡ length xs
 length-mapped f [] = refl
 length-mapped f (x ∷ xs) = ap suc (length-mapped f xs)
 

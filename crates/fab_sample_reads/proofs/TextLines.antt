@@ -36,7 +36,7 @@ pub all_joined : {X : Type 0} (p : X → Bool) (xs ys : List X) → list_all p x
 all_joined p [] ys h k = k
 all_joined p (x ∷ xs) ys h k = let b = both_true (p x) (list_all p xs) h in rw b.0 (all_joined p xs ys b.1 k)
 
-all_weaker : {X : Type 0} (p q : X → Bool) → ((x : X) → p x ≡ true → q x ≡ true) → (xs : List X) → list_all p xs ≡ true → list_all q xs ≡ true
+pub all_weaker : {X : Type 0} (p q : X → Bool) → ((x : X) → p x ≡ true → q x ≡ true) → (xs : List X) → list_all p xs ≡ true → list_all q xs ≡ true
 all_weaker p q f [] h = refl
 all_weaker p q f (x ∷ xs) h = let b = both_true (p x) (list_all p xs) h in rw (f x b.0) (all_weaker p q f xs b.1)
 
@@ -70,10 +70,10 @@ by_byte q plain blank byte h = elim (plain_or_blank byte h) [
 
 -- ---- what a plain byte is not
 
-plain_word : (byte : ℕ) → is_plain byte ≡ true → is_of_word byte ≡ true
+pub plain_word : (byte : ℕ) → is_plain byte ≡ true → is_of_word byte ≡ true
 plain_word byte h = (both_true (is_of_word byte) (not (byte == 35)) (both_true (is_of_word byte && not (byte == 35)) (not (byte == 92)) h).0).0
 
-plain_no_comment : (byte : ℕ) → is_plain byte ≡ true → (byte == 35) ≡ false
+pub plain_no_comment : (byte : ℕ) → is_plain byte ≡ true → (byte == 35) ≡ false
 plain_no_comment byte h = not_true (byte == 35) (both_true (is_of_word byte) (not (byte == 35)) (both_true (is_of_word byte && not (byte == 35)) (not (byte == 92)) h).0).1
 
 plain_no_split : (byte : ℕ) → is_plain byte ≡ true → not (is_of_word byte) ≡ false
@@ -82,13 +82,13 @@ plain_no_split byte h = rw (plain_word byte h) refl
 plain_not_foreign : (byte : ℕ) → is_plain byte ≡ true → is_foreign byte ≡ false
 plain_not_foreign byte h = rw (plain_word byte h) refl
 
-least_word : (byte : ℕ) → is_of_word byte ≡ true → 33 ≤ byte
+pub least_word : (byte : ℕ) → is_of_word byte ≡ true → 33 ≤ byte
 least_word byte h = grind (arith, nat_tests)
 
-plain_no_feed : (byte : ℕ) → is_plain byte ≡ true → eqb byte 10 ≡ false
+pub plain_no_feed : (byte : ℕ) → is_plain byte ≡ true → eqb byte 10 ≡ false
 plain_no_feed byte h = let least = least_word byte (plain_word byte h) in grind (arith, nat_tests)
 
-plain_no_return : (byte : ℕ) → is_plain byte ≡ true → eqb byte 13 ≡ false
+pub plain_no_return : (byte : ℕ) → is_plain byte ≡ true → eqb byte 13 ≡ false
 plain_no_return byte h = let least = least_word byte (plain_word byte h) in grind (arith, nat_tests)
 
 plain_ends : (byte : ℕ) → is_plain byte ≡ true → (byte == 92) ≡ false
@@ -138,7 +138,7 @@ row_uncommented row h =
 -- ---- the last byte of a line
 
 -- the last byte of a list, or another one where it has none
-last_passes : (p : ℕ → Bool) (xs : List ℕ) (other : ℕ) → list_all p xs ≡ true → 0 < length xs → p (get_or xs (length xs - 1) other) ≡ true
+pub last_passes : (p : ℕ → Bool) (xs : List ℕ) (other : ℕ) → list_all p xs ≡ true → 0 < length xs → p (get_or xs (length xs - 1) other) ≡ true
 last_passes p [] other h some = absurd (omega arith)
 last_passes p (x ∷ []) other h some = (both_true (p x) true h).0
 last_passes p (x ∷ y ∷ xs) other h some =
