@@ -5,7 +5,7 @@ use Rattle.std.specs.Str.{bytes_eq}
 use Rattle.std.proofs.lemmas.Bool.{cases_Bool}
 use Rattle.fab_models.specs.Words.{Word}
 use Rattle.fab_models.specs.Judge.{is_among}
-use Rattle.fab_netlist.specs.Plain.{PlainCover, no_cover}
+use Rattle.fab_netlist.specs.Plain.{no_cover}
 use Rattle.fab_netlist.specs.Cycles.{HasNoCycle, IsRank}
 use Rattle.fab_netlist.proofs.Members.{in_none, first_or_later}
 use Rattle.fab_netlist.proofs.Ranks.{rank_no_cycle}
@@ -83,9 +83,6 @@ named_back all_nets (x ∷ names) name all here reads = elim (first_or_later (nu
 ]
 
 module _ (inputs outputs : List Word) (items : List Item) where
-  covers : List PlainCover
-  covers = (made inputs outputs items).covers
-
   placed_edges : map edge_of (made inputs outputs items).covers ≡ map (edge_nets (nets inputs outputs items)) (flat_map edges items)
   placed_edges = edges_placed (nets inputs outputs items) 4 items
 

@@ -30,9 +30,6 @@ packs netlist tables pads cells few =
     rw (enough, room) refl
 
 module _ (size : ℕ) (draws : ℕ → ℕ) (least : 2 ≤ size) (most : size ≤ 16) where
-  later : ℕ → ℕ
-  later = behind (4 * (size * size)) draws
-
   -- the same for items by number
   by_number : ReadsNetlist size (covers size draws) (sample_latches size draws) (netlist_text size (covers size draws) (sample_latches size draws))
   by_number =

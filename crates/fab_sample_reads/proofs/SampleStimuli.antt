@@ -1,9 +1,9 @@
 -- The stimuli of samples are read.
-use Rattle.std.proofs.Common.{◌≡◌, ◌≢◌, ℕ, zero, suc, ◌+◌, ◌-◌, ◌*◌, ◌^◌, ◌≤◌, ◌<◌, Bool, true, false, not, ◌&&◌, List, [], ◌∷◌, ◌++◌, length, map, get_or, codes, unwrap_or, position, Some, refl, sym, ap, subst, ◌∙◌, inl, inr, arith, length-append, All}
+use Rattle.std.proofs.Common.{◌≡◌, ℕ, zero, suc, ◌+◌, ◌-◌, ◌*◌, ◌≤◌, ◌<◌, Bool, true, false, not, List, [], ◌∷◌, ◌++◌, length, map, get_or, codes, refl, sym, ap, subst, ◌∙◌, arith, length-append}
 use Rattle.std.specs.Prelude.{◌==◌, nat_lt}
-use Rattle.std.specs.List.{AllByRecursion as Each, AllPairs, list_all, flat_map, range_with_len, position_or_len}
+use Rattle.std.specs.List.{AllByRecursion as Each, list_all, range_with_len, position_or_len}
 use Rattle.std.specs.Str.{bytes_eq}
-use Rattle.std.proofs.lemmas.Bool.{cases_Bool, lt-ltb}
+use Rattle.std.proofs.lemmas.Bool.{lt-ltb}
 use Rattle.std.proofs.lemmas.Bool.Decides.{nat_tests}
 use Rattle.std.proofs.lemmas.List.Elements.{All-contains_itself, All-from_recursion}
 use Rattle.std.proofs.lemmas.List.FromFn.{length-map-range_with_len, get_or-map-range_with_len}
@@ -19,7 +19,6 @@ use Rattle.fab_stimulus.specs.Spelled.{Spells, Says, names_line, digits_line, di
 use Rattle.fab_stimulus.proofs.ReadBack.{spelled_is_read}
 use Rattle.fab_sample.specs.Lines.{Line, text, words}
 use Rattle.fab_draws.specs.Draws.{behind, is_one}
-use Rattle.fab_sample.specs.Drawn.{stimulus_line, drawn_line, stimulus_lines, sample_stimulus}
 use Rattle.fab_sample.specs.declared.net.Net.TheVariants as sample
 use Rattle.fab_sample.specs.Netlists as netlists
 use Rattle.fab_sample.specs.Netlists.{stimulus_text_lines}
@@ -28,7 +27,7 @@ use Rattle.fab_sample_reads.specs.Laws.{stimulus_text, ReadsStimulus, SampleStim
 use Rattle.fab_sample_reads.proofs.TextLines.{is_plain, is_word, plain_word, least_word, plain_no_comment, plain_no_feed, plain_no_return, both_true, all_weaker, last_passes}
 use Rattle.fab_sample_reads.proofs.Sameness.{bytes_same, not_same}
 use Rattle.fab_sample_reads.proofs.TaggedWords.{tagged, tagged_one, tagged_word, run}
-use Rattle.fab_sample_reads.proofs.SampleItems.{each_number, mapped_twice}
+use Rattle.fab_sample_reads.proofs.SampleItems.{mapped_twice}
 use Rattle.fab_sample_reads.proofs.ShortTexts.{line_length, short_run, length-mapped}
 
 -- ---- rows of words, as other texts have them
@@ -117,17 +116,11 @@ module _ (size : ℕ) (some : 1 ≤ size) (most : size ≤ 16) where
   -- ---- a stimulus of lines that a function gives
 
   module _ (bits : ℕ → ℕ → Bool) where
-    line_at : ℕ → List Bool
-    line_at number = map (bits number) (range_with_len 0 size)
-
     abbrev lines : List (List Bool)
     lines = map (λ number. map (bits number) (range_with_len 0 size)) (range_with_len 0 16)
 
     abbrev digits_row : List Bool → List Word
     digits_row values = map netlists.digit values ∷ []
-
-    abbrev rows : List (List Word)
-    rows = run 105 0 size ∷ map digits_row lines
 
     long_line : (number : ℕ) → 1 ≤ length (map (bits number) (range_with_len 0 size))
     long_line number = omega (arith, some, length-map-range_with_len (bits number) 0 size)
@@ -211,8 +204,15 @@ module _ (size : ℕ) (some : 1 ≤ size) (most : size ≤ 16) where
     short_lines (number ∷ numbers) =
         let values = map (bits number) (range_with_len 0 size) in
         let line = map netlists.digit values in
-        omega (arith, short_lines numbers, length-append (line ++ codes "\n") (text (map (map netlists.digit) (map (λ n. map (bits n) (range_with_len 0 size)) numbers))), length-append line (codes "\n"),
-        length-mapped netlists.digit values, length-map-range_with_len (bits number) 0 size, most)
+        omega (
+          arith,
+          short_lines numbers,
+          length-append (line ++ codes "\n") (text (map (map netlists.digit) (map (λ n. map (bits n) (range_with_len 0 size)) numbers))),
+          length-append line (codes "\n"),
+          length-mapped netlists.digit values,
+          length-map-range_with_len (bits number) 0 size,
+          most,
+        )
 
     short : length (stimulus_text size lines) ≤ MAX_FILE_BYTES
     short =

@@ -1,17 +1,16 @@
 -- The text of a sample's netlist is short.
-use Rattle.std.proofs.Common.{◌≡◌, ℕ, zero, suc, ◌+◌, ◌-◌, ◌*◌, ◌%◌, ◌^◌, ◌≤◌, ◌<◌, Bool, true, false, List, [], ◌∷◌, ◌++◌, length, map, codes, decimal, refl, sym, ap, subst, ◌∙◌, inl, inr, arith, length-append}
+use Rattle.std.proofs.Common.{◌≡◌, ℕ, zero, suc, ◌+◌, ◌-◌, ◌*◌, ◌%◌, ◌≤◌, ◌<◌, List, [], ◌∷◌, ◌++◌, length, map, codes, refl, sym, ap, subst, inl, inr, arith, length-append}
 use Rattle.std.specs.List.{AllByRecursion as Each, flat_map, range_with_len}
 use Rattle.std.proofs.lemmas.Bool.{cases_Bool}
 use Rattle.std.proofs.lemmas.Fmt.{length-decimal-le}
 use Rattle.std.proofs.lemmas.List.FromFn.{length-map-range_with_len, length-range_with_len}
-use Rattle.std.proofs.lemmas.Nat.{mul-le}
 use Rattle.fab_base.specs.declared.TheConstants.{MAX_FILE_BYTES}
 use Rattle.fab_models.specs.Words.{Word}
 use Rattle.fab_blif.proofs.Each.{each_joined}
 use Rattle.fab_sample.specs.Netlists.{net_name, bit_of}
-use Rattle.fab_sample.specs.Drawn.{net_at, drawn_cover, drawn_latch}
-use Rattle.fab_sample_reads.specs.Items.{Row, row_line, rows_text, Pattern, Item, sign, pattern_row, item_rows, model_rows}
-use Rattle.fab_sample_reads.specs.Samples.{pattern_of, pattern_if_on, patterns_of, input_words, output_words}
+use Rattle.fab_sample.specs.Drawn.{net_at, drawn_cover}
+use Rattle.fab_sample_reads.specs.Items.{Row, row_line, rows_text, Pattern, Item, pattern_row, item_rows, model_rows}
+use Rattle.fab_sample_reads.specs.Samples.{pattern_if_on, patterns_of, input_words, output_words}
 use Rattle.fab_sample_reads.proofs.TaggedWords.{tagged, run}
 use Rattle.fab_sample_reads.proofs.SampleItems.{items, cover_at, latch_at, output_at, flat_items, each_number, each_flat_map, net_cases, inputs_are, output_words_are, square, large}
 

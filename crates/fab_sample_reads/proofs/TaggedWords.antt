@@ -57,82 +57,81 @@ begins_with : Word → (letter : ℕ) → Bool
 begins_with [] letter = false
 begins_with (byte ∷ bytes) letter = nat_eq byte letter
 
-module _ where
-  -- names of another letter are not counted, and of one letter one is
-  none_counted : (name : Word) (letter first count : ℕ) → begins_with name letter ≡ false → count_by (bytes_eq name) (run letter first count) ≤ 0
-  unfolding begins_with
-  none_counted name letter first zero other = omega arith
-  none_counted name letter first (suc count) other =
-      omega (
-        arith,
-        count_first (bytes_eq name) (tagged letter first) (run letter (first + 1) count),
-        none_counted name letter (first + 1) count other,
-        ap (λ (b : Bool). cond {A = ℕ} b 1 0) (not_here name other),
-      )
-    where
-      not_here : (word : Word) → begins_with word letter ≡ false → bytes_eq word (tagged letter first) ≡ false
-      not_here [] h = refl
-      not_here (byte ∷ bytes) h =
-          not_same (byte ∷ bytes) (tagged letter first) (λ same. let head : byte ≡ letter = cc in false≢true (sym h ∙ same_nat byte letter head))
+-- names of another letter are not counted, and of one letter one is
+none_counted : (name : Word) (letter first count : ℕ) → begins_with name letter ≡ false → count_by (bytes_eq name) (run letter first count) ≤ 0
+unfolding begins_with
+none_counted name letter first zero other = omega arith
+none_counted name letter first (suc count) other =
+    omega (
+      arith,
+      count_first (bytes_eq name) (tagged letter first) (run letter (first + 1) count),
+      none_counted name letter (first + 1) count other,
+      ap (λ (b : Bool). cond {A = ℕ} b 1 0) (not_here name other),
+    )
+  where
+    not_here : (word : Word) → begins_with word letter ≡ false → bytes_eq word (tagged letter first) ≡ false
+    not_here [] h = refl
+    not_here (byte ∷ bytes) h =
+        not_same (byte ∷ bytes) (tagged letter first) (λ same. let head : byte ≡ letter = cc in false≢true (sym h ∙ same_nat byte letter head))
 
-  none_before : (name : Word) (letter first count : ℕ) → first + count ≤ 2 ^ 64 → ((number : ℕ) → first ≤ number → number < 2 ^ 64 → name ≡ tagged letter number → ⊥) → count_by (bytes_eq name) (run letter first count) ≤ 0
-  none_before name letter first zero below none = omega arith
-  none_before name letter first (suc count) below none =
-      omega (
-        arith,
-        count_first (bytes_eq name) (tagged letter first) (run letter (first + 1) count),
-        none_before name letter (first + 1) count (omega (arith, below)) (λ number after within. none number (omega (arith, after)) within),
-        ap (λ (b : Bool). cond {A = ℕ} b 1 0) (not_same name (tagged letter first) (none first (omega arith) (omega (arith, below)))),
-      )
+none_before : (name : Word) (letter first count : ℕ) → first + count ≤ 2 ^ 64 → ((number : ℕ) → first ≤ number → number < 2 ^ 64 → name ≡ tagged letter number → ⊥) → count_by (bytes_eq name) (run letter first count) ≤ 0
+none_before name letter first zero below none = omega arith
+none_before name letter first (suc count) below none =
+    omega (
+      arith,
+      count_first (bytes_eq name) (tagged letter first) (run letter (first + 1) count),
+      none_before name letter (first + 1) count (omega (arith, below)) (λ number after within. none number (omega (arith, after)) within),
+      ap (λ (b : Bool). cond {A = ℕ} b 1 0) (not_same name (tagged letter first) (none first (omega arith) (omega (arith, below)))),
+    )
 
-  pub one_counted : (name : Word) (letter first count : ℕ) → first + count ≤ 2 ^ 64 → count_by (bytes_eq name) (run letter first count) ≤ 1
-  one_counted name letter first zero below = omega arith
-  one_counted name letter first (suc count) below =
-      let step = count_first (bytes_eq name) (tagged letter first) (run letter (first + 1) count) in
-      elim (cases_Bool (bytes_eq name (tagged letter first))) [
-        | inl t ↦ (
-            let is = same_bytes name (tagged letter first) t in
-            let later = none_before name letter (first + 1) count (omega (arith, below))
-            (λ number after within same. let both = tagged_one letter letter first number (omega (arith, below)) within (sym is ∙ same) in omega (arith, both.1, after)) in
-            omega (arith, step, later, ap (λ (b : Bool). cond {A = ℕ} b 1 0) t))
-        | inr f ↦ omega (arith, step, one_counted name letter (first + 1) count (omega (arith, below)), ap (λ (b : Bool). cond {A = ℕ} b 1 0) f)
-      ]
+pub one_counted : (name : Word) (letter first count : ℕ) → first + count ≤ 2 ^ 64 → count_by (bytes_eq name) (run letter first count) ≤ 1
+one_counted name letter first zero below = omega arith
+one_counted name letter first (suc count) below =
+    let step = count_first (bytes_eq name) (tagged letter first) (run letter (first + 1) count) in
+    elim (cases_Bool (bytes_eq name (tagged letter first))) [
+      | inl t ↦ (
+          let is = same_bytes name (tagged letter first) t in
+          let later = none_before name letter (first + 1) count (omega (arith, below))
+          (λ number after within same. let both = tagged_one letter letter first number (omega (arith, below)) within (sym is ∙ same) in omega (arith, both.1, after)) in
+          omega (arith, step, later, ap (λ (b : Bool). cond {A = ℕ} b 1 0) t))
+      | inr f ↦ omega (arith, step, one_counted name letter (first + 1) count (omega (arith, below)), ap (λ (b : Bool). cond {A = ℕ} b 1 0) f)
+    ]
 
-  counted_by_letter : (name : Word) (letter first count : ℕ) → first + count ≤ 2 ^ 64 → count_by (bytes_eq name) (run letter first count) ≤ cond (begins_with name letter) 1 0
-  counted_by_letter name letter first count below = elim (cases_Bool (begins_with name letter)) [
-    | inl t ↦ rw t (one_counted name letter first count below)
-    | inr f ↦ rw f (none_counted name letter first count f)
-  ]
+counted_by_letter : (name : Word) (letter first count : ℕ) → first + count ≤ 2 ^ 64 → count_by (bytes_eq name) (run letter first count) ≤ cond (begins_with name letter) 1 0
+counted_by_letter name letter first count below = elim (cases_Bool (begins_with name letter)) [
+  | inl t ↦ rw t (one_counted name letter first count below)
+  | inr f ↦ rw f (none_counted name letter first count f)
+]
 
-  one_letter : (name : Word) → cond (begins_with name 110) 1 0 + cond (begins_with name 111) 1 0 + cond (begins_with name 113) 1 0 + cond (begins_with name 105) 1 0 ≤ 1
-  unfolding begins_with
-  one_letter [] = omega arith
-  one_letter (byte ∷ bytes) = elim (cases_Bool (nat_eq byte 110)) [
-    | inl t ↦ rw (nat_same byte 110 t) (omega arith)
-    | inr f ↦ elim (cases_Bool (nat_eq byte 111)) [
-      | inl t ↦ rw (nat_same byte 111 t) (omega arith)
-      | inr g ↦ elim (cases_Bool (nat_eq byte 113)) [
-        | inl t ↦ rw (nat_same byte 113 t) (omega arith)
-        | inr h ↦ elim (cases_Bool (nat_eq byte 105)) [
-          | inl t ↦ rw (nat_same byte 105 t) (omega arith)
-          | inr k ↦ rw (f, g, h, k) (omega arith)
-        ]
+one_letter : (name : Word) → cond (begins_with name 110) 1 0 + cond (begins_with name 111) 1 0 + cond (begins_with name 113) 1 0 + cond (begins_with name 105) 1 0 ≤ 1
+unfolding begins_with
+one_letter [] = omega arith
+one_letter (byte ∷ bytes) = elim (cases_Bool (nat_eq byte 110)) [
+  | inl t ↦ rw (nat_same byte 110 t) (omega arith)
+  | inr f ↦ elim (cases_Bool (nat_eq byte 111)) [
+    | inl t ↦ rw (nat_same byte 111 t) (omega arith)
+    | inr g ↦ elim (cases_Bool (nat_eq byte 113)) [
+      | inl t ↦ rw (nat_same byte 113 t) (omega arith)
+      | inr h ↦ elim (cases_Bool (nat_eq byte 105)) [
+        | inl t ↦ rw (nat_same byte 105 t) (omega arith)
+        | inr k ↦ rw (f, g, h, k) (omega arith)
       ]
     ]
   ]
+]
 
-  -- of names of four letters each comes once
-  pub counted_once : (name : Word) (covers outputs latches inputs : ℕ) → covers ≤ 2 ^ 64 → outputs ≤ 2 ^ 64 → latches ≤ 2 ^ 64 → inputs ≤ 2 ^ 64
-      → count_by (bytes_eq name) (run 110 0 covers) + count_by (bytes_eq name) (run 111 0 outputs) + count_by (bytes_eq name) (run 113 0 latches) + count_by (bytes_eq name) (run 105 0 inputs) ≤ 1
-  counted_once name covers outputs latches inputs a b c d =
-      omega (
-        arith,
-        one_letter name,
-        counted_by_letter name 110 0 covers (omega (arith, a)),
-        counted_by_letter name 111 0 outputs (omega (arith, b)),
-        counted_by_letter name 113 0 latches (omega (arith, c)),
-        counted_by_letter name 105 0 inputs (omega (arith, d)),
-      )
+-- of names of four letters each comes once
+pub counted_once : (name : Word) (covers outputs latches inputs : ℕ) → covers ≤ 2 ^ 64 → outputs ≤ 2 ^ 64 → latches ≤ 2 ^ 64 → inputs ≤ 2 ^ 64
+    → count_by (bytes_eq name) (run 110 0 covers) + count_by (bytes_eq name) (run 111 0 outputs) + count_by (bytes_eq name) (run 113 0 latches) + count_by (bytes_eq name) (run 105 0 inputs) ≤ 1
+counted_once name covers outputs latches inputs a b c d =
+    omega (
+      arith,
+      one_letter name,
+      counted_by_letter name 110 0 covers (omega (arith, a)),
+      counted_by_letter name 111 0 outputs (omega (arith, b)),
+      counted_by_letter name 113 0 latches (omega (arith, c)),
+      counted_by_letter name 105 0 inputs (omega (arith, d)),
+    )
 
 -- ---- which stand in a run
 

@@ -42,9 +42,6 @@ items_plain line (wire source output ∷ items) = (tt, items_plain (line + 2) it
 items_plain line (latch input output initial ∷ items) = (tt, items_plain (line + 1) items)
 
 module _ (name : Word) (inputs outputs : List Word) (items : List Item) where
-  models : List PlainModel
-  models = model_said name inputs outputs items ∷ []
-
   all_plain : (place : ℕ) → Each AtPlain (statements_of (model_said name inputs outputs items ∷ []) place)
   all_plain zero = (tt, (tt, items_plain 4 items))
   all_plain (suc place) = tt

@@ -1,0 +1,58 @@
+-- The files of a sample spell its design.
+use Rattle.std.proofs.Common.{◌≡◌, ◌≤◌, ℕ, ◌*◌, ◌+◌, false, All, List, [], ◌∷◌, codes, length, nat_lt, Some, Ok, refl, arith}
+use Rattle.std.proofs.lemmas.Bool.Decides.{nat_tests}
+use Rattle.std.proofs.lemmas.List.Elements.{All-cons, All-nil}
+use Rattle.std.proofs.lemmas.Nat.{mul-le}
+use Rattle.fab_base.specs.declared.TheConstants.{MAX_FILE_BYTES}
+use Rattle.fab_desk.specs.Files.{Map}
+use Rattle.fab_files.specs.Files.{handed_out}
+use Rattle.fab_files.specs.Stages.{ReadsFrom}
+use Rattle.fab_blif.specs.Blif.{netlist_in}
+use Rattle.fab_designs.specs.Designs.{PlainDesign, SpellsNetlist}
+use Rattle.fab_sample.specs.declared.file.File.{File}
+use Rattle.fab_sample.specs.Drawn.{covers, sample_latches}
+use Rattle.fab_sample.specs.Files.{file_of, fabric_files, sample_files}
+use Rattle.fab_sample_fabrics.specs.Fabrics.{Stands, TellsFabric}
+use Rattle.fab_sample_fabrics.proofs.TilesRead.{handed}
+use Rattle.fab_sample_fabrics.proofs.Assembled.{fabrics_read}
+use Rattle.fab_sample_fabrics.proofs.Counted.{have_sites}
+use Rattle.fab_sample_reads.specs.Laws.{netlist_text}
+use Rattle.fab_sample_reads.proofs.SampleNetlists.{netlists_read}
+use Rattle.fab_sample_designs.specs.Designs.{TellsSample, IsSampleDesign, SampleDesignsAreRead}
+
+not_long : (bytes : List ℕ) → length bytes ≤ MAX_FILE_BYTES → nat_lt MAX_FILE_BYTES (length bytes) ≡ false
+not_long bytes short = grind (arith, nat_tests)
+
+module _ (files : Map) (size : ℕ) (draws : ℕ → ℕ) (told : TellsSample files size draws) where
+  tells_fabric : TellsFabric files size
+  tells_fabric = record {
+        stand = All-cons (Stands files) _ _ (told.stand 0 (file_of [] []) (omega arith)) (All-cons (Stands files) _ _ (told.stand 1 (file_of [] []) (omega arith))
+        (All-cons (Stands files) _ _ (told.stand 2 (file_of [] []) (omega arith)) (All-cons (Stands files) _ _ (told.stand 3 (file_of [] []) (omega arith)) (All-nil (Stands files)))));
+        no_places = told.no_places;
+  }
+
+  blif_stands : files (codes "sample.blif") ≡ Some (netlist_text size (covers size draws) (sample_latches size draws))
+  blif_stands = told.stand 4 (file_of [] []) (omega arith)
+
+pub designs_read : SampleDesignsAreRead
+designs_read files size draws least most told =
+    let fabric = fabrics_read files size least most (tells_fabric files size draws told) in
+    let sites = have_sites size fabric.0 least most fabric.2 in
+    let bytes = netlist_text size (covers size draws) (sample_latches size draws) in
+    let reads = netlists_read size draws least most in
+    let design : PlainDesign = record { fabric = fabric.0; netlist = netlist_in bytes; fixed = [] } in
+    (design, record {
+      spelled = record {
+        fabric = fabric.1;
+        netlist = record {
+          bytes = bytes;
+          found = handed files (codes "sample.blif") bytes refl (blif_stands files size draws told) (not_long bytes reads.short);
+          spelled = (reads.blif, refl);
+        };
+        fixed = refl;
+      };
+      fabric = fabric.2;
+      netlist = reads.netlist;
+      fixed = refl;
+      fits = reads.fits _ _ (grind (arith, sites.tables)) (omega (arith, sites.pads));
+    })

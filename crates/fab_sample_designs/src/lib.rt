@@ -1,0 +1,15 @@
+//! The laws that the design of a sample is read and fits its fabric, and that a flow refuses nothing of it. Each function does nothing: its contract is a law.
+#![tactic(auto)]
+
+ghost use Rattle.fab_sample_designs.specs.Designs.{SampleDesignsAreRead};
+ghost use Rattle.fab_sample_designs.specs.Ready.{SamplesAreReady};
+
+/// The files of a sample of any size from 2 to 16 spell its fabric and its netlist, and the fabric has sites for the netlist.
+pub fn sample_designs_are_read()
+    ensures { SampleDesignsAreRead }
+{}
+
+/// A flow refuses nothing of such files, if the text of the fabric is not too long.
+pub fn samples_are_ready()
+    ensures { SamplesAreReady }
+{}
