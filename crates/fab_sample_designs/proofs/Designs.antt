@@ -26,9 +26,9 @@ not_long bytes short = grind (arith, nat_tests)
 module _ (files : Map) (size : ℕ) (draws : ℕ → ℕ) (told : TellsSample files size draws) where
   tells_fabric : TellsFabric files size
   tells_fabric = record {
-        stand = All-cons (Stands files) _ _ (told.stand 0 (file_of [] []) (omega arith)) (All-cons (Stands files) _ _ (told.stand 1 (file_of [] []) (omega arith))
+    stand = All-cons (Stands files) _ _ (told.stand 0 (file_of [] []) (omega arith)) (All-cons (Stands files) _ _ (told.stand 1 (file_of [] []) (omega arith))
         (All-cons (Stands files) _ _ (told.stand 2 (file_of [] []) (omega arith)) (All-cons (Stands files) _ _ (told.stand 3 (file_of [] []) (omega arith)) (All-nil (Stands files)))));
-        no_places = told.no_places;
+    no_places = told.no_places;
   }
 
   blif_stands : files (codes "sample.blif") ≡ Some (netlist_text size (covers size draws) (sample_latches size draws))
@@ -40,19 +40,21 @@ designs_read files size draws least most told =
     let sites = have_sites size fabric.0 least most fabric.2 in
     let bytes = netlist_text size (covers size draws) (sample_latches size draws) in
     let reads = netlists_read size draws least most in
-    let design : PlainDesign = record { fabric = fabric.0; netlist = netlist_in bytes; fixed = [] } in
-    (design, record {
-      spelled = record {
-        fabric = fabric.1;
-        netlist = record {
-          bytes = bytes;
-          found = handed files (codes "sample.blif") bytes refl (blif_stands files size draws told) (not_long bytes reads.short);
-          spelled = (reads.blif, refl);
+    let design : PlainDesign = record { fabric = fabric.0; netlist = netlist_in bytes; fixed = [] } in (
+      design,
+      record {
+        spelled = record {
+          fabric = fabric.1;
+          netlist = record {
+            bytes = bytes;
+            found = handed files (codes "sample.blif") bytes refl (blif_stands files size draws told) (not_long bytes reads.short);
+            spelled = (reads.blif, refl);
+          };
+          fixed = refl;
         };
+        fabric = fabric.2;
+        netlist = reads.netlist;
         fixed = refl;
-      };
-      fabric = fabric.2;
-      netlist = reads.netlist;
-      fixed = refl;
-      fits = reads.fits _ _ (grind (arith, sites.tables)) (omega (arith, sites.pads));
-    })
+        fits = reads.fits _ _ (grind (arith, sites.tables)) (omega (arith, sites.pads));
+      },
+    )
