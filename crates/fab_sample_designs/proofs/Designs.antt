@@ -1,17 +1,15 @@
 -- The files of a sample spell its design.
-use Rattle.std.proofs.Common.{◌≡◌, ◌≤◌, ℕ, ◌*◌, ◌+◌, false, All, List, [], ◌∷◌, codes, length, nat_lt, Some, Ok, refl, arith}
+use Rattle.std.proofs.Common.{◌≡◌, ◌≤◌, ℕ, ◌*◌, ◌+◌, true, false, All, List, [], ◌∷◌, codes, length, nat_lt, Some, Ok, refl, arith}
+use Rattle.std.specs.Str.{is_utf8, chars}
+use lib.Utf8.{encode}
 use Rattle.std.proofs.lemmas.Bool.Decides.{nat_tests}
-use Rattle.std.proofs.lemmas.List.Elements.{All-cons, All-nil}
-use Rattle.std.proofs.lemmas.Nat.{mul-le}
+use Rattle.std.proofs.lemmas.List.Elements.{All-from_recursion}
 use Rattle.fab_base.specs.declared.TheConstants.{MAX_FILE_BYTES}
 use Rattle.fab_desk.specs.Files.{Map}
-use Rattle.fab_files.specs.Files.{handed_out}
-use Rattle.fab_files.specs.Stages.{ReadsFrom}
 use Rattle.fab_blif.specs.Blif.{netlist_in}
-use Rattle.fab_designs.specs.Designs.{PlainDesign, SpellsNetlist}
-use Rattle.fab_sample.specs.declared.file.File.{File}
+use Rattle.fab_designs.specs.Designs.{PlainDesign}
 use Rattle.fab_sample.specs.Drawn.{covers, sample_latches}
-use Rattle.fab_sample.specs.Files.{file_of, fabric_files, sample_files}
+use Rattle.fab_sample.specs.Files.{file_of, fabric_files}
 use Rattle.fab_sample_fabrics.specs.Fabrics.{Stands, TellsFabric}
 use Rattle.fab_sample_fabrics.proofs.TilesRead.{handed}
 use Rattle.fab_sample_fabrics.proofs.Assembled.{fabrics_read}
@@ -23,13 +21,19 @@ use Rattle.fab_sample_designs.specs.Designs.{TellsSample, IsSampleDesign, Sample
 not_long : (bytes : List ℕ) → length bytes ≤ MAX_FILE_BYTES → nat_lt MAX_FILE_BYTES (length bytes) ≡ false
 not_long bytes short = grind (arith, nat_tests)
 
+blif_name : is_utf8 (codes "sample.blif") ≡ true
+unfolding is_utf8 chars encode
+blif_name = refl
+
 module _ (files : Map) (size : ℕ) (draws : ℕ → ℕ) (told : TellsSample files size draws) where
   tells_fabric : TellsFabric files size
-  tells_fabric = record {
-    stand = All-cons (Stands files) _ _ (told.stand 0 (file_of [] []) (omega arith)) (All-cons (Stands files) _ _ (told.stand 1 (file_of [] []) (omega arith))
-        (All-cons (Stands files) _ _ (told.stand 2 (file_of [] []) (omega arith)) (All-cons (Stands files) _ _ (told.stand 3 (file_of [] []) (omega arith)) (All-nil (Stands files)))));
-    no_places = told.no_places;
-  }
+  tells_fabric =
+      let none = file_of [] [] in
+      record {
+        stand = All-from_recursion (Stands files) (fabric_files size)
+            (told.stand 0 none (omega arith), (told.stand 1 none (omega arith), (told.stand 2 none (omega arith), (told.stand 3 none (omega arith), tt))));
+        no_places = told.no_places;
+      }
 
   blif_stands : files (codes "sample.blif") ≡ Some (netlist_text size (covers size draws) (sample_latches size draws))
   blif_stands = told.stand 4 (file_of [] []) (omega arith)
@@ -47,7 +51,7 @@ designs_read files size draws least most told =
           fabric = fabric.1;
           netlist = record {
             bytes = bytes;
-            found = handed files (codes "sample.blif") bytes refl (blif_stands files size draws told) (not_long bytes reads.short);
+            found = handed files (codes "sample.blif") bytes blif_name (blif_stands files size draws told) (not_long bytes reads.short);
             spelled = (reads.blif, refl);
           };
           fixed = refl;
