@@ -1,5 +1,5 @@
 -- The files of a sample spell its design.
-use Rattle.std.proofs.Common.{◌≡◌, ◌≤◌, ℕ, ◌*◌, ◌+◌, true, false, All, List, [], ◌∷◌, codes, length, nat_lt, Some, Ok, refl, arith}
+use Rattle.std.proofs.Common.{◌≡◌, ◌≤◌, ℕ, true, false, List, [], codes, length, nat_lt, Some, refl, arith}
 use Rattle.std.specs.Str.{is_utf8, chars}
 use lib.Utf8.{encode}
 use Rattle.std.proofs.lemmas.Bool.Decides.{nat_tests}
@@ -16,7 +16,7 @@ use Rattle.fab_sample_fabrics.proofs.Assembled.{fabrics_read}
 use Rattle.fab_sample_fabrics.proofs.Counted.{have_sites}
 use Rattle.fab_sample_reads.specs.Laws.{netlist_text}
 use Rattle.fab_sample_reads.proofs.SampleNetlists.{netlists_read}
-use Rattle.fab_sample_designs.specs.Designs.{TellsSample, IsSampleDesign, SampleDesignsAreRead}
+use Rattle.fab_sample_designs.specs.Designs.{TellsSample, SampleDesignsAreRead}
 
 not_long : (bytes : List ℕ) → length bytes ≤ MAX_FILE_BYTES → nat_lt MAX_FILE_BYTES (length bytes) ≡ false
 not_long bytes short = grind (arith, nat_tests)

@@ -1,5 +1,5 @@
 -- The design that the files of a sample spell.
-use Rattle.std.specs.Prelude.{◌≡◌, ◌≤◌, ℕ, All, List, [], codes, length, None, Ok}
+use Rattle.std.specs.Prelude.{◌≡◌, ◌≤◌, ℕ, All, [], codes, length, None, Ok}
 use Rattle.fab_desk.specs.Files.{Map}
 use Rattle.fab_kinds.specs.declared.kind.Kind.TheVariants as kinds
 use Rattle.fab_netlist.specs.Packing.{packed, packing}
