@@ -179,6 +179,17 @@ are_loads text loads long stored others = record {
   others = λ number p d is drives free. others number p d is drives (λ h. free (of_stored d h));
 }
 
+-- the flip-flops and latches among the loading points
+pub register_loads : (text : List PlainModule) (all registers : List Bool) → length all ≡ length (text_points text) →
+    ((number : ℕ) (p : Point) → IsPoint text number p → ((slice_get all number ≡ Some true) ↔ IsLoading text p)) → length registers ≡ length (text_points text) →
+    ((number : ℕ) (p : Point) (d : Driver) → IsPoint text number p → Drives text p d → IsStored d → slice_get registers number ≡ slice_get all number) →
+    ((number : ℕ) (p : Point) (d : Driver) → IsPoint text number p → Drives text p d → ¬ IsStored d → slice_get registers number ≡ Some false) → AreLoads text registers
+register_loads text all registers all_long marked long stored others =
+    are_loads text registers long
+    (λ number p d is drives holds.
+    let same = stored number p d is drives holds in
+    let exact = marked number p is in (λ e. exact.0 (sym same ∙ e), λ loading. same ∙ exact.1 loading)) others
+
 -- ---- what is written back
 
 -- a slice of a whole vector

@@ -1,14 +1,16 @@
 -- A machine that is made is new.
 use Rattle.std.proofs.Common.{◌≡◌, ℕ, Bool, List, Vec, Global, length, map, sym, ap, ◌∙◌, subst}
 use Rattle.fab_syntax.specs.Plain.{PlainModule}
+use Rattle.fab_meaning.specs.Runs.{user_clock_name}
 use Rattle.fab_network.specs.declared.network.Network.{Network}
 use Rattle.fab_network.specs.Passes.{kept_tern}
 use Rattle.fab_phases.specs.Words.{IsLoadingAt}
+use Rattle.fab_wiring.specs.Clocks.{IsClockAt}
 use Rattle.fab_state.specs.Plain.{PlainState, Register}
 use Rattle.fab_state_points.specs.Standing.{StandsAt}
 use Rattle.fab_state_points.specs.declared.points.StatePoints.{StatePoints}
 use Rattle.fab_sim.specs.Once.{StandsOnce}
-use Rattle.fab_sim.specs.Making.{AreLoads, IsGivenFirst, IsNetworkOf}
+use Rattle.fab_sim.specs.Making.{AreLoadingPoints, AreLoads, IsGivenFirst, IsNetworkOf}
 use Rattle.fab_sim.specs.Machine.{IsNew}
 use Rattle.fab_sim.specs.Made.{IsMadeOf}
 use Rattle.fab_sim.specs.declared.machine.Machine.{Machine}
@@ -17,8 +19,8 @@ pub made_new : (text : List PlainModule) (state : PlainState) (network : Network
     (machine : Machine) →
     IsNetworkOf text network → StandsOnce state → StandsAt text state points → AreLoads text loads → values.items ≡ map (λ (register : Register). register.1)
     state.ffs →
-    IsMadeOf network points loads machine → machine.values ≡ values → IsNew text state machine
-made_new text state network points loads values machine of once stands are values_are made values_is = record {
+    IsMadeOf network points loads machine → machine.values ≡ values → AreLoadingPoints text machine.loads.items → IsClockAt text user_clock_name machine.clock → IsNew text state machine
+made_new text state network points loads values machine of once stands are values_are made values_is all clock = record {
   of = record {
     network = subst (IsNetworkOf text) (sym made.network_is) of;
     once = once;
@@ -26,6 +28,8 @@ made_new text state network points loads values machine of once stands are value
     values = ap (λ (v : Vec Bool Global). v.items) values_is ∙ values_are;
     given = made.given ∙ of.long;
     demand = made.demand ∙ of.long;
+    loads = all;
+    clock = clock;
   };
   loads = loads;
   are = are;

@@ -1,5 +1,5 @@
 -- What a machine is made of.
-use Rattle.std.specs.Prelude.{◌≡◌, ◌≢◌, ◌⊎◌, ℕ, ◌+◌, ◌<◌, ◌≤◌, ◌^◌, Bool, true, false, List, length, slice_get, Some}
+use Rattle.std.specs.Prelude.{◌≡◌, ◌≢◌, ◌⊎◌, ◌↔◌, ℕ, ◌+◌, ◌<◌, ◌≤◌, ◌^◌, Bool, true, false, List, length, slice_get, Some}
 use Rattle.fab_syntax.specs.Plain.{PlainModule}
 use Rattle.fab_syntax.specs.Sound.{IsSound}
 use Rattle.fab_sound.specs.Narrow.{AreNarrow}
@@ -31,6 +31,11 @@ pub record AreLoads (text : List PlainModule) (loads : List Bool) : Type 0 where
   pub whole : (number : ℕ) (p : Point) (d : Driver) → IsPoint text number p → Drives text p d → HoldsValue d → IsLoading text p →
       slice_get loads number ≡ Some true
   pub others : (number : ℕ) (p : Point) (d : Driver) → IsPoint text number p → Drives text p d → ¬ HoldsValue d → slice_get loads number ≡ Some false
+
+-- Just the loading points are marked.
+pub record AreLoadingPoints (text : List PlainModule) (loads : List Bool) : Type 0 where
+  pub long : length loads ≡ length (points text)
+  pub marked : (number : ℕ) (p : Point) → IsPoint text number p → (slice_get loads number ≡ Some true) ↔ IsLoading text p
 
 -- What is given at first: WriteStrobe is 1, the inputs of a word are open, and all else is 0.
 pub record IsGivenFirst (count strobe first : ℕ) (given : PointTerns) : Type 0 where

@@ -11,12 +11,12 @@ ghost use Rattle.fab_state_points.specs.Standing.{IsRefusedState};
 ghost use Rattle.fab_simulation.specs.Simulation.{IsCycle, IsLoaded, with_registers};
 ghost use Rattle.fab_sim.specs.Once.{StandsOnce};
 
-use crate::making::{machine_of, values_of};
+use crate::making::{clock_of, machine_of, values_of};
 use crate::starting::set_out;
 use fab_base::{Fault, Name};
 use fab_demand::Demand;
 use fab_equations::Equations;
-use fab_load_points::loading_registers;
+use fab_load_points::{loading_points, registers_among};
 use fab_meaning::laws::points_of_sound_texts_have_one_driver;
 use fab_network::Network;
 use fab_phases::{Loading, ask_for_run, cycle, load_words};
@@ -43,10 +43,14 @@ pub struct Machine {
     pub(crate) demand: Demand,
     /// By the number of the point: what is given to an input, and what a flip-flop or a latch holds.
     pub(crate) given: Vec<Tern>,
+    /// By the number of the point: whether it is a loading point.
+    pub(crate) loads: Vec<bool>,
+    /// The point of `UserCLK`.
+    pub(crate) clock: Option<u32>,
 }
 
 impl Machine {
-    ghost use Rattle.fab_sim.specs.Machine.{CanCycle, CanLoad, IsAt, IsNew};
+    ghost use Rattle.fab_sim.specs.Machine.{CanCycle, CanLoad, IsAt, IsFresh, IsNew};
 
     /// The machine of a text and a state, to which no word has been loaded.
     ///
@@ -67,17 +71,23 @@ impl Machine {
         let points = state_points(alloc, file, equations, state)?;
         let values = values_of(alloc, &state.ffs)?;
         let network = network_of(alloc, equations)?;
-        let loads = loading_registers(alloc, equations)?;
+        let loads = loading_points(alloc, equations)?;
+        let registers = registers_among(alloc, equations, &loads)?;
+        let clock = clock_of(equations);
         let count = equations.points() as usize;
-        let machine = machine_of(alloc, network, points, values, &loads, count)?;
+        let machine = machine_of(
+            alloc, network, points, values, &registers, loads, clock, count,
+        )?;
         Ok(machine)
     }
 
     /// Loads words from zeros, and then sets the flip-flops of the state.
     pub fn load(&mut self, words: &[u32])
         requires { CanLoad self.old }
-        ensures { (text : List PlainModule) (state : PlainState) → IsNew text state self.old → (loaded : Terns) → IsLoaded text (map (digits 32) words.now) loaded →
+        ensures runs { (text : List PlainModule) (state : PlainState) → IsNew text state self.old → (loaded : Terns) → IsLoaded text (map (digits 32) words.now) loaded →
             IsAt text state self.new (with_registers state.ffs loaded) }
+        ensures fresh { (text : List PlainModule) (state : PlainState) → IsNew text state self.old → (loaded : Terns) → IsLoaded text (map (digits 32) words.now) loaded →
+            IsFresh text state loaded self.new }
     {
         points_of_sound_texts_have_one_driver();
         least_solutions();

@@ -1,9 +1,13 @@
 //! How a machine is made.
 
 ghost use Rattle.std.specs.Prelude.{◌≡◌, ◌+◌, ◌<◌, ◌≤◌, ◌^◌, ℕ, Some, length, map, slice_get, IfOk};
+ghost use Rattle.fab_syntax.specs.Plain.{plain_text};
+ghost use Rattle.fab_meaning.specs.Runs.{user_clock_name};
+ghost use Rattle.fab_equations.specs.Equations.{HasNoDot};
 ghost use Rattle.fab_network.specs.Network.{AreFit};
 ghost use Rattle.fab_network.specs.Passes.{kept_tern};
 ghost use Rattle.fab_network.specs.declared.network.Drive.TheVariants.{Given};
+ghost use Rattle.fab_wiring.specs.Clocks.{IsClockAt};
 ghost use Rattle.fab_sim.specs.Making.{IsGivenFirst, IsWordOpened};
 ghost use Rattle.fab_sim.specs.Made.{IsMadeOf};
 
@@ -11,6 +15,7 @@ use crate::machine::Machine;
 use fab_base::Memory;
 use fab_demand::Demand;
 use fab_demand::laws::given_is_kept;
+use fab_equations::Equations;
 use fab_fabric::Site;
 use fab_network::Network;
 use fab_phases::loading_of;
@@ -29,28 +34,47 @@ pub fn values_of(alloc: Global, ffs: &[(Site, bool)]) -> Result<Vec<bool>, Memor
     Ok(values)
 }
 
-/// The machine of a network of so many points, among which those are marked that loading sets.
+/// The point of `UserCLK`, where the top has it.
+pub fn clock_of(equations: &Equations) -> Option<u32>
+    ensures { IsClockAt (plain_text equations.now) user_clock_name result }
+{
+    top_point(equations, b"UserCLK")
+}
+
+// The point of an input of the top.
+fn top_point(equations: &Equations, name: &[u8]) -> Option<u32>
+    requires { HasNoDot name.now }
+    ensures { IsClockAt (plain_text equations.now) name.now result }
+{
+    equations.place_of(name, 0)
+}
+
+/// The machine of a network of so many points, among whose flip-flops and latches those are marked that loading sets.
 pub fn machine_of(
     alloc: Global,
     network: Network,
     points: StatePoints,
     values: Vec<bool>,
-    loads: &[bool],
+    registers: &[bool],
+    loads: Vec<bool>,
+    clock: Option<u32>,
     count: usize,
 ) -> Result<Machine, Memory>
     requires long { length network.drives.items ≡ count }
     requires few { count ≤ 2 ^ 32 }
     requires fit { AreFit network.trees.items network.drives.items }
-    requires loads { length loads.now ≡ count }
+    requires registers { length registers.now ≡ count }
     requires strobe { points.stream.strobe < count }
     requires word { (bit : ℕ) → bit < 32 → slice_get network.drives.items (points.stream.data_word + bit) ≡ Some Given }
-    ensures made { IfOk result (IsMadeOf network points loads.now) }
+    ensures made { IfOk result (IsMadeOf network points registers.now) }
     ensures values { IfOk result (λ machine. machine.values ≡ values) }
+    ensures loads { IfOk result (λ machine. machine.loads ≡ loads) }
+    ensures clock { IfOk result (λ machine. machine.clock ≡ clock) }
 {
     given_is_kept();
     let given = given_of(alloc, count, points.stream)?;
     let mut demand = Demand::new(alloc, count)?;
-    let loading = loading_of(alloc, &network, loads, &given, &mut demand)?;
+    let loading = loading_of(alloc, &network, registers, &given, &mut demand)?;
     Ok(Machine {
         network,
         points,
@@ -58,6 +82,8 @@ pub fn machine_of(
         loading,
         demand,
         given,
+        loads,
+        clock,
     })
 }
 

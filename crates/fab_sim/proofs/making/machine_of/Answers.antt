@@ -33,7 +33,7 @@ returns-clause-made c =
       given = given.long ∙ sym c.requires.long;
       demand = loading.more.long ∙ demand.long ∙ sym c.requires.long;
       first = subst (λ (n : ℕ). IsGivenFirst n stream.strobe stream.data_word (kept_tern c.in_ok-given.given.items)) (sym c.requires.long) given.first;
-      loading = made_loading c.given_is_kept.ensures network c.in_ok-loading.loading c.args.loads.now stream.data_word c.loading_of.new.demand
+      loading = made_loading c.given_is_kept.ensures network c.in_ok-loading.loading c.args.registers.now stream.data_word c.loading_of.new.demand
           c.in_ok-given.given.items asked
           loading.loading c.requires.word given.first.word;
     }

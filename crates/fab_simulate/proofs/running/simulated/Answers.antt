@@ -15,7 +15,7 @@ cycles-requires g c =
       c.requires.0,
       state,
       has.0,
-      goes_from_new c.requires.0 state c.load.new.self (map (digits 32) c.args.words.now) lines has.0 has.1 (c.load.ensures c.requires.0 state c.requires.1),
+      goes_from_new c.requires.0 state c.load.new.self (map (digits 32) c.args.words.now) lines has.0 has.1 (c.load.ensures.runs c.requires.0 state c.requires.1),
       c.requires.2,
       search rules,
     )
@@ -28,4 +28,4 @@ returns g c = λ text new.
     let lines = map (λ line. line.items) c.args.lines.now in
     let has = has_simulation c.simulations_exist.ensures text state machine words lines new in
     IfOk-weaker c.cycles.result _ _ (λ traced same. subst (λ (s : List (List PlainTern)). Simulates text state words lines s) (sym same) has.1)
-    (c.cycles.ensures text state has.0 (goes_from_new text state c.load.new.self words lines has.0 has.1 (c.load.ensures text state new)))
+    (c.cycles.ensures text state has.0 (goes_from_new text state c.load.new.self words lines has.0 has.1 (c.load.ensures.runs text state new)))

@@ -54,6 +54,8 @@ returns c text state held next shown at cycle =
           values = at.of.values;
           given = ap length filled ∙ c.cycle.auto.given ∙ ap length c.deref_mut.ensures.value ∙ at.of.given;
           demand = c.cycle.ensures.points ∙ at.of.demand;
+          loads = at.of.loads;
+          clock = at.of.clock;
         };
         holds = run.after;
         running = subst (λ (xs : List Tern). IsRunningAt m.network m.points.ins.items m.points.outs.items c.cycle.new.demand xs run.after) (sym filled)

@@ -57,8 +57,8 @@ ask_for_run-requires-clause-outs c place number e =
     numbers_within c.requires.0 (out_entries c.requires.1.outs) m.points.outs.items (length m.network.drives.items) of.stands.outs of.network.long place number
     (ap (λ (ns : List ℕ). slice_get ns place) (sym c.deref-2.ensures.value) ∙ e)
 
-pub returns : goal.returns
-returns c text state new loaded is_loaded =
+pub returns-clause-runs : goal.returns-clause-runs
+returns-clause-runs c text state new loaded is_loaded =
     let m = c.args.self.now in
     let of = new.of in
     let first = m.points.stream.data_word in
@@ -97,6 +97,8 @@ returns c text state new loaded is_loaded =
         values = of.values;
         given = ap length filled_again ∙ c.set_out.auto.given ∙ c.deref_mut-2.ensures.len ∙ sym c.deref_mut.ensures.len ∙ ap length c.deref_mut.ensures.value
             ∙ of.given;
+        loads = of.loads;
+        clock = of.clock;
         demand = c.ask_for_run.ensures.points ∙ c.load_words.ensures.points ∙ of.demand;
       };
       holds = kept_tern c.set_out.new.given;
@@ -109,4 +111,48 @@ returns c text state new loaded is_loaded =
           c.deref-2.ensures.value running));
       agree = starts.agree;
       low = starts.low;
+    }
+
+pub returns-clause-fresh : goal.returns-clause-fresh
+returns-clause-fresh c text state new loaded is_loaded =
+    let m = c.args.self.now in
+    let of = new.of in
+    let first = m.points.stream.data_word in
+    let words = c.args.words.now in
+    -- what loading leaves
+    let loading = subst (IsLoadingAt m.network m.loading new.loads first m.demand) (sym c.deref_mut.ensures.value) new.loading in
+    let steps = subst (λ (xs : List Tern). AreLoadSteps m.network new.loads first words (kept_tern xs) (kept_tern c.load_words.new.given))
+    c.deref_mut.ensures.value
+    (c.load_words.ensures.steps new.loads loading) in
+    let begins = holds_first text m.network of.network m.points.stream of.stands.has of.stands.stream (kept_tern m.given.items) new.first in
+    let holding = holds_last text m.network of.network m.points.stream of.stands.has of.stands.stream c.points_of_sound_texts_have_one_driver.ensures
+    c.numbered_exists.ensures.numbers c.numbered_exists.ensures.points c.numbered_solutions.ensures.solve c.numbered_kept.ensures
+    c.loading_is_known.ensures.known
+    c.loading_is_known.ensures.kept new.loads new.are words is_loaded.loads.moments (kept_tern m.given.items) (kept_tern c.load_words.new.given) zeros
+    is_loaded.after begins
+    steps is_loaded.loads.offers is_loaded.loads.run in
+    -- what is set then
+    let filled : (with_items m.given c.load_words.new.given).items ≡ c.load_words.new.given =
+    with_items_is m.given c.load_words.new.given (c.load_words.auto.given ∙ c.deref_mut.ensures.len) in
+    let filled_again : (with_items (with_items m.given c.load_words.new.given) c.set_out.new.given).items ≡ c.set_out.new.given =
+    with_items_is (with_items m.given c.load_words.new.given) c.set_out.new.given (c.set_out.auto.given ∙ c.deref_mut-2.ensures.len) in
+    let set = subst (λ (values : List Bool). IsSetOut m.points values (kept_tern c.load_words.new.given) (kept_tern c.set_out.new.given)) c.deref.ensures.value
+    (subst (λ (xs : List Tern). IsSetOut m.points c.deref.result.now (kept_tern xs) (kept_tern c.set_out.new.given)) (c.deref_mut-2.ensures.value ∙ filled)
+    c.set_out.ensures) in
+    let starts = starts_as text state m new is_loaded.after (kept_tern c.load_words.new.given) (kept_tern c.set_out.new.given) holding set loaded
+    is_loaded.loaded
+    is_loaded.others in
+    record {
+      of = record {
+        network = of.network;
+        once = of.once;
+        stands = of.stands;
+        values = of.values;
+        given = ap length filled_again ∙ c.set_out.auto.given ∙ c.deref_mut-2.ensures.len ∙ sym c.deref_mut.ensures.len ∙ ap length c.deref_mut.ensures.value
+            ∙ of.given;
+        demand = c.ask_for_run.ensures.points ∙ c.load_words.ensures.points ∙ of.demand;
+        loads = of.loads;
+        clock = of.clock;
+      };
+      held = λ number p d is drives holds. ap (λ (xs : List Tern). kept_tern xs number) filled_again ∙ starts.agree number p d is drives holds;
     }

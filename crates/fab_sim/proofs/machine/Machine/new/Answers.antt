@@ -1,9 +1,11 @@
-use Rattle.std.proofs.Common.{◌∙◌, List, Bool, map, ap, subst, arith}
+use Rattle.std.proofs.Common.{◌∙◌, List, Bool, Vec, Global, map, length, slice_get, ap, sym, subst, arith}
 use Rattle.fab_syntax.specs.Plain.{plain_text}
+use Rattle.fab_meaning.specs.Runs.{user_clock_name}
 use Rattle.fab_state.specs.Plain.{PlainState, Register}
-use Rattle.fab_sim.specs.Making.{IsNetworkOf}
+use Rattle.fab_wiring.specs.Clocks.{IsClockAt}
+use Rattle.fab_sim.specs.Making.{AreLoadingPoints, IsNetworkOf}
 use Rattle.fab_sim.specs.Made.{IsMadeOf}
-use Rattle.fab_sim.proofs.Building.{are_loads, strobe_within, word_given}
+use Rattle.fab_sim.proofs.Building.{register_loads, strobe_within, word_given}
 use Rattle.fab_sim.proofs.Made.{made_new}
 use Rattle.fab_sim.proofs.machine.Machine.new.Goals as goal
 
@@ -26,6 +28,7 @@ returns-clause-made c =
     let network = c.in_ok-network.ensures in
     let values = c.in_ok-values.ensures in
     let loads = c.in_ok-loads.ensures in
+    let registers = c.in_ok-registers.ensures in
     let made = c.in_ok-machine.ensures in
     let of : IsNetworkOf text c.in_ok-network.network = record {
       sound = c.text_is_sound.ensures.sound;
@@ -35,9 +38,13 @@ returns-clause-made c =
       fit = network.fit;
       drives = network.drives;
     } in
-    made_new text c.args.state.now c.in_ok-network.network c.in_ok-points.points c.in_ok-loads.loads.items c.in_ok-values.values c.in_ok-machine.machine of
-    c.requires points.stands
-    (are_loads text c.in_ok-loads.loads.items loads.long loads.stored loads.others)
+    let are = register_loads text c.in_ok-loads.loads.items c.in_ok-registers.registers.items (loads.long) loads.loading
+    (registers.long ∙ ap length c.deref-2.ensures.value ∙ loads.long)
+    (λ number p d is drives stored. registers.stored number p d is drives stored ∙ ap (λ (ls : List Bool). slice_get ls number) c.deref-2.ensures.value) registers.others in
+    made_new text c.args.state.now c.in_ok-network.network c.in_ok-points.points c.in_ok-registers.registers.items c.in_ok-values.values c.in_ok-machine.machine of
+    c.requires points.stands are
     (values ∙ ap (map (λ (register : Register). register.1)) (c.deref.ensures.value ∙ ap (λ (s : PlainState). s.ffs) c.state.view_is))
-    (subst (λ (ls : List Bool). IsMadeOf c.in_ok-network.network c.in_ok-points.points ls c.in_ok-machine.machine) c.deref-2.ensures.value made.made)
+    (subst (λ (ls : List Bool). IsMadeOf c.in_ok-network.network c.in_ok-points.points ls c.in_ok-machine.machine) c.deref-3.ensures.value made.made)
     made.values
+    (subst (λ (kept : Vec Bool Global). AreLoadingPoints text kept.items) (sym made.loads) (record { long = loads.long; marked = loads.loading }))
+    (subst (IsClockAt text user_clock_name) (sym made.clock) c.clock_of-clock.ensures)
