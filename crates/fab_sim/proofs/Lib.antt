@@ -7,3 +7,10 @@ pub mod Loaded
 pub mod Setting
 pub mod Started
 pub mod Cycling
+pub mod Orders
+pub mod Blocks
+pub mod Ended
+pub mod Listed
+pub mod Begun
+pub mod Feeding
+pub mod CyclesBegin

@@ -44,7 +44,7 @@ use Rattle.fab_sim.proofs.Sites.{one_pad, one_register}
 -- ---- lines
 
 -- the line of a number
-line_at : (text : List PlainModule) (lines : List Entry) (numbers : List ℕ) → AreAt text lines numbers → (place number : ℕ) →
+pub line_at : (text : List PlainModule) (lines : List Entry) (numbers : List ℕ) → AreAt text lines numbers → (place number : ℕ) →
     slice_get numbers place ≡ Some number →
     (line : Entry) × (slice_get lines place ≡ Some line)
 line_at text lines numbers at place number e =

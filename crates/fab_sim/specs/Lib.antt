@@ -3,3 +3,4 @@ pub mod Making
 pub mod Starting
 pub mod Machine
 pub mod Made
+pub mod Stepper

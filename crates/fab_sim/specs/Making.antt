@@ -18,7 +18,7 @@ use Rattle.fab_wiring.specs.Given.{HoldsValue}
 pub record IsNetworkOf (text : List PlainModule) (network : Network) : Type 0 where
   pub sound : IsSound text
   pub narrow : AreNarrow text
-  pub few : length (points text) ≤ 2 ^ 32
+  pub few : length (points text) < 2 ^ 32
   pub long : length network.drives.items ≡ length (points text)
   pub fit : AreFit network.trees.items network.drives.items
   pub drives : AreDrives text network.trees.items network.drives.items

@@ -4,5 +4,7 @@
 mod machine;
 mod making;
 mod starting;
+mod stepper;
 
 pub use machine::Machine;
+pub use stepper::Stepper;
