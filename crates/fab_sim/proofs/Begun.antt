@@ -1,59 +1,30 @@
 -- Assignments that are read off a board, and inputs of the state by number.
-use Rattle.std.proofs.Common.{◌≡◌, ◌≢◌, ◌⊎◌, ℕ, zero, suc, Vec, Global, ◌+◌, ◌<◌, Bool, true, false, List, [], ◌∷◌, length, map, Contains, Some, if◌then◌else◌, refl, sym, ap, ◌∙◌, subst, inl, inr, arith}
-use Rattle.std.specs.List.{slice_get, All}
-use Rattle.std.proofs.lemmas.Bool.{cases_Bool, false≢true}
-use Rattle.std.proofs.lemmas.List.Elements.{Contains-get_or}
+use Rattle.std.proofs.Common.{◌≡◌, ℕ, true, false, List, map, Some, if◌then◌else◌, refl, sym, ap, ◌∙◌, subst, arith}
+use Rattle.std.specs.List.{slice_get}
 use Rattle.std.proofs.lemmas.Option.{slice_get_within, slice_get-get_or, get_or_from_slice_get}
-use Rattle.fab_draws.specs.Draws.{after, behind, is_one as is_set, word_at}
 use Rattle.fab_syntax.specs.Plain.{PlainModule}
 use Rattle.fab_systems.specs.Ternary.{no, yes, unknown, known}
 use Rattle.fab_systems.specs.Ternary.{Tern as PlainTern}
-use Rattle.fab_meaning.specs.Points.{Point, outside, Driver, Drives}
+use Rattle.fab_meaning.specs.Points.{Point, outside, Drives}
 use Rattle.fab_meaning.specs.Reads.{is_declared}
 use Rattle.fab_meaning.specs.Settled.{Assignment}
-use Rattle.fab_meaning.specs.Sound.{PointsOfSoundTextsHaveOneDriver}
 use Rattle.fab_implementation.specs.Plain.{Pad}
 use Rattle.fab_prim.specs.Ports.{top_name}
 use Rattle.fab_state.specs.Plain.{PlainState}
-use Rattle.fab_solutions.specs.Laws.{LeastSolutionsExist}
 use Rattle.fab_tern.specs.Shown.{Terns}
-use Rattle.fab_ternary.specs.declared.Tern.{Tern}
 use Rattle.fab_ternary.specs.Terns.{is_known, is_one}
-use Rattle.fab_equations.specs.Instances.{points}
 use Rattle.fab_equations.specs.Equations.{IsPoint}
 use Rattle.fab_equations.proofs.Numbering.{some_there}
-use Rattle.fab_equations.proofs.Points.{declared_are_points}
-use Rattle.fab_compiled.specs.Terns.{seen}
-use Rattle.fab_compiled.specs.Values.{AreByNumber}
 use Rattle.fab_use.specs.Sites.{top_point}
-use Rattle.fab_simulation.specs.Simulation.{given}
-use Rattle.fab_network.specs.declared.network.Network.{Network}
-use Rattle.fab_network.specs.Passes.{kept_tern}
-use Rattle.fab_network.specs.Solved.{IsLeast}
-use Rattle.fab_wiring.proofs.Numbered.{points_have_terns}
-use Rattle.fab_wiring.proofs.Solved.{is_point}
-use Rattle.fab_phases.specs.Cycles.{IsFed, IsIn}
+use Rattle.fab_phases.specs.Cycles.{IsIn}
 use Rattle.fab_phases.proofs.Lists.{get_mapped, get_of_mapped}
 use Rattle.fab_state_points.specs.Entries.{entry_point, in_entries, HasEntry}
 use Rattle.fab_state_points.specs.declared.entry.Entry.{Entry}
 use Rattle.fab_state_points.specs.declared.entry.Entry.TheVariants as entries
-use Rattle.fab_state_points.specs.Standing.{AreAt, StandsAt}
-use Rattle.fab_stepping.specs.Activating.{AreApart}
-use Rattle.fab_stepping.specs.Boards.{given_on, IsBoardOf, LeadToThemselves}
-use Rattle.fab_stepping.specs.Drawing.{marked_before}
-use Rattle.fab_stepping.specs.Drawing as by_number
-use Rattle.fab_stepping.specs.Standing.{StandsFor}
-use Rattle.fab_stepping.proofs.Leaving.{solved_by, IsSolvedBy}
-use Rattle.fab_stepping.proofs.Reading.{leads_seen}
-use Rattle.fab_ordering.specs.Ordered.{Moment, IsBegun, IsFreeInput, IsNamedInput}
-use Rattle.fab_sim.specs.Making.{IsNetworkOf}
-use Rattle.fab_sim.specs.Stepper.{AreFreeInputs, Stands}
-use Rattle.fab_sim.specs.declared.stepper.Stepper.{Stepper}
-use Rattle.fab_sim.proofs.Blocks.{words_later}
-use Rattle.fab_sim.proofs.Ended.{bit_is}
-use Rattle.fab_sim.proofs.Listed.{are_drawn, AreMarkedSo}
-use Rattle.fab_sim.proofs.Numbers.{given_picked, line_at}
-use Rattle.fab_sim.proofs.Points.{input_drives, number_declared, one_point}
+use Rattle.fab_state_points.specs.Standing.{AreAt}
+use Rattle.fab_ordering.specs.Ordered.{IsNamedInput}
+use Rattle.fab_sim.proofs.Numbers.{line_at}
+use Rattle.fab_sim.proofs.Points.{input_drives, one_point}
 
 -- ---- assignments that are read off
 

@@ -1,9 +1,8 @@
 -- Blocks of a stepper are blocks of the simulation for which it stands.
-use Rattle.std.proofs.Common.{◌≡◌, ◌≢◌, ◌⊎◌, ℕ, zero, suc, Vec, Global, ◌+◌, ◌-◌, ◌<◌, Bool, true, false, List, [], ◌∷◌, length, Some, refl, sym, ap, ◌∙◌, subst, inl, inr, arith}
+use Rattle.std.proofs.Common.{◌≡◌, ℕ, zero, suc, Vec, Global, ◌+◌, ◌-◌, ◌<◌, Bool, true, false, List, [], ◌∷◌, length, refl, sym, ap, ◌∙◌, subst, arith}
 use Rattle.std.specs.Prelude.{◌↔◌, IsTrue}
-use Rattle.std.specs.List.{slice_get, All}
+use Rattle.std.specs.List.{All}
 use Rattle.std.proofs.Common.{add_assoc}
-use Rattle.std.proofs.lemmas.Bool.{false≢true}
 use Rattle.rand_pcg.specs.Lcg.{Lcg}
 use Rattle.fab_draws.specs.Draws.{after, behind, word_at}
 use Rattle.fab_draws.specs.Shuffled.{shuffled}
@@ -11,23 +10,18 @@ use Rattle.fab_draws.proofs.Drawing.{words_behind}
 use Rattle.fab_syntax.specs.Plain.{PlainModule}
 use Rattle.fab_systems.specs.Ternary.{no, yes, unknown, known}
 use Rattle.fab_systems.specs.Ternary.{Tern as PlainTern}
-use Rattle.fab_meaning.specs.Points.{Point}
 use Rattle.fab_meaning.specs.Sound.{PointsOfSoundTextsHaveOneDriver}
 use Rattle.fab_state.specs.Plain.{PlainState}
 use Rattle.fab_ternary.specs.declared.Tern.{Tern}
-use Rattle.fab_ternary.specs.declared.Tern.TheVariants.{No, Yes, Open}
-use Rattle.fab_ternary.specs.Terns.{is_known, plain_tern}
+use Rattle.fab_ternary.specs.Terns.{is_known}
 use Rattle.fab_equations.specs.Instances.{points}
-use Rattle.fab_equations.specs.Equations.{IsPoint}
 use Rattle.fab_equations.proofs.Numbering.{some_there}
 use Rattle.fab_equations.proofs.Points.{declared_are_points}
 use Rattle.fab_network.specs.declared.network.Network.{Network}
 use Rattle.fab_network.specs.Passes.{kept_tern}
 use Rattle.fab_wiring.proofs.Solved.{is_point}
-use Rattle.fab_stepping.specs.declared.board.Board.{Board}
 use Rattle.fab_stepping.specs.Activating.{AreActivated, AreApart, HasChanged}
 use Rattle.fab_stepping.specs.Boards.{IsBoardOf}
-use Rattle.fab_stepping.specs.Standing.{StandsFor}
 use Rattle.fab_stepping.proofs.Standing.{activated_states, AreStepped}
 use Rattle.fab_ordering.specs.Ordered.{Moment, ChangesKnown, IsOrderedBlock}
 use Rattle.fab_state_points.specs.Standing.{StandsAt}

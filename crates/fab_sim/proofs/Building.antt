@@ -78,7 +78,7 @@ pub opened_all : (first count : ℕ) (old : PointTerns) (now : List Tern) → 32
     IsWordOpened first old (kept_tern now)
 opened_all first count old now all so_far = record { word = λ bit less. so_far.word bit (omega arith); others = so_far.others }
 
-all_no : (count number : ℕ) → number < count → kept_tern (replicate count No) number ≡ no
+pub all_no : (count number : ℕ) → number < count → kept_tern (replicate count No) number ≡ no
 all_no count number less =
     let long : length (replicate count No) ≡ count = length-replicate count No in
     let there = some_there (replicate count No) number (omega arith) in

@@ -1,25 +1,20 @@
 -- The end of a stepper's cycle is that of the simulation for which it stands.
 use mathlib.Core.Bool.{not}
-use Rattle.std.proofs.Common.{◌≡◌, ◌≢◌, ◌⊎◌, ℕ, zero, suc, Vec, Global, ◌+◌, ◌<◌, ◌≤◌, Bool, true, false, List, [], ◌∷◌, length, map, codes, Some, refl, sym, ap, ◌∙◌, subst, inl, inr, arith, slice_set}
+use Rattle.std.proofs.Common.{◌≡◌, ℕ, suc, Vec, Global, ◌+◌, ◌<◌, Bool, true, false, List, [], ◌∷◌, length, map, codes, Some, refl, sym, ap, ◌∙◌, subst, inl, inr, arith, slice_set}
 use Rattle.std.specs.List.{slice_get, All}
 use Rattle.std.proofs.lemmas.Bool.{cases_eq}
-use Rattle.std.proofs.lemmas.Option.{slice_get_within}
 use Rattle.fab_equations.proofs.Placing.{get_set_other, get_set_same}
-use Rattle.fab_draws.specs.Draws.{word_at, behind}
+use Rattle.fab_draws.specs.Draws.{word_at}
 use Rattle.fab_syntax.specs.Plain.{PlainModule}
 use Rattle.fab_systems.specs.Ternary.{known}
-use Rattle.fab_systems.specs.Ternary.{Tern as PlainTern}
-use Rattle.fab_meaning.specs.Points.{Point}
 use Rattle.fab_meaning.specs.Sound.{PointsOfSoundTextsHaveOneDriver}
 use Rattle.fab_implementation.specs.Plain.{Pad}
 use Rattle.fab_state.specs.Plain.{PlainState}
 use Rattle.fab_ternary.specs.declared.Tern.{Tern}
 use Rattle.fab_ternary.specs.Terns.{is_one}
 use Rattle.fab_equations.specs.Instances.{points}
-use Rattle.fab_equations.specs.Equations.{IsPoint}
 use Rattle.fab_compiled.specs.Leading.{PointTerns}
 use Rattle.fab_use.specs.Sites.{top_point}
-use Rattle.fab_simulation.specs.Simulation.{shown_at}
 use Rattle.fab_network.specs.Passes.{kept_tern}
 use Rattle.fab_state_points.specs.Standing.{StandsAt}
 use Rattle.fab_stepping.specs.Boards.{IsBoardOf, IsTicked, LeadToThemselves}

@@ -1,21 +1,16 @@
 -- What inputs have when a stepper's cycle begins.
-use Rattle.std.proofs.Common.{◌≡◌, ◌≢◌, ◌⊎◌, ℕ, zero, suc, Vec, Global, ◌+◌, ◌<◌, Bool, true, false, List, [], ◌∷◌, length, map, Contains, Some, if◌then◌else◌, refl, sym, ap, ◌∙◌, subst, inl, inr, arith}
-use Rattle.std.specs.List.{slice_get, All}
-use Rattle.std.proofs.lemmas.Bool.{cases_Bool, false≢true}
-use Rattle.std.proofs.lemmas.List.Elements.{Contains-get_or}
-use Rattle.std.proofs.lemmas.Option.{slice_get_within, slice_get-get_or, get_or_from_slice_get}
+use Rattle.std.proofs.Common.{◌≡◌, ◌⊎◌, ℕ, Bool, true, false, List, length, Some, sym, ap, ◌∙◌, subst, inl, inr, arith}
+use Rattle.std.specs.List.{slice_get}
+use Rattle.std.proofs.lemmas.Bool.{cases_Bool}
+use Rattle.std.proofs.lemmas.Option.{slice_get_within}
 use Rattle.fab_draws.specs.Draws.{is_one as is_set, word_at}
 use Rattle.fab_syntax.specs.Plain.{PlainModule}
-use Rattle.fab_systems.specs.Ternary.{no, yes, unknown, known}
-use Rattle.fab_systems.specs.Ternary.{Tern as PlainTern}
-use Rattle.fab_meaning.specs.Points.{Point, Driver, outside, copy, bit_of, flop, hold, Drives}
+use Rattle.fab_systems.specs.Ternary.{no, known}
+use Rattle.fab_meaning.specs.Points.{Point, Driver, outside, copy, bit_of, flop, hold}
 use Rattle.fab_meaning.specs.Reads.{is_declared}
 use Rattle.fab_meaning.specs.Settled.{Assignment}
 use Rattle.fab_meaning.specs.Sound.{PointsOfSoundTextsHaveOneDriver}
-use Rattle.fab_implementation.specs.Plain.{Pad}
-use Rattle.fab_prim.specs.Ports.{top_name}
 use Rattle.fab_state.specs.Plain.{PlainState}
-use Rattle.fab_solutions.specs.Laws.{LeastSolutionsExist}
 use Rattle.fab_tern.specs.Shown.{Terns}
 use Rattle.fab_ternary.specs.declared.Tern.{Tern}
 use Rattle.fab_ternary.specs.Terns.{is_known, is_one}
@@ -24,9 +19,7 @@ use Rattle.fab_equations.specs.Equations.{IsPoint}
 use Rattle.fab_equations.proofs.Numbering.{same_value, some_there}
 use Rattle.fab_compiled.specs.declared.tree.Tree.{Tree}
 use Rattle.fab_equations.proofs.Points.{declared_are_points}
-use Rattle.fab_compiled.specs.Terns.{seen}
 use Rattle.fab_compiled.specs.Values.{AreByNumber}
-use Rattle.fab_use.specs.Sites.{top_point}
 use Rattle.fab_simulation.specs.Simulation.{given}
 use Rattle.fab_network.specs.declared.network.Clock.{Clock}
 use Rattle.fab_network.specs.declared.network.Source.{Source}
@@ -35,29 +28,16 @@ use Rattle.fab_network.specs.declared.network.Drive.TheVariants.{Flop}
 use Rattle.fab_wiring.specs.Wiring.{IsDriveOf}
 use Rattle.fab_wiring.specs.Given.{HoldsValue}
 use Rattle.fab_network.specs.Passes.{kept_tern}
-use Rattle.fab_network.specs.Solved.{IsLeast}
 use Rattle.fab_wiring.proofs.Numbered.{points_have_terns}
 use Rattle.fab_wiring.proofs.Solved.{is_point}
-use Rattle.fab_phases.specs.Cycles.{IsFed, IsIn}
-use Rattle.fab_phases.proofs.Lists.{get_mapped, get_of_mapped}
-use Rattle.fab_state_points.specs.Entries.{entry_point, in_entries, HasEntry}
-use Rattle.fab_state_points.specs.declared.entry.Entry.{Entry}
-use Rattle.fab_state_points.specs.declared.entry.Entry.TheVariants as entries
-use Rattle.fab_state_points.specs.Standing.{AreAt, StandsAt}
-use Rattle.fab_stepping.specs.Activating.{AreApart}
-use Rattle.fab_stepping.specs.Boards.{given_on, IsBoardOf, LeadToThemselves}
+use Rattle.fab_phases.specs.Cycles.{IsFed}
 use Rattle.fab_stepping.specs.Drawing.{marked_before}
 use Rattle.fab_stepping.specs.Drawing as by_number
-use Rattle.fab_stepping.specs.Standing.{StandsFor}
-use Rattle.fab_stepping.proofs.Leaving.{solved_by, IsSolvedBy}
-use Rattle.fab_stepping.proofs.Reading.{leads_seen}
-use Rattle.fab_ordering.specs.Ordered.{Moment, IsBegun, IsFreeInput, IsNamedInput}
-use Rattle.fab_sim.specs.Making.{IsNetworkOf}
-use Rattle.fab_sim.specs.Stepper.{AreFreeInputs, Stands}
+use Rattle.fab_ordering.specs.Ordered.{Moment, IsFreeInput, IsNamedInput}
+use Rattle.fab_sim.specs.Stepper.{Stands}
 use Rattle.fab_sim.specs.declared.stepper.Stepper.{Stepper}
 use Rattle.fab_sim.proofs.Blocks.{known_is, one_bit}
-use Rattle.fab_sim.proofs.Ended.{bit_is}
-use Rattle.fab_sim.proofs.Listed.{are_drawn, AreMarkedSo}
+use Rattle.fab_sim.proofs.Listed.{AreMarkedSo}
 use Rattle.fab_sim.proofs.Numbers.{given_picked, IsPicked}
 use Rattle.fab_sim.proofs.Begun.{in_named, known_back, named_in, read_off, read_rest, read_there}
 use Rattle.fab_sim.proofs.Points.{number_declared, point_of}
@@ -139,7 +119,7 @@ module _ (text : List PlainModule) (state : PlainState) (draws : ℕ → ℕ) (o
 
 -- ---- what flip-flops hold
 
-flop_holds : (text : List PlainModule) (trees : List Tree) (d : Driver) (clock : Clock) (source : Source) → IsDriveOf text trees d (Flop clock source) → HoldsValue d
+pub flop_holds : (text : List PlainModule) (trees : List Tree) (d : Driver) (clock : Clock) (source : Source) → IsDriveOf text trees d (Flop clock source) → HoldsValue d
 flop_holds text trees (flop path own next bit) clock source of = tt
 flop_holds text trees outside clock source of = absurd of
 flop_holds text trees (copy other) clock source of = absurd of

@@ -14,3 +14,8 @@ pub mod Listed
 pub mod Begun
 pub mod Feeding
 pub mod CyclesBegin
+pub mod StartValues
+pub mod Starts
+pub mod Marks
+pub mod FreeInputs
+pub mod Unsets

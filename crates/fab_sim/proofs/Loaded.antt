@@ -83,7 +83,7 @@ within_declared text flops p (by_reads d declared drives derived inside) = decla
 nowhere : Point → Bool
 nowhere p = false
 
-stream_loads : (text : List PlainModule) (p : Point) → IsStream text p → IsLoading text p
+pub stream_loads : (text : List PlainModule) (p : Point) → IsStream text p → IsLoading text p
 unfolding nowhere
 stream_loads text p is = (nowhere, λ q has. cc, by_stream is)
 

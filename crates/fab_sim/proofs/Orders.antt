@@ -1,11 +1,13 @@
 -- Orders in which no point stands twice.
-use Rattle.std.proofs.Common.{◌≡◌, ◌≢◌, ◌⊎◌, ℕ, ◌<◌, List, length, get_or, refl, sym, ap, ◌∙◌, inl, inr, arith}
-use Rattle.std.specs.List.{swap}
+use Rattle.std.proofs.Common.{◌≡◌, ◌≢◌, ◌⊎◌, ℕ, zero, suc, ◌+◌, ◌<◌, List, [], ◌∷◌, Some, length, get_or, refl, sym, ap, ◌∙◌, inl, inr, arith}
+use Rattle.std.specs.List.{swap, All, range_with_len}
+use Rattle.std.proofs.lemmas.Option.{slice_get-get_or}
 use Rattle.std.specs.List.Sorted.{IsPermutation}
 use Rattle.std.proofs.lemmas.Bool.{cases_eq, cases_lt}
 use Rattle.std.proofs.lemmas.List.Edits.{length-swap, swapped_from_swap}
 use Rattle.std.proofs.lemmas.List.Sorted.{IsPermutation-keeps}
 use Rattle.fab_stepping.specs.Activating.{AreApart}
+use Rattle.fab_stepping.specs.Boards.{LeadToThemselves}
 
 -- two places with one number are one
 abbrev AreSingle : List ℕ → Type 0
@@ -73,3 +75,36 @@ module _ (order : List ℕ) (i j : ℕ) (li : i < length order) (lj : j < length
 pub apart_stays : (old new : List ℕ) → IsPermutation old new → AreApart old → AreApart new
 apart_stays old new permuted once =
     apart new (IsPermutation-keeps old AreSingle (single old once) (λ order i j li lj one. swapped_single order i j li lj one) new permuted)
+
+-- ---- the order of the numbers
+
+range_from : (a n : ℕ) (xs : List ℕ) → length xs ≡ n → ((k : ℕ) → k < n → get_or xs k 0 ≡ a + k) → xs ≡ range_with_len a n
+range_from a zero [] long each = refl
+range_from a zero (x ∷ xs) long each = absurd (omega (arith, long))
+range_from a (suc n) [] long each = absurd (omega (arith, long))
+range_from a (suc n) (x ∷ xs) long each =
+    let first : x ≡ a = each 0 (omega arith) ∙ omega arith in
+    let rest : xs ≡ range_with_len (a + 1) n =
+    range_from (a + 1) n xs (omega (arith, long))
+    (λ k l. let later : a + suc k ≡ a + 1 + k = omega arith in each (suc k) (omega (arith, l)) ∙ later) in
+    λ i. first i ∷ rest i
+
+module _ (n : ℕ) (order : List ℕ) (own : LeadToThemselves n order) where
+  pub own_range : order ≡ range_with_len 0 n
+  own_range = range_from 0 n order own.long (λ k l. let same : k ≡ 0 + k = omega arith in own.own k l ∙ same)
+
+  pub own_apart : AreApart order
+  own_apart place later less within same =
+      let a = own.own place (let long = own.long in omega (arith, less, within, long)) in
+      let b = own.own later (let long = own.long in omega (arith, within, long)) in
+      omega (arith, a, b, same, less)
+
+  pub own_below : All (λ point. point < n) order
+  own_below k d l =
+      let inside : k < n = (let long = own.long in omega (arith, l, long)) in
+      let at = own.own k inside in
+      let same = slice_get-get_or order k 0 l in
+      let other = slice_get-get_or order k d l in
+      let both : Some (get_or order k 0) ≡ Some (get_or order k d) = sym same ∙ other in
+      let one : get_or order k 0 ≡ get_or order k d = cc in
+      omega (arith, at, one, inside)

@@ -108,7 +108,7 @@ module _ (text : List PlainModule) (network : Network) (of : IsNetworkOf text ne
 
 -- ---- inputs of the top
 
-input_of : (m : Option PlainModule) (name : List ℕ) (local : Local) → found_in (declared_at m) name ≡ Some local → local.role ≡ roles.Input →
+pub input_of : (m : Option PlainModule) (name : List ℕ) (local : Local) → found_in (declared_at m) name ≡ Some local → local.role ≡ roles.Input →
     is_input_of m name ≡ true
 input_of None name local is role = cc
 input_of (Some m) name local is role = input_role 0 m.ports m.items name local is ∙ ap is_input_role role

@@ -4,3 +4,5 @@ pub mod Starting
 pub mod Machine
 pub mod Made
 pub mod Stepper
+pub mod Unset
+pub mod Rooms

@@ -9,6 +9,7 @@ use Rattle.fab_tern.specs.Shown.{Terns}
 use Rattle.fab_state.specs.Plain.{PlainState}
 use Rattle.fab_network.specs.Passes.{kept_tern}
 use Rattle.fab_ordering.specs.Ordered.{Moment, IsFreeInput}
+use Rattle.fab_simulation.specs.Simulation.{IsLoaded}
 use Rattle.fab_state_points.specs.Standing.{StandsAt}
 use Rattle.fab_stepping.specs.Activating.{AreApart}
 use Rattle.fab_stepping.specs.Boards.{IsBoardOf}
@@ -44,7 +45,8 @@ pub record Stands (text : List PlainModule) (state : PlainState) (draws : ℕ �
 
 -- a machine to which words were loaded, and which has run no cycle
 abbrev pub CanStart : Machine → Type 0
-CanStart machine = (text : List PlainModule) × (state : PlainState) × (loaded : Terns) × IsFresh text state loaded machine
+CanStart machine =
+    (text : List PlainModule) × (state : PlainState) × (words : List (List Bool)) × (loaded : Terns) × IsLoaded text words loaded × IsFresh text state loaded machine
 
 -- a stepper of a state with so many input ports and output ports
 abbrev pub CanStep : Stepper → (inputs outputs : ℕ) → Type 0

@@ -5,6 +5,7 @@ mod machine;
 mod making;
 mod starting;
 mod stepper;
+mod stepping;
 
 pub use machine::Machine;
 pub use stepper::Stepper;

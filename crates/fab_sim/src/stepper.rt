@@ -1,7 +1,12 @@
 //! The stepper: a loaded machine that runs in order.
 
-ghost use Rattle.std.specs.Prelude.{◌≡◌, ◌↔◌, ◌<◌, ℕ, List, length, map, IsTrue};
+ghost use Rattle.std.specs.Prelude.{◌≡◌, ◌↔◌, ◌<◌, ℕ, Bool, List, length, map, IfOk, IsTrue};
+ghost use Rattle.fab_draws.specs.Draws.{draws_of, word_at};
 ghost use Rattle.fab_syntax.specs.Plain.{PlainModule};
+ghost use Rattle.fab_tern.specs.Shown.{Terns};
+ghost use Rattle.fab_simulation.specs.Simulation.{IsLoaded};
+ghost use Rattle.fab_sim.specs.Machine.{IsFresh};
+ghost use Rattle.fab_sim.specs.Unset.{CanBeSet, IsUnset};
 ghost use Rattle.fab_ternary.specs.Terns.{is_known, is_one};
 ghost use Rattle.fab_network.specs.Passes.{kept_tern};
 ghost use Rattle.fab_phases.specs.Running.{AreNumbers};
@@ -9,18 +14,24 @@ ghost use Rattle.fab_meaning.specs.Points.{Point};
 ghost use Rattle.fab_equations.specs.Instances.{points};
 ghost use Rattle.fab_equations.specs.Equations.{IsPoint};
 ghost use Rattle.fab_state.specs.Plain.{PlainState};
-ghost use Rattle.fab_ordering.specs.Ordered.{ChangesKnown, IsBegun, IsEnd, IsOrderedBlock, Moment};
-ghost use Rattle.fab_sim.specs.Stepper.{CanStep, CanTell, Stands};
+ghost use Rattle.fab_ordering.specs.Ordered.{ChangesKnown, IsBegun, IsEnd, IsOrderedBlock, IsStart, Moment};
+ghost use Rattle.fab_sim.specs.Stepper.{CanStart, CanStep, CanTell, Stands};
 
+use crate::machine::Machine;
+use crate::stepping::{Unset, room_of, unset_of};
+use fab_base::Memory;
 use fab_draws::shuffle_order;
+use fab_load_runs::{loading_is_decided, loading_runs_exist};
 use fab_meaning::laws::points_of_sound_texts_have_one_driver;
 use fab_network::Network;
 use fab_phases::feed;
+use fab_simulation::loading_is_known;
 use fab_solutions::least_solutions;
 use fab_state_points::StatePoints;
-use fab_stepping::{Board, draw_values};
+use fab_stepping::{Board, draw_values, take_over};
 use fab_ternary::Tern;
 use rand_pcg::Lcg64Xsh32;
+use std::alloc::Global;
 
 /// A text whose points are activated one by one, in an order that a seed draws, from values that it draws too. All memory is taken when it is made.
 #[derive(Drop)]
@@ -40,6 +51,42 @@ pub struct Stepper {
 }
 
 impl Stepper {
+    /// The stepper of a machine to which words were loaded and which has run no cycle. Where memory is refused the machine is given up.
+    pub fn new(alloc: Global, machine: Machine, seed: u64) -> Result<Stepper, Memory>
+        requires { CanStart machine }
+        ensures { (text : List PlainModule) (state : PlainState) (words : List (List Bool)) (loaded : Terns) → IsLoaded text words loaded →
+            IsFresh text state loaded machine →
+            IfOk result (λ stepper. (moment : Moment) × IsStart text state (draws_of seed) words moment × Stands text state (draws_of seed) stepper moment) }
+    {
+        let room = room_of(alloc, &machine)?;
+        let Unset {
+            mut stepper,
+            loads,
+            values,
+        } = unset_of(machine, room, seed);
+        stepper.start(&loads, &values);
+        Ok(stepper)
+    }
+
+    // Draws the values of all points but the loading points, which settle on what is held.
+    fn start(&mut self, loads: &[bool], values: &[bool])
+        requires { CanBeSet self.old loads.now values.now }
+        ensures { (text : List PlainModule) (state : PlainState) (words : List (List Bool)) (loaded : Terns) → IsLoaded text words loaded →
+            IsUnset text state loaded loads.now values.now self.old →
+            (moment : Moment) × IsStart text state (word_at self.old.random) words moment × Stands text state (word_at self.old.random) self.new moment }
+    {
+        points_of_sound_texts_have_one_driver();
+        least_solutions();
+        loading_is_decided();
+        loading_runs_exist();
+        loading_is_known();
+        draw_values(&mut self.random, loads, false, &mut self.board.terns);
+        take_over(loads, false, &self.board.terns, &mut self.board.held);
+        feed(&self.points.ffs, values, &mut self.board.held);
+        self.board.solve(&self.network, &mut self.solution);
+        take_over(loads, true, &self.solution, &mut self.board.terns);
+    }
+
     /// How many points the text has.
     pub fn points(&self) -> u32
         requires { CanTell self.now }

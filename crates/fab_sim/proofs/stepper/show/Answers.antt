@@ -1,4 +1,4 @@
-use Rattle.std.proofs.Common.{◌≡◌, ◌<◌, length, get_or, ◌∙◌, ap, arith}
+use Rattle.std.proofs.Common.{◌<◌, length, get_or, ◌∙◌, ap, arith}
 use Rattle.std.proofs.lemmas.Option.{slice_get-get_or}
 use Rattle.fab_ternary.specs.Terns.{is_one}
 use Rattle.fab_ternary.specs.declared.Tern.TheVariants.{No}

@@ -1,4 +1,4 @@
-use Rattle.std.proofs.Common.{◌≡◌, ◌<◌, length, sym, ap, ◌∙◌, arith}
+use Rattle.std.proofs.Common.{◌<◌, length, ap, ◌∙◌, arith}
 use Rattle.fab_ternary.specs.Terns.{is_known}
 use Rattle.fab_stepping.proofs.Reading.{kept_read}
 use Rattle.fab_sim.proofs.Ended.{not_twice}

@@ -1,4 +1,4 @@
-use Rattle.std.proofs.Common.{◌≡◌, length, ◌∙◌, arith}
+use Rattle.std.proofs.Common.{arith}
 use Rattle.fab_sim.proofs.stepper.Stepper.points.Goals as goal
 
 pub overflow_cast-result : goal.overflow_cast-result

@@ -1,7 +1,6 @@
-use Rattle.std.proofs.Common.{◌≡◌, ◌<◌, length, sym, ap, ◌∙◌, arith}
+use Rattle.std.proofs.Common.{◌<◌, length, ap, ◌∙◌, arith}
 use Rattle.fab_ternary.specs.Terns.{is_one}
 use Rattle.fab_stepping.proofs.Reading.{kept_read}
-use Rattle.fab_stepping.proofs.Standing.{within}
 use Rattle.fab_sim.proofs.Ended.{bit_is}
 use Rattle.fab_sim.proofs.stepper.Stepper.value.Goals as goal
 
