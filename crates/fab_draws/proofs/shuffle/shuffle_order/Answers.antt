@@ -37,7 +37,7 @@ loop-last-preserved c =
 
 pub returns-clause-order : goal.returns-clause-order
 returns-clause-order c =
-    sym (shuffle_none c.loop-last.last (word_at c.loop-last.random) c.loop-last.order c.loop-last-test.false) ∙ c.loop-last.invariant.order
+    sym (shuffle_none c.loop-last.last (word_at c.loop-last.random) c.loop-last.order (omega arith)) ∙ c.loop-last.invariant.order
 
 pub returns-clause-rest : goal.returns-clause-rest
 returns-clause-rest c =
