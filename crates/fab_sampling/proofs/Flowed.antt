@@ -1,0 +1,172 @@
+-- What stands behind the files that `flow` stored of a sample.
+use Rattle.std.proofs.Common.{◌≡◌, ◌≢◌, ◌⊎◌, ◌<◌, ◌∙◌, ℕ, true, false, List, [], ◌∷◌, length, codes, Some, Ok, Err, refl, sym, ap, subst, inl, inr, nat_lt, IfErr}
+use Rattle.std.proofs.lemmas.Bool.{cases_Bool, ltb-true}
+use Rattle.std.specs.Str.{is_utf8}
+use Rattle.fab_base.specs.declared.TheConstants.{MAX_FILE_BYTES}
+use Rattle.fab_base.specs.declared.fault.Fault.{Fault}
+use Rattle.fab_base.specs.declared.fault.Fault.TheVariants as faults
+use Rattle.fab_desk.specs.Files.{Map}
+use Rattle.fab_desk.specs.Memory.{map_of}
+use Rattle.fab_files.specs.Files.{HasReadCause, refuses, handed_out}
+use Rattle.fab_files.specs.Stages.{of_file, of_bytes}
+use Rattle.fab_lines.proofs.Wholes.{whole_not_refused}
+use Rattle.fab_model.specs.Grid.{PlainFabric}
+use Rattle.fab_syntax.specs.Spelling.{text_bytes}
+use Rattle.fab_netlist.specs.Packing.{packed}
+use Rattle.fab_netlist.specs.Packed.{PlainPacked}
+use Rattle.fab_ways.specs.Placing.{cost}
+use Rattle.fab_implementation.specs.Plain.{PlainImplementation}
+use Rattle.fab_legal.specs.Legal.{ArePlaced}
+use Rattle.fab_legal.specs.WellMade.{IsWellMadePacked}
+use Rattle.fab_legal.proofs.PackedMade.{packed_made}
+use Rattle.fab_texts.specs.Rows.{rows_of, words_of}
+use Rattle.fab_texts.proofs.PrintedRows.{rows_again}
+use Rattle.fab_impl.specs.Spelled.{HasSpelling, Says, Spells, implementation_lines, implementation_text}
+use Rattle.fab_impl.proofs.ReadBack.{spelled_is_read}
+use Rattle.fab_designs.specs.Designs.{PlainDesign, SpellsDesign}
+use Rattle.fab_designs.specs.Implementations.{MeetsImplementation, ReadsImplementation}
+use Rattle.fab_designs.proofs.Judged.{design_is_judged}
+use Rattle.fab_outputs.specs.Storing.{IsDone, PlainOutput, with_outputs}
+use Rattle.fab_flow.specs.Generating.{generated_text}
+use Rattle.fab_flow.specs.Flowing.{MakesFlow, flow_outputs}
+use Rattle.fab_simulated_flow.proofs.Stored.{found_is}
+use Rattle.fab_spelled_designs.specs.Laws.{IsSound, LegalDesignsAreSpelled, SpelledDesignsAreSound}
+use Rattle.fab_sampling.specs.declared.run.Run.{Run}
+use Rattle.fab_sampling.specs.Running.{files_of, HasFlowed, IsNew}
+use Rattle.fab_sampling.proofs.Texts.{is_text}
+use Rattle.fab_sampling.specs.Sampling.{names, rounds, HasNoSummary, memory, too_long}
+
+-- ---- `flow` is done
+
+-- Files spell one design, so that of the flow is the one that was read.
+pub has_flowed : (run : Run) (shelf : List (List ℕ × List ℕ)) → IsNew run → IsDone (λ files. MakesFlow files names rounds) (Some (map_of run.shelf)) (Some (map_of shelf))
+    → HasFlowed (record run { shelf = shelf })
+has_flowed run shelf new done =
+    let stored : map_of shelf ≡ with_outputs done.outputs (map_of run.shelf) = (let is = done.after_is in cc) in
+    subst (λ (files : Map). SpellsDesign files names.design run.design → MakesFlow files names rounds done.outputs → map_of shelf ≡ with_outputs done.outputs files
+    → HasFlowed (record run { shelf = shelf })) (sym new.files) (flowed_of done.outputs) new.spelled (done.made (map_of run.shelf) refl) stored
+  where
+    flowed_of : (stored : List PlainOutput) → SpellsDesign (files_of run) names.design run.design → MakesFlow (files_of run) names rounds stored
+        → map_of shelf ≡ with_outputs stored (files_of run) → HasFlowed (record run { shelf = shelf })
+    flowed_of stored spelled flow is = record {
+      stored = stored;
+      flow = flow;
+      design = (design_is_judged (files_of run) names.design).once flow.design run.design flow.spelled spelled;
+      files = is;
+    }
+
+-- it stays so while files are read alone
+unfoldable pub still_flowed : (run : Run) (shelf : List (List ℕ × List ℕ)) → map_of shelf ≡ map_of run.shelf → HasFlowed run → HasFlowed (record run { shelf = shelf })
+still_flowed run shelf same flowed = record { stored = flowed.stored; flow = flowed.flow; design = flowed.design; files = same ∙ flowed.files }
+
+-- ---- what is read back
+
+-- what stands under the name of the implementation
+implementation_stands : (files : Map) (stored : List PlainOutput) (flow : MakesFlow files names rounds stored)
+    → with_outputs stored files (codes "sample.impl") ≡ Some (implementation_text flow.design.fabric flow.made.implementation)
+implementation_stands files stored flow =
+    ap (λ (list : List PlainOutput). with_outputs list files (codes "sample.impl"))
+    (flow.made.outputs_are ∙ ap (flow_outputs names.base (text_bytes (generated_text flow.design.fabric)) (implementation_text flow.design.fabric flow.made.implementation)) flow.made.assembly.outputs_are)
+
+-- a printed implementation spells itself
+printed_spells : (fabric : PlainFabric) (implementation : PlainImplementation) (bytes : List ℕ) → HasSpelling fabric implementation
+    → bytes ≡ implementation_text fabric implementation → Spells fabric (rows_of bytes) implementation
+printed_spells fabric implementation bytes has is = record {
+  lines = ap (λ (b : List ℕ). words_of (rows_of b)) is ∙ rows_again (implementation_lines fabric implementation) has.rows;
+  nameable = has.nameable;
+}
+
+-- a file that is not handed out is too long
+too_long_alone : (files : Map) (name text : List ℕ) (fault : Fault) → files name ≡ Some text → handed_out files name ≡ Err fault → is_utf8 name ≡ true
+    → (fault ≡ faults.TooLong name) × (MAX_FILE_BYTES < length text)
+too_long_alone files name text fault there refused is_text = elim (cases_Bool (nat_lt MAX_FILE_BYTES (length text))) [
+  | inl long ↦ (let same = rw (is_text, there, long) at refused in cc, ltb-true MAX_FILE_BYTES (length text) long)
+  | inr short ↦ let differ = rw (is_text, there, short) at refused in absurd cc
+]
+
+module _ (sound : SpelledDesignsAreSound) (spelled : LegalDesignsAreSpelled) (run : Run) (flowed : HasFlowed run) where
+  abbrev fabric : PlainFabric
+  fabric = run.design.fabric
+
+  abbrev implementation : PlainImplementation
+  implementation = flowed.flow.made.implementation
+
+  stands : (map_of run.shelf) (codes "sample.impl") ≡ Some (implementation_text fabric implementation)
+  stands =
+      ap (λ (files : Map). files (codes "sample.impl")) flowed.files ∙ implementation_stands (files_of run) flowed.stored flowed.flow
+      ∙ ap (λ (d : PlainDesign). Some (implementation_text d.fabric implementation)) flowed.design
+
+  said : (bytes : List ℕ) → bytes ≡ implementation_text fabric implementation → Says fabric (rows_of bytes) implementation
+  said bytes is =
+      let is_sound = subst IsSound flowed.design (sound (files_of run) names.design flowed.flow.design flowed.flow.spelled) in
+      let has = (spelled (files_of run) names.design flowed.flow.design implementation flowed.flow.spelled flowed.flow.made.legal).text in
+      spelled_is_read fabric is_sound.fabric is_sound.tiles (rows_of bytes) implementation
+      (printed_spells fabric implementation bytes (subst (λ (d : PlainDesign). HasSpelling d.fabric implementation) flowed.design has) is)
+
+  -- the implementation that is read is the one behind the files
+  pub read_is : (it : PlainImplementation) → ReadsImplementation (map_of run.shelf) (codes "sample.impl") fabric it → it ≡ implementation
+  read_is it reads =
+      let bytes_are = found_is (map_of run.shelf) (codes "sample.impl") reads.bytes (implementation_text fabric implementation) stands reads.found in
+      reads.spelled.says.1 ∙ sym (said reads.bytes bytes_are).1
+
+  too_long_if_refused : (fault : Fault) → MeetsImplementation (map_of run.shelf) (codes "sample.impl") fabric (refuses fault) → HasNoSummary (files_of run) fault
+  too_long_if_refused fault (of_file refused) =
+      let long = too_long_alone (map_of run.shelf) (codes "sample.impl") (implementation_text fabric implementation) fault stands refused (is_text (codes "sample.impl") refl) in
+      subst (HasNoSummary (files_of run)) (sym long.0)
+      (too_long flowed.stored flowed.flow
+      (subst (λ (d : PlainDesign). MAX_FILE_BYTES < length (implementation_text d.fabric implementation)) (sym flowed.design) long.1))
+  too_long_if_refused fault (of_bytes {bytes} found refused) =
+      let bytes_are = found_is (map_of run.shelf) (codes "sample.impl") bytes (implementation_text fabric implementation) stands found in
+      absurd (whole_not_refused (said bytes bytes_are).0 refused.refusal)
+
+  -- it is read, but where it is too long
+  pub reading_ends : (reads : Type 0) → (reads → ⊥) → (fault : Fault) → HasReadCause (Some (map_of run.shelf)) reads (λ told. MeetsImplementation told (codes "sample.impl") fabric) fault
+      → HasNoSummary (files_of run) fault
+  reading_ends reads calm faults.Memory cause = memory
+  reading_ends reads calm (faults.ReadFault file) cause = absurd (calm cause.0)
+  reading_ends reads calm (faults.Missing file) cause = too_long_if_refused (faults.Missing file) (cause (map_of run.shelf) refl)
+  reading_ends reads calm (faults.TooLong file) cause = too_long_if_refused (faults.TooLong file) (cause (map_of run.shelf) refl)
+  reading_ends reads calm (faults.Malformed place reason) cause = too_long_if_refused (faults.Malformed place reason) (cause (map_of run.shelf) refl)
+  reading_ends reads calm (faults.Unsupported place construct) cause = too_long_if_refused (faults.Unsupported place construct) (cause (map_of run.shelf) refl)
+  reading_ends reads calm (faults.Limit place quantity value bound) cause = too_long_if_refused (faults.Limit place quantity value bound) (cause (map_of run.shelf) refl)
+  reading_ends reads calm fault cause = absurd cause
+
+-- it stands as a placed design of a packed netlist
+pub placed : (run : Run) (flowed : HasFlowed run) → ArePlaced run.design.fabric (packed run.design.netlist) flowed.flow.made.implementation
+placed run flowed = subst (λ (d : PlainDesign). ArePlaced d.fabric (packed d.netlist) flowed.flow.made.implementation) flowed.design flowed.flow.made.legal.placed
+
+pub packed_is_made : SpelledDesignsAreSound → (run : Run) → HasFlowed run → IsWellMadePacked (packed run.design.netlist)
+packed_is_made sound run flowed =
+    packed_made run.design.netlist (subst IsSound flowed.design (sound (files_of run) names.design flowed.flow.design flowed.flow.spelled)).netlist
+
+-- The same where the body has the parts of the run, the name of the file and the packed netlist under names of its own.
+module _ (sound : SpelledDesignsAreSound) (spelled : LegalDesignsAreSpelled) (run : Run) (flowed : HasFlowed run) (shelf : List (List ℕ × List ℕ)) (file : List ℕ) (fabric : PlainFabric)
+    (shelf_is : shelf ≡ run.shelf) (file_is : file ≡ codes "sample.impl") (fabric_is : fabric ≡ run.design.fabric) where
+  pub read_there : (it : PlainImplementation) → ReadsImplementation (map_of shelf) file fabric it → it ≡ flowed.flow.made.implementation
+  read_there it reads =
+      read_is sound spelled run flowed it
+      (subst (λ (s : List (List ℕ × List ℕ)). ReadsImplementation (map_of s) (codes "sample.impl") run.design.fabric it) shelf_is
+      (subst (λ (f : List ℕ). ReadsImplementation (map_of shelf) f run.design.fabric it) file_is
+      (subst (λ (f : PlainFabric). ReadsImplementation (map_of shelf) file f it) fabric_is reads)))
+
+  pub ends_there : (reads : Type 0) → (reads → ⊥) → (fault : Fault) → HasReadCause (Some (map_of shelf)) reads (λ told. MeetsImplementation told file fabric) fault
+      → HasNoSummary (files_of run) fault
+  ends_there reads calm fault cause =
+      reading_ends sound spelled run flowed reads calm fault
+      (subst (λ (s : List (List ℕ × List ℕ)). HasReadCause (Some (map_of s)) reads (λ told. MeetsImplementation told (codes "sample.impl") run.design.fabric) fault) shelf_is
+      (subst (λ (f : List ℕ). HasReadCause (Some (map_of shelf)) reads (λ told. MeetsImplementation told f run.design.fabric) fault) file_is
+      (subst (λ (f : PlainFabric). HasReadCause (Some (map_of shelf)) reads (λ told. MeetsImplementation told file f) fault) fabric_is cause)))
+
+-- it can be priced, and costs what the one behind the files does
+module _ (run : Run) (flowed : HasFlowed run) (cells : PlainPacked) (it : PlainImplementation) (cells_are : cells ≡ packed run.design.netlist)
+    (it_is : it ≡ flowed.flow.made.implementation) where
+  pub placed_there : (there : PlainFabric) → there ≡ run.design.fabric → ArePlaced there cells it
+  placed_there there fabric_is =
+      subst (λ (f : PlainFabric). ArePlaced f cells it) (sym fabric_is)
+      (subst (λ (c : PlainPacked). ArePlaced run.design.fabric c it) (sym cells_are)
+      (subst (ArePlaced run.design.fabric (packed run.design.netlist)) (sym it_is) (placed run flowed)))
+
+  pub priced_there : cost cells it ≡ cost (packed flowed.flow.design.netlist) flowed.flow.made.implementation
+  priced_there =
+      ap (λ (c : PlainPacked). cost c it) cells_are ∙ ap (λ (d : PlainDesign). cost (packed d.netlist) it) (sym flowed.design)
+      ∙ ap (cost (packed flowed.flow.design.netlist)) it_is

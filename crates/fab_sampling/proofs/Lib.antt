@@ -1,0 +1,7 @@
+mod Ending
+mod Flowed
+mod Named
+mod Stocked
+mod Summed
+mod Texts
+mod Traced

@@ -1,0 +1,89 @@
+-- A sample that is run through the commands: what its summary tells, and why there is none.
+use Rattle.std.specs.Prelude.{◌≡◌, ◌≢◌, ◌<◌, ℕ, List, codes, length, map, Option, Some, None}
+use Rattle.fab_base.specs.declared.TheConstants.{MAX_FILE_BYTES}
+use Rattle.fab_base.specs.declared.fault.Fault.{Fault}
+use Rattle.fab_base.specs.declared.fault.Fault.TheVariants as faults
+use Rattle.fab_desk.specs.Files.{Map}
+use Rattle.fab_netlist.specs.Packing.{packed}
+use Rattle.fab_ways.specs.Placing.{cost}
+use Rattle.fab_designs.specs.Designs.{PlainDesign, SpellsDesign}
+use Rattle.fab_impl.specs.Spelled.{implementation_text}
+use Rattle.fab_outputs.specs.Storing.{PlainOutput, output, with_outputs}
+use Rattle.fab_outputs.specs.Ending.{IsRefused}
+use Rattle.fab_flow.specs.Flowing.{FailsToFlow, FlowFiles, MakesFlow, MeetsFlow, flow_files, flow_refusals}
+use Rattle.fab_simulate.specs.Simulating.{MeetsSimulation, SimulationFiles, simulate_refusals, simulation_files}
+use Rattle.fab_simulated_flow.specs.Laws.{TracesNetlist}
+use Rattle.fab_sample.specs.declared.file.File.{File}
+use Rattle.fab_draws.specs.Draws.{draws_of}
+use Rattle.fab_sample.specs.Files.{sample_files}
+use Rattle.fab_sampling.specs.Summary.{edge_count, summary_text}
+use Rattle.fab_sampling.specs.declared.outcome.Outcome.{Outcome}
+use Rattle.fab_sampling.specs.declared.outcome.Outcome.TheVariants.{Mapped, Unmapped}
+
+-- ---- the files
+
+abbrev pub no_files : Map
+no_files = λ name. None
+
+abbrev pub stored_file : File → PlainOutput
+stored_file file = output file.name file.text
+
+-- these files alone
+abbrev pub only : List File → Map
+only files = with_outputs (map stored_file files) no_files
+
+-- the six files of a sample
+unfoldable pub sample_map : (size seed : ℕ) → Map
+sample_map size seed = only (sample_files size (draws_of seed))
+
+-- `flow sample.csv sample.blif sample`, which may take 32 rounds
+abbrev pub names : FlowFiles
+names = flow_files (codes "sample.csv") (codes "sample.blif") None (codes "sample")
+
+abbrev pub rounds : ℕ
+rounds = 32
+
+-- `simulate sample.v sample.bit sample.state sample.stim sample.trace`
+abbrev pub simulated : SimulationFiles
+simulated = simulation_files (codes "sample.v") (codes "sample.bit") (codes "sample.state") (codes "sample.stim") (codes "sample.trace")
+
+-- ---- what a summary tells
+
+-- `flow` makes files of the sample, and these, simulated, have the trace of the netlist. The cost and the edges are those of the implementation that
+-- stands behind the files.
+pub record IsMapped (files : Map) (price count : ℕ) : Type 0 where
+  pub stored : List PlainOutput
+  pub flow : MakesFlow files names rounds stored
+  pub trace : List PlainOutput
+  pub traces : TracesNetlist (with_outputs stored files) simulated.stimulus simulated.trace flow.design.netlist trace
+  pub cost : price ≡ cost (packed flow.design.netlist) flow.made.implementation
+  pub edges : count ≡ edge_count flow.made.implementation
+
+-- the design fits, and for this cause, which is none of memory, it is not mapped: a net is cut off, or wires stay shared
+pub record IsUnmapped (files : Map) (fault : Fault) : Type 0 where
+  pub fails : FailsToFlow files names rounds fault
+  pub searched : fault ≢ faults.Memory
+
+abbrev pub ComesTo : (files : Map) → Outcome → Type 0
+ComesTo files (Mapped cost edges) = IsMapped files cost edges
+ComesTo files (Unmapped fault) = IsUnmapped files fault
+
+-- The files of the sample spell a design, which is the only one that they spell, and the text tells of it and of what comes of it.
+pub record IsSummary (size seed : ℕ) (bytes : List ℕ) : Type 0 where
+  pub design : PlainDesign
+  pub spelled : SpellsDesign (sample_map size seed) names.design design
+  pub outcome : Outcome
+  pub comes : ComesTo (sample_map size seed) outcome
+  pub bytes_are : bytes ≡ summary_text size seed design outcome
+
+-- ---- why there is none
+
+-- Memory may be refused at any time. Else a file is refused: one of the sample, or one that was made of it; or the text of the implementation is too long
+-- to be read.
+pub data HasNoSummary (files : Map) : Fault → Type 0 where
+  memory : HasNoSummary files faults.Memory
+  not_taken : {fault : Fault} → IsRefused (Some files) (λ told. MeetsFlow told names) flow_refusals fault → HasNoSummary files fault
+  not_simulated : {fault : Fault} (stored : List PlainOutput) → MakesFlow files names rounds stored →
+      IsRefused (Some (with_outputs stored files)) (λ told. MeetsSimulation told simulated) simulate_refusals fault → HasNoSummary files fault
+  too_long : (stored : List PlainOutput) (flow : MakesFlow files names rounds stored) →
+      MAX_FILE_BYTES < length (implementation_text flow.design.fabric flow.made.implementation) → HasNoSummary files (faults.TooLong (codes "sample.impl"))

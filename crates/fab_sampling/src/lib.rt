@@ -1,0 +1,12 @@
+//! A sample that is made and run through the commands in memory: what there is to say of it.
+#![tactic(auto)]
+
+mod measuring;
+mod outcome;
+mod printing;
+mod run;
+mod sampling;
+mod shelf;
+mod stocking;
+
+pub use sampling::summary;

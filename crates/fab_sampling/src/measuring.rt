@@ -1,0 +1,72 @@
+//! What a mapped design costs.
+
+ghost use Rattle.std.specs.Prelude.{◌≡◌, length, sum_by, IfErr, IfOk};
+ghost use Rattle.fab_desk.specs.Memory.{map_of};
+ghost use Rattle.fab_netlist.specs.Packing.{packed as packed_of};
+ghost use Rattle.fab_ways.specs.Placing.{cost as cost_of};
+ghost use Rattle.fab_sampling.specs.Running.{files_of, HasFlowed};
+ghost use Rattle.fab_sampling.specs.Sampling.{HasNoSummary};
+ghost use Rattle.fab_sampling.specs.Summary.{edge_count};
+
+use crate::run::Run;
+use fab_base::{Fault, Memory, Name};
+use fab_designs::read_implementation;
+use fab_implementation::Tree;
+use fab_netlist::{Netlist, Packed, pack};
+use fab_place::cost;
+use fab_spelled_designs::{legal_designs_are_spelled, spelled_designs_are_sound};
+use std::alloc::Global;
+
+/// The cells and ports of a netlist. A netlist has fewer than 32 bits count, so only want of memory comes.
+pub fn packed_netlist(alloc: Global, netlist: &Netlist) -> Result<Packed, Memory>
+    ensures { IfOk result (λ packed. packed ≡ packed_of netlist.now) }
+{
+    match pack(alloc, netlist, u32::MAX, u32::MAX) {
+        Ok(packed) => Ok(packed),
+        Err(_) => Err(Memory),
+    }
+}
+
+/// How many edges nets have. Want of memory is also the answer where 64 bits do not count them.
+fn edges(trees: &[Tree]) -> Result<u64, Memory>
+    ensures { IfOk result (λ count. count ≡ sum_by (λ tree. length tree.edges) trees.now) }
+{
+    let mut count: u64 = 0;
+    for tree in trees {
+        count = count.checked_add(tree.edges.len() as u64).ok_or(Memory)?;
+    }
+    Ok(count)
+}
+
+/// What the stored implementation costs, and how many edges its nets have.
+fn measured_cells(alloc: Global, run: &mut Run, packed: &Packed) -> Result<(u64, u64), Fault>
+    requires flowed { HasFlowed run.old }
+    requires packed { packed.now ≡ packed_of run.old.design.netlist }
+    ensures same { run.new ≡ record run.old { shelf = run.new.shelf } }
+    ensures files { map_of run.new.shelf ≡ map_of run.old.shelf }
+    ensures cost { IfOk result (λ found. (flowed : HasFlowed run.old) → found.0 ≡ cost_of (packed_of flowed.flow.design.netlist) flowed.flow.made.implementation) }
+    ensures edges { IfOk result (λ found. (flowed : HasFlowed run.old) → found.1 ≡ edge_count flowed.flow.made.implementation) }
+    ensures cause { IfErr result (HasNoSummary (files_of run.old)) }
+{
+    // what holds of designs that files spell, and of what is printed of them, are clauses of these calls
+    spelled_designs_are_sound();
+    legal_designs_are_spelled();
+    let file = Name::of(alloc, b"sample.impl")?;
+    let implementation = read_implementation(alloc, &mut run.shelf, &file, &run.design.fabric)?;
+    let cost = cost(&run.design.fabric, packed, &implementation);
+    let edges = edges(&implementation.trees)?;
+    Ok((cost, edges))
+}
+
+/// What the implementation that `flow` stored costs, and how many edges its nets have.
+pub fn measured(alloc: Global, run: &mut Run) -> Result<(u64, u64), Fault>
+    requires { HasFlowed run.old }
+    ensures same { run.new ≡ record run.old { shelf = run.new.shelf } }
+    ensures files { map_of run.new.shelf ≡ map_of run.old.shelf }
+    ensures cost { IfOk result (λ found. (flowed : HasFlowed run.old) → found.0 ≡ cost_of (packed_of flowed.flow.design.netlist) flowed.flow.made.implementation) }
+    ensures edges { IfOk result (λ found. (flowed : HasFlowed run.old) → found.1 ≡ edge_count flowed.flow.made.implementation) }
+    ensures cause { IfErr result (HasNoSummary (files_of run.old)) }
+{
+    let packed = packed_netlist(alloc, &run.design.netlist)?;
+    measured_cells(alloc, run, &packed)
+}
