@@ -9,7 +9,7 @@ use Rattle.std.specs.Str.{bytes_eq}
 use Rattle.indexmap.specs.IndexMap.{insert_entry}
 use Rattle.fab_fabric.specs.declared.wire.Site.{Site}
 use Rattle.fab_implementation.specs.Plain.{Pad}
-use Rattle.fab_assemble.specs.Sites.{HoldSites, HoldPads, found_or_first}
+use Rattle.fab_assemble.specs.inner.Sites.{HoldSites, HoldPads, found_or_first}
 
 -- ---- cells by number
 

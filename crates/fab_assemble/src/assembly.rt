@@ -6,14 +6,14 @@ ghost use Rattle.fab_fabric.specs.Bits.{AreBitsOf, plain_bits};
 ghost use Rattle.fab_netlist.specs.Cycles.{HasNoCycle};
 ghost use Rattle.fab_netlist.specs.Packing.{packed as packed_of};
 ghost use Rattle.fab_implementation.specs.OnFabric.{IsOnFabric};
-ghost use Rattle.fab_legal.specs.Nets.{InputsAreLines};
+ghost use Rattle.fab_implementation.specs.Inputs.{InputsAreLines};
 ghost use Rattle.fab_legal.specs.Legal.{IsLegal};
 ghost use Rattle.fab_legal.specs.Broken.{Explains};
 ghost use Rattle.fab_frames.specs.Stream.{stream};
-ghost use Rattle.fab_text_loads.specs.Texts.{IsFabricText};
-ghost use Rattle.fab_use.specs.Registers.{design_state};
-ghost use Rattle.fab_use.specs.Configuring.{Configures};
-ghost use Rattle.fab_use.specs.Headline.{RunsDesign};
+ghost use Rattle.fab_settling.specs.fab_fabric_text.specs.Texts.{IsFabricText};
+ghost use Rattle.fab_settling.specs.fab_use.specs.Registers.{design_state};
+ghost use Rattle.fab_settling.specs.fab_use.specs.Configuring.{Configures};
+ghost use Rattle.fab_settling.specs.fab_use.specs.Headline.{RunsDesign};
 ghost use Rattle.fab_settling.specs.Settling.{SettlesDesign};
 ghost use Rattle.fab_gen_tile.specs.Words.{IsNamed};
 ghost use Rattle.fab_features.specs.Design.{design_features};
@@ -27,7 +27,7 @@ use fab_features::{design_bits, features_of};
 use fab_frames::frames;
 use fab_legal::{CheckFault, Fixed, Implementation, check, packed_is_well_made};
 use fab_netlist::{Netlist, Packed};
-use fab_runs::legal_designs_run;
+use fab_settling::fab_runs::legal_designs_run;
 use fab_settling::legal_designs_settle;
 use fab_state::State;
 use std::alloc::Global;
@@ -63,7 +63,7 @@ pub fn assemble(
     requires no_cycle { HasNoCycle netlist.now }
     requires packed { packed.now ≡ packed_of netlist.now }
     requires on_fabric { IsOnFabric fabric.now implementation }
-    requires lines { All (InputsAreLines implementation) implementation.trees }
+    requires lines { InputsAreLines implementation }
     ensures legal { OnOk result (IsLegal fabric.now packed.now fixed.now implementation) }
     ensures features { IfOk result (λ it. it.features.items ≡ design_features fabric.now packed.now implementation) }
     ensures bits { IfOk result (λ it. AreBitsOf fabric.now it.bits) }
@@ -79,7 +79,7 @@ pub fn assemble(
     packed_is_well_made();
     legal_designs_run();
     legal_designs_settle();
-    let _types = fabric.types();
+    fabric.is_well_made();
     let legal = check(alloc, fabric, packed, fixed, implementation)?;
     let features = features_of(alloc, fabric, packed, &legal)?;
     let bits = design_bits(alloc, fabric, packed, &legal)?;

@@ -6,3 +6,4 @@ mod assembly;
 mod state;
 
 pub use assembly::{Assembled, assemble};
+pub use fab_features;

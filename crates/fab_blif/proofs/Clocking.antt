@@ -12,7 +12,7 @@ use Rattle.fab_blif.specs.declared.design.Use.{Use}
 use Rattle.fab_blif.specs.Design.{PlainClock}
 use Rattle.fab_blif.specs.Judged.{least, least_of}
 use Rattle.fab_blif.specs.Clocks.{data_faults, first_fault}
-use Rattle.fab_blif.specs.Walk.{plain_clock}
+use Rattle.fab_blif.specs.inner.Walk.{plain_clock}
 
 abbrev line_of : ClockFault → ℕ
 line_of fault = fault.line

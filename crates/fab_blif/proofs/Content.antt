@@ -1,5 +1,5 @@
 -- A file is refused for what stands in it: each refusal is a problem at one of its lines.
-use Rattle.std.proofs.Common.{◌≡◌, ◌≢◌, ◌⊎◌, ℕ, ◌≤◌, List, ◌∷◌, codes, length, None, inl, inr, refl, sym, subst, ◌∙◌}
+use Rattle.std.proofs.Common.{◌≡◌, ◌≢◌, ℕ, List, ◌∷◌, codes, length, inl, inr, refl, sym, subst, ◌∙◌}
 use Rattle.fab_base.specs.Reading.{fault_at}
 use Rattle.fab_base.specs.declared.fault.Fault.{Fault}
 use Rattle.fab_base.specs.declared.fault.Fault.TheVariants as faults
@@ -10,12 +10,13 @@ use Rattle.fab_base.specs.declared.words.Reason.TheVariants as reasons
 use Rattle.fab_models.specs.Plain.{PlainModel}
 use Rattle.fab_netlist.specs.Cycles.{cycle_words}
 use Rattle.fab_netlist.specs.Plain.{cover_at}
-use Rattle.fab_instances.specs.Counting.{RefusesInstances, in_64_bits, instances}
-use Rattle.fab_instances.specs.Order.{BreaksFormals, IsRecursive, IsUnknown, NoLine, RefusesFormals, RefusesNames, RefusesRecursive, RefusesUnknown, construct, model_at}
-use Rattle.fab_blif.specs.Blif.{IsContentFault, RefusesBlif, design_in, last_line, models_in, netlist_in}
+use Rattle.fab_instances.specs.Counting.{in_64_bits, instances}
+use Rattle.fab_instances.specs.Order.{RefusesNames, construct, model_at}
+use Rattle.fab_instances.specs.Refusals.{RefusesModels}
+use Rattle.fab_lines.specs.Counts.{last_line}
+use Rattle.fab_blif.specs.Blif.{IsContentFault, RefusesBlif, design_in, models_in, netlist_in}
 use Rattle.fab_blif.specs.Design.{PlainDesign}
-use Rattle.fab_blif.specs.Judged.{EachHasOne, undriven_line}
-use Rattle.fab_blif.specs.Refusals.{RefusesClocks, RefusesDrivers, RefusesFile, RefusesNets, RefusesUndriven, clock_problem}
+use Rattle.fab_blif.specs.Refusals.{RefusesDesign, RefusesFile, clock_problem}
 
 -- the fault is a problem at a line of the file
 abbrev IsAtLine : (file : List ℕ) → Fault → Type 0
@@ -27,42 +28,30 @@ content_at file line (problems.Unsupported construct) some = tt
 content_at file line (problems.Limit quantity value bound) some = tt
 content_at file line problems.Memory some = absurd (some refl)
 
-names_at : (file : List ℕ) (last : ℕ) (models : List PlainModel) (fault : Fault) → fault ≢ faults.Memory → RefusesNames file last models fault → IsAtLine file fault
-names_at file last models fault some refused = elim (refused some) [
-  | inl none ↦ (last, problems.Malformed reasons.NoModel, none.1)
-  | inr twice ↦ ((model_at models twice.0).line, problems.Malformed reasons.NameTwice, twice.2)
-]
+names_at : (file : List ℕ) (last : ℕ) (models : List PlainModel) (fault : Fault) → RefusesNames file last models fault → IsAtLine file fault
+names_at file last models fault (inl none) = (last, problems.Malformed reasons.NoModel, none.1)
+names_at file last models fault (inr twice) = ((model_at models twice.0).line, problems.Malformed reasons.NameTwice, twice.2)
 
-models_at : (file : List ℕ) (last : ℕ) (models : List PlainModel) (fault : Fault)
-    → RefusesUnknown file models fault
-    ⊎ RefusesRecursive file models fault
-    ⊎ RefusesFormals file models fault
-    ⊎ (NoLine (IsUnknown models) × NoLine (IsRecursive models) × NoLine (BreaksFormals models) × RefusesInstances file last models fault)
-    → IsAtLine file fault
+models_at : (file : List ℕ) (last : ℕ) (models : List PlainModel) (fault : Fault) → RefusesModels file last models fault → IsAtLine file fault
 models_at file last models fault (inl x) = (x.0, problems.Unsupported (construct (codes "model") x.1), x.3)
 models_at file last models fault (inr (inl x)) = (x.1.0, problems.Unsupported (construct (codes "recursive model") x.1.1), x.1.3)
 models_at file last models fault (inr (inr (inl x))) = (x.2.0, problems.Malformed reasons.Formal, x.2.3)
 models_at file last models fault (inr (inr (inr x))) = (last, problems.Limit quantities.Instances (in_64_bits (instances models)) 16384, x.3.1)
 
-design_at : (file : List ℕ) (last : ℕ) (design : PlainDesign) (fault : Fault)
-    → RefusesDrivers file design fault
-    ⊎ (EachHasOne design × RefusesUndriven file design fault)
-    ⊎ (EachHasOne design × (undriven_line design ≡ None) × RefusesNets file last design fault)
-    ⊎ (EachHasOne design × (undriven_line design ≡ None) × (length design.nets ≤ 16384) × RefusesClocks file design fault)
-    → IsAtLine file fault
+design_at : (file : List ℕ) (last : ℕ) (design : PlainDesign) (fault : Fault) → RefusesDesign file last design fault → IsAtLine file fault
 design_at file last design fault (inl x) = (x.0, problems.Malformed reasons.Drivers, x.2)
 design_at file last design fault (inr (inl x)) = (x.1.0, problems.Malformed reasons.Undriven, x.1.2)
 design_at file last design fault (inr (inr (inl x))) = (last, problems.Limit quantities.Nets (length design.nets) 16384, x.2.1)
 design_at file last design fault (inr (inr (inr x))) = (x.3.0.line, clock_problem x.3.0.wrong, x.3.2)
 
-file_at : (file bytes : List ℕ) (fault : Fault) → fault ≢ faults.Memory → RefusesFile file (last_line bytes) (models_in bytes) fault → IsAtLine file fault
-file_at file bytes fault some (inl x) = names_at file (last_line bytes) (models_in bytes) fault some x
-file_at file bytes fault some (inr (inl x)) = models_at file (last_line bytes) (models_in bytes) fault (x.2 some)
-file_at file bytes fault some (inr (inr x)) = design_at file (last_line bytes) (design_in bytes) fault (x.3 some)
+file_at : (file bytes : List ℕ) (fault : Fault) → RefusesFile file (last_line bytes) (models_in bytes) fault → IsAtLine file fault
+file_at file bytes fault (inl x) = names_at file (last_line bytes) (models_in bytes) fault x
+file_at file bytes fault (inr (inl x)) = models_at file (last_line bytes) (models_in bytes) fault x.2
+file_at file bytes fault (inr (inr x)) = design_at file (last_line bytes) (design_in bytes) fault x.3
 
 blif_at : (file bytes : List ℕ) (fault : Fault) → RefusesBlif file bytes fault → IsAtLine file fault
 blif_at file bytes fault (some, inl x) = (x.number, x.problem, x.is)
-blif_at file bytes fault (some, inr (inl x)) = file_at file bytes fault some x.1
+blif_at file bytes fault (some, inr (inl x)) = file_at file bytes fault x.1
 blif_at file bytes fault (some, inr (inr x)) =
     let named = x.5 in
     ((cover_at (netlist_in bytes) named.0).line, problems.Unsupported (cycle_words (netlist_in bytes) (named.0 ∷ named.1)), named.3)

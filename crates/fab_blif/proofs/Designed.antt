@@ -9,7 +9,7 @@ use Rattle.indexmap.specs.IndexSet.{insert_key, insert_all}
 use Rattle.fab_blif.specs.declared.design.Use.{Use}
 use Rattle.fab_blif.specs.Flat.{PlainNet, net_eq, Placed, placed_inputs, placed_outputs, placed_clock, copied_clock, placed_cover, placed_latch}
 use Rattle.fab_blif.specs.Design.{PlainDesign, named, number_in, uses, inputs_by, outputs_by, clock_ports_by, covers_by, latches_by, latch_lines, clocks_by, design_of}
-use Rattle.fab_blif.specs.Walk.{numbered, used_at, clocked, after, after_all, nothing}
+use Rattle.fab_blif.specs.inner.Walk.{numbered, used_at, clocked, after, after_all, nothing}
 
 -- ---- places in lists that grow
 

@@ -1,5 +1,5 @@
 -- A file with a netlist is not refused: each refusal contradicts what holds of such a file.
-use Rattle.std.proofs.Common.{◌≡◌, ◌≢◌, ◌⊎◌, ℕ, ◌<◌, ◌≤◌, List, ◌∷◌, length, Option, Some, None, inl, inr, refl, sym, ap, ◌∙◌, arith}
+use Rattle.std.proofs.Common.{◌≡◌, ◌≢◌, ℕ, ◌<◌, List, ◌∷◌, length, Option, Some, None, inl, inr, refl, sym, ap, ◌∙◌, arith}
 use Rattle.std.proofs.lemmas.Bool.{false≢true}
 use Rattle.fab_base.specs.declared.fault.Fault.{Fault}
 use Rattle.fab_base.specs.declared.fault.Fault.TheVariants as faults
@@ -7,13 +7,13 @@ use Rattle.fab_lines.specs.Joined.{joined_lines}
 use Rattle.fab_lines.specs.Order.{IsFine, IsFirstFault}
 use Rattle.fab_models.specs.Judge.{judge}
 use Rattle.fab_models.specs.Plain.{PlainModel}
-use Rattle.fab_blif.specs.Blif.{IsBlif, RefusesBlif, design_in, last_line, models_in}
-use Rattle.fab_instances.specs.Counting.{RefusesInstances}
+use Rattle.fab_lines.specs.Counts.{last_line}
+use Rattle.fab_blif.specs.Blif.{IsBlif, RefusesBlif, design_in, models_in}
 use Rattle.fab_blif.specs.Design.{PlainDesign}
-use Rattle.fab_blif.specs.Judged.{EachHasOne, undriven_line}
-use Rattle.fab_instances.specs.Order.{BreaksFormals, IsRecursive, IsUnknown, NamesDiffer, NoLine, RefusesFormals, RefusesNames, RefusesRecursive, RefusesUnknown}
-use Rattle.fab_instances.specs.Refusals.{AreFineModels}
-use Rattle.fab_blif.specs.Refusals.{IsFineDesign, RefusesClocks, RefusesDrivers, RefusesFile, RefusesNets, RefusesUndriven}
+use Rattle.fab_blif.specs.Judged.{undriven_line}
+use Rattle.fab_instances.specs.Order.{NamesDiffer, RefusesNames}
+use Rattle.fab_instances.specs.Refusals.{AreFineModels, RefusesModels}
+use Rattle.fab_blif.specs.Refusals.{IsFineDesign, RefusesDesign, RefusesFile}
 use Rattle.fab_blif.specs.Clocks.{clock_faults, first_fault}
 use Rattle.fab_blif.proofs.Drivers.{once_upto}
 
@@ -25,30 +25,18 @@ line_excluded file bytes fault fine told =
     let first = told.first in
     none_is_not_some (judge first.before first.line) told.problem (fine first.before first.line first.after first.parts) first.refused
 
-pub names_excluded : (file : List ℕ) (last : ℕ) (models : List PlainModel) (fault : Fault) → 0 < length models → NamesDiffer models → fault ≢ faults.Memory → RefusesNames file last models fault → ⊥
-names_excluded file last models fault some differ other refused =
-    elim (refused other) [
-      | inl none ↦ omega (arith, some, ap length none.0)
-      | inr twice ↦ false≢true (sym (differ twice.0 twice.1.within) ∙ twice.1.again)
-    ]
+pub names_excluded : (file : List ℕ) (last : ℕ) (models : List PlainModel) (fault : Fault) → 0 < length models → NamesDiffer models
+    → RefusesNames file last models fault → ⊥
+names_excluded file last models fault some differ (inl none) = omega (arith, some, ap length none.0)
+names_excluded file last models fault some differ (inr twice) = false≢true (sym (differ twice.0 twice.1.within) ∙ twice.1.again)
 
-pub models_excluded : (file : List ℕ) (last : ℕ) (models : List PlainModel) (fault : Fault) → AreFineModels models
-    → RefusesUnknown file models fault
-    ⊎ RefusesRecursive file models fault
-    ⊎ RefusesFormals file models fault
-    ⊎ (NoLine (IsUnknown models) × NoLine (IsRecursive models) × NoLine (BreaksFormals models) × RefusesInstances file last models fault)
-    → ⊥
+pub models_excluded : (file : List ℕ) (last : ℕ) (models : List PlainModel) (fault : Fault) → AreFineModels models → RefusesModels file last models fault → ⊥
 models_excluded file last models fault fine (inl unknown) = fine.known unknown.0 unknown.1 unknown.2.0
 models_excluded file last models fault fine (inr (inl recursive)) = fine.finite recursive.1.0 recursive.1.1 recursive.1.2.0
 models_excluded file last models fault fine (inr (inr (inl formals))) = fine.fits formals.2.0 formals.2.1 formals.2.2.0
 models_excluded file last models fault fine (inr (inr (inr many))) = omega (arith, fine.small, many.3.0)
 
-design_excluded : (file : List ℕ) (last : ℕ) (design : PlainDesign) (fault : Fault) → IsFineDesign design
-    → RefusesDrivers file design fault
-    ⊎ (EachHasOne design × RefusesUndriven file design fault)
-    ⊎ (EachHasOne design × (undriven_line design ≡ None) × RefusesNets file last design fault)
-    ⊎ (EachHasOne design × (undriven_line design ≡ None) × (length design.nets ≤ 16384) × RefusesClocks file design fault)
-    → ⊥
+design_excluded : (file : List ℕ) (last : ℕ) (design : PlainDesign) (fault : Fault) → IsFineDesign design → RefusesDesign file last design fault → ⊥
 design_excluded file last design fault fine (inl drivers) = once_upto design drivers.0 fine.once drivers.1
 design_excluded file last design fault fine (inr (inl undriven)) = none_is_not_some (undriven_line design) undriven.1.0 fine.driven undriven.1.1
 design_excluded file last design fault fine (inr (inr (inl many))) = omega (arith, fine.small, many.2.0)
@@ -56,14 +44,14 @@ design_excluded file last design fault fine (inr (inr (inr clocks))) = none_is_n
 
 -- a file whose models are flattened, and nothing is wrong with their design
 pub flat_excluded : (file bytes : List ℕ) (fault : Fault) → 0 < length (models_in bytes) → NamesDiffer (models_in bytes) → AreFineModels (models_in bytes) → IsFineDesign (design_in bytes)
-    → fault ≢ faults.Memory → RefusesFile file (last_line bytes) (models_in bytes) fault → ⊥
-flat_excluded file bytes fault some differ models design other (inl refused) = names_excluded file (last_line bytes) (models_in bytes) fault some differ other refused
-flat_excluded file bytes fault some differ models design other (inr (inl refused)) = models_excluded file (last_line bytes) (models_in bytes) fault models (refused.2 other)
-flat_excluded file bytes fault some differ models design other (inr (inr refused)) = design_excluded file (last_line bytes) (design_in bytes) fault design (refused.3 other)
+    → RefusesFile file (last_line bytes) (models_in bytes) fault → ⊥
+flat_excluded file bytes fault some differ models design (inl refused) = names_excluded file (last_line bytes) (models_in bytes) fault some differ refused
+flat_excluded file bytes fault some differ models design (inr (inl refused)) = models_excluded file (last_line bytes) (models_in bytes) fault models refused.2
+flat_excluded file bytes fault some differ models design (inr (inr refused)) = design_excluded file (last_line bytes) (design_in bytes) fault design refused.3
 
 pub not_refused : (file bytes : List ℕ) (fault : Fault) → IsBlif bytes → RefusesBlif file bytes fault → ⊥
 not_refused file bytes fault is (other, inl line) = line_excluded file bytes fault is.fine line
-not_refused file bytes fault is (other, inr (inl refused)) = flat_excluded file bytes fault is.some is.named is.models is.design other refused.1
+not_refused file bytes fault is (other, inr (inl refused)) = flat_excluded file bytes fault is.some is.named is.models is.design refused.1
 not_refused file bytes fault is (other, inr (inr cycle)) = let named = cycle.5 in is.acyclic (named.0 ∷ named.1) named.2.cycle
 
 -- so what is answered for such a file is no fault but want of memory

@@ -8,7 +8,8 @@ use Rattle.fab_models.specs.Judge.{judge}
 use Rattle.fab_models.specs.Plain.{PlainModel}
 use Rattle.fab_netlist.specs.Cycles.{HasNoCycle, NamesCycle}
 use Rattle.fab_netlist.specs.Plain.{PlainNetlist}
-use Rattle.fab_blif.specs.Blif.{IsBlif, RefusesBlif, last_line, models_in, netlist_in}
+use Rattle.fab_lines.specs.Counts.{last_line}
+use Rattle.fab_blif.specs.Blif.{IsBlif, RefusesBlif, models_in, netlist_in}
 use Rattle.fab_blif.specs.Design.{design_of}
 use Rattle.fab_blif.specs.Flat.{flat_lines}
 use Rattle.fab_instances.specs.Order.{NamesDiffer}
@@ -36,8 +37,9 @@ is_blif bytes models netlist read flat is acyclic =
     record { fine = read.fine; some = own.some; named = own.named; models = own.fine; design = own.design; acyclic = subst HasNoCycle is acyclic }
 
 pub models_refused : (file bytes : List ℕ) (models : List PlainModel) (fault : Fault) → IsRead bytes models
-    → RefusesFile file (last_line bytes) models fault → fault ≢ faults.Memory → RefusesBlif file bytes fault
-models_refused file bytes models fault read refused some = (some, inr (inl (read.fine, subst (λ (l : List PlainModel). RefusesFile file (last_line bytes) l fault) read.spelled refused)))
+    → (fault ≢ faults.Memory → RefusesFile file (last_line bytes) models fault) → fault ≢ faults.Memory → RefusesBlif file bytes fault
+models_refused file bytes models fault read refused some =
+    (some, inr (inl (read.fine, subst (λ (l : List PlainModel). RefusesFile file (last_line bytes) l fault) read.spelled (refused some))))
 
 pub cycle_refused : (file bytes : List ℕ) (models : List PlainModel) (netlist : PlainNetlist) (fault : Fault) → IsRead bytes models → IsFlat models
     → netlist ≡ netlist_in bytes → (fault ≡ faults.Memory) ⊎ NamesCycle file netlist fault → fault ≢ faults.Memory → RefusesBlif file bytes fault

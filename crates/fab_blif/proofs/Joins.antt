@@ -7,7 +7,7 @@ use Rattle.std.proofs.lemmas.Bool.{cases_Bool}
 use Rattle.indexmap.specs.IndexMap.{insert_entry, insert_all}
 use Rattle.fab_blif.specs.declared.net.Net.{Net}
 use Rattle.fab_blif.specs.Flat.{PlainNet, joined_or}
-use Rattle.fab_blif.specs.Walk.{plain_net, plain_joins}
+use Rattle.fab_blif.specs.inner.Walk.{plain_net, plain_joins}
 
 -- the joins after one more
 pub joins_of_insert : {A : Type 0} (entries : List (Vec ℕ A × Net)) (formal : Vec ℕ A) (net : Net) →

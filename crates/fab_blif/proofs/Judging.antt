@@ -14,7 +14,7 @@ use Rattle.fab_netlist.specs.Plain.{PlainCover}
 use Rattle.fab_blif.specs.declared.design.Use.{Use}
 use Rattle.fab_blif.specs.declared.judge.Driver.{Driver}
 use Rattle.fab_blif.specs.Judged.{drivers, drivers_in, input_uses, is_among, is_inner, is_of, is_port, is_second, latch_uses, tagged}
-use Rattle.fab_blif.specs.Walk.{used_at}
+use Rattle.fab_blif.specs.inner.Walk.{used_at}
 use Rattle.fab_blif.proofs.Counted.{count_first, count_joined}
 
 -- ---- sets of nets

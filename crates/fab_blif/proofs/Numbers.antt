@@ -11,7 +11,7 @@ use Rattle.fab_blif.specs.declared.design.ClockName.{ClockName}
 use Rattle.fab_blif.specs.declared.net.Net.{Net}
 use Rattle.fab_blif.specs.Flat.{PlainNet, net_eq}
 use Rattle.fab_blif.specs.Design.{number_in}
-use Rattle.fab_blif.specs.Walk.{plain_net, plain_nets, plain_clock, numbered}
+use Rattle.fab_blif.specs.inner.Walk.{plain_net, plain_nets, plain_clock, numbered}
 
 -- how keys are compared
 abbrev pub same_net : Net → Net → Bool

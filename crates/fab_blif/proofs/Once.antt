@@ -1,10 +1,9 @@
 -- A file has one first refusal, but where covers read one another round: then any cycle may be named.
-use Rattle.std.proofs.Common.{◌≡◌, ◌≢◌, ◌⊎◌, ℕ, ◌≤◌, List, [], codes, length, Option, Some, None, inl, inr, sym, ap, subst, ◌∙◌, arith}
+use Rattle.std.proofs.Common.{◌≡◌, ℕ, List, codes, length, Option, Some, None, inl, inr, sym, ap, subst, ◌∙◌, arith}
 use Rattle.std.proofs.lemmas.Bool.{cases_order, false≢true}
 use Rattle.fab_base.specs.Reading.{fault_at}
 use Rattle.fab_base.specs.Report.{number_of}
 use Rattle.fab_base.specs.declared.fault.Fault.{Fault}
-use Rattle.fab_base.specs.declared.fault.Fault.TheVariants as faults
 use Rattle.fab_base.specs.declared.problem.Problem.{Problem}
 use Rattle.fab_base.specs.declared.problem.Problem.TheVariants as problems
 use Rattle.fab_base.specs.declared.words.Reason.TheVariants as reasons
@@ -15,14 +14,15 @@ use Rattle.fab_models.specs.Judge.{judge}
 use Rattle.fab_models.specs.Plain.{PlainModel}
 use Rattle.fab_models.specs.Rules.{line_numbers}
 use Rattle.fab_models.proofs.LineOrder.{spelled_ascend}
-use Rattle.fab_instances.specs.Counting.{RefusesInstances}
-use Rattle.fab_instances.specs.Order.{BreaksFormals, IsFirstAgain, IsLeast, IsRecursive, IsUnknown, NoLine, RefusesFormals, RefusesRecursive, RefusesUnknown, construct, model_at}
+use Rattle.fab_instances.specs.Order.{BreaksFormals, IsFirstAgain, IsLeast, IsRecursive, IsUnknown, RefusesFormals, RefusesNames, RefusesRecursive, RefusesUnknown, construct, model_at}
+use Rattle.fab_instances.specs.Refusals.{RefusesModels}
 use Rattle.fab_blif.specs.declared.clocks.ClockFault.{ClockFault}
-use Rattle.fab_blif.specs.Blif.{RefusesBlif, TellOneRefusal, design_in, last_line, models_in}
+use Rattle.fab_lines.specs.Counts.{last_line}
+use Rattle.fab_blif.specs.Blif.{RefusesBlif, TellOneRefusal, design_in, models_in}
 use Rattle.fab_blif.specs.Clocks.{clock_faults, first_fault}
 use Rattle.fab_blif.specs.Design.{PlainDesign}
 use Rattle.fab_blif.specs.Judged.{EachHasOne, undriven_line}
-use Rattle.fab_blif.specs.Refusals.{IsSecondDriver, RefusesClocks, RefusesDrivers, RefusesFile, RefusesNets, RefusesUndriven, clock_problem}
+use Rattle.fab_blif.specs.Refusals.{IsSecondDriver, RefusesClocks, RefusesDesign, RefusesDrivers, RefusesFile, RefusesNets, RefusesUndriven, clock_problem}
 use Rattle.fab_blif.proofs.Excluded.{flat_excluded, line_excluded, models_excluded, names_excluded, none_is_not_some}
 use Rattle.fab_blif.proofs.Drivers.{once_upto}
 use Rattle.fab_blif.proofs.OneStatement.{Ascend, ascend, one_name}
@@ -39,13 +39,7 @@ first_again models a b x y = elim (cases_order a b) [
   | inr (inr more) ↦ absurd (false≢true (sym (x.first b more) ∙ y.again))
 ]
 
--- the refusal of names, where memory was not refused
-abbrev IsOfNames : (file : List ℕ) (last : ℕ) → List PlainModel → Fault → Type 0
-IsOfNames file last models fault =
-    ((models ≡ []) × (fault ≡ fault_at file last (problems.Malformed reasons.NoModel)))
-    ⊎ ((place : ℕ) × IsFirstAgain models place × (fault ≡ fault_at file (model_at models place).line (problems.Malformed reasons.NameTwice)))
-
-names_once : (file : List ℕ) (last : ℕ) (models : List PlainModel) (a b : Fault) → IsOfNames file last models a → IsOfNames file last models b → a ≡ b
+names_once : (file : List ℕ) (last : ℕ) (models : List PlainModel) (a b : Fault) → RefusesNames file last models a → RefusesNames file last models b → a ≡ b
 names_once file last models a b (inl x) (inl y) = x.1 ∙ sym y.1
 names_once file last models a b (inl x) (inr y) = absurd (omega (arith, ap length x.0, y.1.within))
 names_once file last models a b (inr x) (inl y) = absurd (omega (arith, ap length y.0, x.1.within))
@@ -81,13 +75,8 @@ module _ (file : List ℕ) (last : ℕ) (models : List PlainModel) (all : Ascend
       let line = least_once (BreaksFormals models) x.0 y.0 x.1 y.1 x.2 y.2 in
       x.3 ∙ ap (λ l. fault_at file l (problems.Malformed reasons.Formal)) line ∙ sym y.3
 
-  -- the refusal of models, where memory was not refused
   abbrev IsOfModels : Fault → Type 0
-  IsOfModels fault =
-      RefusesUnknown file models fault
-      ⊎ RefusesRecursive file models fault
-      ⊎ RefusesFormals file models fault
-      ⊎ (NoLine (IsUnknown models) × NoLine (IsRecursive models) × NoLine (BreaksFormals models) × RefusesInstances file last models fault)
+  IsOfModels fault = RefusesModels file last models fault
 
   unknown_alone : (a b : Fault) → RefusesUnknown file models a → IsOfModels b → a ≡ b
   unknown_alone a b x (inl y) = unknown_once a b x y
@@ -136,13 +125,8 @@ module _ (file : List ℕ) (last : ℕ) (design : PlainDesign) where
   clocks_once a b x y =
       x.2 ∙ ap (λ (told : ClockFault). fault_at file told.line (clock_problem told.wrong)) (some_is x.0 y.0 (first_fault (clock_faults design)) x.1 y.1) ∙ sym y.2
 
-  -- the refusal of a design, where memory was not refused
   abbrev IsOfDesign : Fault → Type 0
-  IsOfDesign fault =
-      RefusesDrivers file design fault
-      ⊎ (EachHasOne design × RefusesUndriven file design fault)
-      ⊎ (EachHasOne design × (undriven_line design ≡ None) × RefusesNets file last design fault)
-      ⊎ (EachHasOne design × (undriven_line design ≡ None) × (length design.nets ≤ 16384) × RefusesClocks file design fault)
+  IsOfDesign fault = RefusesDesign file last design fault
 
   drivers_alone : (a b : Fault) → RefusesDrivers file design a → IsOfDesign b → a ≡ b
   drivers_alone a b x (inl y) = drivers_refused_once a b x y
@@ -173,7 +157,7 @@ module _ (file : List ℕ) (last : ℕ) (design : PlainDesign) where
 
 -- ---- the models of a file
 
-module _ (file bytes : List ℕ) (fine : IsFine judge (joined_lines bytes)) (a b : Fault) (is_a : a ≢ faults.Memory) (is_b : b ≢ faults.Memory) where
+module _ (file bytes : List ℕ) (fine : IsFine judge (joined_lines bytes)) (a b : Fault) where
   all_ascend : Ascend (line_numbers (models_in bytes))
   all_ascend = ascend (line_numbers (models_in bytes)) (spelled_ascend (joined_lines bytes) fine).ascend
 
@@ -181,15 +165,15 @@ module _ (file bytes : List ℕ) (fine : IsFine judge (joined_lines bytes)) (a b
   IsOfFile fault = RefusesFile file (last_line bytes) (models_in bytes) fault
 
   file_once : IsOfFile a → IsOfFile b → a ≡ b
-  file_once (inl x) (inl y) = names_once file (last_line bytes) (models_in bytes) a b (x is_a) (y is_b)
-  file_once (inl x) (inr (inl y)) = absurd (names_excluded file (last_line bytes) (models_in bytes) a y.0 y.1 is_a x)
-  file_once (inl x) (inr (inr y)) = absurd (names_excluded file (last_line bytes) (models_in bytes) a y.0 y.1 is_a x)
-  file_once (inr (inl x)) (inl y) = absurd (names_excluded file (last_line bytes) (models_in bytes) b x.0 x.1 is_b y)
-  file_once (inr (inl x)) (inr (inl y)) = models_once file (last_line bytes) (models_in bytes) all_ascend a b (x.2 is_a) (y.2 is_b)
-  file_once (inr (inl x)) (inr (inr y)) = absurd (models_excluded file (last_line bytes) (models_in bytes) a y.2 (x.2 is_a))
-  file_once (inr (inr x)) (inl y) = absurd (names_excluded file (last_line bytes) (models_in bytes) b x.0 x.1 is_b y)
-  file_once (inr (inr x)) (inr (inl y)) = absurd (models_excluded file (last_line bytes) (models_in bytes) b x.2 (y.2 is_b))
-  file_once (inr (inr x)) (inr (inr y)) = design_once file (last_line bytes) (design_in bytes) a b (x.3 is_a) (y.3 is_b)
+  file_once (inl x) (inl y) = names_once file (last_line bytes) (models_in bytes) a b x y
+  file_once (inl x) (inr (inl y)) = absurd (names_excluded file (last_line bytes) (models_in bytes) a y.0 y.1 x)
+  file_once (inl x) (inr (inr y)) = absurd (names_excluded file (last_line bytes) (models_in bytes) a y.0 y.1 x)
+  file_once (inr (inl x)) (inl y) = absurd (names_excluded file (last_line bytes) (models_in bytes) b x.0 x.1 y)
+  file_once (inr (inl x)) (inr (inl y)) = models_once file (last_line bytes) (models_in bytes) all_ascend a b x.2 y.2
+  file_once (inr (inl x)) (inr (inr y)) = absurd (models_excluded file (last_line bytes) (models_in bytes) a y.2 x.2)
+  file_once (inr (inr x)) (inl y) = absurd (names_excluded file (last_line bytes) (models_in bytes) b x.0 x.1 y)
+  file_once (inr (inr x)) (inr (inl y)) = absurd (models_excluded file (last_line bytes) (models_in bytes) b x.2 y.2)
+  file_once (inr (inr x)) (inr (inr y)) = design_once file (last_line bytes) (design_in bytes) a b x.3 y.3
 
 -- ---- the file
 
@@ -198,10 +182,10 @@ refused_once file bytes a b (is_a, inl x) (is_b, inl y) = inl (fault_once x y)
 refused_once file bytes a b (is_a, inl x) (is_b, inr (inl y)) = absurd (line_excluded file bytes a y.0 x)
 refused_once file bytes a b (is_a, inl x) (is_b, inr (inr y)) = absurd (line_excluded file bytes a y.0 x)
 refused_once file bytes a b (is_a, inr (inl x)) (is_b, inl y) = absurd (line_excluded file bytes b x.0 y)
-refused_once file bytes a b (is_a, inr (inl x)) (is_b, inr (inl y)) = inl (file_once file bytes x.0 a b is_a is_b x.1 y.1)
-refused_once file bytes a b (is_a, inr (inl x)) (is_b, inr (inr y)) = absurd (flat_excluded file bytes a y.1 y.2 y.3 y.4 is_a x.1)
+refused_once file bytes a b (is_a, inr (inl x)) (is_b, inr (inl y)) = inl (file_once file bytes x.0 a b x.1 y.1)
+refused_once file bytes a b (is_a, inr (inl x)) (is_b, inr (inr y)) = absurd (flat_excluded file bytes a y.1 y.2 y.3 y.4 x.1)
 refused_once file bytes a b (is_a, inr (inr x)) (is_b, inl y) = absurd (line_excluded file bytes b x.0 y)
-refused_once file bytes a b (is_a, inr (inr x)) (is_b, inr (inl y)) = absurd (flat_excluded file bytes b x.1 x.2 x.3 x.4 is_b y.1)
+refused_once file bytes a b (is_a, inr (inr x)) (is_b, inr (inl y)) = absurd (flat_excluded file bytes b x.1 x.2 x.3 x.4 y.1)
 refused_once file bytes a b (is_a, inr (inr x)) (is_b, inr (inr y)) = inr (x.5, y.5)
 
 pub numbered_once : (file bytes : List ℕ) (a b : Fault) → RefusesBlif file bytes a → RefusesBlif file bytes b → number_of a ≡ number_of b

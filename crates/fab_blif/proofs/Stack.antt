@@ -6,8 +6,8 @@ use Rattle.fab_instances.specs.Places.{place_of_model, statements_of}
 use Rattle.fab_blif.specs.declared.walk.Frame.{Frame}
 use Rattle.fab_blif.specs.Flat.{PlainCopy, Placed, copy_in, lines_at, lines_by, lines_of, of_model, top_copy}
 use Rattle.fab_blif.specs.Design.{PlainDesign}
-use Rattle.fab_blif.specs.Walk.{after, after_all}
-use Rattle.fab_blif.specs.Frames.{deep_in, frame_lines, stack_lines, entered, new_frame, advanced, with_frames}
+use Rattle.fab_blif.specs.inner.Walk.{after, after_all}
+use Rattle.fab_blif.specs.inner.Frames.{deep_in, frame_lines, stack_lines, entered, new_frame, advanced, with_frames}
 
 module _ (models : List PlainModel) where
   -- the lines of a frame that is last come first

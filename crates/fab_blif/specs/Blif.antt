@@ -1,10 +1,10 @@
 -- BLIF files as netlists: when a file is one, and the first refusal of another.
-use Rattle.std.specs.Prelude.{◌≡◌, ◌≢◌, ◌⊎◌, ℕ, ◌<◌, List, length, max}
-use Rattle.std.specs.Str.Lines.{lines}
+use Rattle.std.specs.Prelude.{◌≡◌, ◌≢◌, ◌⊎◌, ℕ, ◌<◌, List, length}
 use Rattle.fab_base.specs.declared.fault.Fault.{Fault}
 use Rattle.fab_base.specs.declared.fault.Fault.TheVariants as faults
 use Rattle.fab_lines.specs.Joined.{joined_lines}
 use Rattle.fab_lines.specs.Order.{IsFine, IsFirstFault}
+use Rattle.fab_lines.specs.Counts.{last_line}
 use Rattle.fab_models.specs.Judge.{judge}
 use Rattle.fab_models.specs.Plain.{PlainModel}
 use Rattle.fab_models.specs.Spelled.{spelled}
@@ -26,10 +26,6 @@ design_in bytes = design_of (flat_lines (models_in bytes))
 
 abbrev pub netlist_in : (bytes : List ℕ) → PlainNetlist
 netlist_in bytes = flattened (models_in bytes)
-
--- Where what is wrong with a file as a whole is reported: the number of its lines, and 1 where it is empty.
-abbrev pub last_line : (bytes : List ℕ) → ℕ
-last_line bytes = max 1 (length (lines bytes))
 
 -- A file with a netlist: no line is refused; it has models, and no two of one name; nothing is wrong with those that the
 -- first one uses, nor with the nets and clocks that they flatten to; and no covers read one another round.

@@ -1,8 +1,7 @@
 pub mod Flat
 pub mod Design
-pub mod Walk
-pub mod Frames
 pub mod Judged
 pub mod Clocks
 pub mod Refusals
 pub mod Blif
+pub mod inner

@@ -1,9 +1,8 @@
 -- The refusals of a design, and those of the models of a file, in the order in which they are judged.
-use Rattle.std.specs.Prelude.{◌≡◌, ◌≢◌, ◌⊎◌, ℕ, ◌<◌, ◌≤◌, List, [], codes, length, nat_le, Some, None}
+use Rattle.std.specs.Prelude.{◌≡◌, ◌⊎◌, ℕ, ◌<◌, ◌≤◌, List, [], codes, length, nat_le, Some, None}
 use Rattle.std.specs.List.{filter}
 use Rattle.fab_base.specs.Reading.{fault_at}
 use Rattle.fab_base.specs.declared.fault.Fault.{Fault}
-use Rattle.fab_base.specs.declared.fault.Fault.TheVariants as faults
 use Rattle.fab_base.specs.declared.problem.Problem.{Problem}
 use Rattle.fab_base.specs.declared.problem.Problem.TheVariants as problems
 use Rattle.fab_base.specs.declared.words.Quantity.TheVariants as quantities
@@ -68,9 +67,9 @@ pub record IsFineDesign (design : PlainDesign) : Type 0 where
   pub small : length design.nets ≤ 16384
   pub clocks : clock_faults design ≡ []
 
--- The first refusal of a design, where memory was not refused.
+-- The first refusal of a design.
 abbrev pub RefusesDesign : (file : List ℕ) → (last_line : ℕ) → PlainDesign → Fault → Type 0
-RefusesDesign file last_line design fault = (fault ≢ faults.Memory) →
+RefusesDesign file last_line design fault =
     RefusesDrivers file design fault
     ⊎ (EachHasOne design × RefusesUndriven file design fault)
     ⊎ (EachHasOne design × (undriven_line design ≡ None) × RefusesNets file last_line design fault)

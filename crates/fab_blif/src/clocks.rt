@@ -8,7 +8,7 @@ ghost use Rattle.fab_blif.specs.Clocks.{clock_faults, clock_uses, data_faults, f
 ghost use Rattle.fab_blif.specs.Design.{number_in};
 ghost use Rattle.fab_blif.specs.Judged.{inner_drivers, is_among, is_driven, readers};
 ghost use Rattle.fab_blif.specs.Refusals.{RefusesClocks, clock_problem};
-ghost use Rattle.fab_blif.specs.Walk.{plain_clock, plain_net, plain_nets};
+ghost use Rattle.fab_blif.specs.inner.Walk.{plain_clock, plain_net, plain_nets};
 
 use crate::design::{ClockName, Design, Use};
 use crate::judge::{driven_nets, inner_drivers, is_among, nets_in, readers_of};

@@ -5,7 +5,7 @@ ghost use Rattle.indexmap.specs.IndexSet.{insert_all, insert_key};
 ghost use Rattle.fab_models.specs.Plain.{plain_body, plain_models};
 ghost use Rattle.fab_blif.specs.Design.{number_in};
 ghost use Rattle.fab_blif.specs.Flat.{net_eq, net_in, clock_at, if_top, lines_by, placed_inputs, placed_outputs};
-ghost use Rattle.fab_blif.specs.Walk.{plain_net, plain_nets, plain_clock, numbered, used_at, after_all, latch_next, with_control, with_cover, with_latch};
+ghost use Rattle.fab_blif.specs.inner.Walk.{plain_net, plain_nets, plain_clock, numbered, used_at, after_all, latch_next, with_control, with_cover, with_latch};
 
 use crate::model_copy::ModelCopy;
 use crate::net::Net;
@@ -52,7 +52,7 @@ pub(crate) struct Design {
 impl Model for Design {
     ghost use Rattle.std.specs.Prelude.{map};
     ghost use Rattle.fab_blif.specs.Design.{PlainDesign};
-    ghost use Rattle.fab_blif.specs.Walk.{plain_nets, plain_clock};
+    ghost use Rattle.fab_blif.specs.inner.Walk.{plain_nets, plain_clock};
 
     ghost Value = { PlainDesign };
 

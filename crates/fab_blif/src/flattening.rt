@@ -1,6 +1,7 @@
 //! Models become a netlist.
 
-ghost use Rattle.std.specs.Prelude.{◌≡◌, ◌<◌, ◌≤◌, Some, None, IfErr, IfOk, OnOk, length, map, option_and_then, position, slice_get};
+ghost use Rattle.std.specs.Prelude.{◌≡◌, ◌≢◌, ◌<◌, ◌≤◌, Some, None, IfErr, IfOk, OnOk, length, map, option_and_then, position, slice_get};
+ghost use Rattle.fab_base.specs.declared.fault.Fault.TheVariants as faults;
 ghost use Rattle.fab_models.specs.Plain.{plain_models};
 ghost use Rattle.fab_blif.specs.Design.{data_inputs, design_of, flattened, is_number, netlist_of};
 ghost use Rattle.fab_blif.specs.Flat.{flat_lines, net_eq};
@@ -10,8 +11,8 @@ ghost use Rattle.fab_netlist.specs.WellMade.{IsWellMade};
 ghost use Rattle.fab_instances.specs.Order.{NamesDiffer};
 ghost use Rattle.fab_instances.specs.Refusals.{AreFineModels};
 ghost use Rattle.fab_blif.specs.Refusals.{IsFineDesign, RefusesDesign, RefusesFile};
-ghost use Rattle.fab_models.specs.Keys.{key_names};
-ghost use Rattle.fab_blif.specs.Walk.{plain_nets, plain_clock};
+ghost use Rattle.fab_bits.specs.Keys.{key_names};
+ghost use Rattle.fab_blif.specs.inner.Walk.{plain_nets, plain_clock};
 
 use crate::clocks::refuse_clocks;
 use crate::design::{ClockName, Design, Use};
@@ -47,7 +48,7 @@ fn design_of(alloc: Global, models: &[Model], places: &IndexSet<Vec<u8>>) -> Res
 /// Refuses what is wrong with the nets of a design, in the order of the rules.
 fn refuse_design(alloc: Global, file: &Name, last_line: u32, design: &Design) -> Result<(), Fault>
     ensures fine { OnOk result (IsFineDesign design.now) }
-    ensures refused { IfErr result (RefusesDesign file.now last_line design.now) }
+    ensures refused { IfErr result (λ fault. (fault ≢ faults.Memory) → RefusesDesign file.now last_line design.now fault) }
 {
     refuse_drivers(alloc, file, design)?;
     refuse_undriven(alloc, file, design)?;
@@ -133,7 +134,7 @@ fn netlist_of(alloc: Global, design: Design) -> Result<Netlist, Memory>
 /// What breaks a rule is refused in the order of the rules: no model, two models of one name; and of the models that the
 /// first one uses, itself included, unknown models, recursive ones and formals that are no ports; instances above the limit;
 /// nets with two drivers, nets that are read and not driven, nets above the limit, and clocks. The models are as they are
-/// read: their lines are not judged again.
+/// read: their lines are not judged again. `Memory` comes where memory was refused.
 pub fn flatten(
     alloc: Global,
     file: &Name,
@@ -146,7 +147,7 @@ pub fn flatten(
     ensures fine { OnOk result (IsFineDesign (design_of (flat_lines (plain_models models.now)))) }
     ensures named { OnOk result ((0 < length models.now) × NamesDiffer (plain_models models.now)) }
     ensures models { OnOk result (AreFineModels (plain_models models.now)) }
-    ensures refused { IfErr result (RefusesFile file.now last_line (plain_models models.now)) }
+    ensures refused { IfErr result (λ fault. (fault ≢ faults.Memory) → RefusesFile file.now last_line (plain_models models.now) fault) }
 {
     let places = index_models(alloc, file, last_line, models)?;
     let design = design_of(alloc, models, &places)?;

@@ -5,7 +5,7 @@ ghost use Rattle.std.specs.Str.{bytes_eq};
 ghost use Rattle.indexmap.specs.IndexMap.{insert_all, insert_entry};
 ghost use Rattle.fab_blif.specs.Flat.{copy_in, net_in, join_in, joins_in, line_prefix, top_copy};
 ghost use Rattle.fab_instances.specs.Formals.{sides};
-ghost use Rattle.fab_blif.specs.Walk.{plain_net, plain_joins};
+ghost use Rattle.fab_blif.specs.inner.Walk.{plain_net, plain_joins};
 
 use crate::net::{Net, copy_of};
 use fab_base::{Memory, Name};
@@ -30,7 +30,7 @@ pub(crate) struct ModelCopy {
 
 impl Model for ModelCopy {
     ghost use Rattle.fab_blif.specs.Flat.{PlainCopy};
-    ghost use Rattle.fab_blif.specs.Walk.{plain_joins};
+    ghost use Rattle.fab_blif.specs.inner.Walk.{plain_joins};
 
     ghost Value = { PlainCopy };
 

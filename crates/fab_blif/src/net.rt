@@ -1,7 +1,7 @@
 //! Nets before they have numbers.
 
 ghost use Rattle.std.specs.Prelude.{◌≡◌, IfOk};
-ghost use Rattle.fab_blif.specs.Walk.{plain_net};
+ghost use Rattle.fab_blif.specs.inner.Walk.{plain_net};
 
 use fab_base::Memory;
 use std::alloc::Global;

@@ -4,9 +4,9 @@ ghost use Rattle.std.specs.Prelude.{◌≡◌, ◌<◌, ◌+◌, ◌-◌, ◌∷
 ghost use Rattle.fab_models.specs.Plain.{plain_body, plain_models, plain_statement};
 ghost use Rattle.fab_blif.specs.Flat.{flat_lines, lines_by};
 ghost use Rattle.fab_instances.specs.Places.{model_names, place_of_model, statements_of};
-ghost use Rattle.fab_blif.specs.Walk.{after_all};
-ghost use Rattle.fab_blif.specs.Frames.{advanced, entered, with_frames};
-ghost use Rattle.fab_models.specs.Keys.{key_names};
+ghost use Rattle.fab_blif.specs.inner.Walk.{after_all};
+ghost use Rattle.fab_blif.specs.inner.Frames.{advanced, entered, with_frames};
+ghost use Rattle.fab_bits.specs.Keys.{key_names};
 
 use crate::design::Design;
 use crate::model_copy::ModelCopy;

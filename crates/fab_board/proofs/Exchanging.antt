@@ -13,7 +13,7 @@ use Rattle.fab_board.specs.declared.board.Board.{Board}
 use Rattle.fab_board.specs.Spans.{spread, span_of}
 use Rattle.fab_board.specs.Measured.{IsNets, IsMeasured, numbers_of, items_of, item_count, no_span, width, widths}
 use Rattle.fab_board.specs.Boards.{site_count, site_after, exchanged, is_second, AreLoose, Keeps}
-use Rattle.fab_board.specs.Standing.{AreStanding, set_at}
+use Rattle.fab_board.specs.inner.Standing.{AreStanding, set_at}
 use Rattle.fab_board.proofs.Extremes.{span_same}
 use Rattle.fab_board.proofs.Kept.{set_set}
 

@@ -4,7 +4,7 @@ use Rattle.std.proofs.lemmas.Bool.{cases_eq, cases_Bool}
 use Rattle.fab_board.specs.declared.board.Board.{Board}
 use Rattle.fab_board.specs.declared.placement.Placement.{Placement}
 use Rattle.fab_board.specs.Boards.{IsBoard, IsPlaced, site_count, cost, exchanged, column, site_after, AreLoose, MayExchange, IsOptimal, Keeps, is_second, is_locked}
-use Rattle.fab_board.specs.Standing.{IsKept, AreStanding, Falls, IsTried}
+use Rattle.fab_board.specs.inner.Standing.{IsKept, AreStanding, Falls, IsTried}
 use Rattle.fab_board.proofs.Exchanging.{exchange_keeps, after_first, after_second, after_other, none_stands, same_item, true_false}
 use Rattle.fab_board.proofs.Laying.{laid_cost}
 

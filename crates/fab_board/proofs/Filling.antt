@@ -6,7 +6,7 @@ use Rattle.std.specs.List.{All, Contains, slice_get}
 use Rattle.fab_board.specs.declared.board.Board.{Board}
 use Rattle.fab_board.specs.Measured.{numbers_of}
 use Rattle.fab_board.specs.Boards.{IsPlaced, site_count, is_second, column, row}
-use Rattle.fab_board.specs.Standing.{lot_number}
+use Rattle.fab_board.specs.inner.Standing.{lot_number}
 use Rattle.fab_board.proofs.Exchanging.{some_same}
 
 -- ---- items of sites

@@ -10,7 +10,7 @@ use Rattle.fab_board.specs.declared.board.Board.{Board}
 use Rattle.fab_board.specs.declared.placement.Placement.{Placement}
 use Rattle.fab_board.specs.Measured.{IsNets, IsMeasured, HasMoved, AreNoted, undone}
 use Rattle.fab_board.specs.Boards.{IsBoard, site_count, cost, exchanged}
-use Rattle.fab_board.specs.Standing.{IsLaid, IsKept, AreStanding, set_at}
+use Rattle.fab_board.specs.inner.Standing.{IsLaid, IsKept, AreStanding, set_at}
 use Rattle.fab_board.proofs.Kept.{sum_low}
 use Rattle.fab_board.proofs.Exchanging.{places_at, exchanged_by, put_back_by, standing_after, measured_width}
 

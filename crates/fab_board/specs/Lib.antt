@@ -1,4 +1,4 @@
 pub mod Spans
 pub mod Measured
 pub mod Boards
-pub mod Standing
+pub mod inner

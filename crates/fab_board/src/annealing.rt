@@ -1,7 +1,7 @@
 //! Simulated annealing: random exchanges, of which those that raise the cost are taken the more seldom the colder it is.
 ghost use Rattle.std.specs.Prelude.{◌≡◌, ◌<◌, ◌≤◌, OnOk, IfSome, length, true};
 ghost use Rattle.fab_board.specs.Boards.{IsBoard, Keeps, site_count, is_second};
-ghost use Rattle.fab_board.specs.Standing.{IsKept, HasLots};
+ghost use Rattle.fab_board.specs.inner.Standing.{IsKept, HasLots};
 
 use crate::board::Board;
 use crate::lots::Lots;

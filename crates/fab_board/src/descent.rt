@@ -1,7 +1,7 @@
 //! Exchanges that lower the cost, until none does.
 ghost use Rattle.std.specs.Prelude.{◌≡◌, ℕ, ◌+◌, ◌-◌, ◌<◌, ◌≤◌, Bool, All, Contains, OnOk, length, slice_index, false};
 ghost use Rattle.fab_board.specs.Boards.{IsBoard, IsOptimal, site_count, cost, column, row, is_second, is_locked};
-ghost use Rattle.fab_board.specs.Standing.{IsKept, HasLots, Falls, IsTried};
+ghost use Rattle.fab_board.specs.inner.Standing.{IsKept, HasLots, Falls, IsTried};
 
 use crate::board::Board;
 use crate::lots::Lots;

@@ -2,7 +2,7 @@
 ghost use Rattle.std.specs.Prelude.{◌≡◌, ℕ, ◌≤◌, IfOk, [], length, slice_get};
 ghost use Rattle.fab_board.specs.Measured.{numbers_of};
 ghost use Rattle.fab_board.specs.Boards.{IsBoard};
-ghost use Rattle.fab_board.specs.Standing.{AreLots, HasLots, lots_of_kind, lot_number};
+ghost use Rattle.fab_board.specs.inner.Standing.{AreLots, HasLots, lots_of_kind, lot_number};
 
 use crate::board::Board;
 use std::alloc::{AllocError, Global};

@@ -2,7 +2,7 @@
 ghost use Rattle.std.specs.Prelude.{◌≡◌, ◌↔◌, ℕ, ◌+◌, ◌<◌, ◌≤◌, length, map, slice_index, slice_set, IfOk, OnOk, IfSome, IsTrue, All, [], true, false, Some};
 ghost use Rattle.fab_board.specs.Measured.{undone};
 ghost use Rattle.fab_board.specs.Boards.{IsBoard, IsPlaced, AreLoose, site_count, cost, exchanged, is_locked};
-ghost use Rattle.fab_board.specs.Standing.{IsLaid, IsKept, AreStanding, set_at};
+ghost use Rattle.fab_board.specs.inner.Standing.{IsLaid, IsKept, AreStanding, set_at};
 
 use crate::axis::Axis;
 use crate::board::Board;

@@ -15,7 +15,8 @@ use Rattle.fab_legal.specs.Lines.{IsRightLine, IsCell, IsInput, IsOutput, sites,
 use Rattle.fab_legal.specs.Nets.{net_of, IsRightStart, IsRightName, IsRightNet}
 use Rattle.fab_legal.specs.Sinks.{sinks}
 use Rattle.fab_legal.specs.Legal.{ArePlaced, NetsBeginRight, SinksStand}
-use Rattle.fab_legal.specs.Broken.{cell_text, site_text, net_text, IsWireText, IsFirstUnnamedCell, IsCellItem, wrong_line, unnamed, IsSiteItem, again, IsNamedBy, IsPortItem, wrong_in, wrong_out, unnamed_in, unnamed_out, IsConstraintItem, elsewhere, IsEdgeItem, IsNetItem, name, start, StandsInItsNet, IsSinkItem, IsSharedItem}
+use Rattle.fab_fabric.specs.Names.{site_text}
+use Rattle.fab_legal.specs.Broken.{cell_text, net_text, IsWireText, IsFirstUnnamedCell, IsCellItem, wrong_line, unnamed, IsSiteItem, again, IsNamedBy, IsPortItem, wrong_in, wrong_out, unnamed_in, unnamed_out, IsConstraintItem, elsewhere, IsEdgeItem, IsNetItem, name, start, StandsInItsNet, IsSinkItem, IsSharedItem}
 use Rattle.fab_legal.proofs.Lists.{wrong_not_right}
 use Rattle.fab_legal.proofs.SinkLaw.{sink_required}
 use Rattle.fab_broken.proofs.Firsts.{one_first, one_text}

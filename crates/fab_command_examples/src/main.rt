@@ -27,6 +27,7 @@ fn main(rt: HostRuntime) -> Result<(), Stop> {
         "cuts.cases",
         "refused.cases",
         "simulate.cases",
+        "sample.cases",
     ] {
         run_cases(alloc, &mut desk, &mut out, file)?;
     }

@@ -1,132 +1,23 @@
 -- Which fault ends a command: the first refusal is one, and where nothing is refused none but a device's or memory's comes.
-use Rattle.std.proofs.Common.{◌≡◌, ◌≢◌, ◌⊎◌, ◌<◌, ◌≤◌, ℕ, true, false, List, [], ◌∷◌, ◌++◌, Option, Some, None, refl, sym, ap, ◌∙◌, inl, inr, subst, arith, nat_eq}
+use Rattle.std.proofs.Common.{◌≡◌, ◌≢◌, ◌⊎◌, ◌<◌, ◌≤◌, ℕ, true, false, List, ◌∷◌, ◌++◌, Option, Some, None, refl, sym, ap, ◌∙◌, inl, inr, subst, arith, nat_eq}
 use Rattle.std.specs.List.{list_any}
 use Rattle.std.proofs.lemmas.Bool.{cases_Bool}
 use Rattle.std.proofs.lemmas.List.Folds.{list_any-append}
 use Rattle.fab_base.specs.declared.fault.Status.{Status}
 use Rattle.fab_base.specs.declared.fault.Fault.{Fault}
 use Rattle.fab_base.specs.declared.fault.Fault.TheVariants as faults
-use Rattle.fab_base.specs.Report.{number_of, status}
+use Rattle.fab_base.specs.Report.{number_of, report, status}
 use Rattle.fab_desk.specs.Files.{Map}
 use Rattle.fab_files.specs.Files.{refuses}
-use Rattle.fab_outputs.specs.Storing.{IsDone, Leaves}
-use Rattle.fab_outputs.specs.Ending.{IsRefused, HasCause, HasSearchCause}
-use Rattle.fab_flow.specs.Assembling.{assembly_files}
-use Rattle.fab_flow.specs.BitFeatures.{features_files}
-use Rattle.fab_flow.specs.Bits.{bits_files}
-use Rattle.fab_flow.specs.Flowing.{flow_files, FailsToFlow}
-use Rattle.fab_flow.specs.Mapping.{mapping_files, FailsToMap}
-use Rattle.fab_flow.proofs.AssembledOnce as assembling
-use Rattle.fab_flow.proofs.BitFeaturesOnce as features
-use Rattle.fab_flow.proofs.BitsOnce as bits
-use Rattle.fab_flow.proofs.FlowedOnce.{one_flow_number, flow_not_both}
-use Rattle.fab_flow.proofs.MappedOnce as mapping
-use Rattle.fab_flow.proofs.Once as generating
-use Rattle.fab_simulate.specs.Simulating.{simulation_files}
-use Rattle.fab_simulate.proofs.Behind.{ready_of}
-use Rattle.fab_simulate.proofs.SimulatedOnce as simulating
-use Rattle.fab_designs.specs.Designs.{design_files}
-use Rattle.fab_list_files.proofs.Once.{one_refusal, not_both}
+use Rattle.fab_outputs.specs.Storing.{Leaves}
+use Rattle.fab_outputs.specs.Ending.{IsRefused}
 use Rattle.fab_words.specs.declared.job.Job.{Job}
-use Rattle.fab_words.specs.declared.job.Job.TheVariants.{Matrix, Generate, Assemble, Map as Mapping, Flow, Bits, Features, Simulate}
-use Rattle.fab_commands.specs.Running.{Makes, Meets, IsReady, refusals, failures, HasJobCause, MayFail, Call, DoesJob, RefusesJob, IsJobReady, JobHasCause, JobLeaves, IsReported, IsOrMemory, answers, IsAnswered}
+use Rattle.fab_words.specs.declared.job.Job.TheVariants.{Matrix, Generate, Assemble, Map as Mapping, Flow, Bits, Features, Simulate, Sample}
+use Rattle.fab_commands.specs.Running.{Makes, Meets, IsReady, refusals, failures, HasJobCause, MayFail, Call, DoesJob, Puts, RefusesJob}
+use Rattle.fab_commands.specs.Running.{IsJobReady, WriteFailed, JobHasCause, JobLeaves, StandsBefore, IsPut, IsReported, IsOrMemory, answers, IsAnswered}
+use Rattle.fab_commands.proofs.Faulted.{Kind, done_ready, kind, not_refused, refused_once, memory, read, write, refused, failed}
 
--- ---- each command has one first refusal, or is ready
-
-refused_once : (job : Job) (files : Map) (a b : Fault) → Meets job files (refuses a) → Meets job files (refuses b) → number_of a ≡ number_of b
-refused_once (Matrix list out) files a b x y = ap number_of (one_refusal files list a b x y)
-refused_once (Generate fabric out) files a b x y = ap number_of (generating.one_refusal files fabric a b x y)
-refused_once (Assemble fabric blif pcf implementation base) files a b x y = assembling.one_number files (assembly_files fabric blif pcf implementation base) a b x y
-refused_once (Mapping fabric blif pcf seed rounds out) files a b x y = mapping.one_number files (mapping_files (design_files fabric blif pcf) out) a b x y
-refused_once (Flow fabric blif pcf seed rounds base) files a b x y = one_flow_number files (flow_files fabric blif pcf base) a b x y
-refused_once (Bits fabric fasm out) files a b x y = ap number_of (bits.one_refusal files (bits_files fabric fasm out) a b x y)
-refused_once (Features fabric bit out) files a b x y = ap number_of (features.one_refusal files (features_files fabric bit out) a b x y)
-refused_once (Simulate verilog bit state stimulus trace) files a b x y = ap number_of (simulating.one_refusal files (simulation_files verilog bit state stimulus trace) a b x y)
-
-not_refused : (job : Job) (files : Map) (fault : Fault) → IsReady job files → Meets job files (refuses fault) → ⊥
-not_refused (Matrix list out) files fault ready x = not_both files list ready.0 fault ready.1 x
-not_refused (Generate fabric out) files fault ready x = generating.not_both files fabric fault ready x
-not_refused (Assemble fabric blif pcf implementation base) files fault ready x = assembling.not_both files (assembly_files fabric blif pcf implementation base) fault ready x
-not_refused (Mapping fabric blif pcf seed rounds out) files fault ready x = mapping.not_both files (mapping_files (design_files fabric blif pcf) out) fault ready x
-not_refused (Flow fabric blif pcf seed rounds base) files fault ready x = flow_not_both files (flow_files fabric blif pcf base) fault ready x
-not_refused (Bits fabric fasm out) files fault ready x = bits.not_both files (bits_files fabric fasm out) fault ready x
-not_refused (Features fabric bit out) files fault ready x = features.not_both files (features_files fabric bit out) fault ready x
-not_refused (Simulate verilog bit state stimulus trace) files fault ready x = simulating.not_both files (simulation_files verilog bit state stimulus trace) fault ready x
-
--- what is done was ready
-done_ready : (job : Job) (files : Map) (told after : Option Map) → told ≡ Some files → IsDone (Makes job) told after → IsReady job files
-done_ready (Matrix list out) files told after is done = let made = (done.made files is).made in (made.pairs, made.spelled)
-done_ready (Generate fabric out) files told after is done = let made = (done.made files is).made in record { fabric = made.fabric; spelled = made.spelled; short = made.short }
-done_ready (Assemble fabric blif pcf implementation base) files told after is done =
-    let made = done.made files is in
-    record { design = made.design; implementation = made.implementation; spelled = made.spelled; implemented = made.implemented; fits = made.fits; legal = made.legal }
-done_ready (Mapping fabric blif pcf seed rounds out) files told after is done = let made = done.made files is in record { design = made.design; spelled = made.spelled; fits = made.fits }
-done_ready (Flow fabric blif pcf seed rounds base) files told after is done = let made = done.made files is in record { design = made.design; spelled = made.spelled; short = made.made.short; fits = made.fits }
-done_ready (Bits fabric fasm out) files told after is done =
-    let made = done.made files is in record { fabric = made.fabric; features = made.features; spelled = made.spelled; read = made.read; right = made.right }
-done_ready (Features fabric bit out) files told after is done = let made = done.made files is in record { fabric = made.fabric; bits = made.bits; spelled = made.spelled; read = made.read }
-done_ready (Simulate verilog bit state stimulus trace) files told after is done =
-    ready_of files (simulation_files verilog bit state stimulus trace) done.outputs (done.made files is)
-
--- ---- the fault behind an end
-
--- a refusal, a device that failed, memory, or a search that came to nothing
-data Kind (told : Option Map) (reads writes : Type 0) (job : Job) (fault : Fault) : Type 0 where
-  memory : fault ≡ faults.Memory → Kind told reads writes job fault
-  read : (number_of fault ≡ status 11) → reads → Kind told reads writes job fault
-  write : (number_of fault ≡ status 12) → writes → ((files : Map) → told ≡ Some files → IsReady job files) → Kind told reads writes job fault
-  refused : IsRefused told (Meets job) (refusals job) fault → Kind told reads writes job fault
-  failed : list_any (nat_eq (number_of fault).0) (failures job) ≡ true → ((files : Map) → told ≡ Some files → IsReady job files) → Kind told reads writes job fault
-
-kind_of : (told : Option Map) (reads writes : Type 0) (job : Job) (fault : Fault) → HasCause told reads writes (Meets job) (IsReady job) (refusals job) fault → Kind told reads writes job fault
-kind_of told reads writes job faults.Memory cause = memory refl
-kind_of told reads writes job (faults.ReadFault file) cause = read refl cause.0
-kind_of told reads writes job (faults.WriteFault file) cause = write refl cause.0 cause.1
-kind_of told reads writes job faults.Usage cause = refused cause
-kind_of told reads writes job (faults.Missing file) cause = refused cause
-kind_of told reads writes job (faults.TooLong file) cause = refused cause
-kind_of told reads writes job (faults.Malformed place reason) cause = refused cause
-kind_of told reads writes job (faults.Unsupported place construct) cause = refused cause
-kind_of told reads writes job (faults.Limit place quantity value bound) cause = refused cause
-kind_of told reads writes job (faults.Short kind need have) cause = refused cause
-kind_of told reads writes job (faults.NoPath net wire placement) cause = refused cause
-kind_of told reads writes job (faults.Overused wire first second placement) cause = refused cause
-kind_of told reads writes job (faults.Illegal rule item) cause = refused cause
-
--- the same of a command that searches
-search_kind : (told : Option Map) (reads writes : Type 0) (job : Job) (fails : Map → Fault → Type 0) → failures job ≡ 8 ∷ 9 ∷ [] → ((files : Map) (fault : Fault) → fails files fault → IsReady job files)
-    → (fault : Fault) → HasSearchCause told reads writes (Meets job) (IsReady job) fails (refusals job) fault → Kind told reads writes job fault
-search_kind told reads writes job fails own ready (faults.NoPath net wire text) cause = failed (ap (list_any (nat_eq 8)) own) (λ files is. ready files (faults.NoPath net wire text) (cause files is))
-search_kind told reads writes job fails own ready (faults.Overused wire first second text) cause = failed (ap (list_any (nat_eq 9)) own) (λ files is. ready files (faults.Overused wire first second text) (cause files is))
-search_kind told reads writes job fails own ready faults.Memory cause = kind_of told reads writes job faults.Memory cause
-search_kind told reads writes job fails own ready (faults.ReadFault file) cause = kind_of told reads writes job (faults.ReadFault file) cause
-search_kind told reads writes job fails own ready (faults.WriteFault file) cause = kind_of told reads writes job (faults.WriteFault file) cause
-search_kind told reads writes job fails own ready faults.Usage cause = kind_of told reads writes job faults.Usage cause
-search_kind told reads writes job fails own ready (faults.Missing file) cause = kind_of told reads writes job (faults.Missing file) cause
-search_kind told reads writes job fails own ready (faults.TooLong file) cause = kind_of told reads writes job (faults.TooLong file) cause
-search_kind told reads writes job fails own ready (faults.Malformed place reason) cause = kind_of told reads writes job (faults.Malformed place reason) cause
-search_kind told reads writes job fails own ready (faults.Unsupported place construct) cause = kind_of told reads writes job (faults.Unsupported place construct) cause
-search_kind told reads writes job fails own ready (faults.Limit place quantity value bound) cause = kind_of told reads writes job (faults.Limit place quantity value bound) cause
-search_kind told reads writes job fails own ready (faults.Short kind need have) cause = kind_of told reads writes job (faults.Short kind need have) cause
-search_kind told reads writes job fails own ready (faults.Illegal rule item) cause = kind_of told reads writes job (faults.Illegal rule item) cause
-
-map_ready : (files : Map) (fabric blif : List ℕ) (pcf : Option (List ℕ)) (rounds : ℕ) (out : List ℕ) (seed : ℕ) (fault : Fault) → FailsToMap files (mapping_files (design_files fabric blif pcf) out) rounds fault → IsReady (Mapping fabric blif pcf seed rounds out) files
-map_ready files fabric blif pcf rounds out seed fault fails = record { design = fails.design; spelled = fails.spelled; fits = fails.fits }
-
-flow_ready : (files : Map) (fabric blif : List ℕ) (pcf : Option (List ℕ)) (rounds : ℕ) (base : List ℕ) (seed : ℕ) (fault : Fault) → FailsToFlow files (flow_files fabric blif pcf base) rounds fault → IsReady (Flow fabric blif pcf seed rounds base) files
-flow_ready files fabric blif pcf rounds base seed fault fails = record { design = fails.design; spelled = fails.spelled; short = fails.short; fits = fails.fits }
-
-kind : (told : Option Map) (reads writes : Type 0) (job : Job) (fault : Fault) → HasJobCause job told reads writes fault → Kind told reads writes job fault
-kind told reads writes (Matrix list out) fault cause = kind_of told reads writes (Matrix list out) fault cause
-kind told reads writes (Generate fabric out) fault cause = kind_of told reads writes (Generate fabric out) fault cause
-kind told reads writes (Assemble fabric blif pcf implementation base) fault cause = kind_of told reads writes (Assemble fabric blif pcf implementation base) fault cause
-kind told reads writes (Mapping fabric blif pcf seed rounds out) fault cause =
-    search_kind told reads writes (Mapping fabric blif pcf seed rounds out) (λ files. FailsToMap files (mapping_files (design_files fabric blif pcf) out) rounds) refl (λ files f fails. map_ready files fabric blif pcf rounds out seed f fails) fault cause
-kind told reads writes (Flow fabric blif pcf seed rounds base) fault cause =
-    search_kind told reads writes (Flow fabric blif pcf seed rounds base) (λ files. FailsToFlow files (flow_files fabric blif pcf base) rounds) refl (λ files f fails. flow_ready files fabric blif pcf rounds base seed f fails) fault cause
-kind told reads writes (Bits fabric fasm out) fault cause = kind_of told reads writes (Bits fabric fasm out) fault cause
-kind told reads writes (Features fabric bit out) fault cause = kind_of told reads writes (Features fabric bit out) fault cause
-kind told reads writes (Simulate verilog bit state stimulus trace) fault cause = kind_of told reads writes (Simulate verilog bit state stimulus trace) fault cause
+-- ---- numbers
 
 no_such : (numbers : List ℕ) (n other : ℕ) → list_any (nat_eq other) numbers ≡ false → list_any (nat_eq n) numbers ≡ true → n ≢ other
 no_such numbers n other absent is same = absurd (let no : false ≡ true = sym absent ∙ subst (λ m. list_any (nat_eq m) numbers ≡ true) same is in cc)
@@ -140,7 +31,8 @@ refusals_lack (Mapping fabric blif pcf seed rounds out) = (refl, refl, refl, ref
 refusals_lack (Flow fabric blif pcf seed rounds base) = (refl, refl, refl, refl, refl)
 refusals_lack (Bits fabric fasm out) = (refl, refl, refl, refl, refl)
 refusals_lack (Features fabric bit out) = (refl, refl, refl, refl, refl)
-refusals_lack (Simulate verilog bit state stimulus trace) = (refl, refl, refl, refl, refl)
+refusals_lack (Simulate verilog bit state stimulus order trace) = (refl, refl, refl, refl, refl)
+refusals_lack (Sample size seed) = (refl, refl, refl, refl, refl)
 
 other_number : (job : Job) (n : ℕ) → list_any (nat_eq n) (refusals job) ≡ true → (n ≢ 0) × (n ≢ 1) × (n ≢ 11) × (n ≢ 12) × (n ≢ 13)
 other_number job n is =
@@ -156,7 +48,8 @@ failures_lack (Mapping fabric blif pcf seed rounds out) = (refl, refl, refl)
 failures_lack (Flow fabric blif pcf seed rounds base) = (refl, refl, refl)
 failures_lack (Bits fabric fasm out) = (refl, refl, refl)
 failures_lack (Features fabric bit out) = (refl, refl, refl)
-failures_lack (Simulate verilog bit state stimulus trace) = (refl, refl, refl)
+failures_lack (Simulate verilog bit state stimulus order trace) = (refl, refl, refl)
+failures_lack (Sample size seed) = (refl, refl, refl)
 
 other_failure : (job : Job) (n : ℕ) → list_any (nat_eq n) (failures job) ≡ true → (n ≢ 1) × (n ≢ 11) × (n ≢ 12)
 other_failure job n is =
@@ -209,6 +102,23 @@ left_as_was job told after (faults.NoPath net wire placement) n few is leaves = 
 left_as_was job told after (faults.Overused wire first second placement) n few is leaves = leaves
 left_as_was job told after (faults.Illegal rule item) n few is leaves = leaves
 left_as_was job told after (faults.ReadFault file) n few is leaves = leaves
+
+-- and a sample leaves them in any case
+job_left : (job : Job) (told after : Option Map) (fault : Fault) (n : ℕ) → n ≤ 11 → number_of fault ≡ status n → JobLeaves (Some job) told after fault
+    → after ≡ told
+job_left (Matrix list out) told after fault n few is leaves = left_as_was (Matrix list out) told after fault n few is leaves
+job_left (Generate fabric out) told after fault n few is leaves = left_as_was (Generate fabric out) told after fault n few is leaves
+job_left (Assemble fabric blif pcf implementation base) told after fault n few is leaves =
+    left_as_was (Assemble fabric blif pcf implementation base) told after fault n few is leaves
+job_left (Mapping fabric blif pcf seed rounds out) told after fault n few is leaves =
+    left_as_was (Mapping fabric blif pcf seed rounds out) told after fault n few is leaves
+job_left (Flow fabric blif pcf seed rounds base) told after fault n few is leaves =
+    left_as_was (Flow fabric blif pcf seed rounds base) told after fault n few is leaves
+job_left (Bits fabric fasm out) told after fault n few is leaves = left_as_was (Bits fabric fasm out) told after fault n few is leaves
+job_left (Features fabric bit out) told after fault n few is leaves = left_as_was (Features fabric bit out) told after fault n few is leaves
+job_left (Simulate verilog bit state stimulus order trace) told after fault n few is leaves =
+    left_as_was (Simulate verilog bit state stimulus order trace) told after fault n few is leaves
+job_left (Sample size seed) told after fault n few is leaves = leaves
 
 -- ---- what the status says
 
@@ -312,34 +222,70 @@ module _ (job : Job) (told after : Option Map) (reads writes : Type 0) (fault : 
 
 -- ---- the whole
 
--- the call that ended with a fault
-pub fault_answered : (call : Call) (fault : Fault) (answer : Status) → JobHasCause call.job call.told (call.reads < call.reads_after) (call.writes < call.writes_after) fault
-    → JobLeaves call.job call.told call.told_after fault → IsReported fault answer call.put call.put_after (call.failed < call.failed_after) → IsAnswered call answer
-fault_answered call fault answer cause leaves reported = record {
+-- what holds where the sink failed still does where it failed more often
+cause_later : (job : Option Job) (told : Option Map) (reads writes before after : Type 0) (fault : Fault) → (before → after)
+    → JobHasCause job told reads (WriteFailed job writes before) fault → JobHasCause job told reads (WriteFailed job writes after) fault
+cause_later None told reads writes before after fault more cause = cause
+cause_later (Some (Matrix list out)) told reads writes before after fault more cause = cause
+cause_later (Some (Generate fabric out)) told reads writes before after fault more cause = cause
+cause_later (Some (Assemble fabric blif pcf implementation base)) told reads writes before after fault more cause = cause
+cause_later (Some (Mapping fabric blif pcf seed rounds out)) told reads writes before after fault more cause = cause
+cause_later (Some (Flow fabric blif pcf seed rounds base)) told reads writes before after fault more cause = cause
+cause_later (Some (Bits fabric fasm out)) told reads writes before after fault more cause = cause
+cause_later (Some (Features fabric bit out)) told reads writes before after fault more cause = cause
+cause_later (Some (Simulate verilog bit state stimulus order trace)) told reads writes before after fault more cause = cause
+cause_later (Some (Sample size seed)) told reads writes before after fault more (inl lacks) = inl lacks
+cause_later (Some (Sample size seed)) told reads writes before after fault more (inr cut) = inr (more cut.0, cut.1)
+
+put_later : (old : List ℕ) (new : Option (List ℕ)) (text : List ℕ) (before after : Type 0) → (before → after) → IsPut old new text before
+    → IsPut old new text after
+put_later old new text before after more (inl whole) = inl whole
+put_later old new text before after more (inr part) = inr (more part.0, part.1)
+
+reported_later : (fault : Fault) (answer : Status) (old new : Option (List ℕ)) (before after : Type 0) → (before → after)
+    → IsReported fault answer old new before → IsReported fault answer old new after
+reported_later fault answer old new before after more (inl r) = inl (r.0, λ bytes is. put_later bytes new (report fault) before after more (r.1 bytes is))
+reported_later fault answer old new before after more (inr r) = inr r
+
+-- The call that ended with a fault: `between` is how many calls of the sink had failed when its report began, and `before` what was put by then.
+pub fault_answered : (call : Call) (fault : Fault) (answer : Status) (before : Option (List ℕ)) (between : ℕ) → call.failed ≤ between
+    → between ≤ call.failed_after
+    → JobHasCause call.job call.told (call.reads < call.reads_after) (WriteFailed call.job (call.writes < call.writes_after) (call.failed < between)) fault
+    → JobLeaves call.job call.told call.told_after fault → StandsBefore call.job fault call.put before
+    → IsReported fault answer before call.put_after (between < call.failed_after) → IsAnswered call answer
+fault_answered call fault answer before between first last as_caused leaves stands as_reported = record {
   done = λ zero. absurd (not_zero zero);
-  silent = λ zero. absurd (not_zero zero);
+  puts = λ zero. absurd (not_zero zero);
   kept = λ n _ few is. kept_in call.job n few is leaves;
-  explained = λ _. record { fault = fault; cause = cause; leaves = leaves; reported = reported };
+  explained = λ _. record { fault = fault; cause = cause; leaves = leaves; before = before; stands = stands; reported = reported };
   only_usage = λ is. only_usage_in call.job is cause;
   usage = λ none. usage_in call.job none cause;
   refuses = λ files first told meets calm. refuses_in call.job files first told meets (λ rose. omega (arith, calm, rose)) cause;
-  completes = λ files told ready calm still. completes_in call.job files told ready (λ rose. omega (arith, calm, rose)) (λ rose. omega (arith, still, rose)) cause;
+  completes = λ files told ready calm still. completes_in call.job files told ready (λ rose. omega (arith, calm, rose)) still cause;
   read_fault = λ is. read_in call.job is cause;
   write_fault = λ is. write_in call.job is cause;
   possible = possible_in call.job cause;
 }
   where
-    due : IsOrMemory answer (number_of fault)
-    due = status_is fault answer call.put call.put_after (call.failed < call.failed_after) reported
-
-    not_zero : answer ≡ status 0 → ⊥
-    not_zero zero = elim due [ inl d ↦ zero_is_none fault (sym d ∙ zero) | inr m ↦ (above 13 0 (omega arith) (sym m ∙ zero)) ]
-
     reads : Type 0
     reads = call.reads < call.reads_after
 
     writes : Type 0
-    writes = call.writes < call.writes_after
+    writes = WriteFailed call.job (call.writes < call.writes_after) (call.failed < call.failed_after)
+
+    cause : JobHasCause call.job call.told reads writes fault
+    cause = cause_later call.job call.told reads (call.writes < call.writes_after) (call.failed < between) (call.failed < call.failed_after) fault
+        (λ rose. omega (arith, rose, last)) as_caused
+
+    reported : IsReported fault answer before call.put_after (call.failed < call.failed_after)
+    reported = reported_later fault answer before call.put_after (between < call.failed_after) (call.failed < call.failed_after)
+        (λ rose. omega (arith, rose, first)) as_reported
+
+    due : IsOrMemory answer (number_of fault)
+    due = status_is fault answer before call.put_after (call.failed < call.failed_after) reported
+
+    not_zero : answer ≡ status 0 → ⊥
+    not_zero zero = elim due [ inl d ↦ zero_is_none fault (sym d ∙ zero) | inr m ↦ (above 13 0 (omega arith) (sym m ∙ zero)) ]
 
     of_words : (f : Fault) → (f ≡ faults.Usage) ⊎ (f ≡ faults.Memory) → IsOrMemory (number_of f) (status 1)
     of_words f (inl u) = inl (ap number_of u)
@@ -348,7 +294,7 @@ fault_answered call fault answer cause leaves reported = record {
     kept_in : (job : Option Job) (n : ℕ) → n ≤ 11 → answer ≡ status n → JobLeaves job call.told call.told_after fault → call.told_after ≡ call.told
     kept_in None n few is l = l
     kept_in (Some job) n few is l =
-        left_as_was job call.told call.told_after fault n few
+        job_left job call.told call.told_after fault n few
         (elim due [ inl d ↦ sym d ∙ is | inr m ↦ absurd (let same : n ≡ 13 = ap (λ (s : Status). s.0) (sym is ∙ m) in omega (arith, same, few)) ]) l
 
     only_usage_in : (job : Option Job) → answer ≡ status 1 → JobHasCause job call.told reads writes fault → job ≡ None
@@ -383,10 +329,10 @@ fault_answered call fault answer cause leaves reported = record {
     possible_in (Some job) c = job_possible job call.told call.told_after reads writes fault answer c due
 
 -- the call that did its job
-pub job_answered : (call : Call) → DoesJob call.job call.told call.told_after → call.put_after ≡ call.put → IsAnswered call (status 0)
-job_answered call done silent = record {
+pub job_answered : (call : Call) → DoesJob call.job call.told call.told_after → Puts call.job call.put call.put_after → IsAnswered call (status 0)
+job_answered call done puts = record {
   done = λ _. done;
-  silent = λ _. silent;
+  puts = λ _. puts;
   kept = λ n some _ is. absurd (let same : 0 ≡ n = ap (λ (s : Status). s.0) is in omega (arith, same, some));
   explained = λ other. absurd (other refl);
   only_usage = λ is. absurd (below 0 1 (omega arith) (is));

@@ -1,30 +1,31 @@
 -- What a call of the program does to the files, what it puts out, and why it ends otherwise.
-use Rattle.std.specs.Prelude.{◌≡◌, ◌≢◌, ◌⊎◌, ◌<◌, ◌≤◌, ℕ, true, List, [], ◌∷◌, ◌++◌, take, nat_eq, Option, Some, None}
+use Rattle.std.specs.Prelude.{◌≡◌, ◌≢◌, ◌⊎◌, ◌<◌, ◌≤◌, ℕ, true, List, [], ◌∷◌, ◌++◌, codes, take, nat_eq, Option, Some, None, option_map}
 use Rattle.std.specs.List.{list_any}
 use Rattle.std.specs.Option.{ForSome}
 use Rattle.fab_base.specs.declared.fault.Status.{Status}
 use Rattle.fab_base.specs.declared.fault.Fault.{Fault}
 use Rattle.fab_base.specs.declared.fault.Fault.TheVariants as faults
 use Rattle.fab_base.specs.Report.{number_of, report, status}
-use Rattle.fab_desk.specs.Files.{Map}
+use Rattle.fab_desk.specs.Files.{Map, PutsPart}
 use Rattle.fab_files.specs.Files.{Event, refuses}
 use Rattle.fab_designs.specs.Designs.{design_files}
 use Rattle.fab_outputs.specs.Storing.{PlainOutput, IsDone, Leaves}
-use Rattle.fab_flow.specs.Assembling.{assembly_files, MakesAssembly, MeetsAssembly, IsReadyToAssemble, HasAssembleCause, assemble_refusals}
-use Rattle.fab_flow.specs.BitFeatures.{features_files, MakesFeatures, MeetsBitFeatures, IsReadyForFeatures, HasFeaturesCause, features_refusals}
-use Rattle.fab_flow.specs.Bits.{bits_files, MakesBits, MeetsBits, IsReadyForBits, HasBitsCause, bits_refusals}
-use Rattle.fab_flow.specs.Generating.{MakesFabric, MeetsGenerate, IsReadyToGenerate, HasGenerateCause, generate_refusals}
-use Rattle.fab_flow.specs.Flowing.{flow_files, MakesFlow, MeetsFlow, IsReadyToFlow, HasFlowCause, flow_refusals}
-use Rattle.fab_flow.specs.Mapping.{mapping_files, MakesMapping, MeetsMapping, IsReadyToMap, HasMappingCause, map_refusals}
-use Rattle.fab_flow.specs.Matrix.{MakesMatrix, IsReadyForMatrix, HasMatrixCause, matrix_refusals}
-use Rattle.fab_simulate.specs.Simulating.{simulation_files, MakesTrace, MeetsSimulation, IsReadyToSimulate, HasSimulateCause, simulate_refusals}
+use Rattle.fab_sampling.specs.fab_flow.specs.Assembling.{assembly_files, MakesAssembly, MeetsAssembly, IsReadyToAssemble, HasAssembleCause, assemble_refusals}
+use Rattle.fab_sampling.specs.fab_flow.specs.BitFeatures.{features_files, MakesFeatures, MeetsBitFeatures, IsReadyForFeatures, HasFeaturesCause, features_refusals}
+use Rattle.fab_sampling.specs.fab_flow.specs.Bits.{bits_files, MakesBits, MeetsBits, IsReadyForBits, HasBitsCause, bits_refusals}
+use Rattle.fab_sampling.specs.fab_flow.specs.Generating.{MakesFabric, MeetsGenerate, IsReadyToGenerate, HasGenerateCause, generate_refusals}
+use Rattle.fab_sampling.specs.fab_flow.specs.Flowing.{flow_files, MakesFlow, MeetsFlow, IsReadyToFlow, HasFlowCause, flow_refusals}
+use Rattle.fab_sampling.specs.fab_flow.specs.Mapping.{mapping_files, MakesMapping, MeetsMapping, IsReadyToMap, HasMappingCause, map_refusals}
+use Rattle.fab_sampling.specs.fab_flow.specs.Matrix.{MakesMatrix, IsReadyForMatrix, HasMatrixCause, matrix_refusals}
+use Rattle.fab_sampling.specs.fab_simulate.specs.Simulating.{simulation_files, MakesTrace, MeetsSimulation, IsReadyToSimulate, HasSimulateCause, simulate_refusals}
+use Rattle.fab_sampling.specs.Sampling.{IsSummary}
 use Rattle.fab_list_files.specs.Sides.{MeetsPairs}
 use Rattle.fab_words.specs.declared.job.Job.{Job}
-use Rattle.fab_words.specs.declared.job.Job.TheVariants.{Matrix, Generate, Assemble, Map as Mapping, Flow, Bits, Features, Simulate}
+use Rattle.fab_words.specs.declared.job.Job.TheVariants.{Matrix, Generate, Assemble, Map as Mapping, Flow, Bits, Features, Simulate, Sample}
 
 -- ---- the commands
 
--- the outputs that a command makes of the files
+-- the outputs that a command makes of the files; a sample is made in memory, and none of it is stored
 abbrev pub Makes : Job → (files : Map) → List PlainOutput → Type 0
 Makes (Matrix list out) files outputs = MakesMatrix files list out outputs
 Makes (Generate fabric out) files outputs = MakesFabric files fabric out outputs
@@ -33,9 +34,10 @@ Makes (Mapping fabric blif pcf seed rounds out) files outputs = MakesMapping fil
 Makes (Flow fabric blif pcf seed rounds base) files outputs = MakesFlow files (flow_files fabric blif pcf base) rounds outputs
 Makes (Bits fabric fasm out) files outputs = MakesBits files (bits_files fabric fasm out) outputs
 Makes (Features fabric bit out) files outputs = MakesFeatures files (features_files fabric bit out) outputs
-Makes (Simulate verilog bit state stimulus trace) files outputs = MakesTrace files (simulation_files verilog bit state stimulus trace) outputs
+Makes (Simulate verilog bit state stimulus order trace) files outputs = MakesTrace files (simulation_files verilog bit state stimulus trace) order outputs
+Makes (Sample size seed) files outputs = outputs ≡ []
 
--- what it comes upon before anything is refused: files that it asks for, and its first refusal
+-- what it comes upon before anything is refused: files that it asks for, and its first refusal; a sample asks for none
 abbrev pub Meets : Job → (files : Map) → Event → Type 0
 Meets (Matrix list out) files event = MeetsPairs files list event
 Meets (Generate fabric out) files event = MeetsGenerate files fabric event
@@ -44,9 +46,10 @@ Meets (Mapping fabric blif pcf seed rounds out) files event = MeetsMapping files
 Meets (Flow fabric blif pcf seed rounds base) files event = MeetsFlow files (flow_files fabric blif pcf base) event
 Meets (Bits fabric fasm out) files event = MeetsBits files (bits_files fabric fasm out) event
 Meets (Features fabric bit out) files event = MeetsBitFeatures files (features_files fabric bit out) event
-Meets (Simulate verilog bit state stimulus trace) files event = MeetsSimulation files (simulation_files verilog bit state stimulus trace) event
+Meets (Simulate verilog bit state stimulus order trace) files event = MeetsSimulation files (simulation_files verilog bit state stimulus trace) event
+Meets (Sample size seed) files event = ⊥
 
--- nothing is refused
+-- nothing is refused; nothing of a sample ever is
 abbrev pub IsReady : Job → (files : Map) → Type 0
 IsReady (Matrix list out) files = IsReadyForMatrix files list
 IsReady (Generate fabric out) files = IsReadyToGenerate files fabric
@@ -55,7 +58,8 @@ IsReady (Mapping fabric blif pcf seed rounds out) files = IsReadyToMap files (ma
 IsReady (Flow fabric blif pcf seed rounds base) files = IsReadyToFlow files (flow_files fabric blif pcf base)
 IsReady (Bits fabric fasm out) files = IsReadyForBits files (bits_files fabric fasm out)
 IsReady (Features fabric bit out) files = IsReadyForFeatures files (features_files fabric bit out)
-IsReady (Simulate verilog bit state stimulus trace) files = IsReadyToSimulate files (simulation_files verilog bit state stimulus trace)
+IsReady (Simulate verilog bit state stimulus order trace) files = IsReadyToSimulate files (simulation_files verilog bit state stimulus trace)
+IsReady (Sample size seed) files = Unit {0}
 
 -- the numbers of the faults for which it refuses
 abbrev pub refusals : Job → List ℕ
@@ -66,7 +70,8 @@ refusals (Mapping fabric blif pcf seed rounds out) = map_refusals
 refusals (Flow fabric blif pcf seed rounds base) = flow_refusals
 refusals (Bits fabric fasm out) = bits_refusals
 refusals (Features fabric bit out) = features_refusals
-refusals (Simulate verilog bit state stimulus trace) = simulate_refusals
+refusals (Simulate verilog bit state stimulus order trace) = simulate_refusals
+refusals (Sample size seed) = []
 
 -- The numbers of the faults with which it may end though nothing is refused: a command that places and routes may find no path, or leave a wire shared.
 abbrev pub failures : Job → List ℕ
@@ -77,20 +82,25 @@ failures (Mapping fabric blif pcf seed rounds out) = 8 ∷ 9 ∷ []
 failures (Flow fabric blif pcf seed rounds base) = 8 ∷ 9 ∷ []
 failures (Bits fabric fasm out) = []
 failures (Features fabric bit out) = []
-failures (Simulate verilog bit state stimulus trace) = []
+failures (Simulate verilog bit state stimulus order trace) = []
+failures (Sample size seed) = []
 
--- why it ends with a fault
-abbrev pub HasJobCause : Job → (told : Option Map) → (reads_rose writes_rose : Type 0) → Fault → Type 0
-HasJobCause (Matrix list out) told reads_rose writes_rose fault = HasMatrixCause told list reads_rose writes_rose fault
-HasJobCause (Generate fabric out) told reads_rose writes_rose fault = HasGenerateCause told fabric reads_rose writes_rose fault
-HasJobCause (Assemble fabric blif pcf implementation base) told reads_rose writes_rose fault =
-    HasAssembleCause told (assembly_files fabric blif pcf implementation base) reads_rose writes_rose fault
-HasJobCause (Mapping fabric blif pcf seed rounds out) told reads_rose writes_rose fault = HasMappingCause told (mapping_files (design_files fabric blif pcf) out) rounds reads_rose writes_rose fault
-HasJobCause (Flow fabric blif pcf seed rounds base) told reads_rose writes_rose fault = HasFlowCause told (flow_files fabric blif pcf base) rounds reads_rose writes_rose fault
-HasJobCause (Bits fabric fasm out) told reads_rose writes_rose fault = HasBitsCause told (bits_files fabric fasm out) reads_rose writes_rose fault
-HasJobCause (Features fabric bit out) told reads_rose writes_rose fault = HasFeaturesCause told (features_files fabric bit out) reads_rose writes_rose fault
-HasJobCause (Simulate verilog bit state stimulus trace) told reads_rose writes_rose fault =
-    HasSimulateCause told (simulation_files verilog bit state stimulus trace) reads_rose writes_rose fault
+-- Why it ends with a fault. Of a sample memory is refused, or its summary is not put whole, which is told as the fault of a file whose name is a dash.
+abbrev pub HasJobCause : Job → (told : Option Map) → (reads_rose write_failed : Type 0) → Fault → Type 0
+HasJobCause (Matrix list out) told reads_rose write_failed fault = HasMatrixCause told list reads_rose write_failed fault
+HasJobCause (Generate fabric out) told reads_rose write_failed fault = HasGenerateCause told fabric reads_rose write_failed fault
+HasJobCause (Assemble fabric blif pcf implementation base) told reads_rose write_failed fault =
+    HasAssembleCause told (assembly_files fabric blif pcf implementation base) reads_rose write_failed fault
+HasJobCause (Mapping fabric blif pcf seed rounds out) told reads_rose write_failed fault =
+    HasMappingCause told (mapping_files (design_files fabric blif pcf) out) rounds reads_rose write_failed fault
+HasJobCause (Flow fabric blif pcf seed rounds base) told reads_rose write_failed fault =
+    HasFlowCause told (flow_files fabric blif pcf base) rounds reads_rose write_failed fault
+HasJobCause (Bits fabric fasm out) told reads_rose write_failed fault = HasBitsCause told (bits_files fabric fasm out) reads_rose write_failed fault
+HasJobCause (Features fabric bit out) told reads_rose write_failed fault = HasFeaturesCause told (features_files fabric bit out) reads_rose write_failed fault
+HasJobCause (Simulate verilog bit state stimulus order trace) told reads_rose write_failed fault =
+    HasSimulateCause told (simulation_files verilog bit state stimulus trace) reads_rose write_failed fault
+HasJobCause (Sample size seed) told reads_rose write_failed fault =
+    (fault ≡ faults.Memory) ⊎ (write_failed × (fault ≡ faults.WriteFault (codes "-")))
 
 -- ---- one call of the program
 
@@ -115,6 +125,17 @@ abbrev pub DoesJob : Option Job → (told after : Option Map) → Type 0
 DoesJob None told after = ⊥
 DoesJob (Some job) told after = IsDone (Makes job) told after
 
+-- a summary of the sample was put
+pub record PutsSummary (size seed : ℕ) (old new : Option (List ℕ)) : Type 0 where
+  pub text : List ℕ
+  pub summary : IsSummary size seed text
+  pub put : new ≡ option_map (λ before. before ++ text) old
+
+-- what is put: the summary of a sample, and nothing by any other job
+abbrev pub Puts : Option Job → (old new : Option (List ℕ)) → Type 0
+Puts (Some (Sample size seed)) old new = PutsSummary size seed old new
+Puts job old new = new ≡ old
+
 -- ---- any other status
 
 -- the words come first, then what the command comes upon
@@ -126,15 +147,37 @@ abbrev pub IsJobReady : Option Job → (files : Map) → Type 0
 IsJobReady None files = ⊥
 IsJobReady (Some job) files = IsReady job files
 
+-- which failed device 12 stands for: the sink, where the summary of a sample is put, and the desk for any other job
+abbrev pub WriteFailed : Option Job → (writes_rose put_failed : Type 0) → Type 0
+WriteFailed (Some (Sample size seed)) writes_rose put_failed = put_failed
+WriteFailed job writes_rose put_failed = writes_rose
+
 -- why a job ends with a fault
-abbrev pub JobHasCause : Option Job → (told : Option Map) → (reads_rose writes_rose : Type 0) → Fault → Type 0
-JobHasCause None told reads_rose writes_rose fault = (fault ≡ faults.Usage) ⊎ (fault ≡ faults.Memory)
-JobHasCause (Some job) told reads_rose writes_rose fault = HasJobCause job told reads_rose writes_rose fault
+abbrev pub JobHasCause : Option Job → (told : Option Map) → (reads_rose write_failed : Type 0) → Fault → Type 0
+JobHasCause None told reads_rose write_failed fault = (fault ≡ faults.Usage) ⊎ (fault ≡ faults.Memory)
+JobHasCause (Some job) told reads_rose write_failed fault = HasJobCause job told reads_rose write_failed fault
 
 -- and what it leaves
 abbrev pub JobLeaves : Option Job → (told after : Option Map) → Fault → Type 0
 JobLeaves None told after fault = after ≡ told
+JobLeaves (Some (Sample size seed)) told after fault = after ≡ told
 JobLeaves (Some job) told after fault = Leaves (Makes job) told after fault
+
+-- a front of a summary of the sample was put
+pub record PutsFront (size seed : ℕ) (old new : Option (List ℕ)) : Type 0 where
+  pub text : List ℕ
+  pub summary : IsSummary size seed text
+  pub part : PutsPart old new text
+
+-- what a sample has put when it ends with a fault: nothing, unless the sink failed at its summary
+abbrev pub SampleStands : (size seed : ℕ) → Fault → (old before : Option (List ℕ)) → Type 0
+SampleStands size seed (faults.WriteFault file) old before = PutsFront size seed old before
+SampleStands size seed fault old before = before ≡ old
+
+-- what stands before the report of a fault
+abbrev pub StandsBefore : Option Job → Fault → (old before : Option (List ℕ)) → Type 0
+StandsBefore (Some (Sample size seed)) fault old before = SampleStands size seed fault old before
+StandsBefore job fault old before = before ≡ old
 
 -- the text was appended, or a front of it where the sink failed
 abbrev pub IsPut : (old : List ℕ) (new : Option (List ℕ)) (text : List ℕ) (put_failed : Type 0) → Type 0
@@ -149,9 +192,12 @@ IsReported fault status old new put_failed =
 -- the one fault behind a status other than 0
 pub record IsExplained (call : Call) (answer : Status) : Type 0 where
   pub fault : Fault
-  pub cause : JobHasCause call.job call.told (call.reads < call.reads_after) (call.writes < call.writes_after) fault
+  pub cause : JobHasCause call.job call.told (call.reads < call.reads_after)
+      (WriteFailed call.job (call.writes < call.writes_after) (call.failed < call.failed_after)) fault
   pub leaves : JobLeaves call.job call.told call.told_after fault
-  pub reported : IsReported fault answer call.put call.put_after (call.failed < call.failed_after)
+  pub before : Option (List ℕ)
+  pub stands : StandsBefore call.job fault call.put before
+  pub reported : IsReported fault answer before call.put_after (call.failed < call.failed_after)
 
 -- the status is the one that is due, unless memory was refused
 abbrev pub IsOrMemory : Status → (due : Status) → Type 0
@@ -171,10 +217,11 @@ answers (Some job) = 0 ∷ 11 ∷ 12 ∷ 13 ∷ failures job ++ refusals job
 
 -- What holds of each call of the program and its status.
 pub record IsAnswered (call : Call) (answer : Status) : Type 0 where
-  -- with 0 exactly the outputs of the job are stored, and nothing is put out
+  -- with 0 exactly the outputs of the job are stored, and nothing is put out but the summary of a sample
   pub done : answer ≡ status 0 → DoesJob call.job call.told call.told_after
-  pub silent : answer ≡ status 0 → call.put_after ≡ call.put
-  -- with 1 to 11 the files are as before; with 12 the outputs before the one that failed stand, and with 13 the first ones, maybe none (`leaves` of `explained`)
+  pub puts : answer ≡ status 0 → Puts call.job call.put call.put_after
+  -- with 1 to 11 the files are as before; with 12 the outputs before the one that failed stand, and with 13 the first ones, maybe none (`leaves` of
+  -- `explained`)
   pub kept : (n : ℕ) → 1 ≤ n → n ≤ 11 → answer ≡ status n → call.told_after ≡ call.told
   -- with any other status than 0 there is one fault behind it, which has its cause and is reported
   pub explained : answer ≢ status 0 → IsExplained call answer
@@ -183,10 +230,12 @@ pub record IsAnswered (call : Call) (answer : Status) : Type 0 where
   pub usage : call.job ≡ None → IsOrMemory answer (status 1)
   -- Where no device fails, the first refusal is the answer. Where nothing is refused it is 0; or 8 or 9 of a command that places and routes, whose
   -- cause stands in `explained`.
-  pub refuses : (files : Map) (fault : Fault) → call.told ≡ Some files → RefusesJob call.job files fault → call.reads_after ≡ call.reads → IsOrMemory answer (number_of fault)
-  pub completes : (files : Map) → call.told ≡ Some files → IsJobReady call.job files → call.reads_after ≡ call.reads → call.writes_after ≡ call.writes → IsOrMemory answer (status 0) ⊎ MayFail call.job answer
-  -- 11 comes only where a read failed in this call, and 12 only where a write did
+  pub refuses : (files : Map) (fault : Fault) → call.told ≡ Some files → RefusesJob call.job files fault → call.reads_after ≡ call.reads
+      → IsOrMemory answer (number_of fault)
+  pub completes : (files : Map) → call.told ≡ Some files → IsJobReady call.job files → call.reads_after ≡ call.reads →
+      ¬ WriteFailed call.job (call.writes < call.writes_after) (call.failed < call.failed_after) → IsOrMemory answer (status 0) ⊎ MayFail call.job answer
+  -- 11 comes only where a read failed in this call, and 12 only where a write did, or the call of the sink that puts a summary
   pub read_fault : answer ≡ status 11 → call.reads < call.reads_after
-  pub write_fault : answer ≡ status 12 → call.writes < call.writes_after
+  pub write_fault : answer ≡ status 12 → WriteFailed call.job (call.writes < call.writes_after) (call.failed < call.failed_after)
   -- on any desk, also one that does not tell its files, a job ends with one of its own statuses
   pub possible : list_any (nat_eq answer.0) (answers call.job) ≡ true

@@ -1,28 +1,61 @@
 //! The commands, from the words to the status.
 
-ghost use Rattle.std.specs.Prelude.{◌≡◌, ◌<◌, ◌⊎◌, map, string_bytes, None, IfErr, OnOk, Err};
+ghost use Rattle.std.specs.Prelude.{◌≡◌, ◌<◌, ◌≤◌, ◌⊎◌, codes, map, string_bytes, IfErr, OnOk};
 ghost use Rattle.fab_base.specs.declared.fault.Fault.TheVariants as faults;
 ghost use Rattle.fab_words.specs.Words.{job_of};
-ghost use Rattle.fab_commands.specs.Running.{DoesJob, JobLeaves, JobHasCause, IsReported, IsAnswered};
+ghost use Rattle.fab_commands.specs.Running.{DoesJob, IsAnswered, IsReported, JobHasCause, JobLeaves, Puts, PutsSummary, SampleStands};
+ghost use Rattle.fab_commands.specs.Running.{StandsBefore, WriteFailed};
 
-use fab_base::{Fault, Memory, Status};
+use fab_base::{Fault, Memory, Name, Status};
 use fab_desk::{Desk, Sink, SinkFault};
-use fab_flow::{do_assemble, do_bits, do_features, do_flow, do_generate, do_map, do_matrix};
 use fab_progress::Progress;
-use fab_simulate::do_simulate;
+use fab_sampling::fab_flow::{
+    do_assemble, do_bits, do_features, do_flow, do_generate, do_map, do_matrix,
+};
+use fab_sampling::fab_simulate::do_simulate;
+use fab_sampling::summary;
 use fab_words::{Job, parse};
 use std::alloc::Global;
 
+/// Puts the summary of a sample. The name for the fault of a sink that fails is made first, so that there is memory for it.
+fn sum_up<P: Progress, S: Sink>(
+    alloc: Global,
+    progress: &mut P,
+    size: usize,
+    seed: u64,
+    out: &mut S,
+) -> Result<(), Fault>
+    requires least { 2 ≤ size }
+    requires most { size ≤ 16 }
+    ensures put { OnOk result (PutsSummary size seed (S.so_far out.old) (S.so_far out.new)) }
+    ensures stands { IfErr result (λ fault. SampleStands size seed fault (S.so_far out.old) (S.so_far out.new)) }
+    ensures cause { IfErr result (λ fault. (fault ≡ faults.Memory) ⊎ ((S.faults out.old < S.faults out.new) × (fault ≡ faults.WriteFault (codes "-")))) }
+    ensures faults { S.faults out.old ≤ S.faults out.new }
+{
+    let name = Name::of(alloc, b"-")?;
+    let text = summary(alloc, progress, size, seed)?;
+    match out.put(&text) {
+        Ok(()) => Ok(()),
+        Err(SinkFault::Failed) => Err(Fault::WriteFault(name)),
+        Err(SinkFault::Memory) => Err(Fault::Memory),
+    }
+}
+
 /// Does what the words ask for.
-fn perform<D: Desk, P: Progress>(
+fn perform<D: Desk, P: Progress, S: Sink>(
     alloc: Global,
     words: &[String],
     desk: &mut D,
     progress: &mut P,
+    out: &mut S,
 ) -> Result<(), Fault>
     ensures done { OnOk result (DoesJob (job_of (map string_bytes words.now)) (D.told desk.old) (D.told desk.new)) }
+    ensures puts { OnOk result (Puts (job_of (map string_bytes words.now)) (S.so_far out.old) (S.so_far out.new)) }
     ensures leaves { IfErr result (JobLeaves (job_of (map string_bytes words.now)) (D.told desk.old) (D.told desk.new)) }
-    ensures cause { IfErr result (JobHasCause (job_of (map string_bytes words.now)) (D.told desk.old) (D.reads desk.old < D.reads desk.new) (D.writes desk.old < D.writes desk.new)) }
+    ensures stands { IfErr result (λ fault. StandsBefore (job_of (map string_bytes words.now)) fault (S.so_far out.old) (S.so_far out.new)) }
+    ensures cause { IfErr result (JobHasCause (job_of (map string_bytes words.now)) (D.told desk.old) (D.reads desk.old < D.reads desk.new)
+        (WriteFailed (job_of (map string_bytes words.now)) (D.writes desk.old < D.writes desk.new) (S.faults out.old < S.faults out.new))) }
+    ensures faults { S.faults out.old ≤ S.faults out.new }
 {
     match parse(alloc, words)? {
         Job::Matrix(list, out) => do_matrix(alloc, desk, progress, &list, &out),
@@ -61,15 +94,17 @@ fn perform<D: Desk, P: Progress>(
         ),
         Job::Bits(fabric, fasm, out) => do_bits(alloc, desk, progress, &fabric, &fasm, &out),
         Job::Features(fabric, bit, out) => do_features(alloc, desk, progress, &fabric, &bit, &out),
-        Job::Simulate(verilog, bit, state, stimulus, trace) => do_simulate(
-            alloc, desk, progress, &verilog, &bit, &state, &stimulus, &trace,
+        Job::Simulate(verilog, bit, state, stimulus, order, trace) => do_simulate(
+            alloc, desk, progress, &verilog, &bit, &state, &stimulus, order, &trace,
         ),
+        Job::Sample(size, seed) => sum_up(alloc, progress, size, seed, out),
     }
 }
 
 /// Puts the report of a fault, and gives the status with which the command ends.
 fn report<S: Sink>(alloc: Global, fault: &Fault, out: &mut S) -> Status
-    ensures { IsReported fault.now result (S.so_far out.old) (S.so_far out.new) (S.faults out.old < S.faults out.new) }
+    ensures reported { IsReported fault.now result (S.so_far out.old) (S.so_far out.new) (S.faults out.old < S.faults out.new) }
+    ensures faults { S.faults out.old ≤ S.faults out.new }
 {
     if matches!(fault, Fault::Memory) {
         return Status(13);
@@ -83,13 +118,14 @@ fn report<S: Sink>(alloc: Global, fault: &Fault, out: &mut S) -> Status
     }
 }
 
-/// Runs the command that the words, without the program's name, spell.
+/// Runs the command that the words, without the program's name, spell. Where it is `sample`, its summary is put to `out`, and no
+/// file is read or stored.
 ///
 /// The status is 0, or the number of the fault, whose report is put to `out`: 1 for words that spell no command, 2 and
 /// 3 for a file of the words, or one that such a file names, that is absent or longer than `MAX_FILE_BYTES`, 4 to 6 for
 /// the first row that is refused, 6 for a generated text that is too long, 7 for a design for which the fabric has too
 /// few sites, 10 for an implementation that breaks a rule, 11 and 12 for a device that fails, and 13 for want of memory,
-/// which may come at any time.
+/// which may come at any time. Where `out` fails at a summary, a front of it stands before the report.
 pub fn run<D: Desk, P: Progress, S: Sink>(
     alloc: Global,
     words: &[String],
@@ -111,7 +147,7 @@ pub fn run<D: Desk, P: Progress, S: Sink>(
       failed_after = S.faults out.new;
     }) result }
 {
-    match perform(alloc, words, desk, progress) {
+    match perform(alloc, words, desk, progress, out) {
         Ok(()) => Status(0),
         Err(fault) => report(alloc, &fault, out),
     }

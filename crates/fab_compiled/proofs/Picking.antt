@@ -2,10 +2,9 @@
 use Rattle.std.proofs.Common.{◌≡◌, ℕ, suc, ◌+◌, ◌-◌, ◌*◌, ◌^◌, ◌<◌, ◌≤◌, Bool, false, List, [], ◌∷◌, ◌++◌, length, drop, slice_get, Option, None, Some, MatchOption, refl, sym, ap, ap₂, ◌∙◌, subst, arith}
 use Rattle.std.proofs.lemmas.List.{drop_more, length-drop}
 use Rattle.std.proofs.Math.ListN.{drop_of_length-le}
-use Rattle.fab_systems.specs.Ternary.{no, yes, unknown}
-use Rattle.fab_systems.specs.Ternary.{Tern as PlainTern}
-use Rattle.fab_tern.specs.Operators.{tern_at, agreed, evens, odds, entry}
-use Rattle.fab_tern.specs.Shown.{first_terns}
+use Rattle.fab_systems.specs.Ternary.{no, yes, unknown, Tern as PlainTern}
+use Rattle.fab_solutions.specs.fab_tern.specs.Operators.{tern_at, agreed, evens, odds, entry}
+use Rattle.fab_solutions.specs.fab_tern.specs.Shown.{first_terns}
 use Rattle.fab_ternary.specs.declared.Tern.{Tern}
 use Rattle.fab_compiled.specs.declared.leads.Lead.{Lead}
 use Rattle.fab_compiled.specs.declared.leads.Lead.TheVariants.{Known, Point, Own, Unmarked}
@@ -13,7 +12,7 @@ use Rattle.fab_compiled.specs.declared.picks.Table.{Table}
 use Rattle.fab_compiled.specs.declared.tree.Tree.{Tree, Bits}
 use Rattle.fab_compiled.specs.Trees.{tree_value, tree_width, IsMade}
 use Rattle.fab_compiled.specs.Leading.{PointTerns, AreAbove, AreMarked, IsMarked, RangeIsMarked, bit_under, Leads}
-use Rattle.fab_compiled.specs.Picks.{entries, evens_of, odds_of, index_under, picked, AreSame, IsAlike, IsPickedAlike, IsTableBelow, PickLeads}
+use Rattle.fab_compiled.specs.inner.Picks.{entries, evens_of, odds_of, index_under, picked, AreSame, IsAlike, IsPickedAlike, IsTableBelow, PickLeads}
 use Rattle.fab_compiled.proofs.Bits.{first_at}
 use Rattle.fab_compiled.proofs.Entries.{table, even_entries, odd_entries, entry_no, entry_yes, entry_open, entries_even, entries_odd, entries_room}
 use Rattle.fab_compiled.proofs.Evaluated.{table_is, low_of, high_of}

@@ -2,6 +2,11 @@ pub mod Terns
 pub mod Trees
 pub mod Evaluation
 pub mod Leading
-pub mod Picks
 pub mod Compiling
 pub mod Values
+pub mod inner
+pub use Rattle.fab_solutions.specs.fab_tern
+pub use Rattle.fab_values
+pub use Rattle.fab_equations
+pub use Rattle.fab_solutions.specs.fab_load_runs
+pub use Rattle.fab_solutions

@@ -5,7 +5,7 @@ ghost use Rattle.fab_compiled.specs.Trees.{tree_width, IsMade};
 ghost use Rattle.fab_compiled.specs.Terns.{IsView};
 ghost use Rattle.fab_compiled.specs.Evaluation.{IsWithin};
 ghost use Rattle.fab_compiled.specs.Leading.{Leads, OwnLeads, PointLeads};
-ghost use Rattle.fab_compiled.specs.Picks.{PickLeads};
+ghost use Rattle.fab_compiled.specs.inner.Picks.{PickLeads};
 
 use crate::evaluation::eval;
 use crate::marking::{unmarked, unmarked_of};

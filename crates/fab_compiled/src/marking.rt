@@ -4,7 +4,7 @@ ghost use Rattle.std.specs.Prelude.{◌≡◌, ◌+◌, ◌^◌, ◌<◌, ◌≤
 ghost use Rattle.fab_compiled.specs.Trees.{tree_width, IsMade};
 ghost use Rattle.fab_compiled.specs.Evaluation.{IsWithin};
 ghost use Rattle.fab_compiled.specs.Leading.{AreMarked, RangeIsMarked};
-ghost use Rattle.fab_compiled.specs.Picks.{IsAlike};
+ghost use Rattle.fab_compiled.specs.inner.Picks.{IsAlike};
 
 use crate::tree::Tree;
 

@@ -4,7 +4,7 @@ ghost use Rattle.std.specs.Prelude.{◌≡◌, ◌+◌, ◌*◌, ◌^◌, ◌<�
 ghost use Rattle.fab_compiled.specs.Trees.{tree_width, IsMade};
 ghost use Rattle.fab_compiled.specs.Terns.{IsView};
 ghost use Rattle.fab_compiled.specs.Evaluation.{IsWithin};
-ghost use Rattle.fab_compiled.specs.Picks.{evens_of, odds_of, AreSame, IsPickedAlike, IsTableBelow};
+ghost use Rattle.fab_compiled.specs.inner.Picks.{evens_of, odds_of, AreSame, IsPickedAlike, IsTableBelow};
 
 use crate::marking::unmarked_bit;
 use crate::operators::agreed;

@@ -16,7 +16,7 @@ use Rattle.fab_network.specs.declared.network.Source.{Source}
 use Rattle.fab_demand.specs.declared.search.Search.{Search}
 use Rattle.fab_demand.specs.Asked.{Asked, AsksMore, IsPossible}
 use Rattle.fab_demand.specs.Demand.{shown_of, IsAsked, IsKept, IsLooked, IsRegisterAsked}
-use Rattle.fab_demand.specs.Looking.{Finds}
+use Rattle.fab_demand.specs.inner.Looking.{Finds}
 use Rattle.fab_demand.specs.Search.{asked_of, left_of, unset_count, AreWaiting, Closes, HasRoom, IsKeeping, IsResting, IsSearching}
 use Rattle.fab_demand.proofs.Lists.{bool_there, get_other, get_within, mark_stays, not_both, unset_fewer}
 use Rattle.fab_demand.proofs.Steps.{keep_looked, keep_more, known_looked, known_more, led_looked, led_more, ring_enough}

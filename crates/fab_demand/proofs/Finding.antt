@@ -1,7 +1,6 @@
 -- What a look at a drive finds.
 use Rattle.std.proofs.Common.{◌≡◌, ◌≢◌, ℕ, Bool, true, false, List, Option, Some, refl, sym, ap, ap₂, ◌∙◌, subst, slice_get}
-use Rattle.fab_systems.specs.Ternary.{no, yes, unknown}
-use Rattle.fab_systems.specs.Ternary.{Tern as PlainTern}
+use Rattle.fab_systems.specs.Ternary.{no, yes, unknown, Tern as PlainTern}
 use Rattle.fab_ternary.specs.declared.Tern.{Tern}
 use Rattle.fab_tern.specs.Shown.{through}
 use Rattle.fab_compiled.specs.declared.leads.Lead.{Lead}
@@ -15,7 +14,7 @@ use Rattle.fab_network.specs.declared.network.Source.{Source}
 use Rattle.fab_network.specs.Leading.{LeadsTo}
 use Rattle.fab_network.specs.Network.{source_tern}
 use Rattle.fab_demand.specs.Demand.{IsClosed}
-use Rattle.fab_demand.specs.Looking.{lead_given, own_or_unmarked, Finds}
+use Rattle.fab_demand.specs.inner.Looking.{lead_given, own_or_unmarked, Finds}
 use Rattle.fab_demand.proofs.Lists.{index_is}
 
 -- the same of equal lists

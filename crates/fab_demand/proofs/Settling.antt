@@ -5,12 +5,11 @@ use Rattle.std.specs.List.{range_with_len}
 use Rattle.std.proofs.lemmas.Bool.{lt-ltb, ltb-true}
 use Rattle.std.proofs.lemmas.List.FromFn.{get_or-range_with_len, length-range_with_len}
 use Rattle.fab_systems.specs.System.{AreListed}
-use Rattle.fab_systems.specs.Ternary.{unknown, IsBelow, IsMonotone}
-use Rattle.fab_systems.specs.Ternary.{Tern as PlainTern}
+use Rattle.fab_systems.specs.Ternary.{unknown, IsBelow, IsMonotone, Tern as PlainTern}
 use Rattle.fab_systems.proofs.Order.{below_self, below_equal, below_both}
 use Rattle.fab_ternary.specs.declared.Tern.{Tern}
-use Rattle.fab_solutions.proofs.Demanded.{demanded_least}
-use Rattle.fab_solutions.proofs.Orders.{through_grows}
+use Rattle.fab_network.specs.fab_solutions.proofs.Demanded.{demanded_least}
+use Rattle.fab_network.specs.fab_solutions.proofs.Orders.{through_grows}
 use Rattle.fab_compiled.specs.declared.tree.Tree.{Tree}
 use Rattle.fab_compiled.specs.Leading.{PointTerns, AreAbove, IsMarked}
 use Rattle.fab_compiled.specs.Terns.{seen}
@@ -25,7 +24,7 @@ use Rattle.fab_network.specs.Solved.{asked_by, IsLeast}
 use Rattle.fab_network.proofs.Sources.{source_grows}
 use Rattle.fab_demand.specs.Asked.{Asked, DiffersInOwn, IsPossible}
 use Rattle.fab_demand.specs.Demand.{shown_of, GivesOwn, IsAsked, IsKept, Shows, ShowsLeast}
-use Rattle.fab_demand.specs.Cycles.{start_tern, IsSettled}
+use Rattle.fab_demand.specs.inner.Cycles.{start_tern, IsSettled}
 use Rattle.fab_demand.proofs.Lists.{bool_there, get_within, listed_or_not}
 
 -- ---- what a drive asks

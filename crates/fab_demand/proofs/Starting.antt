@@ -8,7 +8,7 @@ use Rattle.fab_ternary.specs.Terns.{plain_tern}
 use Rattle.fab_network.specs.declared.network.Network.{Network}
 use Rattle.fab_network.specs.Passes.{kept_tern, EachListed, IsListed}
 use Rattle.fab_network.proofs.Kept.{kept_other, kept_same}
-use Rattle.fab_demand.specs.Cycles.{start_tern}
+use Rattle.fab_demand.specs.inner.Cycles.{start_tern}
 
 pub kept_read : (terns : List Tern) (k : ℕ) (d : Tern) → k < length terns → plain_tern (slice_index_or terns k d) ≡ kept_tern terns k
 kept_read [] k d l = absurd (omega arith)

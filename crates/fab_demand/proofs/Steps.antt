@@ -3,8 +3,7 @@ use Rattle.std.proofs.Common.{◌≡◌, ◌⊎◌, ℕ, ◌<◌, Bool, true, fa
 use Rattle.std.proofs.Common.{length-append, slice_get, slice_set, slice_index}
 use Rattle.std.proofs.lemmas.Bool.{cases_eq, cases_lt}
 use Rattle.std.proofs.lemmas.List.{append-nil, length-set}
-use Rattle.fab_systems.specs.Ternary.{known, unknown, IsBelow}
-use Rattle.fab_systems.specs.Ternary.{Tern as PlainTern}
+use Rattle.fab_systems.specs.Ternary.{known, unknown, IsBelow, Tern as PlainTern}
 use Rattle.fab_systems.proofs.Order.{below_equal, below_trans}
 use Rattle.fab_ternary.specs.declared.Tern.{Tern}
 use Rattle.fab_ternary.specs.Terns.{plain_tern, is_known}
@@ -20,11 +19,10 @@ use Rattle.fab_network.specs.Solved.{Solves}
 use Rattle.fab_network.proofs.Kept.{kept_same, kept_other, known_below, rising_set}
 use Rattle.fab_demand.specs.Asked.{Asked, AsksMore, IsPossible}
 use Rattle.fab_demand.specs.Demand.{shown_of, IsDecided, IsKept, IsLooked, StandsForItself}
-use Rattle.fab_demand.specs.Looking.{Finds}
+use Rattle.fab_demand.specs.inner.Looking.{Finds}
 use Rattle.fab_demand.proofs.Growing.{Grows, kept_before}
 use Rattle.fab_demand.proofs.Closing.{Closing, closed_looked}
-use Rattle.fab_demand.proofs.Lists.{bool_there, get_within, index_last, index_left, listed_either, listed_last, listed_left, not_both}
-use Rattle.fab_demand.proofs.Lists.{set_index_other, set_index_same}
+use Rattle.fab_demand.proofs.Lists.{bool_there, get_within, index_last, index_left, listed_either, listed_last, listed_left, not_both, set_index_other, set_index_same}
 
 known_is : (b : Bool) → is_known (known b) ≡ true
 known_is true = refl

@@ -1,6 +1,5 @@
 pub mod Asked
 pub mod Demand
-pub mod Looking
 pub mod Search
-pub mod Cycles
 pub mod Laws
+pub mod inner

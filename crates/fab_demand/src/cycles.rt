@@ -5,7 +5,7 @@ ghost use Rattle.fab_ternary.specs.Terns.{plain_tern};
 ghost use Rattle.fab_compiled.specs.Terns.{IsView};
 ghost use Rattle.fab_network.specs.Network.{AreFit};
 ghost use Rattle.fab_network.specs.Passes.{kept_tern, AreOwn, EachListed, IsListed};
-ghost use Rattle.fab_demand.specs.Cycles.{start_tern, IsSettled};
+ghost use Rattle.fab_demand.specs.inner.Cycles.{start_tern, IsSettled};
 
 use fab_network::{Drive, Network, settle};
 use fab_ternary::Tern;

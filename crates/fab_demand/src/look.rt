@@ -8,7 +8,7 @@ ghost use Rattle.fab_compiled.specs.declared.leads.Lead.TheVariants.{Own};
 ghost use Rattle.fab_network.specs.declared.network.Drive.TheVariants.{Flop, Hold};
 ghost use Rattle.fab_network.specs.Network.{AreFit, IsFitDrive, IsFitSource};
 ghost use Rattle.fab_network.specs.Passes.{kept_tern};
-ghost use Rattle.fab_demand.specs.Looking.{lead_given, own_or_unmarked, Finds};
+ghost use Rattle.fab_demand.specs.inner.Looking.{lead_given, own_or_unmarked, Finds};
 
 use fab_compiled::{Lead, Tree, View};
 use fab_network::{Clock, Drive, Network, Source, lead_of_source};

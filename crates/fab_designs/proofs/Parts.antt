@@ -1,21 +1,18 @@
 -- What is read of each file, put together.
-use Rattle.std.proofs.Common.{◌≡◌, ◌≢◌, ◌<◌, ℕ, List, [], length, All, Result, Ok, Err, IfOk, OnOk, sym, subst}
-use Rattle.std.proofs.lemmas.List.Elements.{All-weaker}
+use Rattle.std.proofs.Common.{◌≡◌, ◌≢◌, ℕ, List, [], Result, Ok, Err, IfOk, OnOk, sym, subst}
 use Rattle.fab_base.specs.declared.fault.Fault.{Fault}
 use Rattle.fab_desk.specs.Files.{Map}
 use Rattle.fab_files.specs.Files.{handed_out}
 use Rattle.fab_files.specs.Stages.{ReadsFrom}
 use Rattle.fab_model.specs.Grid.{PlainFabric}
 use Rattle.fab_netlist.specs.Plain.{PlainNetlist}
-use Rattle.fab_netlist.specs.declared.net_id.NetId.TheVariants as ids
 use Rattle.fab_fabric.specs.declared.wire.Site.{Site}
-use Rattle.fab_implementation.specs.Plain.{PlainTree, PlainImplementation}
-use Rattle.fab_legal.specs.Nets.{InputsAreLines}
+use Rattle.fab_implementation.specs.Plain.{PlainImplementation}
 use Rattle.fab_texts.specs.Rows.{Word, rows_of}
 use Rattle.fab_fabric.proofs.Samples.{no_pairs}
 use Rattle.fab_blif.specs.Blif.{IsBlif, netlist_in}
 use Rattle.fab_state.specs.Constraints.{AreFixings}
-use Rattle.fab_impl.specs.Spelled.{InputsWithin, IsInput, Says, Spells}
+use Rattle.fab_impl.specs.Spelled.{Says, Spells}
 use Rattle.fab_impl.proofs.Spelled.{whole_spells}
 use Rattle.fab_designs.specs.Designs.{SpellsNetlist}
 use Rattle.fab_designs.specs.Implementations.{SpellsImplementation}
@@ -39,10 +36,3 @@ none_fixed fabric ports = record {
 pub said_is_spelled : (fabric : PlainFabric) (bytes : List ℕ) (it : PlainImplementation) → Says fabric (rows_of bytes) it → SpellsImplementation fabric bytes it
 said_is_spelled fabric bytes it says =
     record { lines = subst (Spells fabric (rows_of bytes)) (sym says.1) (whole_spells fabric (rows_of bytes) says.0); says = says }
-
--- the net of an input is that of one of the lines that name inputs
-is_line : (inputs number : ℕ) (tree : PlainTree) → IsInput inputs tree.net → tree.net ≡ ids.In number → number < inputs
-is_line inputs number tree within is = rw is at within
-
-pub inputs_are_lines : (it : PlainImplementation) → InputsWithin it → All (InputsAreLines it) it.trees
-inputs_are_lines it within = All-weaker (λ (tree : PlainTree). IsInput (length it.ins) tree.net) (InputsAreLines it) (λ tree has number is. is_line (length it.ins) number tree has is) it.trees within

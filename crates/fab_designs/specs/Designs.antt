@@ -7,7 +7,8 @@ use Rattle.fab_netlist.specs.Plain.{PlainNetlist}
 use Rattle.fab_implementation.specs.Plain.{Pad}
 use Rattle.fab_lines.specs.Order.{IsTextFault}
 use Rattle.fab_texts.specs.Rows.{rows_of}
-use Rattle.fab_files.specs.Files.{Event, last_line}
+use Rattle.fab_lines.specs.Counts.{last_line}
+use Rattle.fab_files.specs.Files.{Event}
 use Rattle.fab_files.specs.Stages.{ReadsFrom, MeetsIn, ReadsIfNamed, MeetsBehind}
 use Rattle.fab_read.specs.Fabrics.{SpellsFabric, MeetsFabric}
 use Rattle.fab_blif.specs.Blif.{IsBlif, RefusesBlif, netlist_in}

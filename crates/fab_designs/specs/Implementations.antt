@@ -6,7 +6,8 @@ use Rattle.fab_model.specs.Grid.{PlainFabric}
 use Rattle.fab_implementation.specs.Plain.{PlainImplementation}
 use Rattle.fab_lines.specs.Order.{IsTextFault}
 use Rattle.fab_texts.specs.Rows.{rows_of}
-use Rattle.fab_files.specs.Files.{Event, last_line}
+use Rattle.fab_lines.specs.Counts.{last_line}
+use Rattle.fab_files.specs.Files.{Event}
 use Rattle.fab_files.specs.Stages.{ReadsFrom, MeetsIn}
 use Rattle.fab_impl.specs.Spelled.{Spells, Says, implementation_format}
 

@@ -7,7 +7,7 @@ ghost use Rattle.fab_files.specs.Files.{HasReadCause};
 ghost use Rattle.fab_files.specs.Stages.{ReadsFrom};
 ghost use Rattle.fab_implementation.specs.Plain.{PlainImplementation};
 ghost use Rattle.fab_implementation.specs.OnFabric.{IsOnFabric};
-ghost use Rattle.fab_legal.specs.Nets.{InputsAreLines};
+ghost use Rattle.fab_implementation.specs.Inputs.{InputsAreLines};
 ghost use Rattle.fab_texts.specs.Rows.{rows_of};
 ghost use Rattle.fab_impl.specs.Spelled.{Spells};
 ghost use Rattle.fab_designs.specs.Implementations.{ReadsImplementation, MeetsImplementation};
@@ -31,7 +31,7 @@ fn read<D: Desk>(
     ensures reads { D.reads desk.old ≤ D.reads desk.new }
     ensures spelled { ForSome (D.told desk.old) (λ files. IfOk result (ReadsImplementation files file.now fabric.now)) }
     ensures on_fabric { IfOk result (IsOnFabric fabric.now) }
-    ensures lines { IfOk result (λ it. All (InputsAreLines it) it.trees) }
+    ensures lines { IfOk result (λ it. InputsAreLines it) }
     ensures cause { IfErr result (HasReadCause (D.told desk.old) (D.reads desk.old < D.reads desk.new) (λ files. MeetsImplementation files file.now fabric.now)) }
 {
     let bytes = fetch(alloc, desk, file)?;
@@ -55,10 +55,9 @@ pub fn read_implementation<D: Desk>(
     ensures complete { ForSome (D.told desk.old) (λ files. (it : PlainImplementation) → ReadsFrom files file.now (λ bytes. Spells fabric.now (rows_of bytes)) it
         → D.reads desk.new ≡ D.reads desk.old → IsOkUnless result faults.Memory) }
     ensures on_fabric { IfOk result (IsOnFabric fabric.now) }
-    ensures lines { IfOk result (λ it. All (InputsAreLines it) it.trees) }
+    ensures lines { IfOk result (λ it. InputsAreLines it) }
     ensures cause { IfErr result (HasReadCause (D.told desk.old) (D.reads desk.old < D.reads desk.new) (λ files. MeetsImplementation files file.now fabric.now)) }
 {
-    // what holds of every fabric is a clause of this call
-    let _types = fabric.types();
+    fabric.is_well_made();
     read(alloc, desk, file, fabric)
 }

@@ -7,15 +7,15 @@ use Rattle.std.proofs.lemmas.Slice.Eq.{bytes_eq-Decides}
 use Rattle.std.proofs.lemmas.List.Elements.{All-nil, All-cons, All-head, All-tail, All-append, All-map, All-weaker, Contains-append_right}
 use Rattle.fab_syntax.specs.declared.tree.Shape.TheVariants.{Scalar, Vector}
 use Rattle.fab_syntax.specs.Plain.{PlainItem, wire, reg, assign, latch, clocked, instance}
-use Rattle.fab_meaning.specs.Points.{Found, instance_named}
-use Rattle.fab_model.specs.Rows.{is_jump}
-use Rattle.fab_model.specs.declared.tiles.WireRow.{WireRow}
-use Rattle.fab_model.specs.Tiles.{PlainTile, counted}
-use Rattle.fab_model.specs.Grid.{PlainFabric, tile_at}
-use Rattle.fab_fabric.specs.Names.{place_name}
-use Rattle.fab_fabric.specs.Fabric.{IsFabric}
-use Rattle.fab_gen_tile.specs.Names.{tile_module_name}
-use Rattle.fab_gen_tile.specs.Borders.{side_border}
+use Rattle.fab_fabric_text.specs.fab_meaning.specs.Points.{Found, instance_named}
+use Rattle.fab_fabric_text.specs.fab_model.specs.Rows.{is_jump}
+use Rattle.fab_fabric_text.specs.fab_model.specs.declared.tiles.WireRow.{WireRow}
+use Rattle.fab_fabric_text.specs.fab_model.specs.Tiles.{PlainTile, counted}
+use Rattle.fab_fabric_text.specs.fab_model.specs.Grid.{PlainFabric, tile_at}
+use Rattle.fab_fabric_text.specs.fab_fabric.specs.Names.{place_name}
+use Rattle.fab_fabric_text.specs.fab_fabric.specs.Fabric.{IsFabric}
+use Rattle.fab_fabric_text.specs.fab_gen_tile.specs.Names.{tile_module_name}
+use Rattle.fab_fabric_text.specs.fab_gen_tile.specs.Borders.{side_border}
 use Rattle.fab_fabric_text.specs.Names.{loader_instance_name, address_name, strobe_name, row_name, column_strobe_name, begin_wire_name}
 use Rattle.fab_fabric_text.specs.Places.{PlacedTile, placed_tiles}
 use Rattle.fab_fabric_text.specs.Top.{loader_wires, loader_instance, column_strobes, row_begin_wires, tile_begin_wires, tile_joins, tile_instance, top_items}

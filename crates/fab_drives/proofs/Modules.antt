@@ -10,19 +10,21 @@ use Rattle.fab_kinds.specs.declared.kind.Kind.{Kind}
 use Rattle.fab_kinds.specs.declared.kind.Kind.TheVariants as kinds
 use Rattle.fab_syntax.specs.Plain.{PlainModule}
 use Rattle.fab_syntax.specs.Declarations.{module_named}
-use Rattle.fab_meaning.specs.Points.{last_of, module_at}
-use Rattle.fab_prim.specs.Modules.{module_name, module_of_kind}
-use Rattle.fab_model.specs.declared.tiles.Bel.{Bel}
-use Rattle.fab_model.specs.Tiles.{PlainTile, tile_bits}
-use Rattle.fab_model.specs.Grid.{PlainFabric, tile_at, numbered_type}
-use Rattle.fab_fabric.specs.Fabric.{IsFabric}
-use Rattle.fab_gen_tile.specs.Names.{config_module_name, matrix_module_name, tile_module_name}
-use Rattle.fab_gen_tile.specs.TileModule.{tile_module, matrix_outputs}
-use Rattle.fab_gen_tile.specs.ConfigModule.{config_module}
-use Rattle.fab_gen_tile.specs.MatrixModule.{matrix_module}
-use Rattle.fab_fabric_text.specs.Names.{top_module_name, loader_module_name}
+use Rattle.fab_fabric_text.specs.fab_meaning.specs.Points.{last_of, module_at}
+use Rattle.fab_fabric_text.specs.fab_prim.specs.Modules.{module_name, module_of_kind}
+use Rattle.fab_fabric_text.specs.fab_model.specs.declared.tiles.Bel.{Bel}
+use Rattle.fab_fabric_text.specs.fab_model.specs.Tiles.{PlainTile, tile_bits}
+use Rattle.fab_fabric_text.specs.fab_model.specs.Grid.{PlainFabric, tile_at, numbered_type}
+use Rattle.fab_fabric_text.specs.fab_fabric.specs.Fabric.{IsFabric}
+use Rattle.fab_fabric_text.specs.fab_gen_tile.specs.Names.{config_module_name, matrix_module_name, tile_module_name}
+use Rattle.fab_fabric_text.specs.fab_gen_tile.specs.TileModule.{tile_module, matrix_outputs}
+use Rattle.fab_fabric_text.specs.fab_gen_tile.specs.ConfigModule.{config_module}
+use Rattle.fab_fabric_text.specs.fab_gen_tile.specs.MatrixModule.{matrix_module}
+use Rattle.fab_fabric_text.specs.fab_gen_loader.specs.Loader.{loader_module_name}
+use Rattle.fab_fabric_text.specs.Names.{top_module_name}
 use Rattle.fab_fabric_text.specs.Top.{top_module}
-use Rattle.fab_fabric_text.specs.Text.{stands, standing_types, same_kind, is_used, used_kinds, matrix_modules, config_modules, tile_modules, fabric_text}
+use Rattle.fab_fabric_text.specs.fab_fabric.specs.Sites.{same_kind}
+use Rattle.fab_fabric_text.specs.Text.{stands, standing_types, is_used, used_kinds, matrix_modules, config_modules, tile_modules, fabric_text}
 use Rattle.fab_tile_drives.proofs.Endings.{all_flat_map}
 use Rattle.fab_tile_drives.proofs.Members.{contains_first, contains_map, contains_at}
 use Rattle.fab_drives.proofs.Lists.{none_there, first_or_later, contains_flat, contains_kept, contains_numbered, all_numbered, all_of, only_one_found}

@@ -3,16 +3,16 @@ use Rattle.std.proofs.Common.{◌≡◌, ℕ, ◌<◌, true, false, List, [], �
 use Rattle.std.specs.List.{flat_map, enumerate_from}
 use Rattle.std.proofs.lemmas.List.Elements.{Contains-append_left, Contains-append_right}
 use Rattle.fab_syntax.specs.Plain.{PlainJoin, variable}
-use Rattle.fab_meaning.specs.Runs.{user_clock_name}
-use Rattle.fab_prim.specs.Ports.{top_name, top_inputs, top_outputs}
-use Rattle.fab_model.specs.declared.tiles.WireRow.{WireRow}
-use Rattle.fab_model.specs.declared.tiles.Bel.{Bel}
-use Rattle.fab_model.specs.Rows.{is_jump}
-use Rattle.fab_model.specs.Tiles.{counted}
-use Rattle.fab_model.specs.Grid.{PlainFabric}
-use Rattle.fab_model.specs.Cascade.{previous_row}
-use Rattle.fab_gen_tile.specs.Names.{frame_data_name, frame_strobe_name, begin_name, end_name, pad_name, joined, same_join}
-use Rattle.fab_gen_tile.specs.Borders.{side_border}
+use Rattle.fab_fabric_text.specs.fab_meaning.specs.Runs.{user_clock_name}
+use Rattle.fab_fabric_text.specs.fab_prim.specs.Ports.{top_name, top_inputs, top_outputs}
+use Rattle.fab_fabric_text.specs.fab_model.specs.declared.tiles.WireRow.{WireRow}
+use Rattle.fab_fabric_text.specs.fab_model.specs.declared.tiles.Bel.{Bel}
+use Rattle.fab_fabric_text.specs.fab_model.specs.Rows.{is_jump}
+use Rattle.fab_fabric_text.specs.fab_model.specs.Tiles.{counted}
+use Rattle.fab_fabric_text.specs.fab_model.specs.Grid.{PlainFabric}
+use Rattle.fab_fabric_text.specs.fab_model.specs.Cascade.{previous_row}
+use Rattle.fab_fabric_text.specs.fab_gen_tile.specs.Names.{frame_data_name, frame_strobe_name, begin_name, end_name, pad_name, joined, same_join}
+use Rattle.fab_fabric_text.specs.fab_gen_tile.specs.Borders.{side_border}
 use Rattle.fab_fabric_text.specs.Names.{row_name, column_strobe_name, pad_port_name, begin_wire_name}
 use Rattle.fab_fabric_text.specs.Places.{PlacedTile}
 use Rattle.fab_fabric_text.specs.Top.{end_value, numbered_row, row_joins, pad_joins, tile_joins}

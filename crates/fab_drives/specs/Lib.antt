@@ -1,3 +1,11 @@
 pub mod Points
 pub mod Drives
 pub mod Examples
+pub use Rattle.fab_fabric_text.specs.fab_matrix
+pub use Rattle.fab_fabric_text.specs.fab_prim
+pub use Rattle.fab_fabric_text.specs.fab_model
+pub use Rattle.fab_fabric_text.specs.fab_fabric
+pub use Rattle.fab_fabric_text.specs.fab_gen_tile
+pub use Rattle.fab_tile_drives
+pub use Rattle.fab_fabric_text.specs.fab_gen_loader
+pub use Rattle.fab_fabric_text

@@ -9,9 +9,9 @@ use Rattle.std.specs.Str.{bytes_eq}
 use Rattle.fab_syntax.specs.Declarations.{module_named}
 use Rattle.fab_syntax.specs.Plain.{PlainModule}
 use Rattle.fab_syntax.specs.Sound.{refusals, mentions_in, text_refusals, InstanceFits, InstancesFitBehind, IsSound}
-use Rattle.fab_meaning.specs.Points.{Path}
-use Rattle.fab_meaning.proofs.Declared.{bytes_apart}
-use Rattle.fab_meaning.proofs.Dependence.{same_name}
+use Rattle.fab_values.specs.fab_meaning.specs.Points.{Path}
+use Rattle.fab_values.specs.fab_meaning.proofs.Declared.{bytes_apart}
+use Rattle.fab_values.specs.fab_meaning.proofs.Dependence.{same_name}
 use Rattle.fab_equations.specs.Instances.{instances_within, instances_named}
 use Rattle.fab_equations.specs.Counting.{total_among, instances_count}
 

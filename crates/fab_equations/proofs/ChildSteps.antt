@@ -20,7 +20,7 @@ use Rattle.fab_equations.specs.Instances.{in_64_bits}
 use Rattle.fab_equations.specs.Counting.{instances_count, count_or_none}
 use Rattle.fab_equations.specs.Children.{Child, children, modules_before, instances_of_children}
 use Rattle.fab_equations.specs.Tables.{firsts_from, InputsAreJoined, IsChildTable}
-use Rattle.fab_equations.specs.Building.{Spot, AreDriven, AreJoined, IsInstance, AreJoinedSoFar, IsItem, IsInside, IsBefore}
+use Rattle.fab_equations.specs.inner.Building.{Spot, AreDriven, AreJoined, IsInstance, AreJoinedSoFar, IsItem, IsInside, IsBefore}
 use Rattle.fab_equations.specs.declared.counts.Count.{Count}
 use Rattle.fab_equations.specs.declared.tables.LocalDriver.{LocalDriver}
 use Rattle.fab_equations.specs.declared.tables.ChildTable.{ChildTable}

@@ -15,14 +15,14 @@ use Rattle.fab_syntax.specs.declared.tree.Port.{Port}
 use Rattle.fab_syntax.specs.declared.tree.Shape.TheVariants.{Scalar}
 use Rattle.fab_syntax.specs.Plain.{PlainExpr, variable, constant, pick, part, concatenation, complement, operation, conditional, PlainJoin, instance, PlainModule, plain_expr}
 use Rattle.fab_syntax.specs.Sound.{ServesAsClock, leads, IsScalarInput, IsJoinedToClock, ClockFits}
-use Rattle.fab_meaning.specs.Points.{Path, point, instance_in, module_at}
-use Rattle.fab_meaning.specs.Runs.{clock_of, join_named}
-use Rattle.fab_meaning.specs.Sound.{DrivesOnce, JoinsOnce}
-use Rattle.fab_meaning.proofs.Clocks.{clock_at_top, clock_below}
-use Rattle.fab_meaning.proofs.Counted.{instance_found, join_found}
-use Rattle.fab_meaning.proofs.Dependence.{same_name}
-use Rattle.fab_meaning.proofs.Modules.{all_holds, module_at_holds}
-use Rattle.fab_meaning.proofs.SoundTexts.{sound_drives_once}
+use Rattle.fab_values.specs.fab_meaning.specs.Points.{Path, point, instance_in, module_at}
+use Rattle.fab_values.specs.fab_meaning.specs.Runs.{clock_of, join_named}
+use Rattle.fab_values.specs.fab_meaning.specs.Sound.{DrivesOnce, JoinsOnce}
+use Rattle.fab_values.specs.fab_meaning.proofs.Clocks.{clock_at_top, clock_below}
+use Rattle.fab_values.specs.fab_meaning.proofs.Counted.{instance_found, join_found}
+use Rattle.fab_values.specs.fab_meaning.proofs.Dependence.{same_name}
+use Rattle.fab_values.specs.fab_meaning.proofs.Modules.{all_holds, module_at_holds}
+use Rattle.fab_values.specs.fab_meaning.proofs.SoundTexts.{sound_drives_once}
 use Rattle.fab_values.specs.Declarations.{Declaration, declarations, port_declaration, number_of}
 use Rattle.fab_values.specs.declared.names.Role.TheVariants as roles
 use Rattle.fab_values.specs.declared.names.Local.{Local}

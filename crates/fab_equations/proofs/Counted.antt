@@ -13,8 +13,8 @@ use Rattle.indexmap.specs.IndexMap.{insert_entry}
 use Rattle.fab_syntax.specs.declared.tree.Port.{Port}
 use Rattle.fab_syntax.specs.declared.tree.Module.{Module}
 use Rattle.fab_syntax.specs.Plain.{PlainJoin, PlainItem, wire, reg, assign, latch, clocked, instance, PlainModule, plain_module}
-use Rattle.fab_meaning.specs.Points.{Path}
-use Rattle.fab_meaning.proofs.Dependence.{same_name}
+use Rattle.fab_values.specs.fab_meaning.specs.Points.{Path}
+use Rattle.fab_values.specs.fab_meaning.proofs.Dependence.{same_name}
 use Rattle.fab_values.specs.Declarations.{Declaration, port_declaration, item_declarations, declarations, width, bits_of, bits_from, declared_points}
 use Rattle.fab_equations.specs.Instances.{Instance, instances_among, instances_within, instances_named, instance_points, instances, points, in_64_bits}
 use Rattle.fab_equations.specs.Counting.{total_among, total_named, points_named, instances_count, counted, count_named, count_of_items, count_of_module, count_or_none, AreCounts}

@@ -7,9 +7,9 @@ use Rattle.fab_syntax.specs.Declarations.{declared_shape, is_input, is_input_of,
 use Rattle.fab_syntax.specs.declared.tree.Port.{Port}
 use Rattle.fab_syntax.specs.Plain.{PlainExpr, variable, PlainItem, assign, latch, clocked, instance, PlainModule}
 use Rattle.fab_syntax.specs.Sound.{ServesAsClock, ticks, IsScalarInput, ClockFits, FitsPort, JoinFits, IsJoinedOnce, InstanceFits, port_named, width_of_name, IsSound}
-use Rattle.fab_meaning.specs.Points.{Path, Point, point, module_at, outside, copy, bit_of, flop, hold, JoinDrives}
-use Rattle.fab_meaning.proofs.Modules.{all_holds, module_at_holds}
-use Rattle.fab_meaning.proofs.SoundTexts.{some_value, instances_fit}
+use Rattle.fab_values.specs.fab_meaning.specs.Points.{Path, Point, point, module_at, outside, copy, bit_of, flop, hold, JoinDrives}
+use Rattle.fab_values.specs.fab_meaning.proofs.Modules.{all_holds, module_at_holds}
+use Rattle.fab_values.specs.fab_meaning.proofs.SoundTexts.{some_value, instances_fit}
 use Rattle.fab_values.specs.Declarations.{Declaration, declarations, found_in}
 use Rattle.fab_equations.specs.Children.{Child, children}
 use Rattle.fab_equations.specs.Instances.{Instance, instances, points, expressions}

@@ -6,7 +6,7 @@ use Rattle.std.specs.Str.{bytes_eq}
 use Rattle.fab_syntax.specs.Plain.{PlainExpr, constant, variable, pick, part, concatenation, complement, operation, conditional, PlainJoin, PlainItem, PlainModule}
 use Rattle.fab_syntax.specs.Declarations.{one_if_same, one_if_variable, times_driven, times_driven_by, times_joined_out, is_input_of}
 use Rattle.fab_values.specs.Declarations.{Declaration, declarations, number_of}
-use Rattle.fab_equations.specs.Building.{put_at, put_variable, DeclaresOnce, Spot, IsDrivenSoFar, AreDriven}
+use Rattle.fab_equations.specs.inner.Building.{put_at, put_variable, DeclaresOnce, Spot, IsDrivenSoFar, AreDriven}
 use Rattle.fab_equations.specs.declared.tables.LocalDriver.{LocalDriver}
 use Rattle.fab_equations.proofs.ListPlaces.{set_here, set_elsewhere, number_is, other_number}
 

@@ -4,9 +4,9 @@ use Rattle.fab_syntax.specs.Declarations.{module_named, is_input, width, width_i
 use Rattle.fab_syntax.specs.declared.tree.Port.{Port}
 use Rattle.fab_syntax.specs.Plain.{PlainExpr, PlainJoin, assign, latch, clocked, instance, PlainModule}
 use Rattle.fab_syntax.specs.Sound.{joined, item_expressions, width_of, width_of_name, FitsPort, JoinFits, IsJoinedOnce, InstanceFits, port_named}
-use Rattle.fab_meaning.specs.Points.{module_at}
-use Rattle.fab_meaning.proofs.Modules.{all_holds, module_at_holds}
-use Rattle.fab_meaning.proofs.SoundTexts.{some_value, instances_fit, contains_first, contains_later}
+use Rattle.fab_values.specs.fab_meaning.specs.Points.{module_at}
+use Rattle.fab_values.specs.fab_meaning.proofs.Modules.{all_holds, module_at_holds}
+use Rattle.fab_values.specs.fab_meaning.proofs.SoundTexts.{some_value, instances_fit, contains_first, contains_later}
 use Rattle.fab_values.specs.Declarations.{Declaration, declarations}
 use Rattle.fab_values.specs.Evaluation.{expr_width, IsFit}
 use Rattle.fab_equations.specs.Instances.{Instance, instances, expressions}

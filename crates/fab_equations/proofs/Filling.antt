@@ -14,7 +14,7 @@ use Rattle.fab_equations.specs.Counting.{instances_count}
 use Rattle.fab_equations.specs.Instances.{Instance, instances, instances_of_last, instance_points, points}
 use Rattle.fab_equations.specs.Numbering.{IsNumbered, offset_in, points_before}
 use Rattle.fab_equations.specs.Tables.{IsTable, IsChildTable, AreTables}
-use Rattle.fab_equations.specs.Placed.{IsUnder, IsPlaced, ArePlaced, noted, IsNoted, bits_in, bits_together}
+use Rattle.fab_equations.specs.inner.Placed.{IsUnder, IsPlaced, ArePlaced, noted, IsNoted, bits_in, bits_together}
 use Rattle.fab_equations.specs.declared.placed.PlacedInstance.{PlacedInstance}
 use Rattle.fab_equations.specs.declared.tables.ChildTable.{ChildTable}
 use Rattle.fab_equations.specs.declared.tables.Table.{Table}

@@ -13,10 +13,10 @@ use Rattle.fab_syntax.specs.Plain.{PlainExpr, PlainExprs, constant, variable, pi
 use Rattle.fab_syntax.specs.Sound.{Mention, net, use_of, instance_name, own_names, uses, item_mentions, mentions_in, refusals, subexpressions, parts_subexpressions, joined, item_expressions, expression_width, width_of_name, width_of, IsVectorAnd, SelectFits, OperandsFit, SidesFit, Every, EachItem, IsSound}
 use Rattle.fab_syntax.proofs.SoundNames.{is_use, each_names_fit, used_is_net, net_has_shape}
 use Rattle.fab_sound.specs.Narrow.{IsNarrow, AreNarrow}
-use Rattle.fab_meaning.specs.Points.{Path, module_at}
-use Rattle.fab_meaning.proofs.Dependence.{same_name}
-use Rattle.fab_meaning.proofs.Modules.{all_holds, module_at_holds}
-use Rattle.fab_meaning.proofs.SoundTexts.{contains_first, contains_later}
+use Rattle.fab_values.specs.fab_meaning.specs.Points.{Path, module_at}
+use Rattle.fab_values.specs.fab_meaning.proofs.Dependence.{same_name}
+use Rattle.fab_values.specs.fab_meaning.proofs.Modules.{all_holds, module_at_holds}
+use Rattle.fab_values.specs.fab_meaning.proofs.SoundTexts.{contains_first, contains_later}
 use Rattle.fab_values.specs.Declarations.{port_declaration, item_declarations, declarations, found_from, found_in}
 use Rattle.fab_values.specs.Evaluation.{local_width, expr_width, IsVectorOf, IsFit, AreFit}
 use Rattle.fab_values.specs.declared.names.Local.{Local}

@@ -14,8 +14,8 @@ use Rattle.std.proofs.lemmas.Slice.Eq.{bytes_eq-Decides}
 use Rattle.fab_syntax.specs.Declarations.{width}
 use Rattle.fab_syntax.specs.Plain.{PlainModule}
 use Rattle.fab_syntax.specs.Sound.{IsSound}
-use Rattle.fab_meaning.specs.Points.{Path, Found, point, instance_named, instance_in, module_of, module_at}
-use Rattle.fab_meaning.proofs.Dependence.{same_name}
+use Rattle.fab_values.specs.fab_meaning.specs.Points.{Path, Found, point, instance_named, instance_in, module_of, module_at}
+use Rattle.fab_values.specs.fab_meaning.proofs.Dependence.{same_name}
 use Rattle.fab_values.specs.Declarations.{declarations, found_in}
 use Rattle.fab_values.specs.declared.names.Local.{Local}
 use Rattle.fab_equations.specs.Children.{Child, children}
@@ -25,7 +25,7 @@ use Rattle.fab_equations.specs.Equations.{joined, HasNoDot, IsFound, IsNotFound,
 use Rattle.fab_equations.specs.Lookups.{IsHere, IsChild, IsChildNamed, LeadsThrough, IsRead}
 use Rattle.std.specs.Borrow.{Bor}
 use Rattle.fab_syntax.specs.declared.tree.Expr.{Expr}
-use Rattle.fab_equations.specs.Placed.{ArePlaced, Keeps}
+use Rattle.fab_equations.specs.inner.Placed.{ArePlaced, Keeps}
 use Rattle.fab_equations.specs.declared.placed.PlacedInstance.{PlacedInstance}
 use Rattle.fab_equations.specs.declared.tables.Table.{Table}
 use Rattle.fab_equations.specs.declared.lookups.Here.{Here}

@@ -6,7 +6,7 @@ use Rattle.fab_syntax.specs.Declarations.{one_if_same, times_driven, times_drive
 use Rattle.fab_values.specs.Declarations.{declarations, number_of}
 use Rattle.fab_equations.specs.Instances.{expressions, in_64_bits}
 use Rattle.fab_equations.specs.Children.{Child, children, modules_before, instances_of_children}
-use Rattle.fab_equations.specs.Building.{put_at, Spot, AreDriven, IsDrivenSoFar, IsItem, IsInside}
+use Rattle.fab_equations.specs.inner.Building.{put_at, Spot, AreDriven, IsDrivenSoFar, IsItem, IsInside}
 use Rattle.fab_equations.specs.declared.tables.LocalDriver.{LocalDriver}
 use Rattle.fab_equations.specs.declared.tables.LocalDriver.TheVariants.{Value, Flop, Hold}
 use Rattle.fab_equations.specs.declared.driving.Inside.{Inside}

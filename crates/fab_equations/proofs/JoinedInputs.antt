@@ -15,7 +15,7 @@ use Rattle.fab_values.specs.declared.names.Role.TheVariants as roles
 use Rattle.fab_equations.specs.Instances.{expressions}
 use Rattle.fab_equations.specs.Children.{Child}
 use Rattle.fab_equations.specs.Tables.{IsExpression}
-use Rattle.fab_equations.specs.Building.{put_at, put_variable, DeclaresOnce, Spot, AreDriven, IsDrivenSoFar, AreJoined, IsInstance, IsJoin, AreJoinedSoFar}
+use Rattle.fab_equations.specs.inner.Building.{put_at, put_variable, DeclaresOnce, Spot, AreDriven, IsDrivenSoFar, AreJoined, IsInstance, IsJoin, AreJoinedSoFar}
 use Rattle.fab_equations.specs.declared.tables.LocalDriver.{LocalDriver}
 use Rattle.fab_equations.specs.declared.tables.LocalDriver.TheVariants.{Output}
 use Rattle.fab_equations.proofs.ListPlaces.{at_place, stands_in, found_itself}

@@ -7,7 +7,7 @@ use Rattle.fab_syntax.specs.Plain.{PlainModule}
 use Rattle.fab_values.specs.Declarations.{declarations}
 use Rattle.fab_equations.specs.Instances.{Instance, instances}
 use Rattle.fab_equations.specs.Numbering.{IsNumbered}
-use Rattle.fab_equations.specs.Placed.{IsPlaced, Keeps}
+use Rattle.fab_equations.specs.inner.Placed.{IsPlaced, Keeps}
 use Rattle.fab_equations.specs.declared.placed.PlacedInstance.{PlacedInstance}
 use Rattle.fab_equations.specs.declared.tables.Table.{Table}
 use Rattle.fab_equations.proofs.Numbering.{same_value, instances_stand}

@@ -13,7 +13,7 @@ use Rattle.std.specs.Str.{bytes_eq}
 use Rattle.fab_syntax.specs.Declarations.{one_if_same}
 use Rattle.fab_values.specs.Declarations.{Declaration, width, found_from, number_of}
 use Rattle.fab_values.specs.declared.names.Local.{Local}
-use Rattle.fab_equations.specs.Building.{times_among, DeclaresOnce}
+use Rattle.fab_equations.specs.inner.Building.{times_among, DeclaresOnce}
 use Rattle.fab_equations.proofs.Counted.{take_next}
 use Rattle.fab_equations.proofs.NamedOnce.{bytes_swap, parted}
 

@@ -9,9 +9,9 @@ use Rattle.std.specs.Borrow.{Bor}
 use Rattle.std.proofs.lemmas.Slice.Eq.{bytes_eq-Decides}
 use Rattle.fab_syntax.specs.Declarations.{one_if_same, width}
 use Rattle.fab_syntax.specs.Plain.{PlainModule}
-use Rattle.fab_meaning.specs.Points.{point}
-use Rattle.fab_meaning.proofs.Counted.{counts_one}
-use Rattle.fab_meaning.proofs.Dependence.{same_name}
+use Rattle.fab_values.specs.fab_meaning.specs.Points.{point}
+use Rattle.fab_values.specs.fab_meaning.proofs.Counted.{counts_one}
+use Rattle.fab_values.specs.fab_meaning.proofs.Dependence.{same_name}
 use Rattle.fab_values.specs.Declarations.{Declaration, declarations, bits_of, found_from, found_in}
 use Rattle.fab_values.specs.declared.names.Local.{Local}
 use Rattle.fab_syntax.specs.declared.tree.Expr.{Expr}
@@ -19,7 +19,7 @@ use Rattle.fab_equations.specs.Instances.{Instance, instance_points, instances, 
 use Rattle.fab_equations.specs.Children.{modules_before}
 use Rattle.fab_equations.specs.Numbering.{IsNumbered, points_before}
 use Rattle.fab_equations.specs.Tables.{firsts_from, firsts_of, IsTable}
-use Rattle.fab_equations.specs.Placed.{IsPlaced, ArePlaced, Keeps}
+use Rattle.fab_equations.specs.inner.Placed.{IsPlaced, ArePlaced, Keeps}
 use Rattle.fab_equations.specs.Lookups.{IsHere, IsBit, IsLastAtMost, IsPointOf}
 use Rattle.fab_equations.specs.declared.lookups.Here.{Here}
 use Rattle.fab_equations.specs.declared.tables.Table.{Table}

@@ -11,7 +11,7 @@ use Rattle.fab_syntax.specs.Declarations.{one_if_same}
 use Rattle.fab_values.specs.Declarations.{Declaration, width, bits_of, found_from, found_in, item_declarations, port_declaration}
 use Rattle.fab_equations.proofs.Counted.{take_next}
 use Rattle.fab_equations.specs.Tables.{firsts_from, firsts_of}
-use Rattle.fab_equations.specs.Building.{times_among, DeclaresOnce}
+use Rattle.fab_equations.specs.inner.Building.{times_among, DeclaresOnce}
 
 pub bytes_swap : (a b : List ℕ) → bytes_eq a b ≡ bytes_eq b a
 bytes_swap a b =

@@ -10,7 +10,7 @@ use Rattle.indexmap.specs.IndexMap.{insert_entry}
 use Rattle.fab_syntax.specs.Plain.{PlainItem, instance, PlainModule, plain_item, plain_module}
 use Rattle.fab_syntax.specs.declared.tree.Item.{Item}
 use Rattle.fab_syntax.specs.declared.tree.Module.{Module}
-use Rattle.fab_meaning.specs.Points.{Path}
+use Rattle.fab_values.specs.fab_meaning.specs.Points.{Path}
 use Rattle.fab_equations.specs.Instances.{Instance, instances_among, instances_within, instances_named, instances_of_last, instances}
 use Rattle.fab_equations.specs.Numbers.{option_list, number_named, item_number, child_numbers, children_behind, top_number, AreNumbers, lists}
 use Rattle.fab_equations.proofs.Counted.{lookup_inserted, take_next, reversed_push}

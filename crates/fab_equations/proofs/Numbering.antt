@@ -4,7 +4,7 @@ use Rattle.std.proofs.lemmas.Option.{slice_get_within}
 use Rattle.fab_syntax.specs.Declarations.{module_named}
 use Rattle.fab_syntax.specs.Plain.{PlainModule}
 use Rattle.fab_syntax.specs.Sound.{IsSound}
-use Rattle.fab_meaning.specs.Points.{Path}
+use Rattle.fab_values.specs.fab_meaning.specs.Points.{Path}
 use Rattle.fab_equations.specs.Children.{Child, children, modules_before, offset_of}
 use Rattle.fab_equations.specs.Instances.{Instance, instances}
 use Rattle.fab_equations.specs.Numbering.{IsNumbered, InstancesStand, ChildrenFollow, InstancesAreChildren, offset_in}

@@ -8,11 +8,11 @@ use Rattle.std.proofs.lemmas.Slice.Eq.{bytes_eq-Decides}
 use Rattle.fab_syntax.specs.Declarations.{module_named, times_instance}
 use Rattle.fab_syntax.specs.Plain.{PlainItem, instance, PlainModule}
 use Rattle.fab_syntax.specs.Sound.{IsSound}
-use Rattle.fab_meaning.specs.Points.{Path, Found, last_of, instance_named, instance_in, module_of, module_at}
-use Rattle.fab_meaning.specs.Sound.{DrivesOnce}
-use Rattle.fab_meaning.proofs.Counted.{counts_one}
-use Rattle.fab_meaning.proofs.Modules.{module_at_holds}
-use Rattle.fab_meaning.proofs.SoundTexts.{sound_drives_once}
+use Rattle.fab_values.specs.fab_meaning.specs.Points.{Path, Found, last_of, instance_named, instance_in, module_of, module_at}
+use Rattle.fab_values.specs.fab_meaning.specs.Sound.{DrivesOnce}
+use Rattle.fab_values.specs.fab_meaning.proofs.Counted.{counts_one}
+use Rattle.fab_values.specs.fab_meaning.proofs.Modules.{module_at_holds}
+use Rattle.fab_values.specs.fab_meaning.proofs.SoundTexts.{sound_drives_once}
 use Rattle.fab_equations.specs.Children.{Child, children}
 use Rattle.fab_equations.specs.Instances.{Instance, instances_of_last, instances}
 use Rattle.fab_equations.specs.Numbering.{IsNumbered, PathsAreInstances, PathsDiffer, offset_in}

@@ -6,9 +6,9 @@ use Rattle.std.proofs.lemmas.Bool.{cases_Bool, cases_lt}
 use Rattle.std.proofs.lemmas.Option.{slice_get_within}
 use Rattle.std.proofs.lemmas.Slice.Eq.{bytes_eq-Decides}
 use Rattle.fab_syntax.specs.Declarations.{width, one_if_same}
-use Rattle.fab_meaning.specs.Points.{Path, Point, point}
-use Rattle.fab_meaning.proofs.Counted.{counts_one}
-use Rattle.fab_meaning.proofs.Dependence.{same_name}
+use Rattle.fab_values.specs.fab_meaning.specs.Points.{Path, Point, point}
+use Rattle.fab_values.specs.fab_meaning.proofs.Counted.{counts_one}
+use Rattle.fab_values.specs.fab_meaning.proofs.Dependence.{same_name}
 use Rattle.fab_values.specs.Declarations.{Declaration, declarations, found_from, bits_from, declared_points}
 use Rattle.fab_values.specs.declared.names.Local.{Local}
 use Rattle.fab_equations.specs.Instances.{instance_points, instances, points}

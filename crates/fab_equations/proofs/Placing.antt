@@ -9,9 +9,9 @@ use Rattle.std.proofs.lemmas.Option.{slice_get_within, slice_get_read, get_or_fr
 use Rattle.fab_syntax.specs.Declarations.{module_named}
 use Rattle.fab_syntax.specs.Plain.{PlainModule}
 use Rattle.fab_syntax.specs.Sound.{IsSound}
-use Rattle.fab_meaning.proofs.Dependence.{same_name}
+use Rattle.fab_values.specs.fab_meaning.proofs.Dependence.{same_name}
 use Rattle.fab_values.specs.Declarations.{bits_of}
-use Rattle.fab_equations.specs.Placed.{noted, IsNoted, bits_in, bits_together}
+use Rattle.fab_equations.specs.inner.Placed.{noted, IsNoted, bits_in, bits_together}
 use Rattle.fab_equations.specs.declared.placed.PlacedInstance.{PlacedInstance}
 use Rattle.fab_equations.specs.declared.tables.ChildTable.{ChildTable}
 use Rattle.fab_equations.specs.declared.tables.Table.{Table}

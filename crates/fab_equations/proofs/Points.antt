@@ -10,8 +10,8 @@ use Rattle.fab_syntax.specs.declared.tree.Port.{Port}
 use Rattle.fab_syntax.specs.Plain.{PlainItem, instance, wire, reg, assign, latch, clocked, PlainModule}
 use Rattle.fab_syntax.specs.Sound.{Mention, net, item_mentions, mentions_in, refusals, IsSound}
 use Rattle.fab_syntax.proofs.SoundNames.{times_declared, declared_once, each_names_fit}
-use Rattle.fab_meaning.specs.Points.{Path, Point, point, module_at}
-use Rattle.fab_meaning.proofs.Modules.{module_at_holds}
+use Rattle.fab_values.specs.fab_meaning.specs.Points.{Path, Point, point, module_at}
+use Rattle.fab_values.specs.fab_meaning.proofs.Modules.{module_at_holds}
 use Rattle.fab_values.specs.Declarations.{port_declaration, item_declarations, declarations, found_in, declared_points}
 use Rattle.fab_values.specs.declared.names.Local.{Local}
 use Rattle.fab_values.proofs.Agreement.{bits_are_names}

@@ -17,7 +17,7 @@ use Rattle.fab_syntax.proofs.SoundNames.{each_names_fit, times_declared, declare
 use Rattle.fab_values.specs.Declarations.{declarations, item_declarations, port_declaration}
 use Rattle.fab_equations.specs.Numbers.{number_named}
 use Rattle.fab_equations.specs.Children.{modules_before}
-use Rattle.fab_equations.specs.Building.{times_among, DeclaresOnce, Spot}
+use Rattle.fab_equations.specs.inner.Building.{times_among, DeclaresOnce, Spot}
 use Rattle.fab_equations.proofs.NamedOnce.{times-append}
 use Rattle.fab_equations.proofs.ListPlaces.{at_end, kept_in}
 

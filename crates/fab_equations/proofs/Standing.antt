@@ -6,11 +6,11 @@ use Rattle.std.proofs.Math.Seq.{take-append_seam}
 use Rattle.fab_syntax.specs.Declarations.{module_named, times_instance}
 use Rattle.fab_syntax.specs.Plain.{PlainItem, instance, wire, reg, assign, latch, clocked, PlainModule}
 use Rattle.fab_syntax.specs.Sound.{JoinFits, IsJoinedOnce, InstanceFits, IsSound}
-use Rattle.fab_meaning.specs.Points.{Path, last_of, instance_in, module_of, module_at}
-use Rattle.fab_meaning.specs.Sound.{DrivesOnce}
-use Rattle.fab_meaning.proofs.Counted.{instance_found}
-use Rattle.fab_meaning.proofs.Modules.{all_holds, module_at_holds}
-use Rattle.fab_meaning.proofs.SoundTexts.{some_value, contains_first, contains_later, sound_drives_once}
+use Rattle.fab_values.specs.fab_meaning.specs.Points.{Path, last_of, instance_in, module_of, module_at}
+use Rattle.fab_values.specs.fab_meaning.specs.Sound.{DrivesOnce}
+use Rattle.fab_values.specs.fab_meaning.proofs.Counted.{instance_found}
+use Rattle.fab_values.specs.fab_meaning.proofs.Modules.{all_holds, module_at_holds}
+use Rattle.fab_values.specs.fab_meaning.proofs.SoundTexts.{some_value, contains_first, contains_later, sound_drives_once}
 use Rattle.fab_equations.specs.Children.{Child, children, modules_before, instances_of_children, offset_of}
 use Rattle.fab_equations.specs.Counting.{total_among, instances_count}
 use Rattle.fab_equations.specs.Instances.{Instance, instances_among, instances_within, instances_named, instances_of_last, instances}

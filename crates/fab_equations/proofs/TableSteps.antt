@@ -17,7 +17,7 @@ use Rattle.fab_equations.specs.Counting.{AreCounts, count_or_none}
 use Rattle.fab_equations.specs.Numbers.{AreNumbers}
 use Rattle.fab_equations.specs.Children.{children, modules_before}
 use Rattle.fab_equations.specs.Tables.{firsts_of, DrivesName, IsTable}
-use Rattle.fab_equations.specs.Building.{Spot, IsDrivenSoFar, IsInside, IsBefore}
+use Rattle.fab_equations.specs.inner.Building.{Spot, IsDrivenSoFar, IsInside, IsBefore}
 use Rattle.fab_equations.specs.declared.tables.LocalDriver.{LocalDriver}
 use Rattle.fab_equations.specs.declared.tables.LocalDriver.TheVariants.{Input, Value, Flop, Hold, Output}
 use Rattle.fab_equations.specs.declared.tables.Table.{Table}

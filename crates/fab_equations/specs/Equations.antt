@@ -8,9 +8,9 @@ use Rattle.fab_base.specs.declared.words.Reason.{Reason}
 use Rattle.fab_base.specs.declared.words.Quantity.TheVariants as quantities
 use Rattle.fab_syntax.specs.Sound.{IsSound, IsFirstBroken}
 use Rattle.fab_syntax.specs.Plain.{PlainExpr, PlainModule}
-use Rattle.fab_meaning.specs.Points.{Path, Point, point, outside, copy, bit_of, flop, hold, Drives}
-use Rattle.fab_meaning.specs.Points.{Driver as MeantDriver}
-use Rattle.fab_meaning.specs.Runs.{clock_of}
+use Rattle.fab_values.specs.fab_meaning.specs.Points.{Path, Point, point, outside, copy, bit_of, flop, hold, Drives}
+use Rattle.fab_values.specs.fab_meaning.specs.Points.{Driver as MeantDriver}
+use Rattle.fab_values.specs.fab_meaning.specs.Runs.{clock_of}
 use Rattle.fab_values.specs.Declarations.{declarations, found_in}
 use Rattle.fab_values.specs.Evaluation.{expr_width, IsFit}
 use Rattle.fab_values.specs.declared.names.Local.{Local}

@@ -4,7 +4,7 @@ use Rattle.std.specs.List.{flat_map}
 use Rattle.std.specs.Str.{bytes_eq}
 use Rattle.fab_syntax.specs.Sound.{item_expressions}
 use Rattle.fab_syntax.specs.Plain.{PlainExpr, PlainItem, instance, PlainModule}
-use Rattle.fab_meaning.specs.Points.{Path, Point}
+use Rattle.fab_values.specs.fab_meaning.specs.Points.{Path, Point}
 use Rattle.fab_values.specs.Declarations.{declarations, declared_points}
 
 -- an instance, with the module that stands there and its number in the text

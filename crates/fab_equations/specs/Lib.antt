@@ -4,7 +4,10 @@ pub mod Numbers
 pub mod Children
 pub mod Numbering
 pub mod Tables
-pub mod Building
-pub mod Placed
 pub mod Equations
 pub mod Lookups
+pub mod inner
+pub use Rattle.fab_syntax
+pub use Rattle.fab_values.specs.fab_meaning
+pub use Rattle.fab_values
+pub use Rattle.fab_sound

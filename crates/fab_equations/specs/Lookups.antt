@@ -3,14 +3,14 @@ use Rattle.std.specs.Prelude.{◌≡◌, ℕ, ◌+◌, ◌<◌, ◌≤◌, List,
 use Rattle.fab_syntax.specs.Plain.{variable, PlainModule}
 use Rattle.fab_syntax.specs.Sound.{ServesAsClock, IsScalarInput, IsSound}
 use Rattle.fab_sound.specs.Narrow.{AreNarrow}
-use Rattle.fab_meaning.specs.Points.{Path, point, module_at}
+use Rattle.fab_values.specs.fab_meaning.specs.Points.{Path, point, module_at}
 use Rattle.fab_values.specs.Declarations.{Declaration, declarations, bits_of, number_of, width}
 use Rattle.fab_values.specs.declared.names.Role.TheVariants as roles
 use Rattle.fab_equations.specs.Instances.{Instance, whole_count, most_points}
 use Rattle.fab_equations.specs.Numbering.{IsNumbered, IsChildOf, points_before}
 use Rattle.fab_equations.specs.Children.{children, modules_before}
 use Rattle.fab_equations.specs.Tables.{IsExpression, IsTable, IsJoined}
-use Rattle.fab_equations.specs.Placed.{IsPlaced}
+use Rattle.fab_equations.specs.inner.Placed.{IsPlaced}
 use Rattle.fab_equations.specs.Equations.{IsPoint, joined, HasNoDot, IsNotFound}
 use Rattle.fab_equations.specs.declared.driver.Source.{Source}
 use Rattle.fab_equations.specs.declared.lookups.Here.{Here}

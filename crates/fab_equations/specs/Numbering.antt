@@ -4,8 +4,8 @@ use Rattle.std.specs.List.{flat_map}
 use Rattle.fab_syntax.specs.Declarations.{module_named, width}
 use Rattle.fab_syntax.specs.Plain.{PlainModule}
 use Rattle.fab_syntax.specs.Sound.{IsSound}
-use Rattle.fab_meaning.specs.Points.{Path, Point, point, module_at}
-use Rattle.fab_meaning.specs.Reads.{is_declared}
+use Rattle.fab_values.specs.fab_meaning.specs.Points.{Path, Point, point, module_at}
+use Rattle.fab_values.specs.fab_meaning.specs.Reads.{is_declared}
 use Rattle.fab_values.specs.Declarations.{declarations, found_in}
 use Rattle.fab_values.specs.declared.names.Local.{Local}
 use Rattle.fab_equations.specs.Instances.{Instance, instances, instance_points, points}

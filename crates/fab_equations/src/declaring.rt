@@ -4,7 +4,7 @@ ghost use Rattle.std.specs.Prelude.{◌≡◌, ◌++◌, [], ◌∷◌, map, IfO
 ghost use Rattle.fab_syntax.specs.Plain.{plain_item, plain_module};
 ghost use Rattle.fab_values.specs.Declarations.{bits_of, declarations, found_in, item_declarations, port_declaration};
 ghost use Rattle.fab_equations.specs.Tables.{firsts_of};
-ghost use Rattle.fab_equations.specs.Building.{DeclaresOnce};
+ghost use Rattle.fab_equations.specs.inner.Building.{DeclaresOnce};
 
 use fab_base::{Memory, Name};
 use fab_syntax::{Item, Module, Port, Shape};

@@ -6,7 +6,7 @@ ghost use Rattle.fab_syntax.specs.Plain.{PlainExpr, PlainItem, plain_expr, plain
 ghost use Rattle.fab_syntax.specs.Sound.{item_expressions};
 ghost use Rattle.fab_values.specs.Declarations.{declarations, number_of};
 ghost use Rattle.fab_equations.specs.Instances.{expressions};
-ghost use Rattle.fab_equations.specs.Building.{listed, put_at, IsBefore, IsInside, IsItem, Spot};
+ghost use Rattle.fab_equations.specs.inner.Building.{listed, put_at, IsBefore, IsInside, IsItem, Spot};
 ghost use Rattle.fab_equations.specs.declared.tables.LocalDriver.TheVariants as drivers;
 
 use crate::before::Before;

@@ -47,7 +47,7 @@ impl<'a> Model for Equations<'a> {
     ghost coded = { Prim.hlevel (codes, e.the_row.coded) };
 
     ghost use Rattle.fab_syntax.specs.Plain.{plain_text};
-    ghost use Rattle.fab_equations.specs.Placed.{Keeps};
+    ghost use Rattle.fab_equations.specs.inner.Placed.{Keeps};
 
     ghost view = { λ equations. equations.text.now };
 

@@ -7,7 +7,7 @@ ghost use Rattle.fab_syntax.specs.Sound.{joined};
 ghost use Rattle.fab_values.specs.Declarations.{declarations};
 ghost use Rattle.fab_equations.specs.Instances.{expressions};
 ghost use Rattle.fab_equations.specs.Children.{Child};
-ghost use Rattle.fab_equations.specs.Building.{listed, put_variable, AreJoinedSoFar, IsBefore, IsInside, IsInstance, IsItem, IsJoin, Spot};
+ghost use Rattle.fab_equations.specs.inner.Building.{listed, put_variable, AreJoinedSoFar, IsBefore, IsInside, IsInstance, IsItem, IsJoin, Spot};
 
 use crate::before::Before;
 use crate::driving::{Inside, add_expr, put};

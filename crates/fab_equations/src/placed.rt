@@ -5,7 +5,7 @@ ghost use Rattle.fab_syntax.specs.Plain.{plain_text};
 ghost use Rattle.fab_syntax.specs.Sound.{IsSound};
 ghost use Rattle.fab_equations.specs.Instances.{instances, most_points, whole_count};
 ghost use Rattle.fab_equations.specs.Tables.{AreTables};
-ghost use Rattle.fab_equations.specs.Placed.{bits_together, ArePlaced, IsNoted};
+ghost use Rattle.fab_equations.specs.inner.Placed.{bits_together, ArePlaced, IsNoted};
 ghost use Rattle.fab_equations.specs.declared.placed.PlacedInstance.{PlacedInstance};
 ghost use Rattle.fab_equations.specs.declared.tables.ChildTable.{ChildTable};
 

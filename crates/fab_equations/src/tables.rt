@@ -8,7 +8,7 @@ ghost use Rattle.fab_values.specs.Declarations.{declarations};
 ghost use Rattle.fab_equations.specs.Instances.{expressions};
 ghost use Rattle.fab_equations.specs.Children.{modules_before};
 ghost use Rattle.fab_equations.specs.Tables.{AreTables, IsTable};
-ghost use Rattle.fab_equations.specs.Building.{listed, DeclaresOnce, IsBefore, Spot};
+ghost use Rattle.fab_equations.specs.inner.Building.{listed, DeclaresOnce, IsBefore, Spot};
 
 use crate::before::Before;
 use crate::declaring::{Declared, declared_names};

@@ -9,7 +9,7 @@ use Rattle.fab_model.specs.Tiles.{PlainTile, matrix_names}
 use Rattle.fab_model.specs.Grid.{PlainFabric, tile_at, numbered_type}
 use Rattle.fab_fabric.specs.Sums.{sum_to}
 use Rattle.fab_fabric.specs.Fabric.{IsFabric, IsPlace, wires_at}
-use Rattle.fab_fabric.specs.Index.{place_wires}
+use Rattle.fab_fabric.specs.inner.Index.{place_wires}
 use Rattle.fab_fabric.proofs.Summed.{sum_more, sum_below}
 use Rattle.fab_fabric.proofs.Numbered.{all_places, wires_of_tile}
 use Rattle.fab_fabric.proofs.Placed.{in_grid, tile_inside}

@@ -4,10 +4,10 @@ use Rattle.std.proofs.lemmas.Bool.{cases_Bool}
 use Rattle.std.proofs.lemmas.Bool.Decides.{eqb_tells}
 use Rattle.std.proofs.lemmas.List.{map-append, map-set, map_more, length-map, get_or-set_same, get_or-set_other, append-nil}
 use Rattle.std.proofs.lemmas.List.Elements.{filter-append}
-use Rattle.fab_select.specs.declared.pair.Pair.{Pair}
-use Rattle.fab_select.specs.Selection.{inputs_of}
+use Rattle.fab_model.specs.fab_select.specs.declared.pair.Pair.{Pair}
+use Rattle.fab_model.specs.fab_select.specs.Selection.{inputs_of}
 use Rattle.fab_model.specs.Tiles.{pair_numbers}
-use Rattle.fab_fabric.specs.Index.{group_at}
+use Rattle.fab_model.specs.fab_bits.specs.Keys.{group_at}
 
 -- one pair more
 inputs_push : (pairs : List (ℕ × ℕ)) (pair : ℕ × ℕ) (output : ℕ) → inputs_of nat_eq (pairs ++ pair ∷ []) output ≡ (inputs_of nat_eq pairs output ++ cond (nat_eq pair.0 output) (pair.1 ∷ []) [])

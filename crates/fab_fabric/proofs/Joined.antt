@@ -19,7 +19,7 @@ use Rattle.fab_fabric.specs.declared.index.TileWire.{TileWire}
 use Rattle.fab_fabric.specs.declared.index.TileWire.TheVariants as wires
 use Rattle.fab_fabric.specs.declared.fabric.joins.RowAt.{RowAt}
 use Rattle.fab_fabric.specs.declared.index.TileIndex.{TileIndex}
-use Rattle.fab_fabric.specs.Index.{HasIndex, plain_wire}
+use Rattle.fab_fabric.specs.inner.Index.{HasIndex, plain_wire}
 use Rattle.fab_fabric.specs.Walks.{place_of, found_bit, placed_at, row_at, HasRow, FindsRow, both_sides}
 use Rattle.fab_fabric.proofs.Numbered.{number_at, number_of_tile, number_within, wires_of_tile, one_wire}
 use Rattle.fab_fabric.proofs.Stepped.{placed, stand, standing_row, row_spot, next_of, previous_of}

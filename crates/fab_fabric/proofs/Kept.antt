@@ -6,7 +6,7 @@ use Rattle.fab_model.specs.Tiles.{PlainTile, IsTile}
 use Rattle.fab_model.specs.Grid.{PlainFabric}
 use Rattle.fab_fabric.specs.declared.index.TileIndex.{TileIndex}
 use Rattle.fab_fabric.specs.Fabric.{fabric_of, IsFabric, wire_count}
-use Rattle.fab_fabric.specs.Index.{HasIndex, HaveIndexes, HasFirsts, IsIndexed}
+use Rattle.fab_fabric.specs.inner.Index.{HasIndex, HaveIndexes, HasFirsts, IsIndexed}
 
 -- what is kept of the first types
 abbrev pub HaveSome : List PlainTile → List TileIndex → (n : ℕ) → Type 0

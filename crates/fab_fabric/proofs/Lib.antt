@@ -15,3 +15,4 @@ pub mod Joined
 pub mod BitMaps
 pub mod Samples
 pub mod Spans
+pub mod Counted

@@ -9,7 +9,7 @@ use Rattle.fab_model.specs.Tiles.{counted}
 use Rattle.fab_model.specs.Wires.{PlainWire, source_of, dest_of, pin_of, pin_count, plain_row_wires, plain_bel_wires}
 use Rattle.fab_model.proofs.Inserts.{counted_more}
 use Rattle.fab_fabric.specs.declared.index.TileWire.{TileWire}
-use Rattle.fab_fabric.specs.Index.{plain_wire}
+use Rattle.fab_fabric.specs.inner.Index.{plain_wire}
 
 -- no wire of a counted list
 pub none_yet : (wires : List PlainWire) (f : ℕ → PlainWire) → wires ≡ wires ++ counted 0 f

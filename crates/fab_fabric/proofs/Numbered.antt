@@ -13,7 +13,7 @@ use Rattle.fab_model.proofs.Wires.{wire_at_number, number_has_wire, plain_wires_
 use Rattle.fab_fabric.specs.Sums.{sum_to}
 use Rattle.fab_fabric.specs.Fabric.{wires_at, column_wires, wire_count}
 use Rattle.fab_fabric.specs.Wires.{wire_index, IsIndexOf}
-use Rattle.fab_fabric.specs.Index.{place_wires}
+use Rattle.fab_fabric.specs.inner.Index.{place_wires}
 use Rattle.fab_fabric.proofs.Summed.{no_sum, sum_more, sum_below, sum_same, sum_split, one_summand, some_summand}
 
 -- ---- places with wires

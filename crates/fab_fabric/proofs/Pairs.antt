@@ -2,7 +2,7 @@
 use Rattle.std.proofs.Common.{◌≡◌, ℕ, ◌<◌, ◌≤◌, Bool, true, false, not, List, [], ◌∷◌, suc, zero, length, get_or, slice_get, refl, ap, arith, None, inl, inr}
 use Rattle.std.proofs.lemmas.Bool.{cases_lt, false≢true}
 use Rattle.std.proofs.lemmas.List.{length-map}
-use Rattle.fab_select.specs.declared.pair.Pair.{Pair}
+use Rattle.fab_model.specs.fab_select.specs.declared.pair.Pair.{Pair}
 use Rattle.fab_model.specs.Tiles.{PlainTile, TileWire, tile_wires, wire_name, matrix_names, wire_passes, is_matrix_output, IsTile}
 
 -- nothing stands past the end

@@ -11,10 +11,10 @@ use Rattle.std.proofs.lemmas.List.{get_or-map, length-map}
 use Rattle.std.proofs.lemmas.Map.Made.{AllPairs-from_IsDistinct}
 use Rattle.std.proofs.lemmas.Slice.Eq.{bytes_eq-Decides}
 use Rattle.itoa.proofs.Decimal.{decimal_two}
-use Rattle.fab_select.specs.Selection.{firsts}
-use Rattle.fab_select.proofs.Firsts.{firsts_distinct}
+use Rattle.fab_model.specs.fab_select.specs.Selection.{firsts}
+use Rattle.fab_model.specs.fab_select.proofs.Firsts.{firsts_distinct}
 use Rattle.fab_model.specs.Rows.{IsWireRow}
-use Rattle.fab_bits.specs.Widths.{select_width}
+use Rattle.fab_model.specs.fab_bits.specs.Widths.{select_width}
 use Rattle.fab_model.specs.Tiles.{bare_tile, counted, matrix_names, tile_bits, IsTile, IsPair}
 use Rattle.fab_model.specs.Grid.{PlainFabric}
 use Rattle.fab_fabric.specs.Sums.{sum_to}

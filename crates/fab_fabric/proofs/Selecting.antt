@@ -5,23 +5,22 @@ use Rattle.std.proofs.lemmas.Bool.Decides.{nat_tests}
 use Rattle.std.proofs.lemmas.List.{nil_from_length, get_or_past}
 use Rattle.std.proofs.lemmas.List.Elements.{All-head, All-tail}
 use Rattle.std.proofs.lemmas.Grind.{get_or_default_zero}
-use Rattle.fab_bits.specs.Bits.{bit_number, number, first_bits}
-use Rattle.fab_bits.specs.Widths.{width_from, select_width}
-use Rattle.fab_bits.proofs.Numbers.{first_bits_same}
-use Rattle.fab_select.specs.declared.pair.Pair.{Pair}
-use Rattle.fab_select.specs.Selection.{inputs_of, field_width}
-use Rattle.fab_model.specs.Tiles.{PlainTile, IsTile, pair_numbers, numbered_pairs, matrix_names, output_field}
+use Rattle.fab_model.specs.fab_bits.specs.Bits.{bit_number, number, first_bits}
+use Rattle.fab_model.specs.fab_bits.specs.Widths.{width_from, select_width}
+use Rattle.fab_model.specs.fab_bits.proofs.Numbers.{first_bits_same}
+use Rattle.fab_model.specs.fab_select.specs.declared.pair.Pair.{Pair}
+use Rattle.fab_model.specs.fab_select.specs.Selection.{inputs_of, field_width}
+use Rattle.fab_model.specs.Tiles.{PlainTile, IsTile, pair_numbers, numbered_pairs, matrix_names, output_field, source_bit, bel_pin, is_matrix_output}
 use Rattle.fab_model.specs.Grid.{PlainFabric, tile_at}
 use Rattle.fab_model.specs.declared.tiles.WireRow.{WireRow}
 use Rattle.fab_model.specs.declared.tiles.Bel.{Bel}
 use Rattle.std.specs.Option.{option_map_or}
 use Rattle.std.proofs.lemmas.Option.{slice_get_within}
-use Rattle.fab_kinds.specs.Pins.{input_count}
+use Rattle.fab_model.specs.fab_kinds.specs.Pins.{input_count}
 use Rattle.fab_model.specs.Rows.{source_bits}
-use Rattle.fab_model.specs.Tiles.{source_bit, bel_pin, is_matrix_output}
 use Rattle.fab_model.specs.Wires.{PlainWire, plain_wires, source_of, pin_of, pin_count, pins_at, IsWire, IsMatrixOutput, wire_number}
 use Rattle.fab_model.proofs.Drives.{matrix_drive_at}
-use Rattle.fab_fabric.specs.Index.{group_at}
+use Rattle.fab_model.specs.fab_bits.specs.Keys.{group_at}
 use Rattle.fab_model.specs.Drive.{matrix_inputs, select_value, input_at, copy_or_zero, matrix_drive, PlainBits, drive}
 use Rattle.fab_fabric.specs.Wires.{wire_index, numbered_wire, IsIndexOf}
 use Rattle.fab_fabric.specs.declared.wire.Drive.{Drive}

@@ -10,7 +10,7 @@ use Rattle.fab_fabric.specs.declared.index.TileIndex.{TileIndex}
 use Rattle.fab_fabric.specs.Sums.{sum_to}
 use Rattle.fab_fabric.specs.Fabric.{wires_at, column_wires, wire_count}
 use Rattle.fab_fabric.specs.Wires.{wire_index}
-use Rattle.fab_fabric.specs.Index.{place_wires, HasFirsts, IsIndexed}
+use Rattle.fab_fabric.specs.inner.Index.{place_wires, HasFirsts, IsIndexed}
 use Rattle.fab_fabric.proofs.Summed.{no_sum, sum_more, sum_at_most}
 use Rattle.fab_fabric.proofs.Numbered.{first_of_place, all_places, wired_within}
 use Rattle.fab_fabric.proofs.Placed.{in_columns}

@@ -18,7 +18,7 @@ use Rattle.fab_fabric.specs.declared.ends.Side.{Side}
 use Rattle.fab_fabric.specs.declared.ends.Side.TheVariants as sides
 use Rattle.fab_fabric.specs.declared.ends.Ends.{Ends}
 use Rattle.fab_fabric.specs.declared.index.TileIndex.{TileIndex}
-use Rattle.fab_fabric.specs.Index.{has_side, HasEnds, HasIndex, ends_of}
+use Rattle.fab_fabric.specs.inner.Index.{has_side, HasEnds, HasIndex, ends_of}
 use Rattle.fab_fabric.specs.Walks.{place_of, row_at, placed_at, HasRow, FindsRow}
 
 -- ---- rows that stand

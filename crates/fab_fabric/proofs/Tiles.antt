@@ -9,7 +9,7 @@ use Rattle.fab_model.specs.Wires.{plain_wires}
 use Rattle.fab_fabric.specs.declared.index.TileWire.{TileWire}
 use Rattle.fab_fabric.specs.Fabric.{wires_at}
 use Rattle.fab_fabric.specs.Wires.{wire_index, IsIndexOf}
-use Rattle.fab_fabric.specs.Index.{HasIndex, IsIndexed, plain_wire}
+use Rattle.fab_fabric.specs.inner.Index.{HasIndex, IsIndexed, plain_wire}
 use Rattle.fab_fabric.proofs.Numbered.{wires_of_tile, wires_are_named, wire_with_number}
 use Rattle.fab_fabric.proofs.Firsts.{place_read, tile_read}
 

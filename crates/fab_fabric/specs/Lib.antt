@@ -3,7 +3,10 @@ pub mod Fabric
 pub mod Wires
 pub mod Bits
 pub mod Names
+pub mod Sites
 pub mod Drive
-pub mod Index
 pub mod Walks
 pub mod Examples
+pub mod inner
+pub use Rattle.fab_model.specs.fab_kinds
+pub use Rattle.fab_model

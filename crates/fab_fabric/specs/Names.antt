@@ -3,6 +3,7 @@ use Rattle.std.specs.Prelude.{ℕ, ◌+◌, List, [], ◌∷◌, ◌++◌, codes
 use Rattle.std.specs.Option.{option_map_or}
 use Rattle.fab_model.specs.Tiles.{matrix_names}
 use Rattle.fab_model.specs.Grid.{PlainFabric, tile_at}
+use Rattle.fab_fabric.specs.declared.wire.Site.{Site}
 
 -- as X1Y2
 abbrev pub place_name : (x y : ℕ) → List ℕ
@@ -15,6 +16,9 @@ full_name x y name = place_name x y ++ codes "/" ++ name
 -- as X1Y2.A: the place and a letter, A for the first BEL
 abbrev pub site_name : (x y bel : ℕ) → List ℕ
 site_name x y bel = place_name x y ++ codes "." ++ (65 + bel) ∷ []
+
+abbrev pub site_text : Site → List ℕ
+site_text site = site_name site.x site.y site.bel
 
 -- the matrix name of a number in the tile at a place
 abbrev pub name_at : PlainFabric → (x y number : ℕ) → List ℕ

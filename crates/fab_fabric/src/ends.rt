@@ -1,7 +1,7 @@
 //! The rows of a tile that go out of it or come into it, direction by direction.
 
 ghost use Rattle.std.specs.Prelude.{◌≡◌, IfOk};
-ghost use Rattle.fab_fabric.specs.Index.{has_side, HasEnds, HasSides, ends_of_dir};
+ghost use Rattle.fab_fabric.specs.inner.Index.{has_side, HasEnds, HasSides, ends_of_dir};
 
 use fab_base::Memory;
 use fab_model::{Dir, WireRow};

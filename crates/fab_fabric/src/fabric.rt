@@ -10,8 +10,9 @@ ghost use Rattle.fab_fabric.specs.Sums.{sum_to};
 ghost use Rattle.fab_fabric.specs.Fabric.{fabric_of, IsFabric, AreTiles, wires_at, wire_count};
 ghost use Rattle.fab_fabric.specs.Wires.{wire_index, numbered_wire, index_of, IsIndexOf};
 ghost use Rattle.fab_fabric.specs.Bits.{bits_at};
-ghost use Rattle.fab_fabric.specs.Index.{plain_wire, place_wires, HasIndex, HaveIndexes, HasFirsts};
+ghost use Rattle.fab_fabric.specs.inner.Index.{plain_wire, place_wires, HasIndex, HaveIndexes, HasFirsts};
 
+mod counting;
 mod drives;
 mod joins;
 mod names;
@@ -19,8 +20,8 @@ mod names;
 use crate::index::{TileIndex, TileWire};
 use crate::wire::{Site, Wire};
 use fab_base::Memory;
-use fab_kinds::Kind;
 use fab_model::TileType;
+use fab_model::fab_kinds::Kind;
 pub use joins::RowAt;
 pub use names::place_name;
 use std::alloc::Global;
@@ -43,7 +44,7 @@ pub struct Fabric {
 
 impl Model for Fabric {
     ghost use Rattle.fab_model.specs.Grid.{PlainFabric};
-    ghost use Rattle.fab_fabric.specs.Index.{IsIndexed};
+    ghost use Rattle.fab_fabric.specs.inner.Index.{IsIndexed};
 
     ghost Value = { PlainFabric };
 
@@ -87,6 +88,14 @@ impl Fabric {
         ensures are_tiles { AreTiles self.now }
     {
         &self.types
+    }
+
+    /// States what holds of every fabric, for the calls that rest on it. It does nothing.
+    pub fn is_well_made(&self)
+        ensures is_fabric { IsFabric self.now }
+        ensures are_tiles { AreTiles self.now }
+    {
+        let _ = &self.types;
     }
 
     /// How many columns its grid has.

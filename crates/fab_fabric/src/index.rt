@@ -1,13 +1,14 @@
 //! What a fabric keeps of a tile type, so that calls take no search.
 
 ghost use Rattle.std.specs.Prelude.{◌≡◌, ◌<◌, ◌++◌, ℕ, [], All, IfOk, OnOk, length, map, slice_index_or, slice_get, option_map, sum_by, take};
-ghost use Rattle.fab_kinds.specs.Pins.{pin_names};
+ghost use Rattle.fab_model.specs.fab_kinds.specs.Pins.{pin_names};
 ghost use Rattle.fab_model.specs.Rows.{source_bits, dest_bits};
 ghost use Rattle.fab_model.specs.Tiles.{counted, PlainTile, numbered_pairs, pair_numbers};
 ghost use Rattle.fab_model.specs.Wires.{source_of, dest_of, pin_of, pin_count, plain_row_wires, plain_bel_wires, wires_before_row};
-ghost use Rattle.fab_select.specs.Selection.{inputs_of};
+ghost use Rattle.fab_model.specs.fab_select.specs.Selection.{inputs_of};
 ghost use Rattle.std.specs.Prelude.{nat_eq};
-ghost use Rattle.fab_fabric.specs.Index.{HasIndex, plain_wire, group_at, ends_of};
+ghost use Rattle.fab_model.specs.fab_bits.specs.Keys.{group_at};
+ghost use Rattle.fab_fabric.specs.inner.Index.{HasIndex, plain_wire, ends_of};
 
 use crate::ends::{Ends, Side, SideEnds, side_ends};
 use fab_base::Memory;

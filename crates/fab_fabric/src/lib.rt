@@ -10,6 +10,7 @@ mod laws;
 mod wire;
 
 pub use bits::Bits;
+pub use fab_model;
 pub use fabric::{Fabric, RowAt, place_name};
 pub use laws::wires_are_numbered;
 pub use wire::{Drive, Site, Wire};

@@ -2,3 +2,11 @@ pub mod Names
 pub mod Places
 pub mod Top
 pub mod Text
+pub mod Texts
+pub use Rattle.fab_gen_tile.specs.fab_meaning
+pub use Rattle.fab_gen_tile.specs.fab_matrix
+pub use Rattle.fab_gen_tile.specs.fab_prim
+pub use Rattle.fab_gen_tile.specs.fab_model
+pub use Rattle.fab_fabric
+pub use Rattle.fab_gen_tile
+pub use Rattle.fab_gen_loader

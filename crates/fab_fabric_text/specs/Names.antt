@@ -1,14 +1,11 @@
 -- The names that the generator makes in the top module.
 use Rattle.std.specs.Prelude.{ℕ, List, ◌∷◌, ◌++◌, codes, decimal}
-use Rattle.fab_model.specs.declared.tiles.WireRow.{WireRow}
+use Rattle.fab_gen_tile.specs.fab_model.specs.declared.tiles.WireRow.{WireRow}
 use Rattle.fab_fabric.specs.Names.{place_name}
 use Rattle.fab_gen_tile.specs.Names.{border_name, letter}
 
 abbrev pub top_module_name : List ℕ
 top_module_name = codes "eFPGA"
-
-abbrev pub loader_module_name : List ℕ
-loader_module_name = codes "ConfigLoader"
 
 abbrev pub loader_instance_name : List ℕ
 loader_instance_name = codes "fab_loader"
@@ -17,12 +14,6 @@ loader_instance_name = codes "fab_loader"
 
 abbrev pub loader_clock_name : List ℕ
 loader_clock_name = codes "CLK"
-
-abbrev pub write_strobe_name : List ℕ
-write_strobe_name = codes "WriteStrobe"
-
-abbrev pub write_data_name : List ℕ
-write_data_name = codes "WriteData"
 
 -- the port of a pad to the outside, as X1Y0_A_O_top
 abbrev pub pad_port_name : (x y bel : ℕ) → (port : List ℕ) → List ℕ

@@ -1,13 +1,14 @@
 -- The modules of a fabric's text in their order: primitives, tiles, the loader and the top.
-use Rattle.std.specs.Prelude.{ℕ, zero, suc, Bool, true, false, List, [], ◌∷◌, ◌++◌, map, filter, nat_eq}
+use Rattle.std.specs.Prelude.{ℕ, zero, suc, Bool, false, List, [], ◌∷◌, ◌++◌, map, filter, nat_eq}
 use Rattle.std.specs.List.{flat_map, list_any, enumerate_from}
 use Rattle.std.specs.Option.{option_map_or}
 use Rattle.fab_kinds.specs.declared.kind.Kind.{Kind}
 use Rattle.fab_kinds.specs.declared.kind.Kind.TheVariants as kinds
 use Rattle.fab_syntax.specs.Plain.{PlainModule}
-use Rattle.fab_prim.specs.Modules.{module_of_kind}
-use Rattle.fab_model.specs.Tiles.{PlainTile, tile_bits}
-use Rattle.fab_model.specs.Grid.{PlainFabric}
+use Rattle.fab_gen_tile.specs.fab_prim.specs.Modules.{module_of_kind}
+use Rattle.fab_gen_tile.specs.fab_model.specs.Tiles.{PlainTile, tile_bits}
+use Rattle.fab_gen_tile.specs.fab_model.specs.Grid.{PlainFabric}
+use Rattle.fab_fabric.specs.Sites.{same_kind}
 use Rattle.fab_gen_tile.specs.TileModule.{tile_module, matrix_outputs}
 use Rattle.fab_gen_tile.specs.ConfigModule.{config_module}
 use Rattle.fab_gen_tile.specs.MatrixModule.{matrix_module}
@@ -22,12 +23,6 @@ stands fabric number = list_any (λ place. option_map_or (nat_eq number) place f
 -- the types that stand somewhere, in the order of their definition
 abbrev pub standing_types : PlainFabric → List PlainTile
 standing_types fabric = map (λ numbered. numbered.1) (filter (λ numbered. stands fabric numbered.0) (enumerate_from 0 fabric.types))
-
-abbrev pub same_kind : Kind → Kind → Bool
-same_kind kinds.Lut4c kinds.Lut4c = true
-same_kind kinds.Io kinds.Io = true
-same_kind kinds.Mux8 kinds.Mux8 = true
-same_kind _ _ = false
 
 -- whether a BEL of this kind stands somewhere
 abbrev pub is_used : PlainFabric → Kind → Bool

@@ -6,19 +6,21 @@ use Rattle.fab_syntax.specs.declared.tree.Shape.TheVariants.{Scalar, Vector}
 use Rattle.fab_syntax.specs.declared.tree.Op.TheVariants.{And, Equal}
 use Rattle.fab_syntax.specs.declared.tree.Port.{Port}
 use Rattle.fab_syntax.specs.Plain.{PlainExpr, PlainJoin, PlainItem, PlainModule, constant, variable, part, operation, conditional, wire, assign, instance}
-use Rattle.fab_meaning.specs.Runs.{user_clock_name}
-use Rattle.fab_prim.specs.Ports.{top_inputs, top_outputs}
-use Rattle.fab_matrix.specs.Matrix.{scalar}
-use Rattle.fab_model.specs.declared.tiles.WireRow.{WireRow}
-use Rattle.fab_model.specs.declared.tiles.Bel.{Bel}
-use Rattle.fab_model.specs.Rows.{is_jump}
-use Rattle.fab_model.specs.Tiles.{counted}
-use Rattle.fab_model.specs.Grid.{PlainFabric}
-use Rattle.fab_model.specs.Cascade.{PlacedRow, previous_row}
+use Rattle.fab_gen_tile.specs.fab_meaning.specs.Runs.{user_clock_name}
+use Rattle.fab_gen_tile.specs.fab_prim.specs.Ports.{top_inputs, top_outputs}
+use Rattle.fab_gen_tile.specs.fab_meaning.specs.Ports.{scalar}
+use Rattle.fab_gen_tile.specs.fab_model.specs.declared.tiles.WireRow.{WireRow}
+use Rattle.fab_gen_tile.specs.fab_model.specs.declared.tiles.Bel.{Bel}
+use Rattle.fab_gen_tile.specs.fab_model.specs.Rows.{is_jump}
+use Rattle.fab_gen_tile.specs.fab_model.specs.Tiles.{counted}
+use Rattle.fab_gen_tile.specs.fab_model.specs.Grid.{PlainFabric}
+use Rattle.fab_gen_tile.specs.fab_model.specs.Cascade.{PlacedRow, previous_row}
 use Rattle.fab_fabric.specs.Names.{place_name}
 use Rattle.fab_gen_tile.specs.Names.{tile_module_name, frame_data_name, frame_strobe_name, begin_name, end_name, pad_name, vector, joined, same_join}
 use Rattle.fab_gen_tile.specs.Borders.{side_border}
-use Rattle.fab_fabric_text.specs.Names.{top_module_name, loader_module_name, loader_instance_name, loader_clock_name, write_strobe_name, write_data_name, pad_port_name, address_name, strobe_name, row_name, column_strobe_name, begin_wire_name}
+use Rattle.fab_gen_tile.specs.fab_meaning.specs.Loading.{write_strobe_name, write_data_name}
+use Rattle.fab_gen_loader.specs.Loader.{loader_module_name}
+use Rattle.fab_fabric_text.specs.Names.{top_module_name, loader_instance_name, loader_clock_name, pad_port_name, address_name, strobe_name, row_name, column_strobe_name, begin_wire_name}
 use Rattle.fab_fabric_text.specs.Places.{PlacedTile, placed_tiles}
 
 -- ---- ports

@@ -3,7 +3,7 @@ use Rattle.std.proofs.Common.{◌≡◌, ℕ, zero, suc, ◌+◌, ◌-◌, ◌*�
 use Rattle.std.proofs.lemmas.Bool.{lt-ltb, le-ltb}
 use Rattle.std.proofs.lemmas.Nat.{pow-add}
 use Rattle.std.proofs.Math.Nat.{pow-zero, pow-suc, pow-le-pow_left, mul-le-mul_left, mul-le-mul_right}
-use Rattle.fab_fasm.specs.Leading.{BeginsWith}
+use Rattle.fab_fasm.specs.inner.Leading.{BeginsWith}
 use Rattle.fab_fasm.proofs.LimbSums.{above_weight}
 use Rattle.fab_fasm.proofs.Powers.{power_more}
 

@@ -6,7 +6,7 @@ use Rattle.std.proofs.lemmas.Nat.{pow-add, mul-le}
 use Rattle.std.proofs.Math.ListN.{set}
 use Rattle.std.proofs.Math.Seq.{take-length}
 use Rattle.std.proofs.Math.Nat.{mul-le-mul_left}
-use Rattle.fab_fasm.specs.Limbs.{limbs_number}
+use Rattle.fab_fasm.specs.inner.Limbs.{limbs_number}
 use Rattle.fab_fasm.proofs.Powers.{power_more, nothing_left}
 
 -- the weight of a limb more

@@ -3,7 +3,5 @@ pub mod Parts
 pub mod Values
 pub mod Fasm
 pub mod Printing
-pub mod Limbs
-pub mod Leading
-pub mod Plain
 pub mod Spelled
+pub mod inner

@@ -4,7 +4,7 @@ ghost use Rattle.std.specs.Prelude.{◌≡◌, ◌+◌, ◌≤◌, option_map};
 ghost use Rattle.std.specs.Char.{is_digit};
 ghost use Rattle.std.specs.List.{list_all};
 ghost use Rattle.fab_fasm.specs.Parts.{address_at, address_number, address_of, both_ends, in_order, parted, width_of};
-ghost use Rattle.fab_fasm.specs.Plain.{plain_address};
+ghost use Rattle.fab_fasm.specs.inner.Plain.{plain_address};
 
 use crate::numbers::{Base, number_of};
 use crate::parts::{after_byte, parted};

@@ -1,7 +1,7 @@
 //! The size of a number by its first digit and by how many digits follow it.
 
 ghost use Rattle.std.specs.Prelude.{◌≡◌, ◌+◌, ◌*◌, ◌<◌, ◌≤◌, ◌^◌, ℕ, IfSome, nat_lt};
-ghost use Rattle.fab_fasm.specs.Leading.{BeginsWith};
+ghost use Rattle.fab_fasm.specs.inner.Leading.{BeginsWith};
 ghost use Rattle.fab_fasm.specs.Numbers.{next, number_of, radix};
 
 use crate::literal::is_narrow;

@@ -1,7 +1,7 @@
 //! Numbers that do not fit 128 bits, compared with a power of two.
 
 ghost use Rattle.std.specs.Prelude.{◌≡◌, ◌+◌, ◌*◌, ◌/◌, ◌^◌, ◌<◌, ◌≤◌, IfOk, MatchBool, length, nat_lt, vec_len};
-ghost use Rattle.fab_fasm.specs.Limbs.{IsWaiting, limbs_number, waiting_number};
+ghost use Rattle.fab_fasm.specs.inner.Limbs.{IsWaiting, limbs_number, waiting_number};
 ghost use Rattle.fab_fasm.specs.Numbers.{next, number_of, radix};
 
 use crate::leading::leading_of;

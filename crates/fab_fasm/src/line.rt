@@ -4,7 +4,7 @@ ghost use Rattle.std.specs.Prelude.{◌≡◌, option_map};
 ghost use Rattle.fab_base.specs.Reading.{Answers};
 ghost use Rattle.fab_fasm.specs.Fasm.{feature_line, line_of, valued};
 ghost use Rattle.fab_fasm.specs.Parts.{run};
-ghost use Rattle.fab_fasm.specs.Plain.{plain_value};
+ghost use Rattle.fab_fasm.specs.inner.Plain.{plain_value};
 
 use crate::address::address_at;
 use crate::feature::Feature;

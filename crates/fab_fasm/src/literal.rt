@@ -4,7 +4,7 @@ ghost use Rattle.std.specs.Prelude.{◌≡◌, ◌^◌, IfOk, nat_lt, option_map
 ghost use Rattle.fab_lines.specs.Numbers.{capped};
 ghost use Rattle.fab_fasm.specs.Numbers.{number_of, small};
 ghost use Rattle.fab_fasm.specs.Values.{base_of, based_literal, bits_limit, decimal_literal, fits, limited, literal_of, room, sized_literal, value_number, written_width};
-ghost use Rattle.fab_fasm.specs.Plain.{plain_literal};
+ghost use Rattle.fab_fasm.specs.inner.Plain.{plain_literal};
 
 use crate::limbs::is_below_power;
 use crate::numbers::{Base, is_decimal, is_number, number_of};

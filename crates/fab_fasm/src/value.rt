@@ -1,7 +1,7 @@
 //! The value of a feature, as a line gives it.
 
 ghost use Rattle.std.specs.Prelude.{◌≡◌, IfOk, option_map};
-ghost use Rattle.fab_fasm.specs.Plain.{plain_address, plain_value};
+ghost use Rattle.fab_fasm.specs.inner.Plain.{plain_address, plain_value};
 ghost use Rattle.fab_fasm.specs.Values.{value_at, written_value};
 
 use crate::address::{Addressed, width_of};

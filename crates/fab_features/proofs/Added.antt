@@ -8,7 +8,7 @@ use Rattle.fab_fabric.specs.Bits.{AreBitsOf, HasBit, SetsBit, plain_bits, bits_a
 use Rattle.fab_netlist.specs.Plain.{IsAt}
 use Rattle.fab_netlist.specs.WellMade.{table_bit}
 use Rattle.fab_legal.proofs.Members.{in_taken, stays_taken, last_taken}
-use Rattle.fab_features.specs.Adding.{Adds, BitSet, SomeOf, IsOneOf}
+use Rattle.fab_features.specs.inner.Adding.{Adds, BitSet, SomeOf, IsOneOf}
 use Rattle.fab_features.specs.declared.ones.Ones.{Ones}
 
 -- ---- in general

@@ -6,7 +6,7 @@ use Rattle.std.proofs.Math.Nat.{zero-div}
 use Rattle.fab_bits.specs.Bits.{digits}
 use Rattle.fab_kinds.specs.Pins.{bit_count}
 use Rattle.fab_model.specs.declared.tiles.Bel.{Bel}
-use Rattle.fab_model.specs.Tiles.{PlainTile, output_field, bel_bits}
+use Rattle.fab_model.specs.Tiles.{PlainTile, output_field, bel_bits, bits_before}
 use Rattle.fab_model.specs.Grid.{PlainFabric, tile_at}
 use Rattle.fab_model.specs.Drive.{PlainBits, select_field, matrix_inputs}
 use Rattle.fab_netlist.specs.Plain.{IsAt}
@@ -15,12 +15,11 @@ use Rattle.fab_legal.specs.Turns.{AreRight}
 use Rattle.fab_legal.proofs.Lists.{same_at}
 use Rattle.fab_legal.proofs.Once.{before_in}
 use Rattle.fab_fasm.specs.declared.feature.Feature.{Feature}
-use Rattle.fab_gen_tile.specs.TileModule.{bits_before}
 use Rattle.fab_features.specs.Said.{choice}
 use Rattle.fab_features.specs.Features.{IsBitMapOf, SetsBelBit, Chooses, place_among}
 use Rattle.fab_features.specs.Wrong.{IsRightFeature}
-use Rattle.fab_features.specs.Adding.{Adds, SomeOf, IsSelectOne}
-use Rattle.fab_features.specs.Lines.{IsLineOne, IsFieldOne}
+use Rattle.fab_features.specs.inner.Adding.{Adds, SomeOf, IsSelectOne}
+use Rattle.fab_features.specs.inner.Lines.{IsLineOne, IsFieldOne}
 use Rattle.fab_features.specs.declared.said.Choice.{Choice}
 use Rattle.fab_features.proofs.Fields.{bel_inside, one_bel, field_above, one_output}
 use Rattle.fab_features.proofs.Setting.{one_tile}

@@ -16,7 +16,7 @@ use Rattle.fab_fasm.specs.declared.feature.Feature.{Feature}
 use Rattle.fab_features.specs.Said.{said_of, choice}
 use Rattle.fab_features.specs.Features.{Chooses}
 use Rattle.fab_features.specs.Wrong.{IsFeature, IsRightFeature, Agrees, BreaksBehind, BreaksFirst, IsFirstWrongFeature, unknown, contrary, output_name, said_width}
-use Rattle.fab_features.specs.Lines.{HoldsChoices, IsContrary, Allows, Notes, IsRefused}
+use Rattle.fab_features.specs.inner.Lines.{HoldsChoices, IsContrary, Allows, Notes, IsRefused}
 use Rattle.fab_features.specs.declared.said.BelField.{BelField}
 use Rattle.fab_features.specs.declared.said.Choice.{Choice}
 use Rattle.fab_features.specs.declared.said.Said.{Said}

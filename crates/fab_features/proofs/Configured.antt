@@ -8,7 +8,7 @@ use Rattle.std.proofs.lemmas.Nat.{shr-shr}
 use Rattle.std.proofs.Math.Nat.{div-one}
 use Rattle.fab_bits.specs.Bits.{digits, first_bits}
 use Rattle.fab_kinds.specs.declared.kind.Kind.TheVariants as kinds
-use Rattle.fab_model.specs.Tiles.{PlainTile, output_field, bel_bits}
+use Rattle.fab_model.specs.Tiles.{PlainTile, output_field, bel_bits, bits_before}
 use Rattle.fab_model.specs.Grid.{PlainFabric, tile_at}
 use Rattle.fab_model.specs.Wires.{PlainWire, IsMatrixOutput, plain_wires, wire_number}
 use Rattle.fab_model.specs.Drive.{PlainBits, matrix_inputs, input_at, select_field}
@@ -30,11 +30,10 @@ use Rattle.fab_legal.specs.Legal.{IsLegal}
 use Rattle.fab_legal.specs.Steps.{IsStep}
 use Rattle.fab_legal.proofs.Lists.{same_at}
 use Rattle.fab_legal.proofs.PortNumbers.{place_in}
-use Rattle.fab_gen_tile.specs.TileModule.{bits_before}
 use Rattle.fab_use.specs.Design.{IsBound}
 use Rattle.fab_use.specs.Configuring.{Configures, cell_bit}
 use Rattle.fab_features.specs.Features.{place_among}
-use Rattle.fab_features.specs.Adding.{Adds, SomeOf, IsCellOne, IsCellLine, IsSelectOne, IsTreeOne}
+use Rattle.fab_features.specs.inner.Adding.{Adds, SomeOf, IsCellOne, IsCellLine, IsSelectOne, IsTreeOne}
 use Rattle.fab_features.proofs.Fields.{bel_inside, one_bel, field_above, one_output}
 use Rattle.fab_features.proofs.Setting.{one_tile, tile_there, lut_bel}
 use Rattle.fab_features.proofs.Steps.{step_within, edge_paired, one_edge, once_listed}

@@ -10,7 +10,7 @@ use Rattle.fab_kinds.specs.Pins.{bit_count}
 use Rattle.fab_select.specs.Selection.{in_order}
 use Rattle.fab_select.specs.declared.pair.Pair.{Pair}
 use Rattle.fab_model.specs.declared.tiles.Bel.{Bel}
-use Rattle.fab_model.specs.Tiles.{PlainTile, IsTile, IsPair, numbered_pairs, counted, wire_passes, is_matrix_output}
+use Rattle.fab_model.specs.Tiles.{PlainTile, IsTile, IsPair, numbered_pairs, counted, wire_passes, is_matrix_output, bits_before}
 use Rattle.fab_model.specs.Grid.{PlainFabric, tile_at}
 use Rattle.fab_model.specs.Wires.{PlainWire, IsMatrixOutput, plain_wires, dest_of}
 use Rattle.fab_model.specs.Drive.{PlainBits, matrix_inputs}
@@ -30,19 +30,18 @@ use Rattle.fab_legal.specs.Steps.{IsStep}
 use Rattle.fab_legal.proofs.Members.{in_either}
 use Rattle.fab_legal.proofs.SinkLaw.{in_flat, into_flat}
 use Rattle.fab_legal.proofs.Pins.{is_tile_at, tile_type, tile_of_kind}
-use Rattle.fab_tile_drives.proofs.Members.{contains_at, contains_counted}
+use Rattle.fab_use.specs.fab_tile_drives.proofs.Members.{contains_at, contains_counted}
 use Rattle.fab_fasm.specs.declared.feature.Feature.{Feature}
-use Rattle.fab_fabric_text.specs.Places.{placed_tiles}
-use Rattle.fab_gen_tile.specs.TileModule.{bits_before}
-use Rattle.fab_gen_tile.specs.Words.{IsNamed}
+use Rattle.fab_use.specs.fab_fabric_text.specs.Places.{placed_tiles}
+use Rattle.fab_use.specs.fab_gen_tile.specs.Words.{IsNamed}
 use Rattle.fab_use.specs.Configuring.{cell_bit}
 use Rattle.fab_features.specs.Said.{said_of, field_of, bel_field, choice}
 use Rattle.fab_features.specs.Naming.{HasPrefixes}
 use Rattle.fab_features.specs.Features.{IsBitMapOf, Chooses}
 use Rattle.fab_features.specs.Design.{feature_of, field_name, pair_name, same_site, cell_on, cell_features, site_features, edge_into, edge_feature, output_feature, site_in, tile_features, design_features}
-use Rattle.fab_features.specs.Adding.{Adds, SomeOf, IsCellOne, IsTreeOne}
-use Rattle.fab_features.specs.Lines.{IsLineOne}
-use Rattle.fab_features.specs.Listing.{placed_tile}
+use Rattle.fab_features.specs.inner.Adding.{Adds, SomeOf, IsCellOne, IsTreeOne}
+use Rattle.fab_features.specs.inner.Lines.{IsLineOne}
+use Rattle.fab_features.specs.inner.Listing.{placed_tile}
 use Rattle.fab_features.specs.declared.said.BelField.{BelField}
 use Rattle.fab_features.specs.declared.said.Choice.{Choice}
 use Rattle.fab_features.specs.declared.said.Said.TheVariants as said

@@ -1,16 +1,19 @@
 -- The fields of a tile's configuration bits lie in the tile, and apart.
-use Rattle.std.proofs.Common.{◌≡◌, ◌≢◌, ◌⊎◌, ℕ, zero, suc, ◌+◌, ◌<◌, ◌≤◌, Bool, true, false, not, cond, List, [], ◌∷◌, length, take, nat_eq, slice_get, Some, sym, refl, ap, ◌∙◌, inl, inr, arith, Decides, sum_by}
+use Rattle.std.proofs.Common.{◌≡◌, ◌≢◌, ◌⊎◌, ℕ, zero, suc, ◌+◌, ◌*◌, ◌<◌, ◌≤◌, Bool, true, false, not, cond, List, [], ◌∷◌, length, take, nat_eq, slice_get, Option, Some, sym, refl, ap, ◌∙◌, inl, inr, arith, Decides, sum_by}
 use Rattle.std.specs.List.{list_any, take_while}
+use Rattle.std.specs.Option.{option_map_or}
 use Rattle.std.proofs.lemmas.Bool.{false≢true, cases_Bool, cases_lt}
 use Rattle.std.proofs.lemmas.Bool.Decides.{Decides-eqb}
 use Rattle.std.proofs.lemmas.List.Sums.{sum_by-cons, take_while-cons}
 use Rattle.fab_bits.specs.Widths.{select_width}
+use Rattle.fab_kinds.specs.declared.kind.Kind.{Kind}
+use Rattle.fab_kinds.specs.declared.kind.Kind.TheVariants as kinds
 use Rattle.fab_kinds.specs.Pins.{bit_count}
 use Rattle.fab_select.specs.Selection.{inputs_of, in_order, field_width, field_low}
 use Rattle.fab_select.proofs.Firsts.{told, any_kept}
 use Rattle.fab_model.specs.declared.tiles.Bel.{Bel}
-use Rattle.fab_model.specs.Tiles.{PlainTile, numbered_pairs, output_field, bel_bits, tile_bits}
-use Rattle.fab_gen_tile.specs.TileModule.{bits_before}
+use Rattle.fab_model.specs.Tiles.{PlainTile, numbered_pairs, output_field, bel_bits, bel_field, tile_bits, bits_before}
+use Rattle.fab_fabric.proofs.Numbered.{some_item}
 
 -- ---- BELs
 
@@ -28,6 +31,25 @@ bel_inside (other ∷ bels) zero bel is =
     the_same a b e = cc
 bel_inside (other ∷ bels) (suc place) bel is =
     omega (arith, bel_inside bels place bel is, sum_by-cons bits_of other bels, sum_by-cons bits_of other (take place bels))
+
+pub kind_small : (kind : Kind) → bit_count kind ≤ 19
+kind_small kinds.Lut4c = omega arith
+kind_small kinds.Io = omega arith
+kind_small kinds.Mux8 = omega arith
+
+-- a BEL has at most 19 bits
+pub before_small : (bels : List Bel) (place : ℕ) → bits_before bels place ≤ 19 * place
+before_small [] zero = omega arith
+before_small [] (suc place) = omega arith
+before_small (bel ∷ bels) zero = omega arith
+before_small (bel ∷ bels) (suc place) = omega (arith, kind_small bel.kind, before_small bels place, sum_by-cons bits_of bel (take place bels))
+
+-- the field of a BEL that is there
+pub field_there : (tile : PlainTile) (bel : ℕ) → bel < length tile.bels → (bel_field tile bel).0 ≡ bits_before tile.bels bel
+field_there tile bel inside =
+    let found = some_item tile.bels bel inside in
+    let field : Option Bel → ℕ × ℕ = λ o. option_map_or (λ (b : Bel). (bits_before tile.bels bel, bit_count b.kind)) o (0, 0) in
+    ap (λ o. (field o).0) found.1
 
 -- two BELs have no bit in common
 pub one_bel : (bels : List Bel) (a b : ℕ) (first second : Bel) (p q : ℕ) → slice_get bels a ≡ Some first → slice_get bels b ≡ Some second → p < bit_count first.kind → q < bit_count second.kind →

@@ -2,7 +2,7 @@
 use Rattle.std.proofs.Common.{◌≡◌, ℕ, suc, zero, ◌+◌, ◌<◌, ◌≤◌, List, [], ◌∷◌, ◌++◌, length, get_or, slice_get, Some, ap, ◌∙◌, sym, refl, subst, arith, inl, inr}
 use Rattle.std.proofs.lemmas.Bool.{cases_lt}
 use Rattle.fab_model.specs.Tiles.{PlainTile}
-use Rattle.fab_features.specs.Matrices.{IsMatrixOf, AreMatricesOf}
+use Rattle.fab_features.specs.inner.Matrices.{IsMatrixOf, AreMatricesOf}
 use Rattle.fab_features.specs.declared.matrices.Matrix.{Matrix}
 
 get_left : {X : Type 0} (xs ys : List X) (i : ℕ) → i < length xs → slice_get (xs ++ ys) i ≡ slice_get xs i

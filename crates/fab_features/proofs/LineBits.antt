@@ -2,16 +2,15 @@
 use Rattle.std.proofs.Common.{◌≡◌, ◌≢◌, ℕ, ◌+◌, ◌-◌, ◌<◌, ◌≤◌, Some, slice_get, sym, ap, ◌∙◌, subst, inl, inr, arith}
 use Rattle.fab_kinds.specs.Pins.{bit_count}
 use Rattle.fab_model.specs.declared.tiles.Bel.{Bel}
-use Rattle.fab_model.specs.Tiles.{PlainTile}
+use Rattle.fab_model.specs.Tiles.{PlainTile, bits_before}
 use Rattle.fab_model.specs.Grid.{PlainFabric, tile_at}
 use Rattle.fab_model.specs.Drive.{PlainBits}
 use Rattle.fab_fabric.specs.Bits.{bits_at}
 use Rattle.fab_netlist.specs.WellMade.{table_bit}
 use Rattle.fab_fasm.specs.declared.feature.Feature.{Feature}
-use Rattle.fab_gen_tile.specs.TileModule.{bits_before}
 use Rattle.fab_features.specs.Said.{said_of, bel_field, choice}
-use Rattle.fab_features.specs.Adding.{Adds, IsOneOf, IsChoiceOne, IsSelectOne}
-use Rattle.fab_features.specs.Lines.{IsLineOne}
+use Rattle.fab_features.specs.inner.Adding.{Adds, IsOneOf, IsChoiceOne, IsSelectOne}
+use Rattle.fab_features.specs.inner.Lines.{IsLineOne}
 use Rattle.fab_features.specs.declared.said.BelField.{BelField}
 use Rattle.fab_features.specs.declared.said.Choice.{Choice}
 use Rattle.fab_features.specs.declared.said.Said.TheVariants as said

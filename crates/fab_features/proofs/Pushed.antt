@@ -10,7 +10,7 @@ use Rattle.fab_netlist.specs.Plain.{IsAt}
 use Rattle.fab_legal.proofs.Members.{taken_more}
 use Rattle.fab_fasm.specs.declared.feature.Feature.{Feature}
 use Rattle.fab_fasm.specs.Printing.{numbered}
-use Rattle.fab_features.specs.Listing.{Pushes}
+use Rattle.fab_features.specs.inner.Listing.{Pushes}
 
 pub pushes_none : (old : List Feature) → Pushes old old []
 pushes_none old = sym (append-nil old)

@@ -6,7 +6,7 @@ use Rattle.std.proofs.lemmas.Bool.{false≢true, cases_Bool, cases_lt}
 use Rattle.fab_kinds.specs.declared.kind.Kind.TheVariants as kinds
 use Rattle.fab_kinds.specs.Pins.{bit_count}
 use Rattle.fab_model.specs.declared.tiles.Bel.{Bel}
-use Rattle.fab_model.specs.Tiles.{PlainTile, output_field, tile_bits}
+use Rattle.fab_model.specs.Tiles.{PlainTile, output_field, tile_bits, bits_before}
 use Rattle.fab_model.specs.Grid.{PlainFabric, tile_at}
 use Rattle.fab_model.specs.Drive.{PlainBits, matrix_inputs}
 use Rattle.fab_fabric.specs.Bits.{bits_at}
@@ -22,10 +22,9 @@ use Rattle.fab_implementation.specs.Plain.{Edge}
 use Rattle.fab_implementation.specs.OnFabric.{kind_at}
 use Rattle.fab_legal.proofs.Pins.{tile_of_kind}
 use Rattle.fab_legal.proofs.PortNumbers.{place_in}
-use Rattle.fab_gen_tile.specs.TileModule.{bits_before}
 use Rattle.fab_use.specs.Configuring.{cell_bit}
 use Rattle.fab_features.specs.Features.{place_among}
-use Rattle.fab_features.specs.Adding.{Adds, IsOneOf, IsSiteOne, IsSelectOne, IsChoiceOne, IsEdgeOne}
+use Rattle.fab_features.specs.inner.Adding.{Adds, IsOneOf, IsSiteOne, IsSelectOne, IsChoiceOne, IsEdgeOne}
 use Rattle.fab_features.specs.declared.ones.Ones.{Ones}
 use Rattle.fab_features.specs.declared.said.Choice.{Choice}
 use Rattle.fab_features.proofs.Added.{none_added, both_added, same_added}

@@ -29,7 +29,7 @@ use Rattle.fab_legal.specs.Turns.{AreRight}
 use Rattle.fab_legal.specs.Steps.{IsJoined, IsStep}
 use Rattle.fab_legal.specs.Nets.{net_of, left_wires, entered_wires, IsRightEntry, StandsIn}
 use Rattle.fab_legal.specs.Legal.{WiresAreReached, NetsBeginRight, NetsAreApart}
-use Rattle.fab_legal.specs.Tables.{pairs_of}
+use Rattle.fab_legal.specs.inner.Tables.{pairs_of}
 use Rattle.fab_legal.specs.Lines.{IsNew}
 use Rattle.fab_legal.proofs.Lists.{same_at}
 use Rattle.fab_legal.proofs.Once.{before_in}

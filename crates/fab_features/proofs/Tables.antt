@@ -24,7 +24,7 @@ use Rattle.fab_implementation.specs.OnFabric.{kind_at}
 use Rattle.fab_legal.proofs.Members.{taken_more}
 use Rattle.fab_legal.proofs.Pins.{tile_of_kind, tile_type}
 use Rattle.fab_features.specs.Design.{same_site}
-use Rattle.fab_features.specs.Listing.{Keyed, first_value, HoldsFirsts, edge_key, line_key, site_index, IsNear, IsInGrid}
+use Rattle.fab_features.specs.inner.Listing.{Keyed, first_value, HoldsFirsts, edge_key, line_key, site_index, IsNear, IsInGrid}
 
 -- ---- in general
 

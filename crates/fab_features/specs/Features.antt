@@ -4,12 +4,11 @@ use Rattle.std.specs.List.{position_or_len}
 use Rattle.fab_bits.specs.Bits.{digits}
 use Rattle.fab_kinds.specs.Pins.{bit_count}
 use Rattle.fab_model.specs.declared.tiles.Bel.{Bel}
-use Rattle.fab_model.specs.Tiles.{PlainTile, output_field}
+use Rattle.fab_model.specs.Tiles.{PlainTile, output_field, bits_before}
 use Rattle.fab_model.specs.Grid.{PlainFabric, tile_at}
 use Rattle.fab_model.specs.Drive.{PlainBits, select_field, matrix_inputs}
 use Rattle.fab_netlist.specs.WellMade.{table_bit}
 use Rattle.fab_fasm.specs.declared.feature.Feature.{Feature}
-use Rattle.fab_gen_tile.specs.TileModule.{bits_before}
 use Rattle.fab_features.specs.Said.{said_of, bel_field, choice}
 use Rattle.fab_features.specs.declared.said.Said.TheVariants as said
 

@@ -2,11 +2,8 @@ pub mod Said
 pub mod Features
 pub mod Design
 pub mod Wrong
-pub mod Adding
-pub mod Matrices
-pub mod Listing
-pub mod Lookups
-pub mod Lines
 pub mod Naming
 pub mod Spelled
 pub mod NameParts
+pub mod inner
+pub use Rattle.fab_use

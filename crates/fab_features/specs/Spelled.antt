@@ -7,15 +7,14 @@ use Rattle.fab_bits.specs.Bits.{number, first_bits}
 use Rattle.fab_kinds.specs.declared.kind.Kind.{Kind}
 use Rattle.fab_kinds.specs.declared.kind.Kind.TheVariants as kinds
 use Rattle.fab_select.specs.Selection.{in_order}
-use Rattle.fab_model.specs.Tiles.{PlainTile, counted, matrix_names, numbered_pairs}
+use Rattle.fab_model.specs.Tiles.{PlainTile, counted, matrix_names, numbered_pairs, bits_before}
 use Rattle.fab_model.specs.Grid.{PlainFabric}
 use Rattle.fab_model.specs.Drive.{PlainBits, select_value, matrix_inputs}
 use Rattle.fab_fabric.specs.Names.{place_name}
 use Rattle.fab_fabric.specs.declared.wire.Site.{Site}
 use Rattle.fab_fasm.specs.declared.feature.Feature.{Feature}
 use Rattle.fab_fasm.specs.Printing.{numbered}
-use Rattle.fab_fabric_text.specs.Places.{PlacedTile, placed_tiles}
-use Rattle.fab_gen_tile.specs.TileModule.{bits_before}
+use Rattle.fab_use.specs.fab_fabric_text.specs.Places.{PlacedTile, placed_tiles}
 use Rattle.fab_features.specs.Design.{feature_of, field_name, site_in}
 
 -- the bits of a tile, by number

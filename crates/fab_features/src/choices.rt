@@ -3,7 +3,7 @@
 ghost use Rattle.std.specs.Prelude.{◌≡◌, ◌<◌, ◌↔◌, IsTrue, length};
 ghost use Rattle.fab_fabric.specs.Fabric.{wires_at, wire_count};
 ghost use Rattle.fab_features.specs.Said.{said_of};
-ghost use Rattle.fab_features.specs.Lines.{Allows, IsContrary, Notes, input_in};
+ghost use Rattle.fab_features.specs.inner.Lines.{Allows, IsContrary, Notes, input_in};
 ghost use Rattle.fab_features.specs.declared.said.Said.TheVariants as said;
 
 use crate::said::Choice;

@@ -1,20 +1,20 @@
 //! The configuration bits of a legal implementation.
 
-ghost use Rattle.std.specs.Prelude.{◌≡◌, ◌≤◌, List, IfOk, All, Some, length, nat_eq, position, is_some, if◌then◌else◌};
+ghost use Rattle.std.specs.Prelude.{◌≡◌, ◌<◌, ◌≤◌, List, IfOk, All, Some, length, nat_eq, position, is_some, if◌then◌else◌};
 ghost use Rattle.fab_kinds.specs.declared.kind.Kind.TheVariants as kinds;
 ghost use Rattle.fab_model.specs.Grid.{tile_at};
 ghost use Rattle.fab_fabric.specs.Bits.{AreBitsOf, plain_bits};
 ghost use Rattle.fab_implementation.specs.Plain.{Pad};
 ghost use Rattle.fab_implementation.specs.OnFabric.{HasWires, kind_at};
 ghost use Rattle.fab_legal.specs.Legal.{IsLegal};
-ghost use Rattle.fab_gen_tile.specs.TileModule.{bits_before};
-ghost use Rattle.fab_gen_tile.specs.Words.{IsNamed};
+ghost use Rattle.fab_model.specs.Tiles.{bits_before};
+ghost use Rattle.fab_use.specs.fab_gen_tile.specs.Words.{IsNamed};
 ghost use Rattle.fab_use.specs.Configuring.{Configures};
 ghost use Rattle.fab_features.specs.Naming.{HasPrefixes};
 ghost use Rattle.fab_features.specs.Features.{IsBitMapOf};
 ghost use Rattle.fab_features.specs.Design.{design_features};
-ghost use Rattle.fab_features.specs.Matrices.{AreMatricesOf, IsMatrixOf};
-ghost use Rattle.fab_features.specs.Adding.{Adds, SomeOf, IsSiteOne, IsCellOne, IsCellLine, IsChoiceOne, IsEdgeOne, IsTreeOne};
+ghost use Rattle.fab_features.specs.inner.Matrices.{AreMatricesOf, IsMatrixOf};
+ghost use Rattle.fab_features.specs.inner.Adding.{Adds, SomeOf, IsSiteOne, IsCellOne, IsCellLine, IsChoiceOne, IsEdgeOne, IsTreeOne};
 
 use crate::matrices::{Matrix, matrices_of, tile_with};
 use crate::ones::{Ones, set_ones};
@@ -22,25 +22,21 @@ use crate::said::Choice;
 use fab_base::Memory;
 use fab_fabric::{Bits, Fabric, Site, Wire};
 use fab_legal::{Legal, Tree};
-use fab_model::{Bel, TileType};
+use fab_model::TileType;
 use fab_netlist::{Cell, Packed};
 use std::alloc::Global;
 
 // How many bits of a LUT4c are its table. The bit behind them selects the flip-flop.
 const TABLE_BITS: u32 = 16;
 
-/// How many configuration bits the BELs of a tile before this place have.
-pub fn bits_before(bels: &[Bel], place: usize) -> u32
-    requires few { length bels.now ≤ 26 }
-    requires inside { place ≤ length bels.now }
-    ensures before { result ≡ bits_before bels.now place }
+/// The first configuration bit of a BEL of a tile.
+pub fn first_bit(tile: &TileType, bel: usize) -> u32
+    requires few { length tile.now.bels ≤ 26 }
+    requires inside { bel < length tile.now.bels }
+    ensures before { result ≡ bits_before tile.now.bels bel }
     ensures small { result ≤ 494 }
 {
-    let mut low = 0;
-    for bel in &bels[..place] {
-        low += bel.kind.bits();
-    }
-    low
+    tile.bel_field(bel).0
 }
 
 // 1 where a cell has a latch.
@@ -61,7 +57,7 @@ fn set_cell(fabric: &Fabric, bits: &mut Bits, matrices: &[Matrix], site: Site, c
     let Some((tile, _)) = tile_with(fabric, matrices, site.x, site.y) else {
         unreachable!()
     };
-    let low = bits_before(tile.bels(), site.bel as usize);
+    let low = first_bit(tile, site.bel as usize);
     let table = Ones {
         x: site.x,
         y: site.y,

@@ -10,12 +10,12 @@ ghost use Rattle.fab_fabric.specs.Names.{place_name};
 ghost use Rattle.fab_implementation.specs.Plain.{Pad};
 ghost use Rattle.fab_implementation.specs.OnFabric.{HasWires};
 ghost use Rattle.fab_legal.specs.Legal.{IsLegal};
-ghost use Rattle.fab_fabric_text.specs.Places.{column_tiles, placed_tiles};
-ghost use Rattle.fab_features.specs.Matrices.{AreMatricesOf, IsMatrixOf};
-ghost use Rattle.fab_features.specs.Adding.{IsCellLine};
+ghost use Rattle.fab_use.specs.fab_fabric_text.specs.Places.{column_tiles, placed_tiles};
+ghost use Rattle.fab_features.specs.inner.Matrices.{AreMatricesOf, IsMatrixOf};
+ghost use Rattle.fab_features.specs.inner.Adding.{IsCellLine};
 ghost use Rattle.fab_features.specs.Design.{cell_features, cell_on, design_features, edge_into, feature_of, field_name, output_feature, site_features, tile_features};
-ghost use Rattle.fab_features.specs.Listing.{Pushes, HoldsFirsts, IsNear, IsInGrid, edge_key, line_key, placed_tile, site_at};
-ghost use Rattle.fab_features.specs.Lookups.{IsLookup};
+ghost use Rattle.fab_features.specs.inner.Listing.{Pushes, HoldsFirsts, IsNear, IsInGrid, edge_key, line_key, placed_tile, site_at};
+ghost use Rattle.fab_features.specs.inner.Lookups.{IsLookup};
 
 use crate::matrices::{Matrix, matrices_of, tile_with};
 use fab_base::{Memory, Name};

@@ -4,12 +4,12 @@ ghost use Rattle.std.specs.Prelude.{◌≡◌, ◌<◌, ◌≤◌, MatchOption};
 ghost use Rattle.fab_fabric.specs.Bits.{AreBitsOf, plain_bits};
 ghost use Rattle.fab_features.specs.Said.{said_of};
 ghost use Rattle.fab_features.specs.Wrong.{IsFeature, said_width};
-ghost use Rattle.fab_features.specs.Matrices.{AreMatricesOf};
-ghost use Rattle.fab_features.specs.Adding.{Adds};
-ghost use Rattle.fab_features.specs.Lines.{IsLineOne};
+ghost use Rattle.fab_features.specs.inner.Matrices.{AreMatricesOf};
+ghost use Rattle.fab_features.specs.inner.Adding.{Adds};
+ghost use Rattle.fab_features.specs.inner.Lines.{IsLineOne};
 ghost use Rattle.fab_features.specs.declared.said.Said.TheVariants as said;
 
-use crate::design::{bits_before, set_choice};
+use crate::design::{first_bit, set_choice};
 use crate::matrices::{Matrix, tile_with};
 use crate::ones::{Ones, set_ones};
 use crate::said::{BelField, Choice, Said, said_of};
@@ -48,7 +48,7 @@ fn set_ordered(
     let Some((tile, _)) = tile_with(fabric, matrices, field.x, field.y) else {
         unreachable!()
     };
-    let first = bits_before(tile.bels(), field.bel as usize) + field.first;
+    let first = first_bit(tile, field.bel as usize) + field.first;
     let ones = Ones {
         x: field.x,
         y: field.y,

@@ -6,8 +6,8 @@ ghost use Rattle.fab_select.specs.Selection.{inputs_of, in_order};
 ghost use Rattle.fab_model.specs.Tiles.{pair_numbers, matrix_names};
 ghost use Rattle.fab_model.specs.Grid.{tile_at};
 ghost use Rattle.fab_fabric.specs.Fabric.{IsFabric, AreTiles};
-ghost use Rattle.fab_fabric.specs.Index.{group_at};
-ghost use Rattle.fab_features.specs.Matrices.{IsMatrixOf, AreMatricesOf};
+ghost use Rattle.fab_bits.specs.Keys.{group_at};
+ghost use Rattle.fab_features.specs.inner.Matrices.{IsMatrixOf, AreMatricesOf};
 
 use fab_base::Memory;
 use fab_fabric::Fabric;

@@ -3,7 +3,7 @@
 ghost use Rattle.std.specs.Prelude.{◌≡◌};
 ghost use Rattle.fab_netlist.specs.WellMade.{table_bit};
 ghost use Rattle.fab_fabric.specs.Bits.{AreBitsOf, plain_bits};
-ghost use Rattle.fab_features.specs.Adding.{Adds, FitsTile, IsOneOf};
+ghost use Rattle.fab_features.specs.inner.Adding.{Adds, FitsTile, IsOneOf};
 
 use fab_fabric::{Bits, Fabric};
 

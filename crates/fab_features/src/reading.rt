@@ -10,9 +10,9 @@ ghost use Rattle.fab_fasm.specs.declared.feature.Feature.{Feature as PlainFeatur
 ghost use Rattle.fab_features.specs.Said.{said_of};
 ghost use Rattle.fab_features.specs.Features.{IsBitMapOf};
 ghost use Rattle.fab_features.specs.Wrong.{IsFirstWrongFeature, IsRightFeature, output_name, said_width};
-ghost use Rattle.fab_features.specs.Matrices.{AreMatricesOf};
-ghost use Rattle.fab_features.specs.Adding.{Adds, SomeOf};
-ghost use Rattle.fab_features.specs.Lines.{Allows, HoldsChoices, IsLineOne, IsRefused, Notes};
+ghost use Rattle.fab_features.specs.inner.Matrices.{AreMatricesOf};
+ghost use Rattle.fab_features.specs.inner.Adding.{Adds, SomeOf};
+ghost use Rattle.fab_features.specs.inner.Lines.{Allows, HoldsChoices, IsLineOne, IsRefused, Notes};
 ghost use Rattle.fab_features.specs.declared.said.Said.TheVariants as said;
 
 use crate::choices::{is_contrary, note};

@@ -6,7 +6,7 @@ ghost use Rattle.fab_fasm.specs.Parts.{parted};
 ghost use Rattle.fab_texts.specs.Places.{letter_of};
 ghost use Rattle.fab_features.specs.Said.{field_in, field_of, lut_field, mux_field, pair_in, said_in, said_of};
 ghost use Rattle.fab_features.specs.Wrong.{said_width};
-ghost use Rattle.fab_features.specs.Matrices.{AreMatricesOf, IsMatrixOf};
+ghost use Rattle.fab_features.specs.inner.Matrices.{AreMatricesOf, IsMatrixOf};
 
 use crate::matrices::{Matrix, tile_with};
 use fab_fabric::Fabric;

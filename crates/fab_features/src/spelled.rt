@@ -10,13 +10,13 @@ ghost use Rattle.fab_model.specs.Grid.{tile_at};
 ghost use Rattle.fab_model.specs.Drive.{select_value};
 ghost use Rattle.fab_fabric.specs.Bits.{plain_bits};
 ghost use Rattle.fab_fabric.specs.Fabric.{IsFabric};
-ghost use Rattle.fab_fabric_text.specs.Places.{column_tiles, placed_tiles};
+ghost use Rattle.fab_use.specs.fab_fabric_text.specs.Places.{column_tiles, placed_tiles};
 ghost use Rattle.fab_features.specs.Design.{field_name};
-ghost use Rattle.fab_features.specs.Listing.{Pushes, placed_tile};
-ghost use Rattle.fab_features.specs.Matrices.{AreMatricesOf, IsMatrixOf};
+ghost use Rattle.fab_features.specs.inner.Listing.{Pushes, placed_tile};
+ghost use Rattle.fab_features.specs.inner.Matrices.{AreMatricesOf, IsMatrixOf};
 ghost use Rattle.fab_features.specs.Spelled.{bel_features, features_in, field_features, kind_features, picked_input, place_spells, tile_picks, tile_spells, unless_zero, value_of};
 
-use crate::design::bits_before;
+use crate::design::first_bit;
 use crate::features::{field_name, pair_name, push_line};
 use crate::matrices::{Matrix, matrices_of, tile_with};
 use fab_base::{Memory, Name};
@@ -155,7 +155,7 @@ fn push_bel_of(
 {
     let bels = tile.bels();
     let place = site.bel as usize;
-    let low = bits_before(bels, place);
+    let low = first_bit(tile, place);
     push_bel(features, alloc, bits, site, low, bels[place].kind)?;
     Ok(())
 }

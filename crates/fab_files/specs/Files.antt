@@ -1,8 +1,7 @@
 -- Which files are handed out, and why a reader of several files ends before it is done.
-use Rattle.std.specs.Prelude.{◌≡◌, ℕ, List, length, max, nat_lt, Option, Some, None, Result, Ok, Err, if◌then◌else◌}
+use Rattle.std.specs.Prelude.{◌≡◌, ℕ, List, length, nat_lt, Option, Some, None, Result, Ok, Err, if◌then◌else◌}
 use Rattle.std.specs.Option.{ForSome}
 use Rattle.std.specs.Str.{is_utf8}
-use Rattle.std.specs.Str.Lines.{lines}
 use Rattle.fab_base.specs.declared.TheConstants.{MAX_FILE_BYTES}
 use Rattle.fab_base.specs.declared.fault.Fault.{Fault}
 use Rattle.fab_base.specs.declared.fault.Fault.TheVariants as faults
@@ -28,10 +27,6 @@ needed file (Err fault) = Err fault
 
 abbrev pub handed_out : (files : Map) → (file : List ℕ) → Result (List ℕ) Fault
 handed_out files file = needed file (handed_out_if_there files file)
-
--- the number of the last line of a text, 1 where it is empty
-abbrev pub last_line : (bytes : List ℕ) → ℕ
-last_line bytes = max 1 (length (lines bytes))
 
 -- What a reader comes upon, before anything is refused: it asks for a file, or it refuses for this fault.
 pub data Event : Type 0 where

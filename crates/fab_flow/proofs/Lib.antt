@@ -2,7 +2,6 @@ pub mod Once
 pub mod Lengths
 pub mod Spelled
 pub mod Generated
-pub mod Counted
 pub mod Assembled
 pub mod AssembledOnce
 pub mod BitsMade

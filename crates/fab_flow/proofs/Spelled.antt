@@ -6,7 +6,8 @@ use Rattle.fab_desk.specs.Files.{Map}
 use Rattle.fab_lines.specs.Names.{is_wire_name}
 use Rattle.fab_list_files.specs.Sides.{HasWireNames, SpellsPairs}
 use Rattle.fab_list_files.proofs.Named.{names_are_wires}
-use Rattle.fab_matrix.specs.Matrix.{config_name, list_matrix, list_outputs}
+use Rattle.fab_meaning.specs.Ports.{config_name}
+use Rattle.fab_matrix.specs.Matrix.{list_matrix, list_outputs}
 use Rattle.fab_matrix.specs.Selects.{Selects}
 use Rattle.fab_syntax.specs.Plain.{PlainModule}
 use Rattle.fab_syntax.specs.Spelling.{text_bytes}

@@ -16,7 +16,7 @@ use Rattle.fab_legal.specs.declared.broken.CheckFault.{CheckFault}
 use Rattle.fab_legal.specs.declared.broken.CheckFault.TheVariants as checks
 use Rattle.fab_legal.specs.Legal.{IsLegal}
 use Rattle.fab_legal.specs.Broken.{IsFirstBroken}
-use Rattle.fab_ways.specs.Sites.{sites_of_kind}
+use Rattle.fab_fabric.specs.Sites.{sites_of_kind}
 use Rattle.fab_files.specs.Files.{Event}
 use Rattle.fab_files.specs.Stages.{MeetsBehind, MeetsLast}
 use Rattle.fab_fasm.specs.declared.feature.Feature.{Feature}
@@ -25,13 +25,13 @@ use Rattle.fab_frames.specs.Bytes.{word_bytes}
 use Rattle.fab_frames.specs.Stream.{stream}
 use Rattle.fab_state.specs.Plain.{PlainState}
 use Rattle.fab_state.specs.Spelled.{state_text}
-use Rattle.fab_text_loads.specs.Texts.{IsFabricText}
-use Rattle.fab_use.specs.Configuring.{Configures}
-use Rattle.fab_use.specs.Headline.{RunsDesign}
-use Rattle.fab_use.specs.Registers.{design_state}
-use Rattle.fab_settling.specs.Settling.{SettlesDesign}
-use Rattle.fab_features.specs.Design.{design_features}
-use Rattle.fab_features.specs.Features.{IsBitMapOf}
+use Rattle.fab_assemble.specs.fab_fabric_text.specs.Texts.{IsFabricText}
+use Rattle.fab_assemble.specs.fab_use.specs.Configuring.{Configures}
+use Rattle.fab_assemble.specs.fab_use.specs.Headline.{RunsDesign}
+use Rattle.fab_assemble.specs.fab_use.specs.Registers.{design_state}
+use Rattle.fab_assemble.specs.fab_settling.specs.Settling.{SettlesDesign}
+use Rattle.fab_assemble.specs.fab_features.specs.Design.{design_features}
+use Rattle.fab_assemble.specs.fab_features.specs.Features.{IsBitMapOf}
 use Rattle.fab_designs.specs.Designs.{DesignFiles, PlainDesign, design_files, SpellsDesign, MeetsDesign}
 use Rattle.fab_designs.specs.Implementations.{ReadsImplementation, MeetsImplementation}
 use Rattle.fab_outputs.specs.Storing.{PlainOutput, output}

@@ -13,20 +13,17 @@ use Rattle.fab_model.specs.Grid.{PlainFabric}
 use Rattle.fab_files.specs.Files.{Event}
 use Rattle.fab_files.specs.Stages.{MeetsBehind, MeetsLast}
 use Rattle.fab_read.specs.Fabrics.{SpellsFabric, MeetsFabric}
-use Rattle.fab_gen_loader.specs.Expressions.{loader_module}
 use Rattle.fab_prim.specs.Modules.{module_of_kind}
-use Rattle.fab_fabric_text.specs.Top.{top_module}
-use Rattle.fab_fabric_text.specs.Text.{used_kinds, standing_types, tile_modules, fabric_text}
-use Rattle.fab_drives.specs.Drives.{ShowsDrives}
-use Rattle.fab_text_loads.specs.Loads.{LoadsConfigurations}
-use Rattle.fab_text_loads.specs.Texts.{IsFabricText}
+use Rattle.fab_assemble.specs.fab_fabric_text.specs.Top.{top_module}
+use Rattle.fab_assemble.specs.fab_fabric_text.specs.Text.{used_kinds, standing_types, tile_modules}
+use Rattle.fab_assemble.specs.fab_drives.specs.Drives.{ShowsDrives}
+use Rattle.fab_assemble.specs.fab_text_loads.specs.Loads.{LoadsConfigurations}
+use Rattle.fab_assemble.specs.fab_fabric_text.specs.Texts.{IsFabricText}
+pub use Rattle.fab_assemble.specs.fab_fabric_text.specs.Texts.{generated_text}
 use Rattle.fab_outputs.specs.Storing.{PlainOutput, output}
 use Rattle.fab_outputs.specs.Ending.{HasCause}
 
 -- ---- the text of a fabric
-
-abbrev pub generated_text : PlainFabric → List PlainModule
-generated_text fabric = fabric_text fabric (loader_module fabric.rows)
 
 -- its modules but the loader: primitives, tiles and the top
 abbrev pub unloaded_text : PlainFabric → List PlainModule

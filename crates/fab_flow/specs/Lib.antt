@@ -5,3 +5,12 @@ pub mod Bits
 pub mod Mapping
 pub mod Flowing
 pub mod BitFeatures
+pub use Rattle.fab_map
+pub use Rattle.fab_designs
+pub use Rattle.fab_fabric_names
+pub use Rattle.fab_assemble.specs.fab_text_loads
+pub use Rattle.fab_assemble.specs.fab_use
+pub use Rattle.fab_assemble.specs.fab_settling
+pub use Rattle.fab_assemble.specs.fab_features
+pub use Rattle.fab_assemble
+pub use Rattle.fab_gen_top

@@ -9,23 +9,22 @@ ghost use Rattle.fab_fabric.specs.Bits.{plain_bits};
 ghost use Rattle.fab_netlist.specs.Cycles.{HasNoCycle};
 ghost use Rattle.fab_netlist.specs.Packing.{packed as packed_of};
 ghost use Rattle.fab_implementation.specs.OnFabric.{IsOnFabric};
-ghost use Rattle.fab_legal.specs.Nets.{InputsAreLines};
+ghost use Rattle.fab_implementation.specs.Inputs.{InputsAreLines};
 ghost use Rattle.fab_legal.specs.Legal.{IsLegal};
 ghost use Rattle.fab_frames.specs.Stream.{stream};
 ghost use Rattle.fab_state.specs.Spelled.{HasLetters};
-ghost use Rattle.fab_text_loads.specs.Texts.{IsFabricText};
-ghost use Rattle.fab_use.specs.Configuring.{Configures};
-ghost use Rattle.fab_use.specs.Headline.{RunsDesign};
-ghost use Rattle.fab_use.specs.Registers.{design_state};
-ghost use Rattle.fab_settling.specs.Settling.{SettlesDesign};
+ghost use Rattle.fab_assemble.specs.fab_fabric_text.specs.Texts.{IsFabricText};
+ghost use Rattle.fab_assemble.specs.fab_use.specs.Configuring.{Configures};
+ghost use Rattle.fab_assemble.specs.fab_use.specs.Headline.{RunsDesign};
+ghost use Rattle.fab_assemble.specs.fab_use.specs.Registers.{design_state};
+ghost use Rattle.fab_assemble.specs.fab_settling.specs.Settling.{SettlesDesign};
 ghost use Rattle.fab_gen_tile.specs.Words.{IsNamed};
-ghost use Rattle.fab_features.specs.Design.{design_features};
-ghost use Rattle.fab_features.specs.Features.{IsBitMapOf};
-ghost use Rattle.fab_features.specs.Naming.{HasPrefixes};
+ghost use Rattle.fab_assemble.specs.fab_features.specs.Design.{design_features};
+ghost use Rattle.fab_assemble.specs.fab_features.specs.Features.{IsBitMapOf};
+ghost use Rattle.fab_assemble.specs.fab_features.specs.Naming.{HasPrefixes};
 ghost use Rattle.fab_flow.specs.Assembling.{Fits, HasAssembleCause, IsAssembly, MakesAssembly, RefusesAssembly, assembly_files, assembly_outputs, fault_of, packing_for};
 ghost use Rattle.fab_outputs.specs.Storing.{IsDone, Leaves, output, plain_output};
 
-use crate::counting::count_sites;
 use fab_assemble::{Assembled, assemble};
 use fab_base::{Fault, Memory, Name};
 use fab_designs::{Design, read_design, read_implementation};
@@ -46,8 +45,8 @@ pub(crate) fn packed_design(alloc: Global, design: &Design) -> Result<Packed, Fa
     ensures fits { OnOk result (Fits design.now.fabric design.now.netlist) }
     ensures short { IfErr result (λ fault. (fault ≡ faults.Memory) ⊎ (packing_for design.now.fabric design.now.netlist ≡ Err fault)) }
 {
-    let luts = count_sites(&design.fabric, Kind::Lut4c);
-    let pads = count_sites(&design.fabric, Kind::Io);
+    let luts = design.fabric.sites(Kind::Lut4c);
+    let pads = design.fabric.sites(Kind::Io);
     pack(alloc, &design.netlist, luts, pads)
 }
 
@@ -69,7 +68,7 @@ fn assembled(
 ) -> Result<Assembled, Fault>
     requires no_cycle { HasNoCycle design.now.netlist }
     requires on_fabric { IsOnFabric design.now.fabric implementation }
-    requires lines { All (InputsAreLines implementation) implementation.trees }
+    requires lines { InputsAreLines implementation }
     ensures fits { OnOk result (Fits design.now.fabric design.now.netlist) }
     ensures legal { OnOk result (IsLegal design.now.fabric (packed_of design.now.netlist) design.now.fixed implementation) }
     ensures features { IfOk result (λ it. it.features.items ≡ design_features design.now.fabric (packed_of design.now.netlist) implementation) }
@@ -121,7 +120,7 @@ pub(crate) fn assembly(
 ) -> Result<Vec<Output>, Fault>
     requires no_cycle { HasNoCycle design.now.netlist }
     requires on_fabric { IsOnFabric design.now.fabric implementation }
-    requires lines { All (InputsAreLines implementation) implementation.trees }
+    requires lines { InputsAreLines implementation }
     ensures fits { OnOk result (Fits design.now.fabric design.now.netlist) }
     ensures legal { OnOk result (IsLegal design.now.fabric (packed_of design.now.netlist) design.now.fixed implementation) }
     ensures made { IfOk result (λ outputs. All IsNamed design.now.fabric.types → All HasPrefixes design.now.fabric.types
@@ -129,8 +128,7 @@ pub(crate) fn assembly(
     ensures names { IsUtf8 base.now → IfOk result (λ outputs. All (λ output. IsUtf8 output.name) outputs.items) }
     ensures refused { IfErr result (λ fault. (fault ≡ faults.Memory) ⊎ RefusesAssembly design.now implementation fault) }
 {
-    // what holds of every fabric is a clause of this call
-    let _types = design.fabric.types();
+    design.fabric.is_well_made();
     let assembled = assembled(alloc, design, implementation)?;
     Ok(outputs_of(alloc, &assembled, base)?)
 }

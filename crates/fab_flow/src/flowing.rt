@@ -9,8 +9,9 @@ ghost use Rattle.fab_netlist.specs.Packing.{packed as packed_of};
 ghost use Rattle.fab_implementation.specs.OnFabric.{IsOnFabric};
 ghost use Rattle.fab_legal.specs.Legal.{IsLegal};
 ghost use Rattle.fab_state.specs.Constraints.{AreFixings, data_ports};
-ghost use Rattle.fab_impl.specs.Spelled.{InputsWithin, implementation_text};
-ghost use Rattle.fab_features.specs.Naming.{HasPrefixes};
+ghost use Rattle.fab_implementation.specs.Inputs.{InputsAreLines};
+ghost use Rattle.fab_impl.specs.Spelled.{implementation_text};
+ghost use Rattle.fab_assemble.specs.fab_features.specs.Naming.{HasPrefixes};
 ghost use Rattle.fab_flow.specs.Assembling.{Fits, IsAssembly};
 ghost use Rattle.fab_flow.specs.Flowing.{EndsFlow, HasFlowCause, IsFlow, MakesFlow, flow_files, flow_outputs};
 ghost use Rattle.fab_flow.specs.Generating.{text_length, most_text_bytes};
@@ -59,7 +60,7 @@ fn all_outputs(
     requires fits { Fits design.now.fabric design.now.netlist }
     requires legal { IsLegal design.now.fabric (packed_of design.now.netlist) design.now.fixed implementation }
     requires on_fabric { IsOnFabric design.now.fabric implementation }
-    requires inputs { InputsWithin implementation }
+    requires inputs { InputsAreLines implementation }
     ensures made { IfOk result (λ outputs. All IsNamed design.now.fabric.types → All HasPrefixes design.now.fabric.types
         → (assembled : List PlainOutput) × IsAssembly design.now.fabric design.now.netlist implementation base.now assembled
         × (map plain_output outputs.items ≡ flow_outputs base.now text.items (implementation_text design.now.fabric implementation) assembled)) }

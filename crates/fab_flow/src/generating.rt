@@ -9,9 +9,9 @@ ghost use Rattle.fab_base.specs.declared.problem.Problem.TheVariants as problems
 ghost use Rattle.fab_base.specs.declared.words.Quantity.TheVariants as quantities;
 ghost use Rattle.fab_syntax.specs.Spelling.{text_bytes};
 ghost use Rattle.fab_gen_tile.specs.Words.{IsNamed};
-ghost use Rattle.fab_drives.specs.Drives.{ShowsDrives};
-ghost use Rattle.fab_text_loads.specs.Loads.{LoadsConfigurations};
-ghost use Rattle.fab_text_loads.specs.Texts.{IsFabricText};
+ghost use Rattle.fab_assemble.specs.fab_drives.specs.Drives.{ShowsDrives};
+ghost use Rattle.fab_assemble.specs.fab_text_loads.specs.Loads.{LoadsConfigurations};
+ghost use Rattle.fab_assemble.specs.fab_fabric_text.specs.Texts.{IsFabricText};
 ghost use Rattle.fab_flow.specs.Generating.{generated_text, text_length, most_text_bytes, IsTooLong, MakesFabric, HasGenerateCause};
 ghost use Rattle.fab_outputs.specs.Storing.{IsDone, Leaves};
 
@@ -48,8 +48,7 @@ fn unloaded_length(alloc: Global, fabric: &Fabric, text: &[u8]) -> Result<u64, M
     ensures length { IfOk result (λ bytes. bytes ≡ text_length fabric.now) }
     ensures loader { IfOk result (λ bytes. length text.now ≤ bytes + 65536) }
 {
-    // what is promised of the rows is a clause of this call
-    let _types = fabric.types();
+    fabric.is_well_made();
     let loader = loader_module(alloc, fabric.rows())?;
     let printed = printed_module(alloc, loader)?;
     Ok((text.len() - printed.len()) as u64)

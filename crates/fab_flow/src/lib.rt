@@ -4,7 +4,6 @@
 mod assembling;
 mod bit_features;
 mod bits;
-mod counting;
 mod flowing;
 mod generating;
 mod mapping;

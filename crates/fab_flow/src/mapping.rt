@@ -8,7 +8,7 @@ ghost use Rattle.fab_implementation.specs.OnFabric.{IsOnFabric};
 ghost use Rattle.fab_legal.specs.Legal.{IsLegal};
 ghost use Rattle.fab_ways.specs.Mapping.{IsMapping};
 ghost use Rattle.fab_state.specs.Constraints.{AreFixings, data_ports};
-ghost use Rattle.fab_impl.specs.Spelled.{InputsWithin};
+ghost use Rattle.fab_implementation.specs.Inputs.{InputsAreLines};
 ghost use Rattle.fab_designs.specs.Designs.{design_files};
 ghost use Rattle.fab_flow.specs.Assembling.{Fits, packing_for};
 ghost use Rattle.fab_flow.specs.Mapping.{IsMapped, MakesMapping, mapping_files, HasMappingCause, EndsUnmapped};
@@ -40,7 +40,7 @@ pub(crate) fn mapped_design<P: Progress>(
     ensures mapping { IfOk result (IsMapping design.now.fabric (packed_of design.now.netlist) design.now.fixed rounds) }
     ensures legal { IfOk result (IsLegal design.now.fabric (packed_of design.now.netlist) design.now.fixed) }
     ensures on_fabric { IfOk result (IsOnFabric design.now.fabric) }
-    ensures inputs { IfOk result InputsWithin }
+    ensures inputs { IfOk result InputsAreLines }
     ensures cause { IfErr result (EndsUnmapped design.now rounds) }
 {
     // what holds of every netlist is a clause of this call

@@ -2,7 +2,7 @@
 
 ghost use Rattle.std.specs.Prelude.{◌≡◌, ◌≢◌, ◌<◌, All, IfOk, IfErr, OnOk};
 ghost use Rattle.std.specs.Str.{IsUtf8};
-ghost use Rattle.fab_matrix.specs.Matrix.{config_name};
+ghost use Rattle.fab_meaning.specs.Ports.{config_name};
 ghost use Rattle.fab_flow.specs.Matrix.{module_name, IsModuleOf, MakesMatrix, HasMatrixCause};
 ghost use Rattle.fab_outputs.specs.Storing.{IsDone, Leaves};
 

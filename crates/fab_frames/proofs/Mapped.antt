@@ -11,8 +11,8 @@ use Rattle.fab_fabric.specs.Fabric.{IsFabric, IsPlace}
 use Rattle.fab_fabric.specs.Bits.{bits_at}
 use Rattle.fab_fabric.proofs.Placed.{tile_inside}
 use Rattle.fab_frames.specs.Stream.{placed_bit, bit_placed_at}
-use Rattle.fab_frames.specs.Placing.{IsMap, HaveMaps, IsPlacedRow, AreBelow}
-use Rattle.fab_frames.specs.Taking.{ArePlacedOnce}
+use Rattle.fab_frames.specs.inner.Placing.{IsMap, HaveMaps, IsPlacedRow, AreBelow}
+use Rattle.fab_frames.specs.inner.Taking.{ArePlacedOnce}
 use Rattle.fab_frames.specs.declared.placing.FrameMap.{FrameMap}
 use Rattle.fab_frames.proofs.Lists.{get_left, get_right}
 use Rattle.fab_frames.proofs.Placed.{placed_below, placed_once, has_place}

@@ -7,7 +7,7 @@ use Rattle.fab_model.specs.Drive.{PlainBits}
 use Rattle.fab_model.specs.Tiles.{counted}
 use Rattle.fab_model.specs.Grid.{PlainFabric}
 use Rattle.fab_frames.specs.Stream.{Part, fixed, waiting_word, waiting_words, synchronizing_words, header, column_parts, parts, word_of, stream}
-use Rattle.fab_frames.specs.Taking.{plain_part, IsWithin}
+use Rattle.fab_frames.specs.inner.Taking.{plain_part, IsWithin}
 use Rattle.fab_frames.specs.declared.plan.Part.{Part as CodePart}
 use Rattle.fab_frames.specs.declared.plan.Part.TheVariants as code_parts
 use Rattle.fab_frames.proofs.Rows.{part_within}

@@ -10,7 +10,7 @@ use Rattle.std.proofs.lemmas.Option.{slice_get_within, slice_get-get_or, get_or_
 use Rattle.fab_model.specs.Tiles.{PlainTile, tile_bits}
 use Rattle.fab_model.specs.Tables.{HasTable}
 use Rattle.fab_frames.specs.Stream.{same_place, placed_bit}
-use Rattle.fab_frames.specs.Placing.{IsMap}
+use Rattle.fab_frames.specs.inner.Placing.{IsMap}
 
 -- ---- places
 

@@ -6,7 +6,7 @@ use Rattle.std.proofs.lemmas.Option.{slice_get_within, slice_get-map}
 use Rattle.fab_model.specs.Tiles.{counted}
 use Rattle.fab_model.specs.Grid.{PlainFabric}
 use Rattle.fab_frames.specs.Stream.{Part, fixed, of_row, header, waiting_word, waiting_words, address_word, frame_parts, column_parts, parts}
-use Rattle.fab_frames.specs.Taking.{IsWithin}
+use Rattle.fab_frames.specs.inner.Taking.{IsWithin}
 use Rattle.fab_frames.proofs.Lists.{get_left, get_right, length_counted, get_counted, length_pieces, get_piece, piece_found}
 
 -- ---- lengths

@@ -18,7 +18,7 @@ use Rattle.fab_fabric.specs.Fabric.{IsFabric}
 use Rattle.fab_fabric.specs.Bits.{plain_bits, place_bits, column_bits, bits_at, AreBitsOf}
 use Rattle.fab_frames.specs.Stream.{Part, fixed, of_row, parts, word_of, stream, bit_placed_at, word_bit, has_spare_bit, row_word, part_problem, problem_of, problem_at, IsFirstWrong}
 use Rattle.fab_frames.specs.Refusals.{IsRefusal}
-use Rattle.fab_frames.specs.Taking.{Takes}
+use Rattle.fab_frames.specs.inner.Taking.{Takes}
 use Rattle.fab_frames.proofs.Rows.{row_place, row_at, row_found}
 use Rattle.fab_frames.proofs.Mapped.{placed_nowhere_else, placed_somewhere}
 use Rattle.fab_frames.proofs.Words.{bit_there, placed_word_is, bit_of_word, zero_there, placed_word_fine}

@@ -5,8 +5,8 @@ use Rattle.fab_fabric.specs.Bits.{plain_bits, column_bits, place_bits, bits_at, 
 use Rattle.fab_fabric.specs.Fabric.{IsFabric}
 use Rattle.fab_base.specs.declared.words.Reason.TheVariants as reasons
 use Rattle.fab_frames.specs.Stream.{of_row, word_bit, has_spare, bit_placed_at, problem_of}
-use Rattle.fab_frames.specs.Placing.{placed_in, IsPlacedRow}
-use Rattle.fab_frames.specs.Taking.{HaveBits, IsOther, plain_part}
+use Rattle.fab_frames.specs.inner.Placing.{placed_in, IsPlacedRow}
+use Rattle.fab_frames.specs.inner.Taking.{HaveBits, IsOther, plain_part}
 use Rattle.fab_frames.specs.declared.plan.Part.{Part as CodePart}
 use Rattle.fab_frames.specs.declared.plan.Part.TheVariants as code_parts
 use Rattle.fab_frames.proofs.Mapped.{row_below}

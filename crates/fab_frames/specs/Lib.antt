@@ -1,5 +1,5 @@
 pub mod Stream
 pub mod Refusals
 pub mod Bytes
-pub mod Placing
-pub mod Taking
+pub mod inner
+pub use Rattle.fab_fabric

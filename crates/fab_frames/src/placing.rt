@@ -2,7 +2,7 @@
 
 ghost use Rattle.std.specs.Prelude.{◌<◌, IfOk};
 ghost use Rattle.fab_model.specs.Tables.{HasTable};
-ghost use Rattle.fab_frames.specs.Placing.{IsMap, HaveMaps, IsPlacedRow};
+ghost use Rattle.fab_frames.specs.inner.Placing.{IsMap, HaveMaps, IsPlacedRow};
 
 use fab_base::Memory;
 use fab_fabric::Fabric;

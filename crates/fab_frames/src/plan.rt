@@ -3,7 +3,7 @@
 ghost use Rattle.std.specs.Prelude.{◌≡◌, ◌++◌, ◌<◌, IfOk, OnOk, map};
 ghost use Rattle.fab_fabric.specs.Fabric.{IsFabric};
 ghost use Rattle.fab_frames.specs.Stream.{fixed, waiting_words, synchronizing_words, address_word, frame_parts, column_parts, parts};
-ghost use Rattle.fab_frames.specs.Taking.{plain_part};
+ghost use Rattle.fab_frames.specs.inner.Taking.{plain_part};
 
 use fab_base::Memory;
 use fab_fabric::Fabric;

@@ -9,8 +9,8 @@ ghost use Rattle.fab_base.specs.Reading.{fault_at, IsFaultOr};
 ghost use Rattle.fab_fabric.specs.Bits.{AreBitsOf, plain_bits, column_bits, place_bits};
 ghost use Rattle.fab_frames.specs.Stream.{problem_of, word_bit, has_spare, stream};
 ghost use Rattle.fab_frames.specs.Refusals.{IsRefusal};
-ghost use Rattle.fab_frames.specs.Placing.{HaveMaps, placed_in};
-ghost use Rattle.fab_frames.specs.Taking.{plain_part, IsWithin, ArePlacedOnce, HaveBits, TakesRow, Takes};
+ghost use Rattle.fab_frames.specs.inner.Placing.{HaveMaps, placed_in};
+ghost use Rattle.fab_frames.specs.inner.Taking.{plain_part, IsWithin, ArePlacedOnce, HaveBits, TakesRow, Takes};
 
 use crate::placing::{FrameMap, frame_maps, placed_row};
 use crate::plan::{Part, parts};
@@ -33,7 +33,7 @@ pub fn bits_of(alloc: Global, fabric: &Fabric, file: &Name, words: &[u32]) -> Re
     ensures read_back { (bits : List (List (List Bool))) → AreBitsOf fabric.now bits → words.now ≡ stream fabric.now (plain_bits bits) →
         MatchResult result (λ found. found ≡ bits) (λ fault. fault ≡ faults.Memory) }
 {
-    let _types = fabric.types();
+    fabric.is_well_made();
     read_words(alloc, fabric, file, words)
 }
 

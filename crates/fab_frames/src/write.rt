@@ -4,8 +4,8 @@ ghost use Rattle.std.specs.Prelude.{◌≡◌, ◌<◌, false, IfOk, length};
 ghost use Rattle.std.specs.Option.{ForSome, option_map_or};
 ghost use Rattle.fab_fabric.specs.Bits.{AreBitsOf, plain_bits};
 ghost use Rattle.fab_frames.specs.Stream.{word_of, placed_word, stream};
-ghost use Rattle.fab_frames.specs.Placing.{HaveMaps, AreBelow, placed_in, bit_in};
-ghost use Rattle.fab_frames.specs.Taking.{plain_part, IsWithin};
+ghost use Rattle.fab_frames.specs.inner.Placing.{HaveMaps, AreBelow, placed_in, bit_in};
+ghost use Rattle.fab_frames.specs.inner.Taking.{plain_part, IsWithin};
 
 use crate::placing::{FrameMap, frame_maps, placed_row};
 use crate::plan::{Part, parts};

@@ -8,10 +8,10 @@ use Rattle.fab_syntax.specs.declared.tree.Shape.TheVariants.{Scalar, Vector}
 use Rattle.fab_syntax.specs.declared.tree.Port.{Port}
 use Rattle.fab_syntax.specs.Plain.{PlainItem, PlainModule, reg, assign, clocked, variable}
 use Rattle.fab_syntax.specs.Spelling.{port_text, port_end, ports_text, item_text, items_text, module_text, clocked_head}
-use Rattle.fab_meaning.specs.Runs.{clock_name}
-use Rattle.fab_meaning.specs.Loading.{strobe_name, data_name}
+use Rattle.fab_prim.specs.fab_meaning.specs.Runs.{clock_name}
+use Rattle.fab_prim.specs.fab_meaning.specs.Loading.{write_strobe_name, write_data_name}
 use Rattle.fab_model.specs.Tiles.{counted}
-use Rattle.fab_gen_loader.specs.Loader.{port, row_port, row_name, address_port, address_name, strobe_port, strobe_register_name, state_name, count_name, loader_ports, registers, processes, outputs}
+use Rattle.fab_gen_loader.specs.Loader.{port, row_port, address_port, strobe_port, strobe_register_name, state_name, count_name, loader_ports, registers, processes, outputs, row_register_name, address_register_name}
 use Rattle.fab_gen_loader.specs.Expressions.{next_state, next_count, next_address, next_strobe, next_row, next_values, loader_module}
 use Rattle.fab_gen_loader.specs.Bounds.{IsShallow, IsSmall}
 
@@ -27,18 +27,18 @@ four P a b c d rest first second third fourth others =
     All-cons P a (b ∷ c ∷ d ∷ rest) first (All-cons P b (c ∷ d ∷ rest) second (All-cons P c (d ∷ rest) third (All-cons P d rest fourth others)))
 
 shallow_registers : (rows : ℕ) → All IsShallow (registers rows)
-shallow_registers rows = four IsShallow _ _ _ _ _ tt tt tt tt (all_counted IsShallow rows (λ row. reg (Vector 32) (row_name row)) (λ row. tt))
+shallow_registers rows = four IsShallow _ _ _ _ _ tt tt tt tt (all_counted IsShallow rows (λ row. reg (Vector 32) (row_register_name row)) (λ row. tt))
 
 shallow_processes : (rows : ℕ) → All IsShallow (processes rows (next_values rows))
 shallow_processes rows =
     four IsShallow _ _ _ _ _ (omega arith) (omega arith) (omega arith) (omega arith)
-    (all_counted IsShallow rows (λ row. clocked clock_name (row_name row) (next_row rows row)) (λ row. omega arith))
+    (all_counted IsShallow rows (λ row. clocked clock_name (row_register_name row) (next_row rows row)) (λ row. omega arith))
 
 shallow_outputs : (rows : ℕ) → All IsShallow (outputs rows)
 shallow_outputs rows =
-    let f : ℕ → PlainItem = λ row. assign (row_port row) (variable (row_name row)) in
+    let f : ℕ → PlainItem = λ row. assign (row_port row) (variable (row_register_name row)) in
     let strobe = assign strobe_port (variable strobe_register_name) in
-    All-cons IsShallow (assign address_port (variable address_name)) (strobe ∷ counted rows f) (omega arith)
+    All-cons IsShallow (assign address_port (variable address_register_name)) (strobe ∷ counted rows f) (omega arith)
     (All-cons IsShallow strobe (counted rows f) (omega arith) (all_counted IsShallow rows f (λ row. omega arith)))
 
 shallow_items : (rows : ℕ) → All IsShallow (loader_module rows).items
@@ -93,18 +93,18 @@ row_port_short row small =
     let high = two_digits 31 (omega arith) in
     simp length-append (omega (arith, number, high))
 
-row_register_short : (row : ℕ) → row < 31 → length (item_text (reg (Vector 32) (row_name row))) + 3 ≤ 100
+row_register_short : (row : ℕ) → row < 31 → length (item_text (reg (Vector 32) (row_register_name row))) + 3 ≤ 100
 row_register_short row small =
     let number = two_digits row (omega arith) in
     let high = two_digits 31 (omega arith) in
     simp length-append (omega (arith, number, high))
 
-row_output_short : (row : ℕ) → row < 31 → length (item_text (assign (row_port row) (variable (row_name row)))) + 3 ≤ 100
+row_output_short : (row : ℕ) → row < 31 → length (item_text (assign (row_port row) (variable (row_register_name row)))) + 3 ≤ 100
 row_output_short row small =
     let number = two_digits row (omega arith) in
     simp length-append (omega (arith, number))
 
-row_process_short : (rows row : ℕ) → row < 31 → length (item_text (clocked clock_name (row_name row) (next_row rows row))) + 3 ≤ 300
+row_process_short : (rows row : ℕ) → row < 31 → length (item_text (clocked clock_name (row_register_name row) (next_row rows row))) + 3 ≤ 300
 unfolding clocked_head
 row_process_short rows row small =
     let number = two_digits row (omega arith) in
@@ -131,7 +131,7 @@ count_process_short rows =
     let five = two_digits 5 (omega arith) in
     simp length-append (omega (arith, bit, two, five))
 
-address_process_short : length (item_text (clocked clock_name address_name next_address)) + 3 ≤ 500
+address_process_short : length (item_text (clocked clock_name address_register_name next_address)) + 3 ≤ 500
 unfolding clocked_head
 address_process_short =
     let bit = two_digits 20 (omega arith) in
@@ -170,31 +170,31 @@ four_items b n first second third fourth rest one two three four others =
 module _ (rows : ℕ) (few : rows ≤ 31) where
   short_registers : (rest : List PlainItem) (n : ℕ) → length (items_text rest) ≤ n → length (items_text (registers rows ++ rest)) ≤ 3500 + n
   short_registers rest n short =
-      let f : ℕ → PlainItem = λ row. reg (Vector 32) (row_name row) in
+      let f : ℕ → PlainItem = λ row. reg (Vector 32) (row_register_name row) in
       let each = short_rows rows 100 f rest (λ row within. row_register_short row (omega arith)) in
       let strobe : length (item_text (reg Scalar strobe_register_name)) + 3 ≤ 100 = omega arith in
       let all =
-      four_items 100 (3100 + n) (reg (Vector 2) state_name) (reg (Vector 5) count_name) (reg (Vector 32) address_name) (reg Scalar strobe_register_name) (counted rows f ++ rest)
+      four_items 100 (3100 + n) (reg (Vector 2) state_name) (reg (Vector 5) count_name) (reg (Vector 32) address_register_name) (reg Scalar strobe_register_name) (counted rows f ++ rest)
       (vector_short 2 state_name (omega arith) (omega arith) (omega arith)) (vector_short 5 count_name (omega arith) (omega arith) (omega arith))
-      (vector_short 32 address_name (omega arith) (omega arith) (omega arith)) strobe (omega (arith, each, short)) in
+      (vector_short 32 address_register_name (omega arith) (omega arith) (omega arith)) strobe (omega (arith, each, short)) in
       omega (arith, all)
 
   short_processes : (rest : List PlainItem) (n : ℕ) → length (items_text rest) ≤ n → length (items_text (processes rows (next_values rows) ++ rest)) ≤ 11300 + n
   short_processes rest n short =
-      let f : ℕ → PlainItem = λ row. clocked clock_name (row_name row) (next_row rows row) in
+      let f : ℕ → PlainItem = λ row. clocked clock_name (row_register_name row) (next_row rows row) in
       let each = short_rows rows 300 f rest (λ row within. row_process_short rows row (omega arith)) in
       let all =
       four_items 500 (9300 + n) (clocked clock_name state_name next_state) (clocked clock_name count_name (next_count rows))
-      (clocked clock_name address_name next_address) (clocked clock_name strobe_register_name next_strobe) (counted rows f ++ rest)
+      (clocked clock_name address_register_name next_address) (clocked clock_name strobe_register_name next_strobe) (counted rows f ++ rest)
       state_process_short (count_process_short rows) address_process_short strobe_process_short (omega (arith, each, short)) in
       omega (arith, all)
 
   short_outputs : length (items_text (outputs rows)) ≤ 3300
   short_outputs =
-      let f : ℕ → PlainItem = λ row. assign (row_port row) (variable (row_name row)) in
+      let f : ℕ → PlainItem = λ row. assign (row_port row) (variable (row_register_name row)) in
       let strobe = assign strobe_port (variable strobe_register_name) in
       let each : length (items_text (counted rows f)) ≤ rows * 100 + 0 = subst (λ items. length (items_text items) ≤ rows * 100 + 0) (append-nil (counted rows f)) (short_rows rows 100 f [] (λ row within. row_output_short row (omega arith))) in
-      let first = short_item 100 (assign address_port (variable address_name)) (strobe ∷ counted rows f) (omega arith) in
+      let first = short_item 100 (assign address_port (variable address_register_name)) (strobe ∷ counted rows f) (omega arith) in
       let second = short_item 100 strobe (counted rows f) (omega arith) in
       omega (arith, each, first, second)
 
@@ -203,12 +203,12 @@ module _ (rows : ℕ) (few : rows ≤ 31) where
       let f : ℕ → Port = λ row. port false (Vector 32) (row_port row) in
       let strobe = port false Scalar strobe_port in
       let address = port false (Vector 32) address_port in
-      let word = port true (Vector 32) data_name in
-      let write = port true Scalar strobe_name in
+      let word = port true (Vector 32) write_data_name in
+      let write = port true Scalar write_strobe_name in
       let each = short_ports rows 100 f (λ row within. row_port_short row (omega arith)) in
       let fifth = short_port 100 strobe (counted rows f) (omega arith) in
       let fourth = short_port 100 address (strobe ∷ counted rows f) (vector_port_short false address_port (omega arith)) in
-      let third = short_port 100 word (address ∷ strobe ∷ counted rows f) (vector_port_short true data_name (omega arith)) in
+      let third = short_port 100 word (address ∷ strobe ∷ counted rows f) (vector_port_short true write_data_name (omega arith)) in
       let second = short_port 100 write (word ∷ address ∷ strobe ∷ counted rows f) (omega arith) in
       let first = short_port 100 (port true Scalar clock_name) (write ∷ word ∷ address ∷ strobe ∷ counted rows f) (omega arith) in
       omega (arith, each, first, second, third, fourth, fifth)

@@ -4,10 +4,10 @@ use Rattle.fab_bits.specs.Bits.{number, digits, same_bits, each_bit}
 use Rattle.fab_bits.proofs.Numbers.{same_bits_digits}
 use Rattle.fab_syntax.specs.Plain.{PlainExpr, variable, complement, operation, conditional}
 use Rattle.fab_syntax.specs.declared.tree.Op.TheVariants.{Minus}
-use Rattle.fab_meaning.specs.Value.{value, bit_at}
-use Rattle.fab_meaning.specs.Loading.{strobe_name, data_name}
+use Rattle.fab_prim.specs.fab_meaning.specs.Value.{value, bit_at}
+use Rattle.fab_prim.specs.fab_meaning.specs.Loading.{write_strobe_name, write_data_name}
 use Rattle.fab_gen_loader.specs.Machine.{wake_word, end_bit}
-use Rattle.fab_gen_loader.specs.Loader.{state_name, count_name, address_name, row_name}
+use Rattle.fab_gen_loader.specs.Loader.{state_name, count_name, address_register_name, row_register_name}
 use Rattle.fab_gen_loader.specs.Expressions.{number_at, equals, both, takes_in, ends, rows_left, by_state, next_state, next_count, next_address, next_strobe, next_row}
 
 module _ (names : List ℕ → List Bool) where
@@ -27,11 +27,11 @@ module _ (names : List ℕ → List Bool) where
 
 -- what the loader's names show
 pub record Shows (names : List ℕ → List Bool) (write : Bool) (word state count address : List Bool) : Type 0 where
-  pub write_is : names strobe_name ≡ write ∷ []
-  pub word_is : names data_name ≡ word
+  pub write_is : names write_strobe_name ≡ write ∷ []
+  pub word_is : names write_data_name ≡ word
   pub state_is : names state_name ≡ state
   pub count_is : names count_name ≡ count
-  pub address_is : names address_name ≡ address
+  pub address_is : names address_register_name ≡ address
   pub word_long : length word ≡ 32
   pub state_long : length state ≡ 2
   pub count_long : length count ≡ 5
@@ -43,8 +43,8 @@ module _ (names : List ℕ → List Bool) (write : Bool) (word state count addre
   left : (n : ℕ) → n < 32 → value names (rows_left n) ≡ nat_eq (number count) n ∷ []
   left n small = equals_value names count_name 5 n count shows.count_is shows.count_long small
 
-  wakes : value names (equals data_name 32 wake_word) ≡ nat_eq (number word) wake_word ∷ []
-  wakes = equals_value names data_name 32 wake_word word shows.word_is shows.word_long (omega arith)
+  wakes : value names (equals write_data_name 32 wake_word) ≡ nat_eq (number word) wake_word ∷ []
+  wakes = equals_value names write_data_name 32 wake_word word shows.word_is shows.word_long (omega arith)
 
   ends_value : value names ends ≡ get_or word end_bit false ∷ []
   ends_value =
@@ -53,7 +53,7 @@ module _ (names : List ℕ → List Bool) (write : Bool) (word state count addre
       ap (λ bits. take 1 (drop 20 bits)) shows.word_is ∙ ap (take 1) (drop-cons word 20 false inside)
 
   comes_in : (n : ℕ) → n < 4 → value names (takes_in n) ≡ (write && nat_eq (number state) n) ∷ []
-  comes_in n small = both_value names (variable strobe_name) (equals state_name 2 n) write _ shows.write_is (in_state n small)
+  comes_in n small = both_value names (variable write_strobe_name) (equals state_name 2 n) write _ shows.write_is (in_state n small)
 
   by_state_value : (a r w i : PlainExpr) (address_bits row_bits waiting_bits idle_bits : List Bool) → value names a ≡ address_bits → value names r ≡ row_bits →
       value names w ≡ waiting_bits → value names i ≡ idle_bits →
@@ -62,7 +62,7 @@ module _ (names : List ℕ → List Bool) (write : Bool) (word state count addre
   by_state_value a r w i address_bits row_bits waiting_bits idle_bits a_is r_is w_is i_is =
       let other = chosen names (equals state_name 2 2) r w (nat_eq (number state) 2) row_bits waiting_bits (in_state 2 (omega arith)) r_is w_is in
       let taken = chosen names (equals state_name 2 1) a (conditional (equals state_name 2 2) r w) (nat_eq (number state) 1) address_bits _ (in_state 1 (omega arith)) a_is other in
-      chosen names (variable strobe_name) (conditional (equals state_name 2 1) a (conditional (equals state_name 2 2) r w)) i write _ idle_bits shows.write_is taken i_is
+      chosen names (variable write_strobe_name) (conditional (equals state_name 2 1) a (conditional (equals state_name 2 2) r w)) i write _ idle_bits shows.write_is taken i_is
 
   pub state_value : value names next_state
       ≡ (if write
@@ -76,11 +76,11 @@ module _ (names : List ℕ → List Bool) (write : Bool) (word state count addre
       by_state_value
       (conditional ends (number_at 2 0) (number_at 2 2))
       (conditional (rows_left 1) (number_at 2 1) (number_at 2 2))
-      (conditional (equals data_name 32 wake_word) (number_at 2 1) (number_at 2 0))
+      (conditional (equals write_data_name 32 wake_word) (number_at 2 1) (number_at 2 0))
       (variable state_name) _ _ _ state
       (chosen names ends (number_at 2 0) (number_at 2 2) (get_or word end_bit false) (digits 2 0) (digits 2 2) ends_value refl refl)
       (chosen names (rows_left 1) (number_at 2 1) (number_at 2 2) (nat_eq (number count) 1) (digits 2 1) (digits 2 2) (left 1 (omega arith)) refl refl)
-      (chosen names (equals data_name 32 wake_word) (number_at 2 1) (number_at 2 0) (nat_eq (number word) wake_word) (digits 2 1) (digits 2 0) wakes refl refl)
+      (chosen names (equals write_data_name 32 wake_word) (number_at 2 1) (number_at 2 0) (nat_eq (number word) wake_word) (digits 2 1) (digits 2 0) wakes refl refl)
       shows.state_is
 
   -- the difference wraps at the width of the count
@@ -109,16 +109,16 @@ module _ (names : List ℕ → List Bool) (write : Bool) (word state count addre
   pub address_value : value names next_address
       ≡ (if (write && nat_eq (number state) 1) && not (get_or word end_bit false) then word else address)
   address_value =
-      chosen names (both (takes_in 1) (complement ends)) (variable data_name) (variable address_name) _ word address
+      chosen names (both (takes_in 1) (complement ends)) (variable write_data_name) (variable address_register_name) _ word address
       (both_value names (takes_in 1) (complement ends) _ (not (get_or word end_bit false)) (comes_in 1 (omega arith)) (λ j. map not (ends_value j)))
       shows.word_is shows.address_is
 
   pub strobe_value : value names next_strobe ≡ ((write && nat_eq (number state) 2) && nat_eq (number count) 1) ∷ []
   strobe_value = both_value names (takes_in 2) (rows_left 1) _ _ (comes_in 2 (omega arith)) (left 1 (omega arith))
 
-  pub row_value : (rows row : ℕ) (before : List Bool) → names (row_name row) ≡ before → rows - row < 32 →
+  pub row_value : (rows row : ℕ) (before : List Bool) → names (row_register_name row) ≡ before → rows - row < 32 →
       value names (next_row rows row) ≡ (if (write && nat_eq (number state) 2) && nat_eq (number count) (rows - row) then word else before)
   row_value rows row before is small =
-      chosen names (both (takes_in 2) (rows_left (rows - row))) (variable data_name) (variable (row_name row)) _ word before
+      chosen names (both (takes_in 2) (rows_left (rows - row))) (variable write_data_name) (variable (row_register_name row)) _ word before
       (both_value names (takes_in 2) (rows_left (rows - row)) _ _ (comes_in 2 (omega arith)) (left (rows - row) small))
       shows.word_is is

@@ -7,9 +7,9 @@ use Rattle.fab_syntax.specs.declared.tree.Shape.TheVariants.{Vector}
 use Rattle.fab_syntax.specs.declared.tree.Port.{Port}
 use Rattle.fab_syntax.specs.Plain.{PlainItem, reg}
 use Rattle.fab_syntax.specs.Declarations.{item_shape, declared_shape, width_if_any, declared_width}
-use Rattle.fab_meaning.proofs.Dependence.{same_name}
+use Rattle.fab_prim.specs.fab_meaning.proofs.Dependence.{same_name}
 use Rattle.fab_model.specs.Tiles.{counted}
-use Rattle.fab_gen_loader.specs.Loader.{NextValues, port, row_port, loader_ports, processes, outputs, loader_of, state_name, count_name, address_name, row_name}
+use Rattle.fab_gen_loader.specs.Loader.{NextValues, port, row_port, loader_ports, processes, outputs, loader_of, state_name, count_name, address_register_name, row_register_name}
 
 -- ports of other names are passed over
 ports_passed : (n : ℕ) (f : ℕ → Port) (items : List PlainItem) (name : List ℕ) → ((i : ℕ) → bytes_eq (f i).name name ≡ false) →
@@ -44,9 +44,9 @@ module _ (rows : ℕ) (next : NextValues) where
   pub count_width : declared_width (loader_ports rows) (loader_of rows next).items count_name ≡ 5
   count_width = ap width_if_any (passed count_name (λ row. refl))
 
-  pub address_width : declared_width (loader_ports rows) (loader_of rows next).items address_name ≡ 32
-  address_width = ap width_if_any (passed address_name (λ row. refl))
+  pub address_width : declared_width (loader_ports rows) (loader_of rows next).items address_register_name ≡ 32
+  address_width = ap width_if_any (passed address_register_name (λ row. refl))
 
-  pub row_width : (row : ℕ) → row < rows → declared_width (loader_ports rows) (loader_of rows next).items (row_name row) ≡ 32
+  pub row_width : (row : ℕ) → row < rows → declared_width (loader_ports rows) (loader_of rows next).items (row_register_name row) ≡ 32
   row_width row within =
-      ap width_if_any (passed (row_name row) (λ other. refl) ∙ register_found (Vector 32) row_name (processes rows next ++ outputs rows) rows row within)
+      ap width_if_any (passed (row_register_name row) (λ other. refl) ∙ register_found (Vector 32) row_register_name (processes rows next ++ outputs rows) rows row within)

@@ -3,9 +3,9 @@
 ghost use Rattle.std.specs.Prelude.{◌≡◌, ◌≤◌, ◌++◌, [], ◌∷◌, ℕ, true, false, map, IfOk, OnOk};
 ghost use Rattle.fab_syntax.specs.declared.tree.Shape.TheVariants as shapes;
 ghost use Rattle.fab_syntax.specs.Plain.{plain_expr, plain_item, plain_module, variable, reg, assign, clocked};
-ghost use Rattle.fab_meaning.specs.Runs.{clock_name};
+ghost use Rattle.fab_prim.specs.fab_meaning.specs.Runs.{clock_name};
 ghost use Rattle.fab_model.specs.Tiles.{counted};
-ghost use Rattle.fab_gen_loader.specs.Loader.{port, row_port, row_name, loader_ports, registers, processes, outputs, IsLoader};
+ghost use Rattle.fab_gen_loader.specs.Loader.{port, row_port, loader_ports, registers, processes, outputs, IsLoader, row_register_name};
 ghost use Rattle.fab_gen_loader.specs.Expressions.{next_row, next_values, loader_module};
 ghost use Rattle.fab_gen_loader.specs.Bounds.{IsSmall};
 
@@ -117,7 +117,7 @@ fn push_register(
 // Adds a register for each row.
 fn push_row_registers(alloc: Global, items: &mut Vec<Item>, rows: u32) -> Result<(), Memory>
     ensures { OnOk result (map plain_item items.new.items
-        ≡ map plain_item items.old.items ++ counted rows (λ row. reg (shapes.Vector 32) (row_name row))) }
+        ≡ map plain_item items.old.items ++ counted rows (λ row. reg (shapes.Vector 32) (row_register_name row))) }
 {
     for row in 0..rows {
         let name = numbered(alloc, b"row", row)?;
@@ -157,7 +157,7 @@ fn push_process(
 // Adds the process of each row.
 fn push_row_processes(alloc: Global, items: &mut Vec<Item>, rows: u32) -> Result<(), Memory>
     ensures { OnOk result (map plain_item items.new.items
-        ≡ map plain_item items.old.items ++ counted rows (λ row. clocked clock_name (row_name row) (next_row rows row))) }
+        ≡ map plain_item items.old.items ++ counted rows (λ row. clocked clock_name (row_register_name row) (next_row rows row))) }
 {
     for row in 0..rows {
         let register = numbered(alloc, b"row", row)?;
@@ -178,7 +178,7 @@ fn push_outputs(alloc: Global, items: &mut Vec<Item>, rows: u32) -> Result<(), M
 // Adds the output of each row.
 fn push_row_outputs(alloc: Global, items: &mut Vec<Item>, rows: u32) -> Result<(), Memory>
     ensures { OnOk result (map plain_item items.new.items
-        ≡ map plain_item items.old.items ++ counted rows (λ row. assign (row_port row) (variable (row_name row)))) }
+        ≡ map plain_item items.old.items ++ counted rows (λ row. assign (row_port row) (variable (row_register_name row)))) }
 {
     for row in 0..rows {
         let name = numbered(alloc, b"Row", row)?;

@@ -18,7 +18,7 @@ use Rattle.fab_model.specs.Tiles.{TileWire, source_bit, dest_bit, counted, row_w
 use Rattle.fab_model.proofs.Inserts.{map_counted}
 use Rattle.fab_model.proofs.Steps.{map_gives}
 use Rattle.fab_gen_tile.specs.TileModule.{is_on_side, side_names}
-use Rattle.fab_gen_tile.specs.Places.{place_on_side}
+use Rattle.fab_gen_tile.specs.inner.Places.{place_on_side}
 use Rattle.fab_gen_tile.proofs.Steps.{flat_more}
 
 -- ---- which wires are outputs

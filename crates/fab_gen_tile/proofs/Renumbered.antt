@@ -12,7 +12,7 @@ use Rattle.fab_matrix.proofs.Renamed.{matrix_renamed}
 use Rattle.fab_gen_tile.specs.Names.{matrix_module_name}
 use Rattle.fab_gen_tile.specs.TileModule.{is_on_side, matrix_inputs, matrix_outputs}
 use Rattle.fab_gen_tile.specs.MatrixModule.{numbered_outputs, named_pairs, matrix_module}
-use Rattle.fab_gen_tile.specs.Places.{HasPlaces, placed_pair}
+use Rattle.fab_gen_tile.specs.inner.Places.{HasPlaces, placed_pair}
 use Rattle.fab_gen_tile.proofs.Placing.{count_first, nth_passing, same_places}
 
 -- a wire that passes a test is there

@@ -10,10 +10,10 @@ use Rattle.fab_kinds.specs.Pins.{bit_count}
 use Rattle.fab_model.specs.declared.tiles.Bel.{Bel}
 use Rattle.fab_syntax.specs.Plain.{PlainJoin, part, instance}
 use Rattle.fab_select.specs.Selection.{select_bits}
-use Rattle.fab_model.specs.Tiles.{PlainTile, bel_bits, tile_bits, numbered_pairs}
-use Rattle.fab_matrix.specs.Matrix.{config_name}
+use Rattle.fab_model.specs.Tiles.{PlainTile, bel_bits, tile_bits, numbered_pairs, bits_before}
+use Rattle.fab_matrix.specs.fab_meaning.specs.Ports.{config_name}
 use Rattle.fab_gen_tile.specs.Names.{joined, same_join, bits_name, matrix_module_name, matrix_instance_name}
-use Rattle.fab_gen_tile.specs.TileModule.{bits_before, bits_join, matrix_inputs, matrix_outputs, matrix_joins, matrix_instances}
+use Rattle.fab_gen_tile.specs.TileModule.{bits_join, matrix_inputs, matrix_outputs, matrix_joins, matrix_instances}
 use Rattle.fab_matrix.proofs.Groups.{numbered_push}
 use Rattle.fab_prim.proofs.Pins.{range_more}
 

@@ -3,7 +3,7 @@
 use Rattle.std.specs.Prelude.{ℕ, ◌+◌, ◌*◌, ◌-◌, Bool, true, false, List, [], ◌∷◌, ◌++◌, codes, bytes_eq, Option, Some, None, if◌then◌else◌}
 use Rattle.fab_syntax.specs.declared.tree.Port.{Port}
 use Rattle.fab_syntax.specs.Plain.{PlainExpr, constant, variable, PlainItem, assign}
-use Rattle.fab_matrix.specs.Matrix.{scalar}
+use Rattle.fab_matrix.specs.fab_meaning.specs.Ports.{scalar}
 use Rattle.fab_model.specs.declared.tiles.WireRow.{WireRow}
 use Rattle.fab_model.specs.Rows.{is_jump, is_named, dest_bits, bit_name}
 use Rattle.fab_model.specs.Tiles.{counted}

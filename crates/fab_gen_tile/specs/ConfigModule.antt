@@ -3,7 +3,7 @@ use Rattle.std.specs.Prelude.{ℕ, true, false, List, [], ◌∷◌, ◌++◌, r
 use Rattle.fab_syntax.specs.declared.tree.Shape.TheVariants.{Scalar}
 use Rattle.fab_syntax.specs.declared.tree.Port.{Port}
 use Rattle.fab_syntax.specs.Plain.{PlainItem, PlainExpr, PlainModule, variable, part, concatenation, plain_exprs, reg, assign, latch}
-use Rattle.fab_matrix.specs.Matrix.{config_name}
+use Rattle.fab_matrix.specs.fab_meaning.specs.Ports.{config_name}
 use Rattle.fab_model.specs.Tiles.{PlainTile, counted, tile_bits}
 use Rattle.fab_gen_tile.specs.Names.{config_module_name, frame_data_name, frame_strobe_name, latch_name, vector}
 

@@ -3,5 +3,11 @@ pub mod Borders
 pub mod ConfigModule
 pub mod TileModule
 pub mod MatrixModule
-pub mod Places
 pub mod Words
+pub mod inner
+pub use Rattle.fab_lines
+pub use Rattle.fab_syntax
+pub use Rattle.fab_matrix.specs.fab_meaning
+pub use Rattle.fab_matrix
+pub use Rattle.fab_prim
+pub use Rattle.fab_model

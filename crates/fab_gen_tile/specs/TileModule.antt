@@ -1,17 +1,17 @@
 -- The module of a tile: its matrix names as wires, the border bits of its rows, and the instances of its configuration, its switch
 -- matrix and its BELs.
-use Rattle.std.specs.Prelude.{ℕ, zero, suc, ◌+◌, Bool, true, false, not, List, [], ◌∷◌, ◌++◌, map, filter, take, sum_by, nat_eq}
+use Rattle.std.specs.Prelude.{ℕ, zero, suc, ◌+◌, Bool, true, false, not, List, [], ◌∷◌, ◌++◌, map, filter, nat_eq}
 use Rattle.std.specs.List.{flat_map, enumerate_from}
 use Rattle.fab_kinds.specs.declared.kind.Kind.{Kind}
 use Rattle.fab_kinds.specs.Pins.{input_names, output_names, bit_count}
 use Rattle.fab_syntax.specs.declared.tree.Shape.TheVariants.{Scalar, Vector}
 use Rattle.fab_syntax.specs.declared.tree.Port.{Port}
 use Rattle.fab_syntax.specs.Plain.{PlainJoin, PlainItem, PlainModule, variable, part, wire, instance}
-use Rattle.fab_meaning.specs.Runs.{user_clock_name}
+use Rattle.fab_matrix.specs.fab_meaning.specs.Runs.{user_clock_name}
 use Rattle.fab_select.specs.Selection.{select_bits}
 use Rattle.fab_model.specs.declared.tiles.Bel.{Bel}
-use Rattle.fab_model.specs.Tiles.{PlainTile, TileWire, tile_wires, wire_name, matrix_names, is_matrix_output, numbered_pairs, bel_bits, tile_bits}
-use Rattle.fab_matrix.specs.Matrix.{scalar, config_name}
+use Rattle.fab_model.specs.Tiles.{PlainTile, TileWire, tile_wires, wire_name, matrix_names, is_matrix_output, numbered_pairs, bel_bits, tile_bits, bits_before}
+use Rattle.fab_matrix.specs.fab_meaning.specs.Ports.{scalar, config_name}
 use Rattle.fab_prim.specs.Ports.{clock_names, top_inputs, top_outputs}
 use Rattle.fab_prim.specs.Modules.{module_name}
 use Rattle.fab_gen_tile.specs.Names.{config_module_name, matrix_module_name, tile_module_name, config_instance_name, matrix_instance_name, bel_instance_name, frame_data_name, frame_strobe_name, bits_name, pad_name, joined, same_join}
@@ -98,10 +98,6 @@ bel_joins place low bel =
     ++ (map (pad_join place) (top_inputs bel.kind)
     ++ (map (pin_join bel) (output_names bel.kind)
     ++ map (pad_join place) (top_outputs bel.kind)))))
-
--- the configuration bits of the BELs before this place
-abbrev pub bits_before : List Bel → (place : ℕ) → ℕ
-bits_before bels place = sum_by (λ bel. bit_count bel.kind) (take place bels)
 
 abbrev pub bel_instance : (place low : ℕ) → Bel → PlainItem
 bel_instance place low bel = instance (module_name bel.kind) (bel_instance_name place) (bel_joins place low bel)

@@ -2,7 +2,7 @@
 
 ghost use Rattle.std.specs.Prelude.{◌≡◌, ◌+◌, ◌++◌, [], ◌∷◌, ℕ, true, false, map, IfOk, OnOk};
 ghost use Rattle.fab_syntax.specs.Plain.{plain_expr, plain_item};
-ghost use Rattle.fab_matrix.specs.Matrix.{scalar};
+ghost use Rattle.fab_matrix.specs.fab_meaning.specs.Ports.{scalar};
 ghost use Rattle.fab_model.specs.Rows.{bit_name, dest_bits};
 ghost use Rattle.fab_model.specs.Tiles.{counted};
 ghost use Rattle.fab_gen_tile.specs.Names.{border_name, begin_name, end_name};

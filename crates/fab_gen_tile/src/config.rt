@@ -3,7 +3,7 @@
 ghost use Rattle.std.specs.Prelude.{◌≡◌, ◌++◌, [], ◌∷◌, ℕ, true, false, map, reverse, IfOk, OnOk, slice_index_or};
 ghost use Rattle.fab_syntax.specs.declared.tree.Shape.TheVariants as shapes;
 ghost use Rattle.fab_syntax.specs.Plain.{plain_expr, plain_exprs, plain_item, plain_module, concatenation, variable, reg, assign};
-ghost use Rattle.fab_matrix.specs.Matrix.{config_name};
+ghost use Rattle.fab_matrix.specs.fab_meaning.specs.Ports.{config_name};
 ghost use Rattle.fab_model.specs.Tiles.{counted};
 ghost use Rattle.fab_gen_tile.specs.Names.{frame_data_name, frame_strobe_name, latch_name, vector};
 ghost use Rattle.fab_gen_tile.specs.ConfigModule.{frame_ports, latch_at, all_latches, config_module};

@@ -6,7 +6,7 @@ ghost use Rattle.fab_syntax.specs.Plain.{plain_module};
 ghost use Rattle.fab_model.specs.Tiles.{counted, row_wires, bel_wires, tile_wires, is_matrix_output};
 ghost use Rattle.fab_gen_tile.specs.TileModule.{matrix_inputs, matrix_outputs};
 ghost use Rattle.fab_gen_tile.specs.MatrixModule.{matrix_module};
-ghost use Rattle.fab_gen_tile.specs.Places.{HasPlaces, placed_pair};
+ghost use Rattle.fab_gen_tile.specs.inner.Places.{HasPlaces, placed_pair};
 
 use crate::names::prefixed;
 use fab_base::{Memory, Name};

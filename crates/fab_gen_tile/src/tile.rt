@@ -7,7 +7,7 @@ ghost use Rattle.fab_syntax.specs.declared.tree.Shape.TheVariants as shapes;
 ghost use Rattle.fab_syntax.specs.Plain.{plain_module, plain_item, wire, instance};
 ghost use Rattle.fab_model.specs.Tiles.{bel_bits, tile_bits, matrix_names};
 ghost use Rattle.fab_prim.specs.Modules.{module_name};
-ghost use Rattle.fab_matrix.specs.Matrix.{scalar};
+ghost use Rattle.fab_matrix.specs.fab_meaning.specs.Ports.{scalar};
 ghost use Rattle.fab_gen_tile.specs.Names.{pad_name};
 ghost use Rattle.fab_gen_tile.specs.Borders.{border_ports, row_assigns};
 ghost use Rattle.fab_gen_tile.specs.TileModule.{pad_ports, bels_ports, tile_ports, bits_wire, config_instances, matrix_outputs, matrix_instances, bel_instance, bel_instances, tile_items, tile_module};

@@ -2,7 +2,7 @@
 
 ghost use Rattle.std.specs.Prelude.{◌≡◌, ◌++◌, IfOk, decimal};
 ghost use Rattle.fab_fabric.specs.Names.{place_name};
-ghost use Rattle.fab_fabric_text.specs.Names.{row_name, column_strobe_name, begin_wire_name, pad_port_name};
+ghost use Rattle.fab_text_loads.specs.fab_fabric_text.specs.Names.{row_name, column_strobe_name, begin_wire_name, pad_port_name};
 
 use fab_base::{Memory, Name};
 use fab_fabric::place_name as text_of_place;

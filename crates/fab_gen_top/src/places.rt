@@ -2,8 +2,8 @@
 
 ghost use Rattle.std.specs.Prelude.{◌≡◌, ◌<◌, ◌++◌, All, map, IfOk, OnOk};
 ghost use Rattle.fab_fabric.specs.Fabric.{IsFabric};
-ghost use Rattle.fab_fabric_text.specs.Places.{column_tiles, placed_tiles};
-ghost use Rattle.fab_gen_top.specs.Standing.{type_of, placed_of, IsPlaceOf};
+ghost use Rattle.fab_text_loads.specs.fab_fabric_text.specs.Places.{column_tiles, placed_tiles};
+ghost use Rattle.fab_gen_top.specs.inner.Standing.{type_of, placed_of, IsPlaceOf};
 
 use fab_base::Memory;
 use fab_fabric::Fabric;
@@ -23,8 +23,7 @@ pub fn places_of(alloc: Global, fabric: &Fabric) -> Result<Vec<Place>, Memory>
     ensures places { IfOk result (λ places. map (placed_of fabric.now) places.items ≡ placed_tiles fabric.now) }
     ensures stand { IfOk result (λ places. All (IsPlaceOf fabric.now) places.items) }
 {
-    // what is promised of the grid is a clause of this call
-    let _types = fabric.types();
+    fabric.is_well_made();
     let mut places = Vec::new(alloc);
     for x in 0..fabric.columns() {
         push_column(&mut places, fabric, x)?;

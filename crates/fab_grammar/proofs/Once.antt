@@ -1,10 +1,10 @@
 -- Tokens are those of at most one tree.
 use Rattle.std.proofs.Common.{◌≡◌, ℕ, zero, suc, ◌+◌, Bool, true, false, ◌==◌, List, [], ◌∷◌, refl, sym, ap, ◌∙◌, subst, Option, Some, None}
-use Rattle.fab_syntax.specs.declared.tree.Op.{Op}
-use Rattle.fab_syntax.specs.declared.tree.Shape.{Shape}
-use Rattle.fab_syntax.specs.declared.tree.Port.{Port}
-use Rattle.fab_syntax.specs.Plain as trees
-use Rattle.fab_syntax.specs.Plain.{PlainExpr, PlainExprs, PlainJoin, PlainItem, PlainModule}
+use Rattle.fab_tokens.specs.fab_syntax.specs.declared.tree.Op.{Op}
+use Rattle.fab_tokens.specs.fab_syntax.specs.declared.tree.Shape.{Shape}
+use Rattle.fab_tokens.specs.fab_syntax.specs.declared.tree.Port.{Port}
+use Rattle.fab_tokens.specs.fab_syntax.specs.Plain as trees
+use Rattle.fab_tokens.specs.fab_syntax.specs.Plain.{PlainExpr, PlainExprs, PlainJoin, PlainItem, PlainModule}
 use Rattle.fab_tokens.specs.declared.token.Token.{Token}
 use Rattle.fab_tokens.specs.declared.token.Token.TheVariants.{Identifier, Keyword, Number, Constant, Operator, Arrow, Mark, Unknown}
 use Rattle.fab_tokens.specs.declared.token.Keyword.TheVariants as keywords

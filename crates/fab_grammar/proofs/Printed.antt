@@ -1,14 +1,14 @@
 -- What is printed spells its tree.
 use Rattle.std.proofs.Common.{◌≡◌, ℕ, zero, suc, ◌+◌, ◌-◌, ◌<◌, ◌≤◌, Bool, true, false, ◌==◌, ◌&&◌, ◌||◌, List, [], ◌∷◌, ◌++◌, length, codes, decimal, refl, sym, ap, ◌∙◌, subst, append_assoc, append-nil, arith, Option, Some, None, if◌then◌else◌, nat_eq}
 use Rattle.std.specs.Fmt.{digits}
-use Rattle.fab_syntax.specs.declared.tree.Op.{Op}
-use Rattle.fab_syntax.specs.declared.tree.Op.TheVariants as ops
-use Rattle.fab_syntax.specs.declared.tree.Shape.{Shape}
-use Rattle.fab_syntax.specs.declared.tree.Shape.TheVariants.{Scalar, Vector}
-use Rattle.fab_syntax.specs.declared.tree.Port.{Port}
-use Rattle.fab_syntax.specs.Plain as trees
-use Rattle.fab_syntax.specs.Plain.{PlainExpr, PlainExprs, PlainJoin, PlainItem, PlainModule}
-use Rattle.fab_syntax.specs.Spelling.{constant_text, op_text, expr_text, exprs_text, shape_text, port_text, ports_text, join_text, joins_text, latch_head, clocked_head, item_text, items_text, module_text, text_bytes}
+use Rattle.fab_tokens.specs.fab_syntax.specs.declared.tree.Op.{Op}
+use Rattle.fab_tokens.specs.fab_syntax.specs.declared.tree.Op.TheVariants as ops
+use Rattle.fab_tokens.specs.fab_syntax.specs.declared.tree.Shape.{Shape}
+use Rattle.fab_tokens.specs.fab_syntax.specs.declared.tree.Shape.TheVariants.{Scalar, Vector}
+use Rattle.fab_tokens.specs.fab_syntax.specs.declared.tree.Port.{Port}
+use Rattle.fab_tokens.specs.fab_syntax.specs.Plain as trees
+use Rattle.fab_tokens.specs.fab_syntax.specs.Plain.{PlainExpr, PlainExprs, PlainJoin, PlainItem, PlainModule}
+use Rattle.fab_tokens.specs.fab_syntax.specs.Spelling.{constant_text, op_text, expr_text, exprs_text, shape_text, port_text, ports_text, join_text, joins_text, latch_head, clocked_head, item_text, items_text, module_text, text_bytes}
 use Rattle.fab_tokens.specs.declared.token.Keyword.TheVariants.{Module, Endmodule, Input, Output, Wire, Reg, Assign, Always, If, Posedge}
 use Rattle.fab_tokens.specs.declared.token.Token.{Token}
 use Rattle.fab_tokens.specs.declared.token.Token.TheVariants.{Identifier, Keyword, Number, Constant, Operator, Arrow, Mark}

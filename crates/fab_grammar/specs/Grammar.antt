@@ -4,12 +4,12 @@
 -- relations are read likewise. `room` is the number of brackets that may be open in one another inside the operand, and
 -- `widest` the greatest number of bits of a constant. Marks are written by their bytes.
 use Rattle.std.specs.Prelude.{◌≡◌, ℕ, suc, ◌+◌, ◌<◌, ◌≤◌, Bool, true, false, List, [], ◌∷◌, length, Some, None}
-use Rattle.fab_syntax.specs.declared.tree.Op.{Op}
-use Rattle.fab_syntax.specs.declared.tree.Shape.{Shape}
-use Rattle.fab_syntax.specs.declared.tree.Shape.TheVariants.{Scalar, Vector}
-use Rattle.fab_syntax.specs.declared.tree.Port.{Port}
-use Rattle.fab_syntax.specs.Plain as trees
-use Rattle.fab_syntax.specs.Plain.{PlainExpr, PlainExprs, PlainJoin, PlainItem, PlainModule}
+use Rattle.fab_tokens.specs.fab_syntax.specs.declared.tree.Op.{Op}
+use Rattle.fab_tokens.specs.fab_syntax.specs.declared.tree.Shape.{Shape}
+use Rattle.fab_tokens.specs.fab_syntax.specs.declared.tree.Shape.TheVariants.{Scalar, Vector}
+use Rattle.fab_tokens.specs.fab_syntax.specs.declared.tree.Port.{Port}
+use Rattle.fab_tokens.specs.fab_syntax.specs.Plain as trees
+use Rattle.fab_tokens.specs.fab_syntax.specs.Plain.{PlainExpr, PlainExprs, PlainJoin, PlainItem, PlainModule}
 use Rattle.fab_tokens.specs.declared.token.Keyword.TheVariants.{Module, Endmodule, Input, Output, Wire, Reg, Assign, Always, If, Posedge}
 use Rattle.fab_tokens.specs.declared.token.Token.{Token}
 use Rattle.fab_tokens.specs.declared.token.Token.TheVariants.{Identifier, Keyword, Number, Constant, Operator, Arrow, Mark}

@@ -1,8 +1,8 @@
 //! Laws of texts and their spelling.
 
 ghost use Rattle.std.specs.Prelude.{◌≡◌, ℕ, List};
-ghost use Rattle.fab_syntax.specs.Plain.{PlainModule};
-ghost use Rattle.fab_syntax.specs.Spelling.{text_bytes};
+ghost use Rattle.fab_tokens.specs.fab_syntax.specs.Plain.{PlainModule};
+ghost use Rattle.fab_tokens.specs.fab_syntax.specs.Spelling.{text_bytes};
 ghost use Rattle.fab_grammar.specs.Grammar.{SpellsText};
 ghost use Rattle.fab_grammar.specs.Printable.{IsPrintableText};
 

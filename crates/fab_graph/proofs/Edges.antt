@@ -21,7 +21,7 @@ use Rattle.fab_ways.proofs.Origins.{origins_are_there}
 use Rattle.fab_ways.proofs.Ends.{ends_are_there}
 use Rattle.fab_ways.proofs.Lists.{from_filter, from_firsts}
 use Rattle.fab_graph.specs.declared.outputs.Outputs.{Outputs}
-use Rattle.fab_graph.specs.Outputs.{type_outputs, plain_outputs, HaveOutputs}
+use Rattle.fab_graph.specs.inner.Outputs.{type_outputs, plain_outputs, HaveOutputs}
 use Rattle.fab_graph.proofs.Grouped.{tables_inside, table_there, inputs_of_table, group_there}
 
 -- the outputs of an input are wires of the tile, and so are the inputs of an output

@@ -15,7 +15,7 @@ use Rattle.fab_legal.specs.Steps.{IsStep}
 use Rattle.fab_ways.specs.Edges.{ends}
 use Rattle.fab_ways.proofs.Ends.{ends_are_steps}
 use Rattle.fab_graph.specs.Reach.{IsReached, starts, goes, is_marked}
-use Rattle.fab_graph.specs.Search.{IsSearch, waiting_with}
+use Rattle.fab_graph.specs.inner.Search.{IsSearch, waiting_with}
 
 same_wire : (a b : Wire) → a.0 ≡ b.0 → a ≡ b
 same_wire a b same = ap numbered_wire same

@@ -1,5 +1,2 @@
-pub mod Outputs
 pub mod Reach
-pub mod Search
-pub mod Spans
-pub mod Scans
+pub mod inner

@@ -108,7 +108,7 @@ fn place(fabric: &Fabric, wire: Wire) -> (u32, u32)
     ensures few { result.0 < 32 }
     ensures low { result.1 < 31 }
 {
-    let _types = fabric.types();
+    fabric.is_well_made();
     let (x, y, _) = fabric.spot(wire);
     (x, y)
 }

@@ -5,7 +5,7 @@ ghost use Rattle.fab_model.specs.Tiles.{PlainTile};
 ghost use Rattle.fab_model.specs.Grid.{tile_at};
 ghost use Rattle.fab_fabric.specs.Fabric.{AreTiles, wires_at, wire_count};
 ghost use Rattle.fab_ways.specs.Edges.{outputs_of, turned_pairs, ends, origins};
-ghost use Rattle.fab_graph.specs.Outputs.{HaveOutputs};
+ghost use Rattle.fab_graph.specs.inner.Outputs.{HaveOutputs};
 
 use crate::outputs::{Outputs, type_outputs};
 use fab_base::Memory;
@@ -25,7 +25,7 @@ pub struct Graph<'a> {
 impl<'a> Model for Graph<'a> {
     ghost use Rattle.std.specs.Prelude.{false, true};
     ghost use Rattle.fab_model.specs.Grid.{PlainFabric};
-    ghost use Rattle.fab_graph.specs.Outputs.{HaveOutputs};
+    ghost use Rattle.fab_graph.specs.inner.Outputs.{HaveOutputs};
 
     ghost Value = { PlainFabric };
 
@@ -113,7 +113,7 @@ impl<'a> Graph<'a> {
         ensures count { result ≡ wire_count self.now }
         ensures are_tiles { AreTiles self.now }
     {
-        let _types = self.fabric.types();
+        self.fabric.is_well_made();
         self.fabric.wires()
     }
 
@@ -124,7 +124,7 @@ impl<'a> Graph<'a> {
         ensures within { All (λ to. to.0 < wire_count self.now) (ends self.now wire.0) }
         ensures are_tiles { AreTiles self.now }
     {
-        let _types = self.fabric.types();
+        self.fabric.is_well_made();
         let (x, y, number) = self.fabric.spot(wire);
         Ends {
             fabric: self.fabric,
@@ -165,7 +165,7 @@ fn group_in<'t>(
     ensures outputs { (tile : PlainTile) → tile_at fabric.now x y ≡ Some tile → result.now ≡ outputs_of (turned_pairs turned tile.pairs) number }
     ensures within { All (λ output. output < wires_at fabric.now x y) result.now }
 {
-    let _types = fabric.types();
+    fabric.is_well_made();
     match fabric.type_at(x, y) {
         Some(place) => &tables[place as usize].groups[number as usize],
         None => &[],

@@ -5,7 +5,7 @@ ghost use Rattle.fab_fabric.specs.Fabric.{AreTiles, wire_count};
 ghost use Rattle.fab_fabric.specs.declared.wire.Wire.{Wire};
 ghost use Rattle.fab_ways.specs.Edges.{ends};
 ghost use Rattle.fab_graph.specs.Reach.{IsReached, is_marked};
-ghost use Rattle.fab_graph.specs.Search.{IsSearch, waiting_with, left_of};
+ghost use Rattle.fab_graph.specs.inner.Search.{IsSearch, waiting_with, left_of};
 
 use crate::graph::Graph;
 use fab_base::Memory;

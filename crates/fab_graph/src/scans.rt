@@ -7,7 +7,7 @@ ghost use Rattle.fab_model.specs.Tiles.{PlainTile};
 ghost use Rattle.fab_model.specs.Grid.{tile_at};
 ghost use Rattle.fab_fabric.specs.Fabric.{wires_at, wire_count};
 ghost use Rattle.fab_ways.specs.Edges.{outputs_of, turned_pairs, ends, origins};
-ghost use Rattle.fab_graph.specs.Scans.{turned_pair, is_new};
+ghost use Rattle.fab_graph.specs.inner.Scans.{turned_pair, is_new};
 
 use fab_fabric::{Fabric, Wire};
 use fab_model::Pair;
@@ -17,7 +17,7 @@ pub fn successors(fabric: &Fabric, wire: Wire, index: u32) -> Option<Wire>
     requires { wire.0 < wire_count fabric.now }
     ensures { result ≡ slice_get (ends fabric.now wire.0) index }
 {
-    let _types = fabric.types();
+    fabric.is_well_made();
     let (x, y, number) = fabric.spot(wire);
     let join = fabric.join_to(wire);
     match nth_end(pairs_at(fabric, x, y, number), false, number, index) {
@@ -31,7 +31,7 @@ pub fn predecessors(fabric: &Fabric, wire: Wire, index: u32) -> Option<Wire>
     requires { wire.0 < wire_count fabric.now }
     ensures { result ≡ slice_get (origins fabric.now wire.0) index }
 {
-    let _types = fabric.types();
+    fabric.is_well_made();
     let (x, y, number) = fabric.spot(wire);
     let join = fabric.join_from(wire);
     match nth_end(pairs_at(fabric, x, y, number), true, number, index) {

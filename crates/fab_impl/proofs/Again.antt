@@ -12,14 +12,14 @@ use Rattle.fab_model.specs.Tiles.{PlainTile, IsTile, matrix_names}
 use Rattle.fab_model.specs.Grid.{PlainFabric, numbered_type, tile_at}
 use Rattle.fab_fabric.specs.Fabric.{IsFabric, AreTiles, wires_at, wire_count}
 use Rattle.fab_fabric.specs.Wires.{wire_index, numbered_wire}
-use Rattle.fab_fabric.specs.Names.{place_name, full_name, name_at}
+use Rattle.fab_fabric.specs.Names.{place_name, full_name, name_at, site_text}
 use Rattle.fab_fabric.specs.declared.wire.Site.{Site}
 use Rattle.fab_fabric.specs.declared.wire.Wire.{Wire}
 use Rattle.fab_fabric.proofs.Numbered.{some_place}
 use Rattle.fab_fabric.proofs.Placed.{no_tile_past, no_tile_below}
 use Rattle.fab_implementation.specs.OnFabric.{kind_at, IsSite}
 use Rattle.fab_texts.specs.Rows.{Word}
-use Rattle.fab_texts.specs.Places.{IsWritable, site_text}
+use Rattle.fab_texts.specs.Places.{IsWritable}
 use Rattle.fab_texts.proofs.SiteLaws.{site_again, place_again}
 use Rattle.fab_impl.specs.Names.{site_in, wire_of, wire_text, named_wire}
 use Rattle.fab_impl.proofs.FirstPads.{place_in, position-in}

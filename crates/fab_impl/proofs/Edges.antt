@@ -5,7 +5,6 @@ use Rattle.fab_base.specs.declared.problem.Problem.TheVariants as problems
 use Rattle.fab_base.specs.Reading.{Refuses}
 use Rattle.fab_fabric.specs.declared.wire.Wire.{Wire}
 use Rattle.fab_implementation.specs.Plain.{PlainTree}
-use Rattle.fab_impl.specs.declared.kind.Kind.{Kind}
 use Rattle.fab_impl.specs.Lines.{Cell, Known, with_last, with_edge, edge_at, with_wires, set_cells, set_trees}
 
 with_last-push : {X : Type 0} (change : X → X) (front : List X) (x : X) → with_last change (front ++ x ∷ []) ≡ front ++ change x ∷ []
@@ -31,6 +30,6 @@ pub cells_refused : (old : Known) (problem : Problem) (given : Result (List Cell
 cells_refused old problems.Memory given so = tt
 cells_refused old problem given so = ap (set_cells old) so
 
-pub trees_refused : (old : Known) (kind : Kind) (problem : Problem) (given : Result (List PlainTree) Problem) → Refuses problem given → Refuses problem (set_trees old kind given)
-trees_refused old kind problems.Memory given so = tt
-trees_refused old kind problem given so = ap (set_trees old kind) so
+pub trees_refused : (old : Known) (problem : Problem) (given : Result (List PlainTree) Problem) → Refuses problem given → Refuses problem (set_trees old given)
+trees_refused old problems.Memory given so = tt
+trees_refused old problem given so = ap (set_trees old) so

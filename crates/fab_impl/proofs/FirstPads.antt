@@ -13,7 +13,7 @@ use Rattle.fab_implementation.specs.Plain.{Pad}
 use Rattle.fab_texts.specs.Rows.{Word}
 use Rattle.fab_texts.specs.Keys.{is_among}
 use Rattle.fab_impl.specs.FirstPlaces.{ports, first_place}
-use Rattle.fab_impl.specs.Firsts.{HasFirsts}
+use Rattle.fab_impl.specs.inner.Firsts.{HasFirsts}
 
 -- the place where something stands first, by recursion
 abbrev pub place_in : {X : Type 0} → (X → Bool) → List X → Option ℕ

@@ -1,14 +1,11 @@
 -- The lines of a text that is read are those of its implementation.
-use Rattle.std.proofs.Common.{◌≡◌, ℕ, ◌<◌, ◌≤◌, Bool, true, false, cond, List, [], ◌∷◌, ◌++◌, map, get_or, Option, Some, None, Ok, refl, sym, ap, subst, ◌∙◌, arith, append_assoc, append-nil, codes}
-use Rattle.std.specs.Prelude.{not, nat_lt, nat_le}
+use Rattle.std.proofs.Common.{◌≡◌, ℕ, ◌≤◌, true, false, List, [], ◌∷◌, ◌++◌, map, get_or, Option, Some, None, Ok, refl, sym, ap, subst, ◌∙◌, arith, append_assoc, append-nil, codes}
 use Rattle.std.specs.List.{AllByRecursion, flat_map}
 use Rattle.std.specs.Str.{bytes_eq}
-use Rattle.std.proofs.lemmas.Bool.{and_parts, leb-true}
 use Rattle.std.proofs.lemmas.Grind.{flat_map-append}
 use Rattle.std.proofs.lemmas.List.{map_push}
 use Rattle.std.proofs.lemmas.List.Concat.{flat_map-cons}
 use Rattle.std.proofs.lemmas.List.Quantifiers.{position-Some}
-use Rattle.fab_base.specs.declared.words.Reason.TheVariants as reasons
 use Rattle.fab_model.specs.Grid.{PlainFabric}
 use Rattle.fab_fabric.specs.declared.wire.Site.{Site}
 use Rattle.fab_fabric.specs.declared.wire.Wire.{Wire}
@@ -17,19 +14,22 @@ use Rattle.fab_netlist.specs.declared.net_id.NetId.TheVariants as nets
 use Rattle.fab_implementation.specs.Plain.{Edge, Pad, PlainTree, PlainImplementation}
 use Rattle.fab_lines.specs.Order.{IsFine, IsWhole}
 use Rattle.fab_texts.specs.Rows.{Word, PlainRow, word_at, words_of}
-use Rattle.fab_texts.specs.Formats.{refused}
+use Rattle.fab_texts.specs.declared.sections.Part.{Part}
+use Rattle.fab_texts.specs.declared.sections.Part.TheVariants as parts
+use Rattle.fab_texts.specs.Sections.{ending, is_header, may_follow, has_ended, cut_short}
 use Rattle.fab_texts.proofs.Formats.{each_line}
+use Rattle.fab_texts.proofs.InSections.{IsOpen, NotBegun, not_begun, none_begun, none_so_far, some_so_far, so_far, versioned, whole_so_far}
 use Rattle.fab_impl.specs.declared.kind.Kind.{Kind}
 use Rattle.fab_impl.specs.declared.kind.Kind.TheVariants as kinds
 use Rattle.fab_impl.specs.Names.{cell_of, cell_text, site_in, wire_of, wire_text, most_cell}
 use Rattle.fab_impl.specs.FirstPlaces.{ports, first_place}
-use Rattle.fab_impl.specs.Kinds.{kind_of, section, is_header, is_end, may_follow, has_ended}
+use Rattle.fab_impl.specs.Kinds.{kind_of, part_of}
 use Rattle.fab_impl.specs.Lines.{Cell, Known, nothing, known, take, take_kind, set_cells, set_ins, set_outs, set_trees, cell_at, pad_at, input_at, cell_net_at, with_net, with_last, with_edge, with_wires}
-use Rattle.fab_impl.specs.Spelled.{header, cell_line, pad_line, net_line, edge_line, tree_lines, ending, inner_lines, implementation_lines, IsNamed, Spells, implementation_of, implementation_format, cut_short}
-use Rattle.fab_impl.proofs.Follows.{keeps}
+use Rattle.fab_impl.specs.Spelled.{header, cell_line, pad_line, net_line, edge_line, tree_lines, inner_lines, implementation_lines, IsNamed, Spells, implementation_of, implementation_format}
+use Rattle.fab_impl.proofs.Follows.{at_kind, keeps}
 use Rattle.fab_impl.proofs.LineForms.{IsForm, form_of, equal_words}
 use Rattle.fab_impl.proofs.WordsRead.{cell_read, site_read, wire_read}
-use Rattle.fab_impl.proofs.Stands.{text_stands, is_on_fabric}
+use Rattle.fab_impl.proofs.Stands.{line_placed, text_stands, is_on_fabric}
 
 -- ---- lists
 
@@ -64,45 +64,22 @@ more_fourth {X} a b c d longer x is = append_assoc (a ++ b ++ c) d (x ∷ []) �
 
 -- ---- the lines so far
 
--- the section of the last line
-abbrev section_of : Option Kind → ℕ
-section_of None = 0
-section_of (Some last) = section last
+-- all but the end
+abbrev so_many : PlainFabric → PlainImplementation → List (List Word)
+so_many fabric it = header ∷ inner_lines fabric it
 
-abbrev so_far : PlainFabric → Option Kind → PlainImplementation → List (List Word)
-so_far fabric None it = []
-so_far fabric (Some last) it = cond (is_end last) (implementation_lines fabric it) (header ∷ inner_lines fabric it)
-
--- what sections that have not begun hold
-record Later (section : ℕ) (it : PlainImplementation) : Type 0 where
-  cells : section < 1 → it.cells ≡ []
-  ins : section < 2 → it.ins ≡ []
-  outs : section < 3 → it.outs ≡ []
-  trees : section < 4 → it.trees ≡ []
+-- what sections hold that have not begun
+record Later (last : Option Part) (it : PlainImplementation) : Type 0 where
+  cells : NotBegun last 1 → it.cells ≡ []
+  ins : NotBegun last 2 → it.ins ≡ []
+  outs : NotBegun last 3 → it.outs ≡ []
+  trees : NotBegun last 4 → it.trees ≡ []
 
 record Holds (old : Known) (done : List (List Word)) : Type 0 where
-  lines : done ≡ so_far old.fabric old.last (implementation_of old)
-  later : Later (section_of old.last) (implementation_of old)
+  lines : done ≡ so_far old.last (so_many old.fabric (implementation_of old))
+  later : Later old.last (implementation_of old)
   cells : AllByRecursion (λ cell. cell.0 ≤ most_cell) old.cells
   nets : AllByRecursion (λ tree. IsNamed old.ins tree.net) old.trees
-
--- where a line may follow that is not the first
-record Begun (last : Option Kind) (kind : Kind) : Type 0 where
-  lines : (fabric : PlainFabric) (it : PlainImplementation) → so_far fabric last it ≡ header ∷ inner_lines fabric it
-  up : section_of last ≤ section kind
-
-begun : (last : Option Kind) (kind : Kind) → has_ended last ≡ false → may_follow last kind ≡ true → is_header kind ≡ false → Begun last kind
-begun None kind opened follows other = absurd cc
-begun (Some last) kind opened follows other =
-    let both = and_parts (nat_lt 0 (section kind)) (nat_le (section last) (section kind)) follows in
-    record {
-      lines = λ fabric it. ap (λ (ended : Bool). cond ended (implementation_lines fabric it) (header ∷ inner_lines fabric it)) opened;
-      up = leb-true (section last) (section kind) both.1;
-    }
-
-first_line : (last : Option Kind) → may_follow last kinds.Header ≡ true → last ≡ None
-first_line None follows = refl
-first_line (Some last) follows = absurd cc
 
 -- ---- trees
 
@@ -127,38 +104,33 @@ longer_lines fabric ins tree (next ∷ more) edge =
 -- ---- what was taken of a line
 
 cell_taken : (old next : Known) (cell : Option ℕ) (site : Option Site) → set_cells old (cell_at old.cells cell site) ≡ Ok next
-    → (c : ℕ) × (s : Site) × (cell ≡ Some c) × (site ≡ Some s) × (record old { last = Some kinds.Cell; cells = old.cells ++ (c, s) ∷ [] } ≡ next)
+    → (c : ℕ) × (s : Site) × (cell ≡ Some c) × (site ≡ Some s) × (record old { cells = old.cells ++ (c, s) ∷ [] } ≡ next)
 cell_taken old next None site so = absurd cc
 cell_taken old next (Some cell) None so = absurd cc
 cell_taken old next (Some cell) (Some site) so = (cell, site, refl, refl, cc)
 
-in_taken : (old next : Known) (port : Word) (site : Option Site) → set_ins old (pad_at old.ins port site) ≡ Ok next → (s : Site) × (site ≡ Some s) × (record old { last = Some kinds.In; ins = old.ins ++ (port, s) ∷ [] } ≡ next)
+in_taken : (old next : Known) (port : Word) (site : Option Site) → set_ins old (pad_at old.ins port site) ≡ Ok next → (s : Site) × (site ≡ Some s) × (record old { ins = old.ins ++ (port, s) ∷ [] } ≡ next)
 in_taken old next port None so = absurd cc
 in_taken old next port (Some site) so = (site, refl, cc)
 
-out_taken : (old next : Known) (port : Word) (site : Option Site) → set_outs old (pad_at old.outs port site) ≡ Ok next → (s : Site) × (site ≡ Some s) × (record old { last = Some kinds.Out; outs = old.outs ++ (port, s) ∷ [] } ≡ next)
+out_taken : (old next : Known) (port : Word) (site : Option Site) → set_outs old (pad_at old.outs port site) ≡ Ok next → (s : Site) × (site ≡ Some s) × (record old { outs = old.outs ++ (port, s) ∷ [] } ≡ next)
 out_taken old next port None so = absurd cc
 out_taken old next port (Some site) so = (site, refl, cc)
 
-input_taken : (old next : Known) (found : Option ℕ) → set_trees old kinds.NetIn (input_at old.trees found) ≡ Ok next → (place : ℕ) × (found ≡ Some place) × (record old { last = Some kinds.NetIn; trees = with_net old.trees (nets.In place) } ≡ next)
+input_taken : (old next : Known) (found : Option ℕ) → set_trees old (input_at old.trees found) ≡ Ok next → (place : ℕ) × (found ≡ Some place) × (record old { trees = with_net old.trees (nets.In place) } ≡ next)
 input_taken old next None so = absurd cc
 input_taken old next (Some place) so = (place, refl, cc)
 
-cell_net_taken : (old next : Known) (found : Option ℕ) → set_trees old kinds.NetCell (cell_net_at old.trees found) ≡ Ok next → (cell : ℕ) × (found ≡ Some cell) × (record old { last = Some kinds.NetCell; trees = with_net old.trees (nets.Cell cell) } ≡ next)
+cell_net_taken : (old next : Known) (found : Option ℕ) → set_trees old (cell_net_at old.trees found) ≡ Ok next → (cell : ℕ) × (found ≡ Some cell) × (record old { trees = with_net old.trees (nets.Cell cell) } ≡ next)
 cell_net_taken old next None so = absurd cc
 cell_net_taken old next (Some cell) so = (cell, refl, cc)
 
-edge_taken : (old next : Known) (trees : List PlainTree) (from to : Option Wire) → set_trees old kinds.Edge (with_wires trees from to) ≡ Ok next
-    → (tree : PlainTree) × (more : List PlainTree) × (f : Wire) × (t : Wire) × (trees ≡ tree ∷ more) × (from ≡ Some f) × (to ≡ Some t) × (record old { last = Some kinds.Edge; trees = with_last (with_edge (f, t)) (tree ∷ more) } ≡ next)
+edge_taken : (old next : Known) (trees : List PlainTree) (from to : Option Wire) → set_trees old (with_wires trees from to) ≡ Ok next
+    → (tree : PlainTree) × (more : List PlainTree) × (f : Wire) × (t : Wire) × (trees ≡ tree ∷ more) × (from ≡ Some f) × (to ≡ Some t) × (record old { trees = with_last (with_edge (f, t)) (tree ∷ more) } ≡ next)
 edge_taken old next [] from to so = absurd cc
 edge_taken old next (tree ∷ more) None to so = absurd cc
 edge_taken old next (tree ∷ more) (Some from) None so = absurd cc
 edge_taken old next (tree ∷ more) (Some from) (Some to) so = (tree, more, from, to, refl, refl, refl, cc)
-
-header_taken : (old next : Known) (version : Word) (right : Bool) → bytes_eq version (codes "1") ≡ right → cond right (Ok (record old { last = Some kinds.Header })) (refused reasons.Number) ≡ Ok next
-    → (version ≡ codes "1") × (record old { last = Some kinds.Header } ≡ next)
-header_taken old next version true is so = (equal_words version (codes "1") is, cc)
-header_taken old next version false is so = absurd cc
 
 -- ---- one line more
 
@@ -167,19 +139,17 @@ module _ (old : Known) (done : List (List Word)) (holds : Holds old done) where
   it = implementation_of old
 
   -- a line behind those so far
-  behind : (kind : Kind) (line : List Word) (longer : List (List Word)) → Begun old.last kind → inner_lines old.fabric it ++ line ∷ [] ≡ longer → done ++ line ∷ [] ≡ header ∷ longer
-  behind kind line longer starts is =
-      ap (λ (l : List (List Word)). l ++ line ∷ []) (holds.lines ∙ starts.lines old.fabric it) ∙ ap (λ (l : List (List Word)). header ∷ l) is
+  behind : (part : Part) (line : List Word) (longer : List (List Word)) → has_ended old.last ≡ false → may_follow old.last part ≡ true → is_header part ≡ false → inner_lines old.fabric it ++ line ∷ [] ≡ longer → done ++ line ∷ [] ≡ header ∷ longer
+  behind part line longer opened follows other is =
+      ap (λ (l : List (List Word)). l ++ line ∷ []) (holds.lines ∙ some_so_far old.last part (so_many old.fabric it) opened follows other) ∙ ap (λ (l : List (List Word)). header ∷ l) is
 
-  header_step : may_follow old.last kinds.Header ≡ true → Holds (record old { last = Some kinds.Header }) (done ++ header ∷ [])
+  header_step : may_follow old.last parts.Header ≡ true → Holds (record old { last = Some parts.Header }) (done ++ header ∷ [])
   header_step follows =
-      let none = first_line old.last follows in
-      let first : section_of old.last ≡ 0 = ap section_of none in
-      let before : done ≡ [] = holds.lines ∙ ap (λ (last : Option Kind). so_far old.fabric last it) none in
-      let no_cells = holds.later.cells (omega (arith, first)) in
-      let no_ins = holds.later.ins (omega (arith, first)) in
-      let no_outs = holds.later.outs (omega (arith, first)) in
-      let no_trees = holds.later.trees (omega (arith, first)) in
+      let before : done ≡ [] = holds.lines ∙ none_so_far old.last (so_many old.fabric it) follows in
+      let no_cells = holds.later.cells (none_begun old.last follows 1) in
+      let no_ins = holds.later.ins (none_begun old.last follows 2) in
+      let no_outs = holds.later.outs (none_begun old.last follows 3) in
+      let no_trees = holds.later.trees (none_begun old.last follows 4) in
       let empty : inner_lines old.fabric it ≡ [] =
       ap (λ (l : List Cell). map cell_line l ++ map (pad_line (codes "in")) old.ins ++ map (pad_line (codes "out")) old.outs ++ flat_map (tree_lines old.fabric old.ins) old.trees) no_cells
       ∙ ap (λ (l : List Pad). map (pad_line (codes "in")) l ++ map (pad_line (codes "out")) old.outs ++ flat_map (tree_lines old.fabric old.ins) old.trees) no_ins
@@ -192,13 +162,13 @@ module _ (old : Known) (done : List (List Word)) (holds : Holds old done) where
         nets = holds.nets;
       }
 
-  cell_step : (cell : Cell) → Begun old.last kinds.Cell → cell.0 ≤ most_cell → Holds (record old { last = Some kinds.Cell; cells = old.cells ++ cell ∷ [] }) (done ++ cell_line cell ∷ [])
-  cell_step cell starts few =
-      let no_ins = holds.later.ins (omega (arith, starts.up)) in
-      let no_outs = holds.later.outs (omega (arith, starts.up)) in
-      let no_trees = holds.later.trees (omega (arith, starts.up)) in
+  cell_step : (cell : Cell) → IsOpen old.last 1 → cell.0 ≤ most_cell → Holds (record old { last = Some (parts.Section 1); cells = old.cells ++ cell ∷ [] }) (done ++ cell_line cell ∷ [])
+  cell_step cell may few =
+      let no_ins = holds.later.ins (not_begun old.last 1 2 may (omega arith)) in
+      let no_outs = holds.later.outs (not_begun old.last 1 3 may (omega arith)) in
+      let no_trees = holds.later.trees (not_begun old.last 1 4 may (omega arith)) in
       record {
-        lines = behind kinds.Cell (cell_line cell) (inner_lines old.fabric (record it { cells = old.cells ++ cell ∷ [] })) starts
+        lines = behind (parts.Section 1) (cell_line cell) (inner_lines old.fabric (record it { cells = old.cells ++ cell ∷ [] })) may.opened may.follows refl
             (more_first (map cell_line old.cells) (map cell_line (old.cells ++ cell ∷ [])) (map (pad_line (codes "in")) old.ins) (map (pad_line (codes "out")) old.outs) (flat_map (tree_lines old.fabric old.ins) old.trees) (cell_line cell)
             (ap (map (pad_line (codes "in"))) no_ins) (ap (map (pad_line (codes "out"))) no_outs) (ap (flat_map (tree_lines old.fabric old.ins)) no_trees) (map_push cell_line old.cells cell));
         later = record { cells = λ below. absurd (omega (arith, below)); ins = λ below. no_ins; outs = λ below. no_outs; trees = λ below. no_trees };
@@ -206,13 +176,13 @@ module _ (old : Known) (done : List (List Word)) (holds : Holds old done) where
         nets = holds.nets;
       }
 
-  in_step : (pad : Pad) → Begun old.last kinds.In → Holds (record old { last = Some kinds.In; ins = old.ins ++ pad ∷ [] }) (done ++ pad_line (codes "in") pad ∷ [])
-  in_step pad starts =
-      let no_outs = holds.later.outs (omega (arith, starts.up)) in
-      let no_trees = holds.later.trees (omega (arith, starts.up)) in
+  in_step : (pad : Pad) → IsOpen old.last 2 → Holds (record old { last = Some (parts.Section 2); ins = old.ins ++ pad ∷ [] }) (done ++ pad_line (codes "in") pad ∷ [])
+  in_step pad may =
+      let no_outs = holds.later.outs (not_begun old.last 2 3 may (omega arith)) in
+      let no_trees = holds.later.trees (not_begun old.last 2 4 may (omega arith)) in
       let longer = old.ins ++ pad ∷ [] in
       record {
-        lines = behind kinds.In (pad_line (codes "in") pad) (inner_lines old.fabric (record it { ins = longer })) starts
+        lines = behind (parts.Section 2) (pad_line (codes "in") pad) (inner_lines old.fabric (record it { ins = longer })) may.opened may.follows refl
             (more_second (map cell_line old.cells) (map (pad_line (codes "in")) old.ins) (map (pad_line (codes "in")) longer) (map (pad_line (codes "out")) old.outs) (flat_map (tree_lines old.fabric old.ins) old.trees) (flat_map (tree_lines old.fabric longer) old.trees) (pad_line (codes "in") pad)
             (ap (map (pad_line (codes "out"))) no_outs) (ap (flat_map (tree_lines old.fabric old.ins)) no_trees) (ap (flat_map (tree_lines old.fabric longer)) no_trees) (map_push (pad_line (codes "in")) old.ins pad));
         later = record { cells = λ below. absurd (omega (arith, below)); ins = λ below. absurd (omega (arith, below)); outs = λ below. no_outs; trees = λ below. no_trees };
@@ -220,11 +190,11 @@ module _ (old : Known) (done : List (List Word)) (holds : Holds old done) where
         nets = subst (λ (trees : List PlainTree). AllByRecursion (λ tree. IsNamed longer tree.net) trees) (sym no_trees) tt;
       }
 
-  out_step : (pad : Pad) → Begun old.last kinds.Out → Holds (record old { last = Some kinds.Out; outs = old.outs ++ pad ∷ [] }) (done ++ pad_line (codes "out") pad ∷ [])
-  out_step pad starts =
-      let no_trees = holds.later.trees (omega (arith, starts.up)) in
+  out_step : (pad : Pad) → IsOpen old.last 3 → Holds (record old { last = Some (parts.Section 3); outs = old.outs ++ pad ∷ [] }) (done ++ pad_line (codes "out") pad ∷ [])
+  out_step pad may =
+      let no_trees = holds.later.trees (not_begun old.last 3 4 may (omega arith)) in
       record {
-        lines = behind kinds.Out (pad_line (codes "out") pad) (inner_lines old.fabric (record it { outs = old.outs ++ pad ∷ [] })) starts
+        lines = behind (parts.Section 3) (pad_line (codes "out") pad) (inner_lines old.fabric (record it { outs = old.outs ++ pad ∷ [] })) may.opened may.follows refl
             (more_third (map cell_line old.cells) (map (pad_line (codes "in")) old.ins) (map (pad_line (codes "out")) old.outs) (map (pad_line (codes "out")) (old.outs ++ pad ∷ [])) (flat_map (tree_lines old.fabric old.ins) old.trees) (pad_line (codes "out") pad)
             (ap (flat_map (tree_lines old.fabric old.ins)) no_trees) (map_push (pad_line (codes "out")) old.outs pad));
         later = record { cells = λ below. absurd (omega (arith, below)); ins = λ below. absurd (omega (arith, below)); outs = λ below. absurd (omega (arith, below)); trees = λ below. no_trees };
@@ -233,34 +203,32 @@ module _ (old : Known) (done : List (List Word)) (holds : Holds old done) where
       }
 
   -- a line of the nets
-  trees_step : (kind : Kind) (trees : List PlainTree) (line : List Word) → section kind ≡ 4 → is_end kind ≡ false → Begun old.last kind
-      → flat_map (tree_lines old.fabric old.ins) trees ≡ flat_map (tree_lines old.fabric old.ins) old.trees ++ line ∷ [] → AllByRecursion (λ tree. IsNamed old.ins tree.net) trees
-      → Holds (record old { last = Some kind; trees = trees }) (done ++ line ∷ [])
-  trees_step kind trees line fourth goes_on starts is named = record {
-    lines = behind kind line (inner_lines old.fabric (record it { trees = trees })) starts
-        (more_fourth (map cell_line old.cells) (map (pad_line (codes "in")) old.ins) (map (pad_line (codes "out")) old.outs) (flat_map (tree_lines old.fabric old.ins) old.trees) (flat_map (tree_lines old.fabric old.ins) trees) line is)
-        ∙ ap (λ (ended : Bool). cond ended (implementation_lines old.fabric (record it { trees = trees })) (header ∷ inner_lines old.fabric (record it { trees = trees }))) (sym goes_on);
-    later = record { cells = λ below. absurd (omega (arith, below, fourth)); ins = λ below. absurd (omega (arith, below, fourth)); outs = λ below. absurd (omega (arith, below, fourth)); trees = λ below. absurd (omega (arith, below, fourth)) };
+  trees_step : (trees : List PlainTree) (line : List Word) → IsOpen old.last 4 → flat_map (tree_lines old.fabric old.ins) trees ≡ flat_map (tree_lines old.fabric old.ins) old.trees ++ line ∷ []
+      → AllByRecursion (λ tree. IsNamed old.ins tree.net) trees → Holds (record old { last = Some (parts.Section 4); trees = trees }) (done ++ line ∷ [])
+  trees_step trees line may is named = record {
+    lines = behind (parts.Section 4) line (inner_lines old.fabric (record it { trees = trees })) may.opened may.follows refl
+        (more_fourth (map cell_line old.cells) (map (pad_line (codes "in")) old.ins) (map (pad_line (codes "out")) old.outs) (flat_map (tree_lines old.fabric old.ins) old.trees) (flat_map (tree_lines old.fabric old.ins) trees) line is);
+    later = record { cells = λ below. absurd (omega (arith, below)); ins = λ below. absurd (omega (arith, below)); outs = λ below. absurd (omega (arith, below)); trees = λ below. absurd (omega (arith, below)) };
     cells = holds.cells;
     nets = named;
   }
 
-  net_step : (kind : Kind) (net : NetId) → section kind ≡ 4 → is_end kind ≡ false → Begun old.last kind → IsNamed old.ins net → Holds (record old { last = Some kind; trees = with_net old.trees net }) (done ++ net_line old.ins net ∷ [])
-  net_step kind net fourth goes_on starts named =
-      trees_step kind (with_net old.trees net) (net_line old.ins net) fourth goes_on starts (bare_lines old.fabric old.ins old.trees net)
+  net_step : (net : NetId) → IsOpen old.last 4 → IsNamed old.ins net → Holds (record old { last = Some (parts.Section 4); trees = with_net old.trees net }) (done ++ net_line old.ins net ∷ [])
+  net_step net may named =
+      trees_step (with_net old.trees net) (net_line old.ins net) may (bare_lines old.fabric old.ins old.trees net)
       (all_push (λ (tree : PlainTree). IsNamed old.ins tree.net) old.trees (record { net = net; edges = [] }) holds.nets named)
 
-  edge_step : (tree : PlainTree) (more : List PlainTree) (edge : Edge) → Begun old.last kinds.Edge → old.trees ≡ tree ∷ more
-      → Holds (record old { last = Some kinds.Edge; trees = with_last (with_edge edge) (tree ∷ more) }) (done ++ edge_line old.fabric edge ∷ [])
-  edge_step tree more edge starts is =
-      trees_step kinds.Edge (with_last (with_edge edge) (tree ∷ more)) (edge_line old.fabric edge) refl refl starts
+  edge_step : (tree : PlainTree) (more : List PlainTree) (edge : Edge) → IsOpen old.last 4 → old.trees ≡ tree ∷ more
+      → Holds (record old { last = Some (parts.Section 4); trees = with_last (with_edge edge) (tree ∷ more) }) (done ++ edge_line old.fabric edge ∷ [])
+  edge_step tree more edge may is =
+      trees_step (with_last (with_edge edge) (tree ∷ more)) (edge_line old.fabric edge) may
       (longer_lines old.fabric old.ins tree more edge ∙ ap (λ (trees : List PlainTree). flat_map (tree_lines old.fabric old.ins) trees ++ edge_line old.fabric edge ∷ []) (sym is))
       (all_last (λ (t : PlainTree). IsNamed old.ins t.net) (with_edge edge) (tree ∷ more) (λ t named. named) (subst (λ (trees : List PlainTree). AllByRecursion (λ t. IsNamed old.ins t.net) trees) is holds.nets))
 
-  end_step : Begun old.last kinds.End → Holds (record old { last = Some kinds.End }) (done ++ ending ∷ [])
-  end_step starts = record {
-    lines = behind kinds.End ending (inner_lines old.fabric it ++ ending ∷ []) starts refl;
-    later = record { cells = λ below. absurd (omega (arith, below)); ins = λ below. absurd (omega (arith, below)); outs = λ below. absurd (omega (arith, below)); trees = λ below. absurd (omega (arith, below)) };
+  end_step : has_ended old.last ≡ false → may_follow old.last parts.End ≡ true → Holds (record old { last = Some parts.End }) (done ++ ending ∷ [])
+  end_step opened follows = record {
+    lines = behind parts.End ending (inner_lines old.fabric it ++ ending ∷ []) opened follows refl refl;
+    later = record { cells = λ begun. absurd begun; ins = λ begun. absurd begun; outs = λ begun. absurd begun; trees = λ begun. absurd begun };
     cells = holds.cells;
     nets = holds.nets;
   }
@@ -275,84 +243,70 @@ module _ (old : Known) (done : List (List Word)) (holds : Holds old done) where
       let same = equal_words port (get_or (ports old.ins) place []) stands.1 in
       (same, ap (first_place old.ins) (sym same) ∙ found)
 
-  kind_step : (next : Known) (kind : Kind) (line : List Word) → IsForm kind line → has_ended old.last ≡ false → may_follow old.last kind ≡ true → take_kind old kind line ≡ Ok next → Holds next (done ++ line ∷ [])
+  kind_step : (next : Known) (kind : Kind) (line : List Word) → IsForm kind line → has_ended old.last ≡ false → may_follow old.last (part_of kind) ≡ true → take_kind (at_kind old kind) kind line ≡ Ok next → Holds next (done ++ line ∷ [])
   kind_step next kinds.Header line form opened follows so =
-      let taken = header_taken old next (word_at line 1) (bytes_eq (word_at line 1) (codes "1")) refl so in
-      as_written next (record old { last = Some kinds.Header }) line header (form ∙ ap (λ (w : Word). codes "fabulous-impl" ∷ w ∷ []) taken.0) taken.1 (header_step follows)
+      let taken = versioned (word_at line 1) (at_kind old kinds.Header) next so in
+      as_written next (at_kind old kinds.Header) line header (form ∙ ap (λ (w : Word). codes "fabulous-impl" ∷ w ∷ []) taken.0) taken.1 (header_step follows)
   kind_step next kinds.Cell line form opened follows so =
-      let taken = cell_taken old next (cell_of (word_at line 1)) (site_in old.fabric (word_at line 2)) so in
+      let taken = cell_taken (at_kind old kinds.Cell) next (cell_of (word_at line 1)) (site_in old.fabric (word_at line 2)) so in
       let cell = cell_read (word_at line 1) taken.0 taken.2 in
       let site = site_read old.fabric (word_at line 2) taken.1 taken.3 in
-      as_written next (record old { last = Some kinds.Cell; cells = old.cells ++ (taken.0, taken.1) ∷ [] }) line (cell_line (taken.0, taken.1))
+      as_written next (record (at_kind old kinds.Cell) { cells = old.cells ++ (taken.0, taken.1) ∷ [] }) line (cell_line (taken.0, taken.1))
       (form ∙ ap (λ (w : Word). codes "cell" ∷ w ∷ word_at line 2 ∷ []) cell.0 ∙ ap (λ (w : Word). codes "cell" ∷ cell_text taken.0 ∷ w ∷ []) site) taken.4
-      (cell_step (taken.0, taken.1) (begun old.last kinds.Cell opened follows refl) cell.1)
+      (cell_step (taken.0, taken.1) (record { opened = opened; follows = follows }) cell.1)
   kind_step next kinds.In line form opened follows so =
-      let taken = in_taken old next (word_at line 2) (site_in old.fabric (word_at line 3)) so in
+      let taken = in_taken (at_kind old kinds.In) next (word_at line 2) (site_in old.fabric (word_at line 3)) so in
       let pad : Pad = (word_at line 2, taken.0) in
-      as_written next (record old { last = Some kinds.In; ins = old.ins ++ pad ∷ [] }) line (pad_line (codes "in") pad)
+      as_written next (record (at_kind old kinds.In) { ins = old.ins ++ pad ∷ [] }) line (pad_line (codes "in") pad)
       (form ∙ ap (λ (w : Word). codes "pad" ∷ codes "in" ∷ word_at line 2 ∷ w ∷ []) (site_read old.fabric (word_at line 3) taken.0 taken.1)) taken.2
-      (in_step pad (begun old.last kinds.In opened follows refl))
+      (in_step pad (record { opened = opened; follows = follows }))
   kind_step next kinds.Out line form opened follows so =
-      let taken = out_taken old next (word_at line 2) (site_in old.fabric (word_at line 3)) so in
+      let taken = out_taken (at_kind old kinds.Out) next (word_at line 2) (site_in old.fabric (word_at line 3)) so in
       let pad : Pad = (word_at line 2, taken.0) in
-      as_written next (record old { last = Some kinds.Out; outs = old.outs ++ pad ∷ [] }) line (pad_line (codes "out") pad)
+      as_written next (record (at_kind old kinds.Out) { outs = old.outs ++ pad ∷ [] }) line (pad_line (codes "out") pad)
       (form ∙ ap (λ (w : Word). codes "pad" ∷ codes "out" ∷ word_at line 2 ∷ w ∷ []) (site_read old.fabric (word_at line 3) taken.0 taken.1)) taken.2
-      (out_step pad (begun old.last kinds.Out opened follows refl))
+      (out_step pad (record { opened = opened; follows = follows }))
   kind_step next kinds.NetZero line form opened follows so =
-      let same : record old { last = Some kinds.NetZero; trees = with_net old.trees nets.Zero } ≡ next = cc in
-      as_written next (record old { last = Some kinds.NetZero; trees = with_net old.trees nets.Zero }) line (net_line old.ins nets.Zero) form same (net_step kinds.NetZero nets.Zero refl refl (begun old.last kinds.NetZero opened follows refl) tt)
+      let same : record (at_kind old kinds.NetZero) { trees = with_net old.trees nets.Zero } ≡ next = cc in
+      as_written next (record (at_kind old kinds.NetZero) { trees = with_net old.trees nets.Zero }) line (net_line old.ins nets.Zero) form same (net_step nets.Zero (record { opened = opened; follows = follows }) tt)
   kind_step next kinds.NetOne line form opened follows so =
-      let same : record old { last = Some kinds.NetOne; trees = with_net old.trees nets.One } ≡ next = cc in
-      as_written next (record old { last = Some kinds.NetOne; trees = with_net old.trees nets.One }) line (net_line old.ins nets.One) form same (net_step kinds.NetOne nets.One refl refl (begun old.last kinds.NetOne opened follows refl) tt)
+      let same : record (at_kind old kinds.NetOne) { trees = with_net old.trees nets.One } ≡ next = cc in
+      as_written next (record (at_kind old kinds.NetOne) { trees = with_net old.trees nets.One }) line (net_line old.ins nets.One) form same (net_step nets.One (record { opened = opened; follows = follows }) tt)
   kind_step next kinds.NetIn line form opened follows so =
-      let taken = input_taken old next (first_place old.ins (word_at line 2)) so in
+      let taken = input_taken (at_kind old kinds.NetIn) next (first_place old.ins (word_at line 2)) so in
       let named = input_named (word_at line 2) taken.0 taken.1 in
-      as_written next (record old { last = Some kinds.NetIn; trees = with_net old.trees (nets.In taken.0) }) line (net_line old.ins (nets.In taken.0))
+      as_written next (record (at_kind old kinds.NetIn) { trees = with_net old.trees (nets.In taken.0) }) line (net_line old.ins (nets.In taken.0))
       (form ∙ ap (λ (w : Word). codes "net" ∷ codes "in" ∷ w ∷ []) named.0) taken.2
-      (net_step kinds.NetIn (nets.In taken.0) refl refl (begun old.last kinds.NetIn opened follows refl) named.1)
+      (net_step (nets.In taken.0) (record { opened = opened; follows = follows }) named.1)
   kind_step next kinds.NetCell line form opened follows so =
-      let taken = cell_net_taken old next (cell_of (word_at line 2)) so in
+      let taken = cell_net_taken (at_kind old kinds.NetCell) next (cell_of (word_at line 2)) so in
       let cell = cell_read (word_at line 2) taken.0 taken.1 in
-      as_written next (record old { last = Some kinds.NetCell; trees = with_net old.trees (nets.Cell taken.0) }) line (net_line old.ins (nets.Cell taken.0))
+      as_written next (record (at_kind old kinds.NetCell) { trees = with_net old.trees (nets.Cell taken.0) }) line (net_line old.ins (nets.Cell taken.0))
       (form ∙ ap (λ (w : Word). codes "net" ∷ codes "cell" ∷ w ∷ []) cell.0) taken.2
-      (net_step kinds.NetCell (nets.Cell taken.0) refl refl (begun old.last kinds.NetCell opened follows refl) cell.1)
+      (net_step (nets.Cell taken.0) (record { opened = opened; follows = follows }) cell.1)
   kind_step next kinds.Edge line form opened follows so =
-      let taken = edge_taken old next old.trees (wire_of old.fabric (word_at line 1)) (wire_of old.fabric (word_at line 2)) so in
+      let taken = edge_taken (at_kind old kinds.Edge) next old.trees (wire_of old.fabric (word_at line 1)) (wire_of old.fabric (word_at line 2)) so in
       let edge : Edge = (taken.2, taken.3) in
-      as_written next (record old { last = Some kinds.Edge; trees = with_last (with_edge edge) (taken.0 ∷ taken.1) }) line (edge_line old.fabric edge)
+      as_written next (record (at_kind old kinds.Edge) { trees = with_last (with_edge edge) (taken.0 ∷ taken.1) }) line (edge_line old.fabric edge)
       (form ∙ ap (λ (w : Word). codes "edge" ∷ w ∷ word_at line 2 ∷ []) (wire_read old.fabric (word_at line 1) taken.2 taken.5)
       ∙ ap (λ (w : Word). codes "edge" ∷ wire_text old.fabric taken.2 ∷ w ∷ []) (wire_read old.fabric (word_at line 2) taken.3 taken.6)) taken.7
-      (edge_step taken.0 taken.1 edge (begun old.last kinds.Edge opened follows refl) taken.4)
+      (edge_step taken.0 taken.1 edge (record { opened = opened; follows = follows }) taken.4)
   kind_step next kinds.End line form opened follows so =
-      let same : record old { last = Some kinds.End } ≡ next = cc in
-      as_written next (record old { last = Some kinds.End }) line ending form same (end_step (begun old.last kinds.End opened follows refl))
+      let same : at_kind old kinds.End ≡ next = cc in
+      as_written next (at_kind old kinds.End) line ending form same (end_step opened follows)
   kind_step next kinds.Other line form opened follows so = absurd cc
 
-  line_by : (next : Known) (line : List Word) (ended follows : Bool) → has_ended old.last ≡ ended → may_follow old.last (kind_of line) ≡ follows
-      → cond ended (refused reasons.AfterEnd) (cond (not follows) (refused reasons.Row) (take_kind old (kind_of line) line)) ≡ Ok next → Holds next (done ++ line ∷ [])
-  line_by next line true follows is may so = absurd cc
-  line_by next line false false is may so = absurd cc
-  line_by next line false true is may so = kind_step next (kind_of line) line (form_of line) is may so
-
   line_step : (next : Known) (line : List Word) → take old line ≡ Ok next → Holds next (done ++ line ∷ [])
-  line_step next line so = line_by next line (has_ended old.last) (may_follow old.last (kind_of line)) refl refl so
+  line_step next line so = let placed = line_placed old next line so in kind_step next (kind_of line) line (form_of line) placed.opened placed.follows placed.takes
 
 -- ---- a whole text
 
 nothing_holds : (fabric : PlainFabric) → Holds (nothing fabric) []
-nothing_holds fabric = record { lines = refl; later = record { cells = λ few. refl; ins = λ few. refl; outs = λ few. refl; trees = λ few. refl }; cells = tt; nets = tt }
+nothing_holds fabric = record { lines = refl; later = record { cells = λ begun. refl; ins = λ begun. refl; outs = λ begun. refl; trees = λ begun. refl }; cells = tt; nets = tt }
 
 text_holds : (fabric : PlainFabric) (rows : List PlainRow) → IsFine (implementation_format fabric).judge rows → Holds (known fabric (words_of rows)) (words_of rows)
-text_holds fabric rows fine = each_line (known fabric) take cut_short (λ lines. Holds (known fabric lines) lines)
+text_holds fabric rows fine = each_line (known fabric) take (λ (k : Known). cut_short k.last) (λ lines. Holds (known fabric lines) lines)
     (λ front line next so holds. subst (λ (k : Known). Holds k (front ++ line ∷ [])) ((keeps fabric).more front line next so) (line_step (known fabric front) front holds next line so)) (nothing_holds fabric) rows fine
-
-ended_lines : (fabric : PlainFabric) (last : Option Kind) (it : PlainImplementation) → has_ended last ≡ true → so_far fabric last it ≡ implementation_lines fabric it
-ended_lines fabric None it is = absurd cc
-ended_lines fabric (Some last) it is = ap (λ (ended : Bool). cond ended (implementation_lines fabric it) (header ∷ inner_lines fabric it)) is
-
-has_come : (old : Known) (ended : Bool) → has_ended old.last ≡ ended → cut_short old ≡ None → has_ended old.last ≡ true
-has_come old true is none = is
-has_come old false is none = (let cut = rw is at none in absurd cc)
 
 -- a whole text spells what it says
 pub whole_spells : (fabric : PlainFabric) (rows : List PlainRow) → IsWhole (implementation_format fabric) rows → Spells fabric rows (implementation_of (known fabric (words_of rows)))
@@ -361,6 +315,6 @@ whole_spells fabric rows whole =
     let holds = text_holds fabric rows whole.fine in
     let stands = text_stands fabric rows whole.fine in
     record {
-      lines = holds.lines ∙ ended_lines old.fabric old.last (implementation_of old) (has_come old (has_ended old.last) refl whole.ends) ∙ ap (λ (f : PlainFabric). implementation_lines f (implementation_of old)) stands.same;
+      lines = holds.lines ∙ whole_so_far old.last (so_many old.fabric (implementation_of old)) whole.ends ∙ ap (λ (f : PlainFabric). implementation_lines f (implementation_of old)) stands.same;
       nameable = record { on_fabric = is_on_fabric fabric old stands; cells = holds.cells; nets = holds.nets };
     }

@@ -1,13 +1,12 @@
 -- What lines say stands on the fabric.
-use Rattle.std.proofs.Common.{◌≡◌, ℕ, ◌<◌, ◌≤◌, Bool, true, false, cond, not, List, [], ◌∷◌, ◌++◌, length, get_or, position, All, Option, Some, None, Ok, refl, ap, subst, arith, length-append}
-use Rattle.std.specs.Prelude.{is_some, codes}
+use Rattle.std.proofs.Common.{◌≡◌, ℕ, ◌<◌, ◌≤◌, cond, List, [], ◌∷◌, ◌++◌, length, get_or, position, All, Option, Some, None, Ok, refl, ap, subst, arith, length-append}
+use Rattle.std.specs.Prelude.{is_some}
 use Rattle.std.specs.Option.{option_map, option_map_or, option_and_then}
 use Rattle.std.specs.Str.{bytes_eq}
 use Rattle.std.proofs.lemmas.List.{length-map}
 use Rattle.std.proofs.lemmas.List.Elements.{All-nil, All-cons, All-head, All-tail, All-push}
 use Rattle.std.proofs.lemmas.List.Quantifiers.{position-Some}
 use Rattle.fab_kinds.specs.declared.kind.Kind.{Kind as BelKind}
-use Rattle.fab_base.specs.declared.words.Reason.TheVariants as reasons
 use Rattle.fab_model.specs.Tiles.{PlainTile, matrix_names}
 use Rattle.fab_model.specs.Grid.{PlainFabric, tile_at}
 use Rattle.fab_fabric.specs.Fabric.{wires_at, wire_count}
@@ -22,16 +21,18 @@ use Rattle.fab_implementation.specs.Plain.{Edge, Pad, PlainTree}
 use Rattle.fab_lines.specs.Order.{IsFine}
 use Rattle.fab_texts.specs.Rows.{Word, PlainRow, word_at, words_of}
 use Rattle.fab_texts.specs.Places.{place_at, site_of, after_byte, ◌>>=◌}
-use Rattle.fab_texts.specs.Formats.{refused}
+use Rattle.fab_texts.specs.Sections.{cut_short}
 use Rattle.fab_texts.proofs.Formats.{each_line}
+use Rattle.fab_texts.proofs.InSections.{IsPlaced, placed, versioned}
 use Rattle.fab_impl.specs.declared.kind.Kind.{Kind}
 use Rattle.fab_impl.specs.declared.kind.Kind.TheVariants as kinds
 use Rattle.fab_impl.specs.Names.{cell_of, on_fabric, site_in, wire_of, named_wire}
 use Rattle.fab_impl.specs.FirstPlaces.{ports, first_place}
-use Rattle.fab_impl.specs.Kinds.{kind_of, may_follow, has_ended}
+use Rattle.fab_impl.specs.Kinds.{kind_of, part_of}
 use Rattle.fab_impl.specs.Lines.{Cell, Known, nothing, known, take, take_kind, set_cells, set_ins, set_outs, set_trees, cell_at, pad_at, input_at, cell_net_at, with_net, with_last, with_edge, with_wires}
-use Rattle.fab_impl.specs.Spelled.{IsInput, implementation_of, implementation_format, cut_short}
-use Rattle.fab_impl.proofs.Follows.{keeps}
+use Rattle.fab_implementation.specs.Inputs.{NamesInput}
+use Rattle.fab_impl.specs.Spelled.{implementation_of, implementation_format}
+use Rattle.fab_impl.proofs.Follows.{at_kind, keeps}
 
 -- ---- words
 
@@ -76,9 +77,9 @@ pub record Stands (fabric : PlainFabric) (old : Known) : Type 0 where
   pub ins : HasSites fabric old.ins
   pub outs : HasSites fabric old.outs
   pub wires : All (λ tree. All (HasWires fabric) tree.edges) old.trees
-  pub nets : All (λ tree. IsInput (length old.ins) tree.net) old.trees
+  pub nets : All (λ tree. NamesInput (length old.ins) tree.net) old.trees
 
-input_grows : (inputs more : ℕ) (net : NetId) → inputs ≤ more → IsInput inputs net → IsInput more net
+input_grows : (inputs more : ℕ) (net : NetId) → inputs ≤ more → NamesInput inputs net → NamesInput more net
 input_grows inputs more nets.Zero up within = tt
 input_grows inputs more nets.One up within = tt
 input_grows inputs more (nets.In place) up within = omega (arith, up, within)
@@ -90,20 +91,17 @@ all_last P change (x ∷ []) keep all = All-cons P (change x) [] (keep x (All-he
 all_last P change (x ∷ y ∷ more) keep all = All-cons P x (with_last change (y ∷ more)) (All-head P x (y ∷ more) all) (all_last P change (y ∷ more) keep (All-tail P x (y ∷ more) all))
 
 module _ (fabric : PlainFabric) (old next : Known) (stands : Stands fabric old) where
-  moved : (kind : Kind) → record old { last = Some kind } ≡ next → Stands fabric next
-  moved kind same = subst (Stands fabric) same (record { same = stands.same; cells = stands.cells; ins = stands.ins; outs = stands.outs; wires = stands.wires; nets = stands.nets })
-
   cell_stands : (cell : Option ℕ) (site : Option Site) → ((s : Site) → site ≡ Some s → IsSite fabric s) → set_cells old (cell_at old.cells cell site) ≡ Ok next → Stands fabric next
   cell_stands None site is so = absurd cc
   cell_stands (Some cell) None is so = absurd cc
   cell_stands (Some cell) (Some site) is so =
-      let same : record old { last = Some kinds.Cell; cells = old.cells ++ (cell, site) ∷ [] } ≡ next = cc in
+      let same : record old { cells = old.cells ++ (cell, site) ∷ [] } ≡ next = cc in
       subst (Stands fabric) same (record { same = stands.same; cells = All-push (λ (c : Cell). IsSite fabric c.1) old.cells (cell, site) stands.cells (is site refl); ins = stands.ins; outs = stands.outs; wires = stands.wires; nets = stands.nets })
 
   in_stands : (port : Word) (site : Option Site) → ((s : Site) → site ≡ Some s → IsSite fabric s) → set_ins old (pad_at old.ins port site) ≡ Ok next → Stands fabric next
   in_stands port None is so = absurd cc
   in_stands port (Some site) is so =
-      let same : record old { last = Some kinds.In; ins = old.ins ++ (port, site) ∷ [] } ≡ next = cc in
+      let same : record old { ins = old.ins ++ (port, site) ∷ [] } ≡ next = cc in
       let longer = length-append old.ins ((port, site) ∷ []) in
       subst (Stands fabric) same (record {
         same = stands.same;
@@ -117,11 +115,11 @@ module _ (fabric : PlainFabric) (old next : Known) (stands : Stands fabric old) 
   out_stands : (port : Word) (site : Option Site) → ((s : Site) → site ≡ Some s → IsSite fabric s) → set_outs old (pad_at old.outs port site) ≡ Ok next → Stands fabric next
   out_stands port None is so = absurd cc
   out_stands port (Some site) is so =
-      let same : record old { last = Some kinds.Out; outs = old.outs ++ (port, site) ∷ [] } ≡ next = cc in
+      let same : record old { outs = old.outs ++ (port, site) ∷ [] } ≡ next = cc in
       subst (Stands fabric) same (record { same = stands.same; cells = stands.cells; ins = stands.ins; outs = All-push (λ (p : Pad). IsSite fabric p.1) old.outs (port, site) stands.outs (is site refl); wires = stands.wires; nets = stands.nets })
 
-  net_stands : (kind : Kind) (net : NetId) → IsInput (length old.ins) net → record old { last = Some kind; trees = with_net old.trees net } ≡ next → Stands fabric next
-  net_stands kind net within same =
+  net_stands : (net : NetId) → NamesInput (length old.ins) net → record old { trees = with_net old.trees net } ≡ next → Stands fabric next
+  net_stands net within same =
       let tree : PlainTree = record { net = net; edges = [] } in
       subst (Stands fabric) same (record {
         same = stands.same;
@@ -129,25 +127,25 @@ module _ (fabric : PlainFabric) (old next : Known) (stands : Stands fabric old) 
         ins = stands.ins;
         outs = stands.outs;
         wires = All-push (λ (t : PlainTree). All (HasWires fabric) t.edges) old.trees tree stands.wires (All-nil (HasWires fabric));
-        nets = All-push (λ (t : PlainTree). IsInput (length old.ins) t.net) old.trees tree stands.nets within;
+        nets = All-push (λ (t : PlainTree). NamesInput (length old.ins) t.net) old.trees tree stands.nets within;
       })
 
-  input_stands : (found : Option ℕ) → ((place : ℕ) → found ≡ Some place → place < length old.ins) → set_trees old kinds.NetIn (input_at old.trees found) ≡ Ok next → Stands fabric next
+  input_stands : (found : Option ℕ) → ((place : ℕ) → found ≡ Some place → place < length old.ins) → set_trees old (input_at old.trees found) ≡ Ok next → Stands fabric next
   input_stands None is so = absurd cc
-  input_stands (Some place) is so = net_stands kinds.NetIn (nets.In place) (is place refl) cc
+  input_stands (Some place) is so = net_stands (nets.In place) (is place refl) cc
 
-  cell_net_stands : (found : Option ℕ) → set_trees old kinds.NetCell (cell_net_at old.trees found) ≡ Ok next → Stands fabric next
+  cell_net_stands : (found : Option ℕ) → set_trees old (cell_net_at old.trees found) ≡ Ok next → Stands fabric next
   cell_net_stands None so = absurd cc
-  cell_net_stands (Some cell) so = net_stands kinds.NetCell (nets.Cell cell) tt cc
+  cell_net_stands (Some cell) so = net_stands (nets.Cell cell) tt cc
 
   edge_stands : (trees : List PlainTree) (from to : Option Wire) → old.trees ≡ trees → ((w : Wire) → from ≡ Some w → w.0 < wire_count fabric) → ((w : Wire) → to ≡ Some w → w.0 < wire_count fabric)
-      → set_trees old kinds.Edge (with_wires trees from to) ≡ Ok next → Stands fabric next
+      → set_trees old (with_wires trees from to) ≡ Ok next → Stands fabric next
   edge_stands [] from to is from_is to_is so = absurd cc
   edge_stands (tree ∷ more) None to is from_is to_is so = absurd cc
   edge_stands (tree ∷ more) (Some from) None is from_is to_is so = absurd cc
   edge_stands (tree ∷ more) (Some from) (Some to) is from_is to_is so =
       let edge : Edge = (from, to) in
-      let same : record old { last = Some kinds.Edge; trees = with_last (with_edge edge) (tree ∷ more) } ≡ next = cc in
+      let same : record old { trees = with_last (with_edge edge) (tree ∷ more) } ≡ next = cc in
       subst (Stands fabric) same (record {
         same = stands.same;
         cells = stands.cells;
@@ -155,8 +153,8 @@ module _ (fabric : PlainFabric) (old next : Known) (stands : Stands fabric old) 
         outs = stands.outs;
         wires = all_last (λ (t : PlainTree). All (HasWires fabric) t.edges) (with_edge edge) (tree ∷ more) (λ t all. All-push (HasWires fabric) t.edges edge all (from_is from refl, to_is to refl))
             (subst (λ (ts : List PlainTree). All (λ t. All (HasWires fabric) t.edges) ts) is stands.wires);
-        nets = all_last (λ (t : PlainTree). IsInput (length old.ins) t.net) (with_edge edge) (tree ∷ more) (λ t within. within)
-            (subst (λ (ts : List PlainTree). All (λ t. IsInput (length old.ins) t.net) ts) is stands.nets);
+        nets = all_last (λ (t : PlainTree). NamesInput (length old.ins) t.net) (with_edge edge) (tree ∷ more) (λ t within. within)
+            (subst (λ (ts : List PlainTree). All (λ t. NamesInput (length old.ins) t.net) ts) is stands.nets);
       })
 
   site_here : (word : Word) (site : Site) → site_in old.fabric word ≡ Some site → IsSite fabric site
@@ -165,41 +163,38 @@ module _ (fabric : PlainFabric) (old next : Known) (stands : Stands fabric old) 
   wire_here : (word : Word) (wire : Wire) → wire_of old.fabric word ≡ Some wire → wire.0 < wire_count fabric
   wire_here word wire so = subst (λ (f : PlainFabric). wire.0 < wire_count f) stands.same (wire_found old.fabric word wire so)
 
-  header_stands : (right : Bool) → cond right (Ok (record old { last = Some kinds.Header })) (refused reasons.Number) ≡ Ok next → Stands fabric next
-  header_stands true so = moved kinds.Header cc
-  header_stands false so = absurd cc
-
   kind_stands : (kind : Kind) (line : List Word) → take_kind old kind line ≡ Ok next → Stands fabric next
-  kind_stands kinds.Header line so = header_stands (bytes_eq (word_at line 1) (codes "1")) so
+  kind_stands kinds.Header line so = subst (Stands fabric) (versioned (word_at line 1) old next so).1 stands
   kind_stands kinds.Cell line so = cell_stands (cell_of (word_at line 1)) (site_in old.fabric (word_at line 2)) (site_here (word_at line 2)) so
   kind_stands kinds.In line so = in_stands (word_at line 2) (site_in old.fabric (word_at line 3)) (site_here (word_at line 3)) so
   kind_stands kinds.Out line so = out_stands (word_at line 2) (site_in old.fabric (word_at line 3)) (site_here (word_at line 3)) so
-  kind_stands kinds.NetZero line so = net_stands kinds.NetZero nets.Zero tt cc
-  kind_stands kinds.NetOne line so = net_stands kinds.NetOne nets.One tt cc
+  kind_stands kinds.NetZero line so = net_stands nets.Zero tt cc
+  kind_stands kinds.NetOne line so = net_stands nets.One tt cc
   kind_stands kinds.NetIn line so =
       input_stands (first_place old.ins (word_at line 2)) (λ place is.
       let below = (position-Some (bytes_eq (word_at line 2)) (ports old.ins) place [] is).0 in
       omega (arith, below, length-map old.ins (λ (p : Pad). p.0))) so
   kind_stands kinds.NetCell line so = cell_net_stands (cell_of (word_at line 2)) so
   kind_stands kinds.Edge line so = edge_stands old.trees (wire_of old.fabric (word_at line 1)) (wire_of old.fabric (word_at line 2)) refl (wire_here (word_at line 1)) (wire_here (word_at line 2)) so
-  kind_stands kinds.End line so = moved kinds.End cc
+  kind_stands kinds.End line so = let same : old ≡ next = cc in subst (Stands fabric) same stands
   kind_stands kinds.Other line so = absurd cc
 
-  line_by : (line : List Word) (ended follows : Bool) → cond ended (refused reasons.AfterEnd) (cond (not follows) (refused reasons.Row) (take_kind old (kind_of line) line)) ≡ Ok next → Stands fabric next
-  line_by line true follows so = absurd cc
-  line_by line false false so = absurd cc
-  line_by line false true so = kind_stands (kind_of line) line so
+-- where a line is taken, it has its place
+pub line_placed : (old next : Known) (line : List Word) → take old line ≡ Ok next → IsPlaced old.last (part_of (kind_of line)) (take_kind (at_kind old (kind_of line)) (kind_of line) line) next
+line_placed old next line so = placed old.last (part_of (kind_of line)) (take_kind (at_kind old (kind_of line)) (kind_of line) line) next so
 
-  pub line_keeps : (line : List Word) → take old line ≡ Ok next → Stands fabric next
-  line_keeps line so = line_by line (has_ended old.last) (may_follow old.last (kind_of line)) so
+line_keeps : (fabric : PlainFabric) (old next : Known) (line : List Word) → Stands fabric old → take old line ≡ Ok next → Stands fabric next
+line_keeps fabric old next line stands so =
+    let here : Stands fabric (at_kind old (kind_of line)) = record { same = stands.same; cells = stands.cells; ins = stands.ins; outs = stands.outs; wires = stands.wires; nets = stands.nets } in
+    kind_stands fabric (at_kind old (kind_of line)) next here (kind_of line) line (line_placed old next line so).takes
 
 nothing_stands : (fabric : PlainFabric) → Stands fabric (nothing fabric)
-nothing_stands fabric = record { same = refl; cells = All-nil (λ c. IsSite fabric c.1); ins = All-nil (λ p. IsSite fabric p.1); outs = All-nil (λ p. IsSite fabric p.1); wires = All-nil (λ t. All (HasWires fabric) t.edges); nets = All-nil (λ t. IsInput 0 t.net) }
+nothing_stands fabric = record { same = refl; cells = All-nil (λ c. IsSite fabric c.1); ins = All-nil (λ p. IsSite fabric p.1); outs = All-nil (λ p. IsSite fabric p.1); wires = All-nil (λ t. All (HasWires fabric) t.edges); nets = All-nil (λ t. NamesInput 0 t.net) }
 
 -- what a text says of which no line is refused
 pub text_stands : (fabric : PlainFabric) (rows : List PlainRow) → IsFine (implementation_format fabric).judge rows → Stands fabric (known fabric (words_of rows))
-text_stands fabric rows fine = each_line (known fabric) take cut_short (λ lines. Stands fabric (known fabric lines))
-    (λ front line next so stands. subst (Stands fabric) ((keeps fabric).more front line next so) (line_keeps fabric (known fabric front) next stands line so)) (nothing_stands fabric) rows fine
+text_stands fabric rows fine = each_line (known fabric) take (λ (k : Known). cut_short k.last) (λ lines. Stands fabric (known fabric lines))
+    (λ front line next so stands. subst (Stands fabric) ((keeps fabric).more front line next so) (line_keeps fabric (known fabric front) next line stands so)) (nothing_stands fabric) rows fine
 
 pub is_on_fabric : (fabric : PlainFabric) (old : Known) → Stands fabric old → IsOnFabric fabric (implementation_of old)
 is_on_fabric fabric old stands = record { cells = stands.cells; ins = stands.ins; outs = stands.outs; wires = stands.wires }

@@ -17,13 +17,13 @@ use Rattle.fab_lines.specs.Numbers.{is_digit, is_number, number_of}
 use Rattle.fab_model.specs.Tiles.{PlainTile, matrix_names}
 use Rattle.fab_model.specs.Grid.{PlainFabric, tile_at}
 use Rattle.fab_fabric.specs.Fabric.{wires_at}
-use Rattle.fab_fabric.specs.Names.{place_name, full_name, name_at}
+use Rattle.fab_fabric.specs.Names.{place_name, full_name, name_at, site_text}
 use Rattle.fab_fabric.specs.Wires.{wire_index, numbered_wire}
 use Rattle.fab_fabric.specs.declared.wire.Site.{Site}
 use Rattle.fab_fabric.specs.declared.wire.Wire.{Wire}
 use Rattle.fab_implementation.specs.OnFabric.{kind_at}
 use Rattle.fab_texts.specs.Rows.{Word}
-use Rattle.fab_texts.specs.Places.{place_at, site_of, site_text, after_byte, ◌>>=◌}
+use Rattle.fab_texts.specs.Places.{place_at, site_of, after_byte, ◌>>=◌}
 use Rattle.fab_texts.proofs.SiteLaws.{byte_takes, place_takes, site_takes}
 use Rattle.fab_impl.specs.Names.{cell_of, cell_number, cell_text, most_cell, on_fabric, site_in, wire_of, wire_text, named_wire}
 use Rattle.fab_impl.proofs.Stands.{then_some}

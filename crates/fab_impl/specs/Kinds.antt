@@ -1,7 +1,10 @@
--- What a line of an implementation text is, and which lines may follow which.
-use Rattle.std.specs.Prelude.{ℕ, Bool, true, false, List, ◌==◌, ◌&&◌, length, nat_le, nat_lt, codes, if◌then◌else◌, Option, Some, None}
+-- What a line of an implementation text is, and where it stands.
+use Rattle.std.specs.Prelude.{List, ◌==◌, length, codes, if◌then◌else◌}
 use Rattle.std.specs.Str.{bytes_eq}
+use Rattle.fab_texts.specs.declared.sections.Part.{Part}
+use Rattle.fab_texts.specs.declared.sections.Part.TheVariants as parts
 use Rattle.fab_texts.specs.Rows.{Word, word_at}
+use Rattle.fab_texts.specs.Sections.{is_ending}
 use Rattle.fab_impl.specs.declared.kind.Kind.{Kind}
 use Rattle.fab_impl.specs.declared.kind.Kind.TheVariants as kinds
 
@@ -31,46 +34,25 @@ kind_of_two first second =
     else if bytes_eq first (codes "net") then constant_kind second
     else kinds.Other
 
-abbrev pub kind_of_one : (first : Word) → Kind
-kind_of_one first = if bytes_eq first (codes "end") then kinds.End else kinds.Other
-
 -- what a line is, by the number of its words and its first two words
 abbrev pub kind_of : List Word → Kind
 kind_of line =
     if length line == 4 then kind_of_four (word_at line 0) (word_at line 1)
     else if length line == 3 then kind_of_three (word_at line 0) (word_at line 1)
     else if length line == 2 then kind_of_two (word_at line 0) (word_at line 1)
-    else if length line == 1 then kind_of_one (word_at line 0)
+    else if is_ending line then kinds.End
     else kinds.Other
 
--- The sections of a text in order; the first line, and what is no line of an implementation, stand in none.
-abbrev pub section : Kind → ℕ
-section kinds.Header = 0
-section kinds.Cell = 1
-section kinds.In = 2
-section kinds.Out = 3
-section kinds.NetZero = 4
-section kinds.NetOne = 4
-section kinds.NetIn = 4
-section kinds.NetCell = 4
-section kinds.Edge = 4
-section kinds.End = 5
-section kinds.Other = 0
-
-abbrev pub is_header : Kind → Bool
-is_header kinds.Header = true
-is_header _ = false
-
-abbrev pub is_end : Kind → Bool
-is_end kinds.End = true
-is_end _ = false
-
--- whether a line may follow the last one: the first is the header, and sections come in order
-abbrev pub may_follow : (last : Option Kind) → Kind → Bool
-may_follow None kind = is_header kind
-may_follow (Some last) kind = nat_lt 0 (section kind) && nat_le (section last) (section kind)
-
--- the text has ended
-abbrev pub has_ended : (last : Option Kind) → Bool
-has_ended None = false
-has_ended (Some last) = is_end last
+-- where a line of a kind stands
+abbrev pub part_of : Kind → Part
+part_of kinds.Header = parts.Header
+part_of kinds.Cell = parts.Section 1
+part_of kinds.In = parts.Section 2
+part_of kinds.Out = parts.Section 3
+part_of kinds.NetZero = parts.Section 4
+part_of kinds.NetOne = parts.Section 4
+part_of kinds.NetIn = parts.Section 4
+part_of kinds.NetCell = parts.Section 4
+part_of kinds.Edge = parts.Section 4
+part_of kinds.End = parts.End
+part_of kinds.Other = parts.Other

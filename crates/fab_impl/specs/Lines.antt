@@ -1,7 +1,6 @@
 -- What the lines of an implementation text say, and why a line is refused.
-use Rattle.std.specs.Prelude.{ℕ, List, [], ◌∷◌, ◌++◌, not, fold, codes, if◌then◌else◌, Option, Some, None, Result, Ok, Err}
+use Rattle.std.specs.Prelude.{ℕ, List, [], ◌∷◌, ◌++◌, fold, Option, Some, None, Result, Ok, Err}
 use Rattle.std.specs.Result.{result_unwrap_or}
-use Rattle.std.specs.Str.{bytes_eq}
 use Rattle.fab_base.specs.declared.words.Reason.TheVariants as reasons
 use Rattle.fab_base.specs.declared.problem.Problem.{Problem}
 use Rattle.fab_fabric.specs.declared.wire.Site.{Site}
@@ -12,20 +11,22 @@ use Rattle.fab_netlist.specs.declared.net_id.NetId.TheVariants as nets
 use Rattle.fab_implementation.specs.Plain.{Edge, Pad, PlainTree}
 use Rattle.fab_texts.specs.Rows.{Word, word_at}
 use Rattle.fab_texts.specs.Formats.{refused}
+use Rattle.fab_texts.specs.declared.sections.Part.{Part}
+use Rattle.fab_texts.specs.Sections.{with_version, in_place}
 use Rattle.fab_impl.specs.declared.kind.Kind.{Kind}
 use Rattle.fab_impl.specs.declared.kind.Kind.TheVariants as kinds
 use Rattle.fab_impl.specs.Names.{cell_of, site_in, wire_of}
 use Rattle.fab_impl.specs.FirstPlaces.{first_place}
-use Rattle.fab_impl.specs.Kinds.{kind_of, may_follow, has_ended}
+use Rattle.fab_impl.specs.Kinds.{kind_of, part_of}
 
 -- a cell by its number, and its site
 abbrev pub Cell : Type 0
 Cell = ℕ × Site
 
--- the fabric, which line is the last of those so far, and what they say
+-- the fabric, where the last of the lines so far stands, and what they say
 pub record Known : Type 0 where
   pub fabric : PlainFabric
-  pub last : Option Kind
+  pub last : Option Part
   pub cells : List Cell
   pub ins : List Pad
   pub outs : List Pad
@@ -86,45 +87,42 @@ with_wires (tree ∷ more) from to = edge_at (tree ∷ more) from to
 -- ---- one line
 
 abbrev pub set_cells : Known → Result (List Cell) Problem → Result Known Problem
-set_cells old (Ok cells) = Ok (record old { last = Some kinds.Cell; cells = cells })
+set_cells old (Ok cells) = Ok (record old { cells = cells })
 set_cells old (Err problem) = Err problem
 
 abbrev pub set_ins : Known → Result (List Pad) Problem → Result Known Problem
-set_ins old (Ok pads) = Ok (record old { last = Some kinds.In; ins = pads })
+set_ins old (Ok pads) = Ok (record old { ins = pads })
 set_ins old (Err problem) = Err problem
 
 abbrev pub set_outs : Known → Result (List Pad) Problem → Result Known Problem
-set_outs old (Ok pads) = Ok (record old { last = Some kinds.Out; outs = pads })
+set_outs old (Ok pads) = Ok (record old { outs = pads })
 set_outs old (Err problem) = Err problem
 
-abbrev pub set_trees : Known → Kind → Result (List PlainTree) Problem → Result Known Problem
-set_trees old kind (Ok trees) = Ok (record old { last = Some kind; trees = trees })
-set_trees old kind (Err problem) = Err problem
+abbrev pub set_trees : Known → Result (List PlainTree) Problem → Result Known Problem
+set_trees old (Ok trees) = Ok (record old { trees = trees })
+set_trees old (Err problem) = Err problem
 
--- version 1 alone
-abbrev pub take_header : Known → (version : Word) → Result Known Problem
-take_header old version = if bytes_eq version (codes "1") then Ok (record old { last = Some kinds.Header }) else refused reasons.Number
-
+-- what a line of a kind adds to what is known
 abbrev pub take_kind : Known → Kind → List Word → Result Known Problem
-take_kind old kinds.Header line = take_header old (word_at line 1)
+take_kind old kinds.Header line = with_version (word_at line 1) old
 take_kind old kinds.Cell line = set_cells old (with_cell old.fabric old.cells (word_at line 1) (word_at line 2))
 take_kind old kinds.In line = set_ins old (with_pad old.fabric old.ins (word_at line 2) (word_at line 3))
 take_kind old kinds.Out line = set_outs old (with_pad old.fabric old.outs (word_at line 2) (word_at line 3))
-take_kind old kinds.NetZero line = set_trees old kinds.NetZero (Ok (with_net old.trees nets.Zero))
-take_kind old kinds.NetOne line = set_trees old kinds.NetOne (Ok (with_net old.trees nets.One))
-take_kind old kinds.NetIn line = set_trees old kinds.NetIn (input_at old.trees (first_place old.ins (word_at line 2)))
-take_kind old kinds.NetCell line = set_trees old kinds.NetCell (cell_net_at old.trees (cell_of (word_at line 2)))
-take_kind old kinds.Edge line = set_trees old kinds.Edge (with_wires old.trees (wire_of old.fabric (word_at line 1)) (wire_of old.fabric (word_at line 2)))
-take_kind old kinds.End line = Ok (record old { last = Some kinds.End })
+take_kind old kinds.NetZero line = set_trees old (Ok (with_net old.trees nets.Zero))
+take_kind old kinds.NetOne line = set_trees old (Ok (with_net old.trees nets.One))
+take_kind old kinds.NetIn line = set_trees old (input_at old.trees (first_place old.ins (word_at line 2)))
+take_kind old kinds.NetCell line = set_trees old (cell_net_at old.trees (cell_of (word_at line 2)))
+take_kind old kinds.Edge line = set_trees old (with_wires old.trees (wire_of old.fabric (word_at line 1)) (wire_of old.fabric (word_at line 2)))
+take_kind old kinds.End line = Ok old
 take_kind old kinds.Other line = refused reasons.Row
 
--- What is known after a line more, or why the line is refused: after the end nothing else is asked, and then its kind and its
--- place come first.
+-- a line of a kind that has its place
+abbrev pub take_placed : Known → Kind → List Word → Result Known Problem
+take_placed old kind line = in_place old.last (part_of kind) (take_kind (record old { last = Some (part_of kind) }) kind line)
+
+-- what is known after a line more, or why the line is refused
 abbrev pub take : Known → List Word → Result Known Problem
-take old line =
-    if has_ended old.last then refused reasons.AfterEnd
-    else if not (may_follow old.last (kind_of line)) then refused reasons.Row
-    else take_kind old (kind_of line) line
+take old line = take_placed old (kind_of line) line
 
 -- what lines say, where each that is not refused adds to what those before it say
 abbrev pub known : PlainFabric → List (List Word) → Known

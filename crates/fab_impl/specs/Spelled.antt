@@ -1,9 +1,6 @@
 -- Which implementation a text spells.
-use Rattle.std.specs.Prelude.{◌≡◌, ℕ, ◌<◌, ◌≤◌, All, length, true, List, [], ◌∷◌, ◌++◌, map, codes, if◌then◌else◌, slice_index_or, Option, Some, None}
+use Rattle.std.specs.Prelude.{◌≡◌, ℕ, ◌≤◌, true, List, [], ◌∷◌, ◌++◌, map, codes, slice_index_or, Some}
 use Rattle.std.specs.List.{AllByRecursion, flat_map, list_all}
-use Rattle.fab_base.specs.declared.words.Reason.TheVariants as reasons
-use Rattle.fab_base.specs.declared.problem.Problem.{Problem}
-use Rattle.fab_base.specs.declared.problem.Problem.TheVariants as problems
 use Rattle.fab_lines.specs.Order.{Format, IsWhole}
 use Rattle.fab_model.specs.Grid.{PlainFabric}
 use Rattle.fab_fabric.specs.Fabric.{IsFabric, AreTiles}
@@ -12,18 +9,18 @@ use Rattle.fab_netlist.specs.declared.net_id.NetId.TheVariants as nets
 use Rattle.fab_implementation.specs.Plain.{Edge, Pad, PlainTree, PlainImplementation}
 use Rattle.fab_implementation.specs.OnFabric.{IsOnFabric}
 use Rattle.fab_texts.specs.Rows.{Word, PlainRow, words_of}
-use Rattle.fab_texts.specs.Places.{site_text}
+use Rattle.fab_fabric.specs.Names.{site_text}
 use Rattle.fab_texts.specs.Formats.{text_format}
+use Rattle.fab_texts.specs.Sections.{version, ending, cut_short}
 use Rattle.fab_texts.specs.Printed.{rows_text, is_row}
 use Rattle.fab_impl.specs.Names.{cell_text, wire_text, most_cell}
-use Rattle.fab_impl.specs.Kinds.{has_ended}
 use Rattle.fab_impl.specs.Lines.{Cell, Known, known, take}
 use Rattle.fab_impl.specs.FirstPlaces.{ports, first_place}
 
 -- ---- the lines of an implementation
 
 abbrev pub header : List Word
-header = codes "fabulous-impl" ∷ codes "1" ∷ []
+header = codes "fabulous-impl" ∷ version ∷ []
 
 abbrev pub cell_line : Cell → List Word
 cell_line cell = codes "cell" ∷ cell_text cell.0 ∷ site_text cell.1 ∷ []
@@ -44,9 +41,6 @@ edge_line fabric edge = codes "edge" ∷ wire_text fabric edge.0 ∷ wire_text f
 abbrev pub tree_lines : PlainFabric → (ins : List Pad) → PlainTree → List (List Word)
 tree_lines fabric ins tree = net_line ins tree.net ∷ map (edge_line fabric) tree.edges
 
-abbrev pub ending : List Word
-ending = codes "end" ∷ []
-
 abbrev pub inner_lines : PlainFabric → PlainImplementation → List (List Word)
 inner_lines fabric it =
     map cell_line it.cells
@@ -61,14 +55,6 @@ implementation_lines fabric it = header ∷ (inner_lines fabric it ++ ending ∷
 -- the text that is printed
 abbrev pub implementation_text : PlainFabric → PlainImplementation → List ℕ
 implementation_text fabric it = rows_text (implementation_lines fabric it)
-
--- an input's net is that of one of so many inputs
-abbrev pub IsInput : (inputs : ℕ) → NetId → Type 0
-IsInput inputs (nets.In place) = place < inputs
-IsInput inputs net = Unit {0}
-
-abbrev pub InputsWithin : PlainImplementation → Type 0
-InputsWithin it = All (λ tree. IsInput (length it.ins) tree.net) it.trees
 
 -- ---- the implementations of texts
 
@@ -101,12 +87,8 @@ pub record HasSpelling (fabric : PlainFabric) (it : PlainImplementation) : Type 
 abbrev pub implementation_of : Known → PlainImplementation
 implementation_of old = record { cells = old.cells; ins = old.ins; outs = old.outs; trees = old.trees }
 
--- the last line has to have come
-abbrev pub cut_short : Known → Option Problem
-cut_short old = if has_ended old.last then None else Some (problems.Malformed reasons.EndOfFile)
-
 abbrev pub implementation_format : PlainFabric → Format PlainRow
-implementation_format fabric = text_format (known fabric) take cut_short
+implementation_format fabric = text_format (known fabric) take (λ old. cut_short old.last)
 
 -- ---- what is spelled is read
 

@@ -21,7 +21,7 @@ pub struct InputPads {
 impl Model for InputPads {
     ghost use Rattle.std.specs.Prelude.{List};
     ghost use Rattle.fab_implementation.specs.Plain.{Pad};
-    ghost use Rattle.fab_impl.specs.Firsts.{HasFirsts};
+    ghost use Rattle.fab_impl.specs.inner.Firsts.{HasFirsts};
 
     ghost Value = { List Pad };
 

@@ -1,9 +1,9 @@
 //! What a line of an implementation text is.
 
 ghost use Rattle.std.specs.Prelude.{◌≡◌, map};
-ghost use Rattle.fab_impl.specs.Kinds.{constant_kind, has_ended, is_header, kind_of, kind_of_four, kind_of_one, kind_of_three, kind_of_two, may_follow, net_kind, pad_kind, section};
+ghost use Rattle.fab_impl.specs.Kinds.{constant_kind, kind_of, kind_of_four, kind_of_three, kind_of_two, net_kind, pad_kind, part_of};
 
-use fab_texts::word_at;
+use fab_texts::{Part, is_ending, word_at};
 
 /// What a line is, by the number of its words and its first two words.
 #[derive(Clone, Copy, Debug, PartialEq, Eq)]
@@ -104,15 +104,6 @@ fn kind_of_two(first: &[u8], second: &[u8]) -> Kind
     Kind::Other
 }
 
-fn kind_of_one(first: &[u8]) -> Kind
-    ensures { result ≡ kind_of_one first.now }
-{
-    if first == b"end".as_slice() {
-        return Kind::End;
-    }
-    Kind::Other
-}
-
 /// What a line of these words is.
 pub fn kind_of(words: &[&[u8]]) -> Kind
     ensures { result ≡ kind_of (map (λ w. w.now) words.now) }
@@ -123,47 +114,31 @@ pub fn kind_of(words: &[&[u8]]) -> Kind
         4 => kind_of_four(first, second),
         3 => kind_of_three(first, second),
         2 => kind_of_two(first, second),
-        1 => kind_of_one(first),
-        _ => Kind::Other,
+        _ => {
+            if is_ending(words) {
+                Kind::End
+            } else {
+                Kind::Other
+            }
+        }
     }
 }
 
-/// The section of a text in which a line of a kind stands, counted from 1; 0 for the first line, and for what is no line.
-fn section(kind: Kind) -> u8
-    ensures { result ≡ section kind }
-{
-    match kind {
-        Kind::Header | Kind::Other => 0,
-        Kind::Cell => 1,
-        Kind::In => 2,
-        Kind::Out => 3,
-        Kind::NetZero | Kind::NetOne | Kind::NetIn | Kind::NetCell | Kind::Edge => 4,
-        Kind::End => 5,
-    }
-}
-
-fn is_header(kind: Kind) -> bool
-    ensures { result ≡ is_header kind }
-{
-    kind == Kind::Header
-}
-
-/// Whether a line may follow the last one.
-pub fn may_follow(last: Option<Kind>, kind: Kind) -> bool
-    ensures { result ≡ may_follow last kind }
-{
-    match last {
-        None => is_header(kind),
-        Some(last) => 0 < section(kind) && section(last) <= section(kind),
-    }
-}
-
-/// Whether the last line has come.
-pub fn has_ended(last: Option<Kind>) -> bool
-    ensures { result ≡ has_ended last }
-{
-    match last {
-        None => false,
-        Some(last) => last == Kind::End,
+impl Kind {
+    /// Where a line of this kind stands in a text.
+    pub fn part(self) -> Part
+        ensures { result ≡ part_of self }
+    {
+        match self {
+            Kind::Header => Part::Header,
+            Kind::Cell => Part::Section(1),
+            Kind::In => Part::Section(2),
+            Kind::Out => Part::Section(3),
+            Kind::NetZero | Kind::NetOne | Kind::NetIn | Kind::NetCell | Kind::Edge => {
+                Part::Section(4)
+            }
+            Kind::End => Part::End,
+            Kind::Other => Part::Other,
+        }
     }
 }

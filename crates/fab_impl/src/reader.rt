@@ -7,24 +7,25 @@ ghost use Rattle.fab_base.specs.Reading.{Answers, Gives};
 ghost use Rattle.fab_implementation.specs.OnFabric.{IsOnFabric};
 ghost use Rattle.fab_lines.specs.Order.{IsTextFault, IsWhole, ended, judged, placed, read_all};
 ghost use Rattle.fab_texts.specs.Rows.{after_row, rows_of, words_of};
+ghost use Rattle.fab_texts.specs.Sections.{cut_short};
 ghost use Rattle.fab_netlist.specs.declared.net_id.NetId.TheVariants.{Zero, One};
-ghost use Rattle.fab_impl.specs.declared.kind.Kind.TheVariants.{NetZero, NetOne, NetIn, NetCell, Edge};
 ghost use Rattle.fab_impl.specs.FirstPlaces.{first_place};
 ghost use Rattle.fab_impl.specs.Names.{cell_of, wire_of};
-ghost use Rattle.fab_impl.specs.Lines.{cell_net_at, input_at, known, nothing, set_cells, set_ins, set_outs, set_trees, take, take_header, take_kind, with_cell, with_net, with_pad, with_wires};
-ghost use Rattle.fab_impl.specs.Spelled.{InputsWithin, Spells, cut_short, implementation_format, implementation_of};
+ghost use Rattle.fab_impl.specs.Lines.{cell_net_at, input_at, known, nothing, set_cells, set_ins, set_outs, set_trees, take, take_kind, with_cell, with_net, with_pad, with_wires};
+ghost use Rattle.fab_implementation.specs.Inputs.{InputsAreLines};
+ghost use Rattle.fab_impl.specs.Spelled.{Spells, implementation_format, implementation_of};
 
 use crate::entries::{
     take_cell, take_cell_net, take_edge, take_input, take_input_net, take_net, take_output,
 };
 use crate::input_pads::InputPads;
-use crate::kind::{Kind, has_ended, kind_of, may_follow};
+use crate::kind::{Kind, kind_of};
 use fab_base::{Fault, MAX_FILE_BYTES, Name, Problem, Reason};
 use fab_fabric::{Fabric, Site};
 use fab_implementation::{Implementation, Tree};
 use fab_lines::last_line;
 use fab_netlist::NetId;
-use fab_texts::{WordReader, read_words, word_at};
+use fab_texts::{Part, WordReader, check_end, check_place, check_version, read_words, word_at};
 use std::alloc::Global;
 use std::marker::Model;
 
@@ -32,7 +33,7 @@ use std::marker::Model;
 #[derive(Drop)]
 struct Known<'a> {
     fabric: &'a Fabric,
-    last: Option<Kind>,
+    last: Option<Part>,
     cells: Vec<(u32, Site)>,
     ins: InputPads,
     outs: Vec<(Name, Site)>,
@@ -68,85 +69,63 @@ impl<'a> Known<'a> {
         }
     }
 
-    fn take_header(&mut self, version: &[u8]) -> Result<(), Problem>
-        ensures { Answers (λ _. self.new) result (take_header self.old version.now) }
-    {
-        if version != b"1".as_slice() {
-            return Err(Problem::Malformed(Reason::Number));
-        }
-        self.last = Some(Kind::Header);
-        Ok(())
-    }
-
     fn take_cell(&mut self, cell: &[u8], site: &[u8]) -> Result<(), Problem>
         ensures { Answers (λ _. self.new) result (set_cells self.old (with_cell self.old.fabric self.old.cells cell.now site.now)) }
     {
         take_cell(&mut self.cells, self.fabric, cell, site)?;
-        self.last = Some(Kind::Cell);
         Ok(())
     }
 
     fn take_in(&mut self, alloc: Global, port: &[u8], site: &[u8]) -> Result<(), Problem>
         ensures { Answers (λ _. self.new) result (set_ins self.old (with_pad self.old.fabric self.old.ins port.now site.now)) }
     {
-        take_input(&mut self.ins, alloc, self.fabric, port, site)?;
-        self.last = Some(Kind::In);
-        Ok(())
+        take_input(&mut self.ins, alloc, self.fabric, port, site)
     }
 
     fn take_out(&mut self, alloc: Global, port: &[u8], site: &[u8]) -> Result<(), Problem>
         ensures { Answers (λ _. self.new) result (set_outs self.old (with_pad self.old.fabric self.old.outs port.now site.now)) }
     {
-        take_output(&mut self.outs, alloc, self.fabric, port, site)?;
-        self.last = Some(Kind::Out);
-        Ok(())
+        take_output(&mut self.outs, alloc, self.fabric, port, site)
     }
 
     fn take_zero(&mut self, alloc: Global) -> Result<(), Problem>
-        ensures { Answers (λ _. self.new) result (set_trees self.old NetZero (Ok (with_net self.old.trees Zero))) }
+        ensures { Answers (λ _. self.new) result (set_trees self.old (Ok (with_net self.old.trees Zero))) }
     {
         take_net(&mut self.trees, alloc, NetId::Zero)?;
-        self.last = Some(Kind::NetZero);
         Ok(())
     }
 
     fn take_one(&mut self, alloc: Global) -> Result<(), Problem>
-        ensures { Answers (λ _. self.new) result (set_trees self.old NetOne (Ok (with_net self.old.trees One))) }
+        ensures { Answers (λ _. self.new) result (set_trees self.old (Ok (with_net self.old.trees One))) }
     {
         take_net(&mut self.trees, alloc, NetId::One)?;
-        self.last = Some(Kind::NetOne);
         Ok(())
     }
 
     fn take_input_net(&mut self, alloc: Global, port: &[u8]) -> Result<(), Problem>
-        ensures { Answers (λ _. self.new) result (set_trees self.old NetIn (input_at self.old.trees (first_place self.old.ins port.now))) }
+        ensures { Answers (λ _. self.new) result (set_trees self.old (input_at self.old.trees (first_place self.old.ins port.now))) }
     {
-        take_input_net(&mut self.trees, alloc, &self.ins, port)?;
-        self.last = Some(Kind::NetIn);
-        Ok(())
+        take_input_net(&mut self.trees, alloc, &self.ins, port)
     }
 
     fn take_cell_net(&mut self, alloc: Global, cell: &[u8]) -> Result<(), Problem>
-        ensures { Answers (λ _. self.new) result (set_trees self.old NetCell (cell_net_at self.old.trees (cell_of cell.now))) }
+        ensures { Answers (λ _. self.new) result (set_trees self.old (cell_net_at self.old.trees (cell_of cell.now))) }
     {
         take_cell_net(&mut self.trees, alloc, cell)?;
-        self.last = Some(Kind::NetCell);
         Ok(())
     }
 
     fn take_edge(&mut self, from: &[u8], to: &[u8]) -> Result<(), Problem>
-        ensures { Answers (λ _. self.new) result (set_trees self.old Edge (with_wires self.old.trees (wire_of self.old.fabric from.now) (wire_of self.old.fabric to.now))) }
+        ensures { Answers (λ _. self.new) result (set_trees self.old (with_wires self.old.trees (wire_of self.old.fabric from.now) (wire_of self.old.fabric to.now))) }
     {
-        take_edge(&mut self.trees, self.fabric, from, to)?;
-        self.last = Some(Kind::Edge);
-        Ok(())
+        take_edge(&mut self.trees, self.fabric, from, to)
     }
 
     fn take_kind(&mut self, alloc: Global, kind: Kind, words: &[&[u8]]) -> Result<(), Problem>
         ensures { Answers (λ _. self.new) result (take_kind self.old kind (map (λ w. w.now) words.now)) }
     {
         match kind {
-            Kind::Header => self.take_header(word_at(words, 1)),
+            Kind::Header => check_version(word_at(words, 1)),
             Kind::Cell => self.take_cell(word_at(words, 1), word_at(words, 2)),
             Kind::In => self.take_in(alloc, word_at(words, 2), word_at(words, 3)),
             Kind::Out => self.take_out(alloc, word_at(words, 2), word_at(words, 3)),
@@ -155,10 +134,7 @@ impl<'a> Known<'a> {
             Kind::NetIn => self.take_input_net(alloc, word_at(words, 2)),
             Kind::NetCell => self.take_cell_net(alloc, word_at(words, 2)),
             Kind::Edge => self.take_edge(word_at(words, 1), word_at(words, 2)),
-            Kind::End => {
-                self.last = Some(Kind::End);
-                Ok(())
-            }
+            Kind::End => Ok(()),
             Kind::Other => Err(Problem::Malformed(Reason::Row)),
         }
     }
@@ -166,23 +142,18 @@ impl<'a> Known<'a> {
     fn take(&mut self, alloc: Global, words: &[&[u8]]) -> Result<(), Problem>
         ensures { Answers (λ _. self.new) result (take self.old (map (λ w. w.now) words.now)) }
     {
-        if has_ended(self.last) {
-            return Err(Problem::Malformed(Reason::AfterEnd));
-        }
         let kind = kind_of(words);
-        if !may_follow(self.last, kind) {
-            return Err(Problem::Malformed(Reason::Row));
-        }
+        let part = kind.part();
+        check_place(self.last, part)?;
+        self.last = Some(part);
         self.take_kind(alloc, kind, words)
     }
 
     /// The implementation, where the last line has come.
     fn finish(self) -> Result<Implementation, Problem>
-        ensures { Answers (λ it. it) result (judged (cut_short self.entry) (implementation_of self.entry)) }
+        ensures { Answers (λ it. it) result (judged (cut_short self.entry.last) (implementation_of self.entry)) }
     {
-        if !has_ended(self.last) {
-            return Err(Problem::Malformed(Reason::EndOfFile));
-        }
+        check_end(self.last)?;
         let Known {
             cells,
             ins,
@@ -209,7 +180,7 @@ impl<'a> WordReader for Known<'a> {
 
 fn read(alloc: Global, file: &Name, bytes: &[u8], fabric: &Fabric) -> Result<Implementation, Fault>
     requires { length bytes.now ≤ MAX_FILE_BYTES }
-    ensures { Gives (λ it. it) result (placed file.now (ended (λ k. judged (cut_short k) (implementation_of k)) (max 1 (length (lines bytes.now)))
+    ensures { Gives (λ it. it) result (placed file.now (ended (λ k. judged (cut_short k.last) (implementation_of k)) (max 1 (length (lines bytes.now)))
         (read_all (after_row take) (λ row. row.line) (nothing fabric.now) (rows_of bytes.now)))) }
 {
     let known = read_words(alloc, file, bytes, Known::nothing(alloc, fabric))?;
@@ -235,7 +206,7 @@ pub fn read_impl(
     ensures spells { IfOk result (Spells fabric.now (rows_of bytes.now)) }
     ensures said { IfOk result (λ it. IsWhole (implementation_format fabric.now) (rows_of bytes.now) × (it ≡ implementation_of (known fabric.now (words_of (rows_of bytes.now))))) }
     ensures on_fabric { IfOk result (IsOnFabric fabric.now) }
-    ensures inputs { IfOk result InputsWithin }
+    ensures inputs { IfOk result InputsAreLines }
     ensures reads { IsWhole (implementation_format fabric.now) (rows_of bytes.now) → IsOkUnless result faults.Memory }
     ensures refusal { IfErr result (λ fault. fault ≢ faults.Memory → IsTextFault (implementation_format fabric.now) file.now (rows_of bytes.now) (max 1 (length (lines bytes.now))) fault) }
 {

@@ -5,10 +5,11 @@ ghost use Rattle.std.specs.List.{flat_map};
 ghost use Rattle.fab_fabric.specs.Fabric.{wire_count};
 ghost use Rattle.fab_implementation.specs.OnFabric.{HasSites, HasWires, IsOnFabric, IsSite};
 ghost use Rattle.fab_texts.specs.Printed.{row_text, rows_text};
-ghost use Rattle.fab_texts.specs.Places.{site_text};
+ghost use Rattle.fab_fabric.specs.Names.{site_text};
 ghost use Rattle.fab_texts.specs.Rows.{rows_of};
 ghost use Rattle.fab_impl.specs.Names.{wire_text};
-ghost use Rattle.fab_impl.specs.Spelled.{HasSpelling, InputsWithin, IsInput, Says, Spells, cell_line, edge_line, implementation_text, net_line, pad_line, tree_lines};
+ghost use Rattle.fab_implementation.specs.Inputs.{InputsAreLines, NamesInput};
+ghost use Rattle.fab_impl.specs.Spelled.{HasSpelling, Says, Spells, cell_line, edge_line, implementation_text, net_line, pad_line, tree_lines};
 
 use crate::names::cell_text;
 use fab_base::{Memory, Name};
@@ -22,7 +23,7 @@ fn site_text(alloc: Global, fabric: &Fabric, site: Site) -> Result<Name, Memory>
     requires { IsSite fabric.now site }
     ensures { IfOk result (λ name. name ≡ site_text site) }
 {
-    let _ = fabric.types();
+    fabric.is_well_made();
     site.name(alloc)
 }
 
@@ -61,7 +62,7 @@ fn put_pads(
 }
 
 fn put_net(out: &mut Vec<u8>, alloc: Global, ins: &[(Name, Site)], net: NetId) -> Result<(), Memory>
-    requires { IsInput (length ins.now) net }
+    requires { NamesInput (length ins.now) net }
     ensures { OnOk result (out.new.items ≡ out.old.items ++ row_text (net_line ins.now net)) }
 {
     match net {
@@ -107,7 +108,7 @@ fn put_trees(
     trees: &[Tree],
 ) -> Result<(), Memory>
     requires wires { All (λ tree. All (HasWires fabric.now) tree.edges) trees.now }
-    requires nets { All (λ tree. IsInput (length ins.now) tree.net) trees.now }
+    requires nets { All (λ tree. NamesInput (length ins.now) tree.net) trees.now }
     ensures { OnOk result (out.new.items ≡ out.old.items ++ rows_text (flat_map (tree_lines fabric.now ins.now) trees.now)) }
 {
     for tree in trees {
@@ -119,7 +120,7 @@ fn put_trees(
 
 fn print(alloc: Global, fabric: &Fabric, implementation: &Implementation) -> Result<Vec<u8>, Memory>
     requires on_fabric { IsOnFabric fabric.now implementation.now }
-    requires inputs { InputsWithin implementation.now }
+    requires inputs { InputsAreLines implementation.now }
     ensures text { IfOk result (λ text. text.items ≡ implementation_text fabric.now implementation.now) }
 {
     let mut out = Vec::new(alloc);
@@ -146,11 +147,11 @@ pub fn print_impl(
     implementation: &Implementation,
 ) -> Result<Vec<u8>, Memory>
     requires on_fabric { IsOnFabric fabric.now implementation.now }
-    requires inputs { InputsWithin implementation.now }
+    requires inputs { InputsAreLines implementation.now }
     ensures text { IfOk result (λ text. text.items ≡ implementation_text fabric.now implementation.now) }
     ensures spells { IfOk result (λ text. HasSpelling fabric.now implementation.now → Spells fabric.now (rows_of text.items) implementation.now) }
     ensures says { IfOk result (λ text. HasSpelling fabric.now implementation.now → Says fabric.now (rows_of text.items) implementation.now) }
 {
-    let _types = fabric.types();
+    fabric.is_well_made();
     print(alloc, fabric, implementation)
 }

@@ -1,8 +1,8 @@
 -- Which sites and wires a fabric has, and which of them an implementation names.
 use Rattle.std.specs.Prelude.{◌≡◌, ℕ, ◌<◌, List, All, Option, Some, slice_get}
 use Rattle.std.specs.Option.{option_map, option_and_then}
-use Rattle.fab_kinds.specs.declared.kind.Kind.{Kind}
-use Rattle.fab_model.specs.Grid.{PlainFabric, tile_at}
+use Rattle.fab_fabric.specs.fab_kinds.specs.declared.kind.Kind.{Kind}
+use Rattle.fab_fabric.specs.fab_model.specs.Grid.{PlainFabric, tile_at}
 use Rattle.fab_fabric.specs.Fabric.{wire_count}
 use Rattle.fab_fabric.specs.declared.wire.Site.{Site}
 use Rattle.fab_fabric.specs.declared.wire.Wire.{Wire}

@@ -3,4 +3,7 @@
 
 mod implementation;
 
+pub use fab_fabric;
+pub use fab_fabric::fab_model;
+pub use fab_netlist;
 pub use implementation::{Fixed, Implementation, Tree};

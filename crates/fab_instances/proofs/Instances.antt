@@ -8,7 +8,7 @@ use Rattle.fab_instances.specs.Counting.{in_64_bits, instance_and, instances, in
 use Rattle.fab_instances.specs.Places.{model_names, no_model, statements_of}
 use Rattle.fab_instances.specs.Uses.{inner_of, IsMarked, IsUsed, MarksUsed, UsesAt}
 use Rattle.fab_instances.specs.Order.{NoLine}
-use Rattle.fab_instances.specs.Ranks.{IsLevel}
+use Rattle.fab_instances.specs.inner.Ranks.{IsLevel}
 use Rattle.fab_instances.proofs.Levels.{higher_at}
 use Rattle.fab_instances.proofs.Recursions.{used_inner}
 

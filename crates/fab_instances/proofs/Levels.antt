@@ -9,7 +9,7 @@ use Rattle.fab_models.specs.Plain.{PlainBody, PlainStatement, PlainModel, inputs
 use Rattle.fab_instances.proofs.Members.{first_or_later, in_none}
 use Rattle.fab_instances.specs.Places.{model_names, place_of_model, statements_of}
 use Rattle.fab_instances.specs.Order.{IsInstanceLine, IsLeast, IsLeastFound, IsRecursive, NoLine}
-use Rattle.fab_instances.specs.Ranks.{IsLevel, NeverFalls, level_at, level_by, level_in, stays, stays_at}
+use Rattle.fab_instances.specs.inner.Ranks.{IsLevel, NeverFalls, level_at, level_by, level_in, stays, stays_at}
 use Rattle.fab_instances.specs.Uses.{Found, IsMarked, IsUsed, MarksUsed, Uses, UsesAt, directly, through, inner_of, soonest_of}
 use Rattle.fab_instances.proofs.Found.{first_kept, found_in, line_counts}
 use Rattle.fab_instances.proofs.Recursions.{last_or_before, used_inner, used_through, uses_back, uses_here}

@@ -7,7 +7,7 @@ use Rattle.std.proofs.lemmas.List.{length-map}
 use Rattle.fab_models.specs.Plain.{PlainBody, PlainStatement, PlainModel, inputs, outputs, clock, cover, latch, instance}
 use Rattle.fab_instances.specs.Places.{model_names, place_of_model, statements_of}
 use Rattle.fab_instances.specs.Order.{IsInstanceLine, IsLeastFound, IsRecursive, NoLine}
-use Rattle.fab_instances.specs.Ranks.{IsRecursiveAt}
+use Rattle.fab_instances.specs.inner.Ranks.{IsRecursiveAt}
 use Rattle.fab_instances.specs.Uses.{Found, IsMarked, IsUsed, MarksUsed, MarksUses, Uses, UsesAt, directly, through, found_at, instance_by, instance_in, lines_before, sooner, soonest_of}
 use Rattle.fab_instances.proofs.Found.{least_found, line_of_model, model_of_line, none_found, sooner_cases, sooner_first, sooner_second}
 use Rattle.fab_instances.proofs.Searching.{marked_within, position_within}

@@ -1,10 +1,9 @@
 -- What is judged of models before they are flattened.
-use Rattle.std.specs.Prelude.{◌≡◌, ◌≢◌, ◌⊎◌, ℕ, ◌<◌, ◌≤◌, Bool, true, false, List, [], ◌∷◌, ◌++◌, Contains, codes, length, take, get_or, Option, Some, None}
+use Rattle.std.specs.Prelude.{◌≡◌, ◌⊎◌, ℕ, ◌<◌, ◌≤◌, Bool, true, false, List, [], ◌∷◌, ◌++◌, Contains, codes, length, take, get_or, Option, Some, None}
 use Rattle.std.specs.List.{list_any}
 use Rattle.std.specs.Str.{bytes_eq}
 use Rattle.fab_base.specs.Reading.{fault_at}
 use Rattle.fab_base.specs.declared.fault.Fault.{Fault}
-use Rattle.fab_base.specs.declared.fault.Fault.TheVariants as faults
 use Rattle.fab_base.specs.declared.problem.Problem.TheVariants as problems
 use Rattle.fab_base.specs.declared.words.Reason.TheVariants as reasons
 use Rattle.fab_models.specs.Plain.{instance, PlainModel}
@@ -31,7 +30,7 @@ pub record IsFirstAgain (models : List PlainModel) (place : ℕ) : Type 0 where
 
 -- The refusal of a file without a model, at its last line, or of two models of one name, at the second.
 abbrev pub RefusesNames : (file : List ℕ) → (last_line : ℕ) → List PlainModel → Fault → Type 0
-RefusesNames file last_line models fault = (fault ≢ faults.Memory) →
+RefusesNames file last_line models fault =
     ((models ≡ []) × (fault ≡ fault_at file last_line (problems.Malformed reasons.NoModel)))
     ⊎ ((place : ℕ) × IsFirstAgain models place × (fault ≡ fault_at file (model_at models place).line (problems.Malformed reasons.NameTwice)))
 

@@ -1,7 +1,6 @@
 -- What is judged of models before they are flattened.
-use Rattle.std.specs.Prelude.{◌≢◌, ◌⊎◌, ℕ, ◌≤◌, List}
+use Rattle.std.specs.Prelude.{◌⊎◌, ℕ, ◌≤◌, List}
 use Rattle.fab_base.specs.declared.fault.Fault.{Fault}
-use Rattle.fab_base.specs.declared.fault.Fault.TheVariants as faults
 use Rattle.fab_models.specs.Plain.{PlainModel}
 use Rattle.fab_instances.specs.Order.{BreaksFormals, IsRecursive, IsUnknown, NoLine, RefusesFormals, RefusesRecursive, RefusesUnknown}
 use Rattle.fab_instances.specs.Counting.{RefusesInstances, instances}
@@ -13,10 +12,9 @@ pub record AreFineModels (models : List PlainModel) : Type 0 where
   pub fits : NoLine (BreaksFormals models)
   pub small : instances models ≤ 16384
 
--- The first refusal of models before they are flattened, where memory was not refused: an unknown model, a recursive one,
--- formals, or too many instances.
+-- The first refusal of models before they are flattened: an unknown model, a recursive one, formals, or too many instances.
 abbrev pub RefusesModels : (file : List ℕ) → (last_line : ℕ) → List PlainModel → Fault → Type 0
-RefusesModels file last_line models fault = (fault ≢ faults.Memory) →
+RefusesModels file last_line models fault =
     RefusesUnknown file models fault
     ⊎ RefusesRecursive file models fault
     ⊎ RefusesFormals file models fault

@@ -6,7 +6,7 @@ ghost use Rattle.fab_models.specs.Plain.{plain_models, plain_statement};
 ghost use Rattle.fab_instances.specs.Counting.{in_64_bits, instances, instances_at};
 ghost use Rattle.fab_instances.specs.Places.{model_names, statements_of};
 ghost use Rattle.fab_instances.specs.Uses.{IsMarked, MarksUsed};
-ghost use Rattle.fab_models.specs.Keys.{key_names};
+ghost use Rattle.fab_bits.specs.Keys.{key_names};
 
 use crate::ranking::{Member, Ranking};
 use crate::ranks::is_ordered;

@@ -10,7 +10,7 @@ ghost use Rattle.fab_instances.specs.Places.{model_names};
 ghost use Rattle.fab_instances.specs.Formals.{HasPorts, SameNames, fits_ports, formal_of, joins_new, port_names, ports_by, sides};
 ghost use Rattle.fab_instances.specs.Order.{BreaksFormals, IsLeast, IsLeastFound, NoLine};
 ghost use Rattle.fab_instances.specs.Uses.{MarksUsed, breaking_in, soonest_of};
-ghost use Rattle.fab_models.specs.Keys.{key_names};
+ghost use Rattle.fab_bits.specs.Keys.{key_names};
 
 use crate::faults::malformed;
 use crate::names::{insert_bytes, insert_new, is_among, place_of};

@@ -1,12 +1,13 @@
 //! The models of a file by name.
 
-ghost use Rattle.std.specs.Prelude.{◌≡◌, ◌<◌, ◌∷◌, ◌++◌, [], not, if◌then◌else◌, IfErr, IfOk, IfSome, OnOk, length, position};
+ghost use Rattle.std.specs.Prelude.{◌≡◌, ◌≢◌, ◌<◌, ◌∷◌, ◌++◌, [], not, if◌then◌else◌, IfErr, IfOk, IfSome, OnOk, length, position};
 ghost use Rattle.std.specs.List.{list_any};
 ghost use Rattle.std.specs.Str.{bytes_eq};
+ghost use Rattle.fab_base.specs.declared.fault.Fault.TheVariants as faults;
 ghost use Rattle.fab_models.specs.Plain.{plain_models};
 ghost use Rattle.fab_instances.specs.Places.{model_names};
 ghost use Rattle.fab_instances.specs.Order.{NamesDiffer, RefusesNames};
-ghost use Rattle.fab_models.specs.Keys.{key_names};
+ghost use Rattle.fab_bits.specs.Keys.{key_names};
 
 use crate::faults::malformed;
 use fab_base::{Fault, Memory, Name, Reason};
@@ -51,7 +52,7 @@ pub(crate) fn places_of(
     ensures places { IfOk result (λ places. key_names places.keys ≡ model_names (plain_models models.now)) }
     ensures some { OnOk result (0 < length models.now) }
     ensures differ { OnOk result (NamesDiffer (plain_models models.now)) }
-    ensures refused { IfErr result (RefusesNames file.now last_line (plain_models models.now)) }
+    ensures refused { IfErr result (λ fault. (fault ≢ faults.Memory) → RefusesNames file.now last_line (plain_models models.now) fault) }
 {
     if models.len() == 0 {
         return Err(malformed(alloc, file, last_line, Reason::NoModel));

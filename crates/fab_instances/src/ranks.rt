@@ -5,9 +5,9 @@ ghost use Rattle.std.specs.List.{list_all};
 ghost use Rattle.fab_models.specs.Plain.{plain_models, plain_statement};
 ghost use Rattle.fab_instances.specs.Places.{model_names};
 ghost use Rattle.fab_instances.specs.Order.{IsLeastFound, NoLine};
-ghost use Rattle.fab_instances.specs.Ranks.{IsLevel, NeverFalls, level_in, stays};
+ghost use Rattle.fab_instances.specs.inner.Ranks.{IsLevel, NeverFalls, level_in, stays};
 ghost use Rattle.fab_instances.specs.Uses.{MarksUsed, soonest_of};
-ghost use Rattle.fab_models.specs.Keys.{key_names};
+ghost use Rattle.fab_bits.specs.Keys.{key_names};
 
 use crate::names::place_of;
 use crate::soonest::{is_marked, sooner};

@@ -9,9 +9,9 @@ ghost use Rattle.std.specs.Prelude.{◌≡◌, ◌<◌, IfOk, IfSome, length, op
 ghost use Rattle.fab_models.specs.Plain.{plain_models};
 ghost use Rattle.fab_instances.specs.Places.{model_names};
 ghost use Rattle.fab_instances.specs.Order.{IsLeastFound, IsRecursive};
-ghost use Rattle.fab_instances.specs.Ranks.{IsRecursiveAt};
+ghost use Rattle.fab_instances.specs.inner.Ranks.{IsRecursiveAt};
 ghost use Rattle.fab_instances.specs.Uses.{IsUsed, MarksUsed};
-ghost use Rattle.fab_models.specs.Keys.{key_names};
+ghost use Rattle.fab_bits.specs.Keys.{key_names};
 
 use crate::names::place_of;
 use crate::ranks::{never_falls, soonest_level};

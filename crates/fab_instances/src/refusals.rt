@@ -11,7 +11,7 @@ ghost use Rattle.fab_instances.specs.Places.{model_names};
 ghost use Rattle.fab_instances.specs.Order.{IsLeastFound, IsRecursive, IsUnknown, NamesDiffer, NoLine, RefusesNames, RefusesRecursive, RefusesUnknown};
 ghost use Rattle.fab_instances.specs.Refusals.{AreFineModels, RefusesModels};
 ghost use Rattle.fab_instances.specs.Uses.{MarksUsed};
-ghost use Rattle.fab_models.specs.Keys.{key_names};
+ghost use Rattle.fab_bits.specs.Keys.{key_names};
 
 use crate::counting::count_instances;
 use crate::faults::unsupported;
@@ -82,7 +82,7 @@ fn refuse_models(
     requires some { 0 < length models.now }
     requires places { key_names places.now.keys ≡ model_names (plain_models models.now) }
     ensures fine { OnOk result (AreFineModels (plain_models models.now)) }
-    ensures refused { IfErr result (RefusesModels file.now last_line (plain_models models.now)) }
+    ensures refused { IfErr result (λ fault. (fault ≢ faults.Memory) → RefusesModels file.now last_line (plain_models models.now) fault) }
 {
     let used = used_models(alloc, models, places)?;
     let ranking = ranking_of(alloc, models, places)?;
@@ -141,7 +141,7 @@ pub fn index_models(
     ensures places { IfOk result (λ places. key_names places.keys ≡ model_names (plain_models models.now)) }
     ensures named { OnOk result ((0 < length models.now) × NamesDiffer (plain_models models.now)) }
     ensures fine { OnOk result (AreFineModels (plain_models models.now)) }
-    ensures refused { IfErr result (λ fault. RefusesNames file.now last_line (plain_models models.now) fault
+    ensures refused { IfErr result (λ fault. (fault ≢ faults.Memory) → RefusesNames file.now last_line (plain_models models.now) fault
         ⊎ ((0 < length models.now) × NamesDiffer (plain_models models.now) × RefusesModels file.now last_line (plain_models models.now) fault)) }
 {
     let places = places_of(alloc, file, last_line, models)?;

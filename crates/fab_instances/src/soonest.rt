@@ -3,7 +3,7 @@
 ghost use Rattle.std.specs.Prelude.{◌≡◌, ◌++◌, None, false, IfOk, OnOk, length, map, option_map, slice_index_or};
 ghost use Rattle.fab_models.specs.Plain.{plain_models, plain_statement};
 ghost use Rattle.fab_instances.specs.Uses.{instance_in, lines_before, sooner, soonest_of, unknown_in};
-ghost use Rattle.fab_models.specs.Keys.{key_names};
+ghost use Rattle.fab_bits.specs.Keys.{key_names};
 
 use crate::names::place_of;
 use fab_base::{Memory, Name};

@@ -4,7 +4,7 @@ ghost use Rattle.std.specs.Prelude.{◌≡◌, ◌<◌, ℕ, [], IfOk, OnOk, IfS
 ghost use Rattle.fab_models.specs.Plain.{plain_body, plain_models, plain_statement};
 ghost use Rattle.fab_instances.specs.Places.{model_names};
 ghost use Rattle.fab_instances.specs.Uses.{MarksUsed, MarksUses, inner_of, marked_all, marked_by};
-ghost use Rattle.fab_models.specs.Keys.{key_names};
+ghost use Rattle.fab_bits.specs.Keys.{key_names};
 
 use crate::names::place_of;
 use fab_base::Memory;

@@ -6,5 +6,6 @@ mod laws;
 mod lut;
 mod mux;
 
+pub use fab_bits;
 pub use kind::Kind;
 pub use laws::{mux_has_its_table, pin_names_differ};

@@ -2,16 +2,16 @@
 use Rattle.std.proofs.Common.{◌≡◌, ◌≢◌, ℕ, ◌+◌, ◌-◌, ◌<◌, List, [], ◌++◌, length, get_or, AllPairs, Some, None, refl, sym, ap, ◌∙◌, subst, arith}
 use Rattle.std.proofs.lemmas.List.{get_or_append_left, get_or-append_right, length-append, get_or_default}
 use Rattle.fab_kinds.specs.declared.kind.Kind.TheVariants as kinds
-use Rattle.fab_model.specs.Grid.{PlainFabric}
-use Rattle.fab_netlist.specs.Packed.{PlainPacked}
-use Rattle.fab_netlist.proofs.Counts.{at_mapped}
+use Rattle.fab_implementation.specs.fab_model.specs.Grid.{PlainFabric}
+use Rattle.fab_implementation.specs.fab_netlist.specs.Packed.{PlainPacked}
+use Rattle.fab_implementation.specs.fab_netlist.proofs.Counts.{at_mapped}
 use Rattle.fab_implementation.specs.Plain.{Pad, PlainImplementation}
 use Rattle.fab_legal.specs.Turns.{IsFirstWrongAt}
 use Rattle.fab_legal.specs.WellMade.{output_ports}
 use Rattle.fab_legal.specs.Lines.{named, IsRightLine, IsInput, IsOutput}
 use Rattle.fab_legal.specs.Broken.{AreRightPads, IsPortItem, wrong_in, wrong_out, unnamed_in, unnamed_out, IsNamedBy}
-use Rattle.fab_legal.specs.Keeping.{BindsPads}
-use Rattle.fab_legal.specs.Kept.{wrong_port, IsWithin}
+use Rattle.fab_legal.specs.inner.Keeping.{BindsPads}
+use Rattle.fab_legal.specs.inner.Kept.{wrong_port, IsWithin}
 use Rattle.fab_legal.specs.declared.ports.PadBinding.{PadBinding}
 use Rattle.fab_legal.specs.declared.ports.PadBinding.TheVariants as found
 use Rattle.fab_legal.proofs.Lists.{first_wrong, at_default}

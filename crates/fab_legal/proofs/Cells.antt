@@ -1,15 +1,16 @@
 -- Cells with their sites, and refusals.
 use Rattle.std.proofs.Common.{◌≡◌, ℕ, List, Vec, Global, length, get_or, Option, Some, MatchOption, refl, sym, ap, ◌∙◌, subst}
 use Rattle.fab_kinds.specs.declared.kind.Kind.TheVariants as kinds
-use Rattle.fab_model.specs.Grid.{PlainFabric}
-use Rattle.fab_fabric.specs.declared.wire.Site.{Site}
-use Rattle.fab_netlist.specs.Packed.{PlainPacked}
+use Rattle.fab_implementation.specs.fab_model.specs.Grid.{PlainFabric}
+use Rattle.fab_implementation.specs.fab_fabric.specs.declared.wire.Site.{Site}
+use Rattle.fab_implementation.specs.fab_netlist.specs.Packed.{PlainPacked}
 use Rattle.fab_implementation.specs.Plain.{Pad, PlainImplementation}
 use Rattle.fab_legal.specs.Turns.{AreRight, IsFirstWrongAt, IsFirstWrong}
 use Rattle.fab_legal.specs.Lines.{IsRightLine, IsCell, CellsHaveSites, sites, IsNew}
-use Rattle.fab_legal.specs.Broken.{cell_text, site_text, IsSiteItem, again, IsCellItem, wrong_line, unnamed, IsFirstBroken, Explains}
-use Rattle.fab_legal.specs.Answers.{Breaks}
-use Rattle.fab_legal.specs.Keeping.{Binds, AreSites}
+use Rattle.fab_implementation.specs.fab_fabric.specs.Names.{site_text}
+use Rattle.fab_legal.specs.Broken.{cell_text, IsSiteItem, again, IsCellItem, wrong_line, unnamed, IsFirstBroken, Explains}
+use Rattle.fab_legal.specs.inner.Answers.{Breaks}
+use Rattle.fab_legal.specs.inner.Keeping.{Binds, AreSites}
 use Rattle.fab_legal.specs.declared.lines.Binding.{Binding}
 use Rattle.fab_legal.specs.declared.lines.Binding.TheVariants as bindings
 use Rattle.fab_legal.specs.declared.broken.CheckFault.{CheckFault}

@@ -1,17 +1,17 @@
 -- Constant wires, by the rows of whose destination bits they are one.
 use Rattle.std.proofs.Common.{◌≡◌, ◌↔◌, ℕ, Bool, true, false, Option, Some, None, MatchOption, option_map, refl, sym, ap, ◌∙◌, subst}
 use Rattle.std.proofs.lemmas.Option.{same_Some}
-use Rattle.fab_model.specs.declared.tiles.WireRow.{WireRow}
-use Rattle.fab_model.specs.Wires.{dest_of}
-use Rattle.fab_model.specs.Grid.{PlainFabric}
-use Rattle.fab_model.specs.Drive.{PlainDrive, zero_bit, one_bit, constant}
-use Rattle.fab_fabric.specs.Wires.{IsIndexOf}
-use Rattle.fab_fabric.specs.Walks.{row_at}
-use Rattle.fab_fabric.specs.declared.fabric.joins.RowAt.{RowAt}
-use Rattle.fab_fabric.specs.declared.wire.Wire.{Wire}
-use Rattle.fab_fabric.proofs.Stepped.{row_spot, stand, standing_row}
+use Rattle.fab_implementation.specs.fab_model.specs.declared.tiles.WireRow.{WireRow}
+use Rattle.fab_implementation.specs.fab_model.specs.Wires.{dest_of}
+use Rattle.fab_implementation.specs.fab_model.specs.Grid.{PlainFabric}
+use Rattle.fab_implementation.specs.fab_model.specs.Drive.{PlainDrive, zero_bit, one_bit, constant}
+use Rattle.fab_implementation.specs.fab_fabric.specs.Wires.{IsIndexOf}
+use Rattle.fab_implementation.specs.fab_fabric.specs.Walks.{row_at}
+use Rattle.fab_implementation.specs.fab_fabric.specs.declared.fabric.joins.RowAt.{RowAt}
+use Rattle.fab_implementation.specs.fab_fabric.specs.declared.wire.Wire.{Wire}
+use Rattle.fab_implementation.specs.fab_fabric.proofs.Stepped.{row_spot, stand, standing_row}
 use Rattle.fab_legal.specs.Steps.{IsConstant}
-use Rattle.fab_legal.specs.Keeping.{bit_drive, IsConstantRow}
+use Rattle.fab_legal.specs.inner.Keeping.{bit_drive, IsConstantRow}
 
 same_bit : (a b : Bool) (drive : PlainDrive) → drive ≡ bit_drive a → drive ≡ bit_drive b → a ≡ b
 same_bit true true drive first second = refl

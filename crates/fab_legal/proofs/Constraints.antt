@@ -1,17 +1,17 @@
 -- Constrained ports.
 use Rattle.std.proofs.Common.{◌≡◌, ℕ, List, get_or, take, Contains, sym, subst, inl, inr}
 use Rattle.fab_kinds.specs.declared.kind.Kind.TheVariants as kinds
-use Rattle.fab_model.specs.Grid.{PlainFabric}
-use Rattle.fab_model.specs.Numbering.{key_names}
-use Rattle.fab_netlist.specs.Packed.{PlainPacked}
-use Rattle.fab_netlist.proofs.Members.{in_left, in_right}
+use Rattle.fab_implementation.specs.fab_model.specs.Grid.{PlainFabric}
+use Rattle.fab_bits.specs.Keys.{key_names}
+use Rattle.fab_implementation.specs.fab_netlist.specs.Packed.{PlainPacked}
+use Rattle.fab_implementation.specs.fab_netlist.proofs.Members.{in_left, in_right}
 use Rattle.fab_implementation.specs.Plain.{Pad, PlainImplementation}
 use Rattle.fab_legal.specs.Turns.{AreRight, IsFirstWrongAt}
 use Rattle.fab_legal.specs.WellMade.{output_ports}
 use Rattle.fab_legal.specs.Lines.{HaveSites, PortsHavePads, StandsOn, ConstraintsHold}
 use Rattle.fab_legal.specs.Broken.{IsConstraintItem, elsewhere}
-use Rattle.fab_legal.specs.Keeping.{ArePads, HasPad}
-use Rattle.fab_legal.specs.Kept.{HasOne}
+use Rattle.fab_legal.specs.inner.Keeping.{ArePads, HasPad}
+use Rattle.fab_legal.specs.inner.Kept.{HasOne}
 use Rattle.fab_legal.specs.declared.ports.Pads.{Pads}
 use Rattle.fab_legal.specs.declared.placed.Placed.{Placed}
 use Rattle.fab_legal.proofs.Lists.{first_wrong, at_read}

@@ -1,7 +1,7 @@
 -- The first wrong edge of the first tree that has one.
 use Rattle.std.proofs.Common.{◌≡◌, ℕ, ◌+◌, List, get_or, Option, Some, None, MatchOption, refl, sym, subst}
-use Rattle.fab_model.specs.Grid.{PlainFabric}
-use Rattle.fab_netlist.specs.Plain.{IsAt}
+use Rattle.fab_implementation.specs.fab_model.specs.Grid.{PlainFabric}
+use Rattle.fab_implementation.specs.fab_netlist.specs.Plain.{IsAt}
 use Rattle.fab_implementation.specs.Plain.{Edge, PlainTree}
 use Rattle.fab_legal.specs.Turns.{FirstAreRight, AreRight, IsFirstWrongAt}
 use Rattle.fab_legal.specs.Broken.{IsEdgeItem, IsWireText}

@@ -3,26 +3,27 @@ use Rattle.std.proofs.Common.{◌≡◌, ◌≢◌, ℕ, ◌<◌, List, [], map,
 use Rattle.std.proofs.lemmas.List.{get_or_default}
 use Rattle.indexmap.specs.IndexSet.{insert_all}
 use Rattle.fab_kinds.specs.declared.kind.Kind.TheVariants as kinds
-use Rattle.fab_model.specs.Grid.{PlainFabric}
-use Rattle.fab_fabric.specs.declared.wire.Site.{Site}
-use Rattle.fab_fabric.specs.declared.wire.Wire.{Wire}
-use Rattle.fab_netlist.specs.declared.net_id.NetId.{NetId}
-use Rattle.fab_netlist.specs.declared.net_id.NetId.TheVariants as ids
-use Rattle.fab_netlist.specs.Plain.{IsAt}
-use Rattle.fab_netlist.specs.Packed.{PlainPacked}
-use Rattle.fab_netlist.proofs.Counts.{at_mapped}
-use Rattle.fab_netlist.proofs.Members.{mapped_in}
+use Rattle.fab_implementation.specs.fab_model.specs.Grid.{PlainFabric}
+use Rattle.fab_implementation.specs.fab_fabric.specs.declared.wire.Site.{Site}
+use Rattle.fab_implementation.specs.fab_fabric.specs.declared.wire.Wire.{Wire}
+use Rattle.fab_implementation.specs.fab_netlist.specs.declared.net_id.NetId.{NetId}
+use Rattle.fab_implementation.specs.fab_netlist.specs.declared.net_id.NetId.TheVariants as ids
+use Rattle.fab_implementation.specs.fab_netlist.specs.Plain.{IsAt}
+use Rattle.fab_implementation.specs.fab_netlist.specs.Packed.{PlainPacked}
+use Rattle.fab_implementation.specs.fab_netlist.proofs.Counts.{at_mapped}
+use Rattle.fab_implementation.specs.fab_netlist.proofs.Members.{mapped_in}
 use Rattle.fab_implementation.specs.Plain.{Edge, Pad, PlainTree, PlainImplementation}
 use Rattle.fab_legal.specs.Turns.{AreRight, IsFirstWrongAt}
 use Rattle.fab_legal.specs.WellMade.{IsWellMadePacked, output_ports}
 use Rattle.fab_legal.specs.Lines.{named, IsInput, CellsHaveSites, PortsHavePads, IsCell}
 use Rattle.fab_legal.specs.Steps.{pin_wire}
-use Rattle.fab_legal.specs.Nets.{Net, port_net, cell_net, net_of, InputsAreLines, IsNet, IsRoot, IsRightStart, IsRightName}
+use Rattle.fab_implementation.proofs.Inputs.{NamesLine}
+use Rattle.fab_legal.specs.Nets.{Net, port_net, cell_net, net_of, IsNet, IsRoot, IsRightStart, IsRightName}
 use Rattle.fab_legal.specs.Sinks.{packed_net}
-use Rattle.fab_legal.specs.Keeping.{port_number, numbered_pad}
-use Rattle.fab_legal.specs.Kept.{AreKept, site_at}
-use Rattle.fab_legal.specs.Tables.{entered_number}
-use Rattle.fab_legal.specs.Roots.{IsSmall, packed_id, net_number, tree_number, StartsAt, root_by, IsStart}
+use Rattle.fab_legal.specs.inner.Keeping.{port_number, numbered_pad}
+use Rattle.fab_legal.specs.inner.Kept.{AreKept, site_at}
+use Rattle.fab_legal.specs.inner.Tables.{entered_number}
+use Rattle.fab_legal.specs.inner.Roots.{IsSmall, packed_id, net_number, tree_number, StartsAt, root_by, IsStart}
 use Rattle.fab_legal.specs.declared.placed.Placed.{Placed}
 use Rattle.fab_legal.proofs.Bindings.{differ_left}
 use Rattle.fab_legal.proofs.Members.{from_mapped}
@@ -148,9 +149,9 @@ module _ (fabric : PlainFabric) (packed : PlainPacked) (i : PlainImplementation)
   -- ---- names in turn
 
   abbrev AreLines : List PlainTree → Type 0
-  AreLines trees = (tree : PlainTree) → Contains trees tree → InputsAreLines i tree
+  AreLines trees = (tree : PlainTree) → Contains trees tree → NamesLine i tree
 
-  module _ (before : List PlainTree) (tree : PlainTree) (lines : AreLines before) (own : InputsAreLines i tree) where
+  module _ (before : List PlainTree) (tree : PlainTree) (lines : AreLines before) (own : NamesLine i tree) where
     abbrev number_here : ℕ
     number_here = tree_number placed tree
 
@@ -203,7 +204,7 @@ module _ (fabric : PlainFabric) (packed : PlainPacked) (i : PlainImplementation)
       (one_site (IsCell packed) fabric kinds.Lut4c i.cells k is.site (site_at placed.cells.items k) cells.lines_right is.listed
       (kept.cells.each k (record { x = 0; y = 0; bel = 0 }) (omega (arith, small, kept.cells.as_many))))
 
-  module _ (tree : PlainTree) (own : InputsAreLines i tree) (small : IsSmall placed (id_of tree.net)) (entered : List ℕ) (entered_are : entered ≡ insert_all nat_eq [] (map entered_number tree.edges)) where
+  module _ (tree : PlainTree) (own : NamesLine i tree) (small : IsSmall placed (id_of tree.net)) (entered : List ℕ) (entered_are : entered ≡ insert_all nat_eq [] (map entered_number tree.edges)) where
     abbrev ByRoot : List Edge → Edge → Type 0
     ByRoot before edge = IsStart fabric (root_by fabric placed (id_of tree.net)) entered before edge
 

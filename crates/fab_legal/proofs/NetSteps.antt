@@ -5,18 +5,20 @@ use Rattle.std.proofs.lemmas.Bool.{cases_Bool, false≢true}
 use Rattle.std.proofs.lemmas.Bool.Decides.{Decides-eqb}
 use Rattle.std.proofs.lemmas.List.{get_or-take, length-take-le, map-append}
 use Rattle.indexmap.specs.IndexSet.{insert_key}
-use Rattle.fab_model.specs.Grid.{PlainFabric}
-use Rattle.fab_netlist.specs.declared.net_id.NetId.{NetId}
-use Rattle.fab_netlist.specs.Plain.{IsAt}
-use Rattle.fab_netlist.specs.Packed.{PlainPacked}
+use Rattle.fab_implementation.specs.fab_model.specs.Grid.{PlainFabric}
+use Rattle.fab_implementation.specs.fab_netlist.specs.declared.net_id.NetId.{NetId}
+use Rattle.fab_implementation.specs.fab_netlist.specs.Plain.{IsAt}
+use Rattle.fab_implementation.specs.fab_netlist.specs.Packed.{PlainPacked}
 use Rattle.fab_implementation.specs.Plain.{Edge, PlainTree, PlainImplementation}
 use Rattle.fab_legal.specs.Turns.{FirstAreRight, IsFirstWrongAt}
 use Rattle.fab_legal.specs.WellMade.{IsWellMadePacked}
-use Rattle.fab_legal.specs.Nets.{net_of, InputsAreLines, IsRightStart, IsRightName, IsRightNet}
+use Rattle.fab_implementation.specs.Inputs.{InputsAreLines, NamesInput}
+use Rattle.fab_implementation.proofs.Inputs.{NamesLine, names_line}
+use Rattle.fab_legal.specs.Nets.{net_of, IsRightStart, IsRightName, IsRightNet}
 use Rattle.fab_legal.specs.Legal.{ArePlaced}
 use Rattle.fab_legal.specs.Broken.{IsNetItem, IsWireText, net_text, name, start}
-use Rattle.fab_legal.specs.Kept.{AreKept}
-use Rattle.fab_legal.specs.Roots.{IsSmall, IsNewNet, packed_id, net_number, tree_number, root_by, IsStart, AreStarts, entered_set}
+use Rattle.fab_legal.specs.inner.Kept.{AreKept}
+use Rattle.fab_legal.specs.inner.Roots.{IsSmall, IsNewNet, packed_id, net_number, tree_number, root_by, IsStart, AreStarts, entered_set}
 use Rattle.fab_legal.specs.declared.placed.Placed.{Placed}
 use Rattle.fab_legal.proofs.Lists.{right_more, first_wrong}
 use Rattle.fab_legal.proofs.Members.{taken_more}
@@ -39,13 +41,13 @@ not_any : (keys : List ℕ) (k : ℕ) → (Contains keys k → ⊥) → list_any
 not_any keys k never = elim (cases_Bool (list_any (nat_eq k) keys)) [ inl there ↦ absurd (never (any_in nat_eq Decides-eqb keys k there)) | inr new ↦ new ]
 
 module _ (fabric : PlainFabric) (packed : PlainPacked) (i : PlainImplementation) (placed : Placed) (made : IsWellMadePacked packed) (kept : AreKept packed i placed)
-    (sites : ArePlaced fabric packed i) (lines : All (InputsAreLines i) i.trees) (n : ℕ) (tree : PlainTree) (at : IsAt i.trees n tree) (numbers : List ℕ)
+    (sites : ArePlaced fabric packed i) (lines : InputsAreLines i) (n : ℕ) (tree : PlainTree) (at : IsAt i.trees n tree) (numbers : List ℕ)
     (numbers_are : numbers ≡ map (tree_number placed) (take n i.trees)) (right : FirstAreRight (IsRightNet fabric packed i) i.trees n) where
   abbrev id_of : NetId → NetId
   id_of net = packed_id placed.ins.lines.items net
 
-  own : InputsAreLines i tree
-  own = subst (λ (t : PlainTree). InputsAreLines i t) at.1 (lines n tree at.0)
+  own : NamesLine i tree
+  own = names_line i tree (subst (λ (t : PlainTree). NamesInput (length i.ins) t.net) at.1 (lines n tree at.0))
 
   -- a tree before this one, at its place
   earlier : (other : PlainTree) (here : Contains (take n i.trees) other) → (here.0 < n) × IsAt i.trees here.0 other
@@ -54,10 +56,10 @@ module _ (fabric : PlainFabric) (packed : PlainPacked) (i : PlainImplementation)
       let below : here.0 < n = omega (arith, few, here.1) in
       (below, (omega (arith, below, at.0), sym (get_or-take n i.trees here.0 other below) ∙ here.2))
 
-  before_lines : (other : PlainTree) → Contains (take n i.trees) other → InputsAreLines i other
+  before_lines : (other : PlainTree) → Contains (take n i.trees) other → NamesLine i other
   before_lines other here =
       let found = earlier other here in
-      subst (λ (t : PlainTree). InputsAreLines i t) found.1.1 (lines here.0 other found.1.0)
+      names_line i other (subst (λ (t : PlainTree). NamesInput (length i.ins) t.net) found.1.1 (lines here.0 other found.1.0))
 
   before_small : (other : PlainTree) → Contains (take n i.trees) other → IsSmall placed (id_of other.net)
   before_small other here =

@@ -1,8 +1,8 @@
 -- What breaks a rule is not legal.
 use Rattle.std.proofs.Common.{ℕ, List}
 use Rattle.fab_kinds.specs.declared.kind.Kind.TheVariants as kinds
-use Rattle.fab_model.specs.Grid.{PlainFabric}
-use Rattle.fab_netlist.specs.Packed.{PlainPacked}
+use Rattle.fab_implementation.specs.fab_model.specs.Grid.{PlainFabric}
+use Rattle.fab_implementation.specs.fab_netlist.specs.Packed.{PlainPacked}
 use Rattle.fab_implementation.specs.Plain.{Pad, PlainImplementation}
 use Rattle.fab_legal.specs.Lines.{IsRightLine, IsCell, IsInput, IsOutput, IsNew, StandsOn, sites, CellsHaveSites, SitesDiffer, PortsHavePads, ConstraintsHold}
 use Rattle.fab_legal.specs.Nets.{IsRightStart}

@@ -3,13 +3,13 @@ use Rattle.std.proofs.Common.{◌≡◌, ◌⊎◌, ℕ, ◌+◌, ◌<◌, ◌�
 use Rattle.std.proofs.lemmas.List.{get_or_default, take_all, length-set, get_or-set_same, get_or-set_other, get_or-replicate, length-replicate}
 use Rattle.std.proofs.lemmas.Bool.{cases_lt}
 use Rattle.fab_kinds.specs.declared.kind.Kind.{Kind}
-use Rattle.fab_model.specs.Grid.{PlainFabric}
-use Rattle.fab_fabric.specs.declared.wire.Site.{Site}
-use Rattle.fab_netlist.specs.Plain.{IsAt}
-use Rattle.fab_netlist.proofs.Members.{in_none, mapped_in}
+use Rattle.fab_implementation.specs.fab_model.specs.Grid.{PlainFabric}
+use Rattle.fab_implementation.specs.fab_fabric.specs.declared.wire.Site.{Site}
+use Rattle.fab_implementation.specs.fab_netlist.specs.Plain.{IsAt}
+use Rattle.fab_implementation.specs.fab_netlist.proofs.Members.{in_none, mapped_in}
 use Rattle.fab_legal.specs.Turns.{FirstAreRight, AreRight, IsFirstWrongAt}
 use Rattle.fab_legal.specs.Lines.{named, IsRightLine}
-use Rattle.fab_legal.specs.Keeping.{Below, AreNoted, FillsGap, Collects, Binds}
+use Rattle.fab_legal.specs.inner.Keeping.{Below, AreNoted, FillsGap, Collects, Binds}
 use Rattle.fab_legal.specs.declared.lines.Binding.{Binding}
 use Rattle.fab_legal.specs.declared.lines.Binding.TheVariants as bindings
 use Rattle.fab_legal.proofs.Lists.{right_more, wrong_here, all_right}

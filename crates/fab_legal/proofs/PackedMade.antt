@@ -6,20 +6,20 @@ use Rattle.std.proofs.lemmas.List.{length-map, map-append, get_or_default}
 use Rattle.std.proofs.lemmas.List.Elements.{Contains-append_cases}
 use Rattle.fab_base.specs.declared.fault.Fault.TheVariants as faults
 use Rattle.fab_base.specs.declared.fault.SiteKind.TheVariants as kinds
-use Rattle.fab_netlist.specs.declared.netlist.Latch.{Latch}
-use Rattle.fab_netlist.specs.declared.net_id.NetId.{NetId}
-use Rattle.fab_netlist.specs.declared.net_id.NetId.TheVariants as ids
-use Rattle.fab_netlist.specs.Plain.{PlainCover, PlainNetlist, IsAt, name_of}
-use Rattle.fab_netlist.specs.WellMade.{IsWellMade, times, table_bit, cover_outputs, latch_outputs, ports as netlist_ports}
-use Rattle.fab_netlist.specs.Kept.{is_kept}
-use Rattle.fab_netlist.specs.Packed.{PlainPacked}
-use Rattle.fab_netlist.specs.Packing.{Work, of_cover, of_latch, no_latch, latch_at, place_of, pair, is_paired, others, works, output_of, input_or, cell_or, net_of, cell_of, packed}
-use Rattle.fab_netlist.proofs.Members.{first_in, later_in, in_left, in_right}
-use Rattle.fab_netlist.proofs.Counts.{times_joined, driven_parts}
-use Rattle.fab_netlist.proofs.Marks.{few_numbers}
-use Rattle.fab_netlist.proofs.Packs.{place_small, from_mapped, few_ports}
-use Rattle.fab_netlist.proofs.Stepping.{all_of}
-use Rattle.fab_netlist.proofs.Works.{IsWork, is_work}
+use Rattle.fab_implementation.specs.fab_netlist.specs.declared.netlist.Latch.{Latch}
+use Rattle.fab_implementation.specs.fab_netlist.specs.declared.net_id.NetId.{NetId}
+use Rattle.fab_implementation.specs.fab_netlist.specs.declared.net_id.NetId.TheVariants as ids
+use Rattle.fab_implementation.specs.fab_netlist.specs.Plain.{PlainCover, PlainNetlist, IsAt, name_of}
+use Rattle.fab_implementation.specs.fab_netlist.specs.WellMade.{IsWellMade, times, table_bit, cover_outputs, latch_outputs, ports as netlist_ports}
+use Rattle.fab_implementation.specs.fab_netlist.specs.Kept.{is_kept}
+use Rattle.fab_implementation.specs.fab_netlist.specs.Packed.{PlainPacked}
+use Rattle.fab_implementation.specs.fab_netlist.specs.Packing.{Work, of_cover, of_latch, no_latch, latch_at, place_of, pair, is_paired, others, works, output_of, input_or, cell_or, net_of, cell_of, packed}
+use Rattle.fab_implementation.specs.fab_netlist.proofs.Members.{first_in, later_in, in_left, in_right}
+use Rattle.fab_implementation.specs.fab_netlist.proofs.Counts.{times_joined, driven_parts}
+use Rattle.fab_implementation.specs.fab_netlist.proofs.Marks.{few_numbers}
+use Rattle.fab_implementation.specs.fab_netlist.proofs.Packs.{place_small, from_mapped, few_ports}
+use Rattle.fab_implementation.specs.fab_netlist.proofs.Stepping.{all_of}
+use Rattle.fab_implementation.specs.fab_netlist.proofs.Works.{IsWork, is_work}
 use Rattle.fab_legal.specs.WellMade.{IsNetId, IsWellMadeCell, IsWellMadePacked, output_name, ports, PackedIsWellMade}
 
 filter_short : {X : Type 0} (test : X → Bool) (xs : List X) → length (filter test xs) ≤ length xs

@@ -6,20 +6,20 @@ use Rattle.std.specs.Str.{bytes_eq}
 use Rattle.std.proofs.lemmas.Option.{get_or_from_slice_get, slice_get-map, slice_get_within}
 use Rattle.fab_kinds.specs.declared.kind.Kind.{Kind}
 use Rattle.fab_kinds.specs.Pins.{pin_names}
-use Rattle.fab_model.specs.declared.tiles.Bel.{Bel}
-use Rattle.fab_model.specs.Tiles.{PlainTile, IsTile, TileWire, bel_pin, tile_wires, matrix_names, wire_name}
-use Rattle.fab_model.specs.Wires.{PlainWire, pin_of, wire_of, plain_wires, pin_count, pins_at, wire_number}
-use Rattle.fab_model.specs.Grid.{PlainFabric, numbered_type, tile_at}
-use Rattle.fab_model.proofs.Wires.{wire_at_number, plain_wires_are_wires}
-use Rattle.fab_fabric.specs.Wires.{wire_index, numbered_wire, index_of}
-use Rattle.fab_fabric.specs.Fabric.{AreTiles, wires_at, wire_count}
-use Rattle.fab_fabric.proofs.Numbered.{number_of_tile, tile_within, index_within, wires_of_tile}
-use Rattle.fab_fabric.proofs.Placed.{tile_inside}
-use Rattle.fab_fabric.specs.declared.wire.Site.{Site}
-use Rattle.fab_fabric.specs.declared.wire.Wire.{Wire}
-use Rattle.fab_netlist.specs.Plain.{IsAt}
+use Rattle.fab_implementation.specs.fab_model.specs.declared.tiles.Bel.{Bel}
+use Rattle.fab_implementation.specs.fab_model.specs.Tiles.{PlainTile, IsTile, TileWire, bel_pin, tile_wires, matrix_names, wire_name}
+use Rattle.fab_implementation.specs.fab_model.specs.Wires.{PlainWire, pin_of, wire_of, plain_wires, pin_count, pins_at, wire_number}
+use Rattle.fab_implementation.specs.fab_model.specs.Grid.{PlainFabric, numbered_type, tile_at}
+use Rattle.fab_implementation.specs.fab_model.proofs.Wires.{wire_at_number, plain_wires_are_wires}
+use Rattle.fab_implementation.specs.fab_fabric.specs.Wires.{wire_index, numbered_wire, index_of}
+use Rattle.fab_implementation.specs.fab_fabric.specs.Fabric.{AreTiles, wires_at, wire_count}
+use Rattle.fab_implementation.specs.fab_fabric.proofs.Numbered.{number_of_tile, tile_within, index_within, wires_of_tile}
+use Rattle.fab_implementation.specs.fab_fabric.proofs.Placed.{tile_inside}
+use Rattle.fab_implementation.specs.fab_fabric.specs.declared.wire.Site.{Site}
+use Rattle.fab_implementation.specs.fab_fabric.specs.declared.wire.Wire.{Wire}
+use Rattle.fab_implementation.specs.fab_netlist.specs.Plain.{IsAt}
 use Rattle.fab_legal.specs.Steps.{pin_wire}
-use Rattle.fab_legal.specs.Keeping.{HasPin, port_number}
+use Rattle.fab_legal.specs.inner.Keeping.{HasPin, port_number}
 use Rattle.fab_legal.proofs.PortNumbers.{own_number}
 
 same_some : {X : Type 0} (x y : X) → Some x ≡ Some y → x ≡ y

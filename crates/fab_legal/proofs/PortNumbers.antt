@@ -7,19 +7,19 @@ use Rattle.std.proofs.lemmas.List.{length-map, get_or_default}
 use Rattle.std.proofs.lemmas.List.Sums.{passes_at_first, prefix_len-le-length}
 use Rattle.std.proofs.lemmas.Slice.Eq.{bytes_eq-Decides}
 use Rattle.fab_kinds.specs.declared.kind.Kind.TheVariants as kinds
-use Rattle.fab_model.specs.Grid.{PlainFabric}
-use Rattle.fab_model.specs.Numbering.{key_names}
-use Rattle.fab_model.proofs.Inserts.{place_of_name}
-use Rattle.fab_fabric.specs.declared.wire.Site.{Site}
-use Rattle.fab_netlist.specs.Plain.{IsAt}
-use Rattle.fab_netlist.proofs.Members.{mapped_in, any_by}
+use Rattle.fab_implementation.specs.fab_model.specs.Grid.{PlainFabric}
+use Rattle.fab_bits.specs.Keys.{key_names}
+use Rattle.fab_implementation.specs.fab_model.proofs.Inserts.{place_of_name}
+use Rattle.fab_implementation.specs.fab_fabric.specs.declared.wire.Site.{Site}
+use Rattle.fab_implementation.specs.fab_netlist.specs.Plain.{IsAt}
+use Rattle.fab_implementation.specs.fab_netlist.proofs.Members.{mapped_in, any_by}
 use Rattle.fab_implementation.specs.Plain.{Pad}
 use Rattle.fab_legal.specs.Turns.{AreRight, IsFirstWrongAt}
 use Rattle.fab_legal.specs.Lines.{named, IsRightLine, HaveSites}
 use Rattle.fab_legal.specs.Broken.{IsNamedBy}
 use Rattle.fab_legal.specs.declared.lines.Binding.{Binding}
 use Rattle.fab_legal.specs.declared.lines.Binding.TheVariants as bindings
-use Rattle.fab_legal.specs.Keeping.{Below, Binds, AreSites, IsLeastUnnamed, port_number, numbered_pad, HasPad}
+use Rattle.fab_legal.specs.inner.Keeping.{Below, Binds, AreSites, IsLeastUnnamed, port_number, numbered_pad, HasPad}
 use Rattle.fab_legal.proofs.Lists.{right_from_mapped, wrong_from_mapped}
 use Rattle.fab_legal.proofs.Members.{from_mapped}
 use Rattle.fab_legal.proofs.Once.{one_site, known_thing}

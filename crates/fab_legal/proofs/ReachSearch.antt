@@ -8,14 +8,14 @@ use Rattle.std.proofs.lemmas.List.Elements.{filter-append}
 use Rattle.std.proofs.lemmas.List.Sums.{passes_at_first}
 use Rattle.indexmap.specs.IndexSet.{insert_key, insert_all}
 use Rattle.fab_select.specs.Selection.{inputs_of}
-use Rattle.fab_fabric.specs.Wires.{numbered_wire}
-use Rattle.fab_fabric.specs.declared.wire.Wire.{Wire}
+use Rattle.fab_implementation.specs.fab_fabric.specs.Wires.{numbered_wire}
+use Rattle.fab_implementation.specs.fab_fabric.specs.declared.wire.Wire.{Wire}
 use Rattle.fab_implementation.specs.Plain.{Edge}
-use Rattle.fab_netlist.specs.Plain.{IsAt}
-use Rattle.fab_netlist.proofs.Counts.{at_mapped}
-use Rattle.fab_netlist.proofs.Members.{in_none, first_or_later, first_in, later_in, mapped_in, in_left}
+use Rattle.fab_implementation.specs.fab_netlist.specs.Plain.{IsAt}
+use Rattle.fab_implementation.specs.fab_netlist.proofs.Counts.{at_mapped}
+use Rattle.fab_implementation.specs.fab_netlist.proofs.Members.{in_none, first_or_later, first_in, later_in, mapped_in, in_left}
 use Rattle.fab_legal.specs.Nets.{Reached, root, step, entered_wires, IsRightEntry}
-use Rattle.fab_legal.specs.Tables.{left_number, entered_number, group_at, link, targets, IsRootSet, IsReachedSet, missing}
+use Rattle.fab_legal.specs.inner.Tables.{left_number, entered_number, group_at, link, targets, IsRootSet, IsReachedSet, missing}
 use Rattle.fab_legal.proofs.Members.{from_mapped, taken_more, in_taken, stays_taken, last_taken, last_in}
 use Rattle.fab_legal.proofs.PortNumbers.{place_in}
 use Rattle.fab_legal.proofs.Sets.{any_in, in_any, none_in, put_in, put_stays, put_here, all_in, old_in, new_in}

@@ -5,8 +5,8 @@ use Rattle.std.proofs.lemmas.Bool.{cases_Bool, false≢true}
 use Rattle.std.proofs.lemmas.List.{map-append}
 use Rattle.std.proofs.lemmas.List.Sums.{fold-append}
 use Rattle.indexmap.specs.IndexSet.{insert_key, insert_all}
-use Rattle.fab_netlist.specs.Plain.{IsAt}
-use Rattle.fab_netlist.proofs.Members.{in_none, first_or_later, first_in, later_in, any_by, any_gives}
+use Rattle.fab_implementation.specs.fab_netlist.specs.Plain.{IsAt}
+use Rattle.fab_implementation.specs.fab_netlist.proofs.Members.{in_none, first_or_later, first_in, later_in, any_by, any_gives}
 use Rattle.fab_legal.proofs.Members.{in_pushed, still_in, last_in, taken_more}
 
 module _ {K : Type 0} (same : K → K → Bool) (tells : (a b : K) → Decides (same a b) (a ≡ b)) where

@@ -5,9 +5,9 @@ use Rattle.std.proofs.lemmas.Bool.{cases_Bool, cases_lt}
 use Rattle.std.proofs.lemmas.Bool.Decides.{Decides-eqb}
 use Rattle.std.proofs.lemmas.List.{length-map, get_or_default, get_or_past}
 use Rattle.indexmap.specs.IndexSet.{IndexSet, insert_all}
-use Rattle.fab_netlist.proofs.Counts.{at_mapped}
-use Rattle.fab_netlist.proofs.Members.{in_none, first_or_later, first_in, later_in}
-use Rattle.fab_legal.specs.Tables.{key_lists, IsLeast, IsShared, lesser, keep_least}
+use Rattle.fab_implementation.specs.fab_netlist.proofs.Counts.{at_mapped}
+use Rattle.fab_implementation.specs.fab_netlist.proofs.Members.{in_none, first_or_later, first_in, later_in}
+use Rattle.fab_legal.specs.inner.Tables.{key_lists, IsLeast, IsShared, lesser, keep_least}
 use Rattle.fab_legal.proofs.Lists.{cases_below}
 use Rattle.fab_legal.proofs.Sets.{any_in, none_in, all_in, old_in, new_in}
 

@@ -7,22 +7,22 @@ use Rattle.std.proofs.lemmas.List.{length-take-le, length-map}
 use Rattle.std.proofs.lemmas.Slice.Eq.{bytes_eq-Decides}
 use Rattle.fab_kinds.specs.declared.kind.Kind.{Kind}
 use Rattle.fab_kinds.specs.declared.kind.Kind.TheVariants as kinds
-use Rattle.fab_netlist.specs.declared.net_id.NetId.TheVariants as ids
+use Rattle.fab_implementation.specs.fab_netlist.specs.declared.net_id.NetId.TheVariants as ids
 use Rattle.fab_implementation.specs.OnFabric.{kind_at}
 use Rattle.fab_legal.proofs.Members.{from_mapped, taken_more}
-use Rattle.fab_model.specs.Grid.{PlainFabric}
-use Rattle.fab_fabric.specs.declared.wire.Site.{Site}
-use Rattle.fab_netlist.specs.declared.net_id.NetId.{NetId}
-use Rattle.fab_netlist.specs.Plain.{IsAt}
-use Rattle.fab_netlist.specs.Packed.{PlainCell, PlainPacked}
-use Rattle.fab_netlist.proofs.Counts.{at_mapped}
+use Rattle.fab_implementation.specs.fab_model.specs.Grid.{PlainFabric}
+use Rattle.fab_implementation.specs.fab_fabric.specs.declared.wire.Site.{Site}
+use Rattle.fab_implementation.specs.fab_netlist.specs.declared.net_id.NetId.{NetId}
+use Rattle.fab_implementation.specs.fab_netlist.specs.Plain.{IsAt}
+use Rattle.fab_implementation.specs.fab_netlist.specs.Packed.{PlainCell, PlainPacked}
+use Rattle.fab_implementation.specs.fab_netlist.proofs.Counts.{at_mapped}
 use Rattle.fab_implementation.specs.Plain.{Pad, PlainImplementation}
 use Rattle.fab_legal.specs.WellMade.{IsWellMadePacked, output_name, output_ports}
 use Rattle.fab_legal.specs.Lines.{HaveSites, IsCell, IsInput, IsOutput, CellsHaveSites, PortsHavePads}
 use Rattle.fab_legal.specs.Steps.{pin_wire}
 use Rattle.fab_legal.specs.Sinks.{Sinks, site_of, input_sinks, cell_sinks, cells_sinks, input_port_sinks, output_port_sinks, sinks}
-use Rattle.fab_legal.specs.Keeping.{AreSites, port_number, numbered_pad}
-use Rattle.fab_legal.specs.Kept.{AreKept, HasKinds, site_at, in_sinks, out_sinks, outs_sinks, sinks_by}
+use Rattle.fab_legal.specs.inner.Keeping.{AreSites, port_number, numbered_pad}
+use Rattle.fab_legal.specs.inner.Kept.{AreKept, HasKinds, site_at, in_sinks, out_sinks, outs_sinks, sinks_by}
 use Rattle.fab_legal.specs.declared.placed.Placed.{Placed}
 use Rattle.fab_legal.proofs.Bindings.{differ_left, differ_right}
 use Rattle.fab_legal.proofs.PortNumbers.{own_number, line_of_port}

@@ -3,29 +3,31 @@ use Rattle.std.proofs.Common.{◌≡◌, ℕ, ◌<◌, List, [], ◌∷◌, ◌+
 use Rattle.std.specs.List.{flat_map, position_or_len}
 use Rattle.std.proofs.lemmas.Bool.{cases_lt}
 use Rattle.std.proofs.lemmas.List.{get_or_default, length-map}
-use Rattle.fab_model.specs.Grid.{PlainFabric}
-use Rattle.fab_fabric.specs.Fabric.{wire_count}
-use Rattle.fab_fabric.specs.Wires.{numbered_wire}
+use Rattle.fab_implementation.specs.fab_model.specs.Grid.{PlainFabric}
+use Rattle.fab_implementation.specs.fab_fabric.specs.Fabric.{wire_count}
+use Rattle.fab_implementation.specs.fab_fabric.specs.Wires.{numbered_wire}
 use Rattle.fab_implementation.specs.OnFabric.{HasWires}
-use Rattle.fab_fabric.specs.declared.wire.Wire.{Wire}
-use Rattle.fab_netlist.specs.declared.net_id.NetId.{NetId}
-use Rattle.fab_netlist.specs.declared.net_id.NetId.TheVariants as ids
-use Rattle.fab_netlist.specs.Plain.{IsAt}
-use Rattle.fab_netlist.specs.Packed.{PlainPacked}
-use Rattle.fab_netlist.proofs.Counts.{at_mapped}
-use Rattle.fab_netlist.proofs.Members.{in_none, first_or_later, first_in, later_in, mapped_in, in_left, in_right}
+use Rattle.fab_implementation.specs.fab_fabric.specs.declared.wire.Wire.{Wire}
+use Rattle.fab_implementation.specs.fab_netlist.specs.declared.net_id.NetId.{NetId}
+use Rattle.fab_implementation.specs.fab_netlist.specs.declared.net_id.NetId.TheVariants as ids
+use Rattle.fab_implementation.specs.fab_netlist.specs.Plain.{IsAt}
+use Rattle.fab_implementation.specs.fab_netlist.specs.Packed.{PlainPacked}
+use Rattle.fab_implementation.specs.fab_netlist.proofs.Counts.{at_mapped}
+use Rattle.fab_implementation.specs.fab_netlist.proofs.Members.{in_none, first_or_later, first_in, later_in, mapped_in, in_left, in_right}
 use Rattle.fab_implementation.specs.Plain.{Edge, PlainTree, PlainImplementation}
 use Rattle.fab_legal.specs.WellMade.{IsNetId, IsWellMadePacked}
 use Rattle.fab_legal.specs.Lines.{CellsHaveSites, PortsHavePads}
-use Rattle.fab_legal.specs.Nets.{Net, net_of, InputsAreLines, IsRightName, left_wires, entered_wires, StandsIn}
+use Rattle.fab_implementation.specs.Inputs.{InputsAreLines, NamesInput}
+use Rattle.fab_implementation.proofs.Inputs.{NamesLine, names_line}
+use Rattle.fab_legal.specs.Nets.{Net, net_of, IsRightName, left_wires, entered_wires, StandsIn}
 use Rattle.fab_legal.specs.Turns.{AreRight, IsFirstWrongAt}
 use Rattle.fab_legal.specs.Sinks.{Sinks, packed_net, sinks, named_sink}
 use Rattle.fab_legal.specs.Legal.{NetsBeginRight, SinksStand, IsApart}
 use Rattle.fab_legal.specs.Broken.{IsSharedItem, IsSinkItem, IsWireText}
-use Rattle.fab_legal.specs.Kept.{AreKept}
-use Rattle.fab_legal.specs.Tables.{edge_numbers, tree_numbers, IsLeast, IsShared}
-use Rattle.fab_legal.specs.Roots.{IsSmall, packed_id, net_number, tree_number}
-use Rattle.fab_legal.specs.Standing.{Stands, SinkStands}
+use Rattle.fab_legal.specs.inner.Kept.{AreKept}
+use Rattle.fab_legal.specs.inner.Tables.{edge_numbers, tree_numbers, IsLeast, IsShared}
+use Rattle.fab_legal.specs.inner.Roots.{IsSmall, packed_id, net_number, tree_number}
+use Rattle.fab_legal.specs.inner.Standing.{Stands, SinkStands}
 use Rattle.fab_legal.specs.declared.placed.Placed.{Placed}
 use Rattle.fab_legal.proofs.Lists.{same_at}
 use Rattle.fab_legal.proofs.Members.{in_either, from_mapped}
@@ -139,13 +141,13 @@ module _ (fabric : PlainFabric) (packed : PlainPacked) (i : PlainImplementation)
 -- ---- sinks
 
 module _ (fabric : PlainFabric) (packed : PlainPacked) (i : PlainImplementation) (placed : Placed) (made : IsWellMadePacked packed) (kept : AreKept packed i placed)
-    (cells : CellsHaveSites fabric packed i) (ports : PortsHavePads fabric packed i) (lines : All (InputsAreLines i) i.trees) (nets : NetsBeginRight fabric packed i)
+    (cells : CellsHaveSites fabric packed i) (ports : PortsHavePads fabric packed i) (lines : InputsAreLines i) (nets : NetsBeginRight fabric packed i)
     (numbers : List ℕ) (lists : List (List ℕ)) (numbers_are : numbers ≡ map (tree_number placed) i.trees) (lists_are : lists ≡ map tree_numbers i.trees) where
   abbrev id_of : NetId → NetId
   id_of net = packed_id placed.ins.lines.items net
 
-  own : (n : ℕ) (tree : PlainTree) → IsAt i.trees n tree → InputsAreLines i tree
-  own n tree at = subst (λ (t : PlainTree). InputsAreLines i t) at.1 (lines n tree at.0)
+  own : (n : ℕ) (tree : PlainTree) → IsAt i.trees n tree → NamesLine i tree
+  own n tree at = names_line i tree (subst (λ (t : PlainTree). NamesInput (length i.ins) t.net) at.1 (lines n tree at.0))
 
   small_at : (n : ℕ) (tree : PlainTree) → IsAt i.trees n tree → IsSmall placed (id_of tree.net)
   small_at n tree at = exists_small fabric packed i placed made kept cells ports tree.net (own n tree at) (nets n tree at.0 at).name.exists

@@ -5,16 +5,16 @@ use Rattle.std.proofs.lemmas.Bool.{false≢true}
 use Rattle.std.proofs.lemmas.List.{map-append}
 use Rattle.std.proofs.lemmas.List.Elements.{All-append, All-map, All-weaker}
 use Rattle.std.proofs.lemmas.Option.{get_or_from_slice_get, slice_get_within}
-use Rattle.fab_model.specs.Tiles.{PlainTile}
-use Rattle.fab_model.specs.Grid.{PlainFabric, tile_at}
-use Rattle.fab_fabric.specs.Fabric.{IsFabric}
-use Rattle.fab_fabric.specs.declared.wire.Site.{Site}
-use Rattle.fab_netlist.specs.Plain.{IsAt}
-use Rattle.fab_netlist.proofs.Members.{mapped_in, any_by, any_gives, parts_true, both_true}
+use Rattle.fab_implementation.specs.fab_model.specs.Tiles.{PlainTile}
+use Rattle.fab_implementation.specs.fab_model.specs.Grid.{PlainFabric, tile_at}
+use Rattle.fab_implementation.specs.fab_fabric.specs.Fabric.{IsFabric}
+use Rattle.fab_implementation.specs.fab_fabric.specs.declared.wire.Site.{Site}
+use Rattle.fab_implementation.specs.fab_netlist.specs.Plain.{IsAt}
+use Rattle.fab_implementation.specs.fab_netlist.proofs.Members.{mapped_in, any_by, any_gives, parts_true, both_true}
 use Rattle.fab_implementation.specs.Plain.{PlainImplementation}
 use Rattle.fab_implementation.specs.OnFabric.{IsSite, IsOnFabric}
 use Rattle.fab_legal.specs.Lines.{sites, sited}
-use Rattle.fab_legal.specs.Kept.{site_key}
+use Rattle.fab_legal.specs.inner.Kept.{site_key}
 use Rattle.fab_legal.proofs.Members.{from_mapped, taken_more}
 use Rattle.fab_legal.proofs.Pins.{tile_of_kind, tile_type}
 

@@ -4,12 +4,12 @@ use Rattle.std.specs.List.{list_any, position_or_len}
 use Rattle.std.proofs.lemmas.Bool.Decides.{Decides-eqb}
 use Rattle.std.proofs.lemmas.List.{length-map}
 use Rattle.indexmap.specs.IndexSet.{IndexSet}
-use Rattle.fab_fabric.specs.declared.wire.Wire.{Wire}
-use Rattle.fab_netlist.specs.declared.net_id.NetId.{NetId}
+use Rattle.fab_implementation.specs.fab_fabric.specs.declared.wire.Wire.{Wire}
+use Rattle.fab_implementation.specs.fab_netlist.specs.declared.net_id.NetId.{NetId}
 use Rattle.fab_implementation.specs.Plain.{PlainTree}
-use Rattle.fab_legal.specs.Tables.{key_lists, tree_numbers}
-use Rattle.fab_legal.specs.Roots.{IsSmall, net_number, tree_number}
-use Rattle.fab_legal.specs.Standing.{Stands}
+use Rattle.fab_legal.specs.inner.Tables.{key_lists, tree_numbers}
+use Rattle.fab_legal.specs.inner.Roots.{IsSmall, net_number, tree_number}
+use Rattle.fab_legal.specs.inner.Standing.{Stands}
 use Rattle.fab_legal.specs.declared.placed.Placed.{Placed}
 use Rattle.fab_legal.proofs.Sets.{any_in, in_any}
 use Rattle.fab_legal.proofs.ReachSearch.{found_place, number_at}

@@ -5,20 +5,20 @@ use Rattle.std.proofs.lemmas.Option.{get_or_from_slice_get, slice_get_within, sl
 use Rattle.std.proofs.lemmas.Bool.{false≢true}
 use Rattle.indexmap.specs.IndexSet.{IndexSet}
 use Rattle.fab_select.specs.declared.pair.Pair.{Pair}
-use Rattle.fab_model.specs.Tiles.{PlainTile, IsTile, IsPair, TileWire, tile_wires, matrix_names, wire_name, wire_passes, is_matrix_output, pair_numbers}
-use Rattle.fab_model.specs.Grid.{PlainFabric, numbered_type, tile_at}
-use Rattle.fab_model.specs.Wires.{PlainWire}
-use Rattle.fab_fabric.specs.Fabric.{IsFabric, IsPlace, AreTiles, wires_at, wire_count}
-use Rattle.fab_fabric.specs.Wires.{wire_index, numbered_wire, IsIndexOf, wire_join_to}
-use Rattle.fab_fabric.specs.declared.wire.Wire.{Wire}
-use Rattle.fab_fabric.proofs.Numbered.{one_place, some_item, some_wire, wires_of_tile}
-use Rattle.fab_fabric.proofs.Placed.{tile_inside}
-use Rattle.fab_netlist.specs.Plain.{IsAt}
-use Rattle.fab_netlist.proofs.Counts.{at_mapped}
+use Rattle.fab_implementation.specs.fab_model.specs.Tiles.{PlainTile, IsTile, IsPair, TileWire, tile_wires, matrix_names, wire_name, wire_passes, is_matrix_output, pair_numbers}
+use Rattle.fab_implementation.specs.fab_model.specs.Grid.{PlainFabric, numbered_type, tile_at}
+use Rattle.fab_implementation.specs.fab_model.specs.Wires.{PlainWire}
+use Rattle.fab_implementation.specs.fab_fabric.specs.Fabric.{IsFabric, IsPlace, AreTiles, wires_at, wire_count}
+use Rattle.fab_implementation.specs.fab_fabric.specs.Wires.{wire_index, numbered_wire, IsIndexOf, wire_join_to}
+use Rattle.fab_implementation.specs.fab_fabric.specs.declared.wire.Wire.{Wire}
+use Rattle.fab_implementation.specs.fab_fabric.proofs.Numbered.{one_place, some_item, some_wire, wires_of_tile}
+use Rattle.fab_implementation.specs.fab_fabric.proofs.Placed.{tile_inside}
+use Rattle.fab_implementation.specs.fab_netlist.specs.Plain.{IsAt}
+use Rattle.fab_implementation.specs.fab_netlist.proofs.Counts.{at_mapped}
 use Rattle.std.proofs.lemmas.List.{length-map, get_or_default}
-use Rattle.fab_netlist.proofs.Members.{mapped_in, parts_true, both_true}
+use Rattle.fab_implementation.specs.fab_netlist.proofs.Members.{mapped_in, parts_true, both_true}
 use Rattle.fab_legal.specs.Steps.{IsPaired, IsJoined}
-use Rattle.fab_legal.specs.Tables.{same_pair, pairs_of, type_pairs, HavePairs, HasPair}
+use Rattle.fab_legal.specs.inner.Tables.{same_pair, pairs_of, type_pairs, HavePairs, HasPair}
 use Rattle.fab_legal.proofs.Members.{from_mapped}
 use Rattle.fab_legal.proofs.Pins.{is_tile_at}
 use Rattle.fab_legal.proofs.Sets.{any_in, in_any, all_in, new_in}

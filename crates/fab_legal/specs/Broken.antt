@@ -1,18 +1,18 @@
 -- Which rule an implementation breaks first, and with what.
 use Rattle.std.specs.Prelude.{◌≡◌, ◌≢◌, ℕ, ◌<◌, List, ◌++◌, Contains, codes, decimal, take}
 use Rattle.fab_kinds.specs.declared.kind.Kind.TheVariants as kinds
-use Rattle.fab_model.specs.Grid.{PlainFabric}
-use Rattle.fab_fabric.specs.Fabric.{wires_at}
-use Rattle.fab_fabric.specs.Wires.{wire_index, numbered_wire}
-use Rattle.fab_fabric.specs.Names.{full_name, site_name, name_at}
-use Rattle.fab_fabric.specs.declared.wire.Site.{Site}
-use Rattle.fab_fabric.specs.declared.wire.Wire.{Wire}
-use Rattle.fab_netlist.specs.declared.net_id.NetId.{NetId}
-use Rattle.fab_netlist.specs.Packed.{PlainPacked}
+use Rattle.fab_implementation.specs.fab_model.specs.Grid.{PlainFabric}
+use Rattle.fab_implementation.specs.fab_fabric.specs.Fabric.{wires_at}
+use Rattle.fab_implementation.specs.fab_fabric.specs.Wires.{wire_index, numbered_wire}
+use Rattle.fab_implementation.specs.fab_fabric.specs.Names.{full_name, name_at, site_text}
+use Rattle.fab_implementation.specs.fab_fabric.specs.declared.wire.Site.{Site}
+use Rattle.fab_implementation.specs.fab_fabric.specs.declared.wire.Wire.{Wire}
+use Rattle.fab_implementation.specs.fab_netlist.specs.declared.net_id.NetId.{NetId}
+use Rattle.fab_implementation.specs.fab_netlist.specs.Packed.{PlainPacked}
 use Rattle.fab_implementation.specs.Plain.{Edge, Pad, PlainTree, PlainImplementation}
 use Rattle.fab_legal.specs.declared.broken.CheckFault.{CheckFault}
 use Rattle.fab_legal.specs.declared.broken.CheckFault.TheVariants as faults
-use Rattle.fab_netlist.specs.Plain.{IsAt}
+use Rattle.fab_implementation.specs.fab_netlist.specs.Plain.{IsAt}
 use Rattle.fab_legal.specs.Turns.{AreRight, FirstAreRight, IsFirstWrong}
 use Rattle.fab_legal.specs.WellMade.{output_ports, IsWellMadePacked}
 use Rattle.fab_legal.specs.Lines.{named, IsRightLine, IsCell, IsInput, IsOutput, sites, IsNew, StandsOn, CellsHaveSites, SitesDiffer, ConstraintsHold}
@@ -24,9 +24,6 @@ use Rattle.fab_legal.specs.Legal.{IsLegal, HasRightSteps, HasRightEntries, Edges
 
 abbrev pub cell_text : ℕ → List ℕ
 cell_text number = codes "c" ++ decimal number
-
-abbrev pub site_text : Site → List ℕ
-site_text site = site_name site.x site.y site.bel
 
 abbrev pub net_text : Net → List ℕ
 net_text zero_net = codes "zero"

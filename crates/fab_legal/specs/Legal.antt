@@ -1,8 +1,8 @@
 -- When an implementation is legal.
 use Rattle.std.specs.Prelude.{◌≡◌, List}
-use Rattle.fab_model.specs.Grid.{PlainFabric}
-use Rattle.fab_fabric.specs.declared.wire.Wire.{Wire}
-use Rattle.fab_netlist.specs.Packed.{PlainPacked}
+use Rattle.fab_implementation.specs.fab_model.specs.Grid.{PlainFabric}
+use Rattle.fab_implementation.specs.fab_fabric.specs.declared.wire.Wire.{Wire}
+use Rattle.fab_implementation.specs.fab_netlist.specs.Packed.{PlainPacked}
 use Rattle.fab_implementation.specs.Plain.{Pad, PlainTree, PlainImplementation}
 use Rattle.fab_legal.specs.Turns.{AreRight}
 use Rattle.fab_legal.specs.Lines.{CellsHaveSites, SitesDiffer, PortsHavePads, ConstraintsHold}

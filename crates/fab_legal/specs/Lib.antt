@@ -6,9 +6,8 @@ pub mod Nets
 pub mod Sinks
 pub mod Legal
 pub mod Broken
-pub mod Keeping
-pub mod Roots
-pub mod Tables
-pub mod Kept
-pub mod Answers
-pub mod Standing
+pub mod inner
+pub use Rattle.fab_implementation.specs.fab_model
+pub use Rattle.fab_implementation.specs.fab_fabric
+pub use Rattle.fab_implementation.specs.fab_netlist
+pub use Rattle.fab_implementation

@@ -1,12 +1,12 @@
 -- The nets of an implementation: their names, their wires, and where they may begin.
-use Rattle.std.specs.Prelude.{◌≡◌, ◌⊎◌, ℕ, ◌<◌, List, [], ◌++◌, map, length, get_or, Contains}
-use Rattle.fab_model.specs.Grid.{PlainFabric}
-use Rattle.fab_model.specs.Drive.{zero_bit, one_bit}
-use Rattle.fab_fabric.specs.declared.wire.Site.{Site}
-use Rattle.fab_fabric.specs.declared.wire.Wire.{Wire}
-use Rattle.fab_netlist.specs.declared.net_id.NetId.{NetId}
-use Rattle.fab_netlist.specs.declared.net_id.NetId.TheVariants as ids
-use Rattle.fab_netlist.specs.Packed.{PlainPacked}
+use Rattle.std.specs.Prelude.{◌≡◌, ◌⊎◌, ℕ, List, [], ◌++◌, map, get_or, Contains}
+use Rattle.fab_implementation.specs.fab_model.specs.Grid.{PlainFabric}
+use Rattle.fab_implementation.specs.fab_model.specs.Drive.{zero_bit, one_bit}
+use Rattle.fab_implementation.specs.fab_fabric.specs.declared.wire.Site.{Site}
+use Rattle.fab_implementation.specs.fab_fabric.specs.declared.wire.Wire.{Wire}
+use Rattle.fab_implementation.specs.fab_netlist.specs.declared.net_id.NetId.{NetId}
+use Rattle.fab_implementation.specs.fab_netlist.specs.declared.net_id.NetId.TheVariants as ids
+use Rattle.fab_implementation.specs.fab_netlist.specs.Packed.{PlainPacked}
 use Rattle.fab_implementation.specs.Plain.{Edge, PlainTree, PlainImplementation}
 use Rattle.fab_legal.specs.Turns.{AreRight}
 use Rattle.fab_legal.specs.Lines.{named, IsCell, IsInput}
@@ -32,9 +32,6 @@ net_among inputs (ids.Cell number) = cell_net number
 -- in the trees of an implementation inputs count the lines that name input ports
 abbrev pub net_of : PlainImplementation → NetId → Net
 net_of implementation net = net_among (named implementation.ins) net
-
-abbrev pub InputsAreLines : PlainImplementation → PlainTree → Type 0
-InputsAreLines implementation tree = (number : ℕ) → tree.net ≡ ids.In number → number < length implementation.ins
 
 -- ---- wires
 

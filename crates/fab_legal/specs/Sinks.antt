@@ -1,13 +1,13 @@
 -- The sinks that the nets of a design have to reach.
 use Rattle.std.specs.Prelude.{◌≡◌, ◌↔◌, ℕ, ◌+◌, Bool, List, [], ◌∷◌, ◌++◌, map, Contains, Option, Some, None, nat_eq, bytes_eq, if◌then◌else◌}
 use Rattle.std.specs.List.{flat_map}
-use Rattle.fab_model.specs.Grid.{PlainFabric}
-use Rattle.fab_fabric.specs.declared.wire.Site.{Site}
-use Rattle.fab_fabric.specs.declared.wire.Wire.{Wire}
-use Rattle.fab_netlist.specs.declared.net_id.NetId.{NetId}
-use Rattle.fab_netlist.specs.declared.net_id.NetId.TheVariants as ids
-use Rattle.fab_netlist.specs.Plain.{IsAt}
-use Rattle.fab_netlist.specs.Packed.{PlainCell, PlainPacked}
+use Rattle.fab_implementation.specs.fab_model.specs.Grid.{PlainFabric}
+use Rattle.fab_implementation.specs.fab_fabric.specs.declared.wire.Site.{Site}
+use Rattle.fab_implementation.specs.fab_fabric.specs.declared.wire.Wire.{Wire}
+use Rattle.fab_implementation.specs.fab_netlist.specs.declared.net_id.NetId.{NetId}
+use Rattle.fab_implementation.specs.fab_netlist.specs.declared.net_id.NetId.TheVariants as ids
+use Rattle.fab_implementation.specs.fab_netlist.specs.Plain.{IsAt}
+use Rattle.fab_implementation.specs.fab_netlist.specs.Packed.{PlainCell, PlainPacked}
 use Rattle.fab_implementation.specs.Plain.{PlainImplementation}
 use Rattle.fab_legal.specs.WellMade.{IsWellMadePacked}
 use Rattle.fab_legal.specs.Lines.{CellsHaveSites, PortsHavePads}

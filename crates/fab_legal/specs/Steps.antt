@@ -1,16 +1,16 @@
 -- Which wire may drive which, and wires that are named by pins or are constant.
 use Rattle.std.specs.Prelude.{◌≡◌, ◌⊎◌, ℕ, true, false, Contains, Some}
 use Rattle.fab_select.specs.declared.pair.Pair.{Pair}
-use Rattle.fab_model.specs.declared.tiles.WireRow.{WireRow}
-use Rattle.fab_model.specs.Rows.{is_jump, is_named}
-use Rattle.fab_model.specs.Tiles.{PlainTile}
-use Rattle.fab_model.specs.Wires.{PlainWire, dest_of, pin_of}
-use Rattle.fab_model.specs.Grid.{PlainFabric, tile_at}
-use Rattle.fab_model.specs.Joins.{Stands}
-use Rattle.fab_model.specs.Drive.{PlainDrive, constant}
-use Rattle.fab_fabric.specs.Wires.{wire_index, numbered_wire, index_of, IsIndexOf, row_place, wire_join_to}
-use Rattle.fab_fabric.specs.declared.wire.Site.{Site}
-use Rattle.fab_fabric.specs.declared.wire.Wire.{Wire}
+use Rattle.fab_implementation.specs.fab_model.specs.declared.tiles.WireRow.{WireRow}
+use Rattle.fab_implementation.specs.fab_model.specs.Rows.{is_jump, is_named}
+use Rattle.fab_implementation.specs.fab_model.specs.Tiles.{PlainTile}
+use Rattle.fab_implementation.specs.fab_model.specs.Wires.{PlainWire, dest_of, pin_of}
+use Rattle.fab_implementation.specs.fab_model.specs.Grid.{PlainFabric, tile_at}
+use Rattle.fab_implementation.specs.fab_model.specs.Joins.{Stands}
+use Rattle.fab_implementation.specs.fab_model.specs.Drive.{PlainDrive, constant}
+use Rattle.fab_implementation.specs.fab_fabric.specs.Wires.{wire_index, numbered_wire, index_of, IsIndexOf, row_place, wire_join_to}
+use Rattle.fab_implementation.specs.fab_fabric.specs.declared.wire.Site.{Site}
+use Rattle.fab_implementation.specs.fab_fabric.specs.declared.wire.Wire.{Wire}
 
 -- a pair of the switch matrix of a tile leads from its input to its output
 pub record IsPaired (fabric : PlainFabric) (from to : Wire) : Type 0 where

@@ -1,6 +1,6 @@
 -- Lists of which each item is judged after the items before it.
 use Rattle.std.specs.Prelude.{ℕ, ◌<◌, List, length, take}
-use Rattle.fab_netlist.specs.Plain.{IsAt}
+use Rattle.fab_implementation.specs.fab_netlist.specs.Plain.{IsAt}
 
 -- the first n items are right
 abbrev pub FirstAreRight : {X : Type 0} → (IsRight : List X → X → Type 0) → List X → (n : ℕ) → Type 0

@@ -1,11 +1,11 @@
 -- What holds of a packed design.
 use Rattle.std.specs.Prelude.{◌≡◌, ◌≢◌, ℕ, ◌+◌, ◌<◌, ◌≤◌, ◌%◌, ◌^◌, All, AllPairs, List, ◌++◌, length, map, Some, Ok}
-use Rattle.fab_netlist.specs.declared.net_id.NetId.{NetId}
-use Rattle.fab_netlist.specs.declared.net_id.NetId.TheVariants as ids
-use Rattle.fab_netlist.specs.Plain.{PlainNetlist}
-use Rattle.fab_netlist.specs.WellMade.{IsWellMade, table_bit}
-use Rattle.fab_netlist.specs.Packed.{PlainCell, PlainPacked}
-use Rattle.fab_netlist.specs.Packing.{packing}
+use Rattle.fab_implementation.specs.fab_netlist.specs.declared.net_id.NetId.{NetId}
+use Rattle.fab_implementation.specs.fab_netlist.specs.declared.net_id.NetId.TheVariants as ids
+use Rattle.fab_implementation.specs.fab_netlist.specs.Plain.{PlainNetlist}
+use Rattle.fab_implementation.specs.fab_netlist.specs.WellMade.{IsWellMade, table_bit}
+use Rattle.fab_implementation.specs.fab_netlist.specs.Packed.{PlainCell, PlainPacked}
+use Rattle.fab_implementation.specs.fab_netlist.specs.Packing.{packing}
 
 abbrev pub output_name : List ℕ × NetId → List ℕ
 output_name output = output.0

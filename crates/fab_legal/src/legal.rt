@@ -3,16 +3,16 @@
 ghost use Rattle.std.specs.Prelude.{◌≡◌, IfOk, OnOk, IfErr, All};
 ghost use Rattle.fab_implementation.specs.OnFabric.{IsOnFabric};
 ghost use Rattle.fab_legal.specs.WellMade.{IsWellMadePacked};
-ghost use Rattle.fab_legal.specs.Nets.{InputsAreLines};
+ghost use Rattle.fab_implementation.specs.Inputs.{InputsAreLines};
 ghost use Rattle.fab_legal.specs.Legal.{IsLegal};
 ghost use Rattle.fab_legal.specs.Broken.{Explains};
 
 use crate::broken::CheckFault;
 use crate::placed::place;
 use crate::trees::check_trees;
-use fab_fabric::Fabric;
+use fab_implementation::fab_fabric::Fabric;
+use fab_implementation::fab_netlist::Packed;
 use fab_implementation::{Fixed, Implementation};
-use fab_netlist::Packed;
 use std::alloc::Global;
 use std::marker::Model;
 use std::mem;
@@ -51,7 +51,7 @@ pub fn check(
 ) -> Result<Legal, CheckFault>
     requires made { IsWellMadePacked packed.now }
     requires on_fabric { IsOnFabric fabric.now implementation }
-    requires lines { All (InputsAreLines implementation) implementation.trees }
+    requires lines { InputsAreLines implementation }
     ensures same { IfOk result (λ legal. legal ≡ implementation) }
     ensures legal { OnOk result (IsLegal fabric.now packed.now fixed.now implementation) }
     ensures err { IfErr result (Explains fabric.now packed.now fixed.now implementation) }
@@ -75,7 +75,7 @@ fn check_rules(
 ) -> Result<(), CheckFault>
     requires made { IsWellMadePacked packed.now }
     requires on_fabric { IsOnFabric fabric.now implementation.now }
-    requires lines { All (InputsAreLines implementation.now) implementation.now.trees }
+    requires lines { InputsAreLines implementation.now }
     ensures legal { OnOk result (IsLegal fabric.now packed.now fixed.now implementation.now) }
     ensures err { IfErr result (Explains fabric.now packed.now fixed.now implementation.now) }
 {

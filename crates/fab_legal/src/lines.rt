@@ -1,10 +1,10 @@
 //! Lines that give numbered things sites.
 
 ghost use Rattle.std.specs.Prelude.{◌<◌, ◌^◌, ◌↔◌, IfOk, IsTrue, length};
-ghost use Rattle.fab_legal.specs.Keeping.{Binds, Collects, FillsGap};
+ghost use Rattle.fab_legal.specs.inner.Keeping.{Binds, Collects, FillsGap};
 
 use fab_base::Memory;
-use fab_fabric::{Fabric, Site};
+use fab_implementation::fab_fabric::{Fabric, Site};
 use fab_kinds::Kind;
 use std::alloc::Global;
 

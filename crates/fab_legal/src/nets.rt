@@ -3,17 +3,17 @@
 ghost use Rattle.std.specs.Prelude.{◌≡◌, ◌<◌, ◌≤◌, ◌↔◌, ℕ, [], Some, IsTrue, IfOk, OnOk, IfErr, All, MatchOption, length, map, nat_eq};
 ghost use Rattle.indexmap.specs.IndexSet.{insert_key};
 ghost use Rattle.fab_kinds.specs.declared.kind.Kind.TheVariants as kinds;
-ghost use Rattle.fab_fabric.specs.Fabric.{wire_count};
-ghost use Rattle.fab_netlist.specs.declared.net_id.NetId.TheVariants as ids;
+ghost use Rattle.fab_implementation.specs.fab_fabric.specs.Fabric.{wire_count};
+ghost use Rattle.fab_implementation.specs.fab_netlist.specs.declared.net_id.NetId.TheVariants as ids;
 ghost use Rattle.fab_implementation.specs.OnFabric.{HasWires, kind_at};
 ghost use Rattle.fab_legal.specs.Turns.{AreRight, IsFirstWrongAt};
 ghost use Rattle.fab_legal.specs.WellMade.{IsWellMadePacked};
-ghost use Rattle.fab_legal.specs.Nets.{InputsAreLines};
+ghost use Rattle.fab_implementation.specs.Inputs.{InputsAreLines};
 ghost use Rattle.fab_legal.specs.Legal.{ArePlaced, NetsBeginRight};
 ghost use Rattle.fab_legal.specs.Broken.{IsNetItem};
-ghost use Rattle.fab_legal.specs.Kept.{AreKept};
-ghost use Rattle.fab_legal.specs.Roots.{StartsAt, IsStart, AreStarts, IsNewNet, IsSmall, entered_set, root_by, packed_id, net_number, tree_number};
-ghost use Rattle.fab_legal.specs.Answers.{Breaks};
+ghost use Rattle.fab_legal.specs.inner.Kept.{AreKept};
+ghost use Rattle.fab_legal.specs.inner.Roots.{StartsAt, IsStart, AreStarts, IsNewNet, IsSmall, entered_set, root_by, packed_id, net_number, tree_number};
+ghost use Rattle.fab_legal.specs.inner.Answers.{Breaks};
 
 use crate::broken::{CheckFault, broken_by};
 use crate::placed::Placed;
@@ -21,9 +21,9 @@ use crate::reach::entered;
 use crate::texts::{net_text, wire_text};
 use crate::tiles::{constant_at, find_pin};
 use fab_base::Memory;
-use fab_fabric::{Fabric, Wire};
+use fab_implementation::fab_fabric::{Fabric, Wire};
+use fab_implementation::fab_netlist::{NetId, Packed};
 use fab_implementation::{Implementation, Tree};
-use fab_netlist::{NetId, Packed};
 use indexmap::IndexSet;
 use std::alloc::Global;
 use std::mem;
@@ -182,7 +182,7 @@ fn put_nets(
 ) -> Result<(), CheckFault>
     requires made { IsWellMadePacked _packed.now }
     requires wires { All (λ tree. All (HasWires fabric.now) tree.edges) implementation.now.trees }
-    requires lines { All (InputsAreLines implementation.now) implementation.now.trees }
+    requires lines { InputsAreLines implementation.now }
     requires sites { ArePlaced fabric.now _packed.now implementation.now }
     requires kept { AreKept _packed.now implementation.now placed.now }
     requires none { numbers.old.keys ≡ [] }
@@ -213,7 +213,7 @@ pub fn check_nets(
 ) -> Result<IndexSet<u32>, CheckFault>
     requires made { IsWellMadePacked packed.now }
     requires wires { All (λ tree. All (HasWires fabric.now) tree.edges) implementation.now.trees }
-    requires lines { All (InputsAreLines implementation.now) implementation.now.trees }
+    requires lines { InputsAreLines implementation.now }
     requires sites { ArePlaced fabric.now packed.now implementation.now }
     requires kept { AreKept packed.now implementation.now placed.now }
     ensures ok { OnOk result (NetsBeginRight fabric.now packed.now implementation.now) }

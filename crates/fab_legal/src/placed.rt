@@ -1,27 +1,27 @@
 //! Cells and ports with their sites: the first four rules.
 
 ghost use Rattle.std.specs.Prelude.{◌≡◌, ◌≢◌, ◌<◌, ◌≤◌, ℕ, ◌++◌, IfOk, IfErr, OnOk, All, MatchOption, length, map, option_copied};
-ghost use Rattle.fab_model.specs.Numbering.{key_names};
+ghost use Rattle.fab_bits.specs.Keys.{key_names};
 ghost use Rattle.fab_legal.specs.Turns.{AreRight, IsFirstWrongAt};
 ghost use Rattle.fab_legal.specs.WellMade.{IsWellMadePacked, output_ports};
 ghost use Rattle.fab_legal.specs.Lines.{CellsHaveSites, SitesDiffer, PortsHavePads, ConstraintsHold, IsNew, sites, sited};
 ghost use Rattle.fab_implementation.specs.OnFabric.{IsOnFabric};
 ghost use Rattle.fab_legal.specs.Legal.{ArePlaced};
 ghost use Rattle.fab_legal.specs.Broken.{IsCellItem, IsSiteItem, IsPortItem, Explains};
-ghost use Rattle.fab_legal.specs.Keeping.{AreSites, ArePads, BindsPads};
-ghost use Rattle.fab_legal.specs.Kept.{AreKept, HasOne, IsCounted, IsWithin, wrong_port, IsBound};
+ghost use Rattle.fab_legal.specs.inner.Keeping.{AreSites, ArePads, BindsPads};
+ghost use Rattle.fab_legal.specs.inner.Kept.{AreKept, HasOne, IsCounted, IsWithin, wrong_port, IsBound};
 ghost use Rattle.fab_legal.specs.declared.ports.PadBinding.TheVariants as pad_bindings;
-ghost use Rattle.fab_legal.specs.Answers.{Breaks};
+ghost use Rattle.fab_legal.specs.inner.Answers.{Breaks};
 
 use crate::broken::{CheckFault, broken_by};
 use crate::lines::{Binding, bind};
 use crate::ports::{PadBinding, Pads, bind_pads, input_ports, output_ports};
 use crate::texts::cell_text;
 use fab_base::{Memory, Name};
-use fab_fabric::{Fabric, Site};
+use fab_implementation::fab_fabric::{Fabric, Site};
+use fab_implementation::fab_netlist::Packed;
 use fab_implementation::{Fixed, Implementation};
 use fab_kinds::Kind;
-use fab_netlist::Packed;
 use indexmap::IndexSet;
 use std::alloc::Global;
 use std::mem;
@@ -246,7 +246,7 @@ pub fn place(
     ensures kept { IfOk result (AreKept packed.now implementation.now) }
     ensures err { IfErr result (Explains fabric.now packed.now fixed.now implementation.now) }
 {
-    let _types = fabric.types();
+    fabric.is_well_made();
     let cells = place_cells(alloc, fabric, packed, implementation)?;
     check_sites(alloc, implementation)?;
     let (ins, outs) = place_ports(alloc, fabric, packed, implementation)?;

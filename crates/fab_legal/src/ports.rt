@@ -3,15 +3,15 @@
 ghost use Rattle.std.specs.Prelude.{◌≡◌, ◌≢◌, ◌<◌, ◌≤◌, ◌↔◌, IsTrue, IfOk, OnOk, length, map, AllPairs};
 ghost use Rattle.std.specs.Str.{bytes_eq};
 ghost use Rattle.indexmap.specs.IndexSet.{insert_key};
-ghost use Rattle.fab_model.specs.Numbering.{key_names};
+ghost use Rattle.fab_bits.specs.Keys.{key_names};
 ghost use Rattle.fab_legal.specs.WellMade.{output_name};
-ghost use Rattle.fab_legal.specs.Keeping.{port_number, numbered_pad, BindsPads, HasPad};
+ghost use Rattle.fab_legal.specs.inner.Keeping.{port_number, numbered_pad, BindsPads, HasPad};
 
 use crate::lines::{Binding, bind};
 use fab_base::{Memory, Name};
-use fab_fabric::{Fabric, Site};
+use fab_implementation::fab_fabric::{Fabric, Site};
+use fab_implementation::fab_netlist::NetId;
 use fab_kinds::Kind;
-use fab_netlist::NetId;
 use indexmap::IndexSet;
 use std::alloc::Global;
 

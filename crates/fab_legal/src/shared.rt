@@ -4,18 +4,18 @@ ghost use Rattle.std.specs.Prelude.{◌≡◌, ℕ, [], All, IfErr, IfOk, OnOk, 
 ghost use Rattle.std.specs.List.{flat_map};
 ghost use Rattle.indexmap.specs.IndexSet.{insert_all};
 ghost use Rattle.fab_implementation.specs.OnFabric.{HasWires};
-ghost use Rattle.fab_legal.specs.Answers.{Breaks};
+ghost use Rattle.fab_legal.specs.inner.Answers.{Breaks};
 ghost use Rattle.fab_legal.specs.Broken.{IsSharedItem};
 ghost use Rattle.fab_legal.specs.Legal.{NetsAreApart, NetsBeginRight};
-ghost use Rattle.fab_legal.specs.Tables.{edge_numbers, key_lists, HaveWires, IsLeast, IsShared, lesser, keep_least};
+ghost use Rattle.fab_legal.specs.inner.Tables.{edge_numbers, key_lists, HaveWires, IsLeast, IsShared, lesser, keep_least};
 
 use crate::broken::{CheckFault, broken_by};
 use crate::reach::put_all;
 use crate::texts::wire_text;
 use fab_base::Memory;
-use fab_fabric::{Fabric, Wire};
+use fab_implementation::fab_fabric::{Fabric, Wire};
+use fab_implementation::fab_netlist::Packed;
 use fab_implementation::{Implementation, Tree};
-use fab_netlist::Packed;
 use indexmap::IndexSet;
 use std::alloc::Global;
 use std::mem;

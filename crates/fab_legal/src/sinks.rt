@@ -2,22 +2,22 @@
 
 ghost use Rattle.std.specs.Prelude.{◌≡◌, ◌<◌, ◌≤◌, ◌++◌, ◌∷◌, [], ℕ, IfOk, OnOk, All, Some, length};
 ghost use Rattle.std.specs.List.{flat_map};
-ghost use Rattle.fab_fabric.specs.Fabric.{wire_count};
+ghost use Rattle.fab_implementation.specs.fab_fabric.specs.Fabric.{wire_count};
 ghost use Rattle.fab_kinds.specs.declared.kind.Kind.TheVariants as kinds;
 ghost use Rattle.fab_implementation.specs.OnFabric.{kind_at};
 ghost use Rattle.fab_legal.specs.WellMade.{IsWellMadePacked};
 ghost use Rattle.fab_legal.specs.Lines.{CellsHaveSites, PortsHavePads};
 ghost use Rattle.fab_legal.specs.Steps.{pin_wire};
 ghost use Rattle.fab_legal.specs.Sinks.{input_sinks, cell_sinks, cells_sinks, sinks};
-ghost use Rattle.fab_legal.specs.Keeping.{HasPin};
-ghost use Rattle.fab_legal.specs.Kept.{AreKept, HasKinds, site_at, in_sinks, outs_sinks, sinks_by};
+ghost use Rattle.fab_legal.specs.inner.Keeping.{HasPin};
+ghost use Rattle.fab_legal.specs.inner.Kept.{AreKept, HasKinds, site_at, in_sinks, outs_sinks, sinks_by};
 
 use crate::placed::{Placed, find_sites};
 use crate::tiles::find_pin;
 use fab_base::{Memory, Name};
-use fab_fabric::{Fabric, Site, Wire};
 use fab_implementation::Implementation;
-use fab_netlist::{Cell, NetId, Packed};
+use fab_implementation::fab_fabric::{Fabric, Site, Wire};
+use fab_implementation::fab_netlist::{Cell, NetId, Packed};
 use std::alloc::Global;
 
 // The pins of a LUT4c and of a pad.

@@ -3,14 +3,14 @@
 ghost use Rattle.std.specs.Prelude.{◌≡◌, ◌≤◌, ◌↔◌, IsTrue, IfOk, OnOk, IfErr, All, MatchOption, length, map};
 ghost use Rattle.fab_legal.specs.Turns.{AreRight, IsFirstWrongAt};
 ghost use Rattle.fab_legal.specs.WellMade.{IsWellMadePacked};
-ghost use Rattle.fab_legal.specs.Nets.{InputsAreLines};
+ghost use Rattle.fab_implementation.specs.Inputs.{InputsAreLines};
 ghost use Rattle.fab_legal.specs.Legal.{ArePlaced, NetsBeginRight, SinksStand};
 ghost use Rattle.fab_legal.specs.Broken.{IsSinkItem};
-ghost use Rattle.fab_legal.specs.Kept.{AreKept};
-ghost use Rattle.fab_legal.specs.Roots.{tree_number};
-ghost use Rattle.fab_legal.specs.Standing.{Stands, SinkStands};
-ghost use Rattle.fab_legal.specs.Tables.{key_lists, HaveWires};
-ghost use Rattle.fab_legal.specs.Answers.{Breaks};
+ghost use Rattle.fab_legal.specs.inner.Kept.{AreKept};
+ghost use Rattle.fab_legal.specs.inner.Roots.{tree_number};
+ghost use Rattle.fab_legal.specs.inner.Standing.{Stands, SinkStands};
+ghost use Rattle.fab_legal.specs.inner.Tables.{key_lists, HaveWires};
+ghost use Rattle.fab_legal.specs.inner.Answers.{Breaks};
 
 use crate::broken::{CheckFault, broken_by};
 use crate::nets::{exists, net_number};
@@ -18,9 +18,9 @@ use crate::placed::Placed;
 use crate::shared::wire_sets;
 use crate::sinks::sinks_of;
 use crate::texts::wire_text;
-use fab_fabric::{Fabric, Wire};
 use fab_implementation::Implementation;
-use fab_netlist::{NetId, Packed};
+use fab_implementation::fab_fabric::{Fabric, Wire};
+use fab_implementation::fab_netlist::{NetId, Packed};
 use indexmap::IndexSet;
 use std::alloc::Global;
 
@@ -80,7 +80,7 @@ pub fn check_sinks(
     numbers: &IndexSet<u32>,
 ) -> Result<Vec<IndexSet<u32>>, CheckFault>
     requires made { IsWellMadePacked packed.now }
-    requires lines { All (InputsAreLines implementation.now) implementation.now.trees }
+    requires lines { InputsAreLines implementation.now }
     requires sites { ArePlaced fabric.now packed.now implementation.now }
     requires kept { AreKept packed.now implementation.now placed.now }
     requires nets { NetsBeginRight fabric.now packed.now implementation.now }

@@ -1,22 +1,22 @@
 //! Which wire of a fabric may drive which.
 
 ghost use Rattle.std.specs.Prelude.{◌≡◌, ◌<◌, ◌↔◌, IsTrue, IfOk, IfErr, OnOk, All, MatchOption};
-ghost use Rattle.fab_fabric.specs.Fabric.{wires_at, wire_count};
+ghost use Rattle.fab_implementation.specs.fab_fabric.specs.Fabric.{wires_at, wire_count};
 ghost use Rattle.fab_implementation.specs.OnFabric.{HasWires};
 ghost use Rattle.fab_legal.specs.Turns.{AreRight, IsFirstWrongAt};
 ghost use Rattle.fab_legal.specs.Steps.{IsPaired, IsJoined, IsStep};
 ghost use Rattle.fab_legal.specs.Nets.{IsRightStep};
-ghost use Rattle.fab_legal.specs.Tables.{pairs_of, HavePairs, HasPair};
+ghost use Rattle.fab_legal.specs.inner.Tables.{pairs_of, HavePairs, HasPair};
 ghost use Rattle.fab_legal.specs.Legal.{HasRightSteps};
 ghost use Rattle.fab_legal.specs.Broken.{IsEdgeItem};
-ghost use Rattle.fab_legal.specs.Answers.{Breaks};
+ghost use Rattle.fab_legal.specs.inner.Answers.{Breaks};
 
 use crate::broken::{CheckFault, broken_by};
 use crate::texts::wire_text;
 use fab_base::Memory;
-use fab_fabric::{Fabric, Wire};
 use fab_implementation::Tree;
-use fab_model::Pair;
+use fab_implementation::fab_fabric::{Fabric, Wire};
+use fab_implementation::fab_model::Pair;
 use indexmap::IndexSet;
 use std::alloc::Global;
 
@@ -53,7 +53,7 @@ fn has_pair(sets: &PairSets, fabric: &Fabric, x: u32, y: u32, output: u32, input
     requires input { input < wires_at fabric.now x y }
     ensures { IsTrue result ↔ HasPair fabric.now x y output input }
 {
-    let _types = fabric.types();
+    fabric.is_well_made();
     match fabric.type_at(x, y) {
         Some(number) => {
             let set = &sets.sets[number as usize];
@@ -70,7 +70,7 @@ fn is_paired(sets: &PairSets, fabric: &Fabric, from: Wire, to: Wire) -> bool
     requires to { to.0 < wire_count fabric.now }
     ensures { IsTrue result ↔ IsPaired fabric.now from to }
 {
-    let _types = fabric.types();
+    fabric.is_well_made();
     let (x, y, input) = fabric.spot(from);
     let (to_x, to_y, output) = fabric.spot(to);
     if x != to_x {

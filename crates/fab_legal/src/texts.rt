@@ -1,15 +1,15 @@
 //! How the items of broken rules are written.
 
 ghost use Rattle.std.specs.Prelude.{◌≡◌, ◌<◌, ◌++◌, ℕ, IfOk, OnOk, length};
-ghost use Rattle.fab_netlist.specs.declared.net_id.NetId.TheVariants as ids;
-ghost use Rattle.fab_fabric.specs.Fabric.{wire_count};
+ghost use Rattle.fab_implementation.specs.fab_netlist.specs.declared.net_id.NetId.TheVariants as ids;
+ghost use Rattle.fab_implementation.specs.fab_fabric.specs.Fabric.{wire_count};
 ghost use Rattle.fab_legal.specs.Broken.{cell_text, net_text, IsWireText};
 ghost use Rattle.fab_legal.specs.Nets.{net_of};
 
 use fab_base::{Memory, Name};
-use fab_fabric::{Fabric, Wire};
 use fab_implementation::Implementation;
-use fab_netlist::NetId;
+use fab_implementation::fab_fabric::{Fabric, Wire};
+use fab_implementation::fab_netlist::NetId;
 use itoa::Buffer;
 use std::alloc::Global;
 

@@ -1,14 +1,14 @@
 //! Tiles by place, and what their rows and BELs say of wires.
 
 ghost use Rattle.std.specs.Prelude.{◌≡◌, ◌<◌, ◌↔◌, Bool, Some, IfOk, MatchOption, option_copied};
-ghost use Rattle.fab_model.specs.Grid.{tile_at};
-ghost use Rattle.fab_fabric.specs.Fabric.{IsFabric, AreTiles, wire_count};
+ghost use Rattle.fab_implementation.specs.fab_model.specs.Grid.{tile_at};
+ghost use Rattle.fab_implementation.specs.fab_fabric.specs.Fabric.{IsFabric, AreTiles, wire_count};
 ghost use Rattle.fab_legal.specs.Steps.{pin_wire, IsConstant};
-ghost use Rattle.fab_legal.specs.Keeping.{bit_drive, IsConstantRow, HasPin};
+ghost use Rattle.fab_legal.specs.inner.Keeping.{bit_drive, IsConstantRow, HasPin};
 
 use fab_base::Memory;
-use fab_fabric::{Fabric, Site, Wire};
-use fab_model::{Dir, TileType, WireRow};
+use fab_implementation::fab_fabric::{Fabric, Site, Wire};
+use fab_implementation::fab_model::{Dir, TileType, WireRow};
 use std::alloc::Global;
 
 /// The tile at a place; none where there is no tile.

@@ -5,10 +5,10 @@ ghost use Rattle.fab_implementation.specs.OnFabric.{IsOnFabric};
 ghost use Rattle.fab_implementation.specs.Plain.{Pad};
 ghost use Rattle.fab_legal.specs.WellMade.{IsWellMadePacked};
 ghost use Rattle.fab_legal.specs.Lines.{ConstraintsHold};
-ghost use Rattle.fab_legal.specs.Nets.{InputsAreLines};
+ghost use Rattle.fab_implementation.specs.Inputs.{InputsAreLines};
 ghost use Rattle.fab_legal.specs.Legal.{ArePlaced, IsLegal};
 ghost use Rattle.fab_legal.specs.Broken.{Explains};
-ghost use Rattle.fab_legal.specs.Kept.{AreKept};
+ghost use Rattle.fab_legal.specs.inner.Kept.{AreKept};
 
 use crate::broken::CheckFault;
 use crate::nets::check_nets;
@@ -17,9 +17,9 @@ use crate::reach::check_entries;
 use crate::shared::check_apart;
 use crate::standing::check_sinks;
 use crate::steps::check_steps;
-use fab_fabric::Fabric;
 use fab_implementation::Implementation;
-use fab_netlist::Packed;
+use fab_implementation::fab_fabric::Fabric;
+use fab_implementation::fab_netlist::Packed;
 use std::alloc::Global;
 use std::mem;
 
@@ -35,7 +35,7 @@ pub fn check_trees(
 ) -> Result<(), CheckFault>
     requires made { IsWellMadePacked packed.now }
     requires on_fabric { IsOnFabric fabric.now implementation.now }
-    requires lines { All (InputsAreLines implementation.now) implementation.now.trees }
+    requires lines { InputsAreLines implementation.now }
     requires sites { ArePlaced fabric.now packed.now implementation.now }
     requires kept { AreKept packed.now implementation.now placed.now }
     ensures legal { (fixed : List Pad) → ConstraintsHold fixed implementation.now → OnOk result (IsLegal fabric.now packed.now fixed implementation.now) }

@@ -3,3 +3,4 @@ pub mod Parts
 pub mod Order
 pub mod Joined
 pub mod Numbers
+pub mod Counts

@@ -1,7 +1,8 @@
 //! A text is cut into lines, one after the other.
 
-ghost use Rattle.std.specs.Prelude.{◌≡◌, ◌<◌, ◌≤◌, ◌∷◌, length, max};
+ghost use Rattle.std.specs.Prelude.{◌≡◌, ◌<◌, ◌≤◌, ◌∷◌, length};
 ghost use Rattle.std.specs.Str.Lines.{lines, strip_carriage_return};
+ghost use Rattle.fab_lines.specs.Counts.{last_line};
 
 use crate::parts::place;
 use fab_base::MAX_FILE_BYTES;
@@ -36,7 +37,7 @@ pub fn first_line(bytes: &[u8]) -> (&[u8], &[u8])
 /// whole is reported there.
 pub fn last_line(bytes: &[u8]) -> u32
     requires { length bytes.now ≤ MAX_FILE_BYTES }
-    ensures { result ≡ max 1 (length (lines bytes.now)) }
+    ensures { result ≡ last_line bytes.now }
 {
     let mut count: u32 = 0;
     let mut rest = bytes;

@@ -16,7 +16,8 @@ use Rattle.fab_select.proofs.Firsts.{told}
 use Rattle.fab_tables.specs.Lists.{Pair}
 use Rattle.fab_list_files.specs.Lists.{same_pair, with_pair, with_pairs}
 use Rattle.fab_list_files.specs.Sides.{crosses, input_count}
-use Rattle.fab_list_files.specs.Keys.{key_names, key_pairs, crosses_sides, PlainSides, HasSides}
+use Rattle.fab_bits.specs.Keys.{key_names}
+use Rattle.fab_list_files.specs.Keys.{key_pairs, crosses_sides, PlainSides, HasSides}
 
 -- ---- sets of pairs
 

@@ -7,7 +7,8 @@ use Rattle.fab_base.specs.Reading.{fault_at}
 use Rattle.fab_desk.specs.Files.{Map}
 use Rattle.fab_rows.specs.Rows.{PlainRow, rows_of}
 use Rattle.fab_tables.specs.Lists.{Pair}
-use Rattle.fab_files.specs.Files.{handed_out, last_line, refuses}
+use Rattle.fab_lines.specs.Counts.{last_line}
+use Rattle.fab_files.specs.Files.{handed_out, refuses}
 use Rattle.fab_list_files.specs.Lists.{Knowledge, Deed, adds, opens, deed_of, with_pairs, most_open, ReadsList, ends, adds_pairs, opens_file, MeetsList, bad_row, no_file, inside, behind_pairs, behind_file, ReadsListFile, MeetsListFile, of_file, of_rows}
 use Rattle.fab_list_files.proofs.Rows.{opens_some_left}
 use Rattle.fab_list_files.specs.Sides.{on_both_sides, crowd, crowd_limit, SpellsPairs, of_list, of_crowd, RefusesPairs}

@@ -12,7 +12,7 @@ use Rattle.fab_rows.specs.Rows.{PlainRow}
 use Rattle.fab_tables.specs.Lists.{Pair, PlainBody, PairsOf, IncludeOf, body_of}
 use Rattle.fab_files.specs.Files.{Event, asks, refuses, HasReadCause, MeetsFile}
 use Rattle.fab_list_files.specs.Lists.{Knowledge, adds, opens, opened_file, deed_of_body, deed_of, with_pairs, ReadsList, ends, adds_pairs, opens_file, MeetsList, bad_row, asks_for, no_file, inside, behind_pairs, behind_file, ReadsListFile, MeetsListFile, of_file, of_rows}
-use Rattle.fab_list_files.specs.Following.{Leads, MeetsRow, LeadsOn}
+use Rattle.fab_list_files.specs.inner.Following.{Leads, MeetsRow, LeadsOn}
 
 -- what is left of items begins with the next
 pub drop_next : {X : Type 0} (items : List X) (place : ℕ) (item : X) → place < length items → item ≡ get_or items place item → drop place items ≡ item ∷ drop (place + 1) items

@@ -5,10 +5,6 @@ use Rattle.std.specs.Str.{bytes_eq}
 use Rattle.fab_tables.specs.Lists.{Pair}
 use Rattle.fab_list_files.specs.Sides.{has_output, has_input}
 
--- the keys of a set as names, and as pairs
-abbrev pub key_names : {A : Type 0} → List (Vec ℕ A) → List (List ℕ)
-key_names keys = map (λ key. key.items) keys
-
 abbrev pub key_pairs : {A : Type 0} → List (Vec ℕ A × Vec ℕ A) → List Pair
 key_pairs keys = map (λ key. (key.0.items, key.1.items)) keys
 

@@ -1,4 +1,4 @@
 pub mod Lists
 pub mod Sides
 pub mod Keys
-pub mod Following
+pub mod inner

@@ -12,7 +12,8 @@ use Rattle.fab_desk.specs.Files.{Map}
 use Rattle.fab_lines.specs.Names.{is_wire_name}
 use Rattle.fab_select.specs.Selection.{inputs_of}
 use Rattle.fab_tables.specs.Lists.{Pair}
-use Rattle.fab_files.specs.Files.{handed_out, last_line, Event, refuses}
+use Rattle.fab_lines.specs.Counts.{last_line}
+use Rattle.fab_files.specs.Files.{handed_out, Event, refuses}
 use Rattle.fab_list_files.specs.Lists.{Knowledge, most_open, ReadsListFile, MeetsListFile}
 
 -- ---- both sides

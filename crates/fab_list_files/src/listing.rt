@@ -7,7 +7,7 @@ ghost use Rattle.fab_rows.specs.Rows.{rows_of};
 ghost use Rattle.fab_tables.specs.Lists.{Pair};
 ghost use Rattle.fab_files.specs.Files.{HasReadCause, IsSupported};
 ghost use Rattle.fab_list_files.specs.Lists.{Knowledge, with_pairs, opened, deed_of, ReadsList, MeetsList, ReadsListFile, MeetsListFile};
-ghost use Rattle.fab_list_files.specs.Following.{plain_deed, MayOpen, Leads, MeetsRow};
+ghost use Rattle.fab_list_files.specs.inner.Following.{plain_deed, MayOpen, Leads, MeetsRow};
 
 use fab_base::{Fault, MAX_FILE_BYTES, Memory, Name, Problem, Quantity, Reason};
 use fab_desk::Desk;

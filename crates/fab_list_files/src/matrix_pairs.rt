@@ -4,7 +4,8 @@ ghost use Rattle.std.specs.Prelude.{◌≡◌, ◌∷◌, ◌++◌, ◌||◌, []
 ghost use Rattle.std.specs.List.{list_any};
 ghost use Rattle.std.specs.Str.{bytes_eq};
 ghost use Rattle.fab_tables.specs.Lists.{Pair};
-ghost use Rattle.fab_list_files.specs.Keys.{crosses_sides, key_names, HasSides};
+ghost use Rattle.fab_bits.specs.Keys.{key_names};
+ghost use Rattle.fab_list_files.specs.Keys.{crosses_sides, HasSides};
 
 use crate::listing::ListState;
 use crate::pair_set::PairSet;
@@ -22,7 +23,8 @@ struct Sides {
 }
 
 impl Model for Sides {
-    ghost use Rattle.fab_list_files.specs.Keys.{PlainSides, key_names};
+    ghost use Rattle.fab_bits.specs.Keys.{key_names};
+    ghost use Rattle.fab_list_files.specs.Keys.{PlainSides};
 
     ghost Value = { PlainSides };
 

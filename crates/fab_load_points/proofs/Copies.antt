@@ -8,7 +8,7 @@ use Rattle.fab_syntax.specs.Sound.{IsSound}
 use Rattle.fab_meaning.specs.Points.{Path, Point, point, Driver, outside, copy, flop, JoinDrives, ItemDrives, Drives}
 use Rattle.fab_meaning.specs.Reads.{is_declared, reads}
 use Rattle.fab_meaning.specs.Runs.{clock_name}
-use Rattle.fab_meaning.specs.Loading.{strobe_name, data_name, IsDerived, IsStream, Within, by_flop, by_stream, by_reads, IsClosed, IsLoading}
+use Rattle.fab_meaning.specs.Loading.{IsDerived, IsStream, Within, by_flop, by_stream, by_reads, IsClosed, IsLoading, write_strobe_name, write_data_name}
 use Rattle.fab_meaning.proofs.Dependence.{same_point_refl, same_point_is}
 use Rattle.fab_equations.specs.Equations.{IsPoint, IsDriven}
 use Rattle.fab_equations.specs.declared.driver.Driver.TheVariants.{Outside, Same}
@@ -19,8 +19,8 @@ use Rattle.fab_equations.proofs.Numbering.{child_at, same_value}
 use Rattle.fab_equations.proofs.Paths.{paths_differ, top_path}
 use Rattle.fab_equations.proofs.Points.{point_at}
 use Rattle.fab_values.specs.Declarations.{declarations}
-use Rattle.fab_load_points.specs.Causes.{IsTopBit}
-use Rattle.fab_load_points.specs.Points.{AreMarkedFrom, IsPointMark}
+use Rattle.fab_load_points.specs.inner.Causes.{IsTopBit}
+use Rattle.fab_load_points.specs.inner.Points.{AreMarkedFrom, IsPointMark}
 use Rattle.fab_load_points.proofs.Names.{point_declared}
 use Rattle.fab_load_points.proofs.Bits.{same_driver}
 use Rattle.fab_load_points.proofs.TopBits.{carried, carries}
@@ -129,7 +129,7 @@ module _ (text : List PlainModule) (sound : IsSound text) (number : ℕ) where
   same_within other driven = slice_get_within (points text) other driven.means.0 driven.means.1
 
   -- what an input of the top has
-  pub outside_marked : IsDriven text number Outside → (mark : Bool) → (IsTrue mark ↔ (IsTopBit text clock_name number ⊎ (IsTopBit text strobe_name number ⊎ IsTopBit text data_name number))) →
+  pub outside_marked : IsDriven text number Outside → (mark : Bool) → (IsTrue mark ↔ (IsTopBit text clock_name number ⊎ (IsTopBit text write_strobe_name number ⊎ IsTopBit text write_data_name number))) →
       IsPointMark text number mark
   outside_marked driven mark tested p is =
       let same : driven.of ≡ p = same_value _ driven.of p driven.is is in

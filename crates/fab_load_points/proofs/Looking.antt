@@ -8,8 +8,8 @@ use Rattle.fab_meaning.specs.Points.{Point, Driver, outside, Drives}
 use Rattle.fab_meaning.specs.Reads.{reads}
 use Rattle.fab_meaning.specs.Loading.{IsDerived, Within, by_stream}
 use Rattle.fab_meaning.proofs.SoundDrivers.{has_one_driver}
-use Rattle.fab_load_points.specs.Causes.{StandsFor, AreReads, IsFlop, IsStreamOf}
-use Rattle.fab_load_points.specs.Search.{Scene, IsSearch, Opens, given_up, entered}
+use Rattle.fab_load_points.specs.inner.Causes.{StandsFor, AreReads, IsFlop, IsStreamOf}
+use Rattle.fab_load_points.specs.inner.Search.{Scene, IsSearch, Opens, given_up, entered}
 use Rattle.fab_load_points.specs.declared.search.Status.{Status}
 use Rattle.fab_load_points.specs.declared.search.Status.TheVariants.{New, Waiting, Inside, Outside}
 use Rattle.fab_load_points.specs.declared.search.Visit.{Visit}

@@ -12,10 +12,10 @@ use Rattle.fab_equations.specs.Instances.{points}
 use Rattle.fab_equations.specs.Equations.{IsPoint, IsDriven}
 use Rattle.fab_equations.proofs.Numbering.{some_there}
 use Rattle.fab_equations.specs.declared.driver.Driver.{Driver}
-use Rattle.fab_load_points.specs.Causes.{StandsFor}
-use Rattle.fab_load_points.specs.Search.{IsSearch, told}
-use Rattle.fab_load_points.specs.Flops.{IsClosedSearch}
-use Rattle.fab_load_points.specs.Points.{AreMarkedFrom, IsPointMark, IsRightly, bit_driven}
+use Rattle.fab_load_points.specs.inner.Causes.{StandsFor}
+use Rattle.fab_load_points.specs.inner.Search.{IsSearch, told}
+use Rattle.fab_load_points.specs.inner.Flops.{IsClosedSearch}
+use Rattle.fab_load_points.specs.inner.Points.{AreMarkedFrom, IsPointMark, IsRightly, bit_driven}
 use Rattle.fab_load_points.specs.declared.search.Status.{Status}
 use Rattle.fab_load_points.proofs.Statuses.{set_cases}
 use Rattle.fab_load_points.proofs.Names.{begins_at, point_declared, first_declared}

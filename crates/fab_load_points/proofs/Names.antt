@@ -17,7 +17,7 @@ use Rattle.fab_equations.proofs.Numbering.{same_value, instances_stand}
 use Rattle.fab_equations.proofs.Paths.{paths_are_instances, top_path}
 use Rattle.fab_equations.proofs.Places.{names_have_points}
 use Rattle.fab_equations.proofs.Points.{found_width, not_found_width, point_at, points_are_declared, points_differ, declared_are_points}
-use Rattle.fab_load_points.specs.Causes.{StandsFor, IsFirstOf}
+use Rattle.fab_load_points.specs.inner.Causes.{StandsFor, IsFirstOf}
 
 pub none_mapped : {X Y : Type 0} (f : X → Y) (o : Option X) → None ≡ option_map f o → o ≡ None
 none_mapped f None e = refl

@@ -8,8 +8,7 @@ use Rattle.std.proofs.lemmas.Option.{slice_get_within}
 use Rattle.std.proofs.lemmas.Slice.Eq.{bytes_eq-Decides}
 use Rattle.fab_syntax.specs.Plain.{PlainExpr, PlainModule}
 use Rattle.fab_syntax.specs.Sound.{IsSound}
-use Rattle.fab_meaning.specs.Points.{Path, Point, point, copy, Drives}
-use Rattle.fab_meaning.specs.Points.{Driver as MeantDriver}
+use Rattle.fab_meaning.specs.Points.{Path, Point, point, copy, Drives, Driver as MeantDriver}
 use Rattle.fab_meaning.specs.Reads.{same_path, is_declared, mentions, expression_reads, reads}
 use Rattle.fab_meaning.specs.Loading.{IsDerived}
 use Rattle.fab_meaning.proofs.Dependence.{same_name, same_path_refl, same_point_refl, same_point_is}
@@ -20,7 +19,7 @@ use Rattle.fab_equations.specs.declared.driver.Source.{Source}
 use Rattle.fab_equations.specs.declared.driver.Driver.{Driver}
 use Rattle.fab_equations.specs.declared.driver.Driver.TheVariants.{Same, Value, Flop, Hold}
 use Rattle.fab_equations.proofs.Numbering.{same_value}
-use Rattle.fab_load_points.specs.Causes.{AddsNames, AreReads, IsFlop}
+use Rattle.fab_load_points.specs.inner.Causes.{AddsNames, AreReads, IsFlop}
 use Rattle.fab_load_points.proofs.Names.{point_declared, first_declared, is_first}
 use Rattle.fab_load_points.proofs.Bits.{same_driver, copied_bit}
 

@@ -19,9 +19,9 @@ use Rattle.fab_equations.specs.Instances.{points}
 use Rattle.fab_equations.specs.Equations.{IsPoint, IsSource}
 use Rattle.fab_equations.proofs.Numbering.{same_value}
 use Rattle.fab_equations.proofs.Placing.{get_set_other}
-use Rattle.fab_load_points.specs.Causes.{StandsFor, AreReads}
-use Rattle.fab_load_points.specs.Search.{Scene, IsSearch}
-use Rattle.fab_load_points.specs.Flops.{is_bit_beside, is_bit_of, among, IsLoaderFlop, AreLoaderFlops, IsLoaderPoint, HoldsClosed, AreBegun, ReadsWithin, ReadsBeyond, IsClosedSearch}
+use Rattle.fab_load_points.specs.inner.Causes.{StandsFor, AreReads}
+use Rattle.fab_load_points.specs.inner.Search.{Scene, IsSearch}
+use Rattle.fab_load_points.specs.inner.Flops.{is_bit_beside, is_bit_of, among, IsLoaderFlop, AreLoaderFlops, IsLoaderPoint, HoldsClosed, AreBegun, ReadsWithin, ReadsBeyond, IsClosedSearch}
 use Rattle.fab_load_points.specs.declared.flops.Flop.{Flop}
 use Rattle.fab_load_points.specs.declared.search.Status.{Status}
 use Rattle.fab_load_points.specs.declared.search.Status.TheVariants.{Waiting, Inside, Outside}

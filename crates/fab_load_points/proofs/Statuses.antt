@@ -4,7 +4,7 @@ use Rattle.std.proofs.lemmas.Bool.{cases_eq}
 use Rattle.std.proofs.lemmas.List.{length-set}
 use Rattle.std.proofs.lemmas.Option.{slice_get_within}
 use Rattle.fab_equations.proofs.Placing.{get_set_same, get_set_other}
-use Rattle.fab_load_points.specs.Search.{Waits, given_up, new_count, Opens}
+use Rattle.fab_load_points.specs.inner.Search.{Waits, given_up, new_count, Opens}
 use Rattle.fab_load_points.specs.declared.search.Status.{Status}
 use Rattle.fab_load_points.specs.declared.search.Status.TheVariants.{New, Waiting, Inside, Outside}
 use Rattle.fab_load_points.specs.declared.search.Visit.{Visit}

@@ -8,8 +8,8 @@ use Rattle.fab_meaning.specs.Reads.{is_declared, mentions, same_path, expression
 use Rattle.fab_meaning.specs.Loading.{IsStream, IsDerived, Within, by_flop, by_stream, by_reads}
 use Rattle.fab_meaning.proofs.Dependence.{same_point_is}
 use Rattle.fab_equations.proofs.Placing.{get_set_other}
-use Rattle.fab_load_points.specs.Causes.{StandsFor, AreReads, IsFlop}
-use Rattle.fab_load_points.specs.Search.{Scene, Waits, AreBelow, Reaches, reads_it, through, LeadsTo, IsPath, IsInside, Follow, IsSearch, given_up, entered}
+use Rattle.fab_load_points.specs.inner.Causes.{StandsFor, AreReads, IsFlop}
+use Rattle.fab_load_points.specs.inner.Search.{Scene, Waits, AreBelow, Reaches, reads_it, through, LeadsTo, IsPath, IsInside, Follow, IsSearch, given_up, entered}
 use Rattle.fab_load_points.specs.declared.search.Status.{Status}
 use Rattle.fab_load_points.specs.declared.search.Status.TheVariants.{New, Waiting, Inside, Outside}
 use Rattle.fab_load_points.specs.declared.search.Visit.{Visit}

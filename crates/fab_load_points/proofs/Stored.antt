@@ -3,18 +3,17 @@ use Rattle.std.proofs.Common.{◌≡◌, ℕ, Bool, true, false, List, [], Optio
 use Rattle.fab_syntax.specs.Declarations.{module_named, is_input_of}
 use Rattle.fab_syntax.specs.Plain.{PlainExpr, PlainItem, wire, reg, assign, latch, clocked, instance, PlainModule}
 use Rattle.fab_syntax.specs.Sound.{IsSound}
-use Rattle.fab_meaning.specs.Points.{Path, Point, point, outside, copy, bit_of, flop, hold, JoinDrives, ItemDrives, Drives}
-use Rattle.fab_meaning.specs.Points.{Driver as MeantDriver}
+use Rattle.fab_meaning.specs.Points.{Path, Point, point, outside, copy, bit_of, flop, hold, JoinDrives, ItemDrives, Drives, Driver as MeantDriver, IsStored}
 use Rattle.fab_meaning.specs.Runs.{clock_of, clock_name}
 use Rattle.fab_equations.specs.Equations.{IsPoint, IsDriven, Means}
 use Rattle.fab_equations.proofs.Numbering.{same_value}
 use Rattle.fab_equations.specs.declared.driver.Source.{Source}
 use Rattle.fab_equations.specs.declared.driver.Driver.{Driver}
 use Rattle.fab_equations.specs.declared.driver.Driver.TheVariants as by_number
-use Rattle.fab_load_points.specs.Causes.{StandsFor, IsFirstOf}
-use Rattle.fab_load_points.specs.Flops.{IsLoaderPoint}
-use Rattle.fab_load_points.specs.Points.{bit_driven}
-use Rattle.fab_load_points.specs.Registers.{IsStored, stored_mark}
+use Rattle.fab_load_points.specs.inner.Causes.{StandsFor, IsFirstOf}
+use Rattle.fab_load_points.specs.inner.Flops.{IsLoaderPoint}
+use Rattle.fab_load_points.specs.inner.Points.{bit_driven}
+use Rattle.fab_load_points.specs.Registers.{stored_mark}
 use Rattle.fab_load_points.proofs.Reading.{means_so}
 use Rattle.fab_load_points.proofs.Streams.{first_known}
 

@@ -6,9 +6,9 @@ use Rattle.fab_syntax.specs.Plain.{PlainExpr, PlainItem, wire, reg, assign, latc
 use Rattle.fab_syntax.specs.Sound.{IsSound}
 use Rattle.fab_meaning.specs.Points.{Path, Point, point, outside, JoinDrives, ItemDrives, IsDrivenOutside, Drives}
 use Rattle.fab_meaning.specs.Runs.{clock_name}
-use Rattle.fab_meaning.specs.Loading.{strobe_name, data_name, IsStream}
+use Rattle.fab_meaning.specs.Loading.{IsStream, write_strobe_name, write_data_name}
 use Rattle.fab_equations.specs.Equations.{IsPoint}
-use Rattle.fab_load_points.specs.Causes.{StandsFor, IsFirstOf, IsStreamOf}
+use Rattle.fab_load_points.specs.inner.Causes.{StandsFor, IsFirstOf, IsStreamOf}
 use Rattle.fab_load_points.specs.declared.stream.Stream.{Stream}
 use Rattle.fab_load_points.proofs.Names.{point_declared, one_point, one_number, is_first}
 
@@ -58,8 +58,8 @@ module _ (text : List PlainModule) (sound : IsSound text) where
           elim one [
             | inl clock ↦ inl (named_so clock_name stream.clock of.clock clock)
             | inr other ↦ elim other [
-              | inl strobe ↦ inr (inl (named_so strobe_name stream.strobe of.strobe strobe))
-              | inr bits ↦ inr (inr (named_so data_name stream.«data» of.bits bits))
+              | inl strobe ↦ inr (inl (named_so write_strobe_name stream.strobe of.strobe strobe))
+              | inr bits ↦ inr (inr (named_so write_data_name stream.«data» of.bits bits))
             ]
           ];
     }
@@ -74,7 +74,7 @@ module _ (text : List PlainModule) (sound : IsSound text) where
         elim is.named [
           | inl clock ↦ inl (known_so clock_name stream.clock of.clock is.input.top clock)
           | inr other ↦ elim other [
-            | inl strobe ↦ inr (inl (known_so strobe_name stream.strobe of.strobe is.input.top strobe))
-            | inr bits ↦ inr (inr (known_so data_name stream.«data» of.bits is.input.top bits))
+            | inl strobe ↦ inr (inl (known_so write_strobe_name stream.strobe of.strobe is.input.top strobe))
+            | inr bits ↦ inr (inr (known_so write_data_name stream.«data» of.bits is.input.top bits))
           ]
         ]

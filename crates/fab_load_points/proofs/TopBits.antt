@@ -5,7 +5,7 @@ use Rattle.fab_syntax.specs.Plain.{PlainModule}
 use Rattle.fab_syntax.specs.Sound.{IsSound}
 use Rattle.fab_meaning.specs.Points.{Point, point, outside, Drives}
 use Rattle.fab_meaning.specs.Runs.{clock_name}
-use Rattle.fab_meaning.specs.Loading.{strobe_name, data_name, IsStream}
+use Rattle.fab_meaning.specs.Loading.{IsStream, write_strobe_name, write_data_name}
 use Rattle.fab_values.specs.Declarations.{declarations, found_in}
 use Rattle.fab_values.specs.declared.names.Local.{Local}
 use Rattle.fab_equations.specs.Instances.{Instance, instances, points}
@@ -16,7 +16,7 @@ use Rattle.fab_equations.proofs.Numbering.{same_value}
 use Rattle.fab_equations.proofs.Paths.{paths_differ, top_path}
 use Rattle.fab_equations.proofs.Places.{names_have_points}
 use Rattle.fab_equations.proofs.Points.{point_at}
-use Rattle.fab_load_points.specs.Causes.{IsTopBit}
+use Rattle.fab_load_points.specs.inner.Causes.{IsTopBit}
 use Rattle.fab_load_points.proofs.Names.{some_mapped, none_mapped, point_declared}
 use Rattle.fab_load_points.proofs.Streams.{driven_outside}
 
@@ -80,7 +80,7 @@ module _ (text : List PlainModule) (sound : IsSound text) (i : Instance) (is : I
 
 module _ (text : List PlainModule) (sound : IsSound text) (number : ℕ) (p : Point) (is : IsPoint text number p) where
   abbrev pub Carries : Type 0
-  Carries = IsTopBit text clock_name number ⊎ (IsTopBit text strobe_name number ⊎ IsTopBit text data_name number)
+  Carries = IsTopBit text clock_name number ⊎ (IsTopBit text write_strobe_name number ⊎ IsTopBit text write_data_name number)
 
   named_so : (name : List ℕ) → IsTopBit text name number → p.name ≡ name
   named_so name top = ap (λ (q : Point). q.name) (same_value _ p (point [] name top.0) is top.1)
@@ -92,7 +92,7 @@ module _ (text : List PlainModule) (sound : IsSound text) (number : ℕ) (p : Po
     named =
         elim one [
           | inl clock ↦ inl (named_so clock_name clock)
-          | inr other ↦ elim other [ inl strobe ↦ inr (inl (named_so strobe_name strobe)) | inr bits ↦ inr (inr (named_so data_name bits)) ]
+          | inr other ↦ elim other [ inl strobe ↦ inr (inl (named_so write_strobe_name strobe)) | inr bits ↦ inr (inr (named_so write_data_name bits)) ]
         ];
   }
 
@@ -106,7 +106,7 @@ module _ (text : List PlainModule) (sound : IsSound text) (number : ℕ) (p : Po
       elim stream.named [
         | inl clock ↦ inl (bit_so clock_name stream.input.top clock)
         | inr other ↦ elim other [
-          | inl strobe ↦ inr (inl (bit_so strobe_name stream.input.top strobe))
-          | inr bits ↦ inr (inr (bit_so data_name stream.input.top bits))
+          | inl strobe ↦ inr (inl (bit_so write_strobe_name stream.input.top strobe))
+          | inr bits ↦ inr (inr (bit_so write_data_name stream.input.top bits))
         ]
       ]

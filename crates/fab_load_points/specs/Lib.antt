@@ -1,5 +1,2 @@
-pub mod Causes
-pub mod Search
-pub mod Flops
 pub mod Registers
-pub mod Points
+pub mod inner

@@ -1,16 +1,7 @@
 -- Drivers that keep a value.
 use Rattle.std.specs.Prelude.{Bool, false}
-use Rattle.fab_meaning.specs.Points.{Driver, outside, copy, bit_of, flop, hold}
 use Rattle.fab_equations.specs.declared.driver.Driver.{Driver as NumberedDriver}
 use Rattle.fab_equations.specs.declared.driver.Driver.TheVariants as by_number
-
--- a flip-flop or a latch
-abbrev pub IsStored : Driver → Type 0
-IsStored outside = ⊥
-IsStored (copy other) = ⊥
-IsStored (bit_of path e bit) = ⊥
-IsStored (flop path clock next bit) = Unit {0}
-IsStored (hold path gate e bit) = Unit {0}
 
 -- a mark, but of flip-flops and latches alone
 abbrev pub stored_mark : (mark : Bool) → NumberedDriver → Bool

@@ -9,7 +9,7 @@ ghost use Rattle.fab_meaning.specs.Reads.{expression_reads, mentions, some_menti
 ghost use Rattle.fab_equations.specs.Instances.{Instance, instances, points};
 ghost use Rattle.fab_equations.specs.Numbering.{IsNumbered};
 ghost use Rattle.fab_equations.specs.Equations.{IsSource};
-ghost use Rattle.fab_load_points.specs.Causes.{AddsNames, AreReads, IsCause, IsWithin, StandsFor};
+ghost use Rattle.fab_load_points.specs.inner.Causes.{AddsNames, AreReads, IsCause, IsWithin, StandsFor};
 
 use crate::stream::first_point;
 use fab_base::{Memory, Name};

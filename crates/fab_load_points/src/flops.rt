@@ -5,9 +5,9 @@ ghost use Rattle.fab_syntax.specs.Plain.{plain_text};
 ghost use Rattle.fab_syntax.specs.Sound.{IsSound};
 ghost use Rattle.fab_meaning.specs.Points.{Point};
 ghost use Rattle.fab_equations.specs.Instances.{points};
-ghost use Rattle.fab_load_points.specs.Causes.{IsStreamOf, StandsFor};
-ghost use Rattle.fab_load_points.specs.Search.{Scene, IsSearch};
-ghost use Rattle.fab_load_points.specs.Flops.{among, AreBegun, AreLoaderFlops, HoldsClosed, IsClosedSearch, IsLoaderFlop, IsLoaderPoint, Looks};
+ghost use Rattle.fab_load_points.specs.inner.Causes.{IsStreamOf, StandsFor};
+ghost use Rattle.fab_load_points.specs.inner.Search.{Scene, IsSearch};
+ghost use Rattle.fab_load_points.specs.inner.Flops.{among, AreBegun, AreLoaderFlops, HoldsClosed, IsClosedSearch, IsLoaderFlop, IsLoaderPoint, Looks};
 
 use crate::causes::source_reads;
 use crate::search::{Search, Status};

@@ -7,9 +7,9 @@ ghost use Rattle.fab_meaning.specs.Points.{Point};
 ghost use Rattle.fab_meaning.specs.Loading.{IsLoading};
 ghost use Rattle.fab_equations.specs.Instances.{points};
 ghost use Rattle.fab_equations.specs.Equations.{IsDriven, IsPoint};
-ghost use Rattle.fab_load_points.specs.Causes.{IsStreamOf};
-ghost use Rattle.fab_load_points.specs.Flops.{IsClosedSearch};
-ghost use Rattle.fab_load_points.specs.Points.{AreMarkedFrom, IsPointMark, bit_driven};
+ghost use Rattle.fab_load_points.specs.inner.Causes.{IsStreamOf};
+ghost use Rattle.fab_load_points.specs.inner.Flops.{IsClosedSearch};
+ghost use Rattle.fab_load_points.specs.inner.Points.{AreMarkedFrom, IsPointMark, bit_driven};
 
 use crate::flops::closed_search;
 use crate::search::Search;

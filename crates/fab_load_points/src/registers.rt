@@ -3,11 +3,11 @@
 ghost use Rattle.std.specs.Prelude.{◌≡◌, ◌↔◌, ℕ, Bool, Some, true, false, IfOk, length, slice_get};
 ghost use Rattle.fab_syntax.specs.Plain.{plain_text};
 ghost use Rattle.fab_syntax.specs.Sound.{IsSound};
-ghost use Rattle.fab_meaning.specs.Points.{Point, Driver as MeantDriver, Drives};
+ghost use Rattle.fab_meaning.specs.Points.{Point, Driver as MeantDriver, Drives, IsStored};
 ghost use Rattle.fab_meaning.specs.Loading.{IsLoading};
 ghost use Rattle.fab_equations.specs.Instances.{points};
 ghost use Rattle.fab_equations.specs.Equations.{IsPoint};
-ghost use Rattle.fab_load_points.specs.Registers.{IsStored, stored_mark};
+ghost use Rattle.fab_load_points.specs.Registers.{stored_mark};
 
 use crate::points::loading_points;
 use fab_base::Memory;

@@ -5,8 +5,8 @@ ghost use Rattle.fab_syntax.specs.Plain.{PlainModule, plain_text};
 ghost use Rattle.fab_syntax.specs.Sound.{IsSound};
 ghost use Rattle.fab_meaning.specs.Points.{Point};
 ghost use Rattle.fab_equations.specs.Instances.{points};
-ghost use Rattle.fab_load_points.specs.Causes.{IsStreamOf, StandsFor};
-ghost use Rattle.fab_load_points.specs.Search.{Scene, AreBelow, IsSearch, given_up, entered, with_next, new_count, told, Opens};
+ghost use Rattle.fab_load_points.specs.inner.Causes.{IsStreamOf, StandsFor};
+ghost use Rattle.fab_load_points.specs.inner.Search.{Scene, AreBelow, IsSearch, given_up, entered, with_next, new_count, told, Opens};
 
 use crate::causes::{Cause, cause_of};
 use crate::stream::Stream;

@@ -4,11 +4,11 @@ ghost use Rattle.std.specs.Prelude.{◌≡◌, ◌⊎◌, ◌↔◌, ◌+◌, �
 ghost use Rattle.fab_syntax.specs.Declarations.{width};
 ghost use Rattle.fab_syntax.specs.Plain.{plain_text};
 ghost use Rattle.fab_syntax.specs.Sound.{IsSound};
-ghost use Rattle.fab_meaning.specs.Loading.{data_name, strobe_name};
+ghost use Rattle.fab_meaning.specs.Loading.{write_data_name, write_strobe_name};
 ghost use Rattle.fab_meaning.specs.Runs.{clock_name};
 ghost use Rattle.fab_equations.specs.Instances.{Instance, instances};
 ghost use Rattle.fab_equations.specs.Numbering.{IsNumbered};
-ghost use Rattle.fab_load_points.specs.Causes.{IsFirstOf, IsStreamOf, IsTopBit};
+ghost use Rattle.fab_load_points.specs.inner.Causes.{IsFirstOf, IsStreamOf, IsTopBit};
 
 use fab_equations::{Declared, Equations};
 use fab_values::bits_of_shape;
@@ -46,8 +46,8 @@ impl Stream {
 /// Whether a point is a bit of one of them.
 pub fn carries_words(equations: &Equations, number: u32) -> bool
     requires { IsSound (plain_text equations.now) }
-    ensures { IsTrue result ↔ (IsTopBit (plain_text equations.now) clock_name number ⊎ (IsTopBit (plain_text equations.now) strobe_name number
-        ⊎ IsTopBit (plain_text equations.now) data_name number)) }
+    ensures { IsTrue result ↔ (IsTopBit (plain_text equations.now) clock_name number ⊎ (IsTopBit (plain_text equations.now) write_strobe_name number
+        ⊎ IsTopBit (plain_text equations.now) write_data_name number)) }
 {
     is_top_bit(equations, b"CLK", number)
         || is_top_bit(equations, b"WriteStrobe", number)

@@ -2,13 +2,13 @@
 use Rattle.std.proofs.Common.{◌≡◌, ℕ, zero, suc, Bool, true, false, not, ◌&&◌, List, length, Contains, Option, Some, None, refl, sym, ap, ◌∙◌, subst, inl, inr, arith}
 use Rattle.std.proofs.lemmas.Bool.{cases_Bool, false≢true, and_parts, and_from, not-true, not_from_false}
 use Rattle.std.proofs.lemmas.Slice.Eq.{bytes_eq-Decides}
-use Rattle.fab_syntax.specs.Plain.{PlainModule}
+use Rattle.fab_equations.specs.fab_syntax.specs.Plain.{PlainModule}
 use Rattle.fab_systems.specs.System.{AreListed}
-use Rattle.fab_meaning.specs.Points.{Point, Driver, outside, copy, bit_of, flop, hold, Drives}
-use Rattle.fab_meaning.specs.Reads.{is_declared, reads, next_reads}
-use Rattle.fab_meaning.specs.Runs.{clock_of, is_clock, clock_name}
-use Rattle.fab_meaning.specs.Loading.{Within, IsClosedAt, IsClosed, IsLoading}
-use Rattle.fab_meaning.specs.Ranked.{AreDrivenBy, AreRanked}
+use Rattle.fab_equations.specs.fab_meaning.specs.Points.{Point, Driver, outside, copy, bit_of, flop, hold, Drives}
+use Rattle.fab_equations.specs.fab_meaning.specs.Reads.{is_declared, reads, next_reads}
+use Rattle.fab_equations.specs.fab_meaning.specs.Runs.{clock_of, is_clock, clock_name}
+use Rattle.fab_equations.specs.fab_meaning.specs.Loading.{Within, IsClosedAt, IsClosed, IsLoading}
+use Rattle.fab_equations.specs.fab_meaning.specs.Ranked.{AreDrivenBy, AreRanked}
 use Rattle.fab_load_runs.specs.Runs.{Decides}
 use Rattle.fab_load_runs.proofs.Growing.{IsPart, stage, Grows, entry_within, rests}
 use Rattle.fab_load_runs.proofs.Inside.{all_inside, inside_has, inside_from}

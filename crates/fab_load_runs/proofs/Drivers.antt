@@ -1,12 +1,12 @@
 -- The drivers of the declared points of a sound text, as one function.
 use Rattle.std.proofs.Common.{◌≡◌, Bool, true, false, List, refl}
 use Rattle.std.proofs.lemmas.Bool.{false≢true}
-use Rattle.fab_syntax.specs.Plain.{PlainModule}
-use Rattle.fab_syntax.specs.Sound.{IsSound}
-use Rattle.fab_meaning.specs.Points.{Point, Driver, outside, Drives}
-use Rattle.fab_meaning.specs.Reads.{is_declared}
-use Rattle.fab_meaning.specs.Ranked.{AreDrivenBy}
-use Rattle.fab_meaning.proofs.SoundDrivers.{has_one_driver}
+use Rattle.fab_equations.specs.fab_syntax.specs.Plain.{PlainModule}
+use Rattle.fab_equations.specs.fab_syntax.specs.Sound.{IsSound}
+use Rattle.fab_equations.specs.fab_meaning.specs.Points.{Point, Driver, outside, Drives}
+use Rattle.fab_equations.specs.fab_meaning.specs.Reads.{is_declared}
+use Rattle.fab_equations.specs.fab_meaning.specs.Ranked.{AreDrivenBy}
+use Rattle.fab_equations.specs.fab_meaning.proofs.SoundDrivers.{has_one_driver}
 
 module _ (text : List PlainModule) (sound : IsSound text) where
   -- other points have none that matters

@@ -3,16 +3,16 @@ use Rattle.std.proofs.Common.{◌≡◌, ℕ, zero, suc, ◌<◌, Bool, true, fa
 use Rattle.std.specs.Str.{bytes_eq}
 use Rattle.std.proofs.lemmas.Bool.{false≢true, and_parts, and_from, or_cases, or_left, or_right}
 use Rattle.std.proofs.lemmas.Slice.Eq.{bytes_eq-Decides}
-use Rattle.fab_syntax.specs.Plain.{PlainExpr, PlainModule}
-use Rattle.fab_syntax.specs.Declarations.{is_input_of}
+use Rattle.fab_equations.specs.fab_syntax.specs.Plain.{PlainExpr, PlainModule}
+use Rattle.fab_equations.specs.fab_syntax.specs.Declarations.{is_input_of}
 use Rattle.fab_systems.specs.System.{AreListed}
-use Rattle.fab_meaning.specs.Points.{Path, Point, Driver, outside, copy, bit_of, flop, hold, module_at}
-use Rattle.fab_meaning.specs.Reads.{mentions, same_path, is_declared, expression_reads, reads}
-use Rattle.fab_meaning.specs.Runs.{clock_name}
-use Rattle.fab_meaning.specs.Loading.{strobe_name, data_name, IsStream, IsDerived, Within, by_flop, by_stream, by_reads}
-use Rattle.fab_meaning.specs.Ranked.{AreDrivenBy}
-use Rattle.fab_meaning.proofs.Dependence.{same_point_is}
-use Rattle.fab_meaning.proofs.SoundTexts.{contains_first, same_names}
+use Rattle.fab_equations.specs.fab_meaning.specs.Points.{Path, Point, Driver, outside, copy, bit_of, flop, hold, module_at}
+use Rattle.fab_equations.specs.fab_meaning.specs.Reads.{mentions, same_path, is_declared, expression_reads, reads}
+use Rattle.fab_equations.specs.fab_meaning.specs.Runs.{clock_name}
+use Rattle.fab_equations.specs.fab_meaning.specs.Loading.{IsStream, IsDerived, Within, by_flop, by_stream, by_reads, write_strobe_name, write_data_name}
+use Rattle.fab_equations.specs.fab_meaning.specs.Ranked.{AreDrivenBy}
+use Rattle.fab_equations.specs.fab_meaning.proofs.Dependence.{same_point_is}
+use Rattle.fab_equations.specs.fab_meaning.proofs.SoundTexts.{contains_first, same_names}
 use Rattle.fab_load_runs.proofs.Growing.{stage, entry, Grows, comes_before, rests}
 use Rattle.fab_load_runs.proofs.Inside.{all_inside, inside_has, inside_from, inside_grows}
 
@@ -27,7 +27,7 @@ top_is [] h = refl
 top_is (name ∷ path) h = absurd (false≢true h)
 
 abbrev is_stream_name : List ℕ → Bool
-is_stream_name name = bytes_eq name clock_name || (bytes_eq name strobe_name || bytes_eq name data_name)
+is_stream_name name = bytes_eq name clock_name || (bytes_eq name write_strobe_name || bytes_eq name write_data_name)
 
 abbrev is_stream : List PlainModule → Point → Bool
 is_stream text p = is_top p.path && (is_input_of (module_at text []) p.name && (is_declared text p && is_stream_name p.name))
@@ -41,11 +41,11 @@ stream_from text p h =
       input = record { top = top_is p.path top.0; input = input.0; is = refl };
       declared = declared.0;
       named =
-          elim (or_cases (bytes_eq p.name clock_name) (bytes_eq p.name strobe_name || bytes_eq p.name data_name) declared.1) [
+          elim (or_cases (bytes_eq p.name clock_name) (bytes_eq p.name write_strobe_name || bytes_eq p.name write_data_name) declared.1) [
             | inl clock ↦ inl (same_names p.name clock_name clock)
-            | inr other ↦ elim (or_cases (bytes_eq p.name strobe_name) (bytes_eq p.name data_name) other) [
-              | inl strobe ↦ inr (inl (same_names p.name strobe_name strobe))
-              | inr bits ↦ inr (inr (same_names p.name data_name bits))
+            | inr other ↦ elim (or_cases (bytes_eq p.name write_strobe_name) (bytes_eq p.name write_data_name) other) [
+              | inl strobe ↦ inr (inl (same_names p.name write_strobe_name strobe))
+              | inr bits ↦ inr (inr (same_names p.name write_data_name bits))
             ]
           ];
     }
@@ -53,11 +53,11 @@ stream_from text p h =
 stream_named : (text : List PlainModule) (p : Point) → IsStream text p → is_stream_name p.name ≡ true
 stream_named text p is =
     elim is.named [
-      | inl clock ↦ or_left (bytes_eq p.name clock_name) (bytes_eq p.name strobe_name || bytes_eq p.name data_name) ((bytes_eq-Decides p.name clock_name).1 clock)
-      | inr other ↦ or_right (bytes_eq p.name clock_name) (bytes_eq p.name strobe_name || bytes_eq p.name data_name)
+      | inl clock ↦ or_left (bytes_eq p.name clock_name) (bytes_eq p.name write_strobe_name || bytes_eq p.name write_data_name) ((bytes_eq-Decides p.name clock_name).1 clock)
+      | inr other ↦ or_right (bytes_eq p.name clock_name) (bytes_eq p.name write_strobe_name || bytes_eq p.name write_data_name)
           (elim other [
-            | inl strobe ↦ or_left (bytes_eq p.name strobe_name) (bytes_eq p.name data_name) ((bytes_eq-Decides p.name strobe_name).1 strobe)
-            | inr bits ↦ or_right (bytes_eq p.name strobe_name) (bytes_eq p.name data_name) ((bytes_eq-Decides p.name data_name).1 bits)
+            | inl strobe ↦ or_left (bytes_eq p.name write_strobe_name) (bytes_eq p.name write_data_name) ((bytes_eq-Decides p.name write_strobe_name).1 strobe)
+            | inr bits ↦ or_right (bytes_eq p.name write_strobe_name) (bytes_eq p.name write_data_name) ((bytes_eq-Decides p.name write_data_name).1 bits)
           ])
     ]
 

@@ -4,16 +4,16 @@ use Rattle.std.specs.Str.{bytes_eq}
 use Rattle.std.proofs.lemmas.Bool.{cases_Bool, false≢true}
 use Rattle.std.proofs.lemmas.List.Elements.{All-head, All-map, All-tail}
 use Rattle.std.proofs.lemmas.Slice.Eq.{bytes_eq-Decides}
-use Rattle.fab_syntax.specs.Plain.{PlainModule}
-use Rattle.fab_syntax.specs.Declarations.{is_input_of}
-use Rattle.fab_meaning.specs.Value.{bit_at}
-use Rattle.fab_meaning.specs.Points.{Point, point, Driver, outside, flop, IsDrivenOutside, module_at}
-use Rattle.fab_meaning.specs.Settled.{Assignment, IsSettledOn}
-use Rattle.fab_meaning.specs.Reads.{is_declared}
-use Rattle.fab_meaning.specs.Runs.{kept, clock_name, user_clock_name, AreClocksLow, Moment, IsRunOn}
-use Rattle.fab_meaning.specs.Loading.{strobe_name, data_name, IsStream, IsDerived, Within, by_flop, by_stream, by_reads, IsClosed, IsLoading, OffersWord, OfferWords, Loads}
-use Rattle.fab_meaning.specs.Ranked.{AreDrivenBy, AreRanked}
-use Rattle.fab_meaning.proofs.Settling.{some_settled}
+use Rattle.fab_equations.specs.fab_syntax.specs.Plain.{PlainModule}
+use Rattle.fab_equations.specs.fab_syntax.specs.Declarations.{is_input_of}
+use Rattle.fab_equations.specs.fab_meaning.specs.Value.{bit_at}
+use Rattle.fab_equations.specs.fab_meaning.specs.Points.{Point, point, Driver, outside, flop, IsDrivenOutside, module_at}
+use Rattle.fab_equations.specs.fab_meaning.specs.Settled.{Assignment, IsSettledOn}
+use Rattle.fab_equations.specs.fab_meaning.specs.Reads.{is_declared}
+use Rattle.fab_equations.specs.fab_meaning.specs.Runs.{kept, clock_name, user_clock_name, AreClocksLow, Moment, IsRunOn}
+use Rattle.fab_equations.specs.fab_meaning.specs.Loading.{IsStream, IsDerived, Within, by_flop, by_stream, by_reads, IsClosed, IsLoading, OffersWord, OfferWords, Loads, write_strobe_name, write_data_name}
+use Rattle.fab_equations.specs.fab_meaning.specs.Ranked.{AreDrivenBy, AreRanked}
+use Rattle.fab_equations.specs.fab_meaning.proofs.Settling.{some_settled}
 use Rattle.fab_load_runs.specs.Runs.{Decides, HasClocks, IsClockLow}
 
 within_declared : (text : List PlainModule) (flops : Point → Bool) (p : Point) → Within text flops p → is_declared text p ≡ true
@@ -31,7 +31,7 @@ apart a b f e = false≢true (sym f ∙ (bytes_eq-Decides a b).1 e)
 -- ---- the inputs that offer a word
 
 abbrev offered : (word : List Bool) → Assignment
-offered word p = bytes_eq p.name strobe_name || (bytes_eq p.name data_name && bit_at word p.bit)
+offered word p = bytes_eq p.name write_strobe_name || (bytes_eq p.name write_data_name && bit_at word p.bit)
 
 word_offered : (word : List Bool) → OffersWord word (offered word)
 word_offered word = record { strobe = refl; bits = λ bit. refl }
@@ -78,8 +78,8 @@ module _ (text : List PlainModule) (clocks : HasClocks text) (driver : Point →
       elim is.named [
         | inl clock ↦ apart user_clock_name clock_name refl clock
         | inr other ↦ elim other [
-          | inl strobe ↦ apart user_clock_name strobe_name refl strobe
-          | inr bits ↦ apart user_clock_name data_name refl bits
+          | inl strobe ↦ apart user_clock_name write_strobe_name refl strobe
+          | inr bits ↦ apart user_clock_name write_data_name refl bits
         ]
       ]
 

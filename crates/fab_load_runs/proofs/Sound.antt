@@ -1,14 +1,14 @@
 -- The laws, for sound texts: their points stand on a list, and each has one driver.
 use Rattle.std.proofs.Common.{suc, Bool, List, length, All}
-use Rattle.fab_syntax.specs.Plain.{PlainModule}
-use Rattle.fab_syntax.specs.Sound.{IsSound}
+use Rattle.fab_equations.specs.fab_syntax.specs.Plain.{PlainModule}
+use Rattle.fab_equations.specs.fab_syntax.specs.Sound.{IsSound}
 use Rattle.fab_systems.specs.System.{AreListed}
-use Rattle.fab_meaning.specs.Points.{Point, Driver}
-use Rattle.fab_meaning.specs.Settled.{Assignment}
-use Rattle.fab_meaning.specs.Reads.{is_declared}
-use Rattle.fab_meaning.specs.Runs.{Moment, IsRunOn}
-use Rattle.fab_meaning.specs.Loading.{IsLoading, Loads}
-use Rattle.fab_meaning.specs.Ranked.{AreDrivenBy}
+use Rattle.fab_equations.specs.fab_meaning.specs.Points.{Point, Driver}
+use Rattle.fab_equations.specs.fab_meaning.specs.Settled.{Assignment}
+use Rattle.fab_equations.specs.fab_meaning.specs.Reads.{is_declared}
+use Rattle.fab_equations.specs.fab_meaning.specs.Runs.{Moment, IsRunOn}
+use Rattle.fab_equations.specs.fab_meaning.specs.Loading.{IsLoading, Loads}
+use Rattle.fab_equations.specs.fab_meaning.specs.Ranked.{AreDrivenBy}
 use Rattle.fab_equations.specs.Instances.{points}
 use Rattle.fab_equations.proofs.Points.{declared_are_points}
 use Rattle.fab_load_runs.specs.Runs.{Decides, HasClocks, IsClockLow}

@@ -1,12 +1,12 @@
 -- Loading a sound text has a run, from whatever its flip-flops and latches hold.
 use Rattle.std.specs.Prelude.{◌≡◌, Bool, true, false, List, [], All}
-use Rattle.fab_syntax.specs.Declarations.{is_input_of}
-use Rattle.fab_syntax.specs.Plain.{PlainModule}
-use Rattle.fab_syntax.specs.Sound.{IsSound}
-use Rattle.fab_meaning.specs.Points.{Point, point, module_at}
-use Rattle.fab_meaning.specs.Settled.{Assignment}
-use Rattle.fab_meaning.specs.Runs.{clock_name, user_clock_name, Moment, IsRunOn}
-use Rattle.fab_meaning.specs.Loading.{IsLoading, Loads}
+use Rattle.fab_equations.specs.fab_syntax.specs.Declarations.{is_input_of}
+use Rattle.fab_equations.specs.fab_syntax.specs.Plain.{PlainModule}
+use Rattle.fab_equations.specs.fab_syntax.specs.Sound.{IsSound}
+use Rattle.fab_equations.specs.fab_meaning.specs.Points.{Point, point, module_at}
+use Rattle.fab_equations.specs.fab_meaning.specs.Settled.{Assignment}
+use Rattle.fab_equations.specs.fab_meaning.specs.Runs.{clock_name, user_clock_name, Moment, IsRunOn}
+use Rattle.fab_equations.specs.fab_meaning.specs.Loading.{IsLoading, Loads}
 
 -- a set of points as a test
 pub record Decides (Has : Point → Type 0) (has : Point → Bool) : Type 0 where

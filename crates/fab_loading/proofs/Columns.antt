@@ -4,11 +4,11 @@ use Rattle.std.specs.List.{flat_map}
 use Rattle.std.proofs.lemmas.Bool.{ne_eqb, eq-eqb}
 use Rattle.std.proofs.lemmas.List.{map-append}
 use Rattle.fab_bits.specs.Bits.{number, digits}
-use Rattle.fab_model.specs.Tiles.{counted}
-use Rattle.fab_model.specs.Grid.{PlainFabric}
-use Rattle.fab_model.specs.Drive.{PlainBits}
-use Rattle.fab_meaning.specs.Value.{bit_at}
-use Rattle.fab_fabric.specs.Fabric.{IsFabric}
+use Rattle.fab_gen_loader.specs.fab_model.specs.Tiles.{counted}
+use Rattle.fab_gen_loader.specs.fab_model.specs.Grid.{PlainFabric}
+use Rattle.fab_gen_loader.specs.fab_model.specs.Drive.{PlainBits}
+use Rattle.fab_gen_loader.specs.fab_meaning.specs.Value.{bit_at}
+use Rattle.fab_frames.specs.fab_fabric.specs.Fabric.{IsFabric}
 use Rattle.fab_gen_loader.specs.Machine.{Machine, Word}
 use Rattle.fab_frames.specs.Stream.{Part, of_row, address_word, row_word, frame_parts, column_parts, word_of}
 use Rattle.fab_loading.specs.Latches.{LatchPlace, is_open, latch_shows}

@@ -1,7 +1,7 @@
 -- What the words of a frame leave: an open strobe with the frame's address and rows.
 use Rattle.std.proofs.Common.{◌≡◌, ℕ, zero, suc, ◌+◌, ◌%◌, ◌<◌, ◌≤◌, ◌∙◌, Bool, true, false, [], ◌∷◌, get_or, nat_eq, refl, sym, ap, ap₂, subst, arith}
 use Rattle.std.proofs.lemmas.Bool.{ne_eqb, eq-eqb}
-use Rattle.fab_model.specs.Tiles.{counted}
+use Rattle.fab_gen_loader.specs.fab_model.specs.Tiles.{counted}
 use Rattle.fab_gen_loader.specs.Machine.{Machine, Word, end_bit, tick, with_row}
 use Rattle.fab_loading.specs.Latches.{LatchPlace, latch_shows}
 use Rattle.fab_loading.proofs.Runs.{after_words, latch_after_words}

@@ -4,10 +4,10 @@ use Rattle.std.specs.List.{flat_map}
 use Rattle.std.specs.Option.{option_map_or}
 use Rattle.std.proofs.lemmas.List.{map-append}
 use Rattle.fab_bits.specs.Bits.{digits}
-use Rattle.fab_model.specs.Tiles.{counted}
-use Rattle.fab_model.specs.Grid.{PlainFabric}
-use Rattle.fab_model.specs.Drive.{PlainBits}
-use Rattle.fab_fabric.specs.Fabric.{IsFabric}
+use Rattle.fab_gen_loader.specs.fab_model.specs.Tiles.{counted}
+use Rattle.fab_gen_loader.specs.fab_model.specs.Grid.{PlainFabric}
+use Rattle.fab_gen_loader.specs.fab_model.specs.Drive.{PlainBits}
+use Rattle.fab_frames.specs.fab_fabric.specs.Fabric.{IsFabric}
 use Rattle.fab_gen_loader.specs.Machine.{Machine, Word, tick}
 use Rattle.fab_frames.specs.Stream.{Part, fixed, waiting_word, header, column_parts, word_of, parts, stream, bit_placed_at, word_bit}
 use Rattle.fab_frames.proofs.Words.{bit_of_word}

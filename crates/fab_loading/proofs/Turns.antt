@@ -1,9 +1,9 @@
 -- Turns without words, between words, change nothing of what the words leave.
 use Rattle.std.proofs.Common.{◌≡◌, ℕ, Bool, true, false, List, [], ◌∷◌, refl, sym, ap, ◌∙◌, inl, inr}
 use Rattle.std.proofs.lemmas.Bool.{cases_Bool, false≢true}
-use Rattle.fab_model.specs.Grid.{PlainFabric}
-use Rattle.fab_model.specs.Drive.{PlainBits}
-use Rattle.fab_fabric.specs.Fabric.{IsFabric}
+use Rattle.fab_gen_loader.specs.fab_model.specs.Grid.{PlainFabric}
+use Rattle.fab_gen_loader.specs.fab_model.specs.Drive.{PlainBits}
+use Rattle.fab_frames.specs.fab_fabric.specs.Fabric.{IsFabric}
 use Rattle.fab_gen_loader.specs.Machine.{Machine, Word, take_word, tick}
 use Rattle.fab_loading.specs.Latches.{IsMachine, LatchPlace, Turn, word, pause, other_clock, words_of, after_turns, is_open, latch_shows, latch_after}
 use Rattle.fab_loading.specs.Streams.{stream_words, IsLoaded}

@@ -2,7 +2,7 @@
 -- frame is 1. Between words the clocks may tick as they like.
 use Rattle.std.specs.Prelude.{◌≡◌, ◌<◌, ℕ, Bool, true, false, ◌&&◌, List, [], ◌∷◌, All, length, nat_eq, slice_range, slice_index_or, if◌then◌else◌}
 use Rattle.fab_bits.specs.Bits.{number}
-use Rattle.fab_meaning.specs.Value.{bit_at}
+use Rattle.fab_gen_loader.specs.fab_meaning.specs.Value.{bit_at}
 use Rattle.fab_gen_loader.specs.Machine.{Machine, Word, tick}
 
 abbrev pub IsWord : Word → Type 0

@@ -1,2 +1,3 @@
 pub mod Latches
 pub mod Streams
+pub use Rattle.fab_frames

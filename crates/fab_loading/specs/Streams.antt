@@ -1,9 +1,9 @@
 -- What the words of a bitstream leave in the loader and in the configuration latches, however the clocks tick between them.
 use Rattle.std.specs.Prelude.{◌≡◌, ◌<◌, ℕ, Bool, false, List, map, Some}
 use Rattle.fab_bits.specs.Bits.{digits}
-use Rattle.fab_model.specs.Grid.{PlainFabric}
-use Rattle.fab_model.specs.Drive.{PlainBits}
-use Rattle.fab_fabric.specs.Fabric.{IsFabric}
+use Rattle.fab_gen_loader.specs.fab_model.specs.Grid.{PlainFabric}
+use Rattle.fab_gen_loader.specs.fab_model.specs.Drive.{PlainBits}
+use Rattle.fab_frames.specs.fab_fabric.specs.Fabric.{IsFabric}
 use Rattle.fab_gen_loader.specs.Machine.{Machine, Word, tick}
 use Rattle.fab_frames.specs.Stream.{stream, bit_placed_at}
 use Rattle.fab_loading.specs.Latches.{IsWord, IsMachine, LatchPlace, Turn, words_of, after_turns, latch_after}

@@ -13,7 +13,7 @@ use Rattle.fab_legal.specs.Legal.{ArePlaced}
 use Rattle.fab_ways.specs.Routing.{Paths}
 use Rattle.fab_ways.specs.Trees.{trees_of, with_trees}
 use Rattle.fab_ways.proofs.Legal.{HasLast, last_round}
-use Rattle.fab_impl.specs.Spelled.{InputsWithin}
+use Rattle.fab_implementation.specs.Inputs.{InputsAreLines}
 use Rattle.fab_route.specs.Answers.{AreRouted, IsOverused}
 use Rattle.fab_map.proofs.There.{net_there, wire_there, trees_on_fabric, trees_of_inputs, told_last}
 
@@ -32,9 +32,9 @@ module _ (fabric : PlainFabric) (tiles : AreTiles fabric) (packed : PlainPacked)
       subst (IsOnFabric fabric) (sym same) (with_last are.last (last_round fabric packed i are.run are.some_rounds) trees are.trees_are)
 
   -- and an input's net is that of one of its lines
-  pub routed_inputs : (allowed : ℕ) (trees : List PlainTree) (done : PlainImplementation) → AreRouted fabric packed i allowed trees → done ≡ with_trees i trees → InputsWithin done
+  pub routed_inputs : (allowed : ℕ) (trees : List PlainTree) (done : PlainImplementation) → AreRouted fabric packed i allowed trees → done ≡ with_trees i trees → InputsAreLines done
   routed_inputs allowed trees done are same =
-      subst InputsWithin (sym (same ∙ ap (with_trees i) are.trees_are)) (trees_of_inputs fabric tiles packed i made placed are.last (last_round fabric packed i are.run are.some_rounds))
+      subst InputsAreLines (sym (same ∙ ap (with_trees i) are.trees_are)) (trees_of_inputs fabric tiles packed i made placed are.last (last_round fabric packed i are.run are.some_rounds))
 
   -- ---- after all rounds
 
@@ -64,5 +64,5 @@ module _ (fabric : PlainFabric) (tiles : AreTiles fabric) (packed : PlainPacked)
         pub reached_on_fabric : IsOnFabric fabric reached
         reached_on_fabric = subst (IsOnFabric fabric) (sym same) (with_last over.last has_last trees trees_are)
 
-        pub reached_inputs : InputsWithin reached
-        reached_inputs = subst InputsWithin (sym reached_is) (trees_of_inputs fabric tiles packed i made placed over.last has_last)
+        pub reached_inputs : InputsAreLines reached
+        reached_inputs = subst InputsAreLines (sym reached_is) (trees_of_inputs fabric tiles packed i made placed over.last has_last)

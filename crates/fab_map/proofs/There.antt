@@ -39,7 +39,7 @@ use Rattle.fab_ways.proofs.Legal.{HasLast}
 use Rattle.fab_ways.proofs.Lists.{from_filter}
 use Rattle.fab_ways.proofs.NetTrees.{net_known, from_trees}
 use Rattle.fab_ways.proofs.Walks.{in_has}
-use Rattle.fab_impl.specs.Spelled.{IsInput}
+use Rattle.fab_implementation.specs.Inputs.{NamesInput}
 use Rattle.fab_route.specs.Answers.{HasWire}
 
 module _ (fabric : PlainFabric) (tiles : AreTiles fabric) (packed : PlainPacked) (i : PlainImplementation) (made : IsWellMadePacked packed) (placed : ArePlaced fabric packed i) where
@@ -119,7 +119,7 @@ module _ (fabric : PlainFabric) (tiles : AreTiles fabric) (packed : PlainPacked)
   ]
 
   -- the line of an input
-  input_there : (net : NetId) → IsNetId packed net → IsInput (length i.ins) (by_line packed i net)
+  input_there : (net : NetId) → IsNetId packed net → NamesInput (length i.ins) (by_line packed i net)
   input_there ids.Zero known = tt
   input_there ids.One known = tt
   input_there (ids.In k) known =
@@ -139,10 +139,10 @@ module _ (fabric : PlainFabric) (tiles : AreTiles fabric) (packed : PlainPacked)
         (has_last.is_round.each found.place found.net found.paths found.net_at found.paths_at) edge at)))
 
     -- and an input's net is that of one of its lines
-    pub trees_of_inputs : All (λ (tree : PlainTree). IsInput (length i.ins) tree.net) (trees_of packed i last)
-    trees_of_inputs = all_of (λ (tree : PlainTree). IsInput (length i.ins) tree.net) (trees_of packed i last) (λ tree here.
+    pub trees_of_inputs : All (λ (tree : PlainTree). NamesInput (length i.ins) tree.net) (trees_of packed i last)
+    trees_of_inputs = all_of (λ (tree : PlainTree). NamesInput (length i.ins) tree.net) (trees_of packed i last) (λ tree here.
         let found = from_trees (by_line packed i) (nets packed) last tree here in
-        subst (λ (t : PlainTree). IsInput (length i.ins) t.net) (sym found.tree_is) (input_there found.net (net_there found.net found.place found.net_at)))
+        subst (λ (t : PlainTree). NamesInput (length i.ins) t.net) (sym found.tree_is) (input_there found.net (net_there found.net found.place found.net_at)))
 
     -- a wire of a tree
     pub wire_there : (place wire : ℕ) (net : NetId) → IsAt (nets packed) place net → HasWire last place wire → IsThere wire

@@ -5,7 +5,7 @@ ghost use Rattle.fab_implementation.specs.OnFabric.{IsOnFabric};
 ghost use Rattle.fab_legal.specs.Legal.{IsLegal};
 ghost use Rattle.fab_ways.specs.Placing.{IsGoodPlacement};
 ghost use Rattle.fab_ways.specs.Mapping.{IsMapping};
-ghost use Rattle.fab_impl.specs.Spelled.{InputsWithin};
+ghost use Rattle.fab_implementation.specs.Inputs.{InputsAreLines};
 ghost use Rattle.fab_place.specs.Fixings.{AreFixed, Fits};
 ghost use Rattle.fab_map.specs.Causes.{HasMapCause};
 
@@ -41,7 +41,7 @@ pub fn map(
     ensures mapping { IfOk result (IsMapping fabric.now packed.now fixed.now rounds) }
     ensures legal { IfOk result (IsLegal fabric.now packed.now fixed.now) }
     ensures on_fabric { IfOk result (IsOnFabric fabric.now) }
-    ensures inputs { IfOk result InputsWithin }
+    ensures inputs { IfOk result InputsAreLines }
     ensures cause { IfErr result (HasMapCause fabric.now packed.now fixed.now rounds) }
 {
     map_with_progress(alloc, &mut Silent, fabric, packed, fixed, seed, rounds)
@@ -64,7 +64,7 @@ pub fn map_with_progress<P: Progress>(
     ensures mapping { IfOk result (IsMapping fabric.now packed.now fixed.now rounds) }
     ensures legal { IfOk result (IsLegal fabric.now packed.now fixed.now) }
     ensures on_fabric { IfOk result (IsOnFabric fabric.now) }
-    ensures inputs { IfOk result InputsWithin }
+    ensures inputs { IfOk result InputsAreLines }
     ensures cause { IfErr result (HasMapCause fabric.now packed.now fixed.now rounds) }
 {
     let first = attempt(alloc, progress, fabric, packed, fixed, seed, rounds);
@@ -92,12 +92,12 @@ fn again<P: Progress>(
     requires mapping { IfOk before (IsMapping fabric.now packed.now fixed.now rounds) }
     requires legal { IfOk before (IsLegal fabric.now packed.now fixed.now) }
     requires on_fabric { IfOk before (IsOnFabric fabric.now) }
-    requires inputs { IfOk before InputsWithin }
+    requires inputs { IfOk before InputsAreLines }
     requires cause { IfErr before (HasMapCause fabric.now packed.now fixed.now rounds) }
     ensures mapping { IfOk result (IsMapping fabric.now packed.now fixed.now rounds) }
     ensures legal { IfOk result (IsLegal fabric.now packed.now fixed.now) }
     ensures on_fabric { IfOk result (IsOnFabric fabric.now) }
-    ensures inputs { IfOk result InputsWithin }
+    ensures inputs { IfOk result InputsAreLines }
     ensures cause { IfErr result (HasMapCause fabric.now packed.now fixed.now rounds) }
 {
     match before {
@@ -123,7 +123,7 @@ fn attempt<P: Progress>(
     ensures mapping { IfOk result (IsMapping fabric.now packed.now fixed.now rounds) }
     ensures legal { IfOk result (IsLegal fabric.now packed.now fixed.now) }
     ensures on_fabric { IfOk result (IsOnFabric fabric.now) }
-    ensures inputs { IfOk result InputsWithin }
+    ensures inputs { IfOk result InputsAreLines }
     ensures cause { IfErr result (HasMapCause fabric.now packed.now fixed.now rounds) }
 {
     let placed = place_with_progress(alloc, progress, fabric, packed, fixed, seed)?;
@@ -148,11 +148,10 @@ fn routed_on<P: Progress>(
     ensures mapping { IfOk result (IsMapping fabric.now packed.now _fixed.now rounds) }
     ensures legal { IfOk result (IsLegal fabric.now packed.now _fixed.now) }
     ensures on_fabric { IfOk result (IsOnFabric fabric.now) }
-    ensures inputs { IfOk result InputsWithin }
+    ensures inputs { IfOk result InputsAreLines }
     ensures cause { IfErr result (HasMapCause fabric.now packed.now _fixed.now rounds) }
 {
-    // what holds of every fabric is a clause of this call
-    let _types = fabric.types();
+    fabric.is_well_made();
     match route_with_progress(alloc, progress, fabric, packed, &placed, rounds) {
         Ok(routed) => Ok(with_trees(placed, routed.trees)),
         Err(fault) => Err(fault_of(alloc, fabric, packed, _fixed, placed, fault, rounds)?),

@@ -69,7 +69,7 @@ fn no_path(
     requires cut_off { IsCutOff fabric.now packed.now placed net sink }
     ensures { IfOk result (HasMapCause fabric.now packed.now _fixed.now _rounds) }
 {
-    let _types = fabric.types();
+    fabric.is_well_made();
     let text = print_impl(alloc, fabric, &placed)?;
     let net = net_name(alloc, packed, net)?;
     let sink = wire_name(alloc, fabric, sink)?;
@@ -96,7 +96,7 @@ fn overused(
     requires overused { IsOverused fabric.now packed.now placed _rounds wire first second (plain_rounds rounds.items) }
     ensures { IfOk result (HasMapCause fabric.now packed.now _fixed.now _rounds) }
 {
-    let _types = fabric.types();
+    fabric.is_well_made();
     let reached = with_trees(placed, last_trees(rounds));
     let text = print_impl(alloc, fabric, &reached)?;
     let wire = wire_name(alloc, fabric, wire)?;

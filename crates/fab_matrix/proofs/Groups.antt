@@ -12,7 +12,8 @@ use Rattle.fab_select.specs.declared.pair.Pair.{Pair}
 use Rattle.fab_select.specs.Selection.{inputs_of, firsts, in_order, field_width, field_low, select_bits}
 use Rattle.fab_matrix.specs.Names.{Name}
 use Rattle.fab_matrix.specs.Matrix.{selection, output_value, numbered, named}
-use Rattle.fab_matrix.specs.Grouped.{numbers_of, group_at, width_at, low_at, name_at, item_of}
+use Rattle.fab_bits.specs.Keys.{group_at}
+use Rattle.fab_matrix.specs.inner.Grouped.{numbers_of, width_at, low_at, name_at, item_of}
 
 -- one pair more
 numbers_push : (pairs : List Pair) (pair : Pair) (output : ℕ) → numbers_of (pairs ++ pair ∷ []) output ≡ (numbers_of pairs output ++ cond (nat_eq pair.output output) (pair.input ∷ []) [])

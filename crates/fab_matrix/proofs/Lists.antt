@@ -12,10 +12,11 @@ use Rattle.std.proofs.lemmas.Slice.Eq.{bytes_eq-Decides}
 use Rattle.indexmap.proofs.CallerLemmas.{Contains-list_any}
 use Rattle.fab_select.specs.declared.pair.Pair.{Pair}
 use Rattle.fab_matrix.specs.Names.{Name}
-use Rattle.fab_matrix.specs.Matrix.{config_name, matrix, numbered, named, list_inputs, list_outputs, list_matrix}
+use Rattle.fab_meaning.specs.Ports.{config_name}
+use Rattle.fab_matrix.specs.Matrix.{matrix, numbered, named, list_inputs, list_outputs, list_matrix}
 use Rattle.fab_matrix.specs.Selects.{Selects}
-use Rattle.fab_matrix.specs.Grouped.{name_at}
-use Rattle.fab_matrix.specs.Numbering.{IsNumbered}
+use Rattle.fab_matrix.specs.inner.Grouped.{name_at}
+use Rattle.fab_matrix.specs.inner.Numbering.{IsNumbered}
 use Rattle.fab_select.proofs.Firsts.{told, same_itself, firsts_all, firsts_hold, firsts_distinct}
 use Rattle.fab_matrix.proofs.Renamed.{matrix_renamed}
 use Rattle.fab_matrix.proofs.Selecting.{matrix_selects}

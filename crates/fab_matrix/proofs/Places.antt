@@ -10,8 +10,9 @@ use Rattle.std.proofs.lemmas.Slice.Eq.{bytes_eq-Decides}
 use Rattle.indexmap.specs.IndexSet.{insert_key}
 use Rattle.fab_select.specs.declared.pair.Pair.{Pair}
 use Rattle.fab_matrix.specs.Names.{Name}
-use Rattle.fab_matrix.specs.Grouped.{name_at}
-use Rattle.fab_matrix.specs.Numbering.{key_names, IsNumbered}
+use Rattle.fab_matrix.specs.inner.Grouped.{name_at}
+use Rattle.fab_bits.specs.Keys.{key_names}
+use Rattle.fab_matrix.specs.inner.Numbering.{IsNumbered}
 use Rattle.fab_select.proofs.Firsts.{firsts_push}
 
 -- the names of keys after an insert

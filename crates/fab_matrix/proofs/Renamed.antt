@@ -9,7 +9,8 @@ use Rattle.fab_bits.specs.Widths.{select_width}
 use Rattle.fab_syntax.specs.Plain.{assign}
 use Rattle.fab_select.specs.Selection.{inputs_of, firsts, in_order, field_width, field_low, select_bits}
 use Rattle.fab_matrix.specs.Names.{Name}
-use Rattle.fab_matrix.specs.Matrix.{selection, output_value, scalar, config_port, matrix}
+use Rattle.fab_meaning.specs.Ports.{scalar, config_port}
+use Rattle.fab_matrix.specs.Matrix.{selection, output_value, matrix}
 use Rattle.fab_select.proofs.Firsts.{firsts_all}
 
 module _ {K L : Type 0} (P : K → Type 0) (same : K → K → Bool) (other_same : L → L → Bool) (other : K → L)

@@ -16,7 +16,8 @@ use Rattle.fab_meaning.specs.Settled.{Assignment, names_at}
 use Rattle.fab_meaning.proofs.Declared.{width_of_scalar, width_passed, bits_of_name}
 use Rattle.fab_select.specs.Selection.{inputs_of, field_width, field_low, select_bits}
 use Rattle.fab_matrix.specs.Names.{Name}
-use Rattle.fab_matrix.specs.Matrix.{config_name, field, selection, output_value, scalar, config_port, matrix}
+use Rattle.fab_meaning.specs.Ports.{config_name, scalar, config_port}
+use Rattle.fab_matrix.specs.Matrix.{field, selection, output_value, matrix}
 use Rattle.fab_matrix.specs.Selects.{select_value, chosen, Selects}
 use Rattle.fab_matrix.proofs.Chains.{one_only, selection_value}
 use Rattle.fab_matrix.proofs.Fields.{field_within}

@@ -1,5 +1,6 @@
 pub mod Names
 pub mod Matrix
 pub mod Selects
-pub mod Grouped
-pub mod Numbering
+pub mod inner
+pub use Rattle.fab_syntax
+pub use Rattle.fab_meaning

@@ -1,18 +1,14 @@
 -- A switch matrix as a Verilog module.
-use Rattle.std.specs.Prelude.{ℕ, zero, suc, ◌+◌, ◌-◌, Bool, true, false, List, [], ◌∷◌, ◌++◌, map, codes, slice_index_or}
+use Rattle.std.specs.Prelude.{ℕ, ◌+◌, ◌-◌, Bool, true, false, List, [], ◌∷◌, ◌++◌, map, slice_index_or}
 use Rattle.std.specs.List.{enumerate_from}
 use Rattle.std.specs.Str.{bytes_eq}
 use Rattle.fab_bits.specs.Bits.{digits}
-use Rattle.fab_syntax.specs.declared.tree.Shape.TheVariants.{Scalar, Vector}
 use Rattle.fab_syntax.specs.declared.tree.Op.TheVariants.{Equal}
-use Rattle.fab_syntax.specs.declared.tree.Port.{Port}
 use Rattle.fab_syntax.specs.Plain.{PlainExpr, constant, variable, part, operation, conditional, assign, PlainModule}
 use Rattle.fab_select.specs.declared.pair.Pair.{Pair}
 use Rattle.fab_select.specs.Selection.{inputs_of, firsts, field_width, field_low, select_bits}
+use Rattle.fab_meaning.specs.Ports.{scalar, config_name, config_port}
 use Rattle.fab_matrix.specs.Names.{Name}
-
-abbrev pub config_name : Name
-config_name = codes "ConfigBits"
 
 -- the select bits of an output
 abbrev pub field : (low width : ℕ) → PlainExpr
@@ -33,14 +29,6 @@ selection low width (first ∷ second ∷ inputs) = chain low width 1 first (sec
 
 abbrev pub output_value : {K : Type 0} → (same : K → K → Bool) → List (K × Name) → (output : K) → PlainExpr
 output_value same pairs output = selection (field_low same pairs output) (field_width same pairs output) (inputs_of same pairs output)
-
-abbrev pub scalar : (input : Bool) → Name → Port
-scalar input name = record { input = input; shape = Scalar; name = name }
-
--- the port of the select bits, where there are any
-abbrev pub config_port : (bits : ℕ) → List Port
-config_port zero = []
-config_port (suc n) = record { input = true; shape = Vector (suc n); name = config_name } ∷ []
 
 -- The module: inputs, select bits and outputs as ports, and an assignment for each output. An output is a key and a name.
 abbrev pub matrix : {K : Type 0} → (same : K → K → Bool) → (name : Name) → (inputs : List Name) → (outputs : List (K × Name)) → List (K × Name) → PlainModule

@@ -6,7 +6,7 @@ use Rattle.fab_meaning.specs.Points.{Path, point, module_at}
 use Rattle.fab_meaning.specs.Settled.{Assignment, IsSettledOn}
 use Rattle.fab_select.specs.Selection.{inputs_of, field_width, field_low}
 use Rattle.fab_matrix.specs.Names.{Name}
-use Rattle.fab_matrix.specs.Matrix.{config_name}
+use Rattle.fab_meaning.specs.Ports.{config_name}
 
 -- the select value of an output: the number in its field
 abbrev pub select_value : {K : Type 0} → (same : K → K → Bool) → List (K × Name) → Assignment → Path → (output : K) → ℕ

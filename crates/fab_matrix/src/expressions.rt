@@ -4,7 +4,7 @@ ghost use Rattle.std.specs.Prelude.{◌≡◌, ◌+◌, ◌-◌, ◌<◌, ◌≤
 ghost use Rattle.fab_bits.specs.Bits.{digits};
 ghost use Rattle.fab_syntax.specs.Plain.{plain_expr, constant, variable, operation};
 ghost use Rattle.fab_matrix.specs.Matrix.{field, selection};
-ghost use Rattle.fab_matrix.specs.Grouped.{name_at};
+ghost use Rattle.fab_matrix.specs.inner.Grouped.{name_at};
 
 use crate::grouping::Field;
 use fab_base::{Memory, Name};

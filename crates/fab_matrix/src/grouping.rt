@@ -3,7 +3,8 @@
 ghost use Rattle.std.specs.Prelude.{◌≡◌, ◌+◌, ◌<◌, ◌≤◌, ◌^◌, ℕ, [], length, map, IfOk, All, sum_by, take, nat_eq, slice_index_or};
 ghost use Rattle.fab_bits.specs.Widths.{select_width};
 ghost use Rattle.fab_select.specs.Selection.{firsts};
-ghost use Rattle.fab_matrix.specs.Grouped.{numbers_of, group_at, width_at, low_at};
+ghost use Rattle.fab_bits.specs.Keys.{group_at};
+ghost use Rattle.fab_matrix.specs.inner.Grouped.{numbers_of, width_at, low_at};
 
 use fab_base::Memory;
 use fab_bits::select_width;

@@ -5,9 +5,11 @@ ghost use Rattle.std.specs.Str.{bytes_eq};
 ghost use Rattle.std.specs.List.{position_or_len};
 ghost use Rattle.indexmap.specs.IndexSet.{insert_key};
 ghost use Rattle.fab_syntax.specs.Plain.{plain_module};
-ghost use Rattle.fab_matrix.specs.Matrix.{config_name, list_outputs, list_matrix};
+ghost use Rattle.fab_meaning.specs.Ports.{config_name};
+ghost use Rattle.fab_matrix.specs.Matrix.{list_outputs, list_matrix};
 ghost use Rattle.fab_matrix.specs.Selects.{Selects};
-ghost use Rattle.fab_matrix.specs.Numbering.{key_names, IsNumbered};
+ghost use Rattle.fab_bits.specs.Keys.{key_names};
+ghost use Rattle.fab_matrix.specs.inner.Numbering.{IsNumbered};
 
 use crate::numbers::matrix_module;
 use fab_base::{Memory, Name};

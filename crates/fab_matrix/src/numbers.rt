@@ -2,9 +2,11 @@
 
 ghost use Rattle.std.specs.Prelude.{◌≡◌, ◌≢◌, ◌+◌, ◌<◌, ◌≤◌, ◌++◌, ℕ, length, map, IfOk, OnOk, All, sum_by, take, nat_eq, slice_index_or, true, false};
 ghost use Rattle.fab_syntax.specs.Plain.{plain_module, plain_item};
-ghost use Rattle.fab_matrix.specs.Matrix.{matrix, numbered, named, scalar, config_port, config_name};
+ghost use Rattle.fab_meaning.specs.Ports.{scalar, config_port, config_name};
+ghost use Rattle.fab_matrix.specs.Matrix.{matrix, numbered, named};
 ghost use Rattle.fab_matrix.specs.Selects.{Selects};
-ghost use Rattle.fab_matrix.specs.Grouped.{group_at, width_at, item_of};
+ghost use Rattle.fab_bits.specs.Keys.{group_at};
+ghost use Rattle.fab_matrix.specs.inner.Grouped.{width_at, item_of};
 
 use crate::expressions::selection;
 use crate::grouping::{field_of, inputs_by_output, lows_of, order_of};

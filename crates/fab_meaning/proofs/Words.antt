@@ -6,7 +6,7 @@ use Rattle.fab_syntax.specs.Declarations.{width_in}
 use Rattle.fab_meaning.specs.Points.{Point, point, outside, module_at}
 use Rattle.fab_meaning.specs.Settled.{Assignment, IsSettledOn}
 use Rattle.fab_meaning.specs.Runs.{clock_name, AreClocksLow, Moment, IsRunOn}
-use Rattle.fab_meaning.specs.Loading.{strobe_name, data_name, IsStream, by_stream, IsClosed, IsLoading, OffersWord, OfferWords, Loads, IsSameStream, AreAlike}
+use Rattle.fab_meaning.specs.Loading.{IsStream, by_stream, IsClosed, IsLoading, OffersWord, OfferWords, Loads, IsSameStream, AreAlike, write_strobe_name, write_data_name}
 use Rattle.fab_meaning.proofs.Loaded.{runs_agree}
 
 -- no flip-flops are closed, and so the stream is always among the loading points
@@ -27,7 +27,7 @@ scalar_point text p name wide is named =
     let first : p.bit ≡ 0 = omega arith in
     input_point text p name is named ∙ ap (point [] name) first
 
-module _ (text : List PlainModule) (wide_clock : width_in (module_at text []) clock_name ≡ 1) (wide_strobe : width_in (module_at text []) strobe_name ≡ 1) where
+module _ (text : List PlainModule) (wide_clock : width_in (module_at text []) clock_name ≡ 1) (wide_strobe : width_in (module_at text []) write_strobe_name ≡ 1) where
   -- while a word is offered in a run, it decides the stream
   word_stream : (word : List Bool) (inputs later held other_held now last : Assignment) → OffersWord word inputs → OffersWord word later →
       IsSettledOn (IsLoading text) text inputs held now → IsSettledOn (IsLoading text) text later other_held last →
@@ -40,10 +40,10 @@ module _ (text : List PlainModule) (wide_clock : width_in (module_at text []) cl
             sym (s p outside l (inl is.input)) ∙ ap now at ∙ low_now.0 ∙ sym (ap last at ∙ low_last.0) ∙ t p outside l (inl is.input))
         | inr other ↦ elim other [
           | inl strobe ↦ (
-              let at : p ≡ point [] strobe_name 0 = scalar_point text p strobe_name wide_strobe is strobe in
+              let at : p ≡ point [] write_strobe_name 0 = scalar_point text p write_strobe_name wide_strobe is strobe in
               ap inputs at ∙ a.strobe ∙ sym (ap later at ∙ b.strobe))
           | inr bits ↦ (
-              let at : p ≡ point [] data_name p.bit = input_point text p data_name is bits in
+              let at : p ≡ point [] write_data_name p.bit = input_point text p write_data_name is bits in
               ap inputs at ∙ a.bits p.bit ∙ sym (ap later at ∙ b.bits p.bit))
         ]
       ]

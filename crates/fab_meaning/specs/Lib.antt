@@ -8,3 +8,6 @@ pub mod Loading
 pub mod Sound
 pub mod Ranked
 pub mod Loaded
+pub mod Ports
+pub use Rattle.fab_bits
+pub use Rattle.fab_syntax

@@ -9,17 +9,17 @@ use Rattle.fab_meaning.specs.Settled.{Assignment, IsSettledOn}
 use Rattle.fab_meaning.specs.Reads.{is_declared, reads, next_reads}
 use Rattle.fab_meaning.specs.Runs.{clock_of, clock_name, Moment, IsRunOn}
 
-abbrev pub strobe_name : List ℕ
-strobe_name = codes "WriteStrobe"
+abbrev pub write_strobe_name : List ℕ
+write_strobe_name = codes "WriteStrobe"
 
-abbrev pub data_name : List ℕ
-data_name = codes "WriteData"
+abbrev pub write_data_name : List ℕ
+write_data_name = codes "WriteData"
 
 -- the inputs of the top that carry words
 pub record IsStream (text : List PlainModule) (p : Point) : Type 0 where
   pub input : IsDrivenOutside text p outside
   pub declared : is_declared text p ≡ true
-  pub named : (p.name ≡ clock_name) ⊎ ((p.name ≡ strobe_name) ⊎ (p.name ≡ data_name))
+  pub named : (p.name ≡ clock_name) ⊎ ((p.name ≡ write_strobe_name) ⊎ (p.name ≡ write_data_name))
 
 -- a driver whose value other points decide, and what a latch holds
 abbrev pub IsDerived : Driver → Type 0
@@ -58,8 +58,8 @@ IsLoading text p = (flops : Point → Bool) × IsClosed text flops × Within tex
 
 -- inputs that offer a word, with bit 0 the least significant
 pub record OffersWord (word : List Bool) (inputs : Assignment) : Type 0 where
-  pub strobe : inputs (point [] strobe_name 0) ≡ true
-  pub bits : (bit : ℕ) → inputs (point [] data_name bit) ≡ bit_at word bit
+  pub strobe : inputs (point [] write_strobe_name 0) ≡ true
+  pub bits : (bit : ℕ) → inputs (point [] write_data_name bit) ≡ bit_at word bit
 
 -- one tick of CLK for each word, while the inputs offer it
 abbrev pub OfferWords : List (List Bool) → List Moment → Type 0
@@ -121,7 +121,7 @@ LoadingRunsAgree =
 -- So what the words loaded are, and what the loading points hold at first, decide what they hold at last.
 abbrev pub LoadsAgree : Type 0
 LoadsAgree =
-    (text : List PlainModule) → width_in (module_at text []) clock_name ≡ 1 → width_in (module_at text []) strobe_name ≡ 1 →
+    (text : List PlainModule) → width_in (module_at text []) clock_name ≡ 1 → width_in (module_at text []) write_strobe_name ≡ 1 →
     (words : List (List Bool)) (held other_held after other_after : Assignment) →
     ((p : Point) → IsLoading text p → held p ≡ other_held p) → Loads text words held after → Loads text words other_held other_after →
     (p : Point) → IsLoading text p → after p ≡ other_after p

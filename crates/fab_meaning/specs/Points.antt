@@ -101,3 +101,11 @@ pub record IsDrivenOutside (text : List PlainModule) (p : Point) (d : Driver) : 
 -- the text drives the point so; a sound text has one driver for each of its points
 abbrev pub Drives : List PlainModule → Point → Driver → Type 0
 Drives text p d = IsDrivenOutside text p d ⊎ IsDrivenByItem text p d
+
+-- a flip-flop or a latch, which keep a value
+abbrev pub IsStored : Driver → Type 0
+IsStored outside = ⊥
+IsStored (copy other) = ⊥
+IsStored (bit_of path e bit) = ⊥
+IsStored (flop path clock next bit) = Unit {0}
+IsStored (hold path gate e bit) = Unit {0}

@@ -2,7 +2,7 @@
 use Rattle.std.proofs.Common.{◌≡◌, ℕ, Bool, true, false, List, [], ◌∷◌, codes, Option, Some, None, refl, arith}
 use Rattle.std.proofs.lemmas.List.Elements.{All-cons, All-nil}
 use Rattle.fab_select.specs.declared.pair.Pair.{Pair}
-use Rattle.fab_bits.specs.Widths.{select_width}
+use Rattle.fab_kinds.specs.fab_bits.specs.Widths.{select_width}
 use Rattle.fab_model.specs.declared.tiles.Dir.TheVariants as dirs
 use Rattle.fab_model.specs.declared.tiles.WireRow.{WireRow}
 use Rattle.fab_model.specs.Tiles.{PlainTile, counted}

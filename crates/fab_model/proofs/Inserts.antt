@@ -14,7 +14,7 @@ use Rattle.fab_model.specs.Tiles.{counted, row_wires, bel_wires, wire_name, sour
 use Rattle.fab_model.specs.Rows.{source_bits, dest_bits, bit_name}
 use Rattle.fab_model.specs.declared.tiles.WireRow.{WireRow}
 use Rattle.fab_model.specs.declared.tiles.Bel.{Bel}
-use Rattle.fab_model.specs.Numbering.{key_names}
+use Rattle.fab_kinds.specs.fab_bits.specs.Keys.{key_names}
 
 -- ---- keys as names
 

@@ -7,12 +7,12 @@ use Rattle.std.proofs.lemmas.List.{get_or-set_same, get_or-set_other, get_or_def
 use Rattle.std.proofs.lemmas.List.Elements.{All-map}
 use Rattle.std.proofs.lemmas.List.Filters.{length-filter_more}
 use Rattle.std.proofs.lemmas.List.Sums.{passes_at_first}
-use Rattle.fab_bits.specs.Widths.{select_width}
+use Rattle.fab_kinds.specs.fab_bits.specs.Widths.{select_width}
 use Rattle.fab_select.specs.declared.pair.Pair.{Pair}
 use Rattle.fab_select.specs.Selection.{inputs_of, in_order, field_width, field_low}
 use Rattle.fab_select.proofs.Firsts.{any_kept, firsts_all}
 use Rattle.fab_model.specs.Tiles.{PlainTile, pair_numbers, numbered_pairs, bel_bits, output_field}
-use Rattle.fab_model.specs.Numbering.{HasFields, width_in}
+use Rattle.fab_model.specs.inner.Numbering.{HasFields, width_in}
 
 -- inputs are as many as pairs of their output
 count_of_inputs : (pairs : List Pair) (output : ℕ) → length (inputs_of nat_eq (map pair_numbers pairs) output) ≡ length (filter (λ (pair : Pair). nat_eq pair.output output) pairs)

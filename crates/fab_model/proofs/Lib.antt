@@ -9,3 +9,4 @@ pub mod Wires
 pub mod Drives
 pub mod Selects
 pub mod Examples
+pub mod BelFields

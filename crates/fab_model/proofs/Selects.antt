@@ -4,8 +4,8 @@ use Rattle.std.proofs.lemmas.Bool.{cases_Bool, eqb-true}
 use Rattle.std.proofs.lemmas.Bool.Decides.{nat_tests}
 use Rattle.std.proofs.lemmas.Option.{get_or_from_slice_get}
 use Rattle.std.proofs.lemmas.List.{get_or_past}
-use Rattle.fab_bits.specs.Bits.{number, digits, bit_number}
-use Rattle.fab_bits.proofs.Least.{select_enough}
+use Rattle.fab_kinds.specs.fab_bits.specs.Bits.{number, digits, bit_number}
+use Rattle.fab_kinds.specs.fab_bits.proofs.Least.{select_enough}
 use Rattle.fab_select.specs.Selection.{field_width}
 use Rattle.fab_model.specs.Tiles.{PlainTile, numbered_pairs, output_field}
 use Rattle.fab_model.specs.Grid.{PlainFabric, tile_at}

@@ -1,7 +1,7 @@
 -- What drives each wire of a fabric under its configuration bits.
 use Rattle.std.specs.Prelude.{◌≡◌, ◌≢◌, ℕ, ◌+◌, Bool, not, ◌&&◌, List, [], ◌∷◌, All, Contains, codes, bytes_eq, nat_eq, nat_lt, Option, Some, None, slice_get, slice_index_or, if◌then◌else◌}
 use Rattle.std.specs.Option.{option_map_or, option_and_then}
-use Rattle.fab_bits.specs.Bits.{number, first_bits}
+use Rattle.fab_kinds.specs.fab_bits.specs.Bits.{number, first_bits}
 use Rattle.fab_kinds.specs.Pins.{input_count}
 use Rattle.fab_select.specs.Selection.{inputs_of}
 use Rattle.fab_model.specs.declared.tiles.WireRow.{WireRow}

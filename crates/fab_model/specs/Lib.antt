@@ -1,6 +1,5 @@
 pub mod Rows
 pub mod Tiles
-pub mod Numbering
 pub mod Tables
 pub mod Grid
 pub mod Joins
@@ -8,3 +7,7 @@ pub mod Cascade
 pub mod Wires
 pub mod Drive
 pub mod Examples
+pub mod inner
+pub use Rattle.fab_kinds.specs.fab_bits
+pub use Rattle.fab_kinds
+pub use Rattle.fab_select

@@ -1,6 +1,7 @@
 -- A tile type as plain data, its matrix names and its configuration bits.
-use Rattle.std.specs.Prelude.{◌≡◌, ◌≢◌, ◌≤◌, ℕ, zero, suc, ◌+◌, Bool, true, false, All, AllPairs, slice_get, List, [], ◌∷◌, ◌++◌, length, map, not, nat_eq, nat_lt, sum_by, slice_index_or, Option, Some, None, if◌then◌else◌}
+use Rattle.std.specs.Prelude.{◌≡◌, ◌≢◌, ◌≤◌, ℕ, zero, suc, ◌+◌, Bool, true, false, All, AllPairs, slice_get, List, [], ◌∷◌, ◌++◌, length, map, not, nat_eq, nat_lt, sum_by, take, slice_index_or, Option, Some, None, if◌then◌else◌}
 use Rattle.std.specs.List.{flat_map}
+use Rattle.std.specs.Option.{option_map_or}
 use Rattle.fab_kinds.specs.Pins.{input_count, pin_names, bit_count}
 use Rattle.fab_select.specs.declared.pair.Pair.{Pair}
 use Rattle.fab_select.specs.Selection.{field_width, field_low, select_bits}
@@ -98,6 +99,14 @@ numbered_pairs tile = map pair_numbers tile.pairs
 -- those of the BELs come first
 abbrev pub bel_bits : PlainTile → ℕ
 bel_bits tile = sum_by (λ bel. bit_count bel.kind) tile.bels
+
+-- the configuration bits of the BELs before this place
+abbrev pub bits_before : List Bel → (place : ℕ) → ℕ
+bits_before bels place = sum_by (λ bel. bit_count bel.kind) (take place bels)
+
+-- the first configuration bit of a BEL and how many it has; (0, 0) where there is no such BEL
+abbrev pub bel_field : PlainTile → (bel : ℕ) → ℕ × ℕ
+bel_field tile bel = option_map_or (λ found. (bits_before tile.bels bel, bit_count found.kind)) (slice_get tile.bels bel) (0, 0)
 
 abbrev pub tile_bits : PlainTile → ℕ
 tile_bits tile = bel_bits tile + select_bits nat_eq (numbered_pairs tile)

@@ -3,10 +3,11 @@
 ghost use Rattle.std.specs.Prelude.{◌≡◌, ◌<◌, ◌+◌, ℕ, All, IfOk, length, map, nat_eq, sum_by, take, slice_index_or};
 ghost use Rattle.fab_select.specs.Selection.{inputs_of, in_order};
 ghost use Rattle.fab_model.specs.Tiles.{pair_numbers};
-ghost use Rattle.fab_model.specs.Numbering.{HasFields, width_in};
+ghost use Rattle.fab_model.specs.inner.Numbering.{HasFields, laid_bels, width_in};
 
+use crate::tiles::Bel;
 use fab_base::Memory;
-use fab_bits::select_width;
+use fab_kinds::fab_bits::select_width;
 use fab_select::Pair;
 use indexmap::IndexSet;
 use std::alloc::Global;
@@ -20,6 +21,21 @@ pub struct Fields {
     pub fields: Vec<(u32, u32)>,
     /// The bit behind the last field.
     pub bits: u32,
+}
+
+/// The fields of BELs, one behind the other: the first bit and the width of each. Want of memory is also the answer where a
+/// number does not fit.
+pub fn bel_fields_of(alloc: Global, bels: &[Bel]) -> Result<Vec<(u32, u32)>, Memory>
+    ensures { IfOk result (λ fields. fields.items ≡ laid_bels 0 bels.now) }
+{
+    let mut fields = Vec::new(alloc);
+    let mut low: u32 = 0;
+    for bel in bels {
+        let width = bel.kind.bits();
+        fields.push((low, width))?;
+        low = low.checked_add(width).ok_or(Memory)?;
+    }
+    Ok(fields)
 }
 
 /// The fields of the outputs of some pairs, from the bit `first` on. Want of memory is also the answer where a number does

@@ -1,7 +1,7 @@
 //! What follows from the definitions alone.
 
 ghost use Rattle.std.specs.Prelude.{◌≡◌, ◌<◌, ◌≤◌, ◌↔◌, ℕ, Bool, true, false, [], codes, length, map, slice_get, Some, None};
-ghost use Rattle.fab_bits.specs.Bits.{digits};
+ghost use Rattle.fab_kinds.specs.fab_bits.specs.Bits.{digits};
 ghost use Rattle.fab_kinds.specs.Pins.{input_count};
 ghost use Rattle.fab_model.specs.declared.tiles.WireRow.{WireRow};
 ghost use Rattle.fab_model.specs.declared.tiles.Bel.{Bel};

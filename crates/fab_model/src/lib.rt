@@ -7,6 +7,7 @@ mod laws;
 mod numbering;
 mod tiles;
 
+pub use fab_kinds;
 pub use fab_select::Pair;
 pub use laws::{
     constants_have_their_values, copied_wires_exist, drives_follow_joins, joins_are_found,

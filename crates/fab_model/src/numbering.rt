@@ -6,7 +6,7 @@ ghost use Rattle.std.specs.List.{flat_map};
 ghost use Rattle.indexmap.specs.IndexSet.{insert_key, insert_all};
 ghost use Rattle.fab_model.specs.Rows.{bit_name};
 ghost use Rattle.fab_model.specs.Tiles.{counted, row_wires, bel_wires, wire_name};
-ghost use Rattle.fab_model.specs.Numbering.{key_names};
+ghost use Rattle.fab_kinds.specs.fab_bits.specs.Keys.{key_names};
 
 use crate::tiles::{Bel, WireRow};
 use fab_base::{Memory, Name};

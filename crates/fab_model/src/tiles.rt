@@ -4,9 +4,9 @@ ghost use Rattle.std.specs.Prelude.{◌≡◌, ◌<◌, Some, IfOk, OnErr, OnOk,
 ghost use Rattle.fab_kinds.specs.Pins.{bit_count};
 ghost use Rattle.std.specs.Str.{bytes_eq};
 ghost use Rattle.fab_model.specs.Rows.{border_bits, side_bits, source_bits, dest_bits};
-ghost use Rattle.fab_model.specs.Tiles.{bare_tile, with_pairs, with_table, matrix_names, tile_bits, output_field, IsTile, IsPair};
+ghost use Rattle.fab_model.specs.Tiles.{bare_tile, with_pairs, with_table, matrix_names, bel_field, tile_bits, output_field, IsTile, IsPair};
 
-use crate::fields::{Fields, fields_of};
+use crate::fields::{Fields, bel_fields_of, fields_of};
 use crate::numbering::{place_of, places_of};
 use fab_base::{Memory, Name};
 use fab_kinds::Kind;
@@ -122,12 +122,15 @@ pub struct TileType {
     table: FrameTable,
     // the matrix names, each at its number
     places: IndexSet<Vec<u8>>,
+    // the first configuration bit of each BEL and how many it has
+    bel_fields: Vec<(u32, u32)>,
     fields: Fields,
 }
 
 impl Model for TileType {
     ghost use Rattle.fab_model.specs.Tiles.{PlainTile};
-    ghost use Rattle.fab_model.specs.Numbering.{IsNumbered, key_names};
+    ghost use Rattle.fab_kinds.specs.fab_bits.specs.Keys.{key_names};
+    ghost use Rattle.fab_model.specs.inner.Numbering.{IsNumbered};
 
     ghost Value = { PlainTile };
 
@@ -135,7 +138,7 @@ impl Model for TileType {
 
     ghost invariant = { λ tile. IsNumbered
         (record { name = tile.name; rows = tile.rows.items; bels = tile.bels.items; pairs = tile.pairs.items; table = tile.table })
-        (key_names tile.places.keys) tile.fields.order.keys tile.fields.fields.items tile.fields.bits };
+        (key_names tile.places.keys) tile.bel_fields.items tile.fields.order.keys tile.fields.fields.items tile.fields.bits };
 }
 
 impl TileType {
@@ -150,6 +153,7 @@ impl TileType {
         ensures { IfOk result (λ tile. tile ≡ bare_tile name rows.items bels.items) }
     {
         let places = places_of(alloc, &rows, &bels)?;
+        let bel_fields = bel_fields_of(alloc, &bels)?;
         let first = bel_bits(&bels)?;
         let fields = fields_of(alloc, first, 0, &[])?;
         Ok(TileType {
@@ -159,6 +163,7 @@ impl TileType {
             pairs: Vec::new(alloc),
             table: FrameTable::from(Vec::new(alloc)),
             places,
+            bel_fields,
             fields,
         })
     }
@@ -254,6 +259,17 @@ impl TileType {
         };
         let (low, width) = self.fields.fields[place];
         if width == 0 { (0, 0) } else { (low, width) }
+    }
+
+    /// The first configuration bit of a BEL and how many it has; (0, 0) where there is no such BEL.
+    pub fn bel_field(&self, bel: usize) -> (u32, u32)
+        ensures { result ≡ bel_field self.now bel }
+    {
+        if bel < self.bel_fields.len() {
+            self.bel_fields[bel]
+        } else {
+            (0, 0)
+        }
     }
 
     /// How many configuration bits it has.

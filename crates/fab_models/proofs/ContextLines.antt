@@ -12,7 +12,7 @@ use Rattle.fab_models.specs.declared.words.Kind.TheVariants as kinds
 use Rattle.fab_models.specs.Words.{Word, kind_of, begins_model, ends_model, ends_cover, is_row_kind, is_model, is_end, is_row, is_statement}
 use Rattle.fab_models.specs.Covers.{rows_on}
 use Rattle.fab_models.specs.Context.{named_by, named, model_lines, ports, width_by, width_of, open_rows, context_of}
-use Rattle.fab_models.specs.Following.{with_ports, context_after}
+use Rattle.fab_models.specs.inner.Following.{with_ports, context_after}
 use Rattle.fab_models.proofs.Parts.{any_push, after_push, after_passes, filter_push, filter_kept, last_or-push}
 use Rattle.fab_models.proofs.Tables.{rows_on-push}
 

@@ -12,12 +12,11 @@ use Rattle.fab_models.specs.Covers.{is_on, rows_on, table_of}
 use Rattle.fab_models.specs.Context.{Context, context_of, open_rows, width_by, width_of}
 use Rattle.fab_models.specs.Judge.{judge_words, judge}
 use Rattle.fab_models.specs.Spelled.{Line, body_of, at_line, rows_in, models_of, spelled}
-use Rattle.fab_models.specs.Following.{State, context_after, covered_after, models_after, retabled, state_after, table_by, with_body, after_line}
-use Rattle.fab_models.proofs.Parts.{after_last-since, since_within, split_last}
+use Rattle.fab_models.specs.inner.Following.{State, context_after, covered_after, models_after, retabled, state_after, table_by, with_body, after_line}
+use Rattle.fab_models.proofs.Parts.{after_last-since, since_within, split_last, since}
 use Rattle.fab_models.proofs.Tables.{covered_by, covered_push, rows_on-push, table-by}
 use Rattle.fab_models.proofs.ContextLines.{context_more, rows_none, rows_kept, rows_more}
 use Rattle.fab_models.proofs.ModelLines.{seen, begins, rows_of_none, rows_same, statements_push, models_model, models_other, bodied, models_row}
-use Rattle.fab_models.proofs.Parts.{since}
 
 -- what lines leave
 abbrev pub summary : List (List ℕ) → State

@@ -6,7 +6,7 @@ use Rattle.std.proofs.Math.Pow.{mod-mod-pow}
 use Rattle.std.proofs.Math.Nat.{mod-le}
 use Rattle.fab_bits.specs.Bits.{bit_number, number, first_bits}
 use Rattle.fab_models.specs.Covers.{matches, sign_matches, is_off}
-use Rattle.fab_models.specs.Following.{mask_of, table_by}
+use Rattle.fab_models.specs.inner.Following.{mask_of, table_by}
 use Rattle.fab_models.specs.Rules.{Repeats}
 use Rattle.fab_models.proofs.Tables.{or_first_bits, opposite_bits}
 

@@ -4,7 +4,7 @@ use Rattle.std.specs.Int.Bits.{bit_or, or_step}
 use Rattle.fab_bits.specs.Bits.{bit_number, number, first_bits}
 use Rattle.fab_bits.proofs.Numbers.{first_bits_same}
 use Rattle.fab_models.specs.Covers.{matches, pattern_of, some_matches, is_on, is_off, rows_on, table_of}
-use Rattle.fab_models.specs.Following.{mask_of, table_by}
+use Rattle.fab_models.specs.inner.Following.{mask_of, table_by}
 use Rattle.fab_models.proofs.Parts.{any_push}
 
 -- a bit in front of two numbers

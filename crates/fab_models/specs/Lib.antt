@@ -4,6 +4,5 @@ pub mod Covers
 pub mod Context
 pub mod Judge
 pub mod Spelled
-pub mod Keys
-pub mod Following
 pub mod Rules
+pub mod inner

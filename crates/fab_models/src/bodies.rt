@@ -1,7 +1,7 @@
 //! What the lines of a model say, and the models so far.
 
 ghost use Rattle.std.specs.Prelude.{◌≡◌, ◌++◌, ◌∷◌, [], map, option_map, IfOk, OnOk};
-ghost use Rattle.fab_models.specs.Following.{pushed, retabled, with_body, with_statements, with_last, with_table, models_after};
+ghost use Rattle.fab_models.specs.inner.Following.{pushed, retabled, with_body, with_statements, with_last, with_table, models_after};
 ghost use Rattle.fab_models.specs.Plain.{plain_body, plain_model, plain_models, plain_statement};
 ghost use Rattle.fab_models.specs.Spelled.{body_of, buffer_of, control_of, cover_of, initial_of, inner_words, instance_of, latch_of};
 

@@ -4,8 +4,8 @@ ghost use Rattle.std.specs.Prelude.{◌≡◌, map, OnOk};
 ghost use Rattle.std.specs.Str.{bytes_eq};
 ghost use Rattle.indexmap.specs.IndexSet.{insert_all};
 ghost use Rattle.fab_models.specs.Context.{width_by};
-ghost use Rattle.fab_models.specs.Following.{beginning, context_after};
-ghost use Rattle.fab_models.specs.Keys.{key_names};
+ghost use Rattle.fab_models.specs.inner.Following.{beginning, context_after};
+ghost use Rattle.fab_bits.specs.Keys.{key_names};
 
 use crate::cover::is_on;
 use crate::words::{Kind, words_from};
@@ -31,7 +31,7 @@ pub struct Context {
 
 impl Model for Context {
     ghost use Rattle.fab_models.specs.Context.{Context as PlainContext};
-    ghost use Rattle.fab_models.specs.Keys.{key_names};
+    ghost use Rattle.fab_bits.specs.Keys.{key_names};
 
     ghost Value = { PlainContext };
 

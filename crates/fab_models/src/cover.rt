@@ -4,7 +4,7 @@ ghost use Rattle.std.specs.Prelude.{◌≡◌, ◌≤◌, map};
 ghost use Rattle.std.specs.List.{list_all};
 ghost use Rattle.fab_bits.specs.Bits.{bit_number};
 ghost use Rattle.fab_models.specs.Covers.{is_off, is_on, matches, output_of, pattern_of, sign_matches};
-ghost use Rattle.fab_models.specs.Following.{covered_after, mask_of, table_by};
+ghost use Rattle.fab_models.specs.inner.Following.{covered_after, mask_of, table_by};
 ghost use Rattle.fab_models.specs.Judge.{has_output, is_fine_row, is_sign, same_output};
 
 use crate::words::{Kind, word_at};

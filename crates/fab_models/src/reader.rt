@@ -7,7 +7,7 @@ ghost use Rattle.fab_base.specs.declared.fault.Fault.TheVariants as faults;
 ghost use Rattle.fab_base.specs.Reading.{Answers, Gives, IsFaultOr};
 ghost use Rattle.fab_lines.specs.Joined.{joined_lines};
 ghost use Rattle.fab_lines.specs.Order.{IsFine, IsFirstFault};
-ghost use Rattle.fab_models.specs.Following.{State, after_line, read_of};
+ghost use Rattle.fab_models.specs.inner.Following.{State, after_line, read_of};
 ghost use Rattle.fab_models.specs.Judge.{judge};
 ghost use Rattle.fab_models.specs.Plain.{plain_models};
 ghost use Rattle.fab_models.specs.Rules.{AreModels, LinesAscend};
@@ -32,7 +32,7 @@ struct Reader {
 }
 
 impl std::marker::Model for Reader {
-    ghost use Rattle.fab_models.specs.Following.{State};
+    ghost use Rattle.fab_models.specs.inner.Following.{State};
     ghost use Rattle.fab_models.specs.Plain.{plain_models};
 
     ghost Value = { State };
@@ -72,7 +72,7 @@ fn take_text(
 }
 
 impl LineReader for Reader {
-    ghost use Rattle.fab_models.specs.Following.{after_line};
+    ghost use Rattle.fab_models.specs.inner.Following.{after_line};
 
     ghost after = { after_line };
 

@@ -7,7 +7,7 @@ use Rattle.std.proofs.lemmas.Bool.Decides.{nat_tests}
 use Rattle.std.proofs.lemmas.List.{append-nil}
 use Rattle.std.proofs.lemmas.List.Folds.{list_all-append}
 use Rattle.fab_lines.specs.Numbers.{is_digit}
-use Rattle.fab_names.specs.Keyed.{Adds, AddsFronts, IsKept, family_at, no_family}
+use Rattle.fab_names.specs.inner.Keyed.{Adds, AddsFronts, IsKept, family_at, no_family}
 use Rattle.fab_names.specs.Names.{PlainFamily, first_name, has_bit, meet}
 use Rattle.fab_names.proofs.Families.{IsBit, bit_of, both_first, both_second, either_first, either_is, either_second, fronts, number_digits}
 

@@ -9,7 +9,7 @@
 ghost use Rattle.std.specs.Prelude.{◌≡◌, ◌≤◌, ◌<◌, ◌++◌, ◌∷◌, [], ℕ, List, true, Contains, OnOk, length, option_map, unwrap_or};
 ghost use Rattle.std.specs.List.{list_all, list_any};
 ghost use Rattle.fab_lines.specs.Numbers.{is_digit};
-ghost use Rattle.fab_names.specs.Keyed.{Adds, AddsFronts, family_at, under};
+ghost use Rattle.fab_names.specs.inner.Keyed.{Adds, AddsFronts, family_at, under};
 ghost use Rattle.fab_names.specs.Names.{has_bit, meet};
 
 use crate::family::Family;
@@ -41,7 +41,7 @@ pub(crate) struct Families {
 impl Model for Families {
     ghost use Rattle.std.specs.Prelude.{◌≡◌, List, true};
     ghost use Rattle.fab_names.specs.Names.{PlainFamily};
-    ghost use Rattle.fab_names.specs.Keyed.{IsKept, under};
+    ghost use Rattle.fab_names.specs.inner.Keyed.{IsKept, under};
 
     ghost Value = { List PlainFamily };
 

@@ -4,7 +4,7 @@ ghost use Rattle.std.specs.Prelude.{◌≡◌, ◌++◌, ◌||◌, [], IfOk, OnO
 ghost use Rattle.std.specs.List.{list_any};
 ghost use Rattle.std.specs.Str.{bytes_eq};
 ghost use Rattle.fab_names.specs.Names.{all_names, come_twice, has_bit, is_among, names_of, sides_of, with_pins, with_sides};
-ghost use Rattle.fab_names.specs.Sides.{opt_meets, sides_meet};
+ghost use Rattle.fab_names.specs.inner.Sides.{opt_meets, sides_meet};
 
 use crate::family::Family;
 use crate::family_set::Families;

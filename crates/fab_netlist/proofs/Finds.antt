@@ -9,8 +9,8 @@ use Rattle.fab_netlist.specs.declared.walk.Mark.TheVariants as marks
 use Rattle.fab_netlist.specs.Plain.{PlainCover, PlainNetlist, no_cover, cover_at, IsAt}
 use Rattle.fab_netlist.specs.WellMade.{IsWellMade, times, cover_outputs}
 use Rattle.fab_netlist.specs.Cycles.{Reads, Leads, IsCycle, IsOneCycle, HasNoCycle}
-use Rattle.fab_netlist.specs.Order.{IsOrder}
-use Rattle.fab_netlist.specs.Search.{driver_at, HasDrivers, IsDriverTable, mark_at, is_new, IsSearch, IsRound, HasEnded, IsListed}
+use Rattle.fab_netlist.specs.inner.Order.{IsOrder}
+use Rattle.fab_netlist.specs.inner.Search.{driver_at, HasDrivers, IsDriverTable, mark_at, is_new, IsSearch, IsRound, HasEnded, IsListed}
 use Rattle.fab_netlist.proofs.Members.{in_none, first_in}
 use Rattle.fab_netlist.proofs.Counts.{one_place, at_mapped}
 use Rattle.fab_netlist.proofs.Levels.{passing}

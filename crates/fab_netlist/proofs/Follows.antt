@@ -7,7 +7,7 @@ use Rattle.fab_netlist.specs.declared.walk.Mark.TheVariants as marks
 use Rattle.fab_netlist.specs.Plain.{PlainNetlist, cover_at}
 use Rattle.fab_netlist.specs.WellMade.{times}
 use Rattle.fab_netlist.specs.Cycles.{Reads, Leads, HasNoCycle}
-use Rattle.fab_netlist.specs.Search.{Fine, fine, driver_at, IsDriverTable, mark_at, is_new, is_open, is_done, if_unfinished, first_of, unfinished, IsSearch, IsRound, StaysDone, HasEnded, IsGoing, IsListed}
+use Rattle.fab_netlist.specs.inner.Search.{Fine, fine, driver_at, IsDriverTable, mark_at, is_new, is_open, is_done, if_unfinished, first_of, unfinished, IsSearch, IsRound, StaysDone, HasEnded, IsGoing, IsListed}
 use Rattle.fab_netlist.proofs.Members.{in_none, first_or_later, first_in, later_in, in_left, in_right}
 use Rattle.fab_netlist.proofs.Counts.{times_joined, member_counts, nowhere_or_at}
 use Rattle.fab_netlist.proofs.Orders.{behind_more}

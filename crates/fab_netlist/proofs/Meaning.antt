@@ -6,8 +6,8 @@ use Rattle.fab_netlist.specs.Plain.{PlainCover, PlainNetlist, IsAt, bit_at, cove
 use Rattle.fab_netlist.specs.WellMade.{times, cover_outputs, latch_outputs, driven, IsWellMade}
 use Rattle.fab_netlist.specs.Meaning.{Meets, HasOneMeaning}
 use Rattle.fab_netlist.specs.Cycles.{HasNoCycle}
-use Rattle.fab_netlist.specs.Order.{IsOrder}
-use Rattle.fab_netlist.specs.Passes.{placed, start, settled}
+use Rattle.fab_netlist.specs.inner.Order.{IsOrder}
+use Rattle.fab_netlist.specs.inner.Passes.{placed, start, settled}
 use Rattle.fab_netlist.proofs.Members.{first_in, later_in, at_in, mapped_in, in_left, in_right}
 use Rattle.fab_netlist.proofs.Counts.{driven_parts, member_counts, nowhere_or_at}
 use Rattle.fab_netlist.proofs.Ranks.{no_cycle_rank}

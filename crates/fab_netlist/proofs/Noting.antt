@@ -7,9 +7,9 @@ use Rattle.fab_netlist.specs.declared.survey.Readers.{Readers}
 use Rattle.fab_netlist.specs.declared.survey.Readers.TheVariants as readers
 use Rattle.fab_netlist.specs.Plain.{PlainCover, PlainNetlist}
 use Rattle.fab_netlist.specs.WellMade.{times, latch_inputs}
-use Rattle.fab_netlist.specs.Search.{first_of}
+use Rattle.fab_netlist.specs.inner.Search.{first_of}
 use Rattle.fab_netlist.specs.Packing.{inner_reads, place_of}
-use Rattle.fab_netlist.specs.Survey.{more, readers_at, counted, noted, place_table, few, reader_table}
+use Rattle.fab_netlist.specs.inner.Survey.{more, readers_at, counted, noted, place_table, few, reader_table}
 
 -- counting joined lists
 pub counted_joined : (xs ys : List ℕ) (table : List Readers) → counted (xs ++ ys) table ≡ counted ys (counted xs table)

@@ -3,7 +3,7 @@ use Rattle.std.proofs.Common.{◌≡◌, ◌⊎◌, ℕ, zero, suc, ◌<◌, Lis
 use Rattle.std.proofs.lemmas.Bool.{cases_Bool, eqb-false}
 use Rattle.fab_netlist.specs.Plain.{PlainNetlist}
 use Rattle.fab_netlist.specs.Cycles.{Reads, HasNoCycle, IsRank}
-use Rattle.fab_netlist.specs.Order.{StandBehind, IsOrder}
+use Rattle.fab_netlist.specs.inner.Order.{StandBehind, IsOrder}
 use Rattle.fab_netlist.proofs.Members.{in_none, first_or_later, first_in, later_in, in_left, in_right}
 use Rattle.fab_netlist.proofs.Ranks.{ranks_sum, below_sum, no_cycle_rank, places_below, below_in, in_below}
 

@@ -12,8 +12,8 @@ use Rattle.fab_netlist.specs.WellMade.{IsWellMade, times, cover_outputs, latch_i
 use Rattle.fab_netlist.specs.Kept.{is_kept}
 use Rattle.fab_netlist.specs.Packed.{PlainCell, PlainPacked}
 use Rattle.fab_netlist.specs.Packing.{Work, of_cover, of_latch, no_latch, latch_at, inner_reads, is_alone, place_of, pair, is_paired, others, works, output_of, input_or, cell_or, net_of, cell_of, packed}
-use Rattle.fab_netlist.specs.Survey.{is_nobody, is_one, readers_at, few, reader_table, place_table, survey_of, kept_by, pair_by, paired_by}
-use Rattle.fab_netlist.specs.Places.{IsFor, paired_or, net_by, nets_by, ids_by, table_by, id_at, cell_by, latch_cell_by, cells_by, packed_by}
+use Rattle.fab_netlist.specs.inner.Survey.{is_nobody, is_one, readers_at, few, reader_table, place_table, survey_of, kept_by, pair_by, paired_by}
+use Rattle.fab_netlist.specs.inner.Places.{IsFor, paired_or, net_by, nets_by, ids_by, table_by, id_at, cell_by, latch_cell_by, cells_by, packed_by}
 use Rattle.fab_netlist.proofs.Members.{in_none, first_or_later, first_in, later_in, mapped_in, in_left, in_right}
 use Rattle.fab_netlist.proofs.Counts.{times_joined, nowhere_or_at}
 use Rattle.fab_netlist.proofs.Marks.{few_numbers, few_covers}

@@ -9,7 +9,7 @@ use Rattle.fab_netlist.specs.Plain.{PlainNetlist}
 use Rattle.fab_netlist.specs.WellMade.{ports}
 use Rattle.fab_netlist.specs.Packed.{PlainPacked}
 use Rattle.fab_netlist.specs.Packing.{works, packed, packing}
-use Rattle.fab_netlist.specs.Places.{room}
+use Rattle.fab_netlist.specs.inner.Places.{room}
 
 -- where a kind of site is short, that is the answer
 refused : (netlist : PlainNetlist) (luts pads : ℕ) (fault : Fault) → room (length (works netlist)) (length (ports netlist)) luts pads ≡ Err fault → Gives {X = PlainPacked} {Y = PlainPacked} (λ packed. packed) (Err fault) (packing netlist luts pads)

@@ -7,8 +7,8 @@ use Rattle.fab_netlist.specs.Plain.{PlainCover, PlainNetlist, IsAt, bit_at, cove
 use Rattle.fab_netlist.specs.WellMade.{times, cover_outputs, table_bit}
 use Rattle.fab_netlist.specs.Meaning.{cover_value}
 use Rattle.fab_netlist.specs.Cycles.{Reads}
-use Rattle.fab_netlist.specs.Order.{StandBehind}
-use Rattle.fab_netlist.specs.Passes.{taken, asked}
+use Rattle.fab_netlist.specs.inner.Order.{StandBehind}
+use Rattle.fab_netlist.specs.inner.Passes.{taken, asked}
 use Rattle.fab_netlist.proofs.Members.{in_none, first_or_later, first_in, later_in, at_in}
 use Rattle.fab_netlist.proofs.Counts.{member_counts, nowhere_or_at, one_place, at_mapped}
 

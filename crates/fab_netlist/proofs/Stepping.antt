@@ -5,8 +5,8 @@ use Rattle.std.proofs.lemmas.List.{get_or_default}
 use Rattle.fab_netlist.specs.declared.netlist.Latch.{Latch}
 use Rattle.fab_netlist.specs.Plain.{PlainCover, PlainNetlist}
 use Rattle.fab_netlist.specs.WellMade.{IsWellMade, latch_inputs}
-use Rattle.fab_netlist.specs.Order.{IsOrder}
-use Rattle.fab_netlist.specs.Passes.{IsWithin}
+use Rattle.fab_netlist.specs.inner.Order.{IsOrder}
+use Rattle.fab_netlist.specs.inner.Passes.{IsWithin}
 use Rattle.fab_netlist.proofs.Members.{in_none, first_or_later, mapped_in, in_left, in_right}
 use Rattle.fab_netlist.proofs.Orders.{order_within}
 use Rattle.fab_netlist.proofs.Meaning.{output_small, latch_small, input_small}

@@ -2,7 +2,7 @@
 use Rattle.std.proofs.Common.{◌≡◌, ℕ, zero, suc, ◌+◌, ◌^◌, ◌<◌, ◌≤◌, Bool, false, List, [], ◌∷◌, ◌++◌, map, length, get_or, set, take, drop, refl, sym, ap, ◌∙◌, arith}
 use Rattle.std.proofs.lemmas.List.{drop_more, take_more, take_more_set, length-map}
 use Rattle.fab_netlist.specs.Plain.{PlainCover, no_cover}
-use Rattle.fab_netlist.specs.Passes.{placed, taken, asked}
+use Rattle.fab_netlist.specs.inner.Passes.{placed, taken, asked}
 
 -- one more net takes its bit
 pub placed_more : (nets : List ℕ) (bits values : List Bool) (turn d : ℕ) (e : Bool) → turn < length nets → length bits ≡ length nets → placed (drop turn nets) (drop turn bits) values ≡ placed (drop (turn + 1) nets) (drop (turn + 1) bits) (set values (get_or nets turn d) (get_or bits turn e))

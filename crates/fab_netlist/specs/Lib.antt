@@ -2,12 +2,8 @@ pub mod Plain
 pub mod WellMade
 pub mod Cycles
 pub mod Meaning
-pub mod Passes
 pub mod Kept
-pub mod Order
-pub mod Search
 pub mod Packed
 pub mod Packing
-pub mod Survey
-pub mod Places
 pub mod Examples
+pub mod inner

@@ -5,7 +5,7 @@ ghost use Rattle.std.specs.List.{All};
 ghost use Rattle.fab_bits.specs.Bits.{number};
 ghost use Rattle.fab_netlist.specs.Cycles.{HasNoCycle};
 ghost use Rattle.fab_netlist.specs.Meaning.{Meets, cover_value, next_held};
-ghost use Rattle.fab_netlist.specs.Passes.{IsWithin, asked, placed, taken};
+ghost use Rattle.fab_netlist.specs.inner.Passes.{IsWithin, asked, placed, taken};
 ghost use Rattle.fab_netlist.specs.Plain.{bit_at};
 ghost use Rattle.fab_netlist.specs.WellMade.{IsWellMade};
 

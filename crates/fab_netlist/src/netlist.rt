@@ -2,7 +2,7 @@
 
 ghost use Rattle.std.specs.Prelude.{◌≡◌, IfOk, MatchOption};
 ghost use Rattle.fab_netlist.specs.Cycles.{HasNoCycle, IsOneCycle};
-ghost use Rattle.fab_netlist.specs.Order.{IsOrder};
+ghost use Rattle.fab_netlist.specs.inner.Order.{IsOrder};
 ghost use Rattle.fab_netlist.specs.WellMade.{IsWellMade};
 
 use crate::walk::find_order;
@@ -92,7 +92,7 @@ pub struct Netlist {
 
 impl Model for Netlist {
     ghost use Rattle.fab_netlist.specs.Plain.{PlainNetlist};
-    ghost use Rattle.fab_netlist.specs.Order.{IsSound};
+    ghost use Rattle.fab_netlist.specs.inner.Order.{IsSound};
 
     ghost Value = { PlainNetlist };
 

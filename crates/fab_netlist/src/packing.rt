@@ -7,8 +7,8 @@ ghost use Rattle.fab_base.specs.Reading.{Gives};
 ghost use Rattle.fab_netlist.specs.declared.net_id.NetId.TheVariants as ids;
 ghost use Rattle.fab_netlist.specs.Packing.{cell_or, input_or, latch_at, packing};
 ghost use Rattle.fab_netlist.specs.Plain.{name_of};
-ghost use Rattle.fab_netlist.specs.Places.{IsFor, cell_by, cells_by, id_at, ids_by, latch_cell_by, net_by, nets_by, packed_by, room, table_by};
-ghost use Rattle.fab_netlist.specs.Survey.{kept_by, pair_by, paired_by, survey_of};
+ghost use Rattle.fab_netlist.specs.inner.Places.{IsFor, cell_by, cells_by, id_at, ids_by, latch_cell_by, net_by, nets_by, packed_by, room, table_by};
+ghost use Rattle.fab_netlist.specs.inner.Survey.{kept_by, pair_by, paired_by, survey_of};
 ghost use Rattle.fab_netlist.specs.WellMade.{IsWellMade};
 
 use crate::net_id::NetId;

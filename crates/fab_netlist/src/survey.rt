@@ -3,7 +3,7 @@
 ghost use Rattle.std.specs.Prelude.{◌≡◌, ◌<◌, ◌≤◌, ◌++◌, IfOk, length, map};
 ghost use Rattle.std.specs.List.{All, flat_map};
 ghost use Rattle.fab_netlist.specs.Packing.{inner_reads};
-ghost use Rattle.fab_netlist.specs.Survey.{counted, is_nobody, is_one, kept_by, more, noted, pair_by, paired_by, place_table, reader_table, survey_of};
+ghost use Rattle.fab_netlist.specs.inner.Survey.{counted, is_nobody, is_one, kept_by, more, noted, pair_by, paired_by, place_table, reader_table, survey_of};
 ghost use Rattle.fab_netlist.specs.WellMade.{IsWellMade, latch_inputs};
 
 use crate::netlist::{Cover, Latch, Netlist};
@@ -60,7 +60,7 @@ pub(crate) struct Survey {
 }
 
 impl Model for Survey {
-    ghost use Rattle.fab_netlist.specs.Survey.{PlainSurvey};
+    ghost use Rattle.fab_netlist.specs.inner.Survey.{PlainSurvey};
 
     ghost Value = { PlainSurvey };
 

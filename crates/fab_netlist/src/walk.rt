@@ -6,8 +6,8 @@ ghost use Rattle.std.specs.List.{All};
 ghost use Rattle.std.specs.Option.{ForSome, IfNone, IfSome, OnSome};
 ghost use Rattle.fab_netlist.specs.Plain.{cover_at};
 ghost use Rattle.fab_netlist.specs.Cycles.{HasNoCycle};
-ghost use Rattle.fab_netlist.specs.Order.{IsFound, IsOrder};
-ghost use Rattle.fab_netlist.specs.Search.{HasEnded, IsDriverTable, IsListed, IsRound, IsSearch, if_unfinished, is_done, is_open, unfinished};
+ghost use Rattle.fab_netlist.specs.inner.Order.{IsFound, IsOrder};
+ghost use Rattle.fab_netlist.specs.inner.Search.{HasEnded, IsDriverTable, IsListed, IsRound, IsSearch, if_unfinished, is_done, is_open, unfinished};
 ghost use Rattle.fab_netlist.specs.WellMade.{IsWellMade};
 
 use crate::netlist::{Order, Parts};

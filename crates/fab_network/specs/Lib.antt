@@ -2,3 +2,4 @@ pub mod Network
 pub mod Solved
 pub mod Passes
 pub mod Leading
+pub use Rattle.fab_compiled.specs.fab_solutions

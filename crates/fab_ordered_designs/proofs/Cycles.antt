@@ -9,7 +9,7 @@ use Rattle.fab_meaning.specs.Settled.{Assignment, IsSettledOn}
 use Rattle.fab_meaning.specs.Reads.{is_declared}
 use Rattle.fab_meaning.specs.Runs.{clock_name, user_clock_name, Ticks}
 use Rattle.fab_meaning.specs.Activation.{State}
-use Rattle.fab_meaning.specs.Loading.{strobe_name, data_name, IsStream, IsLoading}
+use Rattle.fab_meaning.specs.Loading.{IsStream, IsLoading, write_strobe_name, write_data_name}
 use Rattle.fab_meaning.specs.Loaded.{LoadedPointsStay, IsLoaded}
 use Rattle.fab_sound.specs.Narrow.{AreNarrow}
 use Rattle.fab_fabric.specs.declared.wire.Site.{Site}
@@ -26,27 +26,27 @@ use Rattle.fab_legal.specs.WellMade.{output_name}
 use Rattle.fab_legal.proofs.SinkLaw.{known_site, site_is}
 use Rattle.fab_prim.specs.Ports.{top_name}
 use Rattle.fab_fabric_text.specs.Names.{pad_port_name}
-use Rattle.fab_drives.proofs.Apart.{told_apart}
+use Rattle.fab_simulated_designs.specs.fab_drives.proofs.Apart.{told_apart}
 use Rattle.fab_state.specs.Plain.{PlainState}
 use Rattle.fab_tern.specs.Shown.{Terns}
 use Rattle.fab_solutions.specs.Laws.{DriversGrow, DriversFit}
-use Rattle.fab_use.specs.Sites.{bel_point, top_point}
-use Rattle.fab_use.specs.Design.{IsSourced}
-use Rattle.fab_use.specs.Cycles.{Instant, Feeds}
-use Rattle.fab_use.specs.Registers.{bound_pad, design_state}
-use Rattle.fab_use.specs.Headline.{SettlesOnce}
-use Rattle.fab_use.specs.Sources as sources
-use Rattle.fab_use.specs.Sources.{Source, HasSource}
-use Rattle.fab_points.specs.Known.{KnowsBits}
-use Rattle.fab_points.proofs.EachSource.{has_fabric}
-use Rattle.fab_points.proofs.Places.{cell_kind, site_tile}
-use Rattle.fab_points.proofs.Sourced.{sources_are_of_design}
-use Rattle.fab_simulation.specs.Simulation.{given}
-use Rattle.fab_runs.specs.Carrying.{MeetsSources}
-use Rattle.fab_runs.proofs.Setting.{Setting, cells_made}
-use Rattle.fab_runs.proofs.DesignRank.{design_rank, settles_once}
-use Rattle.fab_runs.proofs.Instants.{Has, Ready, Passes, instant_shows, user_ready}
-use Rattle.fab_runs.proofs.Values as v
+use Rattle.fab_simulated_designs.specs.fab_use.specs.Sites.{bel_point, top_point}
+use Rattle.fab_simulated_designs.specs.fab_use.specs.Design.{IsSourced}
+use Rattle.fab_simulated_designs.specs.fab_use.specs.Cycles.{Instant, Feeds}
+use Rattle.fab_simulated_designs.specs.fab_use.specs.Registers.{bound_pad, design_state}
+use Rattle.fab_simulated_designs.specs.fab_use.specs.Headline.{SettlesOnce}
+use Rattle.fab_simulated_designs.specs.fab_use.specs.Sources as sources
+use Rattle.fab_simulated_designs.specs.fab_use.specs.Sources.{Source, HasSource}
+use Rattle.fab_simulated_designs.specs.fab_points.specs.Known.{KnowsBits}
+use Rattle.fab_simulated_designs.specs.fab_points.proofs.EachSource.{has_fabric}
+use Rattle.fab_simulated_designs.specs.fab_points.proofs.Places.{cell_kind, site_tile}
+use Rattle.fab_simulated_designs.specs.fab_points.proofs.Sourced.{sources_are_of_design}
+use Rattle.fab_simulated_designs.specs.fab_simulation.specs.Simulation.{given}
+use Rattle.fab_simulated_designs.specs.fab_runs.specs.Carrying.{MeetsSources}
+use Rattle.fab_simulated_designs.specs.fab_runs.proofs.Setting.{Setting, cells_made}
+use Rattle.fab_simulated_designs.specs.fab_runs.proofs.DesignRank.{design_rank, settles_once}
+use Rattle.fab_simulated_designs.specs.fab_runs.proofs.Instants.{Has, Ready, Passes, instant_shows, user_ready}
+use Rattle.fab_simulated_designs.specs.fab_runs.proofs.Values as v
 use Rattle.fab_settling.proofs.Origins.{outside_is_pad, pad_outside}
 use Rattle.fab_settling.specs.Steps.{IsInputPad}
 use Rattle.fab_ordering.specs.Ordered.{Moment, IsOrderedCycle, AreOrderedCycles, none, after}
@@ -94,8 +94,8 @@ module _ (s : Setting) (laws : KnownLaws) (stay : LoadedPointsStay) (grow : Driv
       elim (loading_input s.text s.is_text.sound user_point loads user_drives).named [
         | inl clock ↦ told_apart 0 user_clock_name clock_name refl clock
         | inr word ↦ elim word [
-          | inl strobe ↦ told_apart 0 user_clock_name strobe_name refl strobe
-          | inr bits ↦ told_apart 0 user_clock_name data_name refl bits
+          | inl strobe ↦ told_apart 0 user_clock_name write_strobe_name refl strobe
+          | inr bits ↦ told_apart 0 user_clock_name write_data_name refl bits
         ]
       ]
 
@@ -188,7 +188,7 @@ module _ (s : Setting) (laws : KnownLaws) (stay : LoadedPointsStay) (grow : Driv
 
       feeds_begun : Feeds s.netlist s.implementation values begun.now
       feeds_begun = record {
-        quiet = quiet_begun (point [] strobe_name 0) (strobe_streams s.fabric s.text (has_fabric s.fabric s.text s.is s.is_text));
+        quiet = quiet_begun (point [] write_strobe_name 0) (strobe_streams s.fabric s.text (has_fabric s.fabric s.text s.is s.is_text));
         low = quiet_begun (point [] clock_name 0) (clock_streams s.fabric s.text (has_fabric s.fabric s.text s.is s.is_text));
         pads = λ place net site is listed.
             let port = name_of s.netlist net in

@@ -5,15 +5,15 @@ use Rattle.fab_syntax.specs.Plain.{PlainExpr, PlainItem, wire, reg, assign, latc
 use Rattle.fab_syntax.specs.Declarations.{module_named, is_input_of, width_in}
 use Rattle.fab_meaning.specs.Points.{Path, Point, point, hold, JoinDrives, ItemDrives}
 use Rattle.fab_meaning.specs.Runs.{clock_name}
-use Rattle.fab_meaning.specs.Loading.{strobe_name, IsStream, by_stream, IsLoading}
+use Rattle.fab_meaning.specs.Loading.{IsStream, by_stream, IsLoading, write_strobe_name}
 use Rattle.fab_model.specs.Grid.{PlainFabric}
 use Rattle.fab_fabric.specs.Fabric.{IsFabric}
 use Rattle.fab_gen_loader.specs.Loader.{NextValues, loader_of, StepsAsTheMachine}
 use Rattle.fab_fabric_text.specs.Text.{fabric_text}
-use Rattle.fab_drives.proofs.Texts.{HasFabric}
+use Rattle.fab_simulated_designs.specs.fab_drives.proofs.Texts.{HasFabric}
 use Rattle.fab_text_loads.specs.Loads.{NamedAreLoading}
 use Rattle.fab_text_loads.specs.Points.{in_configuration}
-use Rattle.fab_text_loads.specs.Texts.{IsFabricText}
+use Rattle.fab_fabric_text.specs.Texts.{IsFabricText}
 use Rattle.fab_text_loads.proofs.Loader.{HasLoader, text_has_loader}
 use Rattle.fab_text_loads.proofs.Parts.{part_at, latch_of_tile}
 use Rattle.fab_ordering.specs.Laws.{LatchesLoad}
@@ -69,10 +69,10 @@ module _ (fabric : PlainFabric) (text : List PlainModule) (is : IsFabric fabric)
 -- ---- the stream
 
 module _ (fabric : PlainFabric) (text : List PlainModule) (has : HasFabric fabric text) where
-  pub strobe_streams : IsStream text (point [] strobe_name 0)
+  pub strobe_streams : IsStream text (point [] write_strobe_name 0)
   strobe_streams = record {
-    input = record { top = refl; input = ap (λ m. is_input_of m strobe_name) has.top_is; is = refl };
-    declared = ap (λ m. nat_lt 0 (width_in m strobe_name)) has.top_is;
+    input = record { top = refl; input = ap (λ m. is_input_of m write_strobe_name) has.top_is; is = refl };
+    declared = ap (λ m. nat_lt 0 (width_in m write_strobe_name)) has.top_is;
     named = inr (inl refl);
   }
 

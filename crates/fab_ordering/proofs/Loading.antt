@@ -7,18 +7,18 @@ use Rattle.fab_meaning.specs.Points.{Point, Driver, outside, copy, bit_of, flop,
 use Rattle.fab_meaning.specs.Settled.{Assignment, names_at, shown}
 use Rattle.fab_meaning.specs.Runs.{clock_name, user_clock_name, kept}
 use Rattle.fab_meaning.specs.Activation.{State}
-use Rattle.fab_meaning.specs.Loading.{strobe_name, data_name, IsStream, IsDerived, Within, by_flop, by_stream, by_reads, IsClosed, IsLoading}
+use Rattle.fab_meaning.specs.Loading.{IsStream, IsDerived, Within, by_flop, by_stream, by_reads, IsClosed, IsLoading, write_strobe_name, write_data_name}
 use Rattle.fab_meaning.specs.Loaded.{IsLoaded}
 use Rattle.fab_meaning.proofs.Dependence.{shown_same}
 use Rattle.fab_meaning.proofs.Loaded.{hold_again}
 use Rattle.fab_meaning.proofs.SingleDrivers.{one_driver}
 use Rattle.fab_meaning.proofs.SoundTexts.{sound_drives_once}
 use Rattle.fab_legal.proofs.Members.{from_mapped}
-use Rattle.fab_state.specs.Plain.{PlainState}
+use Rattle.fab_simulation.specs.fab_state.specs.Plain.{PlainState}
 use Rattle.fab_prim.specs.Ports.{top_name}
-use Rattle.fab_fabric_text.specs.Names.{pad_port_name}
-use Rattle.fab_drives.proofs.Apart.{told_apart}
-use Rattle.fab_use.specs.Sites.{top_point}
+use Rattle.fab_simulation.specs.fab_fabric_text.specs.Names.{pad_port_name}
+use Rattle.fab_simulation.specs.fab_drives.proofs.Apart.{told_apart}
+use Rattle.fab_simulation.specs.fab_use.specs.Sites.{top_point}
 use Rattle.fab_simulation.proofs.Loading.{within_declared}
 use Rattle.fab_ordering.specs.Ordered.{IsNamedInput, IsUserTick}
 
@@ -141,7 +141,7 @@ module _ (text : List PlainModule) (sound : IsSound text) where
       elim carries.named [
         | inl clock ↦ told_apart 0 (pad_port_name site.x site.y site.bel top_name) clock_name refl (is ∙ clock)
         | inr word ↦ elim word [
-          | inl strobe ↦ told_apart 0 (pad_port_name site.x site.y site.bel top_name) strobe_name refl (is ∙ strobe)
-          | inr bits ↦ told_apart 0 (pad_port_name site.x site.y site.bel top_name) data_name refl (is ∙ bits)
+          | inl strobe ↦ told_apart 0 (pad_port_name site.x site.y site.bel top_name) write_strobe_name refl (is ∙ strobe)
+          | inr bits ↦ told_apart 0 (pad_port_name site.x site.y site.bel top_name) write_data_name refl (is ∙ bits)
         ]
       ]

@@ -5,7 +5,7 @@ use Rattle.fab_draws.specs.Draws.{behind, is_one}
 use Rattle.fab_draws.specs.Shuffled.{shuffled}
 use Rattle.fab_syntax.specs.Plain.{PlainModule}
 use Rattle.fab_systems.specs.Ternary.{known}
-use Rattle.fab_meaning.specs.Points.{Point, Driver, outside, Drives}
+use Rattle.fab_meaning.specs.Points.{Point, Driver, outside, Drives, IsStored}
 use Rattle.fab_meaning.specs.Settled.{Assignment}
 use Rattle.fab_meaning.specs.Reads.{is_declared}
 use Rattle.fab_meaning.specs.Runs.{user_clock_name, kept}
@@ -14,13 +14,12 @@ use Rattle.fab_meaning.specs.Loading.{IsLoading, IsStream}
 use Rattle.fab_meaning.specs.Loaded as settled_by
 use Rattle.fab_equations.specs.Instances.{points}
 use Rattle.fab_equations.specs.Equations.{IsPoint}
-use Rattle.fab_load_points.specs.Registers.{IsStored}
 use Rattle.fab_tern.specs.Shown.{Terns}
 use Rattle.fab_solutions.specs.Solutions.{IsLeastSolution}
-use Rattle.fab_state.specs.Plain.{PlainState}
+use Rattle.fab_simulation.specs.fab_state.specs.Plain.{PlainState}
 use Rattle.fab_prim.specs.Ports.{top_name}
 use Rattle.fab_prim.specs.Modules.{flip_flop_name}
-use Rattle.fab_use.specs.Sites.{bel_point, top_point}
+use Rattle.fab_simulation.specs.fab_use.specs.Sites.{bel_point, top_point}
 use Rattle.fab_simulation.specs.Simulation.{IsLoaded, with_registers, given}
 
 -- Where an ordered simulation stands: what the points have and what is held, the least ternary solution of the present cycle, the order in which points were

@@ -5,6 +5,7 @@
 ghost use Rattle.fab_ordering.specs.Laws.{OrderedBlocksSettle};
 
 use fab_meaning::laws::loaded_points_stay;
+pub use fab_simulation;
 use fab_simulation::loading_is_known;
 use fab_solutions::drivers_grow;
 

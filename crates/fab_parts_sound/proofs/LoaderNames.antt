@@ -11,11 +11,11 @@ use Rattle.fab_syntax.specs.declared.tree.Port.{Port}
 use Rattle.fab_syntax.specs.Plain.{PlainItem}
 use Rattle.fab_syntax.specs.Declarations.{item_shape, declared_shape, width_if_any}
 use Rattle.fab_syntax.specs.Sound.{width_of_name}
-use Rattle.fab_meaning.specs.Runs.{clock_name}
-use Rattle.fab_meaning.specs.Loading.{strobe_name, data_name}
-use Rattle.fab_meaning.proofs.Dependence.{same_name}
-use Rattle.fab_model.specs.Tiles.{counted}
-use Rattle.fab_gen_loader.specs.Loader.{port, address_port, strobe_port, row_port, state_name, count_name, address_name, strobe_register_name, row_name}
+use Rattle.fab_tile_drives.specs.fab_meaning.specs.Runs.{clock_name}
+use Rattle.fab_tile_drives.specs.fab_meaning.specs.Loading.{write_strobe_name, write_data_name}
+use Rattle.fab_tile_drives.specs.fab_meaning.proofs.Dependence.{same_name}
+use Rattle.fab_tile_drives.specs.fab_model.specs.Tiles.{counted}
+use Rattle.fab_gen_loader.specs.Loader.{port, address_port, strobe_port, row_port, state_name, count_name, strobe_register_name, address_register_name, row_register_name}
 use Rattle.fab_gen_loader.specs.Expressions.{loader_module}
 use Rattle.fab_parts_sound.proofs.Lists.{all_counted, pairs_append, pairs_counted, contains_counted}
 use Rattle.fab_parts_sound.proofs.Names.{Differ, told_apart, AreApart}
@@ -32,7 +32,7 @@ module _ (rows : ℕ) (few : rows ≤ 31) where
   -- ---- which there are
 
   abbrev pub inputs : List (List ℕ)
-  inputs = clock_name ∷ strobe_name ∷ data_name ∷ []
+  inputs = clock_name ∷ write_strobe_name ∷ write_data_name ∷ []
 
   abbrev pub outputs_of_rows : List (List ℕ)
   outputs_of_rows = counted rows row_port
@@ -41,10 +41,10 @@ module _ (rows : ℕ) (few : rows ≤ 31) where
   output_names = address_port ∷ strobe_port ∷ outputs_of_rows
 
   abbrev pub registers_of_rows : List (List ℕ)
-  registers_of_rows = counted rows row_name
+  registers_of_rows = counted rows row_register_name
 
   abbrev pub register_names : List (List ℕ)
-  register_names = state_name ∷ count_name ∷ address_name ∷ strobe_register_name ∷ registers_of_rows
+  register_names = state_name ∷ count_name ∷ address_register_name ∷ strobe_register_name ∷ registers_of_rows
 
   abbrev pub names : List (List ℕ)
   names = (inputs ++ output_names) ++ register_names
@@ -60,10 +60,10 @@ module _ (rows : ℕ) (few : rows ≤ 31) where
 
   pub registers_apart : AreApart register_names
   registers_apart =
-      let own = state_name ∷ count_name ∷ address_name ∷ strobe_register_name ∷ [] in
+      let own = state_name ∷ count_name ∷ address_register_name ∷ strobe_register_name ∷ [] in
       pairs_append Differ own registers_of_rows (apart_if own refl)
-      (pairs_counted Differ rows row_name (λ i j before within. numbered_differ (codes "row") i j before (omega arith)))
-      (across_turned registers_of_rows own (all_counted (λ name. All (Differ name) own) rows row_name (λ row within. differs_from (row_name row) own refl)))
+      (pairs_counted Differ rows row_register_name (λ i j before within. numbered_differ (codes "row") i j before (omega arith)))
+      (across_turned registers_of_rows own (all_counted (λ name. All (Differ name) own) rows row_register_name (λ row within. differs_from (row_register_name row) own refl)))
 
   -- each name of a closed list against those of the rows
   against_rows : (front : ℕ → List ℕ) (own : List (List ℕ)) → ((row : ℕ) → All (Differ (front row)) own) → Across own (counted rows front)
@@ -76,20 +76,20 @@ module _ (rows : ℕ) (few : rows ≤ 31) where
 
   pub inputs_and_registers : Across inputs register_names
   inputs_and_registers =
-      let own = state_name ∷ count_name ∷ address_name ∷ strobe_register_name ∷ [] in
-      across_more inputs own registers_of_rows (across_if inputs own refl) (against_rows row_name inputs (λ row. differs_from (row_name row) inputs refl))
+      let own = state_name ∷ count_name ∷ address_register_name ∷ strobe_register_name ∷ [] in
+      across_more inputs own registers_of_rows (across_if inputs own refl) (against_rows row_register_name inputs (λ row. differs_from (row_register_name row) inputs refl))
 
   pub outputs_and_registers : Across output_names register_names
   outputs_and_registers =
-      let own = state_name ∷ count_name ∷ address_name ∷ strobe_register_name ∷ [] in
+      let own = state_name ∷ count_name ∷ address_register_name ∷ strobe_register_name ∷ [] in
       let fixed = address_port ∷ strobe_port ∷ [] in
       let of_rows : Across outputs_of_rows register_names =
       across_more outputs_of_rows own registers_of_rows
       (all_counted (λ name. All (Differ name) own) rows row_port (λ row within. differs_from (row_port row) own refl))
       (all_counted (λ name. All (Differ name) registers_of_rows) rows row_port
-      (λ row within. all_counted (Differ (row_port row)) rows row_name (λ other within. told_apart (row_port row) (row_name other) refl))) in
+      (λ row within. all_counted (Differ (row_port row)) rows row_register_name (λ other within. told_apart (row_port row) (row_register_name other) refl))) in
       let of_fixed : Across fixed register_names =
-      across_more fixed own registers_of_rows (across_if fixed own refl) (against_rows row_name fixed (λ row. differs_from (row_name row) fixed refl)) in
+      across_more fixed own registers_of_rows (across_if fixed own refl) (against_rows row_register_name fixed (λ row. differs_from (row_register_name row) fixed refl)) in
       All-append (λ name. All (Differ name) register_names) fixed outputs_of_rows of_fixed of_rows
 
   pub names_apart : AreApart names
@@ -115,9 +115,9 @@ module _ (rows : ℕ) (few : rows ≤ 31) where
   pub row_output : (row : ℕ) → row < rows → Contains output_names (row_port row)
   row_output row within = Contains-append_right (address_port ∷ strobe_port ∷ []) outputs_of_rows (row_port row) (contains_counted rows row_port row within)
 
-  pub row_register : (row : ℕ) → row < rows → Contains register_names (row_name row)
+  pub row_register : (row : ℕ) → row < rows → Contains register_names (row_register_name row)
   row_register row within =
-      Contains-append_right (state_name ∷ count_name ∷ address_name ∷ strobe_register_name ∷ []) registers_of_rows (row_name row) (contains_counted rows row_name row within)
+      Contains-append_right (state_name ∷ count_name ∷ address_register_name ∷ strobe_register_name ∷ []) registers_of_rows (row_register_name row) (contains_counted rows row_register_name row within)
 
 -- ---- how wide they are
 

@@ -9,13 +9,13 @@ use Rattle.fab_syntax.specs.declared.tree.Shape.TheVariants.{Scalar, Vector}
 use Rattle.fab_syntax.specs.declared.tree.Port.{Port}
 use Rattle.fab_syntax.specs.Plain.{PlainExpr, PlainItem, PlainModule, variable, complement, operation, conditional, reg, assign, clocked}
 use Rattle.fab_syntax.specs.Sound.{width_of_name, ServesAsClock}
-use Rattle.fab_meaning.specs.Runs.{clock_name}
-use Rattle.fab_meaning.specs.Loading.{strobe_name, data_name}
-use Rattle.fab_meaning.proofs.Modules.{Each, each_all}
-use Rattle.fab_model.specs.Tiles.{counted}
-use Rattle.fab_model.proofs.Inserts.{map_counted}
+use Rattle.fab_tile_drives.specs.fab_meaning.specs.Runs.{clock_name}
+use Rattle.fab_tile_drives.specs.fab_meaning.specs.Loading.{write_strobe_name, write_data_name}
+use Rattle.fab_tile_drives.specs.fab_meaning.proofs.Modules.{Each, each_all}
+use Rattle.fab_tile_drives.specs.fab_model.specs.Tiles.{counted}
+use Rattle.fab_tile_drives.specs.fab_model.proofs.Inserts.{map_counted}
 use Rattle.fab_gen_loader.specs.Machine.{wake_word}
-use Rattle.fab_gen_loader.specs.Loader.{port, address_port, strobe_port, row_port, state_name, count_name, address_name, strobe_register_name, row_name, registers, processes, outputs}
+use Rattle.fab_gen_loader.specs.Loader.{port, address_port, strobe_port, row_port, state_name, count_name, strobe_register_name, registers, processes, outputs, address_register_name, row_register_name}
 use Rattle.fab_gen_loader.specs.Expressions.{number_at, equals, both, takes_in, ends, rows_left, by_state, next_state, next_count, next_address, next_strobe, next_row, next_values, loader_module}
 use Rattle.fab_gen_loader.proofs.Widths.{state_width, count_width, address_width, row_width}
 use Rattle.fab_parts_sound.specs.Fits.{FitsIn}
@@ -31,24 +31,24 @@ use Rattle.fab_parts_sound.proofs.LoaderNames.{inputs, output_names, register_na
 -- ---- what holds of all items
 
 abbrev fixed_registers : List PlainItem
-fixed_registers = reg (Vector 2) state_name ∷ reg (Vector 5) count_name ∷ reg (Vector 32) address_name ∷ reg Scalar strobe_register_name ∷ []
+fixed_registers = reg (Vector 2) state_name ∷ reg (Vector 5) count_name ∷ reg (Vector 32) address_register_name ∷ reg Scalar strobe_register_name ∷ []
 
 abbrev row_reg : (row : ℕ) → PlainItem
-row_reg row = reg (Vector 32) (row_name row)
+row_reg row = reg (Vector 32) (row_register_name row)
 
 abbrev fixed_processes : (rows : ℕ) → List PlainItem
 fixed_processes rows =
-    clocked clock_name state_name next_state ∷ clocked clock_name count_name (next_count rows) ∷ clocked clock_name address_name next_address
+    clocked clock_name state_name next_state ∷ clocked clock_name count_name (next_count rows) ∷ clocked clock_name address_register_name next_address
     ∷ clocked clock_name strobe_register_name next_strobe ∷ []
 
 abbrev row_process : (rows row : ℕ) → PlainItem
-row_process rows row = clocked clock_name (row_name row) (next_row rows row)
+row_process rows row = clocked clock_name (row_register_name row) (next_row rows row)
 
 abbrev fixed_outputs : List PlainItem
-fixed_outputs = assign address_port (variable address_name) ∷ assign strobe_port (variable strobe_register_name) ∷ []
+fixed_outputs = assign address_port (variable address_register_name) ∷ assign strobe_port (variable strobe_register_name) ∷ []
 
 abbrev row_assign : (row : ℕ) → PlainItem
-row_assign row = assign (row_port row) (variable (row_name row))
+row_assign row = assign (row_port row) (variable (row_register_name row))
 
 module _ (P : PlainItem → Type 0) (rows : ℕ) where
   all_registers : Each P fixed_registers → ((row : ℕ) → row < rows → P (row_reg row)) → All P (registers rows)
@@ -84,20 +84,20 @@ module _ (rows : ℕ) (few : rows ≤ 31) where
   count_register : Contains (register_names rows few) count_name
   count_register = (1, omega arith, refl)
 
-  address_register : Contains (register_names rows few) address_name
+  address_register : Contains (register_names rows few) address_register_name
   address_register = (2, omega arith, refl)
 
   strobe_register : Contains (register_names rows few) strobe_register_name
   strobe_register = (3, omega arith, refl)
 
-  data_there : Contains all_names data_name
-  data_there = input_there rows few data_name (2, omega arith, refl)
+  data_there : Contains all_names write_data_name
+  data_there = input_there rows few write_data_name (2, omega arith, refl)
 
-  strobe_fits : FitsAt 1 (variable strobe_name)
-  strobe_fits = name_fits all_names m strobe_name 1 (input_there rows few strobe_name (1, omega arith, refl)) refl
+  strobe_fits : FitsAt 1 (variable write_strobe_name)
+  strobe_fits = name_fits all_names m write_strobe_name 1 (input_there rows few write_strobe_name (1, omega arith, refl)) refl
 
-  data_fits : FitsAt 32 (variable data_name)
-  data_fits = name_fits all_names m data_name 32 data_there refl
+  data_fits : FitsAt 32 (variable write_data_name)
+  data_fits = name_fits all_names m write_data_name 32 data_there refl
 
   state_fits : FitsAt 2 (variable state_name)
   state_fits = name_fits all_names m state_name 2 (register_there rows few state_name state_register) (state_width rows (next_values rows))
@@ -105,14 +105,14 @@ module _ (rows : ℕ) (few : rows ≤ 31) where
   count_fits : FitsAt 5 (variable count_name)
   count_fits = name_fits all_names m count_name 5 (register_there rows few count_name count_register) (count_width rows (next_values rows))
 
-  address_fits : FitsAt 32 (variable address_name)
-  address_fits = name_fits all_names m address_name 32 (register_there rows few address_name address_register) (address_width rows (next_values rows))
+  address_fits : FitsAt 32 (variable address_register_name)
+  address_fits = name_fits all_names m address_register_name 32 (register_there rows few address_register_name address_register) (address_width rows (next_values rows))
 
   strobe_register_fits : FitsAt 1 (variable strobe_register_name)
   strobe_register_fits = name_fits all_names m strobe_register_name 1 (register_there rows few strobe_register_name strobe_register) (strobe_width rows)
 
-  row_fits : (row : ℕ) → row < rows → FitsAt 32 (variable (row_name row))
-  row_fits row within = name_fits all_names m (row_name row) 32 (register_there rows few (row_name row) (row_register rows few row within)) (row_width rows (next_values rows) row within)
+  row_fits : (row : ℕ) → row < rows → FitsAt 32 (variable (row_register_name row))
+  row_fits row within = name_fits all_names m (row_register_name row) 32 (register_there rows few (row_register_name row) (row_register rows few row within)) (row_width rows (next_values rows) row within)
 
   -- ---- expressions
 
@@ -126,10 +126,10 @@ module _ (rows : ℕ) (few : rows ≤ 31) where
   choose width test first second of_test of_first of_second = choice_fits all_names m width test first second of_test of_first of_second
 
   takes_fits : (state : ℕ) → FitsAt 1 (takes_in state)
-  takes_fits state = both_fits (variable strobe_name) (equals state_name 2 state) strobe_fits (equals_fits state_name 2 state state_fits)
+  takes_fits state = both_fits (variable write_strobe_name) (equals state_name 2 state) strobe_fits (equals_fits state_name 2 state state_fits)
 
   ends_fits : FitsAt 1 ends
-  ends_fits = part_fits all_names m data_name 20 20 32 data_there refl (omega arith) (omega arith)
+  ends_fits = part_fits all_names m write_data_name 20 20 32 data_there refl (omega arith) (omega arith)
 
   left_fits : (n : ℕ) → FitsAt 1 (rows_left n)
   left_fits n = equals_fits count_name 5 n count_fits
@@ -137,7 +137,7 @@ module _ (rows : ℕ) (few : rows ≤ 31) where
   by_state_fits : (width : ℕ) (address row waiting idle : PlainExpr) → FitsAt width address → FitsAt width row → FitsAt width waiting → FitsAt width idle →
       FitsAt width (by_state address row waiting idle)
   by_state_fits width address row waiting idle of_address of_row of_waiting of_idle =
-      choose width (variable strobe_name) (conditional (equals state_name 2 1) address (conditional (equals state_name 2 2) row waiting)) idle strobe_fits
+      choose width (variable write_strobe_name) (conditional (equals state_name 2 1) address (conditional (equals state_name 2 2) row waiting)) idle strobe_fits
       (choose width (equals state_name 2 1) address (conditional (equals state_name 2 2) row waiting) (equals_fits state_name 2 1 state_fits) of_address
       (choose width (equals state_name 2 2) row waiting (equals_fits state_name 2 2 state_fits) of_row of_waiting))
       of_idle
@@ -148,10 +148,10 @@ module _ (rows : ℕ) (few : rows ≤ 31) where
   next_state_fits : FitsAt 2 next_state
   next_state_fits =
       by_state_fits 2 (conditional ends (number_at 2 0) (number_at 2 2)) (conditional (rows_left 1) (number_at 2 1) (number_at 2 2))
-      (conditional (equals data_name 32 wake_word) (number_at 2 1) (number_at 2 0)) (variable state_name)
+      (conditional (equals write_data_name 32 wake_word) (number_at 2 1) (number_at 2 0)) (variable state_name)
       (choose 2 ends (number_at 2 0) (number_at 2 2) ends_fits (number 2 0) (number 2 2))
       (choose 2 (rows_left 1) (number_at 2 1) (number_at 2 2) (left_fits 1) (number 2 1) (number 2 2))
-      (choose 2 (equals data_name 32 wake_word) (number_at 2 1) (number_at 2 0) (equals_fits data_name 32 wake_word data_fits) (number 2 1) (number 2 0))
+      (choose 2 (equals write_data_name 32 wake_word) (number_at 2 1) (number_at 2 0) (equals_fits write_data_name 32 wake_word data_fits) (number 2 1) (number 2 0))
       state_fits
 
   next_count_fits : FitsAt 5 (next_count rows)
@@ -165,7 +165,7 @@ module _ (rows : ℕ) (few : rows ≤ 31) where
 
   next_address_fits : FitsAt 32 next_address
   next_address_fits =
-      choose 32 (both (takes_in 1) (complement ends)) (variable data_name) (variable address_name)
+      choose 32 (both (takes_in 1) (complement ends)) (variable write_data_name) (variable address_register_name)
       (both_fits (takes_in 1) (complement ends) (takes_fits 1) (not_fits all_names m 1 ends ends_fits)) data_fits address_fits
 
   next_strobe_fits : FitsAt 1 next_strobe
@@ -173,7 +173,7 @@ module _ (rows : ℕ) (few : rows ≤ 31) where
 
   next_row_fits : (row : ℕ) → row < rows → FitsAt 32 (next_row rows row)
   next_row_fits row within =
-      choose 32 (both (takes_in 2) (rows_left (rows - row))) (variable data_name) (variable (row_name row))
+      choose 32 (both (takes_in 2) (rows_left (rows - row))) (variable write_data_name) (variable (row_register_name row))
       (both_fits (takes_in 2) (rows_left (rows - row)) (takes_fits 2) (left_fits (rows - row))) data_fits (row_fits row within)
 
   -- ---- items
@@ -200,20 +200,20 @@ module _ (rows : ℕ) (few : rows ≤ 31) where
         (
           process_drives 5 count_name (next_count rows) count_register (count_width rows (next_values rows)) next_count_fits,
           (
-            process_drives 32 address_name next_address address_register (address_width rows (next_values rows)) next_address_fits,
+            process_drives 32 address_register_name next_address address_register (address_width rows (next_values rows)) next_address_fits,
             (process_drives 1 strobe_register_name next_strobe strobe_register (strobe_width rows) next_strobe_fits, tt),
           ),
         ),
       )
-      (λ row within. process_drives 32 (row_name row) (next_row rows row) (row_register rows few row within) (row_width rows (next_values rows) row within) (next_row_fits row within))
+      (λ row within. process_drives 32 (row_register_name row) (next_row rows row) (row_register rows few row within) (row_width rows (next_values rows) row within) (next_row_fits row within))
 
   outputs_drive : All DrivesOne (outputs rows)
   outputs_drive =
       all_outputs DrivesOne rows (
-        output_drives 32 address_port (variable address_name) (0, omega arith, refl) refl address_fits,
+        output_drives 32 address_port (variable address_register_name) (0, omega arith, refl) refl address_fits,
         (output_drives 1 strobe_port (variable strobe_register_name) (1, omega arith, refl) refl strobe_register_fits, tt),
       )
-      (λ row within. output_drives 32 (row_port row) (variable (row_name row)) (row_output rows few row within) (row_port_width rows row within) (row_fits row within))
+      (λ row within. output_drives 32 (row_port row) (variable (row_register_name row)) (row_output rows few row within) (row_port_width rows row within) (row_fits row within))
 
   rest_drives : All DrivesOne rest
   rest_drives = All-append DrivesOne (processes rows (next_values rows)) (outputs rows) processes_drive outputs_drive
@@ -230,17 +230,17 @@ module _ (rows : ℕ) (few : rows ≤ 31) where
   drives text =
       let g = item_drives text in
       flat_map-append g (registers rows) rest
-      ∙ (λ j. none_each g rows (λ row. reg (Vector 32) (row_name row)) (λ row. refl) j ++ flat_map g rest)
+      ∙ (λ j. none_each g rows (λ row. reg (Vector 32) (row_register_name row)) (λ row. refl) j ++ flat_map g rest)
       ∙ flat_map-append g (processes rows (next_values rows)) (outputs rows)
-      ∙ (λ j. (state_name ∷ count_name ∷ address_name ∷ strobe_register_name ∷ one_each g rows (row_process rows) row_name (λ row. refl) j)
+      ∙ (λ j. (state_name ∷ count_name ∷ address_register_name ∷ strobe_register_name ∷ one_each g rows (row_process rows) row_register_name (λ row. refl) j)
       ++ (address_port ∷ strobe_port ∷ one_each g rows row_assign row_port (λ row. refl) j))
 
   holds : held_names m.items ≡ held
   holds =
       flat_map-append item_holds (registers rows) rest
-      ∙ (λ j. none_each item_holds rows (λ row. reg (Vector 32) (row_name row)) (λ row. refl) j ++ flat_map item_holds rest)
+      ∙ (λ j. none_each item_holds rows (λ row. reg (Vector 32) (row_register_name row)) (λ row. refl) j ++ flat_map item_holds rest)
       ∙ flat_map-append item_holds (processes rows (next_values rows)) (outputs rows)
-      ∙ (λ j. (state_name ∷ count_name ∷ address_name ∷ strobe_register_name ∷ one_each item_holds rows (row_process rows) row_name (λ row. refl) j)
+      ∙ (λ j. (state_name ∷ count_name ∷ address_register_name ∷ strobe_register_name ∷ one_each item_holds rows (row_process rows) row_register_name (λ row. refl) j)
       ++ none_each item_holds rows row_assign (λ row. refl) j)
       ∙ append-nil held
 
@@ -263,7 +263,7 @@ module _ (rows : ℕ) (few : rows ≤ 31) where
 
   abbrev fixed_ports : List Port
   fixed_ports =
-      port true Scalar clock_name ∷ port true Scalar strobe_name ∷ port true (Vector 32) data_name ∷ port false (Vector 32) address_port ∷ port false Scalar strobe_port ∷ []
+      port true Scalar clock_name ∷ port true Scalar write_strobe_name ∷ port true (Vector 32) write_data_name ∷ port false (Vector 32) address_port ∷ port false Scalar strobe_port ∷ []
 
   ports_among : All Among m.ports
   ports_among =
@@ -271,8 +271,8 @@ module _ (rows : ℕ) (few : rows ≤ 31) where
       (each_all Among fixed_ports (
         input_not_driven 0 (omega arith) clock_name refl,
         (
-          input_not_driven 1 (omega arith) strobe_name refl,
-          (input_not_driven 2 (omega arith) data_name refl, (output_driven address_port (0, omega arith, refl), (output_driven strobe_port (1, omega arith, refl), tt))),
+          input_not_driven 1 (omega arith) write_strobe_name refl,
+          (input_not_driven 2 (omega arith) write_data_name refl, (output_driven address_port (0, omega arith, refl), (output_driven strobe_port (1, omega arith, refl), tt))),
         ),
       ))
       (all_counted Among rows (λ row. port false (Vector 32) (row_port row)) (λ row within. output_driven (row_port row) (row_output rows few row within)))
@@ -286,10 +286,10 @@ module _ (rows : ℕ) (few : rows ≤ 31) where
         register_driven (Vector 2) state_name state_register,
         (
           register_driven (Vector 5) count_name count_register,
-          (register_driven (Vector 32) address_name address_register, (register_driven Scalar strobe_register_name strobe_register, tt)),
+          (register_driven (Vector 32) address_register_name address_register, (register_driven Scalar strobe_register_name strobe_register, tt)),
         ),
       )
-      (λ row within. register_driven (Vector 32) (row_name row) (row_register rows few row within))
+      (λ row within. register_driven (Vector 32) (row_register_name row) (row_register rows few row within))
 
   -- ---- together
 
@@ -298,8 +298,8 @@ module _ (rows : ℕ) (few : rows ≤ 31) where
     in_order = refl;
     declare = all_registers IsNet rows (tt, (tt, (tt, (tt, tt)))) (λ row within. tt);
     declared =
-        λ j. (clock_name ∷ strobe_name ∷ data_name ∷ address_port ∷ strobe_port ∷ map_counted (λ (p : Port). p.name) rows (λ row. port false (Vector 32) (row_port row)) j)
-        ++ (state_name ∷ count_name ∷ address_name ∷ strobe_register_name ∷ counted_nets (Vector 32) rows row_name j);
+        λ j. (clock_name ∷ write_strobe_name ∷ write_data_name ∷ address_port ∷ strobe_port ∷ map_counted (λ (p : Port). p.name) rows (λ row. port false (Vector 32) (row_port row)) j)
+        ++ (state_name ∷ count_name ∷ address_register_name ∷ strobe_register_name ∷ counted_nets (Vector 32) rows row_register_name j);
     names_apart = names_apart rows few;
     used = All-weaker DrivesOne (UsesOnly all_names) (λ item drives. item_uses all_names m drives.0 item drives.1) rest rest_drives;
     fit = All-weaker DrivesOne (ItemFits m) (λ item drives. item_fits all_names m drives.0 item drives.1) rest rest_drives;

@@ -5,7 +5,7 @@ use Rattle.fab_network.specs.declared.network.Source.{Source}
 use Rattle.fab_demand.specs.Asked.{Asked, AsksMore}
 use Rattle.fab_demand.specs.Laws.{SourcesStayAsked}
 use Rattle.fab_phases.specs.Loading.{AreFlops, IsLoadedFlop, IsReady}
-use Rattle.fab_phases.specs.Gathering.{AreGated, IsGated}
+use Rattle.fab_phases.specs.inner.Gathering.{AreGated, IsGated}
 use Rattle.fab_phases.specs.declared.loading.LoadedFlop.{LoadedFlop}
 use Rattle.fab_phases.specs.declared.gathering.GatedLatch.{GatedLatch}
 use Rattle.fab_phases.proofs.Lists.{each_grows}

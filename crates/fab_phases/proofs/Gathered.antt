@@ -8,7 +8,7 @@ use Rattle.fab_network.specs.declared.network.Source.{Source}
 use Rattle.fab_demand.specs.Asked.{Asked}
 use Rattle.fab_phases.specs.Lists.{Each, HasOne}
 use Rattle.fab_phases.specs.Loading.{AreRuns, GoTogether, HasFlops, HasLatches, IsInRuns, IsLatch, IsLoadedFlop, IsReady, IsRun}
-use Rattle.fab_phases.specs.Gathering.{AreGated, AreInRuns, HasGated, IsFlopAt, IsGated, IsGatedAt}
+use Rattle.fab_phases.specs.inner.Gathering.{AreGated, AreInRuns, HasGated, IsFlopAt, IsGated, IsGatedAt}
 use Rattle.fab_phases.specs.declared.loading.LoadedFlop.{LoadedFlop}
 use Rattle.fab_phases.specs.declared.loading.Latch.{Latch}
 use Rattle.fab_phases.specs.declared.loading.Run.{Run}

@@ -3,8 +3,7 @@ use Rattle.std.proofs.Common.{◌≡◌, ◌⊎◌, ℕ, ◌+◌, ◌-◌, ◌<�
 use Rattle.std.specs.List.{slice_get}
 use Rattle.std.proofs.lemmas.Bool.{cases_lt}
 use Rattle.std.proofs.lemmas.Option.{slice_get_within}
-use Rattle.fab_systems.specs.Ternary.{unknown, IsBelow}
-use Rattle.fab_systems.specs.Ternary.{Tern as PlainTern}
+use Rattle.fab_systems.specs.Ternary.{unknown, IsBelow, Tern as PlainTern}
 use Rattle.fab_tern.specs.Shown.{through}
 use Rattle.fab_ternary.specs.declared.Tern.{Tern}
 use Rattle.fab_compiled.specs.Leading.{PointTerns, IsMarked}
@@ -21,7 +20,7 @@ use Rattle.fab_demand.specs.Demand.{IsAsked, IsKept, IsKeptBy, ShowsLeast}
 use Rattle.fab_phases.specs.Lists.{HasOne}
 use Rattle.fab_phases.specs.Loading.{AreLoading, IsInRuns}
 use Rattle.fab_phases.specs.Words.{AreLoadSteps, IsLeft, IsLoadingAt, IsLoadStep, IsOffered}
-use Rattle.fab_phases.specs.Ticks.{AreOnWay, IsSet, LeavesFlops, LeavesPoints, LeavesRuns, Tick}
+use Rattle.fab_phases.specs.inner.Ticks.{AreOnWay, IsSet, LeavesFlops, LeavesPoints, LeavesRuns, Tick}
 use Rattle.fab_phases.specs.declared.loading.Loading.{Loading}
 
 -- ---- what is given while a word is offered

@@ -2,8 +2,7 @@
 use Rattle.std.proofs.Common.{◌≡◌, ◌⊎◌, ℕ, ◌+◌, ◌<◌, ◌≤◌, Bool, List, length, Some, sym, ap, ◌∙◌, subst, inl, inr, arith, slice_set, get_or}
 use Rattle.std.specs.List.{slice_get}
 use Rattle.std.proofs.lemmas.Option.{slice_get_within, slice_get-get_or}
-use Rattle.fab_systems.specs.Ternary.{no}
-use Rattle.fab_systems.specs.Ternary.{Tern as PlainTern}
+use Rattle.fab_systems.specs.Ternary.{no, Tern as PlainTern}
 use Rattle.fab_tern.specs.Shown.{through}
 use Rattle.fab_ternary.specs.declared.Tern.{Tern}
 use Rattle.fab_ternary.specs.Terns.{plain_tern}
@@ -20,7 +19,7 @@ use Rattle.fab_demand.specs.Demand.{Shows}
 use Rattle.fab_phases.specs.Lists.{Each, HasOne}
 use Rattle.fab_phases.specs.Loading.{AreFlops, AreLoading, AreRuns, IsInRuns, IsLatch}
 use Rattle.fab_phases.specs.Words.{IsLeft}
-use Rattle.fab_phases.specs.Ticks.{AreFitFlops, AreFitRuns, AreOnWay, IsFit, LeavesFlops, LeavesLatches, LeavesPoints, LeavesRun, LeavesRuns, Tick}
+use Rattle.fab_phases.specs.inner.Ticks.{AreFitFlops, AreFitRuns, AreOnWay, IsFit, LeavesFlops, LeavesLatches, LeavesPoints, LeavesRun, LeavesRuns, Tick}
 use Rattle.fab_phases.specs.declared.loading.LoadedFlop.{LoadedFlop}
 use Rattle.fab_phases.specs.declared.loading.Latch.{Latch}
 use Rattle.fab_phases.specs.declared.loading.Run.{Run}

@@ -2,8 +2,7 @@
 use Rattle.std.proofs.Common.{◌≡◌, ◌⊎◌, ℕ, ◌<◌, List, length, Some, refl, sym, ap, ◌∙◌, subst, inl, inr, slice_set}
 use Rattle.std.specs.List.{slice_get}
 use Rattle.std.proofs.lemmas.Bool.{cases_eq}
-use Rattle.fab_systems.specs.Ternary.{no, yes, unknown}
-use Rattle.fab_systems.specs.Ternary.{Tern as PlainTern}
+use Rattle.fab_systems.specs.Ternary.{no, yes, unknown, Tern as PlainTern}
 use Rattle.fab_tern.specs.Shown.{through}
 use Rattle.fab_ternary.specs.declared.Tern.{Tern}
 use Rattle.fab_ternary.specs.Terns.{plain_tern}
@@ -16,7 +15,7 @@ use Rattle.fab_network.specs.Passes.{kept_tern}
 use Rattle.fab_network.proofs.Kept.{kept_same, kept_other}
 use Rattle.fab_phases.specs.Loading.{IsLatch, IsLoadedFlop}
 use Rattle.fab_phases.specs.Words.{IsLeft}
-use Rattle.fab_phases.specs.Ticks.{AreOnWay, IsSet, LeavesPoints, Tick}
+use Rattle.fab_phases.specs.inner.Ticks.{AreOnWay, IsSet, LeavesPoints, Tick}
 use Rattle.fab_phases.specs.declared.loading.LoadedFlop.{LoadedFlop}
 use Rattle.fab_phases.specs.declared.loading.Latch.{Latch}
 

@@ -1,7 +1,6 @@
 pub mod Lists
 pub mod Loading
-pub mod Gathering
 pub mod Words
-pub mod Ticks
 pub mod Cycles
 pub mod Running
+pub mod inner

@@ -7,7 +7,7 @@ ghost use Rattle.fab_network.specs.Passes.{kept_tern};
 ghost use Rattle.fab_demand.specs.Asked.{AsksMore};
 ghost use Rattle.fab_demand.specs.Demand.{IsAsked};
 ghost use Rattle.fab_phases.specs.Loading.{AreFlops, AreLoading, AreRuns, GoTogether, HasFlops, IsReady, IsRun};
-ghost use Rattle.fab_phases.specs.Gathering.{AreGated, AreInRuns, HasGated, IsFlopAt, IsGated, IsGatedAt, IsLoaderFlop, IsTogetherUpTo};
+ghost use Rattle.fab_phases.specs.inner.Gathering.{AreGated, AreInRuns, HasGated, IsFlopAt, IsGated, IsGatedAt, IsLoaderFlop, IsTogetherUpTo};
 
 use crate::loading::{Latch, LoadedFlop, Loading, Run};
 use fab_base::Memory;

@@ -6,7 +6,7 @@ ghost use Rattle.fab_network.specs.Network.{AreFit};
 ghost use Rattle.fab_network.specs.Passes.{kept_tern};
 ghost use Rattle.fab_phases.specs.Loading.{IsSolvable};
 ghost use Rattle.fab_phases.specs.Words.{AreLoadSteps, IsLoadingAt, IsLoadStep, IsOffered};
-ghost use Rattle.fab_phases.specs.Ticks.{AreFitFlops, AreFitLatches, AreFitRuns, IsFitRun, LeavesFlops, LeavesLatches, LeavesRun, LeavesRuns};
+ghost use Rattle.fab_phases.specs.inner.Ticks.{AreFitFlops, AreFitLatches, AreFitRuns, IsFitRun, LeavesFlops, LeavesLatches, LeavesRun, LeavesRuns};
 
 use crate::loading::{Latch, LoadedFlop, Loading, Run};
 use fab_compiled::through;

@@ -15,17 +15,18 @@ use Rattle.fab_netlist.specs.Packed.{PlainPacked}
 use Rattle.fab_netlist.proofs.Members.{mapped_in}
 use Rattle.fab_implementation.specs.Plain.{Pad, PlainImplementation}
 use Rattle.fab_implementation.specs.OnFabric.{IsSite, kind_at, IsOnFabric}
-use Rattle.fab_legal.specs.WellMade.{output_name, output_ports, ports}
-use Rattle.fab_legal.specs.Lines.{IsCell, IsInput, IsOutput, HaveSites, sites as all_sites, ConstraintsHold}
-use Rattle.fab_legal.specs.Legal.{ArePlaced}
-use Rattle.fab_legal.proofs.Bindings.{differ_left, differ_right}
-use Rattle.fab_ways.specs.Sites.{same_site, sites_of_kind}
+use Rattle.fab_ways.specs.fab_legal.specs.WellMade.{output_name, output_ports, ports}
+use Rattle.fab_ways.specs.fab_legal.specs.Lines.{IsCell, IsInput, IsOutput, HaveSites, sites as all_sites, ConstraintsHold}
+use Rattle.fab_ways.specs.fab_legal.specs.Legal.{ArePlaced}
+use Rattle.fab_ways.specs.fab_legal.proofs.Bindings.{differ_left, differ_right}
+use Rattle.fab_fabric.specs.Sites.{sites_of_kind}
+use Rattle.fab_ways.specs.Sites.{same_site}
 use Rattle.fab_ways.specs.Placing.{no_site, site_after, exchanged, MayExchange, IsGoodPlacement, cost, placement_in_order}
 use Rattle.fab_ways.proofs.Lists.{in_counted, from_counted}
 use Rattle.fab_place.specs.Fixings.{AreFixed, Fits}
 use Rattle.fab_place.specs.Pins.{item_total}
 use Rattle.fab_place.specs.Standing.{site_at, standing}
-use Rattle.fab_place.specs.BoardOf.{IsSettled}
+use Rattle.fab_place.specs.inner.BoardOf.{IsSettled}
 use Rattle.fab_place.proofs.Costs.{cost_is}
 use Rattle.fab_place.proofs.Finding.{after_item, site_tells}
 use Rattle.fab_place.proofs.Lines.{all_new, have_sites, ins_counted, outs_counted, port_line, has_port, sites_counted, cells_named, ins_named, outs_named}

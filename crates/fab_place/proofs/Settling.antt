@@ -12,15 +12,15 @@ use Rattle.fab_fabric.specs.declared.wire.Site.{Site}
 use Rattle.fab_netlist.specs.Packed.{PlainPacked}
 use Rattle.fab_implementation.specs.Plain.{Pad, PlainImplementation}
 use Rattle.fab_implementation.specs.OnFabric.{IsOnFabric}
-use Rattle.fab_legal.specs.WellMade.{ports}
-use Rattle.fab_ways.specs.Sites.{sites_of_kind}
+use Rattle.fab_ways.specs.fab_legal.specs.WellMade.{ports}
+use Rattle.fab_fabric.specs.Sites.{sites_of_kind}
 use Rattle.fab_ways.specs.Placing.{IsGoodPlacement}
 use Rattle.fab_place.specs.Fixings.{AreFixed, Fits}
-use Rattle.fab_place.specs.Constraints.{AreConstrained}
-use Rattle.fab_place.specs.Starts.{start_numbers}
+use Rattle.fab_place.specs.inner.Constraints.{AreConstrained}
+use Rattle.fab_place.specs.inner.Starts.{start_numbers}
 use Rattle.fab_place.specs.Pins.{item_total}
 use Rattle.fab_place.specs.Standing.{standing}
-use Rattle.fab_place.specs.BoardOf.{IsBoardOf, IsSettled}
+use Rattle.fab_place.specs.inner.BoardOf.{IsBoardOf, IsSettled}
 use Rattle.fab_place.proofs.Ending.{good, on_fabric, count, all_inside}
 use Rattle.fab_place.proofs.Matching.{pad_of}
 use Rattle.fab_place.proofs.Once.{once_apart}

@@ -13,17 +13,17 @@ use Rattle.fab_fabric.specs.Fabric.{IsFabric}
 use Rattle.fab_fabric.specs.declared.wire.Site.{Site}
 use Rattle.fab_netlist.specs.Packed.{PlainPacked}
 use Rattle.fab_implementation.specs.Plain.{Pad, PlainImplementation}
-use Rattle.fab_legal.specs.WellMade.{output_name, output_ports, ports}
-use Rattle.fab_legal.proofs.Members.{from_mapped}
-use Rattle.fab_ways.specs.Sites.{sites_of_kind}
+use Rattle.fab_ways.specs.fab_legal.specs.WellMade.{output_name, output_ports, ports}
+use Rattle.fab_ways.specs.fab_legal.proofs.Members.{from_mapped}
+use Rattle.fab_fabric.specs.Sites.{sites_of_kind}
 use Rattle.fab_ways.specs.Placing.{no_site, pads_in_order, free_pads, placement_in_order}
 use Rattle.fab_ways.proofs.Lists.{from_counted, from_filter}
 use Rattle.fab_place.specs.Fixings.{AreFixed, Fits}
-use Rattle.fab_place.specs.Constraints.{AreConstrained}
-use Rattle.fab_place.specs.Starts.{is_taken, free_numbers, loose, numbers_in_order, start_numbers}
+use Rattle.fab_place.specs.inner.Constraints.{AreConstrained}
+use Rattle.fab_place.specs.inner.Starts.{is_taken, free_numbers, loose, numbers_in_order, start_numbers}
 use Rattle.fab_place.specs.Pins.{item_total}
 use Rattle.fab_place.specs.Standing.{site_at, standing}
-use Rattle.fab_place.specs.BoardOf.{IsBoardOf}
+use Rattle.fab_place.specs.inner.BoardOf.{IsBoardOf}
 use Rattle.fab_place.proofs.Counting.{length_counted, at_counted, counted_same}
 use Rattle.fab_place.proofs.Once.{Once, once_append, once_counted, once_map, once_filter, once_at}
 use Rattle.fab_place.proofs.Orders.{pads_of, from_pads, enough, free_low, length_in_order, from_in_order, once_in_order, at_in_order, is_taken_by}

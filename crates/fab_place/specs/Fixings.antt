@@ -5,9 +5,9 @@ use Rattle.fab_model.specs.Grid.{PlainFabric}
 use Rattle.fab_netlist.specs.Packed.{PlainPacked}
 use Rattle.fab_implementation.specs.Plain.{Pad}
 use Rattle.fab_implementation.specs.OnFabric.{kind_at}
-use Rattle.fab_legal.specs.WellMade.{ports, IsWellMadePacked}
-use Rattle.fab_legal.specs.Lines.{named, sited}
-use Rattle.fab_ways.specs.Sites.{sites_of_kind}
+use Rattle.fab_ways.specs.fab_legal.specs.WellMade.{ports, IsWellMadePacked}
+use Rattle.fab_ways.specs.fab_legal.specs.Lines.{named, sited}
+use Rattle.fab_fabric.specs.Sites.{sites_of_kind}
 
 -- data ports on IO sites of the fabric, of which none stands twice
 pub record AreFixed (fabric : PlainFabric) (packed : PlainPacked) (fixed : List Pad) : Type 0 where

@@ -1,6 +1,6 @@
 //! Boxes around sites.
 ghost use Rattle.std.specs.Prelude.{◌≡◌, ◌<◌};
-ghost use Rattle.fab_place.specs.Boxes.{around, included, half};
+ghost use Rattle.fab_place.specs.inner.Boxes.{around, included, half};
 
 use fab_fabric::Site;
 

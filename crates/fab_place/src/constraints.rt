@@ -1,8 +1,8 @@
 //! The pads that constraints give to ports.
 ghost use Rattle.std.specs.Prelude.{◌≡◌, ◌≢◌, ◌<◌, ◌^◌, ◌++◌, IfOk, OnOk, AllPairs, length, map};
-ghost use Rattle.fab_legal.specs.Lines.{named};
-ghost use Rattle.fab_legal.specs.WellMade.{ports};
-ghost use Rattle.fab_place.specs.Constraints.{AreConstrained, HasConstraints, HasNumbers, pad_in};
+ghost use Rattle.fab_ways.specs.fab_legal.specs.Lines.{named};
+ghost use Rattle.fab_ways.specs.fab_legal.specs.WellMade.{ports};
+ghost use Rattle.fab_place.specs.inner.Constraints.{AreConstrained, HasConstraints, HasNumbers, pad_in};
 
 use fab_base::{Memory, Name};
 use fab_fabric::Site;

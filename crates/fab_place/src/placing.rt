@@ -2,10 +2,10 @@
 ghost use Rattle.std.specs.Prelude.{◌≡◌, ◌++◌, IfOk, OnOk};
 ghost use Rattle.fab_kinds.specs.declared.kind.Kind.TheVariants as kinds;
 ghost use Rattle.fab_implementation.specs.OnFabric.{IsOnFabric};
-ghost use Rattle.fab_ways.specs.Sites.{sites_of_kind};
+ghost use Rattle.fab_fabric.specs.Sites.{sites_of_kind};
 ghost use Rattle.fab_ways.specs.Placing.{IsGoodPlacement};
 ghost use Rattle.fab_place.specs.Fixings.{AreFixed, Fits};
-ghost use Rattle.fab_place.specs.BoardOf.{IsSettled};
+ghost use Rattle.fab_place.specs.inner.BoardOf.{IsSettled};
 
 use crate::board::board_of;
 use crate::constraints::constrained_pads;
@@ -122,7 +122,7 @@ fn numbers_of<P: Progress>(
     requires sites { sites.now ≡ luts.now ++ pads.now }
     ensures { IfOk result (λ numbers. IsSettled packed.now fixed.now luts.now pads.now numbers.items) }
 {
-    let _types = fabric.types();
+    fabric.is_well_made();
     let cells = packed.cells.len() as u32;
     let (first_pad, pad_count) = (luts.len() as u32, pads.len() as u32);
     let constrained = constrained_pads(alloc, packed, fixed, pads)?;

@@ -4,7 +4,7 @@ ghost use Rattle.std.specs.Prelude.{◌≡◌, ◌<◌, ◌≤◌, ◌++◌, IfO
 ghost use Rattle.std.specs.List.{flat_map, enumerate_from};
 ghost use Rattle.fab_model.specs.Tiles.{counted};
 ghost use Rattle.fab_model.specs.Grid.{tile_at};
-ghost use Rattle.fab_ways.specs.Sites.{same_kind, tile_sites, sites_of_kind};
+ghost use Rattle.fab_fabric.specs.Sites.{same_kind, tile_sites, sites_of_kind};
 
 use fab_base::Memory;
 use fab_fabric::{Fabric, Site};

@@ -1,7 +1,7 @@
 //! Where the items of a design stand before anything is exchanged.
 ghost use Rattle.std.specs.Prelude.{◌≡◌, ℕ, ◌+◌, ◌<◌, ◌≤◌, ◌++◌, ◌∷◌, ◌||◌, false, List, Option, All, IfOk, OnOk, IfSome, None, [], map, length, get_or};
 ghost use Rattle.fab_model.specs.Tiles.{counted};
-ghost use Rattle.fab_place.specs.Starts.{is_number, is_taken, free_numbers, loose, numbers_in_order, start_numbers};
+ghost use Rattle.fab_place.specs.inner.Starts.{is_number, is_taken, free_numbers, loose, numbers_in_order, start_numbers};
 
 use fab_base::Memory;
 use std::alloc::Global;

@@ -18,49 +18,49 @@ use Rattle.fab_syntax.specs.Declarations.{module_named, item_shape, width_if_any
 use Rattle.fab_meaning.specs.Points.{Path, Point, point, module_at}
 use Rattle.fab_meaning.specs.Runs.{clock_name}
 use Rattle.fab_meaning.specs.Loading as loading
-use Rattle.fab_meaning.specs.Loading.{IsLoading, data_name}
+use Rattle.fab_meaning.specs.Loading.{IsLoading, write_data_name, write_strobe_name}
 use Rattle.fab_meaning.proofs.Dependence.{same_name}
 use Rattle.fab_meaning.proofs.Modules.{each_all}
-use Rattle.fab_matrix.specs.Matrix.{config_name}
+use Rattle.fab_meaning.specs.Ports.{config_name}
 use Rattle.fab_model.specs.declared.tiles.Bel.{Bel}
-use Rattle.fab_model.specs.Tiles.{PlainTile, matrix_names, numbered_pairs, pair_numbers, bel_bits, tile_bits, counted, is_matrix_output, IsPair, IsTile}
+use Rattle.fab_model.specs.Tiles.{PlainTile, matrix_names, numbered_pairs, pair_numbers, bel_bits, tile_bits, counted, is_matrix_output, IsPair, IsTile, bits_before}
 use Rattle.fab_model.specs.Grid.{PlainFabric, tile_at}
 use Rattle.fab_model.proofs.Wires.{number_has_wire}
 use Rattle.fab_fabric.specs.Fabric.{IsFabric, AreTiles}
 use Rattle.fab_prim.specs.Modules.{module_name, module_of_kind}
-use Rattle.fab_gen_tile.specs.Names.{config_instance_name, matrix_module_name, matrix_instance_name, bel_instance_name, bits_name, frame_data_name, frame_strobe_name, latch_name, same_join}
-use Rattle.fab_gen_tile.specs.ConfigModule.{config_module}
-use Rattle.fab_gen_tile.specs.TileModule.{bits_join, bits_before, bel_joins, matrix_inputs, matrix_outputs, matrix_joins, tile_module}
-use Rattle.fab_gen_tile.specs.MatrixModule.{named_pairs, matrix_module}
-use Rattle.fab_gen_loader.specs.Loader as loaders
-use Rattle.fab_gen_loader.specs.Loader.{NextValues, loader_of, registers, processes, outputs, loader_ports, strobe_register_name}
-use Rattle.fab_fabric_text.specs.Names.{loader_clock_name, write_strobe_name, write_data_name, address_name, strobe_name, row_name, column_strobe_name}
-use Rattle.fab_fabric_text.specs.Places.{PlacedTile, placed_tiles}
-use Rattle.fab_fabric_text.specs.Text.{same_kind}
-use Rattle.fab_fabric_text.specs.Top.{top_module}
-use Rattle.fab_tile_drives.specs.Stands.{TileStands, matrix_path, bel_path}
-use Rattle.fab_tile_drives.proofs.Endings.{all_flat_map, all_counted}
-use Rattle.fab_tile_drives.proofs.Members.{contains_at, contains_counted}
-use Rattle.fab_tile_drives.proofs.Widths.{passed_ports}
-use Rattle.fab_tile_drives.proofs.TileNames.{bits_wide}
-use Rattle.fab_tile_drives.proofs.TileItems.{matrix_found, matrix_there, bel_found, bel_there}
-use Rattle.fab_tile_drives.proofs.Driven.{width_of, declared_at}
-use Rattle.fab_tile_drives.proofs.Latches.{latch_width}
-use Rattle.fab_tile_drives.proofs.BitValues.{inside}
-use Rattle.fab_tile_drives.proofs.MatrixPorts.{bits_input, bits_width}
-use Rattle.fab_tile_drives.proofs.NamedPairs.{bits_same}
-use Rattle.fab_tile_drives.proofs.PinPorts.{config_input, config_width, config_joined, bits_within}
-use Rattle.fab_drives.specs.Points.{place_path}
-use Rattle.fab_drives.proofs.Apart.{told_apart}
-use Rattle.fab_drives.proofs.Modules.{tile_of_types}
-use Rattle.fab_drives.proofs.Places.{IsThere, all_placed}
-use Rattle.fab_text_loads.specs.Points.{loader_path, config_path, IsLoadingPoint, in_top, in_loader, in_tile, in_configuration}
-use Rattle.fab_text_loads.specs.Texts.{IsFabricText}
-use Rattle.fab_text_loads.proofs.Drivers.{assigned_by}
-use Rattle.fab_text_loads.proofs.Loader.{HasLoader, row_port_width, strobe_register_width}
-use Rattle.fab_text_loads.proofs.Tops.{address_width, strobe_width, row_width, column_width}
-use Rattle.fab_text_loads.proofs.Within.{AreWithin, expression_within, only_name, flops}
-use Rattle.fab_text_loads.proofs.Named.{config_stands, named_are_loading}
+use Rattle.fab_use.specs.fab_gen_tile.specs.Names.{config_instance_name, matrix_module_name, matrix_instance_name, bel_instance_name, bits_name, frame_data_name, frame_strobe_name, latch_name, same_join}
+use Rattle.fab_use.specs.fab_gen_tile.specs.ConfigModule.{config_module}
+use Rattle.fab_use.specs.fab_gen_tile.specs.TileModule.{bits_join, bel_joins, matrix_inputs, matrix_outputs, matrix_joins, tile_module}
+use Rattle.fab_use.specs.fab_gen_tile.specs.MatrixModule.{named_pairs, matrix_module}
+use Rattle.fab_use.specs.fab_gen_loader.specs.Loader as loaders
+use Rattle.fab_use.specs.fab_gen_loader.specs.Loader.{NextValues, loader_of, registers, processes, outputs, loader_ports, strobe_register_name}
+use Rattle.fab_use.specs.fab_fabric_text.specs.Names.{loader_clock_name, address_name, strobe_name, row_name, column_strobe_name}
+use Rattle.fab_use.specs.fab_fabric_text.specs.Places.{PlacedTile, placed_tiles}
+use Rattle.fab_fabric.specs.Sites.{same_kind}
+use Rattle.fab_use.specs.fab_fabric_text.specs.Top.{top_module}
+use Rattle.fab_use.specs.fab_tile_drives.specs.Stands.{TileStands, matrix_path, bel_path}
+use Rattle.fab_use.specs.fab_tile_drives.proofs.Endings.{all_flat_map, all_counted}
+use Rattle.fab_use.specs.fab_tile_drives.proofs.Members.{contains_at, contains_counted}
+use Rattle.fab_use.specs.fab_tile_drives.proofs.Widths.{passed_ports}
+use Rattle.fab_use.specs.fab_tile_drives.proofs.TileNames.{bits_wide}
+use Rattle.fab_use.specs.fab_tile_drives.proofs.TileItems.{matrix_found, matrix_there, bel_found, bel_there}
+use Rattle.fab_use.specs.fab_tile_drives.proofs.Driven.{width_of, declared_at}
+use Rattle.fab_use.specs.fab_tile_drives.proofs.Latches.{latch_width}
+use Rattle.fab_use.specs.fab_tile_drives.proofs.BitValues.{inside}
+use Rattle.fab_use.specs.fab_tile_drives.proofs.MatrixPorts.{bits_input, bits_width}
+use Rattle.fab_use.specs.fab_tile_drives.proofs.NamedPairs.{bits_same}
+use Rattle.fab_use.specs.fab_tile_drives.proofs.PinPorts.{config_input, config_width, config_joined, bits_within}
+use Rattle.fab_use.specs.fab_drives.specs.Points.{place_path}
+use Rattle.fab_use.specs.fab_drives.proofs.Apart.{told_apart}
+use Rattle.fab_use.specs.fab_drives.proofs.Modules.{tile_of_types}
+use Rattle.fab_use.specs.fab_drives.proofs.Places.{IsThere, all_placed}
+use Rattle.fab_use.specs.fab_text_loads.specs.Points.{loader_path, config_path, IsLoadingPoint, in_top, in_loader, in_tile, in_configuration}
+use Rattle.fab_use.specs.fab_fabric_text.specs.Texts.{IsFabricText}
+use Rattle.fab_use.specs.fab_text_loads.proofs.Drivers.{assigned_by}
+use Rattle.fab_use.specs.fab_text_loads.proofs.Loader.{HasLoader, row_port_width, strobe_register_width}
+use Rattle.fab_use.specs.fab_text_loads.proofs.Tops.{address_width, strobe_width, row_width, column_width}
+use Rattle.fab_use.specs.fab_text_loads.proofs.Within.{AreWithin, expression_within, only_name, flops}
+use Rattle.fab_use.specs.fab_text_loads.proofs.Named.{config_stands, named_are_loading}
 use Rattle.fab_use.specs.Configuration.{NamedBits, named_bits, if_some_bits, frame_names, top_configuration, loader_configuration, bits_configuration, matrix_configuration, bel_configuration, tile_configuration, configuration, IsConfigurationPoint}
 use Rattle.fab_points.proofs.Loading.{loads, instance_loads, has_loader}
 use Rattle.fab_points.proofs.Places.{outputs_there, passing_plain}
@@ -82,24 +82,24 @@ pub loader_net : (rows : ℕ) (next : NextValues) (name : List ℕ) → nat_eq 6
 loader_net rows next name no_clock no_write no_address no_strobe no_row =
     let Differs : Port → Type 0 = λ other. other.name ≢ name in
     let front : List Port =
-    loaders.port true Scalar clock_name ∷ loaders.port true Scalar loading.strobe_name ∷ loaders.port true (Vector 32) data_name
+    loaders.port true Scalar clock_name ∷ loaders.port true Scalar loading.write_strobe_name ∷ loaders.port true (Vector 32) write_data_name
     ∷ loaders.port false (Vector 32) loaders.address_port ∷ loaders.port false Scalar loaders.strobe_port ∷ [] in
     let of_rows = counted rows (λ row. loaders.port false (Vector 32) (loaders.row_port row)) in
     passed_ports (loader_ports rows) (loader_of rows next).items name
     (All-append Differs front of_rows
     (each_all Differs front (
       told_apart 0 clock_name name no_clock,
-      (told_apart 0 loading.strobe_name name no_write, (told_apart 0 data_name name no_write, (told_apart 0 loaders.address_port name no_address, (told_apart 0 loaders.strobe_port name no_strobe, tt)))),
+      (told_apart 0 loading.write_strobe_name name no_write, (told_apart 0 write_data_name name no_write, (told_apart 0 loaders.address_port name no_address, (told_apart 0 loaders.strobe_port name no_strobe, tt)))),
     ))
     (all_counted Differs rows (λ row. loaders.port false (Vector 32) (loaders.row_port row)) (λ row few. told_apart 0 (loaders.row_port row) name no_row)))
 
-address_register_width : (rows : ℕ) (next : NextValues) → width_of (loader_of rows next) loaders.address_name ≡ 32
-address_register_width rows next = loader_net rows next loaders.address_name refl refl refl refl refl
+address_register_width : (rows : ℕ) (next : NextValues) → width_of (loader_of rows next) loaders.address_register_name ≡ 32
+address_register_width rows next = loader_net rows next loaders.address_register_name refl refl refl refl refl
 
-row_register_width : (rows : ℕ) (next : NextValues) (row : ℕ) → row < rows → width_of (loader_of rows next) (loaders.row_name row) ≡ 32
+row_register_width : (rows : ℕ) (next : NextValues) (row : ℕ) → row < rows → width_of (loader_of rows next) (loaders.row_register_name row) ≡ 32
 row_register_width rows next row few =
-    loader_net rows next (loaders.row_name row) refl refl refl refl refl
-    ∙ ap width_if_any (reg_found (Vector 32) loaders.row_name (processes rows next ++ outputs rows) rows row few)
+    loader_net rows next (loaders.row_register_name row) refl refl refl refl refl
+    ∙ ap width_if_any (reg_found (Vector 32) loaders.row_register_name (processes rows next ++ outputs rows) rows row few)
 
 -- ---- tiles with select bits
 
@@ -171,19 +171,19 @@ module _ (fabric : PlainFabric) (text : List PlainModule) (is : IsFabric fabric)
   loader_loads =
       let rows = fabric.rows in
       let made = loader_of rows next in
-      let front : List NamedBits = named_bits loader_path loaders.address_port 32 ∷ named_bits loader_path loaders.strobe_port 1 ∷ named_bits loader_path loaders.address_name 32 ∷ named_bits loader_path strobe_register_name 1 ∷ [] in
+      let front : List NamedBits = named_bits loader_path loaders.address_port 32 ∷ named_bits loader_path loaders.strobe_port 1 ∷ named_bits loader_path loaders.address_register_name 32 ∷ named_bits loader_path strobe_register_name 1 ∷ [] in
       let of_name : (name : List ℕ) (width : ℕ) → width_of made name ≡ width → Loads (named_bits loader_path name width) = λ name width wide. by_name loader_path made name width has.stands wide (λ bit. in_loader refl) in
-      All-append Loads front (counted rows (λ r. named_bits loader_path (loaders.row_port r) 32) ++ counted rows (λ r. named_bits loader_path (loaders.row_name r) 32))
+      All-append Loads front (counted rows (λ r. named_bits loader_path (loaders.row_port r) 32) ++ counted rows (λ r. named_bits loader_path (loaders.row_register_name r) 32))
       (each_all Loads front (
         of_name loaders.address_port 32 refl,
         (
           of_name loaders.strobe_port 1 refl,
-          (of_name loaders.address_name 32 (address_register_width rows next), (of_name strobe_register_name 1 (strobe_register_width rows next), tt)),
+          (of_name loaders.address_register_name 32 (address_register_width rows next), (of_name strobe_register_name 1 (strobe_register_width rows next), tt)),
         ),
       ))
-      (All-append Loads (counted rows (λ r. named_bits loader_path (loaders.row_port r) 32)) (counted rows (λ r. named_bits loader_path (loaders.row_name r) 32))
+      (All-append Loads (counted rows (λ r. named_bits loader_path (loaders.row_port r) 32)) (counted rows (λ r. named_bits loader_path (loaders.row_register_name r) 32))
       (all_counted Loads rows (λ r. named_bits loader_path (loaders.row_port r) 32) (λ r few. of_name (loaders.row_port r) 32 (row_port_width rows next r few)))
-      (all_counted Loads rows (λ r. named_bits loader_path (loaders.row_name r) 32) (λ r few. of_name (loaders.row_name r) 32 (row_register_width rows next r few))))
+      (all_counted Loads rows (λ r. named_bits loader_path (loaders.row_register_name r) 32) (λ r few. of_name (loaders.row_register_name r) 32 (row_register_width rows next r few))))
 
   module _ (x y : ℕ) (tile : PlainTile) (there : tile_at fabric x y ≡ Some tile) where
     abbrev path : Path

@@ -11,38 +11,38 @@ use Rattle.fab_meaning.specs.Points.{Path, Point, point, bit_of, copy, module_at
 use Rattle.fab_meaning.specs.Settled.{Assignment, IsSettledOn}
 use Rattle.fab_meaning.specs.Reads.{is_declared}
 use Rattle.fab_meaning.specs.Loading.{IsLoading}
-use Rattle.fab_matrix.specs.Matrix.{config_name}
+use Rattle.fab_meaning.specs.Ports.{config_name}
 use Rattle.fab_model.specs.declared.tiles.Bel.{Bel}
-use Rattle.fab_model.specs.Tiles.{PlainTile, matrix_names, numbered_pairs, bel_bits, tile_bits}
+use Rattle.fab_model.specs.Tiles.{PlainTile, matrix_names, numbered_pairs, bel_bits, tile_bits, bits_before}
 use Rattle.fab_model.specs.Grid.{PlainFabric, tile_at}
 use Rattle.fab_prim.specs.Modules.{module_name, module_of_kind}
-use Rattle.fab_gen_tile.specs.Names.{config_module_name, config_instance_name, matrix_module_name, matrix_instance_name, bel_instance_name, bits_name, joined, same_join}
-use Rattle.fab_gen_tile.specs.ConfigModule.{all_latches, config_module}
-use Rattle.fab_gen_tile.specs.TileModule.{config_joins, bits_join, bits_before, bel_joins, matrix_inputs, matrix_outputs, matrix_joins, tile_items, tile_module}
-use Rattle.fab_gen_tile.specs.MatrixModule.{named_pairs, matrix_module}
-use Rattle.fab_gen_loader.specs.Loader.{NextValues, loader_of, StepsAsTheMachine}
+use Rattle.fab_use.specs.fab_gen_tile.specs.Names.{config_module_name, config_instance_name, matrix_module_name, matrix_instance_name, bel_instance_name, bits_name, joined, same_join}
+use Rattle.fab_use.specs.fab_gen_tile.specs.ConfigModule.{all_latches, config_module}
+use Rattle.fab_use.specs.fab_gen_tile.specs.TileModule.{config_joins, bits_join, bel_joins, matrix_inputs, matrix_outputs, matrix_joins, tile_items, tile_module}
+use Rattle.fab_use.specs.fab_gen_tile.specs.MatrixModule.{named_pairs, matrix_module}
+use Rattle.fab_use.specs.fab_gen_loader.specs.Loader.{NextValues, loader_of, StepsAsTheMachine}
 use Rattle.fab_fabric.specs.Fabric.{IsFabric}
-use Rattle.fab_fabric_text.specs.Text.{fabric_text}
-use Rattle.fab_tile_drives.specs.Stands.{TileStands, matrix_path, bel_path}
-use Rattle.fab_tile_drives.specs.Tiles.{ShowsTileBits}
-use Rattle.fab_tile_drives.proofs.Members.{contains_at, contains_first}
-use Rattle.fab_tile_drives.proofs.TileNames.{tile_width, bits_wide}
-use Rattle.fab_tile_drives.proofs.TileItems.{config_there, matrix_found, matrix_there, bel_found, bel_there}
-use Rattle.fab_tile_drives.proofs.Driven.{width_of, declared_at, part_bit}
-use Rattle.fab_tile_drives.proofs.Latches.{all_there, latches_seen}
-use Rattle.fab_tile_drives.proofs.BitValues.{inside}
-use Rattle.fab_tile_drives.proofs.MatrixPorts.{bits_input, bits_width}
-use Rattle.fab_tile_drives.proofs.NamedPairs.{bits_same}
-use Rattle.fab_tile_drives.proofs.PinPorts.{config_input, config_width, config_joined, bits_within}
-use Rattle.fab_drives.specs.Points.{place_path}
-use Rattle.fab_text_loads.specs.Points.{config_path}
-use Rattle.fab_text_loads.specs.Texts.{IsFabricText}
-use Rattle.fab_text_loads.proofs.Drivers.{assigned_by, joined_to, joined_from}
-use Rattle.fab_text_loads.proofs.Declared.{bit_below}
-use Rattle.fab_text_loads.proofs.Loader.{HasLoader, text_has_loader}
-use Rattle.fab_text_loads.proofs.Within.{AreWithin, expression_within, only_name, copy_within, flops, within_is_loading}
-use Rattle.fab_text_loads.proofs.Named.{config_stands, config_within}
-use Rattle.fab_text_loads.proofs.Runs.{configured_shows}
+use Rattle.fab_use.specs.fab_fabric_text.specs.Text.{fabric_text}
+use Rattle.fab_use.specs.fab_tile_drives.specs.Stands.{TileStands, matrix_path, bel_path}
+use Rattle.fab_use.specs.fab_tile_drives.specs.Tiles.{ShowsTileBits}
+use Rattle.fab_use.specs.fab_tile_drives.proofs.Members.{contains_at, contains_first}
+use Rattle.fab_use.specs.fab_tile_drives.proofs.TileNames.{tile_width, bits_wide}
+use Rattle.fab_use.specs.fab_tile_drives.proofs.TileItems.{config_there, matrix_found, matrix_there, bel_found, bel_there}
+use Rattle.fab_use.specs.fab_tile_drives.proofs.Driven.{width_of, declared_at, part_bit}
+use Rattle.fab_use.specs.fab_tile_drives.proofs.Latches.{all_there, latches_seen}
+use Rattle.fab_use.specs.fab_tile_drives.proofs.BitValues.{inside}
+use Rattle.fab_use.specs.fab_tile_drives.proofs.MatrixPorts.{bits_input, bits_width}
+use Rattle.fab_use.specs.fab_tile_drives.proofs.NamedPairs.{bits_same}
+use Rattle.fab_use.specs.fab_tile_drives.proofs.PinPorts.{config_input, config_width, config_joined, bits_within}
+use Rattle.fab_use.specs.fab_drives.specs.Points.{place_path}
+use Rattle.fab_use.specs.fab_text_loads.specs.Points.{config_path}
+use Rattle.fab_use.specs.fab_fabric_text.specs.Texts.{IsFabricText}
+use Rattle.fab_use.specs.fab_text_loads.proofs.Drivers.{assigned_by, joined_to, joined_from}
+use Rattle.fab_use.specs.fab_text_loads.proofs.Declared.{bit_below}
+use Rattle.fab_use.specs.fab_text_loads.proofs.Loader.{HasLoader, text_has_loader}
+use Rattle.fab_use.specs.fab_text_loads.proofs.Within.{AreWithin, expression_within, only_name, copy_within, flops, within_is_loading}
+use Rattle.fab_use.specs.fab_text_loads.proofs.Named.{config_stands, config_within}
+use Rattle.fab_use.specs.fab_text_loads.proofs.Runs.{configured_shows}
 use Rattle.fab_tern.specs.Shown.{Terns}
 use Rattle.fab_points.specs.Known.{KnowsTile}
 use Rattle.fab_points.specs.Laws.{LoadedIsKnown}

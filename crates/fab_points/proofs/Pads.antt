@@ -11,7 +11,7 @@ use Rattle.fab_meaning.specs.Points.{point, outside, module_at}
 use Rattle.fab_meaning.specs.Settled.{Assignment}
 use Rattle.fab_meaning.specs.Runs.{user_clock_name}
 use Rattle.fab_meaning.proofs.Modules.{each_all}
-use Rattle.fab_matrix.specs.Matrix.{scalar}
+use Rattle.fab_meaning.specs.Ports.{scalar}
 use Rattle.fab_prim.specs.Ports.{top_name, top_inputs, top_outputs}
 use Rattle.fab_model.specs.declared.tiles.WireRow.{WireRow}
 use Rattle.fab_model.specs.declared.tiles.Bel.{Bel}
@@ -20,26 +20,27 @@ use Rattle.fab_model.specs.Tiles.{PlainTile, counted}
 use Rattle.fab_model.specs.Grid.{PlainFabric, tile_at}
 use Rattle.fab_fabric.specs.Names.{place_name}
 use Rattle.fab_fabric.specs.Fabric.{IsFabric, AreTiles}
-use Rattle.fab_gen_tile.specs.Names.{tile_module_name, frame_data_name, frame_strobe_name, vector, begin_name, end_name, pad_name, joined, same_join}
-use Rattle.fab_gen_tile.specs.Borders.{side_border, border_ports}
-use Rattle.fab_gen_tile.specs.ConfigModule.{frame_ports}
-use Rattle.fab_gen_tile.specs.TileModule.{pad_ports, bels_ports, tile_ports, tile_module}
-use Rattle.fab_fabric_text.specs.Names.{row_name, column_strobe_name, pad_port_name, loader_clock_name, write_strobe_name, write_data_name}
-use Rattle.fab_fabric_text.specs.Places.{PlacedTile, placed_tiles}
-use Rattle.fab_fabric_text.specs.Top as top
-use Rattle.fab_fabric_text.specs.Top.{row_joins, pad_joins, tile_joins, tile_pads, top_ports, top_items, top_module}
-use Rattle.fab_tile_drives.proofs.Endings.{all_flat_map, all_counted}
-use Rattle.fab_tile_drives.proofs.Members.{contains_map}
-use Rattle.fab_drives.specs.Points.{place_path}
-use Rattle.fab_drives.proofs.Lists.{contains_flat, contains_numbered, all_of, all_if}
-use Rattle.fab_drives.proofs.Apart.{told_apart, one_of_name}
-use Rattle.fab_drives.proofs.Declared.{port_has_direction}
-use Rattle.fab_drives.proofs.Places.{placed_tile, tile_is_placed}
-use Rattle.fab_drives.proofs.Instances.{tile_instance_there}
-use Rattle.fab_drives.proofs.Texts.{HasFabric}
-use Rattle.fab_drives.proofs.TilePorts.{pad_is_input}
-use Rattle.fab_drives.proofs.TopNames.{pad_port_has_bits}
-use Rattle.fab_drives.proofs.TileJoins.{pad_is_joined}
+use Rattle.fab_use.specs.fab_gen_tile.specs.Names.{tile_module_name, frame_data_name, frame_strobe_name, vector, begin_name, end_name, pad_name, joined, same_join}
+use Rattle.fab_use.specs.fab_gen_tile.specs.Borders.{side_border, border_ports}
+use Rattle.fab_use.specs.fab_gen_tile.specs.ConfigModule.{frame_ports}
+use Rattle.fab_use.specs.fab_gen_tile.specs.TileModule.{pad_ports, bels_ports, tile_ports, tile_module}
+use Rattle.fab_meaning.specs.Loading.{write_strobe_name, write_data_name}
+use Rattle.fab_use.specs.fab_fabric_text.specs.Names.{row_name, column_strobe_name, pad_port_name, loader_clock_name}
+use Rattle.fab_use.specs.fab_fabric_text.specs.Places.{PlacedTile, placed_tiles}
+use Rattle.fab_use.specs.fab_fabric_text.specs.Top as top
+use Rattle.fab_use.specs.fab_fabric_text.specs.Top.{row_joins, pad_joins, tile_joins, tile_pads, top_ports, top_items, top_module}
+use Rattle.fab_use.specs.fab_tile_drives.proofs.Endings.{all_flat_map, all_counted}
+use Rattle.fab_use.specs.fab_tile_drives.proofs.Members.{contains_map}
+use Rattle.fab_use.specs.fab_drives.specs.Points.{place_path}
+use Rattle.fab_use.specs.fab_drives.proofs.Lists.{contains_flat, contains_numbered, all_of, all_if}
+use Rattle.fab_use.specs.fab_drives.proofs.Apart.{told_apart, one_of_name}
+use Rattle.fab_use.specs.fab_drives.proofs.Declared.{port_has_direction}
+use Rattle.fab_use.specs.fab_drives.proofs.Places.{placed_tile, tile_is_placed}
+use Rattle.fab_use.specs.fab_drives.proofs.Instances.{tile_instance_there}
+use Rattle.fab_use.specs.fab_drives.proofs.Texts.{HasFabric}
+use Rattle.fab_use.specs.fab_drives.proofs.TilePorts.{pad_is_input}
+use Rattle.fab_use.specs.fab_drives.proofs.TopNames.{pad_port_has_bits}
+use Rattle.fab_use.specs.fab_drives.proofs.TileJoins.{pad_is_joined}
 use Rattle.fab_text_sound.proofs.TopDeclared.{ports_apart}
 use Rattle.fab_use.specs.Sources.{shows, top_input}
 use Rattle.fab_tern.specs.Shown.{Terns}

@@ -8,7 +8,8 @@ use Rattle.fab_meaning.specs.Points.{Path, Point, point, flop, module_at}
 use Rattle.fab_meaning.specs.Settled.{Assignment}
 use Rattle.fab_meaning.specs.Runs.{user_clock_name}
 use Rattle.fab_netlist.specs.WellMade.{table_bit}
-use Rattle.fab_prim.specs.Ports.{config_name, top_name}
+use Rattle.fab_meaning.specs.Ports.{config_name}
+use Rattle.fab_prim.specs.Ports.{top_name}
 use Rattle.fab_prim.specs.Modules as modules
 use Rattle.fab_prim.specs.Modules.{flip_flop_name, flip_flop, module_of_kind}
 use Rattle.fab_tern.specs.Operators as operators

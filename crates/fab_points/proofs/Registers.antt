@@ -11,23 +11,23 @@ use Rattle.fab_meaning.specs.Runs.{clock_name, user_clock_name, join_named, cloc
 use Rattle.fab_meaning.proofs.Clocks.{clock_at_top, clock_below}
 use Rattle.fab_meaning.proofs.Declared.{bits_of_name}
 use Rattle.fab_model.specs.declared.tiles.Bel.{Bel}
-use Rattle.fab_model.specs.Tiles.{PlainTile}
+use Rattle.fab_model.specs.Tiles.{PlainTile, bits_before}
 use Rattle.fab_model.specs.Grid.{PlainFabric, tile_at}
 use Rattle.fab_fabric.specs.Fabric.{IsFabric}
 use Rattle.fab_fabric.specs.Names.{place_name}
-use Rattle.fab_prim.specs.Ports.{config_name}
+use Rattle.fab_meaning.specs.Ports.{config_name}
 use Rattle.fab_prim.specs.Modules as modules
 use Rattle.fab_prim.specs.Modules.{flip_flop_name, flip_flop, module_of_kind}
 use Rattle.fab_prim.proofs.Instance.{seen}
-use Rattle.fab_gen_tile.specs.Names.{bel_instance_name}
-use Rattle.fab_gen_tile.specs.TileModule.{bits_before, bel_joins, tile_module}
-use Rattle.fab_fabric_text.specs.Top.{top_module}
-use Rattle.fab_tile_drives.specs.Stands.{bel_path}
-use Rattle.fab_tile_drives.proofs.TileItems.{bel_found}
-use Rattle.fab_drives.specs.Points.{place_path}
-use Rattle.fab_drives.proofs.Places.{placed_tile}
-use Rattle.fab_drives.proofs.Instances.{found_tile, tile_instance_found}
-use Rattle.fab_drives.proofs.Texts.{HasFabric}
+use Rattle.fab_use.specs.fab_gen_tile.specs.Names.{bel_instance_name}
+use Rattle.fab_use.specs.fab_gen_tile.specs.TileModule.{bel_joins, tile_module}
+use Rattle.fab_use.specs.fab_fabric_text.specs.Top.{top_module}
+use Rattle.fab_use.specs.fab_tile_drives.specs.Stands.{bel_path}
+use Rattle.fab_use.specs.fab_tile_drives.proofs.TileItems.{bel_found}
+use Rattle.fab_use.specs.fab_drives.specs.Points.{place_path}
+use Rattle.fab_use.specs.fab_drives.proofs.Places.{placed_tile}
+use Rattle.fab_use.specs.fab_drives.proofs.Instances.{found_tile, tile_instance_found}
+use Rattle.fab_use.specs.fab_drives.proofs.Texts.{HasFabric}
 use Rattle.fab_tern.specs.Operators.{tern_at, one_of}
 use Rattle.fab_tern.specs.Values.{tern_value}
 use Rattle.fab_tern.specs.Shown.{Terns, first_terns, tern_names}

@@ -6,13 +6,13 @@ use Rattle.fab_systems.specs.Ternary.{known}
 use Rattle.fab_meaning.specs.Points.{Path, point}
 use Rattle.fab_select.specs.Selection.{select_bits}
 use Rattle.fab_model.specs.declared.tiles.Bel.{Bel}
-use Rattle.fab_model.specs.Tiles.{PlainTile, numbered_pairs, bel_bits}
+use Rattle.fab_model.specs.Tiles.{PlainTile, numbered_pairs, bel_bits, bits_before}
 use Rattle.fab_model.specs.Grid.{PlainFabric, tile_at}
 use Rattle.fab_model.specs.Drive.{PlainBits}
-use Rattle.fab_prim.specs.Ports.{config_name}
-use Rattle.fab_gen_tile.specs.TileModule.{bits_before, matrix_outputs}
-use Rattle.fab_tile_drives.specs.Stands.{matrix_path, bel_path}
-use Rattle.fab_drives.specs.Points.{place_path}
+use Rattle.fab_meaning.specs.Ports.{config_name}
+use Rattle.fab_use.specs.fab_gen_tile.specs.TileModule.{matrix_outputs}
+use Rattle.fab_use.specs.fab_tile_drives.specs.Stands.{matrix_path, bel_path}
+use Rattle.fab_use.specs.fab_drives.specs.Points.{place_path}
 use Rattle.fab_tern.specs.Shown.{Terns}
 
 -- In a tile: the select bits of the switch matrix, the configuration bits of BELs, and the tables of LUTs.

@@ -2,3 +2,17 @@ pub mod Shown
 pub mod Known
 pub mod Laws
 pub mod Example
+pub use Rattle.fab_use.specs.fab_gen_tile
+pub use Rattle.fab_use.specs.fab_legal
+pub use Rattle.fab_use.specs.fab_state
+pub use Rattle.fab_use.specs.fab_tile_drives
+pub use Rattle.fab_use.specs.fab_gen_loader
+pub use Rattle.fab_use.specs.fab_fabric_text
+pub use Rattle.fab_use.specs.fab_drives
+pub use Rattle.fab_use.specs.fab_frames
+pub use Rattle.fab_use.specs.fab_loading
+pub use Rattle.fab_load_runs
+pub use Rattle.fab_use.specs.fab_text_loads
+pub use Rattle.fab_use
+pub use Rattle.fab_text_sound.specs.fab_tiles_sound
+pub use Rattle.fab_text_sound

@@ -1,6 +1,6 @@
 -- The points of an instance, by the items of its module.
 use Rattle.std.proofs.Common.{◌≡◌, ℕ, ◌<◌, Bool, true, false, List, [], ◌∷◌, length, get_or, refl, ap, ◌∙◌, inr, Some, nat_lt, if◌then◌else◌}
-use Rattle.fab_bits.specs.Bits.{first_bits}
+use Rattle.fab_meaning.specs.fab_bits.specs.Bits.{first_bits}
 use Rattle.fab_syntax.specs.Plain.{PlainExpr, PlainModule, assign}
 use Rattle.fab_meaning.specs.Value.{value, bit_at}
 use Rattle.fab_syntax.specs.Declarations.{declared_width, width_in, is_input, is_input_of}

@@ -1,8 +1,8 @@
 -- The module of a LUT works.
 use Rattle.std.proofs.Common.{◌≡◌, ℕ, ◌<◌, ◌≤◌, Bool, true, false, ◌&&◌, ◌||◌, List, [], ◌∷◌, codes, refl, sym, ap, ap₂, ◌∙◌, arith, Some, if◌then◌else◌}
 use Rattle.std.proofs.lemmas.Bool.{lt-ltb}
-use Rattle.fab_bits.specs.Bits.{bit_number, number}
-use Rattle.fab_bits.proofs.Numbers.{get_first_bits}
+use Rattle.fab_meaning.specs.fab_bits.specs.Bits.{bit_number, number}
+use Rattle.fab_meaning.specs.fab_bits.proofs.Numbers.{get_first_bits}
 use Rattle.fab_kinds.specs.declared.kind.Kind.TheVariants as kinds
 use Rattle.fab_kinds.specs.Pins.{input_names, output_names}
 use Rattle.fab_kinds.specs.Lut.{lut_pins, lut_settings, lut_value, at_least_two}
@@ -11,7 +11,7 @@ use Rattle.fab_syntax.specs.Plain.{PlainModule, part}
 use Rattle.fab_meaning.specs.Value.{value, bit_at}
 use Rattle.fab_meaning.specs.Points.{Path, point, module_at}
 use Rattle.fab_meaning.specs.Settled.{Assignment, IsSettledOn}
-use Rattle.fab_prim.specs.Ports.{config_name}
+use Rattle.fab_meaning.specs.Ports.{config_name}
 use Rattle.fab_prim.specs.Modules as modules
 use Rattle.fab_prim.specs.Modules.{flip_flop_name, module_of_kind}
 use Rattle.fab_prim.specs.Works.{IsOwnPoint, PrimitiveWorks, values_at, pin_values, config_values, top_value, held_value}

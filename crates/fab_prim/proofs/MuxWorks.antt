@@ -11,7 +11,7 @@ use Rattle.fab_meaning.specs.Value.{value, bit_at}
 use Rattle.fab_syntax.specs.Declarations.{declared_width, is_input}
 use Rattle.fab_meaning.specs.Points.{Path, point, module_at}
 use Rattle.fab_meaning.specs.Settled.{Assignment, IsSettledOn}
-use Rattle.fab_prim.specs.Ports.{config_name}
+use Rattle.fab_meaning.specs.Ports.{config_name}
 use Rattle.fab_prim.specs.Modules.{module_of_kind, config_bit, one_of, mux_whole_tree}
 use Rattle.fab_prim.specs.Works.{IsOwnPoint, PrimitiveWorks, values_at, pin_values, config_values, top_value, held_value}
 use Rattle.fab_prim.proofs.Pins.{value_at_name}

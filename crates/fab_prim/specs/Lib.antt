@@ -1,3 +1,4 @@
 pub mod Ports
 pub mod Modules
 pub mod Works
+pub use Rattle.fab_meaning

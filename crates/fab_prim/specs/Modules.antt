@@ -6,7 +6,8 @@ use Rattle.fab_syntax.specs.declared.tree.Shape.TheVariants.{Scalar, Vector}
 use Rattle.fab_syntax.specs.declared.tree.Op.TheVariants.{And, Or}
 use Rattle.fab_syntax.specs.Plain.{PlainExpr, PlainItem, PlainModule, variable, pick, part, concatenation, complement, operation, conditional, plain_exprs, wire, reg, assign, clocked}
 use Rattle.fab_meaning.specs.Runs.{user_clock_name}
-use Rattle.fab_prim.specs.Ports.{config_name, top_name, module_ports}
+use Rattle.fab_meaning.specs.Ports.{config_name}
+use Rattle.fab_prim.specs.Ports.{top_name, module_ports}
 
 -- a configuration bit
 abbrev pub config_bit : ℕ → PlainExpr

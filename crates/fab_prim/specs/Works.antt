@@ -1,6 +1,6 @@
 -- What the module of a primitive does, wherever it stands in a text.
 use Rattle.std.specs.Prelude.{◌≡◌, ℕ, ◌≤◌, Bool, true, false, List, [], ◌∷◌, map, slice_get, Some}
-use Rattle.fab_bits.specs.Bits.{first_bits}
+use Rattle.fab_meaning.specs.fab_bits.specs.Bits.{first_bits}
 use Rattle.fab_kinds.specs.declared.kind.Kind.{Kind}
 use Rattle.fab_kinds.specs.declared.kind.Kind.TheVariants as kinds
 use Rattle.fab_kinds.specs.Pins.{input_names, input_count, pin_names, bit_count}
@@ -13,7 +13,8 @@ use Rattle.fab_meaning.specs.Points.{Path, Point, point, flop, Drives, module_at
 use Rattle.fab_meaning.specs.Settled.{Assignment, names_at, IsSettledOn}
 use Rattle.fab_meaning.specs.Reads.{is_declared}
 use Rattle.fab_meaning.specs.Runs.{user_clock_name}
-use Rattle.fab_prim.specs.Ports.{config_name, top_name, top_outputs}
+use Rattle.fab_meaning.specs.Ports.{config_name}
+use Rattle.fab_prim.specs.Ports.{top_name, top_outputs}
 use Rattle.fab_prim.specs.Modules.{flip_flop_name}
 
 -- a point of the instance at a path that is no input of it

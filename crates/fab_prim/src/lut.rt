@@ -4,7 +4,7 @@ ghost use Rattle.std.specs.Prelude.{◌≡◌, ◌++◌, [], ◌∷◌, codes, m
 ghost use Rattle.fab_syntax.specs.declared.tree.Shape.TheVariants.{Scalar, Vector};
 ghost use Rattle.fab_syntax.specs.Plain.{plain_expr, plain_item, part, wire, reg, assign};
 ghost use Rattle.fab_kinds.specs.declared.kind.Kind.TheVariants as kinds;
-ghost use Rattle.fab_prim.specs.Ports.{config_name};
+ghost use Rattle.fab_meaning.specs.Ports.{config_name};
 ghost use Rattle.fab_prim.specs.Modules.{config_bit, flip_flop_name, one_of, lut_items, lut_value, lut_next, both, lut_carry};
 
 use crate::build::{config_bit, named, one_of, operand, push_assign, push_flip_flop, variable};

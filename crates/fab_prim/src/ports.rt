@@ -2,7 +2,8 @@
 
 ghost use Rattle.std.specs.Prelude.{◌≡◌, ◌++◌, ◌≤◌, ◌+◌, [], ◌∷◌, true, false, map, IfOk, OnOk, slice_range};
 ghost use Rattle.fab_kinds.specs.Pins.{input_count, output_count, pin_names};
-ghost use Rattle.fab_prim.specs.Ports.{scalar, clock_names, config_port, top_inputs, top_outputs, module_ports};
+ghost use Rattle.fab_meaning.specs.Ports.{scalar, config_port};
+ghost use Rattle.fab_prim.specs.Ports.{clock_names, top_inputs, top_outputs, module_ports};
 
 use fab_base::{Memory, Name};
 use fab_kinds::Kind;

@@ -10,7 +10,8 @@ use Rattle.fab_rows.specs.Rows.{rows_of}
 use Rattle.fab_model.specs.Tiles.{PlainTile}
 use Rattle.fab_model.specs.Grid.{PlainFabric}
 use Rattle.fab_fabric.specs.Fabric.{wire_count}
-use Rattle.fab_files.specs.Files.{handed_out, last_line, refuses}
+use Rattle.fab_lines.specs.Counts.{last_line}
+use Rattle.fab_files.specs.Files.{handed_out, refuses}
 use Rattle.fab_blocks.specs.Reading.{PlainReading, PlainGridLine, PlainHolder, start}
 use Rattle.fab_read.specs.Rows.{is_left_open, ReadsRows, MeetsRows, ReadsFile, MeetsRowsFile, of_file, of_rows, of_end}
 use Rattle.fab_read.specs.Fabrics.{top, strange_line, grid_fabric, most_wires, ReadsParts, SpellsFabric, of_rows as in_rows, no_grid, no_tile, many_wires, RefusesFabric}

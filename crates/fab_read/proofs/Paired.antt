@@ -9,7 +9,7 @@ use Rattle.fab_select.specs.declared.pair.Pair.{Pair as NumberPair}
 use Rattle.fab_model.specs.Tiles.{PlainTile, with_pairs, with_table}
 use Rattle.fab_files.specs.Files.{Event, asks, refuses, HasReadCause, MeetsIfThere}
 use Rattle.fab_blocks.specs.Blocks.{PlainBlock, bare}
-use Rattle.fab_read.specs.Following.{unless, judged_tile, judged_pairs, ReadsPaired}
+use Rattle.fab_read.specs.inner.Following.{unless, judged_tile, judged_pairs, ReadsPaired}
 use Rattle.fab_read.specs.Tiles.{End, ReadsMatrix, MeetsMatrix, table_file, ReadsTable, MeetsTable, asks_table, long_table, block_problem, pairs_problem, at_end, ReadsPairs, ReadsTile, MeetsTile, bad_block, in_matrix, bad_pairs, in_places}
 use Rattle.fab_files.proofs.Causes.{placed_cause}
 

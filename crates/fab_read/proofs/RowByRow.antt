@@ -12,7 +12,7 @@ use Rattle.fab_blocks.specs.declared.mode.Said.{Said}
 use Rattle.fab_blocks.specs.declared.mode.Said.TheVariants as said
 use Rattle.fab_read.specs.Tiles.{MeetsTile}
 use Rattle.fab_read.specs.Rows.{opened_by, end_at, ReadsRows, ends, takes_row, opens_file, ends_tile, MeetsRows, bad_row, at_file, inside, left_open, in_tile, behind_row, behind_file, behind_tile, MeetsRowsFile, of_file, of_rows, of_end}
-use Rattle.fab_read.specs.Following.{Leads, MeetsRow, LeadsOn, ReadsFileTo, EndsTile}
+use Rattle.fab_read.specs.inner.Following.{Leads, MeetsRow, LeadsOn, ReadsFileTo, EndsTile}
 
 -- how deep files may still be opened from a file
 abbrev pub depth : PlainHolder → ℕ

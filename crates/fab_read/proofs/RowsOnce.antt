@@ -8,7 +8,8 @@ use Rattle.fab_base.specs.declared.words.Reason.TheVariants as reasons
 use Rattle.fab_desk.specs.Files.{Map}
 use Rattle.fab_rows.specs.Rows.{PlainRow, rows_of}
 use Rattle.fab_model.specs.Tiles.{PlainTile}
-use Rattle.fab_files.specs.Files.{handed_out, last_line, refuses}
+use Rattle.fab_lines.specs.Counts.{last_line}
+use Rattle.fab_files.specs.Files.{handed_out, refuses}
 use Rattle.fab_blocks.specs.Reading.{PlainReading, PlainHolder, with_type}
 use Rattle.fab_blocks.specs.Saying.{Step, said_of}
 use Rattle.fab_blocks.specs.declared.mode.Said.{Said}

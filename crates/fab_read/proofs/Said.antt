@@ -21,7 +21,7 @@ use Rattle.fab_blocks.specs.Inner.{malformed, foreign_row, value_problem, parame
 use Rattle.fab_blocks.specs.Reading.{PlainReading, PlainHolder, place_in, place_of, with_mode, with_grid, with_parameters}
 use Rattle.fab_blocks.specs.Saying.{Step, is_place, stands, may_begin, lines_of, parameters_begun, begin_grid, end_grid, grid_line, begin_parameters, end_parameters, begin_tile, handed_out, end_tile, with_said, with_block, row_in, say, said_of, HasRoomIfEnded}
 use Rattle.fab_blocks.specs.Words.{word_of}
-use Rattle.fab_read.specs.Following.{IsSaid}
+use Rattle.fab_read.specs.inner.Following.{IsSaid}
 use Rattle.fab_read.specs.Rows.{opened_by}
 use Rattle.fab_read.proofs.RowByRow.{depth}
 

@@ -14,7 +14,8 @@ use Rattle.fab_select.specs.declared.pair.Pair.{Pair as NumberPair}
 use Rattle.fab_model.specs.Tiles.{PlainTile, tile_bits, with_table}
 use Rattle.fab_tables.specs.Matrix.{matrix_format, matrix_pairs}
 use Rattle.fab_tables.specs.Config.{config_format, SpellsTable}
-use Rattle.fab_files.specs.Files.{handed_out, last_line, refuses}
+use Rattle.fab_lines.specs.Counts.{last_line}
+use Rattle.fab_files.specs.Files.{handed_out, refuses}
 use Rattle.fab_list_files.proofs.Once.{file_once, file_refused_once, file_not_both}
 use Rattle.fab_blocks.specs.Blocks.{PlainBlock, bare}
 use Rattle.fab_read.specs.Tiles.{End, known_in, numbered, is_table, ReadsMatrix, no_matrix, of_list, of_table, MeetsMatrix, in_list, at_table, in_table, table_bytes, ReadsTable, by_default, by_table, MeetsTable, long_table, bad_table, block_problem, pairs_problem, paired, table_file, ReadsPairs, ReadsTile, MeetsTile, bad_block, in_matrix, bad_pairs, in_places}

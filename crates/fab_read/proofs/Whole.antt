@@ -7,9 +7,10 @@ use Rattle.fab_base.specs.declared.problem.Problem.TheVariants as problems
 use Rattle.fab_desk.specs.Files.{Map}
 use Rattle.fab_model.specs.Tiles.{PlainTile}
 use Rattle.fab_fabric.specs.Fabric.{fabric_of, wire_count}
-use Rattle.fab_files.specs.Files.{last_line, refuses}
+use Rattle.fab_lines.specs.Counts.{last_line}
+use Rattle.fab_files.specs.Files.{refuses}
 use Rattle.fab_blocks.specs.Reading.{PlainReading, PlainGridLine, start}
-use Rattle.fab_read.specs.Following.{ReadsFileTo}
+use Rattle.fab_read.specs.inner.Following.{ReadsFileTo}
 use Rattle.fab_read.specs.Fabrics.{top, strange_line, column_count, places, grid_fabric, most_wires, ReadsParts, MeetsFabric, no_grid, no_tile, many_wires}
 
 module _ (files : Map) (name : List ℕ) (reading : PlainReading) (last : ℕ) (read : ReadsFileTo files (top name) start reading last) where

@@ -11,7 +11,8 @@ use Rattle.fab_desk.specs.Files.{Map}
 use Rattle.fab_model.specs.Tiles.{PlainTile}
 use Rattle.fab_model.specs.Grid.{PlainFabric}
 use Rattle.fab_fabric.specs.Fabric.{fabric_of, wire_count}
-use Rattle.fab_files.specs.Files.{last_line, Event, refuses}
+use Rattle.fab_lines.specs.Counts.{last_line}
+use Rattle.fab_files.specs.Files.{Event, refuses}
 use Rattle.fab_list_files.specs.Lists.{most_open}
 use Rattle.fab_blocks.specs.Cells.{is_null}
 use Rattle.fab_blocks.specs.Reading.{PlainReading, PlainGridLine, PlainHolder, start}

@@ -7,7 +7,8 @@ use Rattle.fab_base.specs.declared.problem.Problem.TheVariants as problems
 use Rattle.fab_desk.specs.Files.{Map}
 use Rattle.fab_rows.specs.Rows.{PlainRow, rows_of}
 use Rattle.fab_model.specs.Tiles.{PlainTile}
-use Rattle.fab_files.specs.Files.{handed_out, last_line, Event, refuses, MeetsFile}
+use Rattle.fab_lines.specs.Counts.{last_line}
+use Rattle.fab_files.specs.Files.{handed_out, Event, refuses, MeetsFile}
 use Rattle.fab_blocks.specs.Blocks.{PlainBlock}
 use Rattle.fab_blocks.specs.Reading.{PlainReading, PlainHolder, is_inside, place_of, with_type}
 use Rattle.fab_blocks.specs.Saying.{said_of}

@@ -18,7 +18,8 @@ use Rattle.fab_tables.specs.Lists.{Pair}
 use Rattle.fab_tables.specs.Matrix.{output_number, input_number, pair_with, matrix_format, SpellsMatrix}
 use Rattle.fab_tables.specs.Config.{config_format, SpellsTable}
 use Rattle.fab_tables.specs.Frames.{default_place}
-use Rattle.fab_files.specs.Files.{handed_out, handed_out_if_there, last_line, Event, asks, refuses, MeetsFile}
+use Rattle.fab_lines.specs.Counts.{last_line}
+use Rattle.fab_files.specs.Files.{handed_out, handed_out_if_there, Event, asks, refuses, MeetsFile}
 use Rattle.fab_list_files.specs.Lists.{Knowledge, ReadsListFile, MeetsListFile}
 use Rattle.fab_list_files.specs.Sides.{crowd, crowd_limit}
 use Rattle.fab_blocks.specs.Blocks.{PlainBlock, bare, names}

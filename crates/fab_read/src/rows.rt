@@ -11,7 +11,7 @@ ghost use Rattle.fab_model.specs.Tables.{HasTable};
 ghost use Rattle.fab_rows.specs.Rows.{rows_of};
 ghost use Rattle.fab_read.specs.Rows.{is_left_open, ReadsRows, MeetsRows, MeetsRowsFile};
 ghost use Rattle.fab_read.specs.Tiles.{MeetsTile};
-ghost use Rattle.fab_read.specs.Following.{EndsTile, IsSaid, Leads, MeetsRow, ReadsFileTo};
+ghost use Rattle.fab_read.specs.inner.Following.{EndsTile, IsSaid, Leads, MeetsRow, ReadsFileTo};
 
 use crate::tile::{End, read_tile};
 use fab_base::{Fault, MAX_FILE_BYTES, Problem, Reason};

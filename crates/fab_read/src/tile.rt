@@ -8,7 +8,7 @@ ghost use Rattle.fab_files.specs.Files.{HasReadCause};
 ghost use Rattle.fab_list_files.specs.Sides.{crowd, input_count, most_inputs};
 ghost use Rattle.fab_model.specs.Tables.{HasTable};
 ghost use Rattle.fab_model.specs.Tiles.{pair_numbers, tile_bits, with_pairs, IsPair};
-ghost use Rattle.fab_read.specs.Following.{judged_tile, judged_pairs, ReadsPaired};
+ghost use Rattle.fab_read.specs.inner.Following.{judged_tile, judged_pairs, ReadsPaired};
 ghost use Rattle.fab_read.specs.Tiles.{ReadsTile, MeetsTile};
 
 use crate::matrix::read_matrix;

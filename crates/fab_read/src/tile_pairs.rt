@@ -56,7 +56,7 @@ pub struct TilePairs<'n, 't> {
 }
 
 impl<'n, 't> Model for TilePairs<'n, 't> {
-    ghost use Rattle.fab_read.specs.Following.{KnownPairs};
+    ghost use Rattle.fab_read.specs.inner.Following.{KnownPairs};
 
     ghost Value = { KnownPairs };
 

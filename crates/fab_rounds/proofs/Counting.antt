@@ -8,7 +8,7 @@ use Rattle.fab_search.specs.Scene.{ArePrices}
 use Rattle.fab_search.specs.Tables.{count_of, price_of, users_of, prices, counts, is_held, IsCharged, IsHeldToo}
 use Rattle.fab_search.proofs.Members.{has_more, or_false}
 use Rattle.fab_rounds.specs.Rounds.{users}
-use Rattle.fab_rounds.specs.Prices.{bit, ArePriced, IsPast}
+use Rattle.fab_rounds.specs.inner.Prices.{bit, ArePriced, IsPast}
 
 pub price_low : (p r u : ℕ) → p ≤ 2064447 → u ≤ 32770 → r < 64 → (1 ≤ (1 + p) * (1 + r * u)) × ((1 + p) * (1 + r * u) < 2 ^ 42)
 price_low p r u lp lu lr =

@@ -16,7 +16,7 @@ use Rattle.fab_rounds.specs.Rounds.{Net, Paths, AreGrown, nodes_of, users, negot
 use Rattle.fab_rounds.specs.declared.net.Net as demand
 use Rattle.fab_rounds.specs.declared.tree.Tree.{Tree}
 use Rattle.fab_rounds.specs.Plain.{paths_of, trees_of, goals_of, net_of, nets_of}
-use Rattle.fab_rounds.specs.Prices.{bit, ArePriced}
+use Rattle.fab_rounds.specs.inner.Prices.{bit, ArePriced}
 use Rattle.fab_rounds.proofs.Parts.{nodes_of-parts}
 use Rattle.fab_rounds.proofs.Grown.{least_inside, have_walks}
 use Rattle.fab_rounds.proofs.Sinks.{goals_long}

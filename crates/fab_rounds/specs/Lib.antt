@@ -1,3 +1,3 @@
 pub mod Rounds
 pub mod Plain
-pub mod Prices
+pub mod inner

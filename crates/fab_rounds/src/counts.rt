@@ -3,7 +3,7 @@ ghost use Rattle.std.specs.Prelude.{◌≡◌, ℕ, ◌+◌, ◌*◌, ◌<◌, �
 ghost use Rattle.std.specs.List.{All};
 ghost use Rattle.fab_search.specs.Walks.{has};
 ghost use Rattle.fab_search.specs.Tables.{AreTables, IsCharged, count_of, users_of};
-ghost use Rattle.fab_rounds.specs.Prices.{bit, ArePriced, IsPast};
+ghost use Rattle.fab_rounds.specs.inner.Prices.{bit, ArePriced, IsPast};
 
 use fab_search::Tables;
 

@@ -5,7 +5,7 @@ ghost use Rattle.fab_search.specs.Scene.{IsGraph, IsBound};
 ghost use Rattle.fab_search.specs.Tables.{AreTables, count_of, users_of};
 ghost use Rattle.fab_rounds.specs.Rounds.{IsRound, IsCutOff, users};
 ghost use Rattle.fab_rounds.specs.Plain.{nets_of, trees_of, IsInside};
-ghost use Rattle.fab_rounds.specs.Prices.{ArePriced, IsPast};
+ghost use Rattle.fab_rounds.specs.inner.Prices.{ArePriced, IsPast};
 
 use crate::counts::{give_up, price, take_up};
 use crate::grow::grow;

@@ -19,7 +19,7 @@ use Rattle.fab_implementation.specs.Plain.{PlainImplementation}
 use Rattle.fab_model.specs.Grid.{PlainFabric}
 use Rattle.fab_nodes.specs.Nets.{net_sinks}
 use Rattle.fab_nodes.proofs.NetSinks.{mapped_at}
-use Rattle.fab_route.specs.Wanted.{wire_groups, sinks_among}
+use Rattle.fab_route.specs.inner.Wanted.{wire_groups, sinks_among}
 use Rattle.fab_route.proofs.Places.{one_place}
 
 same_itself : (net : NetId) → same_net net net ≡ true

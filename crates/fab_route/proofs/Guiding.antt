@@ -14,7 +14,7 @@ use Rattle.fab_search.specs.Scene.{IsGraph, IsBound}
 use Rattle.fab_route.specs.declared.classes.Place.{Place}
 use Rattle.fab_route.specs.declared.hops.Hop.{Hop}
 use Rattle.fab_route.specs.declared.window.Window.{Window}
-use Rattle.fab_route.specs.Guided.{no_place, place_at, IsWindow, IsWithin, away, hop_between, HaveHops, entry_of, AreTestedTables, IsAim, AreAims, spot_of, AreConsistent, PlainBounds, left_from}
+use Rattle.fab_route.specs.inner.Guided.{no_place, place_at, IsWindow, IsWithin, away, hop_between, HaveHops, entry_of, AreTestedTables, IsAim, AreAims, spot_of, AreConsistent, PlainBounds, left_from}
 
 pub ends_inside : (graph : Graph) → IsGraph graph → (v w : ℕ) → v < graph.nodes → Contains (graph.ends v) w → w < graph.nodes
 ends_inside graph is v w few edge = All-contains (λ (n : ℕ). n < graph.nodes) (graph.ends v) w (is.inside v few) edge

@@ -11,7 +11,7 @@ use Rattle.fab_legal.proofs.Members.{still_in, last_in}
 use Rattle.fab_search.specs.Walks.{Graph}
 use Rattle.fab_route.specs.declared.classes.Place.{Place}
 use Rattle.fab_route.specs.declared.hops.Hop.{Hop}
-use Rattle.fab_route.specs.Guided.{no_place, place_at, hop_between, hops_to, HasHop, HaveHops, KeepHops}
+use Rattle.fab_route.specs.inner.Guided.{no_place, place_at, hop_between, hops_to, HasHop, HaveHops, KeepHops}
 
 abbrev items_of : {A : Type 0} → Vec Hop A → List Hop
 items_of group = group.items

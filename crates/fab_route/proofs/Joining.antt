@@ -16,7 +16,7 @@ use Rattle.fab_fabric.proofs.Numbered.{some_wire, wire_within}
 use Rattle.fab_fabric.proofs.Joined.{are_rows, join_departs}
 use Rattle.fab_legal.specs.Steps.{IsJoined}
 use Rattle.fab_ways.proofs.Lists.{none_some, mapped_some}
-use Rattle.fab_route.specs.Owners.{IsWireOf}
+use Rattle.fab_route.specs.inner.Owners.{IsWireOf}
 use Rattle.fab_route.specs.Over.{IsOver}
 use Rattle.fab_route.specs.Plain.{PlainNodes, graph_of, numbering_of}
 use Rattle.fab_route.proofs.Tabled.{joined_output}

@@ -12,7 +12,7 @@ use Rattle.fab_fabric.specs.declared.wire.Site.{Site}
 use Rattle.fab_netlist.specs.Packed.{PlainPacked}
 use Rattle.fab_netlist.proofs.Members.{mapped_in, any_gives}
 use Rattle.fab_implementation.specs.Plain.{Pad, PlainImplementation}
-use Rattle.fab_legal.specs.Keeping.{port_number}
+use Rattle.fab_legal.specs.inner.Keeping.{port_number}
 use Rattle.fab_legal.specs.Legal.{ArePlaced}
 use Rattle.fab_legal.specs.Lines.{named, IsRightLine}
 use Rattle.fab_legal.specs.Turns.{AreRight}
@@ -24,7 +24,7 @@ use Rattle.fab_legal.proofs.PortNumbers.{known_number, name_at, same_name}
 use Rattle.fab_implementation.specs.OnFabric.{kind_at}
 use Rattle.fab_ways.proofs.InputPins.{kind_of_line}
 use Rattle.fab_nodes.proofs.NetSinks.{mapped_at}
-use Rattle.fab_route.specs.Wanted.{input_lines}
+use Rattle.fab_route.specs.inner.Wanted.{input_lines}
 
 abbrev name_of : Pad → List ℕ
 name_of pad = pad.0

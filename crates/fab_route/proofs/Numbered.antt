@@ -6,7 +6,7 @@ use Rattle.std.proofs.Math.Seq.{get_or-append_seam}
 use Rattle.fab_model.specs.Grid.{PlainFabric}
 use Rattle.fab_fabric.specs.Wires.{numbered_wire}
 use Rattle.fab_nodes.specs.Nodes.{IsMatrixInput}
-use Rattle.fab_route.specs.Numbers.{AreNumbered}
+use Rattle.fab_route.specs.inner.Numbers.{AreNumbered}
 
 -- one item more
 pub last_of : (xs : List ℕ) (x k : ℕ) → k ≡ length xs → get_or (xs ++ x ∷ []) k 0 ≡ x

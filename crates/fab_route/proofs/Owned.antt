@@ -11,7 +11,7 @@ use Rattle.fab_legal.proofs.Lists.{cases_below}
 use Rattle.fab_legal.proofs.Members.{in_taken, stays_taken, last_taken}
 use Rattle.fab_rounds.specs.Rounds.{Paths, nodes_of, tree_at}
 use Rattle.fab_route.specs.declared.shared.Owners.{Owners}
-use Rattle.fab_route.specs.Owners.{AreFirst, HasNode, no_owners, owners_at, AreOwners, noted_in, noted, IsNoted}
+use Rattle.fab_route.specs.inner.Owners.{AreFirst, HasNode, no_owners, owners_at, AreOwners, noted_in, noted, IsNoted}
 
 in_or_out : (xs : List ℕ) (x : ℕ) → Contains xs x ⊎ (Contains xs x → ⊥)
 in_or_out xs x = elim (cases_Bool (list_any (λ y. nat_eq y x) xs)) [

@@ -19,7 +19,7 @@ use Rattle.fab_nodes.specs.Nodes.{IsMatrixInput}
 use Rattle.fab_nodes.proofs.MatrixInputs.{root_input}
 use Rattle.fab_route.specs.Plain.{PlainNodes, numbering_of, node_of}
 use Rattle.fab_route.specs.Over.{IsOver}
-use Rattle.fab_route.specs.Wanted.{IsRootNode, AreRoots}
+use Rattle.fab_route.specs.inner.Wanted.{IsRootNode, AreRoots}
 
 module _ (fabric : PlainFabric) (tiles : AreTiles fabric) (packed : PlainPacked) (placement : PlainImplementation) (placed : ArePlaced fabric packed placement) (nodes : PlainNodes) (over : IsOver fabric nodes) where
   -- a net with one root

@@ -5,7 +5,7 @@ use Rattle.fab_legal.proofs.Lists.{cases_below}
 use Rattle.fab_route.specs.Plain.{PlainNodes}
 use Rattle.fab_route.specs.declared.shared.Owners.{Owners}
 use Rattle.fab_route.specs.declared.shared.Shared.{Shared}
-use Rattle.fab_route.specs.Owners.{owners_at, IsTwice, IsWireOf, IsSharedBy, IsLeastShared}
+use Rattle.fab_route.specs.inner.Owners.{owners_at, IsTwice, IsWireOf, IsSharedBy, IsLeastShared}
 
 none_some : {X : Type 0} (x : X) → None ≡ Some x → ⊥
 none_some x e = cc

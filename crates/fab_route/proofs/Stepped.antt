@@ -12,7 +12,7 @@ use Rattle.fab_implementation.specs.Plain.{PlainImplementation}
 use Rattle.fab_legal.specs.Legal.{ArePlaced}
 use Rattle.fab_legal.proofs.Once.{known_thing}
 use Rattle.fab_netlist.proofs.Members.{mapped_in}
-use Rattle.fab_legal.specs.Keeping.{AreSites}
+use Rattle.fab_legal.specs.inner.Keeping.{AreSites}
 use Rattle.fab_legal.specs.Lines.{named}
 use Rattle.fab_legal.proofs.Lists.{cases_below}
 use Rattle.fab_legal.proofs.Members.{in_pushed, still_in, last_in, taken_more, in_taken, from_mapped}

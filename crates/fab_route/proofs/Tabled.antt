@@ -15,7 +15,7 @@ use Rattle.fab_ways.proofs.Ends.{ends_are_steps}
 use Rattle.fab_ways.proofs.Origins.{to_join}
 use Rattle.fab_nodes.specs.Nodes.{IsMatrixInput, IsHop, AreNodes}
 use Rattle.fab_nodes.proofs.MatrixInputs.{driven_or_input, join_driven, join_input}
-use Rattle.fab_route.specs.Numbers.{AreNumbered, AreBefore, AreFlat}
+use Rattle.fab_route.specs.inner.Numbers.{AreNumbered, AreBefore, AreFlat}
 use Rattle.fab_route.proofs.Numbered.{last_of, before_last}
 use Rattle.fab_route.specs.Over.{IsOver}
 use Rattle.fab_route.specs.Plain.{PlainNodes, graph_of, numbering_of, AreReadable}

@@ -42,10 +42,10 @@ use Rattle.fab_nodes.proofs.Users.{AreWireTrees, used_low, node_users, output_us
 use Rattle.fab_nodes.proofs.NetSinks.{nets_across}
 use Rattle.fab_nodes.proofs.Runs.{IsWiredRun, run_wired, node_runs_are_runs, cut_off_has_no_walk}
 use Rattle.fab_route.specs.Answers.{AreRouted, IsReached, IsCutOff, HasWire, AreFirstTwo, IsOverused}
-use Rattle.fab_route.specs.Owners.{AreFirst, HasNode, owners_at, AreOwners, IsTwice, IsWireOf, IsSharedBy, IsLeastShared}
+use Rattle.fab_route.specs.inner.Owners.{AreFirst, HasNode, owners_at, AreOwners, IsTwice, IsWireOf, IsSharedBy, IsLeastShared}
 use Rattle.fab_route.specs.Over.{IsOver}
 use Rattle.fab_route.specs.Plain.{PlainNodes, graph_of, numbering_of}
-use Rattle.fab_route.specs.Told.{net_names, told_trees, AreLow, AreLowRounds, IsNodeRun}
+use Rattle.fab_route.specs.inner.Told.{net_names, told_trees, AreLow, AreLowRounds, IsNodeRun}
 use Rattle.fab_route.specs.declared.shared.Owners.{Owners}
 use Rattle.fab_route.specs.declared.shared.Shared.{Shared}
 use Rattle.fab_route.proofs.Growing.{named_before}

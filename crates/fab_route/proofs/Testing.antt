@@ -5,7 +5,7 @@ use Rattle.std.proofs.lemmas.List.Elements.{All-contains}
 use Rattle.fab_legal.proofs.Lists.{cases_below}
 use Rattle.fab_route.specs.declared.hops.Hop.{Hop}
 use Rattle.fab_route.specs.declared.window.Window.{Window}
-use Rattle.fab_route.specs.Guided.{IsWindow, IsAcross, IsDown, entry_of, IsLineTested, IsHopTested, hops_to, AreTested}
+use Rattle.fab_route.specs.inner.Guided.{IsWindow, IsAcross, IsDown, entry_of, IsLineTested, IsHopTested, hops_to, AreTested}
 
 -- ---- one line
 

@@ -17,7 +17,7 @@ use Rattle.fab_netlist.proofs.Counts.{at_mapped}
 use Rattle.fab_legal.proofs.StepLaws.{type_there}
 use Rattle.fab_nodes.specs.Nodes.{IsMatrixInput}
 use Rattle.fab_nodes.proofs.MatrixInputs.{is_driven}
-use Rattle.fab_route.specs.Numbers.{HaveDriven}
+use Rattle.fab_route.specs.inner.Numbers.{HaveDriven}
 
 module _ (fabric : PlainFabric) (tables : List (Vec Bool Global)) (x y number place : ℕ) (few : number < wires_at fabric x y) (have : HaveDriven fabric.types tables) (found : Option ℕ) (is_fabric : IsFabric fabric)
     (read : slice_get fabric.grid (y * fabric.columns + x) ≡ Some found) (found_is : found ≡ Some place) where

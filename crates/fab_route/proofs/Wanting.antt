@@ -31,7 +31,7 @@ use Rattle.fab_nodes.proofs.MatrixInputs.{unjoined_pin}
 use Rattle.fab_nodes.proofs.NetSinks.{sink_is_pin}
 use Rattle.fab_route.specs.Plain.{PlainNodes, graph_of, numbering_of}
 use Rattle.fab_route.specs.Over.{IsBefore}
-use Rattle.fab_route.specs.Wanted.{IsUnjoined, IsNetFor}
+use Rattle.fab_route.specs.inner.Wanted.{IsUnjoined, IsNetFor}
 
 abbrev pub number : Wire → ℕ
 number wire = wire.0

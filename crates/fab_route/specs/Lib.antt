@@ -1,8 +1,6 @@
-pub mod Numbers
 pub mod Plain
 pub mod Over
-pub mod Wanted
-pub mod Owners
-pub mod Told
-pub mod Guided
 pub mod Answers
+pub mod inner
+pub use Rattle.fab_graph
+pub use Rattle.fab_nodes

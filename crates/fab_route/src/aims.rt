@@ -2,7 +2,7 @@
 
 ghost use Rattle.std.specs.Prelude.{◌<◌, ◌^◌, IfOk};
 ghost use Rattle.fab_fabric.specs.Fabric.{wire_count};
-ghost use Rattle.fab_route.specs.Guided.{AreAims, IsAim};
+ghost use Rattle.fab_route.specs.inner.Guided.{AreAims, IsAim};
 
 use fab_base::Memory;
 use fab_fabric::{Fabric, Wire};
@@ -30,7 +30,7 @@ pub(crate) fn aims_of(
     requires { size < 2 ^ 50 }
     ensures { IfOk result (λ aims. AreAims fabric.now size aims.items) }
 {
-    let _types = fabric.types();
+    fabric.is_well_made();
     let mut aims = vec![in alloc; 0; fabric.wires() as usize]?;
     for group in 0..sinks.len() {
         put_aims(&mut aims, fabric, &sinks[group], size);

@@ -3,7 +3,7 @@
 ghost use Rattle.std.specs.Prelude.{◌≡◌, ◌<◌, ◌≤◌, ◌*◌, ◌^◌, ℕ, IfOk, All, length, map, slice_index};
 ghost use Rattle.std.specs.Bool.{OnTrue};
 ghost use Rattle.fab_search.specs.Scene.{IsGraph, IsBound};
-ghost use Rattle.fab_route.specs.Guided.{IsWindow, IsWithin, AreTested, AreTestedTables, AreConsistent, spot_of, left_from};
+ghost use Rattle.fab_route.specs.inner.Guided.{IsWindow, IsWithin, AreTested, AreTestedTables, AreConsistent, spot_of, left_from};
 ghost use Rattle.fab_route.specs.Over.{IsOver};
 ghost use Rattle.fab_route.specs.Plain.{graph_of};
 
@@ -34,7 +34,7 @@ pub struct Bounds {
 }
 
 impl Model for Bounds {
-    ghost use Rattle.fab_route.specs.Guided.{PlainBounds};
+    ghost use Rattle.fab_route.specs.inner.Guided.{PlainBounds};
 
     ghost Value = { PlainBounds };
 

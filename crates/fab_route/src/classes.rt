@@ -1,7 +1,7 @@
 //! Where nodes stand, and their classes.
 
 ghost use Rattle.std.specs.Prelude.{◌≡◌, ◌<◌, ◌≤◌, ℕ, IfOk, All, length};
-ghost use Rattle.fab_route.specs.Guided.{IsWithin};
+ghost use Rattle.fab_route.specs.inner.Guided.{IsWithin};
 ghost use Rattle.fab_route.specs.Over.{IsOver};
 ghost use Rattle.fab_route.specs.Plain.{graph_of};
 

@@ -4,7 +4,7 @@ ghost use Rattle.std.specs.Prelude.{◌≡◌, ◌<◌, ◌↔◌, ℕ, Bool, So
 ghost use Rattle.fab_fabric.specs.Fabric.{wire_count};
 ghost use Rattle.fab_fabric.specs.Wires.{numbered_wire};
 ghost use Rattle.fab_legal.specs.Steps.{IsConstant};
-ghost use Rattle.fab_legal.specs.Keeping.{bit_drive, IsConstantRow};
+ghost use Rattle.fab_legal.specs.inner.Keeping.{bit_drive, IsConstantRow};
 ghost use Rattle.fab_route.specs.Over.{IsOver};
 ghost use Rattle.fab_route.specs.Plain.{graph_of, numbering_of};
 

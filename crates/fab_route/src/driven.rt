@@ -5,7 +5,7 @@ ghost use Rattle.std.specs.List.{flat_map};
 ghost use Rattle.fab_model.specs.Tiles.{tile_wires, row_wires, bel_wires, is_matrix_output};
 ghost use Rattle.fab_fabric.specs.Fabric.{wire_count};
 ghost use Rattle.fab_nodes.specs.Nodes.{IsMatrixInput};
-ghost use Rattle.fab_route.specs.Numbers.{HaveDriven};
+ghost use Rattle.fab_route.specs.inner.Numbers.{HaveDriven};
 
 use fab_base::Memory;
 use fab_fabric::{Fabric, Wire};
@@ -70,7 +70,7 @@ pub(crate) fn is_input(fabric: &Fabric, driven: &Vec<Vec<bool>>, wire: Wire) -> 
     requires wire { wire.0 < wire_count fabric.now }
     ensures { IsTrue result ↔ IsMatrixInput fabric.now wire }
 {
-    let _types = fabric.types();
+    fabric.is_well_made();
     let (x, y, number) = fabric.spot(wire);
     match fabric.type_at(x, y) {
         Some(place) => !driven[place as usize][number as usize],

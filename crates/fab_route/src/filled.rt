@@ -1,7 +1,7 @@
 //! Tables of the least that is left to pay, found from the goals backwards. Nothing is promised of them: they are tested.
 
 ghost use Rattle.std.specs.Prelude.{◌<◌, ◌^◌};
-ghost use Rattle.fab_route.specs.Guided.{IsWindow};
+ghost use Rattle.fab_route.specs.inner.Guided.{IsWindow};
 
 use crate::hops::Hop;
 use crate::window::Window;

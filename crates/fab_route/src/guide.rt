@@ -16,7 +16,7 @@ pub struct Guide {
 }
 
 impl Field for Guide {
-    ghost use Rattle.fab_route.specs.Guided.{left_from};
+    ghost use Rattle.fab_route.specs.inner.Guided.{left_from};
 
     ghost graph = { λ guide. graph_of guide.nodes };
 

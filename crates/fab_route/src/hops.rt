@@ -1,7 +1,7 @@
 //! The hops of edges: from which class they lead to which, and how far.
 
 ghost use Rattle.std.specs.Prelude.{◌≡◌, ◌<◌, ◌≤◌, ℕ, IsTrue, ◌↔◌, IfOk, OnOk, All, length, Contains};
-ghost use Rattle.fab_route.specs.Guided.{IsWindow, IsWithin, place_at, HasHop, HaveHops, KeepHops};
+ghost use Rattle.fab_route.specs.inner.Guided.{IsWindow, IsWithin, place_at, HasHop, HaveHops, KeepHops};
 ghost use Rattle.fab_route.specs.Plain.{graph_of};
 ghost use Rattle.fab_search.specs.Scene.{IsGraph};
 

@@ -3,12 +3,12 @@
 ghost use Rattle.std.specs.Prelude.{◌≡◌, ◌≢◌, ◌≤◌, IfOk, OnOk, AllPairs, length};
 ghost use Rattle.std.specs.Str.{bytes_eq};
 ghost use Rattle.indexmap.specs.IndexSet.{insert_key};
-ghost use Rattle.fab_model.specs.Numbering.{key_names};
-ghost use Rattle.fab_legal.specs.Keeping.{port_number};
+ghost use Rattle.fab_bits.specs.Keys.{key_names};
+ghost use Rattle.fab_legal.specs.inner.Keeping.{port_number};
 ghost use Rattle.fab_legal.specs.Legal.{ArePlaced};
 ghost use Rattle.fab_legal.specs.Lines.{named};
 ghost use Rattle.fab_legal.specs.WellMade.{IsWellMadePacked};
-ghost use Rattle.fab_route.specs.Wanted.{input_lines};
+ghost use Rattle.fab_route.specs.inner.Wanted.{input_lines};
 
 use fab_base::{Memory, Name};
 use fab_fabric::{Fabric, Site};

@@ -10,7 +10,7 @@ ghost use Rattle.fab_ways.specs.Routing.{sinks_of};
 ghost use Rattle.fab_nodes.specs.Nets.{AreGoals, AreNets, net_sinks};
 ghost use Rattle.fab_route.specs.Over.{IsOver};
 ghost use Rattle.fab_route.specs.Plain.{graph_of, numbering_of};
-ghost use Rattle.fab_route.specs.Wanted.{wire_groups, IsUnjoined, AreSources, IsNetFor};
+ghost use Rattle.fab_route.specs.inner.Wanted.{wire_groups, IsUnjoined, AreSources, IsNetFor};
 
 use crate::goals::goals_of;
 use crate::nodes::Nodes;
@@ -41,7 +41,7 @@ pub(crate) fn nets_of(
     ensures inside { IfOk result (λ nets. All (IsInside (graph_of nodes.now).nodes) nets.items) }
     ensures few { IfOk result (λ nets. length nets.items ≤ 32770) }
 {
-    let _types = fabric.types();
+    fabric.is_well_made();
     let graph = Graph::new(alloc, fabric)?;
     let sources = Sources::new(alloc, fabric, nodes, packed, placed)?;
     let mut nets = Vec::new(alloc);

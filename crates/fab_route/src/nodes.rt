@@ -38,7 +38,7 @@ impl Nodes {
     pub fn new(alloc: Global, fabric: &Fabric) -> Result<Nodes, Memory>
         ensures { IfOk result (IsOver fabric.now) }
     {
-        let _types = fabric.types();
+        fabric.is_well_made();
         let (wires, nodes) = number_inputs(alloc, fabric)?;
         let outputs = outputs_before(alloc, fabric, &wires)?;
         let (starts, targets) = targets(alloc, fabric, &wires, &nodes)?;

@@ -6,7 +6,7 @@ ghost use Rattle.fab_fabric.specs.Wires.{numbered_wire};
 ghost use Rattle.fab_fabric.specs.declared.wire.Wire.{Wire};
 ghost use Rattle.fab_legal.specs.Steps.{IsJoined};
 ghost use Rattle.fab_nodes.specs.Nodes.{IsMatrixInput};
-ghost use Rattle.fab_route.specs.Numbers.{AreNumbered, AreBefore};
+ghost use Rattle.fab_route.specs.inner.Numbers.{AreNumbered, AreBefore};
 
 use crate::driven::{driven, is_input};
 use fab_base::Memory;
@@ -50,7 +50,7 @@ fn output_before(fabric: &Fabric, wire: Wire) -> u32
     requires { wire.0 < wire_count fabric.now }
     ensures { (output : Wire) → IsJoined fabric.now output wire → result ≡ output.0 }
 {
-    let _types = fabric.types();
+    fabric.is_well_made();
     match fabric.join_from(wire) {
         Some(output) => output.0,
         None => 0,

@@ -4,7 +4,7 @@ ghost use Rattle.std.specs.Prelude.{◌≡◌, ◌<◌, IfOk, option_copied};
 ghost use Rattle.fab_model.specs.Grid.{tile_at};
 ghost use Rattle.fab_fabric.specs.Fabric.{IsFabric, AreTiles, wire_count};
 ghost use Rattle.fab_legal.specs.Steps.{pin_wire};
-ghost use Rattle.fab_legal.specs.Keeping.{HasPin};
+ghost use Rattle.fab_legal.specs.inner.Keeping.{HasPin};
 
 use fab_base::Memory;
 use fab_fabric::{Fabric, Site, Wire};

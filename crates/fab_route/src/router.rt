@@ -12,8 +12,8 @@ ghost use Rattle.fab_nodes.specs.Nets.{AreNets, net_sinks};
 ghost use Rattle.fab_route.specs.Answers.{AreRouted, IsTrueFault};
 ghost use Rattle.fab_route.specs.Over.{IsOver};
 ghost use Rattle.fab_route.specs.Plain.{graph_of, numbering_of};
-ghost use Rattle.fab_route.specs.Told.{IsNodeRun};
-ghost use Rattle.fab_route.specs.Wanted.{wire_groups};
+ghost use Rattle.fab_route.specs.inner.Told.{IsNodeRun};
+ghost use Rattle.fab_route.specs.inner.Wanted.{wire_groups};
 
 use crate::bounds::Bounds;
 use crate::guide::Guide;
@@ -135,7 +135,7 @@ fn no_path(
     requires cut { IsCutOff (graph_of _nodes.now) (nets_of _nets.now) cut.net cut.sink }
     ensures { (allowed : ℕ) → IsTrueFault fabric.now packed.now _placed.now allowed result }
 {
-    let _types = fabric.types();
+    fabric.is_well_made();
     let wires = &sinks[cut.net];
     RouteFault::NoPath(net_at(packed, cut.net), wires[cut.sink])
 }
@@ -161,7 +161,7 @@ fn tell(
     ensures routed { IfOk result (λ routed. AreRouted fabric.now packed.now placed.now _allowed routed.trees.items) }
     ensures fault { IfErr result (IsTrueFault fabric.now packed.now placed.now _allowed) }
 {
-    let _types = fabric.types();
+    fabric.is_well_made();
     let lines = input_lines(alloc, fabric, packed, placed)?;
     let names = net_names(alloc, packed, placed, &lines)?;
     let last = &run.rounds[run.rounds.len() - 1];

@@ -4,9 +4,9 @@ ghost use Rattle.std.specs.Prelude.{◌≡◌, ◌⊎◌, ◌+◌, ◌<◌, ◌�
 ghost use Rattle.std.specs.List.{All};
 ghost use Rattle.fab_rounds.specs.Plain.{trees_of};
 ghost use Rattle.fab_route.specs.Over.{IsOver};
-ghost use Rattle.fab_route.specs.Owners.{AreOwners, IsNoted, noted, IsWireOf, IsLeastShared};
+ghost use Rattle.fab_route.specs.inner.Owners.{AreOwners, IsNoted, noted, IsWireOf, IsLeastShared};
 ghost use Rattle.fab_route.specs.Plain.{graph_of};
-ghost use Rattle.fab_route.specs.Told.{AreLow};
+ghost use Rattle.fab_route.specs.inner.Told.{AreLow};
 
 use crate::nodes::Nodes;
 use fab_base::Memory;
@@ -129,7 +129,7 @@ fn least_wire(fabric: &Fabric, nodes: &Nodes, node: u32) -> Wire
     ensures is { IsWireOf fabric.now nodes.now node result.0 }
     ensures least { (wire : ℕ) → IsWireOf fabric.now nodes.now node wire → result.0 ≤ wire }
 {
-    let _types = fabric.types();
+    fabric.is_well_made();
     let wire = nodes.wire(node);
     match fabric.join_from(wire) {
         Some(output) => lesser_wire(wire, output),

@@ -5,7 +5,7 @@ ghost use Rattle.fab_legal.specs.WellMade.{IsWellMadePacked, IsNetId};
 ghost use Rattle.fab_legal.specs.Legal.{ArePlaced};
 ghost use Rattle.fab_ways.specs.Routing.{nets};
 ghost use Rattle.fab_nodes.specs.Nets.{net_sinks};
-ghost use Rattle.fab_route.specs.Wanted.{wire_groups, sinks_among};
+ghost use Rattle.fab_route.specs.inner.Wanted.{wire_groups, sinks_among};
 
 use crate::order::{net_count, place_of};
 use fab_base::Memory;

@@ -1,14 +1,14 @@
 //! Where the nets of a placed design may begin.
 
 ghost use Rattle.std.specs.Prelude.{◌≡◌, ◌∷◌, [], IfOk, length};
-ghost use Rattle.fab_legal.specs.Keeping.{AreSites, HasPin};
+ghost use Rattle.fab_legal.specs.inner.Keeping.{AreSites, HasPin};
 ghost use Rattle.fab_legal.specs.Legal.{ArePlaced};
 ghost use Rattle.fab_legal.specs.Sinks.{packed_net};
 ghost use Rattle.fab_legal.specs.Steps.{pin_wire};
 ghost use Rattle.fab_legal.specs.WellMade.{IsWellMadePacked, IsNetId};
 ghost use Rattle.fab_route.specs.Over.{IsOver};
 ghost use Rattle.fab_route.specs.Plain.{node_of};
-ghost use Rattle.fab_route.specs.Wanted.{AreSources, AreRoots};
+ghost use Rattle.fab_route.specs.inner.Wanted.{AreSources, AreRoots};
 
 use crate::constants::constants;
 use crate::lines::input_lines;
@@ -81,7 +81,7 @@ impl Sources {
         requires known { IsNetId packed.now net }
         ensures { IfOk result (λ roots. AreRoots fabric.now placed.now nodes.now (packed_net packed.now net) roots.items) }
     {
-        let _types = fabric.types();
+        fabric.is_well_made();
         match net {
             NetId::Zero => Ok(Vec::from_slice(alloc, &self.zeros)?),
             NetId::One => Ok(Vec::from_slice(alloc, &self.ones)?),

@@ -3,7 +3,7 @@
 ghost use Rattle.std.specs.Prelude.{◌≡◌, ◌+◌, ◌-◌, ◌*◌, ◌<◌, ◌≤◌, ◌^◌, ℕ, length, slice_index};
 ghost use Rattle.std.specs.Bool.{OnTrue};
 ghost use Rattle.std.specs.List.{All};
-ghost use Rattle.fab_route.specs.Guided.{IsWindow, IsHopTested, AreTested, IsLineTested};
+ghost use Rattle.fab_route.specs.inner.Guided.{IsWindow, IsHopTested, AreTested, IsLineTested};
 
 use crate::hops::Hop;
 use crate::window::Window;

@@ -8,8 +8,8 @@ ghost use Rattle.fab_ways.specs.Trees.{by_line, edges_of, tree_with};
 ghost use Rattle.fab_nodes.specs.Nets.{wire_paths};
 ghost use Rattle.fab_route.specs.Answers.{plain_rounds};
 ghost use Rattle.fab_route.specs.Plain.{graph_of, numbering_of};
-ghost use Rattle.fab_route.specs.Told.{net_names, told_trees, AreLow, AreLowRounds};
-ghost use Rattle.fab_route.specs.Wanted.{wire_groups, input_lines};
+ghost use Rattle.fab_route.specs.inner.Told.{net_names, told_trees, AreLow, AreLowRounds};
+ghost use Rattle.fab_route.specs.inner.Wanted.{wire_groups, input_lines};
 
 use crate::nodes::Nodes;
 use crate::order::{net_at, net_count};

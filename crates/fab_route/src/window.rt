@@ -1,7 +1,7 @@
 //! How far sinks can be from nodes.
 
 ghost use Rattle.std.specs.Prelude.{◌≡◌};
-ghost use Rattle.fab_route.specs.Guided.{IsWindow};
+ghost use Rattle.fab_route.specs.inner.Guided.{IsWindow};
 
 use fab_fabric::Fabric;
 
@@ -19,7 +19,7 @@ impl Window {
         ensures columns { result.columns ≡ fabric.now.columns }
         ensures rows { result.rows ≡ fabric.now.rows }
     {
-        let _types = fabric.types();
+        fabric.is_well_made();
         Window {
             columns: fabric.columns(),
             rows: fabric.rows(),

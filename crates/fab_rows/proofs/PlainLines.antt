@@ -11,7 +11,7 @@ use Rattle.csv.specs.declared.parser.Action.{Action}
 use Rattle.csv.specs.declared.parser.Action.TheVariants as actions
 use Rattle.fab_lines.specs.Parts.{trimmed, without_back, is_empty_cell}
 use Rattle.fab_rows.specs.Rows.{fields_of_line}
-use Rattle.fab_rows.specs.Plain.{is_comma, is_plain_byte}
+use Rattle.fab_rows.specs.inner.Plain.{is_comma, is_plain_byte}
 
 -- within a record, and not within quotes
 abbrev is_open : State → Bool

@@ -7,7 +7,7 @@ ghost use Rattle.csv.specs.Reading.{default_config, strip_bom};
 ghost use Rattle.csv.specs.Records.{fields_of};
 ghost use Rattle.csv.specs.declared.parser.State.TheVariants as states;
 ghost use Rattle.fab_lines.specs.Parts.{is_empty_cell, trimmed, without_back};
-ghost use Rattle.fab_rows.specs.Plain.{is_comma, is_plain_byte};
+ghost use Rattle.fab_rows.specs.inner.Plain.{is_comma, is_plain_byte};
 ghost use Rattle.fab_rows.specs.Rows.{cells_of_line, fields_of_line};
 
 use csv::{ByteRecord, Error, ReaderBuilder};

@@ -12,7 +12,7 @@ use Rattle.fab_netlist.proofs.Ranks.{no_cycle_rank}
 use Rattle.fab_netlist.proofs.Levels.{level, levels_fall}
 use Rattle.fab_netlist.proofs.Meaning.{covers_once}
 use Rattle.fab_netlist.proofs.Packs.{from_mapped}
-use Rattle.fab_legal.proofs.Lists.{same_at, at_from_mapped}
+use Rattle.fab_points.specs.fab_legal.proofs.Lists.{same_at, at_from_mapped}
 use Rattle.fab_netlist.proofs.Works.{nowhere_or_first, is_work}
 
 module _ (netlist : PlainNetlist) (made : IsWellMade netlist) (acyclic : HasNoCycle netlist) where

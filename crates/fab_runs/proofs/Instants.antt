@@ -5,7 +5,7 @@ use Rattle.std.proofs.lemmas.List.Elements.{All-nil, All-cons}
 use Rattle.fab_meaning.specs.Points.{Point, point}
 use Rattle.fab_meaning.specs.Settled.{Assignment, IsSettledOn}
 use Rattle.fab_meaning.specs.Runs.{clock_name, user_clock_name, AreClocksLow, Moment, IsRunOn, Ticks}
-use Rattle.fab_meaning.specs.Loading.{strobe_name, IsLoading}
+use Rattle.fab_meaning.specs.Loading.{IsLoading, write_strobe_name}
 use Rattle.fab_fabric.specs.declared.wire.Site.{Site}
 use Rattle.fab_netlist.specs.declared.netlist.Latch.{Latch}
 use Rattle.fab_netlist.specs.Plain.{IsAt, bit_at}
@@ -13,13 +13,13 @@ use Rattle.fab_netlist.specs.Meaning.{Meets, next_held}
 use Rattle.fab_netlist.specs.Packing.{Work, works, latch_at, cell_of, packed}
 use Rattle.fab_netlist.proofs.Counts.{at_mapped}
 use Rattle.fab_prim.specs.Modules.{flip_flop_name}
-use Rattle.fab_text_loads.specs.Loads.{IsQuiet, IsConfigured}
-use Rattle.fab_use.specs.Sites.{bel_point}
-use Rattle.fab_use.specs.Design as design
-use Rattle.fab_use.specs.Design.{IsBound}
-use Rattle.fab_use.specs.Cycles.{Instant, Feeds, Shows}
-use Rattle.fab_use.specs.Registers.{HoldsLatches}
-use Rattle.fab_use.specs.Headline.{DesignPoints}
+use Rattle.fab_points.specs.fab_text_loads.specs.Loads.{IsQuiet, IsConfigured}
+use Rattle.fab_points.specs.fab_use.specs.Sites.{bel_point}
+use Rattle.fab_points.specs.fab_use.specs.Design as design
+use Rattle.fab_points.specs.fab_use.specs.Design.{IsBound}
+use Rattle.fab_points.specs.fab_use.specs.Cycles.{Instant, Feeds, Shows}
+use Rattle.fab_points.specs.fab_use.specs.Registers.{HoldsLatches}
+use Rattle.fab_points.specs.fab_use.specs.Headline.{DesignPoints}
 use Rattle.fab_runs.specs.Carrying.{MeetsSources, TakesNext}
 use Rattle.fab_runs.proofs.Carried.{latched, sources_carry}
 use Rattle.fab_runs.proofs.Setting.{Setting, cells_made}
@@ -68,7 +68,7 @@ module _ (s : Setting) where
     loading_settled p d loads drives = passes.settled p d (inr loads) drives
 
     -- where no word is written, the configuration stays
-    pub still_configured : i.inputs (point [] strobe_name 0) ≡ false → IsConfigured s.fabric s.bits next
+    pub still_configured : i.inputs (point [] write_strobe_name 0) ≡ false → IsConfigured s.fabric s.bits next
     still_configured quiet =
         let moment : Moment = record { inputs = i.inputs; clock = i.clock } in
         let run : IsRunOn (IsLoading s.text) s.text (moment ∷ []) held next =

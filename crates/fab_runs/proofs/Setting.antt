@@ -10,12 +10,12 @@ use Rattle.fab_netlist.specs.Cycles.{HasNoCycle}
 use Rattle.fab_netlist.specs.Meaning.{AcyclicMeansOneRun}
 use Rattle.fab_netlist.specs.Packing.{packed}
 use Rattle.fab_implementation.specs.Plain.{Pad, PlainImplementation}
-use Rattle.fab_legal.specs.WellMade.{IsWellMadePacked}
-use Rattle.fab_legal.specs.Legal.{IsLegal}
-use Rattle.fab_legal.proofs.PackedMade.{packed_made}
-use Rattle.fab_text_loads.specs.Texts.{IsFabricText}
-use Rattle.fab_text_loads.specs.Loads.{LoadsConfigurations}
-use Rattle.fab_use.specs.Configuring.{Configures}
+use Rattle.fab_points.specs.fab_legal.specs.WellMade.{IsWellMadePacked}
+use Rattle.fab_points.specs.fab_legal.specs.Legal.{IsLegal}
+use Rattle.fab_points.specs.fab_legal.proofs.PackedMade.{packed_made}
+use Rattle.fab_points.specs.fab_fabric_text.specs.Texts.{IsFabricText}
+use Rattle.fab_points.specs.fab_text_loads.specs.Loads.{LoadsConfigurations}
+use Rattle.fab_points.specs.fab_use.specs.Configuring.{Configures}
 use Rattle.fab_points.specs.Laws.{ConfigurationGoes, DesignIsDeclared, DesignIsListed, DesignSettlesBySources, RankedDesignSettlesOnce, RegistersTick}
 
 pub record Laws : Type 0 where

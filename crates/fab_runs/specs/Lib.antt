@@ -1,3 +1,15 @@
 pub mod Carrying
 pub mod Ranking
 pub mod Feeding
+pub use Rattle.fab_points.specs.fab_gen_tile
+pub use Rattle.fab_points.specs.fab_legal
+pub use Rattle.fab_points.specs.fab_state
+pub use Rattle.fab_points.specs.fab_tile_drives
+pub use Rattle.fab_points.specs.fab_fabric_text
+pub use Rattle.fab_points.specs.fab_drives
+pub use Rattle.fab_points.specs.fab_loading
+pub use Rattle.fab_points.specs.fab_text_loads
+pub use Rattle.fab_points.specs.fab_use
+pub use Rattle.fab_points.specs.fab_tiles_sound
+pub use Rattle.fab_points.specs.fab_text_sound
+pub use Rattle.fab_points

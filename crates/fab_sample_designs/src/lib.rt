@@ -4,12 +4,14 @@
 ghost use Rattle.fab_sample_designs.specs.Designs.{SampleDesignsAreRead};
 ghost use Rattle.fab_sample_designs.specs.Ready.{SamplesAreReady};
 
+pub use fab_sample_sizes;
+
 /// The files of a sample of any size from 2 to 16 spell its fabric and its netlist, and the fabric has sites for the netlist.
 pub fn sample_designs_are_read()
     ensures { SampleDesignsAreRead }
 {}
 
-/// A flow refuses nothing of such files, if the text of the fabric is not too long.
+/// A flow refuses nothing of such files.
 pub fn samples_are_ready()
     ensures { SamplesAreReady }
 {}

@@ -36,10 +36,13 @@ table_text : is_utf8 table ≡ true
 unfolding is_utf8 chars encode
 table_text = refl
 
--- a block has this tile, with these pairs and the places that bits take where no table says them
+-- the tile of a block with these pairs and the places that bits take where no table says them
+abbrev pub tile_with : PlainBlock → List NumberPair → PlainTile
+tile_with block pairs = with_table (paired block pairs) (default_places (tile_bits (paired block pairs)))
+
+-- a block has this tile
 abbrev IsRead : Map → PlainBlock → List NumberPair → Type 0
-IsRead files block pairs =
-    (line : ℕ) → ReadsTile files (record { file = table; line = line; left = most_open }) block (with_table (paired block pairs) (default_places (tile_bits (paired block pairs))))
+IsRead files block pairs = (line : ℕ) → ReadsTile files (record { file = table; line = line; left = most_open }) block (tile_with block pairs)
 
 module _ (files : Map) (size : ℕ) (least : 2 ≤ size) (most : size ≤ 16) (there : files table ≡ Some (text (fabric_lines size))) (wests logics easts : List NumberPair)
     (west_read : IsRead files west wests) (logic_read : IsRead files logic logics) (east_read : IsRead files east easts) where
@@ -87,8 +90,8 @@ module _ (files : Map) (size : ℕ) (least : 2 ≤ size) (most : size ≤ 16) (t
   is_sample : IsSampleFabric size fabric
   is_sample = record { columns = is_run.columns; rows = is_run.rows; grid = is_run.grid; names = refl; bels = refl }
 
-  pub read : (f : PlainFabric) × SpellsFabric files table f × IsSampleFabric size f
-  read = (fabric, spelled, is_sample)
+  pub read : (f : PlainFabric) × SpellsFabric files table f × IsSampleFabric size f × (f.types ≡ tile_with west wests ∷ tile_with logic logics ∷ tile_with east easts ∷ [])
+  read = (fabric, spelled, is_sample, refl)
 
 -- the names of the lists and of the tables
 record HasNames (block : PlainBlock) (list places : Line) : Type 0 where
@@ -108,11 +111,33 @@ east_names : HasNames east (codes "SE.list") (codes "SE_ConfigMem.csv")
 unfolding is_utf8 chars encode resolved is_file_name
 east_names = record { list_text = refl; places_are = refl; places_text = refl }
 
-pub fabrics_read : (files : Map) (size : ℕ) → 2 ≤ size → size ≤ 16 → TellsFabric files size → (f : PlainFabric) × SpellsFabric files table f × IsSampleFabric size f
-fabrics_read files size least most told =
+-- the types of each sample's fabric, with the pairs of their lists
+abbrev pub west_pairs : List NumberPair
+west_pairs = pairs_in west (codes "SW.list") (edge_lines East West)
+
+abbrev pub logic_pairs : List NumberPair
+logic_pairs = pairs_in logic (codes "SLOG.list") logic_lines
+
+abbrev pub east_pairs : List NumberPair
+east_pairs = pairs_in east (codes "SE.list") (edge_lines West East)
+
+abbrev pub west_tile : PlainTile
+west_tile = tile_with west west_pairs
+
+abbrev pub logic_tile : PlainTile
+logic_tile = tile_with logic logic_pairs
+
+abbrev pub east_tile : PlainTile
+east_tile = tile_with east east_pairs
+
+pub fabrics_typed : (files : Map) (size : ℕ) → 2 ≤ size → size ≤ 16 → TellsFabric files size →
+    (f : PlainFabric) × SpellsFabric files table f × IsSampleFabric size f × (f.types ≡ west_tile ∷ logic_tile ∷ east_tile ∷ [])
+fabrics_typed files size least most told =
     let none : File = record { name = []; text = [] } in
-    read files size least most (told.stand 0 none (omega arith))
-    (pairs_in west (codes "SW.list") (edge_lines East West)) (pairs_in logic (codes "SLOG.list") logic_lines) (pairs_in east (codes "SE.list") (edge_lines West East))
+    read files size least most (told.stand 0 none (omega arith)) west_pairs logic_pairs east_pairs
     (tile_reads files west (codes "SW.list") (codes "SW_ConfigMem.csv") (edge_lines East West) west_listed refl west_names.list_text (told.stand 1 none (omega arith)) west_names.places_are west_names.places_text (told.no_places 0 [] (omega arith)))
     (tile_reads files logic (codes "SLOG.list") (codes "SLOG_ConfigMem.csv") logic_lines logic_listed refl logic_names.list_text (told.stand 2 none (omega arith)) logic_names.places_are logic_names.places_text (told.no_places 1 [] (omega arith)))
     (tile_reads files east (codes "SE.list") (codes "SE_ConfigMem.csv") (edge_lines West East) east_listed refl east_names.list_text (told.stand 3 none (omega arith)) east_names.places_are east_names.places_text (told.no_places 2 [] (omega arith)))
+
+pub fabrics_read : (files : Map) (size : ℕ) → 2 ≤ size → size ≤ 16 → TellsFabric files size → (f : PlainFabric) × SpellsFabric files table f × IsSampleFabric size f
+fabrics_read files size least most told = let typed = fabrics_typed files size least most told in (typed.0, typed.1, typed.2)

@@ -1,2 +1,3 @@
 pub mod Fabrics
 pub mod Sites
+pub use Rattle.fab_read

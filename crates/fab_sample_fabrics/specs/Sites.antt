@@ -2,7 +2,7 @@
 use Rattle.std.specs.Prelude.{◌≡◌, ◌≤◌, ℕ, ◌*◌, length}
 use Rattle.fab_kinds.specs.declared.kind.Kind.TheVariants as kinds
 use Rattle.fab_model.specs.Grid.{PlainFabric}
-use Rattle.fab_ways.specs.Sites.{sites_of_kind}
+use Rattle.fab_fabric.specs.Sites.{sites_of_kind}
 use Rattle.fab_sample_fabrics.specs.Fabrics.{IsSampleFabric}
 
 -- two look-up tables in each tile of logic, and four pads for each row

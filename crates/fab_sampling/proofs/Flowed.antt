@@ -1,15 +1,9 @@
 -- What stands behind the files that `flow` stored of a sample.
-use Rattle.std.proofs.Common.{◌≡◌, ◌≢◌, ◌⊎◌, ◌<◌, ◌∙◌, ℕ, true, false, List, [], ◌∷◌, length, codes, Some, Ok, Err, refl, sym, ap, subst, inl, inr, nat_lt, IfErr}
-use Rattle.std.proofs.lemmas.Bool.{cases_Bool, ltb-true}
-use Rattle.std.specs.Str.{is_utf8}
+use Rattle.std.proofs.Common.{◌≡◌, ◌≤◌, ◌∙◌, ℕ, List, length, codes, Some, refl, sym, ap, subst}
 use Rattle.fab_base.specs.declared.TheConstants.{MAX_FILE_BYTES}
-use Rattle.fab_base.specs.declared.fault.Fault.{Fault}
-use Rattle.fab_base.specs.declared.fault.Fault.TheVariants as faults
 use Rattle.fab_desk.specs.Files.{Map}
 use Rattle.fab_desk.specs.Memory.{map_of}
-use Rattle.fab_files.specs.Files.{HasReadCause, refuses, handed_out}
-use Rattle.fab_files.specs.Stages.{of_file, of_bytes}
-use Rattle.fab_lines.proofs.Wholes.{whole_not_refused}
+use Rattle.fab_files.specs.Stages.{ReadsFrom}
 use Rattle.fab_model.specs.Grid.{PlainFabric}
 use Rattle.fab_syntax.specs.Spelling.{text_bytes}
 use Rattle.fab_netlist.specs.Packing.{packed}
@@ -24,17 +18,21 @@ use Rattle.fab_texts.proofs.PrintedRows.{rows_again}
 use Rattle.fab_impl.specs.Spelled.{HasSpelling, Says, Spells, implementation_lines, implementation_text}
 use Rattle.fab_impl.proofs.ReadBack.{spelled_is_read}
 use Rattle.fab_designs.specs.Designs.{PlainDesign, SpellsDesign}
-use Rattle.fab_designs.specs.Implementations.{MeetsImplementation, ReadsImplementation}
+use Rattle.fab_designs.specs.Implementations.{ReadsImplementation}
 use Rattle.fab_designs.proofs.Judged.{design_is_judged}
 use Rattle.fab_outputs.specs.Storing.{IsDone, PlainOutput, with_outputs}
-use Rattle.fab_flow.specs.Generating.{generated_text}
-use Rattle.fab_flow.specs.Flowing.{MakesFlow, flow_outputs}
-use Rattle.fab_simulated_flow.proofs.Stored.{found_is}
-use Rattle.fab_spelled_designs.specs.Laws.{IsSound, LegalDesignsAreSpelled, SpelledDesignsAreSound}
+use Rattle.fab_sample_runs.specs.fab_flow.specs.Generating.{generated_text}
+use Rattle.fab_sample_runs.specs.fab_flow.specs.Flowing.{MakesFlow, flow_outputs}
+use Rattle.fab_sample_runs.specs.fab_simulated_flow.proofs.Stored.{found_is}
+use Rattle.fab_sample_runs.specs.fab_spelled_designs.specs.Laws.{IsSound, LegalDesignsAreSpelled, SpelledDesignsAreSound}
+use Rattle.fab_sample_runs.specs.fab_ready_flow.proofs.Ready.{given_out}
+use Rattle.fab_draws.specs.Draws.{draws_of}
+use Rattle.fab_sample_runs.specs.Commands.{names, rounds}
+use Rattle.fab_sample_runs.specs.Laws.{SampleImplementationsAreShort}
 use Rattle.fab_sampling.specs.declared.run.Run.{Run}
-use Rattle.fab_sampling.specs.Running.{files_of, HasFlowed, IsNew}
+use Rattle.fab_sampling.specs.inner.Running.{files_of, HasFlowed, IsNew}
 use Rattle.fab_sampling.proofs.Texts.{is_text}
-use Rattle.fab_sampling.specs.Sampling.{names, rounds, HasNoSummary, memory, too_long}
+use Rattle.fab_sampling.proofs.Told.{sample_told}
 
 -- ---- `flow` is done
 
@@ -49,6 +47,7 @@ has_flowed run shelf new done =
     flowed_of : (stored : List PlainOutput) → SpellsDesign (files_of run) names.design run.design → MakesFlow (files_of run) names rounds stored
         → map_of shelf ≡ with_outputs stored (files_of run) → HasFlowed (record run { shelf = shelf })
     flowed_of stored spelled flow is = record {
+      sized = record { least = new.sized.least; most = new.sized.most };
       stored = stored;
       flow = flow;
       design = (design_is_judged (files_of run) names.design).once flow.design run.design flow.spelled spelled;
@@ -57,7 +56,13 @@ has_flowed run shelf new done =
 
 -- it stays so while files are read alone
 unfoldable pub still_flowed : (run : Run) (shelf : List (List ℕ × List ℕ)) → map_of shelf ≡ map_of run.shelf → HasFlowed run → HasFlowed (record run { shelf = shelf })
-still_flowed run shelf same flowed = record { stored = flowed.stored; flow = flowed.flow; design = flowed.design; files = same ∙ flowed.files }
+still_flowed run shelf same flowed = record {
+  sized = record { least = flowed.sized.least; most = flowed.sized.most };
+  stored = flowed.stored;
+  flow = flowed.flow;
+  design = flowed.design;
+  files = same ∙ flowed.files;
+}
 
 -- ---- what is read back
 
@@ -76,14 +81,6 @@ printed_spells fabric implementation bytes has is = record {
   nameable = has.nameable;
 }
 
--- a file that is not handed out is too long
-too_long_alone : (files : Map) (name text : List ℕ) (fault : Fault) → files name ≡ Some text → handed_out files name ≡ Err fault → is_utf8 name ≡ true
-    → (fault ≡ faults.TooLong name) × (MAX_FILE_BYTES < length text)
-too_long_alone files name text fault there refused is_text = elim (cases_Bool (nat_lt MAX_FILE_BYTES (length text))) [
-  | inl long ↦ (let same = rw (is_text, there, long) at refused in cc, ltb-true MAX_FILE_BYTES (length text) long)
-  | inr short ↦ let differ = rw (is_text, there, short) at refused in absurd cc
-]
-
 module _ (sound : SpelledDesignsAreSound) (spelled : LegalDesignsAreSpelled) (run : Run) (flowed : HasFlowed run) where
   abbrev fabric : PlainFabric
   fabric = run.design.fabric
@@ -96,12 +93,15 @@ module _ (sound : SpelledDesignsAreSound) (spelled : LegalDesignsAreSpelled) (ru
       ap (λ (files : Map). files (codes "sample.impl")) flowed.files ∙ implementation_stands (files_of run) flowed.stored flowed.flow
       ∙ ap (λ (d : PlainDesign). Some (implementation_text d.fabric implementation)) flowed.design
 
+  spells : (bytes : List ℕ) → bytes ≡ implementation_text fabric implementation → Spells fabric (rows_of bytes) implementation
+  spells bytes is =
+      let has = (spelled (files_of run) names.design flowed.flow.design implementation flowed.flow.spelled flowed.flow.made.legal).text in
+      printed_spells fabric implementation bytes (subst (λ (d : PlainDesign). HasSpelling d.fabric implementation) flowed.design has) is
+
   said : (bytes : List ℕ) → bytes ≡ implementation_text fabric implementation → Says fabric (rows_of bytes) implementation
   said bytes is =
       let is_sound = subst IsSound flowed.design (sound (files_of run) names.design flowed.flow.design flowed.flow.spelled) in
-      let has = (spelled (files_of run) names.design flowed.flow.design implementation flowed.flow.spelled flowed.flow.made.legal).text in
-      spelled_is_read fabric is_sound.fabric is_sound.tiles (rows_of bytes) implementation
-      (printed_spells fabric implementation bytes (subst (λ (d : PlainDesign). HasSpelling d.fabric implementation) flowed.design has) is)
+      spelled_is_read fabric is_sound.fabric is_sound.tiles (rows_of bytes) implementation (spells bytes is)
 
   -- the implementation that is read is the one behind the files
   pub read_is : (it : PlainImplementation) → ReadsImplementation (map_of run.shelf) (codes "sample.impl") fabric it → it ≡ implementation
@@ -109,27 +109,16 @@ module _ (sound : SpelledDesignsAreSound) (spelled : LegalDesignsAreSpelled) (ru
       let bytes_are = found_is (map_of run.shelf) (codes "sample.impl") reads.bytes (implementation_text fabric implementation) stands reads.found in
       reads.spelled.says.1 ∙ sym (said reads.bytes bytes_are).1
 
-  too_long_if_refused : (fault : Fault) → MeetsImplementation (map_of run.shelf) (codes "sample.impl") fabric (refuses fault) → HasNoSummary (files_of run) fault
-  too_long_if_refused fault (of_file refused) =
-      let long = too_long_alone (map_of run.shelf) (codes "sample.impl") (implementation_text fabric implementation) fault stands refused (is_text (codes "sample.impl") refl) in
-      subst (HasNoSummary (files_of run)) (sym long.0)
-      (too_long flowed.stored flowed.flow
-      (subst (λ (d : PlainDesign). MAX_FILE_BYTES < length (implementation_text d.fabric implementation)) (sym flowed.design) long.1))
-  too_long_if_refused fault (of_bytes {bytes} found refused) =
-      let bytes_are = found_is (map_of run.shelf) (codes "sample.impl") bytes (implementation_text fabric implementation) stands found in
-      absurd (whole_not_refused (said bytes bytes_are).0 refused.refusal)
-
-  -- it is read, but where it is too long
-  pub reading_ends : (reads : Type 0) → (reads → ⊥) → (fault : Fault) → HasReadCause (Some (map_of run.shelf)) reads (λ told. MeetsImplementation told (codes "sample.impl") fabric) fault
-      → HasNoSummary (files_of run) fault
-  reading_ends reads calm faults.Memory cause = memory
-  reading_ends reads calm (faults.ReadFault file) cause = absurd (calm cause.0)
-  reading_ends reads calm (faults.Missing file) cause = too_long_if_refused (faults.Missing file) (cause (map_of run.shelf) refl)
-  reading_ends reads calm (faults.TooLong file) cause = too_long_if_refused (faults.TooLong file) (cause (map_of run.shelf) refl)
-  reading_ends reads calm (faults.Malformed place reason) cause = too_long_if_refused (faults.Malformed place reason) (cause (map_of run.shelf) refl)
-  reading_ends reads calm (faults.Unsupported place construct) cause = too_long_if_refused (faults.Unsupported place construct) (cause (map_of run.shelf) refl)
-  reading_ends reads calm (faults.Limit place quantity value bound) cause = too_long_if_refused (faults.Limit place quantity value bound) (cause (map_of run.shelf) refl)
-  reading_ends reads calm fault cause = absurd cause
+  -- it is short enough to be read
+  pub mapped_reads : SampleImplementationsAreShort → ReadsFrom (map_of run.shelf) (codes "sample.impl") (λ bytes. Spells fabric (rows_of bytes)) implementation
+  mapped_reads are_short =
+      let short = are_short (files_of run) run.size (draws_of run.seed) flowed.sized.least flowed.sized.most (sample_told run.size run.seed) rounds flowed.stored flowed.flow in
+      record {
+        bytes = implementation_text fabric implementation;
+        found = given_out (map_of run.shelf) (codes "sample.impl") (implementation_text fabric implementation) (is_text (codes "sample.impl") refl) stands
+            (subst (λ (d : PlainDesign). length (implementation_text d.fabric implementation) ≤ MAX_FILE_BYTES) flowed.design short);
+        spelled = spells (implementation_text fabric implementation) refl;
+      }
 
 -- it stands as a placed design of a packed netlist
 pub placed : (run : Run) (flowed : HasFlowed run) → ArePlaced run.design.fabric (packed run.design.netlist) flowed.flow.made.implementation
@@ -149,13 +138,13 @@ module _ (sound : SpelledDesignsAreSound) (spelled : LegalDesignsAreSpelled) (ru
       (subst (λ (f : List ℕ). ReadsImplementation (map_of shelf) f run.design.fabric it) file_is
       (subst (λ (f : PlainFabric). ReadsImplementation (map_of shelf) file f it) fabric_is reads)))
 
-  pub ends_there : (reads : Type 0) → (reads → ⊥) → (fault : Fault) → HasReadCause (Some (map_of shelf)) reads (λ told. MeetsImplementation told file fabric) fault
-      → HasNoSummary (files_of run) fault
-  ends_there reads calm fault cause =
-      reading_ends sound spelled run flowed reads calm fault
-      (subst (λ (s : List (List ℕ × List ℕ)). HasReadCause (Some (map_of s)) reads (λ told. MeetsImplementation told (codes "sample.impl") run.design.fabric) fault) shelf_is
-      (subst (λ (f : List ℕ). HasReadCause (Some (map_of shelf)) reads (λ told. MeetsImplementation told f run.design.fabric) fault) file_is
-      (subst (λ (f : PlainFabric). HasReadCause (Some (map_of shelf)) reads (λ told. MeetsImplementation told file f) fault) fabric_is cause)))
+  pub reads_there : SampleImplementationsAreShort → ReadsFrom (map_of shelf) file (λ bytes. Spells fabric (rows_of bytes)) flowed.flow.made.implementation
+  reads_there are_short =
+      let it = flowed.flow.made.implementation in
+      subst (λ (f : PlainFabric). ReadsFrom (map_of shelf) file (λ bytes. Spells f (rows_of bytes)) it) (sym fabric_is)
+      (subst (λ (f : List ℕ). ReadsFrom (map_of shelf) f (λ bytes. Spells run.design.fabric (rows_of bytes)) it) (sym file_is)
+      (subst (λ (s : List (List ℕ × List ℕ)). ReadsFrom (map_of s) (codes "sample.impl") (λ bytes. Spells run.design.fabric (rows_of bytes)) it) (sym shelf_is)
+      (mapped_reads sound spelled run flowed are_short)))
 
 -- it can be priced, and costs what the one behind the files does
 module _ (run : Run) (flowed : HasFlowed run) (cells : PlainPacked) (it : PlainImplementation) (cells_are : cells ≡ packed run.design.netlist)

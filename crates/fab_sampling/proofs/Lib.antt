@@ -4,4 +4,5 @@ mod Named
 mod Stocked
 mod Summed
 mod Texts
+mod Told
 mod Traced

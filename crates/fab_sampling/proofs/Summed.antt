@@ -4,8 +4,9 @@ use Rattle.fab_desk.specs.Files.{Map}
 use Rattle.fab_designs.specs.Designs.{SpellsDesign}
 use Rattle.fab_sampling.specs.declared.outcome.Outcome.{Outcome}
 use Rattle.fab_sampling.specs.declared.run.Run.{Run}
-use Rattle.fab_sampling.specs.Running.{files_of, IsNew}
-use Rattle.fab_sampling.specs.Sampling.{names, ComesTo, IsSummary}
+use Rattle.fab_sampling.specs.inner.Running.{files_of, IsNew}
+use Rattle.fab_sample_runs.specs.Commands.{names}
+use Rattle.fab_sampling.specs.Sampling.{ComesTo, IsSummary}
 use Rattle.fab_sampling.specs.Summary.{summary_text}
 
 -- It is printed of the run as commands left it, which have changed the files alone.

@@ -1,21 +1,18 @@
--- A sample that is run through the commands: what its summary tells, and why there is none.
-use Rattle.std.specs.Prelude.{◌≡◌, ◌≢◌, ◌<◌, ℕ, List, codes, length, map, Option, Some, None}
-use Rattle.fab_base.specs.declared.TheConstants.{MAX_FILE_BYTES}
+-- A sample that is run through the commands: what its summary tells.
+use Rattle.std.specs.Prelude.{◌≡◌, ◌≢◌, ℕ, List, map, None}
 use Rattle.fab_base.specs.declared.fault.Fault.{Fault}
 use Rattle.fab_base.specs.declared.fault.Fault.TheVariants as faults
 use Rattle.fab_desk.specs.Files.{Map}
 use Rattle.fab_netlist.specs.Packing.{packed}
 use Rattle.fab_ways.specs.Placing.{cost}
 use Rattle.fab_designs.specs.Designs.{PlainDesign, SpellsDesign}
-use Rattle.fab_impl.specs.Spelled.{implementation_text}
 use Rattle.fab_outputs.specs.Storing.{PlainOutput, output, with_outputs}
-use Rattle.fab_outputs.specs.Ending.{IsRefused}
-use Rattle.fab_flow.specs.Flowing.{FailsToFlow, FlowFiles, MakesFlow, MeetsFlow, flow_files, flow_refusals}
-use Rattle.fab_simulate.specs.Simulating.{MeetsSimulation, SimulationFiles, simulate_refusals, simulation_files}
-use Rattle.fab_simulated_flow.specs.Laws.{TracesNetlist}
+use Rattle.fab_sample_runs.specs.fab_flow.specs.Flowing.{FailsToFlow, MakesFlow}
+use Rattle.fab_sample_runs.specs.fab_simulated_flow.specs.Laws.{TracesNetlist}
 use Rattle.fab_sample.specs.declared.file.File.{File}
 use Rattle.fab_draws.specs.Draws.{draws_of}
 use Rattle.fab_sample.specs.Files.{sample_files}
+use Rattle.fab_sample_runs.specs.Commands.{names, rounds, simulated}
 use Rattle.fab_sampling.specs.Summary.{edge_count, summary_text}
 use Rattle.fab_sampling.specs.declared.outcome.Outcome.{Outcome}
 use Rattle.fab_sampling.specs.declared.outcome.Outcome.TheVariants.{Mapped, Unmapped}
@@ -35,17 +32,6 @@ only files = with_outputs (map stored_file files) no_files
 -- the six files of a sample
 unfoldable pub sample_map : (size seed : ℕ) → Map
 sample_map size seed = only (sample_files size (draws_of seed))
-
--- `flow sample.csv sample.blif sample`, which may take 32 rounds
-abbrev pub names : FlowFiles
-names = flow_files (codes "sample.csv") (codes "sample.blif") None (codes "sample")
-
-abbrev pub rounds : ℕ
-rounds = 32
-
--- `simulate sample.v sample.bit sample.state sample.stim sample.trace`
-abbrev pub simulated : SimulationFiles
-simulated = simulation_files (codes "sample.v") (codes "sample.bit") (codes "sample.state") (codes "sample.stim") (codes "sample.trace")
 
 -- ---- what a summary tells
 
@@ -75,15 +61,3 @@ pub record IsSummary (size seed : ℕ) (bytes : List ℕ) : Type 0 where
   pub outcome : Outcome
   pub comes : ComesTo (sample_map size seed) outcome
   pub bytes_are : bytes ≡ summary_text size seed design outcome
-
--- ---- why there is none
-
--- Memory may be refused at any time. Else a file is refused: one of the sample, or one that was made of it; or the text of the implementation is too long
--- to be read.
-pub data HasNoSummary (files : Map) : Fault → Type 0 where
-  memory : HasNoSummary files faults.Memory
-  not_taken : {fault : Fault} → IsRefused (Some files) (λ told. MeetsFlow told names) flow_refusals fault → HasNoSummary files fault
-  not_simulated : {fault : Fault} (stored : List PlainOutput) → MakesFlow files names rounds stored →
-      IsRefused (Some (with_outputs stored files)) (λ told. MeetsSimulation told simulated) simulate_refusals fault → HasNoSummary files fault
-  too_long : (stored : List PlainOutput) (flow : MakesFlow files names rounds stored) →
-      MAX_FILE_BYTES < length (implementation_text flow.design.fabric flow.made.implementation) → HasNoSummary files (faults.TooLong (codes "sample.impl"))

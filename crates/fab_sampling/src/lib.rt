@@ -4,9 +4,11 @@
 mod measuring;
 mod outcome;
 mod printing;
+mod refusing;
 mod run;
 mod sampling;
 mod shelf;
 mod stocking;
 
+pub use fab_sample_runs::{fab_flow, fab_simulate};
 pub use sampling::summary;

@@ -1,20 +1,21 @@
 //! What a mapped design costs.
 
-ghost use Rattle.std.specs.Prelude.{◌≡◌, length, sum_by, IfErr, IfOk};
+ghost use Rattle.std.specs.Prelude.{◌≡◌, length, sum_by, IfOk};
 ghost use Rattle.fab_desk.specs.Memory.{map_of};
 ghost use Rattle.fab_netlist.specs.Packing.{packed as packed_of};
 ghost use Rattle.fab_ways.specs.Placing.{cost as cost_of};
-ghost use Rattle.fab_sampling.specs.Running.{files_of, HasFlowed};
-ghost use Rattle.fab_sampling.specs.Sampling.{HasNoSummary};
+ghost use Rattle.fab_sampling.specs.inner.Running.{HasFlowed};
 ghost use Rattle.fab_sampling.specs.Summary.{edge_count};
 
+use crate::refusing::only_memory;
 use crate::run::Run;
-use fab_base::{Fault, Memory, Name};
+use fab_base::{Memory, Name};
 use fab_designs::read_implementation;
-use fab_implementation::Tree;
+use fab_implementation::{Implementation, Tree};
 use fab_netlist::{Netlist, Packed, pack};
 use fab_place::cost;
-use fab_spelled_designs::{legal_designs_are_spelled, spelled_designs_are_sound};
+use fab_sample_runs::fab_spelled_designs::{legal_designs_are_spelled, spelled_designs_are_sound};
+use fab_sample_runs::sample_implementations_are_short;
 use std::alloc::Global;
 
 /// The cells and ports of a netlist. A netlist has fewer than 32 bits count, so only want of memory comes.
@@ -38,34 +39,48 @@ fn edges(trees: &[Tree]) -> Result<u64, Memory>
     Ok(count)
 }
 
+/// The implementation that `flow` stored.
+fn read_mapped(alloc: Global, run: &mut Run) -> Result<Implementation, Memory>
+    requires { HasFlowed run.old }
+    ensures same { run.new ≡ record run.old { shelf = run.new.shelf } }
+    ensures files { map_of run.new.shelf ≡ map_of run.old.shelf }
+    ensures mapped { IfOk result (λ it. (flowed : HasFlowed run.old) → it ≡ flowed.flow.made.implementation) }
+{
+    // what holds of designs that files spell, and that what is printed of them is read back, are clauses of these calls
+    spelled_designs_are_sound();
+    legal_designs_are_spelled();
+    sample_implementations_are_short();
+    let file = Name::of(alloc, b"sample.impl")?;
+    match read_implementation(alloc, &mut run.shelf, &file, &run.design.fabric) {
+        Ok(implementation) => Ok(implementation),
+        Err(fault) => Err(only_memory(fault)),
+    }
+}
+
 /// What the stored implementation costs, and how many edges its nets have.
-fn measured_cells(alloc: Global, run: &mut Run, packed: &Packed) -> Result<(u64, u64), Fault>
+fn measured_cells(alloc: Global, run: &mut Run, packed: &Packed) -> Result<(u64, u64), Memory>
     requires flowed { HasFlowed run.old }
     requires packed { packed.now ≡ packed_of run.old.design.netlist }
     ensures same { run.new ≡ record run.old { shelf = run.new.shelf } }
     ensures files { map_of run.new.shelf ≡ map_of run.old.shelf }
     ensures cost { IfOk result (λ found. (flowed : HasFlowed run.old) → found.0 ≡ cost_of (packed_of flowed.flow.design.netlist) flowed.flow.made.implementation) }
     ensures edges { IfOk result (λ found. (flowed : HasFlowed run.old) → found.1 ≡ edge_count flowed.flow.made.implementation) }
-    ensures cause { IfErr result (HasNoSummary (files_of run.old)) }
 {
-    // what holds of designs that files spell, and of what is printed of them, are clauses of these calls
+    // what holds of designs that files spell is the clause of this call
     spelled_designs_are_sound();
-    legal_designs_are_spelled();
-    let file = Name::of(alloc, b"sample.impl")?;
-    let implementation = read_implementation(alloc, &mut run.shelf, &file, &run.design.fabric)?;
+    let implementation = read_mapped(alloc, run)?;
     let cost = cost(&run.design.fabric, packed, &implementation);
     let edges = edges(&implementation.trees)?;
     Ok((cost, edges))
 }
 
 /// What the implementation that `flow` stored costs, and how many edges its nets have.
-pub fn measured(alloc: Global, run: &mut Run) -> Result<(u64, u64), Fault>
+pub fn measured(alloc: Global, run: &mut Run) -> Result<(u64, u64), Memory>
     requires { HasFlowed run.old }
     ensures same { run.new ≡ record run.old { shelf = run.new.shelf } }
     ensures files { map_of run.new.shelf ≡ map_of run.old.shelf }
     ensures cost { IfOk result (λ found. (flowed : HasFlowed run.old) → found.0 ≡ cost_of (packed_of flowed.flow.design.netlist) flowed.flow.made.implementation) }
     ensures edges { IfOk result (λ found. (flowed : HasFlowed run.old) → found.1 ≡ edge_count flowed.flow.made.implementation) }
-    ensures cause { IfErr result (HasNoSummary (files_of run.old)) }
 {
     let packed = packed_netlist(alloc, &run.design.netlist)?;
     measured_cells(alloc, run, &packed)

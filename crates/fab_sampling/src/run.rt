@@ -1,23 +1,29 @@
 //! A sample on its way through the commands.
 
-ghost use Rattle.std.specs.Prelude.{◌≡◌, ◌≤◌, List, None, IfErr, IfOk, OnOk};
+ghost use Rattle.std.specs.Prelude.{◌≡◌, ◌≢◌, ◌≤◌, List, None, IfErr, IfOk, OnOk};
+ghost use Rattle.fab_base.specs.declared.fault.Fault.TheVariants as faults;
 ghost use Rattle.fab_desk.specs.Memory.{map_of};
 ghost use Rattle.fab_designs.specs.Designs.{SpellsDesign};
 ghost use Rattle.fab_outputs.specs.Storing.{PlainOutput, with_outputs};
-ghost use Rattle.fab_simulated_flow.specs.Laws.{TracesNetlist};
-ghost use Rattle.fab_sampling.specs.Running.{files_of, HasFlowed, IsNew, outcome_of};
-ghost use Rattle.fab_sampling.specs.Sampling.{names, sample_map, simulated, ComesTo, HasNoSummary};
+ghost use Rattle.fab_sample_runs.specs.fab_simulated_flow.specs.Laws.{TracesNetlist};
+ghost use Rattle.fab_sample_runs.specs.Commands.{names, simulated};
+ghost use Rattle.fab_sampling.specs.inner.Running.{files_of, EndsFlow, HasFlowed, IsNew};
+ghost use Rattle.fab_sampling.specs.Sampling.{sample_map, ComesTo};
+ghost use Rattle.fab_sampling.specs.declared.outcome.Outcome.TheVariants.{Unmapped};
 
 use crate::measuring::measured;
 use crate::outcome::Outcome;
+use crate::refusing::only_memory;
 use crate::shelf::Shelf;
 use crate::stocking::stocked;
-use fab_base::{Fault, Name};
+use fab_base::{Fault, Memory, Name};
 use fab_designs::{Design, read_design};
-use fab_flow::do_flow;
 use fab_progress::{Progress, Silent};
-use fab_simulate::do_simulate;
-use fab_simulated_flow::flow_files_simulate;
+use fab_sample_runs::fab_flow::do_flow;
+use fab_sample_runs::fab_sample_designs::{sample_designs_are_read, samples_are_ready};
+use fab_sample_runs::fab_simulate::do_simulate;
+use fab_sample_runs::fab_simulated_flow::flow_files_simulate;
+use fab_sample_runs::samples_simulate;
 use std::alloc::Global;
 
 /// A sample: its size and its seed, the design that its files spell, and these files with what commands made of them.
@@ -30,38 +36,45 @@ pub struct Run {
 }
 
 /// The design of a sample.
-fn read_sample(alloc: Global, shelf: &mut Shelf) -> Result<Design, Fault>
+fn read_sample(alloc: Global, shelf: &mut Shelf, size: usize, seed: u64) -> Result<Design, Memory>
+    requires least { 2 ≤ size }
+    requires most { size ≤ 16 }
+    requires files { map_of shelf.old ≡ sample_map size seed }
     ensures same { map_of shelf.new ≡ map_of shelf.old }
     ensures spelled { IfOk result (SpellsDesign (map_of shelf.old) names.design) }
-    ensures cause { IfErr result (HasNoSummary (map_of shelf.old)) }
 {
+    // that its files are read is the clause of this call
+    sample_designs_are_read();
     let fabric = Name::of(alloc, b"sample.csv")?;
     let blif = Name::of(alloc, b"sample.blif")?;
-    read_design(alloc, shelf, &mut Silent, &fabric, &blif, None)
+    match read_design(alloc, shelf, &mut Silent, &fabric, &blif, None) {
+        Ok(design) => Ok(design),
+        Err(fault) => Err(only_memory(fault)),
+    }
 }
 
-/// A search that came to nothing is what came of a sample. Any other fault ends it.
-fn unmapped(fault: Fault) -> Result<Outcome, Fault>
-    ensures { result ≡ outcome_of fault }
+/// A search that came to nothing is what came of a sample.
+fn unmapped(fault: Fault) -> Result<Outcome, Memory>
+    ensures outcome { IfOk result (λ outcome. outcome ≡ Unmapped fault) }
+    ensures searched { IfOk result (λ outcome. fault ≢ faults.Memory) }
 {
-    if matches!(fault, Fault::NoPath(..) | Fault::Overused(..)) {
-        return Ok(Outcome::Unmapped(fault));
+    if matches!(fault, Fault::Memory) {
+        return Err(Memory);
     }
-    Err(fault)
+    Ok(Outcome::Unmapped(fault))
 }
 
 impl Run {
     /// Makes the files of a sample, and reads its design.
-    pub fn new(alloc: Global, size: usize, seed: u64) -> Result<Run, Fault>
+    pub fn new(alloc: Global, size: usize, seed: u64) -> Result<Run, Memory>
         requires least { 2 ≤ size }
         requires most { size ≤ 16 }
         ensures size { IfOk result (λ run. run.size ≡ size) }
         ensures seed { IfOk result (λ run. run.seed ≡ seed) }
         ensures new { IfOk result IsNew }
-        ensures cause { IfErr result (HasNoSummary (sample_map size seed)) }
     {
         let mut shelf = stocked(alloc, size, seed)?;
-        let design = read_sample(alloc, &mut shelf)?;
+        let design = read_sample(alloc, &mut shelf, size, seed)?;
         Ok(Run {
             size,
             seed,
@@ -75,9 +88,10 @@ impl Run {
         requires { IsNew self.old }
         ensures same { self.new ≡ record self.old { shelf = self.new.shelf } }
         ensures done { OnOk result (HasFlowed self.new) }
-        ensures ends { IfErr result (λ fault. IfOk (outcome_of fault) (ComesTo (files_of self.old))) }
-        ensures cause { IfErr result (λ fault. IfErr (outcome_of fault) (HasNoSummary (files_of self.old))) }
+        ensures ends { IfErr result (EndsFlow self.old) }
     {
+        // that nothing is refused is the clause of this call
+        samples_are_ready();
         let fabric = Name::of(alloc, b"sample.csv")?;
         let blif = Name::of(alloc, b"sample.blif")?;
         let base = Name::of(alloc, b"sample")?;
@@ -95,20 +109,21 @@ impl Run {
     }
 
     /// Simulates what `flow` stored, and stores the trace.
-    fn simulate<P: Progress>(&mut self, alloc: Global, progress: &mut P) -> Result<(), Fault>
+    fn simulate<P: Progress>(&mut self, alloc: Global, progress: &mut P) -> Result<(), Memory>
+        requires { HasFlowed self.old }
         ensures same { self.new ≡ record self.old { shelf = self.new.shelf } }
         ensures traced { OnOk result ((flowed : HasFlowed self.old) → (trace : List PlainOutput)
             × TracesNetlist (with_outputs flowed.stored (files_of self.old)) simulated.stimulus simulated.trace flowed.flow.design.netlist trace) }
-        ensures cause { IfErr result (λ fault. HasFlowed self.old → HasNoSummary (files_of self.old) fault) }
     {
-        // what is simulated of the files of a flow is a clause of this call
+        // that nothing is refused, and what is simulated of the files of a flow, are clauses of these calls
+        samples_simulate();
         flow_files_simulate();
         let verilog = Name::of(alloc, b"sample.v")?;
         let bit = Name::of(alloc, b"sample.bit")?;
         let state = Name::of(alloc, b"sample.state")?;
         let stimulus = Name::of(alloc, b"sample.stim")?;
         let trace = Name::of(alloc, b"sample.trace")?;
-        do_simulate(
+        match do_simulate(
             alloc,
             &mut self.shelf,
             progress,
@@ -116,16 +131,19 @@ impl Run {
             &bit,
             &state,
             &stimulus,
+            None,
             &trace,
-        )
+        ) {
+            Ok(()) => Ok(()),
+            Err(fault) => Err(only_memory(fault)),
+        }
     }
 
     /// What is told of a design that is mapped, once its trace is that of its netlist.
-    fn mapped<P: Progress>(&mut self, alloc: Global, progress: &mut P) -> Result<Outcome, Fault>
+    fn mapped<P: Progress>(&mut self, alloc: Global, progress: &mut P) -> Result<Outcome, Memory>
         requires { HasFlowed self.old }
         ensures same { self.new ≡ record self.old { shelf = self.new.shelf } }
         ensures comes { IfOk result (ComesTo (files_of self.old)) }
-        ensures cause { IfErr result (HasNoSummary (files_of self.old)) }
     {
         let (cost, edges) = measured(alloc, self)?;
         self.simulate(alloc, progress)?;
@@ -137,11 +155,10 @@ impl Run {
         &mut self,
         alloc: Global,
         progress: &mut P,
-    ) -> Result<Outcome, Fault>
+    ) -> Result<Outcome, Memory>
         requires { IsNew self.old }
         ensures same { self.new ≡ record self.old { shelf = self.new.shelf } }
         ensures comes { IfOk result (ComesTo (files_of self.old)) }
-        ensures cause { IfErr result (HasNoSummary (files_of self.old)) }
     {
         match self.flow(alloc, progress) {
             Ok(()) => self.mapped(alloc, progress),

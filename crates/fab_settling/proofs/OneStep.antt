@@ -10,21 +10,21 @@ use Rattle.fab_meaning.specs.Settled.{Assignment, names_at, shown}
 use Rattle.fab_meaning.specs.Reads.{same_point}
 use Rattle.fab_meaning.specs.Runs.{clock_name, user_clock_name, clock_of, is_clock, kept, Ticks, Moment, IsRunOn}
 use Rattle.fab_meaning.specs.Activation.{State, Event, activate, tick, change, held_after, IsSameAt, IsStep, AreSteps}
-use Rattle.fab_meaning.specs.Loading.{strobe_name, data_name, IsStream, IsLoading}
+use Rattle.fab_meaning.specs.Loading.{IsStream, IsLoading, write_strobe_name, write_data_name}
 use Rattle.fab_meaning.specs.Loaded.{IsLoaded}
 use Rattle.fab_meaning.specs.Sound.{HasOneDriver}
 use Rattle.fab_meaning.proofs.Declared.{bytes_apart}
 use Rattle.fab_meaning.proofs.Dependence.{shown_same, same_point_refl, same_point_is}
 use Rattle.fab_meaning.proofs.SoundDrivers.{has_one_driver}
 use Rattle.fab_meaning.proofs.UserSteps.{user_steps}
-use Rattle.fab_drives.proofs.Apart.{told_apart}
+use Rattle.fab_runs.specs.fab_drives.proofs.Apart.{told_apart}
 use Rattle.fab_fabric.specs.declared.wire.Site.{Site}
 use Rattle.fab_netlist.specs.Packing.{packed}
 use Rattle.fab_prim.specs.Ports.{top_name}
-use Rattle.fab_fabric_text.specs.Names.{pad_port_name}
-use Rattle.fab_fabric_text.specs.Top.{top_module}
-use Rattle.fab_text_loads.specs.Loads.{IsQuiet, IsConfigured, LoadsConfigurations}
-use Rattle.fab_points.proofs.EachSource.{has_fabric}
+use Rattle.fab_runs.specs.fab_fabric_text.specs.Names.{pad_port_name}
+use Rattle.fab_runs.specs.fab_fabric_text.specs.Top.{top_module}
+use Rattle.fab_runs.specs.fab_text_loads.specs.Loads.{IsQuiet, IsConfigured, LoadsConfigurations}
+use Rattle.fab_runs.specs.fab_points.proofs.EachSource.{has_fabric}
 use Rattle.fab_runs.proofs.Setting.{Setting, cells_made}
 use Rattle.fab_runs.proofs.DesignRank.{settles_once}
 use Rattle.fab_settling.specs.Steps.{IsAtRest, IsUse, IsUseStep, IsInputPad, IsFree, IsFreeStep, IsFeedingStep}
@@ -106,10 +106,10 @@ module _ (s : Setting) where
     named = inl refl;
   }
 
-  strobe_stream : IsStream s.text (point [] strobe_name 0)
+  strobe_stream : IsStream s.text (point [] write_strobe_name 0)
   strobe_stream = record {
-    input = record { top = refl; input = ap (λ m. is_input_of m strobe_name) (has_fabric s.fabric s.text s.is s.is_text).top_is; is = refl };
-    declared = declared_port strobe_name refl;
+    input = record { top = refl; input = ap (λ m. is_input_of m write_strobe_name) (has_fabric s.fabric s.text s.is s.is_text).top_is; is = refl };
+    declared = declared_port write_strobe_name refl;
     named = inr (inl refl);
   }
 
@@ -198,13 +198,13 @@ module _ (s : Setting) where
 
   use_stands : (event : Event) (a b : State) → Stands a → Step event a b → Used event → Stands b
   use_stands event a b stands step used =
-      let strobe = leaves_stream event used (point [] strobe_name 0) strobe_stream in
+      let strobe = leaves_stream event used (point [] write_strobe_name 0) strobe_stream in
       let clock = leaves_stream event used (point [] clock_name 0) clock_stream in
       let user_clock = leaves_user_clock event used in
       record {
         rest = record {
           settled = (use_loaded event a b stands step used).0;
-          quiet = input_stays event a b (point [] strobe_name 0) (inl strobe_stream.input) step strobe ∙ stands.rest.quiet;
+          quiet = input_stays event a b (point [] write_strobe_name 0) (inl strobe_stream.input) step strobe ∙ stands.rest.quiet;
           low = (
             input_stays event a b (point [] clock_name 0) (inl clock_stream.input) step clock ∙ stands.rest.low.0,
             input_stays event a b (point [] user_clock_name 0) (port_outside user_clock_name refl) step user_clock ∙ stands.rest.low.1,
@@ -235,8 +235,8 @@ module _ (s : Setting) where
   pad_no_stream p pad stream =
       elim stream.named [
         | inl is ↦ pad_apart p clock_name (λ site. told_apart 0 (pad_port_name site.x site.y site.bel top_name) clock_name refl) pad is
-        | inr (inl is) ↦ pad_apart p strobe_name (λ site. told_apart 0 (pad_port_name site.x site.y site.bel top_name) strobe_name refl) pad is
-        | inr (inr is) ↦ pad_apart p data_name (λ site. told_apart 0 (pad_port_name site.x site.y site.bel top_name) data_name refl) pad is
+        | inr (inl is) ↦ pad_apart p write_strobe_name (λ site. told_apart 0 (pad_port_name site.x site.y site.bel top_name) write_strobe_name refl) pad is
+        | inr (inr is) ↦ pad_apart p write_data_name (λ site. told_apart 0 (pad_port_name site.x site.y site.bel top_name) write_data_name refl) pad is
       ]
 
   pad_no_clock : (p : Point) → Pads p → p ≢ point [] user_clock_name 0

@@ -1,3 +1,10 @@
 pub mod Steps
 pub mod Blocks
 pub mod Settling
+pub use Rattle.fab_runs.specs.fab_fabric_text
+pub use Rattle.fab_runs.specs.fab_drives
+pub use Rattle.fab_runs.specs.fab_loading
+pub use Rattle.fab_runs.specs.fab_text_loads
+pub use Rattle.fab_runs.specs.fab_use
+pub use Rattle.fab_runs.specs.fab_points
+pub use Rattle.fab_runs

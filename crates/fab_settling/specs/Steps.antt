@@ -4,17 +4,17 @@ use Rattle.fab_syntax.specs.Plain.{PlainModule}
 use Rattle.fab_meaning.specs.Points.{Point, point}
 use Rattle.fab_meaning.specs.Runs.{user_clock_name, AreClocksLow}
 use Rattle.fab_meaning.specs.Activation.{State, Event, activate, tick, change, IsStep}
-use Rattle.fab_meaning.specs.Loading.{strobe_name, IsStream}
+use Rattle.fab_meaning.specs.Loading.{IsStream, write_strobe_name}
 use Rattle.fab_meaning.specs.Loaded.{IsLoaded}
 use Rattle.fab_fabric.specs.declared.wire.Site.{Site}
 use Rattle.fab_implementation.specs.Plain.{PlainImplementation}
 use Rattle.fab_prim.specs.Ports.{top_name}
-use Rattle.fab_use.specs.Sites.{top_point}
+use Rattle.fab_runs.specs.fab_use.specs.Sites.{top_point}
 
 -- The loading points have what their drivers give them, no word is written, and the clocks are 0. Of all other points nothing is said.
 pub record IsAtRest (text : List PlainModule) (state : State) : Type 0 where
   pub settled : IsLoaded text state
-  pub quiet : state.now (point [] strobe_name 0) ≡ false
+  pub quiet : state.now (point [] write_strobe_name 0) ≡ false
   pub low : AreClocksLow state.now
 
 -- In use any points are activated, any clocks tick, and inputs of the top change that are no clock and carry no words.

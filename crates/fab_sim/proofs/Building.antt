@@ -19,8 +19,8 @@ use Rattle.fab_syntax.specs.declared.tree.Shape.TheVariants.{Vector}
 use Rattle.fab_ternary.specs.Terns.{plain_tern}
 use Rattle.fab_compiled.specs.Terns.{tern_or_unknown}
 use Rattle.fab_compiled.specs.declared.tree.Tree.{Tree}
-use Rattle.fab_meaning.specs.Points.{Point, point, Driver, outside, copy, bit_of, flop, hold, Drives, module_at}
-use Rattle.fab_meaning.specs.Loading.{IsLoading, data_name, strobe_name}
+use Rattle.fab_meaning.specs.Points.{Point, point, Driver, outside, copy, bit_of, flop, hold, Drives, module_at, IsStored}
+use Rattle.fab_meaning.specs.Loading.{IsLoading, write_data_name, write_strobe_name}
 use Rattle.fab_values.specs.Declarations.{declared_at, found_in}
 use Rattle.fab_values.specs.declared.names.Role.TheVariants as roles
 use Rattle.fab_equations.specs.Instances.{points as text_points}
@@ -36,8 +36,6 @@ use Rattle.fab_demand.specs.Asked.{Asked}
 use Rattle.fab_demand.specs.Demand.{IsAsked}
 use Rattle.fab_demand.specs.Laws.{GivenIsKept}
 use Rattle.fab_wiring.specs.Wiring.{AreDrives, IsDriveOf}
-use Rattle.fab_wiring.specs.Given.{HoldsValue}
-use Rattle.fab_load_points.specs.Registers.{IsStored}
 use Rattle.fab_phases.specs.Loading.{AreLoading}
 use Rattle.fab_phases.specs.Words.{IsLoadingAt}
 use Rattle.fab_phases.specs.declared.loading.Loading.{Loading}
@@ -144,25 +142,25 @@ pub word_given : (text : List PlainModule) (network : Network) (state : PlainSta
     AreDrives text network.trees.items network.drives.items →
     StandsAt text state points → (bit : ℕ) → bit < 32 → slice_get network.drives.items (points.stream.data_word + bit) ≡ Some Given
 word_given text network state points are stands bit less =
-    given_at text network (points.stream.data_word + bit) (point [] data_name bit) are (stands.stream.words bit less)
-    (outside_at text data_name (Vector 32) bit stands.has.words)
+    given_at text network (points.stream.data_word + bit) (point [] write_data_name bit) are (stands.stream.words bit less)
+    (outside_at text write_data_name (Vector 32) bit stands.has.words)
 
 pub strobe_within : (text : List PlainModule) (state : PlainState) (points : StatePoints) → StandsAt text state points →
     points.stream.strobe < length (text_points text)
 strobe_within text state points stands =
-    let at = slice_get_within (text_points text) (points.stream.strobe + 0) (point [] strobe_name 0) (stands.stream.strobe 0 (omega arith)) in
+    let at = slice_get_within (text_points text) (points.stream.strobe + 0) (point [] write_strobe_name 0) (stands.stream.strobe 0 (omega arith)) in
     omega arith
 
 -- ---- the marks of loading points
 
-stored_of : (d : Driver) → HoldsValue d → IsStored d
+stored_of : (d : Driver) → IsStored d → IsStored d
 stored_of outside h = absurd h
 stored_of (copy other) h = absurd h
 stored_of (bit_of path e bit) h = absurd h
 stored_of (flop path clock next bit) h = tt
 stored_of (hold path gate e bit) h = tt
 
-of_stored : (d : Driver) → IsStored d → HoldsValue d
+of_stored : (d : Driver) → IsStored d → IsStored d
 of_stored outside h = absurd h
 of_stored (copy other) h = absurd h
 of_stored (bit_of path e bit) h = absurd h

@@ -3,7 +3,7 @@ use Rattle.std.proofs.Common.{◌≡◌, ◌≢◌, ℕ, Bool, List, Option, Non
 use Rattle.std.specs.List.{slice_get}
 use Rattle.fab_syntax.specs.Plain.{PlainModule}
 use Rattle.fab_systems.specs.Ternary.{Tern, no, known}
-use Rattle.fab_meaning.specs.Points.{Point, Driver, outside, copy, bit_of, flop, hold, Drives}
+use Rattle.fab_meaning.specs.Points.{Point, Driver, outside, copy, bit_of, flop, hold, Drives, IsStored}
 use Rattle.fab_meaning.specs.Runs.{user_clock_name}
 use Rattle.fab_tern.specs.Shown.{Terns}
 use Rattle.fab_state.specs.Plain.{PlainState}
@@ -20,9 +20,9 @@ use Rattle.fab_network.specs.declared.network.Drive.TheVariants.{Given, Flop, Sa
 use Rattle.fab_network.specs.declared.network.Network.{Network}
 use Rattle.fab_network.specs.Solved.{IsLeast}
 use Rattle.fab_demand.specs.Asked.{Asked}
-use Rattle.fab_wiring.specs.Given.{HoldsValue, IsGivenTo, given_at, given_tern, left_by, left_tern, ticks_at}
+use Rattle.fab_wiring.specs.Given.{IsGivenTo, given_at, given_tern, left_by, left_tern, ticks_at}
 use Rattle.fab_wiring.specs.Laws.{LeastByNumber, LeftByNumber, NumbersHaveTerns}
-use Rattle.fab_simulation.specs.Simulation.{given, IsCycle}
+use Rattle.fab_ordering.specs.fab_simulation.specs.Simulation.{given, IsCycle}
 use Rattle.fab_phases.specs.Cycles.{IsFed, IsIn, IsRunningAt, IsTicked}
 use Rattle.fab_sim.specs.Machine.{IsAt}
 use Rattle.fab_sim.specs.declared.machine.Machine.{Machine}
@@ -52,7 +52,7 @@ pub record RunsAs (text : List PlainModule) (network : Network) (ins outs : List
   pub least : IsLeast network.trees.items network.drives.items later t
   pub shows : map t outs ≡ shown
   pub ticked : IsTicked network ins later t after
-  pub agree : (number : ℕ) (p : Point) (d : Driver) → IsPoint text number p → Drives text p d → HoldsValue d → after number ≡ next p
+  pub agree : (number : ℕ) (p : Point) (d : Driver) → IsPoint text number p → Drives text p d → IsStored d → after number ≡ next p
   pub low : (number : ℕ) → slice_get network.drives.items number ≡ Some Given → (IsIn ins number → ⊥) → after number ≡ no
 
 module _ (text : List PlainModule) (state : PlainState) (machine : Machine) (held next : Terns) (at : IsAt text state machine held) (values : List Bool)
@@ -149,7 +149,7 @@ module _ (text : List PlainModule) (state : PlainState) (machine : Machine) (hel
     values = λ number source e. left_at number (Some (Value source)) e;
   }
 
-  agree_after : (number : ℕ) (p : Point) (d : Driver) → IsPoint text number p → Drives text p d → HoldsValue d → after number ≡ next p
+  agree_after : (number : ℕ) (p : Point) (d : Driver) → IsPoint text number p → Drives text p d → IsStored d → after number ≡ next p
   agree_after number p d is driven stored =
       sym (left text machine.network.trees.items machine.network.drives.items at.of.network.drives (given state.ins values) held cycle.now later now.0
       given_by now.1 User

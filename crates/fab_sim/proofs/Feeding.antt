@@ -6,7 +6,7 @@ use Rattle.std.proofs.lemmas.Option.{slice_get_within}
 use Rattle.fab_draws.specs.Draws.{is_one as is_set, word_at}
 use Rattle.fab_syntax.specs.Plain.{PlainModule}
 use Rattle.fab_systems.specs.Ternary.{no, known}
-use Rattle.fab_meaning.specs.Points.{Point, Driver, outside, copy, bit_of, flop, hold}
+use Rattle.fab_meaning.specs.Points.{Point, Driver, outside, copy, bit_of, flop, hold, IsStored}
 use Rattle.fab_meaning.specs.Reads.{is_declared}
 use Rattle.fab_meaning.specs.Settled.{Assignment}
 use Rattle.fab_meaning.specs.Sound.{PointsOfSoundTextsHaveOneDriver}
@@ -20,13 +20,12 @@ use Rattle.fab_equations.proofs.Numbering.{same_value, some_there}
 use Rattle.fab_compiled.specs.declared.tree.Tree.{Tree}
 use Rattle.fab_equations.proofs.Points.{declared_are_points}
 use Rattle.fab_compiled.specs.Values.{AreByNumber}
-use Rattle.fab_simulation.specs.Simulation.{given}
+use Rattle.fab_ordering.specs.fab_simulation.specs.Simulation.{given}
 use Rattle.fab_network.specs.declared.network.Clock.{Clock}
 use Rattle.fab_network.specs.declared.network.Source.{Source}
 use Rattle.fab_network.specs.declared.network.Drive.{Drive}
 use Rattle.fab_network.specs.declared.network.Drive.TheVariants.{Flop}
 use Rattle.fab_wiring.specs.Wiring.{IsDriveOf}
-use Rattle.fab_wiring.specs.Given.{HoldsValue}
 use Rattle.fab_network.specs.Passes.{kept_tern}
 use Rattle.fab_wiring.proofs.Numbered.{points_have_terns}
 use Rattle.fab_wiring.proofs.Solved.{is_point}
@@ -119,7 +118,7 @@ module _ (text : List PlainModule) (state : PlainState) (draws : ℕ → ℕ) (o
 
 -- ---- what flip-flops hold
 
-pub flop_holds : (text : List PlainModule) (trees : List Tree) (d : Driver) (clock : Clock) (source : Source) → IsDriveOf text trees d (Flop clock source) → HoldsValue d
+pub flop_holds : (text : List PlainModule) (trees : List Tree) (d : Driver) (clock : Clock) (source : Source) → IsDriveOf text trees d (Flop clock source) → IsStored d
 flop_holds text trees (flop path own next bit) clock source of = tt
 flop_holds text trees outside clock source of = absurd of
 flop_holds text trees (copy other) clock source of = absurd of

@@ -23,7 +23,7 @@ use Rattle.fab_state_points.specs.Standing.{StandsAt}
 use Rattle.fab_state_points.specs.declared.points.StatePoints.{StatePoints}
 use Rattle.fab_ordering.specs.Ordered.{IsFreeInput, IsNamedInput}
 use Rattle.fab_sim.specs.Making.{AreLoadingPoints, IsNetworkOf}
-use Rattle.fab_sim.specs.Rooms.{free_by, IsUnmarked, IsUnmarkedAt}
+use Rattle.fab_sim.specs.inner.Rooms.{free_by, IsUnmarked, IsUnmarkedAt}
 use Rattle.fab_sim.specs.Stepper.{AreFreeInputs}
 use Rattle.fab_sim.proofs.Begun.{in_named, named_in}
 use Rattle.fab_sim.proofs.Points.{given_driver, input_bit, number_declared, one_point, outside_drive}

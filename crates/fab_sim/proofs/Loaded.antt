@@ -9,12 +9,11 @@ use Rattle.fab_syntax.specs.Plain.{PlainModule}
 use Rattle.fab_syntax.specs.declared.tree.Shape.TheVariants.{Scalar, Vector}
 use Rattle.fab_systems.specs.Ternary.{Tern, no, yes, known}
 use Rattle.fab_meaning.specs.Value.{bit_at}
-use Rattle.fab_meaning.specs.Points.{Point, point, Driver, outside, copy, bit_of, flop, hold, Drives}
+use Rattle.fab_meaning.specs.Points.{Point, point, Driver, outside, copy, bit_of, flop, hold, Drives, IsStored}
 use Rattle.fab_meaning.specs.Settled.{Assignment, IsSettledOn}
 use Rattle.fab_meaning.specs.Reads.{is_declared}
 use Rattle.fab_meaning.specs.Runs.{AreClocksLow, clock_name, clock_of, IsRunOn, kept, Moment, Ticks}
-use Rattle.fab_meaning.specs.Loading.{IsClosed, IsDerived, IsLoading, IsStream, OffersWord, OfferWords, Within, by_flop, by_stream, by_reads, data_name}
-use Rattle.fab_meaning.specs.Loading.{strobe_name}
+use Rattle.fab_meaning.specs.Loading.{IsClosed, IsDerived, IsLoading, IsStream, OffersWord, OfferWords, Within, by_flop, by_stream, by_reads, write_data_name, write_strobe_name}
 use Rattle.fab_meaning.specs.Sound.{PointsOfSoundTextsHaveOneDriver}
 use Rattle.fab_tern.specs.Shown.{Terns}
 use Rattle.fab_solutions.specs.Solutions.{Solves as SolvesText, tern_kept}
@@ -30,19 +29,18 @@ use Rattle.fab_network.specs.declared.network.Drive.{Drive}
 use Rattle.fab_network.specs.declared.network.Drive.TheVariants.{Given, Flop, Same, Value, Hold}
 use Rattle.fab_network.specs.declared.network.Network.{Network}
 use Rattle.fab_wiring.specs.Wiring.{clock_called, IsDriveOf}
-use Rattle.fab_wiring.specs.Given.{HoldsValue, IsGivenTo, left_by, left_tern}
+use Rattle.fab_wiring.specs.Given.{IsGivenTo, left_by, left_tern}
 use Rattle.fab_wiring.specs.Laws.{LeastByNumber, LeftByNumber, NumbersHaveTerns, PointsHaveTerns, SolutionsByNumber}
 use Rattle.fab_wiring.proofs.Solved.{is_point}
-use Rattle.fab_drives.proofs.Apart.{told_apart}
-use Rattle.fab_simulation.specs.Simulation.{zeros}
-use Rattle.fab_simulation.specs.Laws.{AreKnown, LoadingIsKept, LoadingIsKnown}
+use Rattle.fab_ordering.specs.fab_drives.proofs.Apart.{told_apart}
+use Rattle.fab_ordering.specs.fab_simulation.specs.Simulation.{zeros}
+use Rattle.fab_ordering.specs.fab_simulation.specs.Laws.{AreKnown, LoadingIsKept, LoadingIsKnown}
 use Rattle.fab_phases.specs.Loading.{IsSolvable}
 use Rattle.fab_phases.specs.Words.{AreLoadSteps, IsLoadStep, word_bit}
 use Rattle.fab_state_points.specs.Standing.{HasStream, IsStreamAt}
 use Rattle.fab_state_points.specs.declared.points.Stream.{Stream}
 use Rattle.fab_sim.specs.Making.{AreLoads, IsGivenFirst, IsNetworkOf}
-use Rattle.fab_sim.proofs.Points.{flop_drive, given_driver, held_not_given, hold_drive, holds_or_not, input_bit, input_drives, number_declared, one_point}
-use Rattle.fab_sim.proofs.Points.{outside_drive, point_of}
+use Rattle.fab_sim.proofs.Points.{flop_drive, given_driver, held_not_given, hold_drive, holds_or_not, input_bit, input_drives, number_declared, one_point, outside_drive, point_of}
 
 -- ---- flip-flops among the loading points are those of CLK
 
@@ -102,7 +100,7 @@ held_by (Some (Same point)) held other = other
 held_by (Some (Value source)) held other = other
 held_by (Some (Hold gate latched)) held other = held
 
-held_stored : (text : List PlainModule) (trees : List Tree) (d : Driver) (drive : Drive) → IsDriveOf text trees d drive → HoldsValue d → (held other : Tern) →
+held_stored : (text : List PlainModule) (trees : List Tree) (d : Driver) (drive : Drive) → IsDriveOf text trees d drive → IsStored d → (held other : Tern) →
     held_by (Some drive) held other ≡ held
 held_stored text trees (flop path clock next bit) (Flop kind source) of holds held other = refl
 held_stored text trees (hold path gate e bit) (Hold opens latched) of holds held other = refl
@@ -112,7 +110,7 @@ held_stored text trees (bit_of path e bit) drive of holds held other = absurd ho
 held_stored text trees (flop path clock next bit) drive of holds held other = absurd of
 held_stored text trees (hold path gate e bit) drive of holds held other = absurd of
 
-held_elsewhere : (text : List PlainModule) (trees : List Tree) (d : Driver) (drive : Drive) → IsDriveOf text trees d drive → (HoldsValue d → ⊥) →
+held_elsewhere : (text : List PlainModule) (trees : List Tree) (d : Driver) (drive : Drive) → IsDriveOf text trees d drive → (IsStored d → ⊥) →
     (held other : Tern) →
     held_by (Some drive) held other ≡ other
 held_elsewhere text trees (flop path clock next bit) drive of not held other = absurd (not tt)
@@ -159,52 +157,52 @@ not_word_by first number none =
 
 -- What is given and held between words: loading points have this assignment, and all else but WriteStrobe and the word's points is 0.
 pub record IsHolding (text : List PlainModule) (network : Network) (stream : Stream) (base : Assignment) (given : PointTerns) : Type 0 where
-  pub loading : (number : ℕ) (p : Point) (d : Driver) → IsPoint text number p → Drives text p d → HoldsValue d → IsLoading text p →
+  pub loading : (number : ℕ) (p : Point) (d : Driver) → IsPoint text number p → Drives text p d → IsStored d → IsLoading text p →
       given number ≡ known (base p)
-  pub others : (number : ℕ) (p : Point) (d : Driver) → IsPoint text number p → Drives text p d → HoldsValue d → (IsLoading text p → ⊥) → given number ≡ no
+  pub others : (number : ℕ) (p : Point) (d : Driver) → IsPoint text number p → Drives text p d → IsStored d → (IsLoading text p → ⊥) → given number ≡ no
   pub strobe : given stream.strobe ≡ yes
   pub low : (number : ℕ) → slice_get network.drives.items number ≡ Some Given → number ≢ stream.strobe →
       (number < stream.data_word) ⊎ (stream.data_word + 32 ≤ number) → given number ≡ no
 
 module _ (text : List PlainModule) (network : Network) (of : IsNetworkOf text network) (stream : Stream) (has : HasStream text) (at : IsStreamAt text stream)
   where
-    pub strobe_point : IsPoint text stream.strobe (point [] strobe_name 0)
+    pub strobe_point : IsPoint text stream.strobe (point [] write_strobe_name 0)
     strobe_point =
         let here : stream.strobe + 0 ≡ stream.strobe = omega arith in
-        subst (λ (n : ℕ). IsPoint text n (point [] strobe_name 0)) here (at.strobe 0 (omega arith))
+        subst (λ (n : ℕ). IsPoint text n (point [] write_strobe_name 0)) here (at.strobe 0 (omega arith))
 
     pub strobe_within : stream.strobe < length (points text)
-    strobe_within = slice_get_within (points text) stream.strobe (point [] strobe_name 0) strobe_point
+    strobe_within = slice_get_within (points text) stream.strobe (point [] write_strobe_name 0) strobe_point
 
     pub word_within : stream.data_word + 32 ≤ length (points text)
     word_within =
-        let last = slice_get_within (points text) (stream.data_word + 31) (point [] data_name 31) (at.words 31 (omega arith)) in
+        let last = slice_get_within (points text) (stream.data_word + 31) (point [] write_data_name 31) (at.words 31 (omega arith)) in
         omega (arith, last)
 
     pub strobe_drive : slice_get network.drives.items stream.strobe ≡ Some Given
-    strobe_drive = outside_drive text network of stream.strobe (point [] strobe_name 0) strobe_point (input_drives text strobe_name Scalar 0 has.strobe)
+    strobe_drive = outside_drive text network of stream.strobe (point [] write_strobe_name 0) strobe_point (input_drives text write_strobe_name Scalar 0 has.strobe)
 
     pub word_drive : (bit : ℕ) → bit < 32 → slice_get network.drives.items (stream.data_word + bit) ≡ Some Given
     word_drive bit less =
-        outside_drive text network of (stream.data_word + bit) (point [] data_name bit) (at.words bit less)
-        (input_drives text data_name (Vector 32) bit has.words)
+        outside_drive text network of (stream.data_word + bit) (point [] write_data_name bit) (at.words bit less)
+        (input_drives text write_data_name (Vector 32) bit has.words)
 
     -- a point of another name is none of the word's, and one that is stored neither
-    pub not_word : (number : ℕ) (p : Point) → IsPoint text number p → p.name ≢ data_name → (number < stream.data_word) ⊎ (stream.data_word + 32 ≤ number)
+    pub not_word : (number : ℕ) (p : Point) → IsPoint text number p → p.name ≢ write_data_name → (number < stream.data_word) ⊎ (stream.data_word + 32 ≤ number)
     not_word number p is differs =
         not_word_by stream.data_word number (λ bit less same.
-        let here : IsPoint text number (point [] data_name bit) = subst (λ (n : ℕ). IsPoint text n (point [] data_name bit)) (sym same) (at.words bit less) in
-        differs (ap (λ (q : Point). q.name) (one_point text number p (point [] data_name bit) is here)))
+        let here : IsPoint text number (point [] write_data_name bit) = subst (λ (n : ℕ). IsPoint text n (point [] write_data_name bit)) (sym same) (at.words bit less) in
+        differs (ap (λ (q : Point). q.name) (one_point text number p (point [] write_data_name bit) is here)))
 
-    pub given_not_strobe : (number : ℕ) (p : Point) → IsPoint text number p → p.name ≢ strobe_name → number ≢ stream.strobe
+    pub given_not_strobe : (number : ℕ) (p : Point) → IsPoint text number p → p.name ≢ write_strobe_name → number ≢ stream.strobe
     given_not_strobe number p is differs same =
-        let here : IsPoint text number (point [] strobe_name 0) = subst (λ (n : ℕ). IsPoint text n (point [] strobe_name 0)) (sym same) strobe_point in
-        differs (ap (λ (q : Point). q.name) (one_point text number p (point [] strobe_name 0) is here))
+        let here : IsPoint text number (point [] write_strobe_name 0) = subst (λ (n : ℕ). IsPoint text n (point [] write_strobe_name 0)) (sym same) strobe_point in
+        differs (ap (λ (q : Point). q.name) (one_point text number p (point [] write_strobe_name 0) is here))
 
     pub strobe_not_word : (stream.strobe < stream.data_word) ⊎ (stream.data_word + 32 ≤ stream.strobe)
-    strobe_not_word = not_word stream.strobe (point [] strobe_name 0) strobe_point (told_apart 5 strobe_name data_name refl)
+    strobe_not_word = not_word stream.strobe (point [] write_strobe_name 0) strobe_point (told_apart 5 write_strobe_name write_data_name refl)
 
-    module _ (number : ℕ) (p : Point) (d : Driver) (is : IsPoint text number p) (driven : Drives text p d) (holds : HoldsValue d) where
+    module _ (number : ℕ) (p : Point) (d : Driver) (is : IsPoint text number p) (driven : Drives text p d) (holds : IsStored d) where
       pub stored_not_word : (number < stream.data_word) ⊎ (stream.data_word + 32 ≤ number)
       stored_not_word =
           not_word_by stream.data_word number (λ bit less same.
@@ -217,7 +215,7 @@ module _ (text : List PlainModule) (network : Network) (of : IsNetworkOf text ne
     pub holds_first : (given : PointTerns) → IsGivenFirst (length (points text)) stream.strobe stream.data_word given →
         IsHolding text network stream zeros given
     holds_first given first =
-        let low_at = λ (number : ℕ) (p : Point) (d : Driver) (is : IsPoint text number p) (driven : Drives text p d) (holds : HoldsValue d).
+        let low_at = λ (number : ℕ) (p : Point) (d : Driver) (is : IsPoint text number p) (driven : Drives text p d) (holds : IsStored d).
         first.others number (slice_get_within (points text) number p is) (stored_not_strobe number p d is driven holds)
         (stored_not_word number p d is driven holds) in
         record {
@@ -254,7 +252,7 @@ module _ (text : List PlainModule) (network : Network) (of : IsNetworkOf text ne
         now_terns : (t : Terns) × AreByNumber text t step.t
         now_terns = terns text of.sound step.t
 
-        held_is : (number : ℕ) (p : Point) (d : Driver) → IsPoint text number p → Drives text p d → HoldsValue d → held.0 p ≡ step.offered number
+        held_is : (number : ℕ) (p : Point) (d : Driver) → IsPoint text number p → Drives text p d → IsStored d → held.0 p ≡ step.offered number
         held_is number p d is driven holds =
             let w = of.drives number p d is driven in
             sym (held.1 number p is) ∙ ap (λ (o : Option Drive). held_by o (step.offered number) (based.0 number)) w.is
@@ -295,28 +293,28 @@ module _ (text : List PlainModule) (network : Network) (of : IsNetworkOf text ne
             let first : p.bit ≡ 0 = (let less = bit.1 in omega (arith, less)) in
             let same : point [] clock_name 0 ≡ p = ap (λ (n : ℕ). point [] clock_name n) (sym first) ∙ bit.0 in
             let number = is_point text p (declared_are_points text of.sound p is.declared) in
-            let word_apart = not_word number.0 p number.1 (λ e. told_apart 0 clock_name data_name refl (sym named ∙ e)) in
-            let strobe_apart = given_not_strobe number.0 p number.1 (λ e. told_apart 0 clock_name strobe_name refl (sym named ∙ e)) in
+            let word_apart = not_word number.0 p number.1 (λ e. told_apart 0 clock_name write_data_name refl (sym named ∙ e)) in
+            let strobe_apart = given_not_strobe number.0 p number.1 (λ e. told_apart 0 clock_name write_strobe_name refl (sym named ∙ e)) in
             let drive = outside_drive text network of number.0 p number.1 (inl is.input) in
             let is_low : moment.inputs p ≡ false = sym (settled p outside (stream_loads text p is) (inl is.input)) ∙ ap now (sym same) ∙ low.0 in
             sym (inputs.1 number.0 p number.1) ∙ step.is_offered.others number.0 word_apart ∙ holding.low number.0 drive strobe_apart word_apart ∙ ap known
             (sym is_low)
 
-        strobe_known : (p : Point) → IsStream text p → p.name ≡ strobe_name → inputs.0 p ≡ known (moment.inputs p)
+        strobe_known : (p : Point) → IsStream text p → p.name ≡ write_strobe_name → inputs.0 p ≡ known (moment.inputs p)
         strobe_known p is named =
-            let bit = input_bit text strobe_name Scalar has.strobe p is.input.top named is.declared in
+            let bit = input_bit text write_strobe_name Scalar has.strobe p is.input.top named is.declared in
             let first : p.bit ≡ 0 = (let less = bit.1 in omega (arith, less)) in
-            let same : point [] strobe_name 0 ≡ p = ap (λ (n : ℕ). point [] strobe_name n) (sym first) ∙ bit.0 in
-            let here : inputs.0 (point [] strobe_name 0) ≡ known (moment.inputs (point [] strobe_name 0)) =
-            sym (inputs.1 stream.strobe (point [] strobe_name 0) strobe_point) ∙ step.is_offered.others stream.strobe strobe_not_word ∙ holding.strobe
+            let same : point [] write_strobe_name 0 ≡ p = ap (λ (n : ℕ). point [] write_strobe_name n) (sym first) ∙ bit.0 in
+            let here : inputs.0 (point [] write_strobe_name 0) ≡ known (moment.inputs (point [] write_strobe_name 0)) =
+            sym (inputs.1 stream.strobe (point [] write_strobe_name 0) strobe_point) ∙ step.is_offered.others stream.strobe strobe_not_word ∙ holding.strobe
             ∙ ap known (sym offers.strobe) in
             subst (λ (q : Point). inputs.0 q ≡ known (moment.inputs q)) same here
 
-        data_known : (p : Point) → IsStream text p → p.name ≡ data_name → inputs.0 p ≡ known (moment.inputs p)
+        data_known : (p : Point) → IsStream text p → p.name ≡ write_data_name → inputs.0 p ≡ known (moment.inputs p)
         data_known p is named =
-            let bit = input_bit text data_name (Vector 32) has.words p is.input.top named is.declared in
-            let here : inputs.0 (point [] data_name p.bit) ≡ known (moment.inputs (point [] data_name p.bit)) =
-            sym (inputs.1 (stream.data_word + p.bit) (point [] data_name p.bit) (at.words p.bit bit.1)) ∙ step.is_offered.bits p.bit bit.1
+            let bit = input_bit text write_data_name (Vector 32) has.words p is.input.top named is.declared in
+            let here : inputs.0 (point [] write_data_name p.bit) ≡ known (moment.inputs (point [] write_data_name p.bit)) =
+            sym (inputs.1 (stream.data_word + p.bit) (point [] write_data_name p.bit) (at.words p.bit bit.1)) ∙ step.is_offered.bits p.bit bit.1
             ∙ ap known (word_bit_is word p.bit ∙ sym (offers.bits p.bit)) in
             subst (λ (q : Point). inputs.0 q ≡ known (moment.inputs q)) bit.0 here
 
@@ -340,7 +338,7 @@ module _ (text : List PlainModule) (network : Network) (of : IsNetworkOf text ne
         single : (p : Point) → is_declared text p ≡ true → IsSingle text p
         single p declared d e by_d by_e = let driver = one text of.sound p declared in driver.2 d by_d ∙ sym (driver.2 e by_e)
 
-        left_is : (number : ℕ) (p : Point) (d : Driver) → IsPoint text number p → Drives text p d → HoldsValue d → IsLoading text p → IsMarked loads number →
+        left_is : (number : ℕ) (p : Point) (d : Driver) → IsPoint text number p → Drives text p d → IsStored d → IsLoading text p → IsMarked loads number →
             new number ≡ left_tern network.trees.items network.drives.items Loader step.offered step.t number
         left_is number p outside is driven holds loading marked = absurd holds
         left_is number p (copy other) is driven holds loading marked = absurd holds
@@ -361,7 +359,7 @@ module _ (text : List PlainModule) (network : Network) (of : IsNetworkOf text ne
             let there : slice_get network.drives.items number ≡ Some (Hold drive.0 drive.1) = w.is ∙ ap Some drive.2 in
             (step.loaded number marked).latch drive.0 drive.1 there ∙ sym (ap (left_by network.trees.items Loader (step.offered number) step.t number) there)
 
-        new_loading : (number : ℕ) (p : Point) (d : Driver) → IsPoint text number p → Drives text p d → HoldsValue d → IsLoading text p →
+        new_loading : (number : ℕ) (p : Point) (d : Driver) → IsPoint text number p → Drives text p d → IsStored d → IsLoading text p →
             new number ≡ known (next p)
         new_loading number p d is driven holds loading =
             left_is number p d is driven holds loading (are.whole number p d is driven holds loading)
@@ -370,7 +368,7 @@ module _ (text : List PlainModule) (network : Network) (of : IsNetworkOf text ne
             is driven holds)
             ∙ ticked p d loading driven
 
-        new_others : (number : ℕ) (p : Point) (d : Driver) → IsPoint text number p → Drives text p d → HoldsValue d → (IsLoading text p → ⊥) → new number ≡ no
+        new_others : (number : ℕ) (p : Point) (d : Driver) → IsPoint text number p → Drives text p d → IsStored d → (IsLoading text p → ⊥) → new number ≡ no
         new_others number p d is driven holds not =
             step.others number (λ marked. not (are.sound number p d is driven holds marked))
             ∙ step.is_offered.others number (stored_not_word number p d is driven holds) ∙ holding.others number p d is driven holds not
@@ -382,7 +380,7 @@ module _ (text : List PlainModule) (network : Network) (of : IsNetworkOf text ne
 
         new_strobe : new stream.strobe ≡ yes
         new_strobe =
-            step.others stream.strobe (not_marked stream.strobe (point [] strobe_name 0) strobe_point (input_drives text strobe_name Scalar 0 has.strobe))
+            step.others stream.strobe (not_marked stream.strobe (point [] write_strobe_name 0) strobe_point (input_drives text write_strobe_name Scalar 0 has.strobe))
             ∙ step.is_offered.others stream.strobe strobe_not_word ∙ holding.strobe
 
         new_low : (number : ℕ) → slice_get network.drives.items number ≡ Some Given → number ≢ stream.strobe →

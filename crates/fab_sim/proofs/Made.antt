@@ -12,7 +12,7 @@ use Rattle.fab_state_points.specs.declared.points.StatePoints.{StatePoints}
 use Rattle.fab_sim.specs.Once.{StandsOnce}
 use Rattle.fab_sim.specs.Making.{AreLoadingPoints, AreLoads, IsGivenFirst, IsNetworkOf}
 use Rattle.fab_sim.specs.Machine.{IsNew}
-use Rattle.fab_sim.specs.Made.{IsMadeOf}
+use Rattle.fab_sim.specs.inner.Made.{IsMadeOf}
 use Rattle.fab_sim.specs.declared.machine.Machine.{Machine}
 
 pub made_new : (text : List PlainModule) (state : PlainState) (network : Network) (points : StatePoints) (loads : List Bool) (values : Vec Bool Global)

@@ -9,7 +9,7 @@ use Rattle.fab_load_points.proofs.Marking.{push_at, push_last}
 use Rattle.fab_load_points.proofs.Statuses.{set_there}
 use Rattle.fab_network.specs.declared.network.Drive.{Drive}
 use Rattle.fab_phases.specs.Cycles.{IsIn}
-use Rattle.fab_sim.specs.Rooms.{free_by, IsUnmarked}
+use Rattle.fab_sim.specs.inner.Rooms.{free_by, IsUnmarked}
 
 -- ---- marks that are taken away
 

@@ -7,7 +7,7 @@ use Rattle.fab_syntax.specs.Declarations.{is_input_of, width, width_in}
 use Rattle.fab_syntax.specs.Plain.{PlainExpr, PlainModule}
 use Rattle.fab_syntax.specs.Sound.{IsSound}
 use Rattle.fab_syntax.specs.declared.tree.Shape.{Shape}
-use Rattle.fab_meaning.specs.Points.{Path, Point, point, Driver, outside, copy, bit_of, flop, hold, module_at, Drives}
+use Rattle.fab_meaning.specs.Points.{Path, Point, point, Driver, outside, copy, bit_of, flop, hold, module_at, Drives, IsStored}
 use Rattle.fab_meaning.specs.Reads.{is_declared}
 use Rattle.fab_meaning.specs.Runs.{clock_of}
 use Rattle.fab_values.specs.Declarations.{declared_at, found_in}
@@ -25,7 +25,6 @@ use Rattle.fab_network.specs.declared.network.Drive.{Drive}
 use Rattle.fab_network.specs.declared.network.Drive.TheVariants.{Given, Flop, Same, Value, Hold}
 use Rattle.fab_network.specs.declared.network.Network.{Network}
 use Rattle.fab_wiring.specs.Wiring.{clock_called, IsDriveOf}
-use Rattle.fab_wiring.specs.Given.{HoldsValue}
 use Rattle.fab_wiring.proofs.Solved.{point_there}
 use Rattle.fab_state_points.specs.Finding.{IsDeclared}
 use Rattle.fab_sim.specs.Making.{IsNetworkOf}
@@ -36,7 +35,7 @@ one_point text number p q a b = same_value (slice_get (points text) number) p q 
 pub number_declared : (text : List PlainModule) → IsSound text → (number : ℕ) (p : Point) → IsPoint text number p → is_declared text p ≡ true
 number_declared text sound number p is = points_are_declared text sound p (point_there text number p is)
 
-pub holds_or_not : (d : Driver) → HoldsValue d ⊎ (HoldsValue d → ⊥)
+pub holds_or_not : (d : Driver) → IsStored d ⊎ (IsStored d → ⊥)
 holds_or_not outside = inr (λ h. h)
 holds_or_not (copy other) = inr (λ h. h)
 holds_or_not (bit_of path e bit) = inr (λ h. h)
@@ -95,9 +94,9 @@ module _ (text : List PlainModule) (network : Network) (of : IsNetworkOf text ne
       let same : w.drive ≡ Given = same_value (slice_get network.drives.items number) w.drive Given w.is given in
       given_outside text network.trees.items d (subst (λ (x : Drive). IsDriveOf text network.trees.items d x) same w.of)
 
-  pub held_not_given : (number : ℕ) (p : Point) (d : Driver) → IsPoint text number p → Drives text p d → HoldsValue d →
+  pub held_not_given : (number : ℕ) (p : Point) (d : Driver) → IsPoint text number p → Drives text p d → IsStored d →
       slice_get network.drives.items number ≡ Some Given → ⊥
-  held_not_given number p d is driven holds given = subst HoldsValue (given_driver number p d is driven given) holds
+  held_not_given number p d is driven holds given = subst IsStored (given_driver number p d is driven given) holds
 
   -- the point of an input
   pub point_of : (number : ℕ) (drive : Drive) → slice_get network.drives.items number ≡ Some drive → (p : Point) × IsPoint text number p

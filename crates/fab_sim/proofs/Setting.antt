@@ -12,7 +12,7 @@ use Rattle.fab_phases.specs.Lists.{Each}
 use Rattle.fab_phases.specs.Words.{IsOffered, word_bit}
 use Rattle.fab_phases.specs.Cycles.{IsFed, IsIn}
 use Rattle.fab_state_points.specs.declared.points.StatePoints.{StatePoints}
-use Rattle.fab_sim.specs.Starting.{IsSetOut, IsUnnamed}
+use Rattle.fab_sim.specs.inner.Starting.{IsSetOut, IsUnnamed}
 
 no_digit : (width place : ℕ) → bit_at (digits width 0) place ≡ false
 no_digit zero zero = refl

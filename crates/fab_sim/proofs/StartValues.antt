@@ -6,7 +6,7 @@ use Rattle.std.proofs.lemmas.Option.{slice_get_within}
 use Rattle.fab_draws.specs.Draws.{is_one as is_set, word_at}
 use Rattle.fab_syntax.specs.Plain.{PlainModule}
 use Rattle.fab_systems.specs.Ternary.{no, known}
-use Rattle.fab_meaning.specs.Points.{Point, Driver, Drives}
+use Rattle.fab_meaning.specs.Points.{Point, Driver, Drives, IsStored}
 use Rattle.fab_meaning.specs.Settled.{Assignment}
 use Rattle.fab_meaning.specs.Loading.{IsLoading, IsStream}
 use Rattle.fab_load_runs.specs.Runs.{Decides, LoadingIsDecided}
@@ -19,16 +19,15 @@ use Rattle.fab_equations.specs.Equations.{IsPoint}
 use Rattle.fab_equations.proofs.Numbering.{some_there}
 use Rattle.fab_equations.proofs.Points.{declared_are_points}
 use Rattle.fab_compiled.specs.Values.{AreByNumber}
-use Rattle.fab_simulation.specs.Simulation.{IsLoaded, with_registers}
+use Rattle.fab_ordering.specs.fab_simulation.specs.Simulation.{IsLoaded, with_registers}
 use Rattle.fab_network.specs.Passes.{kept_tern}
-use Rattle.fab_wiring.specs.Given.{HoldsValue}
 use Rattle.fab_wiring.proofs.Numbered.{points_have_terns}
 use Rattle.fab_wiring.proofs.Solved.{is_point}
 use Rattle.fab_phases.specs.Cycles.{IsFed, IsIn}
 use Rattle.fab_stepping.specs.Boards.{IsTakenOver}
 use Rattle.fab_stepping.specs.Drawing.{marked_before}
 use Rattle.fab_stepping.specs.Drawing as by_number
-use Rattle.fab_sim.specs.Unset.{IsUnset}
+use Rattle.fab_sim.specs.inner.Unset.{IsUnset}
 use Rattle.fab_sim.specs.declared.stepper.Stepper.{Stepper}
 use Rattle.fab_sim.proofs.Begun.{known_back, read_off, read_there}
 use Rattle.fab_sim.proofs.Blocks.{known_is, one_bit}
@@ -148,7 +147,7 @@ module _ (text : List PlainModule) (state : PlainState) (loaded : Terns) (loads 
         | inr none ↦ absurd (none.0 there)
       ]
 
-  pub held_at : (number : ℕ) (p : Point) (d : Driver) → IsPoint text number p → Drives text p d → HoldsValue d → kept_tern held_terns number ≡ known (held_now p)
+  pub held_at : (number : ℕ) (p : Point) (d : Driver) → IsPoint text number p → Drives text p d → IsStored d → kept_tern held_terns number ≡ known (held_now p)
   held_at number p d at driven holds =
       elim (load_at number p at) [
         | inl l ↦

@@ -5,7 +5,7 @@ use Rattle.std.proofs.lemmas.Bool.{cases_lt}
 use Rattle.std.proofs.lemmas.Option.{slice_get_within}
 use Rattle.fab_syntax.specs.Plain.{PlainModule}
 use Rattle.fab_systems.specs.Ternary.{known, no, unknown}
-use Rattle.fab_meaning.specs.Points.{Point, Driver, Drives}
+use Rattle.fab_meaning.specs.Points.{Point, Driver, Drives, IsStored}
 use Rattle.fab_meaning.specs.Settled.{Assignment}
 use Rattle.fab_meaning.specs.Loading.{IsLoading}
 use Rattle.fab_tern.specs.Shown.{Terns}
@@ -16,11 +16,10 @@ use Rattle.fab_equations.proofs.Numbering.{some_there}
 use Rattle.fab_compiled.specs.Leading.{PointTerns}
 use Rattle.fab_network.specs.declared.network.Drive.TheVariants.{Given}
 use Rattle.fab_network.specs.declared.network.Network.{Network}
-use Rattle.fab_wiring.specs.Given.{HoldsValue}
-use Rattle.fab_simulation.specs.Simulation.{with_registers}
+use Rattle.fab_ordering.specs.fab_simulation.specs.Simulation.{with_registers}
 use Rattle.fab_phases.specs.Lists.{Each}
 use Rattle.fab_phases.specs.Cycles.{IsIn}
-use Rattle.fab_sim.specs.Starting.{IsSetOut, IsUnnamed}
+use Rattle.fab_sim.specs.inner.Starting.{IsSetOut, IsUnnamed}
 use Rattle.fab_sim.specs.Machine.{IsNew}
 use Rattle.fab_sim.specs.declared.machine.Machine.{Machine}
 use Rattle.fab_sim.proofs.Points.{held_not_given}
@@ -50,7 +49,7 @@ same_or_not m n =
 
 -- What a machine starts with holds what the text does.
 pub record StartsAs (text : List PlainModule) (network : Network) (ins : List ℕ) (held : Terns) (given : PointTerns) : Type 0 where
-  pub agree : (number : ℕ) (p : Point) (d : Driver) → IsPoint text number p → Drives text p d → HoldsValue d → given number ≡ held p
+  pub agree : (number : ℕ) (p : Point) (d : Driver) → IsPoint text number p → Drives text p d → IsStored d → given number ≡ held p
   pub low : (number : ℕ) → slice_get network.drives.items number ≡ Some Given → (IsIn ins number → ⊥) → given number ≡ no
   pub opened : Each ins (λ number. (slice_get network.drives.items number ≡ Some Given) × (given number ≡ unknown))
 
@@ -58,7 +57,7 @@ module _ (text : List PlainModule) (state : PlainState) (machine : Machine) (new
     (holding : IsHolding text machine.network machine.points.stream after old) (set : IsSetOut machine.points machine.values.items old given) (loaded : Terns)
     (is_loaded : (p : Point) → IsLoading text p → loaded p ≡ known (after p)) (not_loaded : (p : Point) → (IsLoading text p → ⊥) → loaded p ≡ no) where
   -- what is held where the state sets nothing
-  held_before : (number : ℕ) (p : Point) (d : Driver) → IsPoint text number p → Drives text p d → HoldsValue d → (mark : Bool) →
+  held_before : (number : ℕ) (p : Point) (d : Driver) → IsPoint text number p → Drives text p d → IsStored d → (mark : Bool) →
       slice_get new.loads number ≡ Some mark →
       old number ≡ loaded p
   held_before number p d is driven holds true marked =
@@ -75,7 +74,7 @@ module _ (text : List PlainModule) (state : PlainState) (machine : Machine) (new
       let within = slice_get_within (points text) number p is in
       some_there new.loads number (omega (arith, long, within))
 
-  agree_first : (number : ℕ) (p : Point) (d : Driver) → IsPoint text number p → Drives text p d → HoldsValue d →
+  agree_first : (number : ℕ) (p : Point) (d : Driver) → IsPoint text number p → Drives text p d → IsStored d →
       given number ≡ with_registers state.ffs loaded p
   agree_first number p d is driven holds =
       elim (registers_picked text new.of.network.sound state.ffs machine.points.ffs.items new.of.stands.ffs loaded number p is) [

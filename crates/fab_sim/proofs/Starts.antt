@@ -6,11 +6,11 @@ use Rattle.std.proofs.lemmas.Option.{slice_get_within}
 use Rattle.fab_draws.specs.Draws.{is_one as is_set, word_at}
 use Rattle.fab_syntax.specs.Plain.{PlainModule}
 use Rattle.fab_systems.specs.Ternary.{known}
-use Rattle.fab_meaning.specs.Points.{Point, Driver, Drives}
-use Rattle.fab_meaning.specs.Reads.{is_declared}
-use Rattle.fab_meaning.specs.Settled.{Assignment}
+use Rattle.fab_meaning.specs.Points.{Point, Driver, Drives, point, outside, copy, bit_of, flop, hold, module_at}
+use Rattle.fab_meaning.specs.Reads.{is_declared, reads}
+use Rattle.fab_meaning.specs.Settled.{Assignment, shown, IsSettledOn}
 use Rattle.fab_meaning.specs.Loading.{IsClosed, IsLoading, IsStream, Within, by_flop, by_reads, by_stream}
-use Rattle.fab_load_runs.specs.Runs.{LoadingIsDecided}
+use Rattle.fab_load_runs.specs.Runs.{LoadingIsDecided, HasClocks, IsClockLow, RunsExist}
 use Rattle.fab_state.specs.Plain.{PlainState, Register}
 use Rattle.fab_tern.specs.Shown.{Terns}
 use Rattle.fab_ternary.specs.declared.Tern.{Tern}
@@ -20,15 +20,15 @@ use Rattle.fab_equations.specs.Equations.{IsPoint}
 use Rattle.fab_equations.proofs.Numbering.{some_there}
 use Rattle.fab_equations.proofs.Points.{declared_are_points}
 use Rattle.fab_compiled.specs.Values.{AreByNumber}
-use Rattle.fab_simulation.specs.Simulation.{IsLoaded, with_registers}
+use Rattle.fab_ordering.specs.fab_simulation.specs.Simulation.{IsLoaded, with_registers}
 use Rattle.fab_network.specs.Passes.{kept_tern}
 use Rattle.fab_wiring.proofs.Numbered.{points_have_terns}
 use Rattle.fab_wiring.proofs.Solved.{is_point}
 use Rattle.fab_phases.specs.Cycles.{IsFed, IsIn}
-use Rattle.fab_stepping.specs.Boards.{IsTakenOver}
+use Rattle.fab_stepping.specs.Boards.{IsTakenOver, given_on, IsBoardOf}
 use Rattle.fab_stepping.specs.Drawing.{marked_before}
 use Rattle.fab_stepping.specs.Drawing as by_number
-use Rattle.fab_sim.specs.Unset.{IsUnset}
+use Rattle.fab_sim.specs.inner.Unset.{IsUnset}
 use Rattle.fab_sim.specs.declared.stepper.Stepper.{Stepper}
 use Rattle.fab_sim.proofs.Begun.{known_back, read_off, read_rest, read_there}
 use Rattle.fab_sim.proofs.Blocks.{known_is, one_bit}
@@ -38,38 +38,32 @@ use Rattle.fab_sim.proofs.Loaded.{stream_loads}
 use Rattle.fab_sim.proofs.Numbers.{line_at}
 use Rattle.fab_phases.proofs.Lists.{get_mapped, get_of_mapped}
 use Rattle.fab_state_points.specs.declared.entry.Entry.{Entry}
-use Rattle.fab_sim.proofs.Points.{number_declared, one_point}
+use Rattle.fab_sim.proofs.Points.{number_declared, one_point, input_of}
 use Rattle.std.specs.List.{range_with_len}
 use Rattle.fab_syntax.specs.Sound.{IsSound}
-use Rattle.fab_meaning.specs.Points.{point, outside, copy, bit_of, flop, hold, module_at}
-use Rattle.fab_meaning.specs.Settled.{shown, IsSettledOn}
-use Rattle.fab_meaning.specs.Reads.{reads}
 use Rattle.fab_meaning.specs.Runs.{clock_name, user_clock_name, Moment as RunMoment, IsRunOn}
 use Rattle.fab_meaning.specs.Sound.{PointsOfSoundTextsHaveOneDriver}
 use Rattle.fab_meaning.specs.Activation.{State}
 use Rattle.fab_meaning.proofs.Dependence.{shown_same}
 use Rattle.fab_meaning.proofs.SingleDrivers.{one_driver}
 use Rattle.fab_meaning.proofs.SoundTexts.{sound_drives_once}
-use Rattle.fab_load_runs.specs.Runs.{HasClocks, IsClockLow, RunsExist}
 use Rattle.std.proofs.lemmas.List.Elements.{All-cons, All-nil}
 use Rattle.std.proofs.Common.{[], ◌∷◌}
 use Rattle.std.proofs.lemmas.Option.{slice_get-get_or, get_or_from_slice_get}
 use Rattle.fab_solutions.specs.Laws.{LeastSolutionsExist}
-use Rattle.fab_simulation.specs.Laws.{LoadingIsKnown}
-use Rattle.fab_use.specs.Sites.{bel_point}
+use Rattle.fab_ordering.specs.fab_simulation.specs.Laws.{LoadingIsKnown}
+use Rattle.fab_ordering.specs.fab_use.specs.Sites.{bel_point}
 use Rattle.fab_prim.specs.Modules.{flip_flop_name}
 use Rattle.fab_state_points.specs.Entries.{entry_point, register_entries}
 use Rattle.fab_state_points.specs.declared.entry.Entry.TheVariants as entries
 use Rattle.fab_compiled.specs.Terns.{seen}
 use Rattle.fab_network.specs.Solved.{IsLeast}
 use Rattle.fab_stepping.specs.declared.board.Board.{Board}
-use Rattle.fab_stepping.specs.Boards.{given_on, IsBoardOf}
 use Rattle.fab_stepping.specs.Standing.{StandsFor}
 use Rattle.fab_stepping.proofs.Leaving.{solved_by, IsSolvedBy}
 use Rattle.fab_stepping.proofs.Reading.{leads_seen}
 use Rattle.fab_ordering.specs.Ordered.{Moment, IsNamedRegister, IsStart}
-use Rattle.fab_sim.proofs.Points.{input_of}
-use Rattle.fab_simulation.proofs.Loading.{within_declared}
+use Rattle.fab_ordering.specs.fab_simulation.proofs.Loading.{within_declared}
 
 -- what drives a loading point reads loading points
 reads_within : (text : List PlainModule) → IsSound text → (flops : Point → Bool) → IsClosed text flops → (p : Point) → Within text flops p → (d : Driver) → Drives text p d →

@@ -11,9 +11,9 @@ use Rattle.fab_state_points.specs.Standing.{StandsAt}
 use Rattle.fab_stepping.specs.Boards.{IsBoardOf, LeadToThemselves}
 use Rattle.fab_sim.specs.Machine.{IsFresh}
 use Rattle.fab_sim.specs.Making.{AreLoadingPoints, IsNetworkOf}
-use Rattle.fab_sim.specs.Rooms.{IsRoomFor}
+use Rattle.fab_sim.specs.inner.Rooms.{IsRoomFor}
 use Rattle.fab_sim.specs.Stepper.{AreFreeInputs}
-use Rattle.fab_sim.specs.Unset.{IsUnset}
+use Rattle.fab_sim.specs.inner.Unset.{IsUnset}
 use Rattle.fab_sim.specs.declared.machine.Machine.{Machine}
 use Rattle.fab_sim.specs.declared.stepper.Stepper.{Stepper}
 use Rattle.fab_sim.specs.declared.stepping.Room.{Room}

@@ -1,8 +1,8 @@
 pub mod Once
 pub mod Making
-pub mod Starting
 pub mod Machine
-pub mod Made
 pub mod Stepper
-pub mod Unset
-pub mod Rooms
+pub mod inner
+pub use Rattle.fab_ordering.specs.fab_simulation
+pub use Rattle.fab_ordering
+pub use Rattle.fab_state_points

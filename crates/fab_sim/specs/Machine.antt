@@ -2,7 +2,7 @@
 use Rattle.std.specs.Prelude.{◌≡◌, ℕ, Bool, List, length, map, slice_get, Some}
 use Rattle.fab_syntax.specs.Plain.{PlainModule}
 use Rattle.fab_systems.specs.Ternary.{no}
-use Rattle.fab_meaning.specs.Points.{Point, Driver, Drives}
+use Rattle.fab_meaning.specs.Points.{Point, Driver, Drives, IsStored}
 use Rattle.fab_meaning.specs.Runs.{user_clock_name}
 use Rattle.fab_tern.specs.Shown.{Terns}
 use Rattle.fab_state.specs.Plain.{PlainState}
@@ -12,8 +12,7 @@ use Rattle.fab_compiled.specs.Leading.{PointTerns}
 use Rattle.fab_network.specs.declared.network.Drive.TheVariants.{Given}
 use Rattle.fab_network.specs.Passes.{kept_tern}
 use Rattle.fab_wiring.specs.Clocks.{IsClockAt}
-use Rattle.fab_wiring.specs.Given.{HoldsValue}
-use Rattle.fab_simulation.specs.Simulation.{with_registers}
+use Rattle.fab_ordering.specs.fab_simulation.specs.Simulation.{with_registers}
 use Rattle.fab_phases.specs.Words.{IsLoadingAt}
 use Rattle.fab_phases.specs.Cycles.{IsIn, IsRunningAt}
 use Rattle.fab_state_points.specs.Standing.{StandsAt}
@@ -45,13 +44,13 @@ pub record IsAt (text : List PlainModule) (state : PlainState) (machine : Machin
   pub of : IsMachineOf text state machine
   pub holds : PointTerns
   pub running : IsRunningAt machine.network machine.points.ins.items machine.points.outs.items machine.demand machine.given.items holds
-  pub agree : (number : ℕ) (p : Point) (d : Driver) → IsPoint text number p → Drives text p d → HoldsValue d → holds number ≡ held p
+  pub agree : (number : ℕ) (p : Point) (d : Driver) → IsPoint text number p → Drives text p d → IsStored d → holds number ≡ held p
   pub low : (number : ℕ) → slice_get machine.network.drives.items number ≡ Some Given → (IsIn machine.points.ins.items number → ⊥) → holds number ≡ no
 
 -- Words are loaded, and no cycle was run: flip-flops and latches hold what loading and the state leave, all of them.
 pub record IsFresh (text : List PlainModule) (state : PlainState) (loaded : Terns) (machine : Machine) : Type 0 where
   pub of : IsMachineOf text state machine
-  pub held : (number : ℕ) (p : Point) (d : Driver) → IsPoint text number p → Drives text p d → HoldsValue d →
+  pub held : (number : ℕ) (p : Point) (d : Driver) → IsPoint text number p → Drives text p d → IsStored d →
       kept_tern machine.given.items number ≡ with_registers state.ffs loaded p
 
 -- ---- what calls ask for

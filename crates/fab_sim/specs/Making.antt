@@ -4,7 +4,7 @@ use Rattle.fab_syntax.specs.Plain.{PlainModule}
 use Rattle.fab_syntax.specs.Sound.{IsSound}
 use Rattle.fab_sound.specs.Narrow.{AreNarrow}
 use Rattle.fab_systems.specs.Ternary.{no, yes, unknown}
-use Rattle.fab_meaning.specs.Points.{Point, Driver, Drives}
+use Rattle.fab_meaning.specs.Points.{Point, Driver, Drives, IsStored}
 use Rattle.fab_meaning.specs.Loading.{IsLoading}
 use Rattle.fab_equations.specs.Instances.{points}
 use Rattle.fab_equations.specs.Equations.{IsPoint}
@@ -12,7 +12,6 @@ use Rattle.fab_compiled.specs.Leading.{PointTerns}
 use Rattle.fab_network.specs.declared.network.Network.{Network}
 use Rattle.fab_network.specs.Network.{AreFit}
 use Rattle.fab_wiring.specs.Wiring.{AreDrives}
-use Rattle.fab_wiring.specs.Given.{HoldsValue}
 
 -- A network is that of a sound text.
 pub record IsNetworkOf (text : List PlainModule) (network : Network) : Type 0 where
@@ -26,11 +25,11 @@ pub record IsNetworkOf (text : List PlainModule) (network : Network) : Type 0 wh
 -- Of flip-flops and latches those are marked that are loading points, and nothing else is.
 pub record AreLoads (text : List PlainModule) (loads : List Bool) : Type 0 where
   pub long : length loads ≡ length (points text)
-  pub sound : (number : ℕ) (p : Point) (d : Driver) → IsPoint text number p → Drives text p d → HoldsValue d → slice_get loads number ≡ Some true →
+  pub sound : (number : ℕ) (p : Point) (d : Driver) → IsPoint text number p → Drives text p d → IsStored d → slice_get loads number ≡ Some true →
       IsLoading text p
-  pub whole : (number : ℕ) (p : Point) (d : Driver) → IsPoint text number p → Drives text p d → HoldsValue d → IsLoading text p →
+  pub whole : (number : ℕ) (p : Point) (d : Driver) → IsPoint text number p → Drives text p d → IsStored d → IsLoading text p →
       slice_get loads number ≡ Some true
-  pub others : (number : ℕ) (p : Point) (d : Driver) → IsPoint text number p → Drives text p d → ¬ HoldsValue d → slice_get loads number ≡ Some false
+  pub others : (number : ℕ) (p : Point) (d : Driver) → IsPoint text number p → Drives text p d → ¬ IsStored d → slice_get loads number ≡ Some false
 
 -- Just the loading points are marked.
 pub record AreLoadingPoints (text : List PlainModule) (loads : List Bool) : Type 0 where

@@ -7,5 +7,6 @@ mod starting;
 mod stepper;
 mod stepping;
 
+pub use fab_ordering::fab_simulation;
 pub use machine::Machine;
 pub use stepper::Stepper;

@@ -9,7 +9,7 @@ ghost use Rattle.fab_network.specs.Passes.{kept_tern};
 ghost use Rattle.fab_network.specs.declared.network.Drive.TheVariants.{Given};
 ghost use Rattle.fab_wiring.specs.Clocks.{IsClockAt};
 ghost use Rattle.fab_sim.specs.Making.{IsGivenFirst, IsWordOpened};
-ghost use Rattle.fab_sim.specs.Made.{IsMadeOf};
+ghost use Rattle.fab_sim.specs.inner.Made.{IsMadeOf};
 
 use crate::machine::Machine;
 use fab_base::Memory;

@@ -4,7 +4,7 @@ ghost use Rattle.std.specs.Prelude.{◌≡◌, ◌+◌, ◌<◌, ◌≤◌, leng
 ghost use Rattle.fab_network.specs.Passes.{kept_tern};
 ghost use Rattle.fab_phases.specs.Cycles.{AreOnce};
 ghost use Rattle.fab_phases.specs.Running.{AreNumbers};
-ghost use Rattle.fab_sim.specs.Starting.{IsSetOut};
+ghost use Rattle.fab_sim.specs.inner.Starting.{IsSetOut};
 
 use fab_phases::{feed, offer, open};
 use fab_state_points::StatePoints;

@@ -8,7 +8,7 @@ ghost use Rattle.fab_state.specs.Plain.{PlainState};
 ghost use Rattle.fab_network.specs.declared.network.Drive.{Drive as PlainDrive};
 ghost use Rattle.fab_phases.specs.Running.{AreNumbers};
 ghost use Rattle.fab_sim.specs.Machine.{IsFresh};
-ghost use Rattle.fab_sim.specs.Rooms.{free_by, IsRoomFor, IsUnmarked, IsUnmarkedAt};
+ghost use Rattle.fab_sim.specs.inner.Rooms.{free_by, IsRoomFor, IsUnmarked, IsUnmarkedAt};
 ghost use Rattle.fab_sim.specs.Stepper.{AreFreeInputs, CanStart};
 
 use crate::machine::Machine;

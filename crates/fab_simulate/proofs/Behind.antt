@@ -15,7 +15,7 @@ use Rattle.fab_outputs.specs.declared.storing.Output.{Output}
 use Rattle.fab_outputs.specs.Storing.{PlainOutput, plain_output}
 use Rattle.fab_outputs.proofs.Ending.{Reads, cause_of_read}
 use Rattle.fab_state.specs.Plain.{PlainState}
-use Rattle.fab_simulate.specs.Going.{IsStimulated}
+use Rattle.fab_simulate.specs.inner.Going.{IsStimulated}
 use Rattle.fab_simulate.specs.Simulating.{HasSimulateCause, IsReadyToSimulate, IsTrace, MakesTrace, MeetsBehindDevice, MeetsDevice, MeetsSimulation, MeetsStimulus, ReadsDevice, ReadsState, ReadsWords, SimulationFiles, simulate_refusals, unfit}
 use Rattle.fab_simulate.proofs.Placed.{refused_cause, unfit_is_placed}
 
@@ -72,8 +72,8 @@ module _ (told : Option Map) (names : SimulationFiles) (reads writes : Type 0) (
       (λ files is event met. met (spelled files is)) cause)
 
 -- nothing is refused where a trace is made
-pub ready_of : (files : Map) (names : SimulationFiles) (outputs : List PlainOutput) → MakesTrace files names outputs → IsReadyToSimulate files names
-ready_of files names outputs it = record {
+pub ready_of : (files : Map) (names : SimulationFiles) (order : Option ℕ) (outputs : List PlainOutput) → MakesTrace files names order outputs → IsReadyToSimulate files names
+ready_of files names order outputs it = record {
   text = it.text;
   words = it.made.words;
   state = it.made.state;
@@ -85,14 +85,15 @@ ready_of files names outputs it = record {
 }
 
 -- the same of outputs that are lent
-pub made_of : (files : Map) (names : SimulationFiles) (made lent : List Output) → lent ≡ made → MakesTrace files names (map plain_output made) → MakesTrace files names (map plain_output lent)
-made_of files names made lent same it = subst (λ (o : List Output). MakesTrace files names (map plain_output o)) (sym same) it
+pub made_of : (files : Map) (names : SimulationFiles) (order : Option ℕ) (made lent : List Output) → lent ≡ made → MakesTrace files names order (map plain_output made) →
+    MakesTrace files names order (map plain_output lent)
+made_of files names order made lent same it = subst (λ (o : List Output). MakesTrace files names order (map plain_output o)) (sym same) it
 
 -- what the other files make of a text
-pub is_trace : (files : Map) (bit standing stimulus : List ℕ) (text : List PlainModule) (lent words : List ℕ) (state : PlainState) (bytes : List ℕ) → lent ≡ words →
-    ReadsWords files bit words → ReadsState files standing text state → IsStimulated files stimulus text state lent bytes → IsTrace files bit standing stimulus text bytes
-is_trace files bit standing stimulus text lent words state bytes lent_is loaded stands made =
-    let it : IsStimulated files stimulus text state words bytes = subst (λ (w : List ℕ). IsStimulated files stimulus text state w bytes) lent_is made in
+pub is_trace : (files : Map) (bit standing stimulus : List ℕ) (text : List PlainModule) (order : Option ℕ) (lent words : List ℕ) (state : PlainState) (bytes : List ℕ) → lent ≡ words →
+    ReadsWords files bit words → ReadsState files standing text state → IsStimulated files stimulus text state order lent bytes → IsTrace files bit standing stimulus text order bytes
+is_trace files bit standing stimulus text order lent words state bytes lent_is loaded stands made =
+    let it : IsStimulated files stimulus text state order words bytes = subst (λ (w : List ℕ). IsStimulated files stimulus text state order w bytes) lent_is made in
     record { words = words; state = state; lines = it.lines; loaded = loaded; stands = stands; given = it.given; traces = it.traces }
 
 -- the stimulus is refused

@@ -8,11 +8,11 @@ use Rattle.fab_syntax.specs.Plain.{PlainModule}
 use Rattle.fab_systems.specs.Ternary.{Tern}
 use Rattle.fab_tern.specs.Shown.{Terns}
 use Rattle.fab_state.specs.Plain.{PlainState}
-use Rattle.fab_simulation.specs.Simulation.{AreCycles, IsCycle, IsLoaded, Simulates, after, none, with_registers}
-use Rattle.fab_simulation.specs.Laws.{SimulationsExist}
+use Rattle.fab_sim.specs.fab_simulation.specs.Simulation.{AreCycles, IsCycle, IsLoaded, Simulates, after, none, with_registers}
+use Rattle.fab_sim.specs.fab_simulation.specs.Laws.{SimulationsExist}
 use Rattle.fab_sim.specs.declared.machine.Machine.{Machine}
 use Rattle.fab_sim.specs.Machine.{IsAt, IsNew}
-use Rattle.fab_simulate.specs.Going.{AreFull, GoesThrough}
+use Rattle.fab_simulate.specs.inner.Going.{AreFull, GoesThrough}
 use Rattle.fab_simulate.proofs.Clocks.{stream_has_clocks}
 
 -- what is left of lists, each seen by a view, begins with the next

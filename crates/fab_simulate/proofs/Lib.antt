@@ -2,6 +2,7 @@ pub mod Placed
 pub mod Clocks
 pub mod Standings
 pub mod Goings
+pub mod Orders
 pub mod Stimulated
 pub mod Behind
 pub mod Traced

@@ -7,6 +7,7 @@ use Rattle.fab_base.specs.declared.fault.Fault.TheVariants as faults
 use Rattle.fab_base.specs.declared.problem.Problem.{Problem}
 use Rattle.fab_base.specs.declared.problem.Problem.TheVariants as problems
 use Rattle.fab_files.specs.Stages.{AreJudged}
+use Rattle.fab_lines.specs.Counts.{last_line}
 use Rattle.fab_syntax.specs.Plain.{PlainModule}
 use Rattle.fab_sound.proofs.Verdicts.{not_sound, one_reason}
 use Rattle.fab_tokens.specs.declared.token.Token.{Token}
@@ -14,7 +15,7 @@ use Rattle.fab_tokens.specs.Scanning.{Lexeme}
 use Rattle.fab_tokens.proofs.Cut.{spelled_told}
 use Rattle.fab_grammar.specs.Grammar.{Modules, SpellsText}
 use Rattle.fab_grammar.proofs.Once.{text_once}
-use Rattle.fab_vread.specs.Refusals.{FirstRefusal, IsRefusal, by_end, by_limit, by_token, last_line, lexemes_of, tokens_in}
+use Rattle.fab_vread.specs.Refusals.{FirstRefusal, IsRefusal, by_end, by_limit, by_token, lexemes_of, tokens_in}
 use Rattle.fab_vread.proofs.Determined.{refusal_is_one}
 use Rattle.fab_vread.proofs.Lexemes.{same_tokens}
 use Rattle.fab_equations.specs.Equations.{IsRefused}

@@ -4,15 +4,15 @@ use Rattle.std.proofs.lemmas.List.Elements.{All-append, All-from_recursion}
 use Rattle.std.specs.List.{AllByRecursion}
 use Rattle.fab_base.specs.declared.fault.Fault.{Fault}
 use Rattle.fab_base.specs.declared.fault.Fault.TheVariants as faults
-use Rattle.fab_files.specs.Files.{last_line}
+use Rattle.fab_lines.specs.Counts.{last_line}
 use Rattle.fab_lines.specs.Order.{IsTextFault}
 use Rattle.fab_syntax.specs.Plain.{PlainModule}
 use Rattle.fab_texts.specs.Rows.{rows_of}
 use Rattle.fab_state.specs.Plain.{PlainState}
 use Rattle.fab_state.specs.Spelled.{Says, state_format}
-use Rattle.fab_state_points.specs.Entries.{HasEntry, entry_point, in_entries, out_entries, register_entries}
-use Rattle.fab_state_points.specs.Standing.{AreAt, IsRefusedState, StandsAt}
-use Rattle.fab_state_points.specs.declared.entry.Entry.{Entry}
+use Rattle.fab_sim.specs.fab_state_points.specs.Entries.{HasEntry, entry_point, in_entries, out_entries, register_entries}
+use Rattle.fab_sim.specs.fab_state_points.specs.Standing.{AreAt, IsRefusedState, StandsAt}
+use Rattle.fab_sim.specs.fab_state_points.specs.declared.entry.Entry.{Entry}
 use Rattle.fab_equations.specs.Equations.{IsPoint}
 use Rattle.fab_sim.specs.Machine.{IsNew}
 use Rattle.fab_sim.specs.declared.machine.Machine.{Machine}

@@ -9,7 +9,7 @@ use Rattle.fab_texts.specs.Rows.{PlainRow, rows_of}
 use Rattle.fab_state.specs.Plain.{PlainState}
 use Rattle.fab_stimulus.specs.Stimuli.{ports_of}
 use Rattle.fab_stimulus.specs.Spelled.{Says, Spells}
-use Rattle.fab_simulate.specs.Going.{AreFull}
+use Rattle.fab_simulate.specs.inner.Going.{AreFull}
 use Rattle.fab_simulate.specs.Simulating.{ReadsStimulus}
 
 -- each line has a value for each input port

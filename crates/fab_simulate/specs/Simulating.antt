@@ -1,11 +1,13 @@
 -- What the command `simulate` does to the files, and why it ends otherwise.
-use Rattle.std.specs.Prelude.{◌≡◌, ◌≢◌, ◌≤◌, ℕ, Bool, List, [], ◌∷◌, All, map, Option}
+use Rattle.std.specs.Prelude.{◌≡◌, ◌≢◌, ◌≤◌, ℕ, Bool, List, [], ◌∷◌, All, map, Option, Some, None}
 use Rattle.fab_base.specs.declared.fault.Fault.{Fault}
 use Rattle.fab_base.specs.declared.fault.Fault.TheVariants as faults
 use Rattle.fab_desk.specs.Files.{Map}
-use Rattle.fab_files.specs.Files.{Event, last_line}
+use Rattle.fab_lines.specs.Counts.{last_line}
+use Rattle.fab_files.specs.Files.{Event}
 use Rattle.fab_files.specs.Stages.{ReadsFrom, MeetsIn, MeetsBehind}
 use Rattle.fab_bits.specs.Bits.{digits}
+use Rattle.fab_draws.specs.Draws.{draws_of}
 use Rattle.fab_syntax.specs.Plain.{PlainModule}
 use Rattle.fab_syntax.specs.Sound.{IsSound}
 use Rattle.fab_grammar.specs.Grammar.{SpellsText}
@@ -17,14 +19,16 @@ use Rattle.fab_texts.specs.Rows.{PlainRow, rows_of, entry_line}
 use Rattle.fab_frames.specs.Refusals.{IsCut}
 use Rattle.fab_state.specs.Plain.{PlainState}
 use Rattle.fab_state.specs.Spelled as states
-use Rattle.fab_state_points.specs.Entries.{entries_of, HasEntry}
-use Rattle.fab_state_points.specs.Standing.{HasStream, IsRefusedState}
+use Rattle.fab_sim.specs.fab_state_points.specs.Entries.{entries_of, HasEntry}
+use Rattle.fab_sim.specs.fab_state_points.specs.Standing.{HasStream, IsRefusedState}
+use Rattle.fab_systems.specs.Ternary.{Tern as PlainTern, known}
 use Rattle.fab_ternary.specs.declared.Tern.{Tern}
 use Rattle.fab_ternary.specs.Terns.{plain_tern}
 use Rattle.fab_stimulus.specs.Stimuli.{ports_of, stimulus_format}
 use Rattle.fab_stimulus.specs.Spelled as stimuli
 use Rattle.fab_stimulus.specs.Traces.{trace_text}
-use Rattle.fab_simulation.specs.Simulation.{Simulates}
+use Rattle.fab_sim.specs.fab_simulation.specs.Simulation.{Simulates}
+use Rattle.fab_sim.specs.fab_ordering.specs.Ordered.{SimulatesInOrder}
 use Rattle.fab_outputs.specs.Bitstreams.{AreBytesOf}
 use Rattle.fab_outputs.specs.Storing.{PlainOutput, output}
 use Rattle.fab_outputs.specs.Ending.{HasCause}
@@ -121,28 +125,39 @@ MeetsStimulus files file state event = MeetsIn files file (RefusesStimulus state
 
 -- ---- what is done
 
--- The bytes are the trace of the state's output ports, line by line what a simulation of the text shows.
-pub record Traces (text : List PlainModule) (state : PlainState) (words : List ℕ) (lines : List (List Bool)) (bytes : List ℕ) : Type 0 where
+-- What an ordered simulation shows over the words that are drawn from a seed, all of it known.
+pub record ShowsInOrder (text : List PlainModule) (state : PlainState) (seed : ℕ) (words lines : List (List Bool)) (shown : List (List PlainTern)) : Type 0 where
+  pub bits : List (List Bool)
+  pub simulates : SimulatesInOrder text state (draws_of seed) words lines bits
+  pub known_is : shown ≡ map (map known) bits
+
+-- Without an order this is what a simulation shows, and with one what points show that are activated one by one, as its seed draws.
+abbrev pub Shows : List PlainModule → PlainState → (order : Option ℕ) → (words lines : List (List Bool)) → (shown : List (List PlainTern)) → Type 0
+Shows text state None words lines shown = Simulates text state words lines shown
+Shows text state (Some seed) words lines shown = ShowsInOrder text state seed words lines shown
+
+-- The bytes are the trace of the state's output ports, line by line what the text shows.
+pub record Traces (text : List PlainModule) (state : PlainState) (order : Option ℕ) (words : List ℕ) (lines : List (List Bool)) (bytes : List ℕ) : Type 0 where
   pub shown : List (List Tern)
-  pub simulates : Simulates text state (map (digits 32) words) lines (map (map plain_tern) shown)
+  pub simulates : Shows text state order (map (digits 32) words) lines (map (map plain_tern) shown)
   pub bytes_are : bytes ≡ trace_text (ports_of state.outs) shown
 
 -- The files spell words, a state of the text and a stimulus, and the bytes are the trace.
-pub record IsTrace (files : Map) (bit standing stimulus : List ℕ) (text : List PlainModule) (bytes : List ℕ) : Type 0 where
+pub record IsTrace (files : Map) (bit standing stimulus : List ℕ) (text : List PlainModule) (order : Option ℕ) (bytes : List ℕ) : Type 0 where
   pub words : List ℕ
   pub state : PlainState
   pub lines : List (List Bool)
   pub loaded : ReadsWords files bit words
   pub stands : ReadsState files standing text state
   pub given : ReadsStimulus files stimulus state lines
-  pub traces : Traces text state words lines bytes
+  pub traces : Traces text state order words lines bytes
 
--- A file spells a text, and the one output is the trace that the other files ask for.
-pub record MakesTrace (files : Map) (names : SimulationFiles) (outputs : List PlainOutput) : Type 0 where
+-- A file spells a text, and the one output is the trace that the other files and the order ask for.
+pub record MakesTrace (files : Map) (names : SimulationFiles) (order : Option ℕ) (outputs : List PlainOutput) : Type 0 where
   pub text : List PlainModule
   pub bytes : List ℕ
   pub device : ReadsDevice files names.verilog text
-  pub made : IsTrace files names.bit names.state names.stimulus text bytes
+  pub made : IsTrace files names.bit names.state names.stimulus text order bytes
   pub outputs_are : outputs ≡ output names.trace bytes ∷ []
 
 -- ---- why the command ends with a fault

@@ -2,8 +2,10 @@
 #![tactic(auto)]
 
 mod device;
+mod ordered;
 mod running;
 mod simulating;
 mod standing;
+mod telling;
 
 pub use simulating::do_simulate;

@@ -3,26 +3,26 @@
 ghost use Rattle.std.specs.Prelude.{◌≡◌, IfOk, List, length, map};
 ghost use Rattle.fab_bits.specs.Bits.{digits};
 ghost use Rattle.fab_sim.specs.Machine.{CanCycle, IsAt, IsNew};
-ghost use Rattle.fab_simulation.specs.Simulation.{IsCycle, Simulates};
+ghost use Rattle.fab_sim.specs.fab_simulation.specs.Simulation.{IsCycle, Simulates};
 ghost use Rattle.fab_state.specs.Plain.{PlainState};
 ghost use Rattle.fab_syntax.specs.Plain.{PlainModule};
 ghost use Rattle.fab_systems.specs.Ternary.{Tern as PlainTern};
 ghost use Rattle.fab_tern.specs.Shown.{Terns};
 ghost use Rattle.fab_ternary.specs.Terns.{plain_tern};
-ghost use Rattle.fab_simulate.specs.Going.{CanGoThrough, CanRun, GoesThrough};
-ghost use Rattle.fab_simulate.specs.Simulating.{Traces};
+ghost use Rattle.fab_simulate.specs.inner.Going.{CanGoThrough, CanRun, GoesThrough};
+ghost use Rattle.fab_simulate.specs.Simulating.{Shows, Traces};
 
+use crate::ordered::simulated_in_order;
+use crate::telling::tell_cycle;
 use fab_base::Memory;
 use fab_progress::{Progress, Step};
 use fab_sim::Machine;
-use fab_simulation::simulations_exist;
+use fab_sim::fab_simulation::simulations_exist;
 use fab_state::State;
 use fab_stimulus::print_trace;
 use fab_ternary::Tern;
 use std::alloc::Global;
-
-/// How many cycles lie between two that are told.
-const TOLD_CYCLES: usize = 1000;
+use std::mem;
 
 /// What so many output ports show in a cycle with these values at the input ports.
 fn shown(
@@ -38,13 +38,6 @@ fn shown(
     let mut outputs = vec![in alloc; Tern::Open; ports]?;
     machine.cycle(values, &mut outputs);
     Ok(outputs)
-}
-
-/// Tells of a cycle that is done, counted from 1, where it is a thousandth or the last of all.
-fn tell_cycle<P: Progress>(progress: &mut P, cycle: usize, cycles: usize) {
-    if cycle % TOLD_CYCLES == 0 || cycle == cycles {
-        progress.tell(Step::Simulating { cycle, cycles });
-    }
 }
 
 /// What they show in each cycle, where the values of each line stand at the input ports.
@@ -72,35 +65,59 @@ fn cycles<P: Progress>(
 fn simulated<P: Progress>(
     alloc: Global,
     progress: &mut P,
-    machine: &mut Machine,
+    mut machine: Machine,
     state: &State,
     words: &[u32],
     lines: &[Vec<bool>],
 ) -> Result<Vec<Vec<Tern>>, Memory>
-    requires { CanRun state.now machine.old (map (λ line. line.items) lines.now) }
-    ensures { (text : List PlainModule) → IsNew text state.now machine.old →
+    requires { CanRun state.now machine (map (λ line. line.items) lines.now) }
+    ensures { (text : List PlainModule) → IsNew text state.now machine →
         IfOk result (λ traced. Simulates text state.now (map (digits 32) words.now) (map (λ line. line.items) lines.now)
         (map (λ line. map plain_tern line.items) traced.items)) }
 {
     simulations_exist();
     progress.tell(Step::Loading);
     machine.load(words);
-    cycles(alloc, progress, machine, lines, state.outs.len())
+    let traced = cycles(alloc, progress, &mut machine, lines, state.outs.len());
+    mem::drop(machine);
+    traced
+}
+
+/// What the output ports of a state show in each cycle, with an order or without one.
+fn shown_cycles<P: Progress>(
+    alloc: Global,
+    progress: &mut P,
+    machine: Machine,
+    state: &State,
+    words: &[u32],
+    lines: &[Vec<bool>],
+    order: Option<u64>,
+) -> Result<Vec<Vec<Tern>>, Memory>
+    requires { CanRun state.now machine (map (λ line. line.items) lines.now) }
+    ensures { (text : List PlainModule) → IsNew text state.now machine →
+        IfOk result (λ traced. Shows text state.now order (map (digits 32) words.now) (map (λ line. line.items) lines.now)
+        (map (λ line. map plain_tern line.items) traced.items)) }
+{
+    match order {
+        None => simulated(alloc, progress, machine, state, words, lines),
+        Some(seed) => simulated_in_order(alloc, progress, machine, state, words, lines, seed),
+    }
 }
 
 /// The printed trace of the output ports of a state.
 pub fn trace_text<P: Progress>(
     alloc: Global,
     progress: &mut P,
-    machine: &mut Machine,
+    machine: Machine,
     state: &State,
     words: &[u32],
     lines: &[Vec<bool>],
+    order: Option<u64>,
 ) -> Result<Vec<u8>, Memory>
-    requires { CanRun state.now machine.old (map (λ line. line.items) lines.now) }
-    ensures { (text : List PlainModule) → IsNew text state.now machine.old →
-        IfOk result (λ bytes. Traces text state.now words.now (map (λ line. line.items) lines.now) bytes.items) }
+    requires { CanRun state.now machine (map (λ line. line.items) lines.now) }
+    ensures { (text : List PlainModule) → IsNew text state.now machine →
+        IfOk result (λ bytes. Traces text state.now order words.now (map (λ line. line.items) lines.now) bytes.items) }
 {
-    let traced = simulated(alloc, progress, machine, state, words, lines)?;
+    let traced = shown_cycles(alloc, progress, machine, state, words, lines, order)?;
     print_trace(alloc, state, &traced)
 }

@@ -8,7 +8,7 @@ use Rattle.fab_meaning.specs.Points.{Point, point}
 use Rattle.fab_meaning.specs.Settled.{Assignment}
 use Rattle.fab_meaning.specs.Reads.{same_point}
 use Rattle.fab_meaning.specs.Runs.{clock_name, user_clock_name}
-use Rattle.fab_meaning.specs.Loading.{strobe_name}
+use Rattle.fab_meaning.specs.Loading.{write_strobe_name}
 use Rattle.fab_meaning.proofs.Dependence.{same_point_refl, same_point_is}
 use Rattle.fab_fabric.specs.declared.wire.Site.{Site}
 use Rattle.fab_netlist.specs.Plain.{IsAt, bit_at, name_of}
@@ -22,10 +22,10 @@ use Rattle.fab_legal.proofs.Lists.{at_from_mapped}
 use Rattle.fab_legal.proofs.SinkLaw.{known_site, site_is}
 use Rattle.fab_prim.specs.Ports.{top_name}
 use Rattle.fab_fabric_text.specs.Names.{pad_port_name}
-use Rattle.fab_drives.proofs.Apart.{told_apart}
-use Rattle.fab_use.specs.Sites.{top_point}
-use Rattle.fab_use.specs.Cycles.{Feeds}
-use Rattle.fab_use.specs.Registers.{bound_pad}
+use Rattle.fab_runs.specs.fab_drives.proofs.Apart.{told_apart}
+use Rattle.fab_runs.specs.fab_use.specs.Sites.{top_point}
+use Rattle.fab_runs.specs.fab_use.specs.Cycles.{Feeds}
+use Rattle.fab_runs.specs.fab_use.specs.Registers.{bound_pad}
 use Rattle.fab_simulation.specs.Simulation.{given}
 use Rattle.fab_runs.proofs.Setting.{Setting}
 use Rattle.fab_simulated_designs.proofs.Sites.{at_left, one_pad, pad_in_grid, one_port_at}
@@ -147,7 +147,7 @@ module _ (s : Setting) where
 
   pub feeds : (values : List Bool) → Feeds s.netlist s.implementation values (fed values)
   feeds values = record {
-    quiet = low values strobe_name (λ site same. told_apart 0 (pad_port_name site.x site.y site.bel top_name) strobe_name refl
+    quiet = low values write_strobe_name (λ site same. told_apart 0 (pad_port_name site.x site.y site.bel top_name) write_strobe_name refl
         (ap (λ (p : Point). p.name) same));
     low = low values clock_name (λ site same. told_apart 0 (pad_port_name site.x site.y site.bel top_name) clock_name refl (ap (λ (p : Point). p.name) same));
     pads = λ place net site at listed.

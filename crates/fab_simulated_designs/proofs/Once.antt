@@ -8,7 +8,7 @@ use Rattle.fab_syntax.specs.Declarations.{width_in, is_input_of}
 use Rattle.fab_meaning.specs.Points.{module_at}
 use Rattle.fab_meaning.specs.Reads.{is_declared}
 use Rattle.fab_meaning.specs.Runs.{clock_name, user_clock_name}
-use Rattle.fab_meaning.specs.Loading.{strobe_name}
+use Rattle.fab_meaning.specs.Loading.{write_strobe_name}
 use Rattle.fab_model.specs.Grid.{PlainFabric}
 use Rattle.fab_fabric.specs.Fabric.{IsFabric, AreTiles}
 use Rattle.fab_frames.specs.Stream.{stream}
@@ -25,13 +25,13 @@ use Rattle.fab_legal.proofs.Members.{from_mapped}
 use Rattle.fab_legal.proofs.PackedMade.{packed_made}
 use Rattle.fab_legal.proofs.SinkLaw.{known_site}
 use Rattle.fab_load_runs.specs.Runs.{HasClocks}
-use Rattle.fab_text_loads.specs.Texts.{IsFabricText}
-use Rattle.fab_use.specs.Sites.{top_point}
-use Rattle.fab_use.specs.Registers.{bound_pad, design_state}
-use Rattle.fab_use.specs.Sources as sources
-use Rattle.fab_points.specs.Laws.{DesignIsDeclared}
-use Rattle.fab_points.proofs.EachSource.{has_fabric}
-use Rattle.fab_points.proofs.Sourced.{sources_are_of_design}
+use Rattle.fab_fabric_text.specs.Texts.{IsFabricText}
+use Rattle.fab_runs.specs.fab_use.specs.Sites.{top_point}
+use Rattle.fab_runs.specs.fab_use.specs.Registers.{bound_pad, design_state}
+use Rattle.fab_runs.specs.fab_use.specs.Sources as sources
+use Rattle.fab_runs.specs.fab_points.specs.Laws.{DesignIsDeclared}
+use Rattle.fab_runs.specs.fab_points.proofs.EachSource.{has_fabric}
+use Rattle.fab_runs.specs.fab_points.proofs.Sourced.{sources_are_of_design}
 use Rattle.fab_runs.proofs.Ranks.{all_by}
 use Rattle.fab_simulation.specs.Laws.{AreShown, SimulationsExist, SimulationsAgree}
 use Rattle.fab_simulated_designs.specs.Laws.{LegalDesignsSimulateOnce}
@@ -46,8 +46,8 @@ module _ (fabric : PlainFabric) (text : List PlainModule) (is : IsFabric fabric)
   clock_wide : width_in (module_at text []) clock_name ≡ 1
   clock_wide = ap (λ m. width_in m clock_name) (has_fabric fabric text is is_text).top_is
 
-  strobe_wide : width_in (module_at text []) strobe_name ≡ 1
-  strobe_wide = ap (λ m. width_in m strobe_name) (has_fabric fabric text is is_text).top_is
+  strobe_wide : width_in (module_at text []) write_strobe_name ≡ 1
+  strobe_wide = ap (λ m. width_in m write_strobe_name) (has_fabric fabric text is is_text).top_is
 
   -- the pads of output ports are declared
   module _ (declared : DesignIsDeclared) (design : PlainPacked) (fixed : List Pad) (implementation : PlainImplementation) (are : AreTiles fabric)

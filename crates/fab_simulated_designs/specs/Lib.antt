@@ -1,2 +1,9 @@
 pub mod Designs
 pub mod Laws
+pub use Rattle.fab_runs.specs.fab_drives
+pub use Rattle.fab_runs.specs.fab_use
+pub use Rattle.fab_runs.specs.fab_tiles_sound
+pub use Rattle.fab_runs.specs.fab_text_sound
+pub use Rattle.fab_runs.specs.fab_points
+pub use Rattle.fab_simulation
+pub use Rattle.fab_runs

@@ -1,13 +1,16 @@
 -- What is simulated of the files of a flow.
-use Rattle.std.proofs.Common.{◌≡◌, ℕ, Bool, List, [], ◌∷◌, ◌++◌, map, codes, Some, sym, ap, ◌∙◌, subst}
+use Rattle.std.proofs.Common.{◌≡◌, ℕ, Bool, List, [], ◌∷◌, ◌++◌, map, codes, Option, Some, None, sym, ap, ◌∙◌, subst}
 use Rattle.std.specs.List.{flat_map}
 use Rattle.fab_bits.specs.Bits.{digits}
 use Rattle.fab_desk.specs.Files.{Map}
 use Rattle.fab_syntax.specs.Plain.{PlainModule}
 use Rattle.fab_syntax.specs.Spelling.{text_bytes}
+use Rattle.fab_sound.specs.Narrow.{AreNarrow}
 use Rattle.fab_grammar.specs.Grammar.{SpellsText}
+use Rattle.fab_grammar.specs.Printable.{IsPrintableText}
 use Rattle.fab_grammar.proofs.Once.{text_once}
 use Rattle.fab_netlist.specs.Cycles.{HasNoCycle}
+use Rattle.fab_netlist.specs.Meaning.{IsRun}
 use Rattle.fab_netlist.specs.Packing.{packed}
 use Rattle.fab_netlist.specs.Plain.{PlainNetlist}
 use Rattle.fab_model.specs.Grid.{PlainFabric}
@@ -20,25 +23,29 @@ use Rattle.fab_state.specs.Plain.{PlainState}
 use Rattle.fab_state.specs.Spelled.{HasSpelling, Says, Spells, state_lines, state_text}
 use Rattle.fab_state.proofs.Printed.{state_rows}
 use Rattle.fab_state.proofs.ReadBack.{spelled_is_read}
+use Rattle.fab_systems.specs.Ternary.{known}
+use Rattle.fab_systems.specs.Ternary.{Tern as PlainTern}
 use Rattle.fab_ternary.specs.Terns.{plain_tern}
 use Rattle.fab_stimulus.specs.Stimuli.{ports_of}
 use Rattle.fab_stimulus.specs.Spelled as stimuli
 use Rattle.fab_stimulus.specs.Traces.{trace_text}
 use Rattle.fab_impl.specs.Spelled.{implementation_text}
-use Rattle.fab_use.specs.Registers.{design_state}
-use Rattle.fab_features.specs.Design.{design_features}
+use Rattle.fab_flow.specs.fab_use.specs.Registers.{design_state}
+use Rattle.fab_flow.specs.fab_features.specs.Design.{design_features}
 use Rattle.fab_text_reads.specs.Laws.{GeneratedTextsAreRead}
-use Rattle.fab_simulation.specs.Simulation.{Simulates}
-use Rattle.fab_simulated_designs.specs.Designs.{ShowsNetlist}
-use Rattle.fab_simulated_designs.specs.Laws.{LegalDesignsSimulate}
+use Rattle.fab_draws.specs.Draws.{draws_of}
+use Rattle.fab_ordered_designs.specs.fab_simulated_designs.specs.Designs.{initial_latches, shown_by}
+use Rattle.fab_ordered_designs.specs.fab_simulated_designs.specs.Laws.{LegalDesignsSimulate}
+use Rattle.fab_ordered_designs.specs.Laws.{LegalDesignsSimulateInOrder}
 use Rattle.fab_spelled_designs.specs.Laws.{IsSound, LegalDesignsAreSpelled, SpelledDesignsAreSound}
 use Rattle.fab_outputs.specs.Storing.{PlainOutput, output, with_outputs}
 use Rattle.fab_flow.specs.Generating.{generated_text}
 use Rattle.fab_flow.specs.Flowing.{FlowFiles, MakesFlow, flow_outputs}
-use Rattle.fab_simulate.specs.Simulating.{MakesTrace, simulation_files}
+use Rattle.fab_simulate.specs.Simulating.{MakesTrace, Shows, simulation_files}
 use Rattle.fab_simulated_flow.specs.Laws.{TracesNetlist}
 use Rattle.fab_simulated_flow.proofs.Digits.{same_digits}
-use Rattle.fab_simulated_flow.proofs.Shown.{input_names, output_names, shown_values}
+use Rattle.fab_simulated_flow.proofs.Narrow.{narrow_text}
+use Rattle.fab_simulated_flow.proofs.Shown.{input_names, lines_known, output_names, shown_values}
 use Rattle.fab_simulated_flow.proofs.Stored as stored_files
 
 -- a printed state says itself alone
@@ -50,11 +57,17 @@ state_again bytes printed said has is says =
     } in
     says.1 ∙ sym (spelled_is_read (rows_of bytes) printed spells).1
 
-module _ (read_again : GeneratedTextsAreRead) (simulate : LegalDesignsSimulate) (are_sound : SpelledDesignsAreSound) (are_spelled : LegalDesignsAreSpelled)
+-- What is shown is a run of the netlist, and known.
+record ShowsRun (netlist : PlainNetlist) (lines : List (List Bool)) (shown : List (List PlainTern)) : Type 0 where
+  nows : List (ℕ → Bool)
+  run : IsRun netlist (initial_latches netlist) lines nows
+  shows : shown ≡ map (shown_by netlist) nows
+
+module _ (read_again : GeneratedTextsAreRead) (simulate : LegalDesignsSimulate) (in_order : LegalDesignsSimulateInOrder) (are_sound : SpelledDesignsAreSound) (are_spelled : LegalDesignsAreSpelled)
     (files : Map) (names : FlowFiles) (allowed : ℕ) (stored : List PlainOutput) (flow : MakesFlow files names allowed stored) (stimulus trace : List ℕ)
-    (outputs : List PlainOutput)
+    (order : Option ℕ) (outputs : List PlainOutput)
     (made : MakesTrace (with_outputs stored files)
-    (simulation_files (names.base ++ codes ".v") (names.base ++ codes ".bit") (names.base ++ codes ".state") stimulus trace) outputs) where
+    (simulation_files (names.base ++ codes ".v") (names.base ++ codes ".bit") (names.base ++ codes ".state") stimulus trace) order outputs) where
   abbrev fabric : PlainFabric
   fabric = flow.design.fabric
 
@@ -93,13 +106,23 @@ module _ (read_again : GeneratedTextsAreRead) (simulate : LegalDesignsSimulate) 
   no_cycle : HasNoCycle netlist
   no_cycle = subst HasNoCycle (sym flow.spelled.netlist.spelled.1) flow.spelled.netlist.spelled.0.acyclic
 
+  printed : IsPrintableText (generated_text fabric) × SpellsText 300 128 (text_bytes (generated_text fabric)) (generated_text fabric)
+  printed = read_again files names.design.fabric fabric flow.spelled.fabric sound.fabric sound.tiles
+
+  text_stands : with_outputs stored files (names.base ++ codes ".v") ≡ Some (text_bytes (generated_text fabric))
+  text_stands = stands _ _ (stored_files.text_stands files names.base _ _ _ words state)
+
   text_is : made.text ≡ generated_text fabric
   text_is =
-      let bytes_are = stored_files.found_is (with_outputs stored files) (names.base ++ codes ".v") made.device.bytes (text_bytes (generated_text fabric))
-      (stands _ _ (stored_files.text_stands files names.base _ _ _ words state)) made.device.found in
+      let bytes_are = stored_files.found_is (with_outputs stored files) (names.base ++ codes ".v") made.device.bytes (text_bytes (generated_text fabric)) text_stands made.device.found in
       text_once 300 128 300 128 made.device.bytes made.text (generated_text fabric) made.device.spelled.spelled
-      (subst (λ (b : List ℕ). SpellsText 300 128 b (generated_text fabric)) (sym bytes_are)
-      (read_again files names.design.fabric fabric flow.spelled.fabric sound.fabric sound.tiles).1)
+      (subst (λ (b : List ℕ). SpellsText 300 128 b (generated_text fabric)) (sym bytes_are) printed.1)
+
+  -- a text that a file holds is narrow
+  narrow : AreNarrow (generated_text fabric)
+  narrow =
+      narrow_text (generated_text fabric) printed.0.1
+      (stored_files.found_short (with_outputs stored files) (names.base ++ codes ".v") made.device.bytes (text_bytes (generated_text fabric)) text_stands made.device.found)
 
   words_are : map (digits 32) made.made.words ≡ map (digits 32) words
   words_are =
@@ -113,20 +136,27 @@ module _ (read_again : GeneratedTextsAreRead) (simulate : LegalDesignsSimulate) 
       (stands _ _ (stored_files.state_stands files names.base _ _ _ words state)) made.made.stands.found in
       state_again made.made.stands.bytes state made.made.state has bytes_are made.made.stands.spelled.says
 
-  simulates : Simulates (generated_text fabric) state (map (digits 32) words) made.made.lines (map (map plain_tern) made.made.traces.shown)
-  simulates =
-      let lines = made.made.lines in
-      let shown = map (map plain_tern) made.made.traces.shown in
-      subst (λ (s : PlainState). Simulates (generated_text fabric) s (map (digits 32) words) lines shown) state_is
-      (subst (λ (w : List (List Bool)). Simulates (generated_text fabric) made.made.state w lines shown) words_are
-      (subst (λ (t : List PlainModule). Simulates t made.made.state (map (digits 32) made.made.words) lines shown) text_is made.made.traces.simulates))
+  abbrev shown : List (List PlainTern)
+  shown = map (map plain_tern) made.made.traces.shown
 
-  shows : ShowsNetlist fabric (generated_text fabric) netlist implementation flow.made.assembly.bits made.made.lines
-      (map (map plain_tern) made.made.traces.shown) simulates
+  shows : Shows (generated_text fabric) state order (map (digits 32) words) made.made.lines shown
   shows =
-      simulate fabric (generated_text fabric) netlist flow.design.fixed implementation flow.made.assembly.bits sound.fabric sound.tiles flow.made.text
-      sound.netlist no_cycle flow.made.legal
-      flow.made.assembly.configures made.made.lines (map (map plain_tern) made.made.traces.shown) simulates
+      let lines = made.made.lines in
+      subst (λ (s : PlainState). Shows (generated_text fabric) s order (map (digits 32) words) lines shown) state_is
+      (subst (λ (w : List (List Bool)). Shows (generated_text fabric) made.made.state order w lines shown) words_are
+      (subst (λ (t : List PlainModule). Shows t made.made.state order (map (digits 32) made.made.words) lines shown) text_is made.made.traces.simulates))
+
+  -- without an order, and with one
+  runs : (chosen : Option ℕ) (lines : List (List Bool)) (seen : List (List PlainTern)) → Shows (generated_text fabric) state chosen (map (digits 32) words) lines seen →
+      ShowsRun netlist lines seen
+  runs None lines seen simulates =
+      let it = simulate fabric (generated_text fabric) netlist flow.design.fixed implementation flow.made.assembly.bits sound.fabric sound.tiles flow.made.text
+      sound.netlist no_cycle flow.made.legal flow.made.assembly.configures lines seen simulates in
+      record { nows = it.nows; run = it.run; shows = it.shows }
+  runs (Some seed) lines seen ordered =
+      let it = in_order fabric (generated_text fabric) netlist flow.design.fixed implementation flow.made.assembly.bits sound.fabric sound.tiles flow.made.text narrow
+      sound.netlist no_cycle flow.made.legal flow.made.assembly.configures (draws_of seed) lines ordered.bits ordered.simulates in
+      record { nows = it.nows; run = it.run; shows = ordered.known_is ∙ ap (map (map known)) it.shows ∙ lines_known netlist it.nows }
 
   pub traces_netlist : TracesNetlist (with_outputs stored files) stimulus trace netlist outputs
   traces_netlist =
@@ -134,7 +164,8 @@ module _ (read_again : GeneratedTextsAreRead) (simulate : LegalDesignsSimulate) 
       ap (λ (s : PlainState). ports_of s.ins) state_is ∙ input_names implementation.ins (packed netlist).inputs in
       let outs_are : ports_of made.made.state.outs ≡ map (λ port. port.0) (packed netlist).outputs =
       ap (λ (s : PlainState). ports_of s.outs) state_is ∙ output_names implementation.outs (packed netlist).outputs in
-      let values = shown_values netlist made.made.traces.shown shows.nows shows.shows in
+      let it = runs order made.made.lines shown shows in
+      let values = shown_values netlist made.made.traces.shown it.nows it.shows in
       let given = made.made.given in
       record {
         lines = made.made.lines;
@@ -143,7 +174,7 @@ module _ (read_again : GeneratedTextsAreRead) (simulate : LegalDesignsSimulate) 
           found = given.found;
           spelled = subst (λ (ports : List Word). stimuli.Says ports (rows_of given.bytes) made.made.lines) ins_are given.spelled.says;
         };
-        nows = shows.nows;
-        run = shows.run;
+        nows = it.nows;
+        run = it.run;
         outputs_are = made.outputs_are ∙ ap (λ (b : List ℕ). output trace b ∷ []) (made.made.traces.bytes_are ∙ (λ j. trace_text (outs_are j) (values j)));
       }

@@ -1,4 +1,5 @@
 pub mod Stored
 pub mod Digits
 pub mod Shown
+pub mod Narrow
 pub mod Flowed

@@ -9,8 +9,9 @@ use Rattle.fab_ternary.specs.declared.Tern.{Tern}
 use Rattle.fab_ternary.specs.declared.Tern.TheVariants as terns
 use Rattle.fab_ternary.specs.Terns.{plain_tern}
 use Rattle.fab_stimulus.specs.Stimuli.{ports_of}
-use Rattle.fab_use.specs.Registers.{bound_pad}
-use Rattle.fab_simulated_designs.specs.Designs.{shown_by}
+use Rattle.fab_flow.specs.fab_use.specs.Registers.{bound_pad}
+use Rattle.fab_ordered_designs.specs.fab_simulated_designs.specs.Designs.{shown_by}
+use Rattle.fab_ordered_designs.specs.Designs.{outputs_by}
 use Rattle.fab_simulated_flow.specs.Laws.{known_tern, port_values}
 
 -- the bit that a plain one is
@@ -48,6 +49,17 @@ shown_back netlist (now ∷ nows) = let here = values_back now netlist.outputs i
 pub shown_values : (netlist : PlainNetlist) (shown : List (List Tern)) (nows : List (ℕ → Bool)) → map (map plain_tern) shown ≡ map (shown_by netlist) nows →
     shown ≡ map (port_values netlist) nows
 shown_values netlist shown nows same = sym (lines_again shown) ∙ ap (map (map back)) same ∙ shown_back netlist nows
+
+-- ---- values that are all known
+
+line_known : (nets : ℕ → Bool) (outputs : List ℕ) → map known (map nets outputs) ≡ map (λ net. known (nets net)) outputs
+line_known nets [] = refl
+line_known nets (net ∷ outputs) = let rest = line_known nets outputs in λ j. known (nets net) ∷ rest j
+
+-- what output ports have, as it is shown
+pub lines_known : (netlist : PlainNetlist) (nows : List (ℕ → Bool)) → map (map known) (map (outputs_by netlist) nows) ≡ map (shown_by netlist) nows
+lines_known netlist [] = refl
+lines_known netlist (now ∷ nows) = let here = line_known now netlist.outputs in let rest = lines_known netlist nows in λ j. here j ∷ rest j
 
 -- ---- ports
 

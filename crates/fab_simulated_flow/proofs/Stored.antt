@@ -1,8 +1,8 @@
 -- What stands under the names of stored files.
-use Rattle.std.proofs.Common.{◌≡◌, ℕ, Bool, true, false, List, [], ◌∷◌, ◌++◌, ◌&&◌, codes, length, Option, Some, None, Result, Ok, Err, refl, sym, ap, ◌∙◌, inl, inr, eq-eqb, nat_lt}
+use Rattle.std.proofs.Common.{◌≡◌, ◌≤◌, ℕ, Bool, true, false, List, [], ◌∷◌, ◌++◌, ◌&&◌, codes, length, Option, Some, None, Result, Ok, Err, refl, sym, ap, ◌∙◌, inl, inr, eq-eqb, nat_lt}
 use Rattle.std.specs.List.{flat_map}
 use Rattle.std.specs.Str.{bytes_eq, is_utf8}
-use Rattle.std.proofs.lemmas.Bool.{cases_Bool}
+use Rattle.std.proofs.lemmas.Bool.{cases_Bool, ltb-false}
 use Rattle.fab_base.specs.declared.TheConstants.{MAX_FILE_BYTES}
 use Rattle.fab_desk.specs.Files.{Map}
 use Rattle.fab_files.specs.Files.{handed_out}
@@ -25,6 +25,16 @@ found_is files name bytes stored there found = elim (cases_Bool (is_utf8 name)) 
   | inl t ↦ elim (cases_Bool (nat_lt MAX_FILE_BYTES (length stored))) [
     | inl long ↦ let differ = rw (t, there, long) at found in absurd cc
     | inr short ↦ let same = rw (t, there, short) at found in cc
+  ]
+  | inr f ↦ let differ = rw f at found in absurd cc
+]
+
+-- and it is no longer than a file may be
+pub found_short : (files : Map) (name bytes stored : List ℕ) → files name ≡ Some stored → handed_out files name ≡ Ok bytes → length stored ≤ MAX_FILE_BYTES
+found_short files name bytes stored there found = elim (cases_Bool (is_utf8 name)) [
+  | inl t ↦ elim (cases_Bool (nat_lt MAX_FILE_BYTES (length stored))) [
+    | inl long ↦ let differ = rw (t, there, long) at found in absurd cc
+    | inr short ↦ ltb-false MAX_FILE_BYTES (length stored) short
   ]
   | inr f ↦ let differ = rw f at found in absurd cc
 ]

@@ -1,5 +1,5 @@
 -- The files that `flow` makes, simulated.
-use Rattle.std.specs.Prelude.{◌≡◌, ℕ, Bool, true, false, List, [], ◌∷◌, ◌++◌, map, codes}
+use Rattle.std.specs.Prelude.{◌≡◌, ℕ, Bool, true, false, List, [], ◌∷◌, ◌++◌, map, codes, Option}
 use Rattle.fab_desk.specs.Files.{Map}
 use Rattle.fab_files.specs.Stages.{ReadsFrom}
 use Rattle.fab_netlist.specs.Plain.{PlainNetlist}
@@ -10,7 +10,7 @@ use Rattle.fab_ternary.specs.declared.Tern.{Tern}
 use Rattle.fab_ternary.specs.declared.Tern.TheVariants as terns
 use Rattle.fab_stimulus.specs.Spelled.{Says}
 use Rattle.fab_stimulus.specs.Traces.{trace_text}
-use Rattle.fab_simulated_designs.specs.Designs.{initial_latches}
+use Rattle.fab_ordered_designs.specs.fab_simulated_designs.specs.Designs.{initial_latches}
 use Rattle.fab_outputs.specs.Storing.{PlainOutput, output, with_outputs}
 use Rattle.fab_flow.specs.Flowing.{FlowFiles, MakesFlow}
 use Rattle.fab_simulate.specs.Simulating.{MakesTrace, simulation_files}
@@ -32,11 +32,12 @@ pub record TracesNetlist (files : Map) (stimulus trace : List ℕ) (netlist : Pl
   pub run : IsRun netlist (initial_latches netlist) lines nows
   pub outputs_are : outputs ≡ output trace (trace_text (map (λ port. port.0) (packed netlist).outputs) (map (port_values netlist) nows)) ∷ []
 
--- Where the five files of a flow stand, what `simulate` makes of BASE.v, BASE.bit and BASE.state is the trace of the netlist.
+-- Where the five files of a flow stand, what `simulate` makes of BASE.v, BASE.bit and BASE.state is the trace of the netlist. That is so without an order,
+-- and with one for every seed: whatever is drawn for points at power-up, and in whichever order points change.
 abbrev pub FlowFilesSimulate : Type 0
 FlowFilesSimulate =
     (files : Map) (names : FlowFiles) (allowed : ℕ) (stored : List PlainOutput) (flow : MakesFlow files names allowed stored) →
-    (stimulus trace : List ℕ) (outputs : List PlainOutput) →
+    (stimulus trace : List ℕ) (order : Option ℕ) (outputs : List PlainOutput) →
     MakesTrace (with_outputs stored files)
-    (simulation_files (names.base ++ codes ".v") (names.base ++ codes ".bit") (names.base ++ codes ".state") stimulus trace) outputs →
+    (simulation_files (names.base ++ codes ".v") (names.base ++ codes ".bit") (names.base ++ codes ".state") stimulus trace) order outputs →
     TracesNetlist (with_outputs stored files) stimulus trace flow.design.netlist outputs

@@ -9,11 +9,11 @@ use Rattle.fab_systems.specs.Ternary.{Tern, known}
 use Rattle.fab_meaning.specs.Points.{Path, Point, point, Driver, outside, copy, bit_of, flop, hold, module_at}
 use Rattle.fab_meaning.specs.Reads.{is_declared, same_point}
 use Rattle.fab_meaning.specs.Runs.{clock_name, user_clock_name, clock_of, is_clock}
-use Rattle.fab_meaning.specs.Loading.{strobe_name, IsLoading, LoadsAgree}
+use Rattle.fab_meaning.specs.Loading.{IsLoading, LoadsAgree, write_strobe_name}
 use Rattle.fab_meaning.specs.Sound.{PointsOfSoundTextsHaveOneDriver}
 use Rattle.fab_implementation.specs.Plain.{Pad}
 use Rattle.fab_prim.specs.Modules.{flip_flop_name}
-use Rattle.fab_state.specs.Plain.{Register, PlainState}
+use Rattle.fab_use.specs.fab_state.specs.Plain.{Register, PlainState}
 use Rattle.fab_tern.specs.Operators.{tern_at}
 use Rattle.fab_tern.specs.Values.{tern_value}
 use Rattle.fab_tern.specs.Shown.{Terns, first_terns, tern_names, through}
@@ -119,7 +119,7 @@ module _ (text : List PlainModule) where
 
   -- ---- loading
 
-  loaded_same : LoadingIsDecided → LoadsAgree → IsSound text → width_in (module_at text []) clock_name ≡ 1 → width_in (module_at text []) strobe_name ≡ 1 →
+  loaded_same : LoadingIsDecided → LoadsAgree → IsSound text → width_in (module_at text []) clock_name ≡ 1 → width_in (module_at text []) write_strobe_name ≡ 1 →
       (words : List (List Bool)) (held kept : Terns) → IsLoaded text words held → IsLoaded text words kept → Same held kept
   loaded_same decided loads_agree sound clock_wide strobe_wide words held kept a b p declared =
       let has = decided text sound in

@@ -8,10 +8,10 @@ use Rattle.fab_meaning.specs.Points.{Point, Driver, Drives, module_at}
 use Rattle.fab_meaning.specs.Settled.{Assignment, IsSettledOn}
 use Rattle.fab_meaning.specs.Reads.{is_declared}
 use Rattle.fab_meaning.specs.Runs.{clock_name, kept}
-use Rattle.fab_meaning.specs.Loading.{strobe_name, IsStream, IsLoading}
+use Rattle.fab_meaning.specs.Loading.{IsStream, IsLoading, write_strobe_name}
 use Rattle.fab_sound.specs.Narrow.{AreNarrow}
 use Rattle.fab_implementation.specs.Plain.{Pad}
-use Rattle.fab_state.specs.Plain.{PlainState}
+use Rattle.fab_use.specs.fab_state.specs.Plain.{PlainState}
 use Rattle.fab_tern.specs.Shown.{Terns}
 use Rattle.fab_load_runs.specs.Runs.{HasClocks}
 use Rattle.fab_solutions.specs.Solutions.{Solves, tern_kept}
@@ -32,7 +32,7 @@ AreShown text pads = All (λ pad. is_declared text (top_point pad.1 (codes "I_to
 abbrev pub SimulationsAgree : Type 0
 SimulationsAgree =
     (text : List PlainModule) (state : PlainState) (words lines : List (List Bool)) → IsSound text →
-    width_in (module_at text []) clock_name ≡ 1 → width_in (module_at text []) strobe_name ≡ 1 → AreShown text state.outs →
+    width_in (module_at text []) clock_name ≡ 1 → width_in (module_at text []) write_strobe_name ≡ 1 → AreShown text state.outs →
     (first second : List (List Tern)) → Simulates text state words lines first → Simulates text state words lines second → first ≡ second
 
 -- One more cycle goes on behind others.

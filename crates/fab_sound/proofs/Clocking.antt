@@ -15,8 +15,8 @@ use Rattle.fab_syntax.specs.Declarations.{module_named}
 use Rattle.fab_syntax.specs.Sound.{JoinFits, IsJoinedOnce, InstanceFits, ServesAsClock, ticks, leads, IsScalarInput, IsJoinedToClock, ClockFits}
 use Rattle.fab_sound.specs.declared.tables.Declared.{Declared}
 use Rattle.fab_sound.specs.declared.tables.Declared.TheVariants.{Input, Output, Inner, Instance}
-use Rattle.fab_sound.specs.Checks.{found, shape_declared, is_scalar_entry, HasNets}
-use Rattle.fab_sound.specs.Rules.{is_input_entry, is_variable, join_serves, item_serves, is_scalar_variable, join_clocks, item_clocks}
+use Rattle.fab_sound.specs.inner.Checks.{found, shape_declared, is_scalar_entry, HasNets}
+use Rattle.fab_sound.specs.inner.Rules.{is_input_entry, is_variable, join_serves, item_serves, is_scalar_variable, join_clocks, item_clocks}
 use Rattle.fab_sound.proofs.Noting.{Names, drop_item}
 use Rattle.fab_sound.proofs.Nets.{found_shape}
 use Rattle.fab_sound.proofs.Places.{input_net}

@@ -10,7 +10,7 @@ use Rattle.fab_syntax.specs.declared.tree.Join.{Join}
 use Rattle.fab_syntax.specs.Plain.{PlainExpr, PlainItem, PlainModule, constant, variable, pick, part, concatenation, complement, operation, conditional, wire, reg, assign, latch, clocked, instance, plain_item, plain_join}
 use Rattle.fab_syntax.specs.Declarations.{one_if_same, one_if_variable, is_input_of, times_joined_out, times_driven, times_driven_by, times_held}
 use Rattle.fab_syntax.specs.Sound.{DirectionFits, PortIsDriven, ItemIsDriven, DriversFit}
-use Rattle.fab_sound.specs.Rules.{variable_name, join_drives, is_driven_once, port_is_driven, item_is_driven, module_is_driven}
+use Rattle.fab_sound.specs.inner.Rules.{variable_name, join_drives, is_driven_once, port_is_driven, item_is_driven, module_is_driven}
 use Rattle.fab_sound.proofs.Noting.{drop_item}
 
 -- a test of all, where it fails at one

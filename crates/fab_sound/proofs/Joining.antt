@@ -17,8 +17,8 @@ use Rattle.fab_syntax.specs.Sound.{width_of_name, FitsPort, port_named, JoinFits
 use Rattle.fab_sound.specs.declared.tables.Declared.{Declared}
 use Rattle.fab_sound.specs.declared.tables.Declared.TheVariants.{Input, Output, Inner, Instance}
 use Rattle.fab_sound.specs.declared.tables.Known.{Known}
-use Rattle.fab_sound.specs.Checks.{known_module, found, found_width, net_declared, inner_net, net_of, port_declares, HasNets}
-use Rattle.fab_sound.specs.Rules.{fits_port, fits_declared, join_passes, is_joined_once, joins_pass, instance_passes, instances_pass}
+use Rattle.fab_sound.specs.inner.Checks.{known_module, found, found_width, net_declared, inner_net, net_of, port_declares, HasNets}
+use Rattle.fab_sound.specs.inner.Rules.{fits_port, fits_declared, join_passes, is_joined_once, joins_pass, instance_passes, instances_pass}
 use Rattle.fab_sound.proofs.Noting.{Names, drop_item}
 use Rattle.fab_sound.proofs.Nets.{found_shape}
 

@@ -17,7 +17,7 @@ use Rattle.fab_sound.specs.Narrow.{IsNarrow, AreNarrow}
 use Rattle.fab_sound.specs.declared.sizes.Rule.TheVariants.{Selects, Widths}
 use Rattle.fab_sound.specs.declared.tables.Known.{Known}
 use Rattle.fab_sound.specs.declared.tables.Library.{Library}
-use Rattle.fab_sound.specs.Checks.{found, shape_declared, HasNets, known_module, library_text, IsLibrary, found_width, operand_widths, vector_width, picks_each, holds_part, select_passes, operands_pass, all_selects_pass, all_operands_pass, sides_pass, item_passes, module_passes, all_narrow, item_narrow, module_narrow}
+use Rattle.fab_sound.specs.inner.Checks.{found, shape_declared, HasNets, known_module, library_text, IsLibrary, found_width, operand_widths, vector_width, picks_each, holds_part, select_passes, operands_pass, all_selects_pass, all_operands_pass, sides_pass, item_passes, module_passes, all_narrow, item_narrow, module_narrow}
 use Rattle.fab_sound.proofs.Noting.{Names}
 use Rattle.fab_sound.proofs.Nets.{found_shape}
 

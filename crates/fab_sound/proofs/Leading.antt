@@ -14,8 +14,8 @@ use Rattle.fab_syntax.specs.Declarations.{module_named}
 use Rattle.fab_syntax.specs.Sound.{InstanceFits, InstancesFitBehind, InstancesFit, ServesAsClock, ClockFits, ClocksFit}
 use Rattle.fab_sound.specs.declared.tables.Known.{Known}
 use Rattle.fab_sound.specs.declared.tables.Library.{Library}
-use Rattle.fab_sound.specs.Checks.{found, is_scalar_entry, HasNets, known_module, library_text, IsLibrary}
-use Rattle.fab_sound.specs.Rules.{is_counted, is_counted_below, counts_at, serves_in, item_serves, item_clocks}
+use Rattle.fab_sound.specs.inner.Checks.{found, is_scalar_entry, HasNets, known_module, library_text, IsLibrary}
+use Rattle.fab_sound.specs.inner.Rules.{is_counted, is_counted_below, counts_at, serves_in, item_serves, item_clocks}
 use Rattle.fab_sound.proofs.Places.{before_none, before_late, before_inside, before_some, among_all}
 use Rattle.fab_sound.proofs.Clocking.{scalar_decides, DecidesBelow, module_serves, module_clocks}
 

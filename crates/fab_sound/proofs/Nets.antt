@@ -21,7 +21,7 @@ use Rattle.fab_syntax.specs.Declarations.{item_shape, declared_shape}
 use Rattle.fab_sound.specs.declared.tables.Declared.{Declared}
 use Rattle.fab_sound.specs.declared.tables.Declared.TheVariants.{Input, Output, Inner, Instance}
 use Rattle.fab_sound.specs.declared.tables.Known.{Known}
-use Rattle.fab_sound.specs.Checks.{found, Gives, shape_declared, item_declares, IsNew, Takes, port_declares, net_declared, inner_net, net_of, TakesNets, HasNets, known_module, place_named}
+use Rattle.fab_sound.specs.inner.Checks.{found, Gives, shape_declared, item_declares, IsNew, Takes, port_declares, net_declared, inner_net, net_of, TakesNets, HasNets, known_module, place_named}
 use Rattle.fab_sound.proofs.Noting.{Names, bytes_sym, not_true, drop_item}
 
 pub of_fine : {X E : Type 0} (r : Result X E) (A : X → Type 0) (x : X) → r ≡ Ok x → IfOk r A → A x

@@ -20,7 +20,7 @@ use Rattle.fab_syntax.specs.Declarations.{module_named}
 use Rattle.fab_syntax.specs.Sound.{Mention, net, instance_name, use_of, joined, uses, item_mentions, item_expressions, is_net, is_declaration, refusals, mentions_in, text_refusals, IsFirstBroken, breaks_names}
 use Rattle.fab_sound.specs.declared.tables.Declared.{Declared}
 use Rattle.fab_sound.specs.declared.tables.Declared.TheVariants.{Inner, Instance}
-use Rattle.fab_sound.specs.Checks.{found, Gives, shape_declared, has_net, expression_names, item_targets, item_declares, IsNew, Takes, Notes, Advances, StartsWith, port_declares, Numbers}
+use Rattle.fab_sound.specs.inner.Checks.{found, Gives, shape_declared, has_net, expression_names, item_targets, item_declares, IsNew, Takes, Notes, Advances, StartsWith, port_declares, Numbers}
 
 abbrev pub Names : Type 0 → Type 0
 Names S = IndexMap (Bor (List ℕ)) Declared S

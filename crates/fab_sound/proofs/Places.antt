@@ -18,8 +18,8 @@ use Rattle.fab_sound.specs.declared.tables.Declared.TheVariants.{Input, Output, 
 use Rattle.fab_syntax.specs.declared.tree.Shape.{Shape}
 use Rattle.fab_sound.specs.declared.tables.Known.{Known}
 use Rattle.fab_sound.specs.declared.tables.Library.{Library}
-use Rattle.fab_sound.specs.Checks.{found, net_declared, inner_net, net_of, port_declares, HasNets, known_module, library_text, IsLibrary}
-use Rattle.fab_sound.specs.Rules.{is_input_entry}
+use Rattle.fab_sound.specs.inner.Checks.{found, net_declared, inner_net, net_of, port_declares, HasNets, known_module, library_text, IsLibrary}
+use Rattle.fab_sound.specs.inner.Rules.{is_input_entry}
 
 -- ---- the first of some
 

@@ -14,7 +14,7 @@ use Rattle.fab_syntax.specs.declared.tree.Expr.{Expr, Cat}
 use Rattle.fab_syntax.proofs.Plain.{plain_concatenation}
 use Rattle.fab_syntax.specs.Plain.{PlainExpr, PlainExprs, plain_expr, plain_exprs, constant, variable, pick, part, concatenation, complement, operation, conditional, none, more}
 use Rattle.fab_syntax.specs.Sound.{subexpressions, parts_subexpressions, expression_width, parts_width}
-use Rattle.fab_sound.specs.Checks.{inner_parts, found_width, parts_list, operands, width_over, widths_from, operand_widths, select_passes, operands_pass, all_selects_pass, all_operands_pass, narrow_over, all_narrow}
+use Rattle.fab_sound.specs.inner.Checks.{inner_parts, found_width, parts_list, operands, width_over, widths_from, operand_widths, select_passes, operands_pass, all_selects_pass, all_operands_pass, narrow_over, all_narrow}
 use Rattle.fab_sound.proofs.Noting.{Names}
 use Rattle.fab_sound.proofs.Waiting.{itself_first}
 

@@ -12,7 +12,7 @@ use Rattle.indexmap.specs.IndexMap.{insert_entry}
 use Rattle.fab_syntax.specs.declared.tree.Expr.{Expr}
 use Rattle.fab_syntax.specs.Plain.{PlainExpr, plain_expr, constant, variable, pick, part, concatenation, complement, operation, conditional}
 use Rattle.fab_syntax.specs.Sound.{subexpressions}
-use Rattle.fab_sound.specs.Checks.{plain_all, waiting_parts, inner_parts}
+use Rattle.fab_sound.specs.inner.Checks.{plain_all, waiting_parts, inner_parts}
 
 -- one more on top
 pub waiting_push : (es : List (Bor Expr)) (e : Bor Expr) → waiting_parts (es ++ e ∷ []) ≡ subexpressions (plain_expr e.now) ++ waiting_parts es

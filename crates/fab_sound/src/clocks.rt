@@ -5,8 +5,8 @@ ghost use Rattle.std.specs.List.{list_all, list_any};
 ghost use Rattle.std.specs.Str.{bytes_eq};
 ghost use Rattle.fab_syntax.specs.Plain.{plain_item, plain_join};
 ghost use Rattle.fab_syntax.specs.Sound.{InstancesFit, ClocksFit};
-ghost use Rattle.fab_sound.specs.Checks.{found, is_scalar_entry, known_module, library_text, IsLibrary};
-ghost use Rattle.fab_sound.specs.Rules.{is_counted, serves_in, join_serves, item_serves, join_clocks, item_clocks};
+ghost use Rattle.fab_sound.specs.inner.Checks.{found, is_scalar_entry, known_module, library_text, IsLibrary};
+ghost use Rattle.fab_sound.specs.inner.Rules.{is_counted, serves_in, join_serves, item_serves, join_clocks, item_clocks};
 
 use crate::instances::number_of;
 use crate::tables::{Declared, Known, Library, count_of, count_up, is_scalar_input};

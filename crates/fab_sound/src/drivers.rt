@@ -5,8 +5,8 @@ ghost use Rattle.std.specs.List.{list_all};
 ghost use Rattle.fab_syntax.specs.Plain.{plain_item, plain_join};
 ghost use Rattle.fab_syntax.specs.Declarations.{module_named, is_input_of, times_driven, times_driven_by, times_held, times_joined_out};
 ghost use Rattle.fab_syntax.specs.Sound.{DriversFit};
-ghost use Rattle.fab_sound.specs.Checks.{found, count_at, known_module, library_text, HasNets, IsLibrary};
-ghost use Rattle.fab_sound.specs.Rules.{is_input_entry, join_drives, is_driven_once, port_is_driven, item_is_driven, module_is_driven};
+ghost use Rattle.fab_sound.specs.inner.Checks.{found, count_at, known_module, library_text, HasNets, IsLibrary};
+ghost use Rattle.fab_sound.specs.inner.Rules.{is_input_entry, join_drives, is_driven_once, port_is_driven, item_is_driven, module_is_driven};
 
 use crate::instances::module_before;
 use crate::tables::{Declared, Known, Library, count_of, count_up, declaration};

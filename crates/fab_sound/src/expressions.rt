@@ -4,7 +4,7 @@ ghost use Rattle.std.specs.Prelude.{◌≡◌, ◌++◌, map, IfOk, OnOk};
 ghost use Rattle.std.specs.List.{flat_map};
 ghost use Rattle.fab_syntax.specs.Plain.{plain_expr, plain_exprs, plain_item, plain_join};
 ghost use Rattle.fab_syntax.specs.Sound.{subexpressions, parts_subexpressions, item_expressions, joined};
-ghost use Rattle.fab_sound.specs.Checks.{plain_all, waiting_parts, inner_parts};
+ghost use Rattle.fab_sound.specs.inner.Checks.{plain_all, waiting_parts, inner_parts};
 
 use fab_base::Memory;
 use fab_syntax::{Expr, Item, Join};

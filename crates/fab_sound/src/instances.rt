@@ -5,8 +5,8 @@ ghost use Rattle.std.specs.List.{list_all};
 ghost use Rattle.fab_syntax.specs.Plain.{plain_option, plain_join, plain_item};
 ghost use Rattle.fab_syntax.specs.Declarations.{module_named};
 ghost use Rattle.fab_syntax.specs.Sound.{InstancesFit};
-ghost use Rattle.fab_sound.specs.Checks.{found, found_width, count_at, known_module, library_text, HasNets, IsLibrary};
-ghost use Rattle.fab_sound.specs.Rules.{fits_port, fits_declared, join_passes, joins_pass, is_joined_once, instance_passes};
+ghost use Rattle.fab_sound.specs.inner.Checks.{found, found_width, count_at, known_module, library_text, HasNets, IsLibrary};
+ghost use Rattle.fab_sound.specs.inner.Rules.{fits_port, fits_declared, join_passes, joins_pass, is_joined_once, instance_passes};
 
 use crate::sizes::has_width;
 use crate::tables::{Declared, Known, Library, bits_of, count_of, count_up, declaration, width_of};

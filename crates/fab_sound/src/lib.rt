@@ -6,7 +6,7 @@ ghost use Rattle.std.specs.Prelude.{◌≡◌, Some, None, IfOk};
 ghost use Rattle.fab_base.specs.declared.words.Reason.{Reason};
 ghost use Rattle.fab_syntax.specs.Plain.{plain_text};
 ghost use Rattle.fab_syntax.specs.Sound.{NamesFit, IsSound, IsFirstBroken};
-ghost use Rattle.fab_sound.specs.Checks.{library_text, IsLibrary};
+ghost use Rattle.fab_sound.specs.inner.Checks.{library_text, IsLibrary};
 ghost use Rattle.fab_sound.specs.Narrow.{AreNarrow};
 
 mod clocks;

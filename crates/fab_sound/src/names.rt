@@ -5,7 +5,7 @@ ghost use Rattle.std.specs.List.{flat_map, list_all};
 ghost use Rattle.fab_base.specs.declared.words.Reason.TheVariants.{NameTwice, UnknownName};
 ghost use Rattle.fab_syntax.specs.Plain.{plain_expr, plain_item, plain_module};
 ghost use Rattle.fab_syntax.specs.Sound.{Mention, net, own_names, item_expressions, item_mentions, mentions_in, refusals, text_refusals};
-ghost use Rattle.fab_sound.specs.Checks.{has_net, expression_names, item_targets, item_declares, IsNew, Takes, Notes, Advances, StartsWith, TakesNets, HasNets, library_text, IsLibrary};
+ghost use Rattle.fab_sound.specs.inner.Checks.{has_net, expression_names, item_targets, item_declares, IsNew, Takes, Notes, Advances, StartsWith, TakesNets, HasNets, library_text, IsLibrary};
 
 use crate::expressions::{expressions, subexpressions};
 use crate::tables::{Declared, Known, Library, declare, enter, port_declaration, shape_of};

@@ -6,7 +6,7 @@ ghost use Rattle.std.specs.List.{list_all, sum};
 ghost use Rattle.fab_syntax.specs.Plain.{plain_expr, plain_item};
 ghost use Rattle.fab_syntax.specs.Sound.{expression_width, item_expressions, SelectsFit, WidthsFit};
 ghost use Rattle.fab_sound.specs.Narrow.{AreNarrow};
-ghost use Rattle.fab_sound.specs.Checks.{found, shape_declared, found_width, operands, result_width, width_over, vector_width, picks_each, holds_part, select_passes, operands_pass, all_selects_pass, all_operands_pass, sides_pass, expression_passes, own_sides_pass, item_passes, module_passes, narrow_over, all_narrow, item_narrow, module_narrow, library_text, IsLibrary};
+ghost use Rattle.fab_sound.specs.inner.Checks.{found, shape_declared, found_width, operands, result_width, width_over, vector_width, picks_each, holds_part, select_passes, operands_pass, all_selects_pass, all_operands_pass, sides_pass, expression_passes, own_sides_pass, item_passes, module_passes, narrow_over, all_narrow, item_narrow, module_narrow, library_text, IsLibrary};
 
 use crate::expressions::{expressions, subexpressions};
 use crate::tables::{Declared, Known, Library, shape_of, width_of};

@@ -2,7 +2,7 @@
 
 ghost use Rattle.std.specs.Prelude.{◌≡◌, ◌+◌, ℕ, List, true, not, is_some, IfOk, OnOk};
 ghost use Rattle.fab_syntax.specs.Declarations.{width, width_if_any, one_if_same};
-ghost use Rattle.fab_sound.specs.Checks.{found, Gives, count_at, shape_declared, is_scalar_entry, port_declares};
+ghost use Rattle.fab_sound.specs.inner.Checks.{found, Gives, count_at, shape_declared, is_scalar_entry, port_declares};
 
 use fab_base::{Memory, Name};
 use fab_syntax::{Module, Port, Shape};

@@ -25,12 +25,13 @@ use Rattle.fab_legal.proofs.Lists.{at_default, at_from_mapped}
 use Rattle.fab_legal.proofs.Once.{before_in, known_thing}
 use Rattle.fab_legal.proofs.PortNumbers.{own_number}
 use Rattle.fab_ways.proofs.Bounded.{step_from_within, step_within}
-use Rattle.fab_impl.specs.Lines.{Cell}
-use Rattle.fab_impl.specs.Names.{most_cell}
-use Rattle.fab_impl.specs.Spelled.{HasSpelling, IsNameable, IsNamed, cell_line, edge_line, ending, implementation_lines, inner_lines, net_line, pad_line, tree_lines}
-use Rattle.fab_texts.specs.Places.{site_text}
+use Rattle.fab_designs.specs.fab_impl.specs.Lines.{Cell}
+use Rattle.fab_designs.specs.fab_impl.specs.Names.{most_cell}
+use Rattle.fab_designs.specs.fab_impl.specs.Spelled.{HasSpelling, IsNameable, IsNamed, cell_line, edge_line, implementation_lines, inner_lines, net_line, pad_line, tree_lines}
+use Rattle.fab_fabric.specs.Names.{site_text}
 use Rattle.fab_texts.specs.Printed.{is_last_word, is_row}
 use Rattle.fab_texts.specs.Rows.{Word}
+use Rattle.fab_texts.specs.Sections.{ending}
 use Rattle.fab_texts.proofs.SiteWords.{site_last_word}
 use Rattle.fab_blif.proofs.Each.{each_flat, each_joined, each_mapped}
 use Rattle.fab_spelled_designs.proofs.Apart.{Differ, each_from_members, each_tested}

@@ -18,7 +18,7 @@ use Rattle.fab_model.specs.Rows.{IsWireRow}
 use Rattle.fab_model.specs.Tables.{HasTable}
 use Rattle.fab_model.specs.Tiles.{IsPair, IsTile, PlainTile, TileWire, is_matrix_output, matrix_names, tile_bits, wire_passes, with_table}
 use Rattle.fab_tables.specs.Config.{SpellsTable, entries_of, rows_behind}
-use Rattle.fab_tables.specs.FollowingConfig.{table_of}
+use Rattle.fab_tables.specs.inner.FollowingConfig.{table_of}
 use Rattle.fab_tables.specs.Lists.{Pair}
 use Rattle.fab_tables.specs.Matrix.{input_number, output_number, passing}
 use Rattle.fab_tables.proofs.Tabled.{spelled_table, table_of_rows}
@@ -27,8 +27,8 @@ use Rattle.fab_blocks.specs.Blocks.{IsBlock, PlainBlock, bare, names, new_block,
 use Rattle.fab_blocks.specs.Rows.{WireCells, bel_problem_of, row_of, wire_problem, with_bel_of}
 use Rattle.fab_blocks.proofs.Bridge.{is_tile}
 use Rattle.fab_blocks.proofs.Fine.{block_with_bel, block_with_row, known_kind}
-use Rattle.fab_read.specs.Tiles.{End, ReadsMatrix, ReadsTable, ReadsTile, block_problem, by_default, by_table, most_names, no_matrix, number_pair, numbered, of_list, of_table, pair_of, paired}
-use Rattle.fab_read.proofs.Places.{default_table}
+use Rattle.fab_fabric_names.specs.fab_read.specs.Tiles.{End, ReadsMatrix, ReadsTable, ReadsTile, block_problem, by_default, by_table, most_names, no_matrix, number_pair, numbered, of_list, of_table, pair_of, paired}
+use Rattle.fab_fabric_names.specs.fab_read.proofs.Places.{default_table}
 use Rattle.fab_fabric_names.proofs.Keeping.{Keeps}
 use Rattle.fab_fabric_names.proofs.Sizes.{HasName, sizes_kept}
 

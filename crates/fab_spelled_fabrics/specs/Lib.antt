@@ -1,1 +1,2 @@
 pub mod Laws
+pub use Rattle.fab_fabric_names

@@ -6,7 +6,7 @@ use Rattle.std.proofs.lemmas.List.Sums.{fold-append}
 use Rattle.std.proofs.lemmas.Grind.{flat_map-append}
 use Rattle.fab_base.specs.declared.words.Reason.TheVariants as reasons
 use Rattle.fab_fabric.specs.declared.wire.Site.{Site}
-use Rattle.fab_model.specs.Grid.{PlainFabric}
+use Rattle.fab_implementation.specs.fab_model.specs.Grid.{PlainFabric}
 use Rattle.fab_implementation.specs.Plain.{Pad}
 use Rattle.fab_texts.specs.Rows.{Word, word_at}
 use Rattle.fab_texts.specs.Keys.{is_among}

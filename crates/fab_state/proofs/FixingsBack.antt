@@ -10,7 +10,7 @@ use Rattle.fab_base.specs.declared.problem.Problem.{Problem}
 use Rattle.fab_base.specs.declared.words.Reason.TheVariants as reasons
 use Rattle.fab_kinds.specs.declared.kind.Kind.{Kind as BelKind}
 use Rattle.fab_kinds.specs.declared.kind.Kind.TheVariants as kinds
-use Rattle.fab_model.specs.Grid.{PlainFabric}
+use Rattle.fab_implementation.specs.fab_model.specs.Grid.{PlainFabric}
 use Rattle.fab_fabric.specs.declared.wire.Site.{Site}
 use Rattle.fab_netlist.proofs.Members.{any_by, any_gives}
 use Rattle.fab_implementation.specs.Plain.{Pad}
@@ -18,7 +18,8 @@ use Rattle.fab_implementation.specs.OnFabric.{kind_at}
 use Rattle.fab_lines.specs.Order.{IsFine, IsWhole}
 use Rattle.fab_texts.specs.Rows.{Word, PlainRow, word_at, words_of}
 use Rattle.fab_texts.specs.Keys.{is_among}
-use Rattle.fab_texts.specs.Places.{site_text, site_of, IsWritable}
+use Rattle.fab_fabric.specs.Names.{site_text}
+use Rattle.fab_texts.specs.Places.{site_of, IsWritable}
 use Rattle.fab_texts.specs.Formats.{refused}
 use Rattle.fab_texts.proofs.SiteLaws.{site_again, site_takes}
 use Rattle.fab_texts.proofs.Formats.{taken, taken_none, taken_one, taken_fine, each_line}

@@ -12,25 +12,30 @@ use Rattle.fab_texts.specs.Rows.{Word, word_at}
 use Rattle.fab_texts.specs.Keys.{is_among}
 use Rattle.fab_texts.specs.Places.{site_of}
 use Rattle.fab_texts.specs.Formats.{refused}
+use Rattle.fab_texts.specs.declared.sections.Part.{Part}
 use Rattle.fab_texts.proofs.Formats.{Keeps}
+use Rattle.fab_texts.proofs.InSections.{IsPlaced, placed, versioned}
 use Rattle.fab_implementation.specs.Plain.{Pad}
 use Rattle.fab_state.specs.declared.kind.Kind.{Kind}
 use Rattle.fab_state.specs.declared.kind.Kind.TheVariants as kinds
 use Rattle.fab_state.specs.Plain.{Register}
-use Rattle.fab_state.specs.Kinds.{kind_of, may_follow, has_ended}
+use Rattle.fab_state.specs.Kinds.{kind_of, part_of}
 use Rattle.fab_state.specs.Lines.{Known, Pads, Registers, ports_by, in_sites_by, out_sites_by, ff_sites_by, ins_by, outs_by, ffs_by, digit_of, pads_at, registers_at, said, known, with_pad, pad_at, with_register, register_at, set_ins, set_outs, set_ffs, take_kind, take}
 
 said_push : {X : Type 0} (by : Kind → List Word → List X) (lines : List (List Word)) (line : List Word) → said by (lines ++ line ∷ []) ≡ said by lines ++ by (kind_of line) line
 said_push {X} by lines line = flat_map-append (λ l. by (kind_of l) l) lines (line ∷ []) ∙ ap (λ (more : List X). said by lines ++ more) (append-nil (by (kind_of line) line))
 
-last_push : (first : Option Kind) (of : List Kind) (kind : Kind) → last_or first (of ++ kind ∷ []) ≡ Some kind
-last_push first [] kind = refl
-last_push first (other ∷ of) kind = last_push (Some other) of kind
+last_push : (first : Option Part) (of : List Part) (part : Part) → last_or first (of ++ part ∷ []) ≡ Some part
+last_push first [] part = refl
+last_push first (other ∷ of) part = last_push (Some other) of part
+
+abbrev part_at : List Word → Part
+part_at line = part_of (kind_of line)
 
 -- what is known with a line more of this kind
 abbrev with_line : Known → Kind → List Word → Known
 with_line old kind line = record {
-  last = Some kind;
+  last = Some (part_of kind);
   ports = old.ports ++ ports_by kind line;
   in_sites = old.in_sites ++ in_sites_by kind line;
   out_sites = old.out_sites ++ out_sites_by kind line;
@@ -46,7 +51,7 @@ known_same a b last ports in_sites out_sites ff_sites ins outs ffs =
 
 known_push : (lines : List (List Word)) (line : List Word) → known (lines ++ line ∷ []) ≡ with_line (known lines) (kind_of line) line
 known_push lines line = known_same (known (lines ++ line ∷ [])) (with_line (known lines) (kind_of line) line)
-    (ap (last_or None) (map_push kind_of lines line) ∙ last_push None (map kind_of lines) (kind_of line))
+    (ap (last_or None) (map_push part_at lines line) ∙ last_push None (map part_at lines) (part_at line))
     (said_push ports_by lines line) (said_push in_sites_by lines line) (said_push out_sites_by lines line) (said_push ff_sites_by lines line)
     (said_push ins_by lines line) (said_push outs_by lines line) (said_push ffs_by lines line)
 
@@ -99,60 +104,49 @@ register_by old word digit false new sites so = register_with old word digit (di
 pub register_taken : (old : Registers) (word digit : Word) (new : Registers) → with_register old word digit ≡ Ok new → TakesRegister old word digit new
 register_taken old word digit new so = register_by old word digit (is_among old.sites word) new refl so
 
-pub ins_set : (old next : Known) (answer : Result Pads Problem) → set_ins old answer ≡ Ok next → (new : Pads) × (answer ≡ Ok new) × (record old { last = Some kinds.In; ports = new.ports; in_sites = new.sites; ins = new.pads } ≡ next)
+pub ins_set : (old next : Known) (answer : Result Pads Problem) → set_ins old answer ≡ Ok next → (new : Pads) × (answer ≡ Ok new) × (record old { ports = new.ports; in_sites = new.sites; ins = new.pads } ≡ next)
 ins_set old next (Ok new) so = (new, refl, cc)
 ins_set old next (Err problem) so = absurd cc
 
-pub outs_set : (old next : Known) (answer : Result Pads Problem) → set_outs old answer ≡ Ok next → (new : Pads) × (answer ≡ Ok new) × (record old { last = Some kinds.Out; ports = new.ports; out_sites = new.sites; outs = new.pads } ≡ next)
+pub outs_set : (old next : Known) (answer : Result Pads Problem) → set_outs old answer ≡ Ok next → (new : Pads) × (answer ≡ Ok new) × (record old { ports = new.ports; out_sites = new.sites; outs = new.pads } ≡ next)
 outs_set old next (Ok new) so = (new, refl, cc)
 outs_set old next (Err problem) so = absurd cc
 
-pub ffs_set : (old next : Known) (answer : Result Registers Problem) → set_ffs old answer ≡ Ok next → (new : Registers) × (answer ≡ Ok new) × (record old { last = Some kinds.Ff; ff_sites = new.sites; ffs = new.ffs } ≡ next)
+pub ffs_set : (old next : Known) (answer : Result Registers Problem) → set_ffs old answer ≡ Ok next → (new : Registers) × (answer ≡ Ok new) × (record old { ff_sites = new.sites; ffs = new.ffs } ≡ next)
 ffs_set old next (Ok new) so = (new, refl, cc)
 ffs_set old next (Err problem) so = absurd cc
 
-pub header_set : (old next : Known) (a : Bool) (version : Word) → bytes_eq version (codes "1") ≡ a → cond a (Ok (record old { last = Some kinds.Header })) (refused reasons.Number) ≡ Ok next → (a ≡ true) × (record old { last = Some kinds.Header } ≡ next)
-header_set old next true version is so = (refl, cc)
-header_set old next false version is so = absurd cc
-
 -- a line that says nothing but where it stands
-plain_line : (old : Known) (kind : Kind) → record old { last = Some kind } ≡ record { last = Some kind; ports = old.ports ++ []; in_sites = old.in_sites ++ []; out_sites = old.out_sites ++ []; ff_sites = old.ff_sites ++ []; ins = old.ins ++ []; outs = old.outs ++ []; ffs = old.ffs ++ [] }
-plain_line old kind = known_same _ _ refl (sym (append-nil old.ports)) (sym (append-nil old.in_sites)) (sym (append-nil old.out_sites)) (sym (append-nil old.ff_sites)) (sym (append-nil old.ins)) (sym (append-nil old.outs)) (sym (append-nil old.ffs))
+plain_line : (old : Known) → old ≡ record { last = old.last; ports = old.ports ++ []; in_sites = old.in_sites ++ []; out_sites = old.out_sites ++ []; ff_sites = old.ff_sites ++ []; ins = old.ins ++ []; outs = old.outs ++ []; ffs = old.ffs ++ [] }
+plain_line old = known_same _ _ refl (sym (append-nil old.ports)) (sym (append-nil old.in_sites)) (sym (append-nil old.out_sites)) (sym (append-nil old.ff_sites)) (sym (append-nil old.ins)) (sym (append-nil old.outs)) (sym (append-nil old.ffs))
 
-kind_taken : (old next : Known) (kind : Kind) (line : List Word) → take_kind old kind line ≡ Ok next → next ≡ with_line old kind line
-kind_taken old next kinds.Header line so = sym (header_set old next (bytes_eq (word_at line 1) (codes "1")) (word_at line 1) refl so).1 ∙ plain_line old kinds.Header
+-- what is known where a line of a kind has its place
+abbrev pub at_kind : Known → Kind → Known
+at_kind old kind = record old { last = Some (part_of kind) }
+
+kind_taken : (old next : Known) (kind : Kind) (line : List Word) → take_kind (at_kind old kind) kind line ≡ Ok next → next ≡ with_line old kind line
+kind_taken old next kinds.Header line so = sym (versioned (word_at line 1) (at_kind old kinds.Header) next so).1 ∙ plain_line (at_kind old kinds.Header)
 kind_taken old next kinds.In line so =
-    let set = ins_set old next (with_pad (record { ports = old.ports; sites = old.in_sites; pads = old.ins }) (word_at line 1) (word_at line 2)) so in
+    let set = ins_set (at_kind old kinds.In) next (with_pad (record { ports = old.ports; sites = old.in_sites; pads = old.ins }) (word_at line 1) (word_at line 2)) so in
     let pad = pad_taken (record { ports = old.ports; sites = old.in_sites; pads = old.ins }) (word_at line 1) (word_at line 2) set.0 set.1 in
-    sym set.2 ∙ ap (λ (new : Pads). record old { last = Some kinds.In; ports = new.ports; in_sites = new.sites; ins = new.pads }) (sym pad.value)
+    sym set.2 ∙ ap (λ (new : Pads). record (at_kind old kinds.In) { ports = new.ports; in_sites = new.sites; ins = new.pads }) (sym pad.value)
     ∙ known_same _ _ refl refl refl (sym (append-nil old.out_sites)) (sym (append-nil old.ff_sites)) (ap (λ (more : List Pad). old.ins ++ more) (sym (ap (pads_at (word_at line 1)) pad.reads))) (sym (append-nil old.outs)) (sym (append-nil old.ffs))
 kind_taken old next kinds.Out line so =
-    let set = outs_set old next (with_pad (record { ports = old.ports; sites = old.out_sites; pads = old.outs }) (word_at line 1) (word_at line 2)) so in
+    let set = outs_set (at_kind old kinds.Out) next (with_pad (record { ports = old.ports; sites = old.out_sites; pads = old.outs }) (word_at line 1) (word_at line 2)) so in
     let pad = pad_taken (record { ports = old.ports; sites = old.out_sites; pads = old.outs }) (word_at line 1) (word_at line 2) set.0 set.1 in
-    sym set.2 ∙ ap (λ (new : Pads). record old { last = Some kinds.Out; ports = new.ports; out_sites = new.sites; outs = new.pads }) (sym pad.value)
+    sym set.2 ∙ ap (λ (new : Pads). record (at_kind old kinds.Out) { ports = new.ports; out_sites = new.sites; outs = new.pads }) (sym pad.value)
     ∙ known_same _ _ refl refl (sym (append-nil old.in_sites)) refl (sym (append-nil old.ff_sites)) (sym (append-nil old.ins)) (ap (λ (more : List Pad). old.outs ++ more) (sym (ap (pads_at (word_at line 1)) pad.reads))) (sym (append-nil old.ffs))
 kind_taken old next kinds.Ff line so =
-    let set = ffs_set old next (with_register (record { sites = old.ff_sites; ffs = old.ffs }) (word_at line 1) (word_at line 2)) so in
+    let set = ffs_set (at_kind old kinds.Ff) next (with_register (record { sites = old.ff_sites; ffs = old.ffs }) (word_at line 1) (word_at line 2)) so in
     let reg = register_taken (record { sites = old.ff_sites; ffs = old.ffs }) (word_at line 1) (word_at line 2) set.0 set.1 in
-    sym set.2 ∙ ap (λ (new : Registers). record old { last = Some kinds.Ff; ff_sites = new.sites; ffs = new.ffs }) (sym reg.value)
+    sym set.2 ∙ ap (λ (new : Registers). record (at_kind old kinds.Ff) { ff_sites = new.sites; ffs = new.ffs }) (sym reg.value)
     ∙ known_same _ _ refl (sym (append-nil old.ports)) (sym (append-nil old.in_sites)) (sym (append-nil old.out_sites)) refl (sym (append-nil old.ins)) (sym (append-nil old.outs)) (ap (λ (more : List Register). old.ffs ++ more) (sym (ap (λ (bit : Option Bool). registers_at bit (site_of (word_at line 1))) reg.reads_digit ∙ ap (registers_at (Some reg.bit)) reg.reads)))
-kind_taken old next kinds.End line so = let same : record old { last = Some kinds.End } ≡ next = cc in sym same ∙ plain_line old kinds.End
+kind_taken old next kinds.End line so = let same : at_kind old kinds.End ≡ next = cc in sym same ∙ plain_line (at_kind old kinds.End)
 kind_taken old next kinds.Other line so = absurd cc
 
--- where a line is taken, it may stand there
-pub record Stands (old next : Known) (line : List Word) : Type 0 where
-  pub opened : has_ended old.last ≡ false
-  pub follows : may_follow old.last (kind_of line) ≡ true
-  pub taken : take_kind old (kind_of line) line ≡ Ok next
-
-stands_by : (old next : Known) (line : List Word) (a b : Bool) → has_ended old.last ≡ a → may_follow old.last (kind_of line) ≡ b
-    → cond a (refused reasons.AfterEnd) (cond (not b) (refused reasons.Row) (take_kind old (kind_of line) line)) ≡ Ok next → Stands old next line
-stands_by old next line true b is follows so = absurd cc
-stands_by old next line false false is follows so = absurd cc
-stands_by old next line false true is follows so = record { opened = is; follows = follows; taken = so }
-
-pub line_stands : (old next : Known) (line : List Word) → take old line ≡ Ok next → Stands old next line
-line_stands old next line so = stands_by old next line (has_ended old.last) (may_follow old.last (kind_of line)) refl refl so
+-- where a line is taken, it has its place
+pub line_placed : (old next : Known) (line : List Word) → take old line ≡ Ok next → IsPlaced old.last (part_at line) (take_kind (at_kind old (kind_of line)) (kind_of line) line) next
+line_placed old next line so = placed old.last (part_at line) (take_kind (at_kind old (kind_of line)) (kind_of line) line) next so
 
 pub keeps : Keeps known take
-keeps = record { more = λ front line next so. kind_taken (known front) next (kind_of line) line (line_stands (known front) next line so).taken ∙ sym (known_push front line) }
+keeps = record { more = λ front line next so. kind_taken (known front) next (kind_of line) line (line_placed (known front) next line so).takes ∙ sym (known_push front line) }

@@ -1,6 +1,6 @@
 -- Lines by their kinds.
 use Rattle.std.proofs.Common.{◌≡◌, Bool, true, false, cond, List, [], ◌∷◌, length, Some, None, refl, ap, ◌∙◌, arith, codes}
-use Rattle.std.specs.Prelude.{◌==◌}
+use Rattle.std.specs.Prelude.{◌==◌, ◌&&◌}
 use Rattle.std.specs.Str.{bytes_eq}
 use Rattle.std.proofs.lemmas.Bool.{eqb-true}
 use Rattle.std.proofs.lemmas.Slice.Eq.{bytes_eq-Decides}
@@ -37,7 +37,7 @@ abbrev of_three : (a b c : Bool) → Kind
 of_three a b c = cond a kinds.In (cond b kinds.Out (cond c kinds.Ff kinds.Other))
 
 abbrev of_length : (three two one a b c d e : Bool) → Kind
-of_length three two one a b c d e = cond three (of_three a b c) (cond two (cond d kinds.Header kinds.Other) (cond one (cond e kinds.End kinds.Other) kinds.Other))
+of_length three two one a b c d e = cond three (of_three a b c) (cond two (cond d kinds.Header kinds.Other) (cond (one && e) kinds.End kinds.Other))
 
 in_by : (three two one a b c d e : Bool) → of_length three two one a b c d e ≡ kinds.In → (three ≡ true) × (a ≡ true)
 in_by true two one true b c d e is = (refl, refl)

@@ -2,12 +2,14 @@
 use Rattle.std.proofs.Common.{◌≡◌, ℕ, Bool, true, false, List, [], ◌∷◌, ◌++◌, map, refl, codes}
 use Rattle.std.specs.List.{list_all, AllByRecursion}
 use Rattle.fab_texts.specs.Printed.{is_word, ends_line, is_last_word, is_row}
-use Rattle.fab_texts.specs.Places.{site_text, IsWritable}
+use Rattle.fab_fabric.specs.Names.{site_text}
+use Rattle.fab_texts.specs.Places.{IsWritable}
+use Rattle.fab_texts.specs.Sections.{ending}
 use Rattle.fab_texts.proofs.PrintedRows.{both_true, all_append, are_rows}
 use Rattle.fab_texts.proofs.SiteWords.{site_last_word}
 use Rattle.fab_implementation.specs.Plain.{Pad}
 use Rattle.fab_state.specs.Plain.{Register, PlainState}
-use Rattle.fab_state.specs.Spelled.{pad_line, digit, ff_line, ending, state_lines, HasSpelling}
+use Rattle.fab_state.specs.Spelled.{pad_line, digit, ff_line, state_lines, HasSpelling}
 
 pads_rows : (first : List ℕ) → is_word first ≡ true → (pads : List Pad) → AllByRecursion (λ pad. IsWritable pad.1) pads → list_all is_word (map (λ pad. pad.0) pads) ≡ true → are_rows (map (pad_line first) pads) ≡ true
 pads_rows first is [] sites words = refl

@@ -11,16 +11,21 @@ use Rattle.fab_implementation.specs.Plain.{Pad}
 use Rattle.fab_lines.specs.Order.{IsFine, IsWhole}
 use Rattle.fab_texts.specs.Rows.{Word, PlainRow, word_at, words_of}
 use Rattle.fab_texts.specs.Keys.{is_among}
-use Rattle.fab_texts.specs.Places.{site_text, IsWritable}
+use Rattle.fab_fabric.specs.Names.{site_text}
+use Rattle.fab_texts.specs.Places.{IsWritable}
 use Rattle.fab_texts.proofs.SiteLaws.{site_takes}
+use Rattle.fab_texts.specs.declared.sections.Part.{Part}
+use Rattle.fab_texts.specs.declared.sections.Part.TheVariants as parts
+use Rattle.fab_texts.specs.Sections.{ending, has_ended, may_follow, cut_short}
 use Rattle.fab_texts.proofs.Formats.{each_line}
+use Rattle.fab_texts.proofs.InSections.{IsOpen, NotBegun, not_begun, none_begun, none_so_far, some_so_far, so_far, versioned, whole_so_far}
 use Rattle.fab_state.specs.declared.kind.Kind.{Kind}
 use Rattle.fab_state.specs.declared.kind.Kind.TheVariants as kinds
 use Rattle.fab_state.specs.Plain.{Register, PlainState}
-use Rattle.fab_state.specs.Kinds.{kind_of, may_follow, has_ended}
+use Rattle.fab_state.specs.Kinds.{kind_of, part_of}
 use Rattle.fab_state.specs.Lines.{Known, Pads, Registers, known, take, take_kind, with_pad, with_register}
-use Rattle.fab_state.specs.Spelled.{header, pad_line, ff_line, ending, inner_lines, state_lines, ports, sites, AreApart, HasLetters, IsFresh, Spells, state_of, state_format, cut_short}
-use Rattle.fab_state.proofs.Follows.{keeps, line_stands, pad_taken, register_taken, ins_set, outs_set, ffs_set, header_set}
+use Rattle.fab_state.specs.Spelled.{header, pad_line, ff_line, inner_lines, ports, sites, AreApart, HasLetters, IsFresh, Spells, state_of, state_format}
+use Rattle.fab_state.proofs.Follows.{at_kind, keeps, line_placed, pad_taken, register_taken, ins_set, outs_set, ffs_set}
 use Rattle.fab_state.proofs.LineForms.{equal_words, in_line, out_line, ff_line_is, header_line, end_line, digit_read}
 
 -- ---- words and sites that stand once
@@ -61,31 +66,22 @@ all_push P (x ∷ xs) y all is = (all.0, all_push P xs y all.1 is)
 
 -- ---- the lines so far
 
-abbrev so_far : Option Kind → PlainState → List (List Word)
-so_far None state = []
-so_far (Some kinds.Header) state = header ∷ inner_lines state
-so_far (Some kinds.In) state = header ∷ inner_lines state
-so_far (Some kinds.Out) state = header ∷ inner_lines state
-so_far (Some kinds.Ff) state = header ∷ inner_lines state
-so_far (Some kinds.End) state = state_lines state
-so_far (Some kinds.Other) state = header ∷ inner_lines state
+-- all but the end
+abbrev pub so_many : PlainState → List (List Word)
+so_many state = header ∷ inner_lines state
 
--- what later sections hold
-abbrev Later : Option Kind → List Pad → List Pad → List Register → Type 0
-Later None ins outs ffs = (ins ≡ []) × (outs ≡ []) × (ffs ≡ [])
-Later (Some kinds.Header) ins outs ffs = (outs ≡ []) × (ffs ≡ [])
-Later (Some kinds.In) ins outs ffs = (outs ≡ []) × (ffs ≡ [])
-Later (Some kinds.Out) ins outs ffs = ffs ≡ []
-Later (Some kinds.Ff) ins outs ffs = Unit {0}
-Later (Some kinds.End) ins outs ffs = Unit {0}
-Later (Some kinds.Other) ins outs ffs = (outs ≡ []) × (ffs ≡ [])
+-- what sections hold that have not begun
+pub record Later (last : Option Part) (state : PlainState) : Type 0 where
+  pub ins : NotBegun last 1 → state.ins ≡ []
+  pub outs : NotBegun last 2 → state.outs ≡ []
+  pub ffs : NotBegun last 3 → state.ffs ≡ []
 
 abbrev site_words : List Pad → List Word
 site_words pads = map (λ pad. site_text pad.1) pads
 
 pub record Holds (old : Known) (done : List (List Word)) : Type 0 where
-  pub lines : done ≡ so_far old.last (state_of old)
-  pub later : Later old.last old.ins old.outs old.ffs
+  pub lines : done ≡ so_far old.last (so_many (state_of old))
+  pub later : Later old.last (state_of old)
   pub port_words : old.ports ≡ ports (state_of old)
   pub in_words : old.in_sites ≡ site_words old.ins
   pub out_words : old.out_sites ≡ site_words old.outs
@@ -98,50 +94,9 @@ pub record Holds (old : Known) (done : List (List Word)) : Type 0 where
   pub outs_fit : AllByRecursion (λ pad. IsWritable pad.1) old.outs
   pub ffs_fit : AllByRecursion (λ register. IsWritable register.0) old.ffs
 
-before_in : (last : Option Kind) (state : PlainState) → may_follow last kinds.In ≡ true → Later last state.ins state.outs state.ffs → (state.outs ≡ []) × (state.ffs ≡ []) × (so_far last state ≡ header ∷ inner_lines state)
-before_in None state follows later = absurd cc
-before_in (Some kinds.Header) state follows later = (later.0, later.1, refl)
-before_in (Some kinds.In) state follows later = (later.0, later.1, refl)
-before_in (Some kinds.Out) state follows later = absurd cc
-before_in (Some kinds.Ff) state follows later = absurd cc
-before_in (Some kinds.End) state follows later = absurd cc
-before_in (Some kinds.Other) state follows later = (later.0, later.1, refl)
-
-before_out : (last : Option Kind) (state : PlainState) → may_follow last kinds.Out ≡ true → Later last state.ins state.outs state.ffs → (state.ffs ≡ []) × (so_far last state ≡ header ∷ inner_lines state)
-before_out None state follows later = absurd cc
-before_out (Some kinds.Header) state follows later = (later.1, refl)
-before_out (Some kinds.In) state follows later = (later.1, refl)
-before_out (Some kinds.Out) state follows later = (later, refl)
-before_out (Some kinds.Ff) state follows later = absurd cc
-before_out (Some kinds.End) state follows later = absurd cc
-before_out (Some kinds.Other) state follows later = (later.1, refl)
-
-before_ff : (last : Option Kind) (state : PlainState) → may_follow last kinds.Ff ≡ true → so_far last state ≡ header ∷ inner_lines state
-before_ff None state follows = absurd cc
-before_ff (Some kinds.Header) state follows = refl
-before_ff (Some kinds.In) state follows = refl
-before_ff (Some kinds.Out) state follows = refl
-before_ff (Some kinds.Ff) state follows = refl
-before_ff (Some kinds.End) state follows = absurd cc
-before_ff (Some kinds.Other) state follows = refl
-
-before_end : (last : Option Kind) (state : PlainState) → has_ended last ≡ false → may_follow last kinds.End ≡ true → so_far last state ≡ header ∷ inner_lines state
-before_end None state opened follows = absurd cc
-before_end (Some kinds.Header) state opened follows = refl
-before_end (Some kinds.In) state opened follows = refl
-before_end (Some kinds.Out) state opened follows = refl
-before_end (Some kinds.Ff) state opened follows = refl
-before_end (Some kinds.End) state opened follows = absurd cc
-before_end (Some kinds.Other) state opened follows = refl
-
-before_header : (last : Option Kind) (state : PlainState) → may_follow last kinds.Header ≡ true → Later last state.ins state.outs state.ffs → (state.ins ≡ []) × (state.outs ≡ []) × (state.ffs ≡ []) × (so_far last state ≡ [])
-before_header None state follows later = (later.0, later.1, later.2, refl)
-before_header (Some kinds.Header) state follows later = absurd cc
-before_header (Some kinds.In) state follows later = absurd cc
-before_header (Some kinds.Out) state follows later = absurd cc
-before_header (Some kinds.Ff) state follows later = absurd cc
-before_header (Some kinds.End) state follows later = absurd cc
-before_header (Some kinds.Other) state follows later = absurd cc
+-- the lines before one of this section
+lines_before : (old : Known) (done : List (List Word)) (section : ℕ) → Holds old done → IsOpen old.last section → done ≡ so_many (state_of old)
+lines_before old done section holds may = holds.lines ∙ some_so_far old.last (parts.Section section) (so_many (state_of old)) may.opened may.follows refl
 
 -- ---- one line more
 
@@ -170,22 +125,23 @@ ff_more ins outs ffs ff =
     append_assoc (in_lines ins ++ out_lines outs) (map ff_line ffs) (ff_line ff ∷ []) ∙ ap (λ (l : List (List Word)). (in_lines ins ++ out_lines outs) ++ l) (sym (map_push ff_line ffs ff))
 
 module _ (old : Known) (done : List (List Word)) (holds : Holds old done) where
-  in_step : (port word : Word) (new : Pads) → may_follow old.last kinds.In ≡ true → with_pad (record { ports = old.ports; sites = old.in_sites; pads = old.ins }) port word ≡ Ok new
-      → Holds (record old { last = Some kinds.In; ports = new.ports; in_sites = new.sites; ins = new.pads }) (done ++ (codes "in" ∷ port ∷ word ∷ []) ∷ [])
-  in_step port word new follows so =
-      let shape = before_in old.last (state_of old) follows holds.later in
+  in_step : (port word : Word) (new : Pads) → IsOpen old.last 1 → with_pad (record { ports = old.ports; sites = old.in_sites; pads = old.ins }) port word ≡ Ok new
+      → Holds (record old { last = Some (parts.Section 1); ports = new.ports; in_sites = new.sites; ins = new.pads }) (done ++ (codes "in" ∷ port ∷ word ∷ []) ∷ [])
+  in_step port word new may so =
+      let no_outs = holds.later.outs (not_begun old.last 1 2 may (omega arith)) in
+      let no_ffs = holds.later.ffs (not_begun old.last 1 3 may (omega arith)) in
       let pad = pad_taken (record { ports = old.ports; sites = old.in_sites; pads = old.ins }) port word new so in
       let text = site_takes word pad.site pad.reads in
       let item : Pad = (port, pad.site) in
       let line : codes "in" ∷ port ∷ word ∷ [] ≡ pad_line (codes "in") item = ap (λ (w : Word). codes "in" ∷ port ∷ w ∷ []) text.0 in
-      let step : Holds (record old { last = Some kinds.In; ports = old.ports ++ port ∷ []; in_sites = old.in_sites ++ word ∷ []; ins = old.ins ++ item ∷ [] }) (done ++ (codes "in" ∷ port ∷ word ∷ []) ∷ []) =
+      let step : Holds (record old { last = Some (parts.Section 1); ports = old.ports ++ port ∷ []; in_sites = old.in_sites ++ word ∷ []; ins = old.ins ++ item ∷ [] }) (done ++ (codes "in" ∷ port ∷ word ∷ []) ∷ []) =
       record {
-        lines = ap (λ (l : List (List Word)). l ++ (codes "in" ∷ port ∷ word ∷ []) ∷ []) (holds.lines ∙ shape.2)
+        lines = ap (λ (l : List (List Word)). l ++ (codes "in" ∷ port ∷ word ∷ []) ∷ []) (lines_before old done 1 holds may)
             ∙ ap (λ (w : List Word). (header ∷ inner_lines (state_of old)) ++ w ∷ []) line
-            ∙ ap (λ (l : List (List Word)). header ∷ l) (in_more old.ins old.outs old.ffs item shape.0 shape.1);
-        later = (shape.0, shape.1);
-        port_words = ap (λ (l : List Word). l ++ port ∷ []) (holds.port_words ∙ ap (λ (outs : List Pad). map (λ (p : Pad). p.0) (old.ins ++ outs)) shape.0 ∙ ap (map (λ (p : Pad). p.0)) (append-nil old.ins))
-            ∙ sym (ap (λ (outs : List Pad). map (λ (p : Pad). p.0) ((old.ins ++ item ∷ []) ++ outs)) shape.0 ∙ ap (map (λ (p : Pad). p.0)) (append-nil (old.ins ++ item ∷ [])) ∙ map_push (λ (p : Pad). p.0) old.ins item);
+            ∙ ap (λ (l : List (List Word)). header ∷ l) (in_more old.ins old.outs old.ffs item no_outs no_ffs);
+        later = record { ins = λ below. absurd (omega (arith, below)); outs = λ below. no_outs; ffs = λ below. no_ffs };
+        port_words = ap (λ (l : List Word). l ++ port ∷ []) (holds.port_words ∙ ap (λ (outs : List Pad). map (λ (p : Pad). p.0) (old.ins ++ outs)) no_outs ∙ ap (map (λ (p : Pad). p.0)) (append-nil old.ins))
+            ∙ sym (ap (λ (outs : List Pad). map (λ (p : Pad). p.0) ((old.ins ++ item ∷ []) ++ outs)) no_outs ∙ ap (map (λ (p : Pad). p.0)) (append-nil (old.ins ++ item ∷ [])) ∙ map_push (λ (p : Pad). p.0) old.ins item);
         in_words = ap (λ (l : List Word). l ++ word ∷ []) holds.in_words ∙ ap (λ (w : Word). site_words old.ins ++ w ∷ []) text.0 ∙ sym (map_push (λ (p : Pad). site_text p.1) old.ins item);
         out_words = holds.out_words;
         ff_words = holds.ff_words;
@@ -197,22 +153,22 @@ module _ (old : Known) (done : List (List Word)) (holds : Holds old done) where
         outs_fit = holds.outs_fit;
         ffs_fit = holds.ffs_fit;
       } in
-      subst (λ (n : Pads). Holds (record old { last = Some kinds.In; ports = n.ports; in_sites = n.sites; ins = n.pads }) (done ++ (codes "in" ∷ port ∷ word ∷ []) ∷ [])) pad.value step
+      subst (λ (n : Pads). Holds (record old { last = Some (parts.Section 1); ports = n.ports; in_sites = n.sites; ins = n.pads }) (done ++ (codes "in" ∷ port ∷ word ∷ []) ∷ [])) pad.value step
 
-  out_step : (port word : Word) (new : Pads) → may_follow old.last kinds.Out ≡ true → with_pad (record { ports = old.ports; sites = old.out_sites; pads = old.outs }) port word ≡ Ok new
-      → Holds (record old { last = Some kinds.Out; ports = new.ports; out_sites = new.sites; outs = new.pads }) (done ++ (codes "out" ∷ port ∷ word ∷ []) ∷ [])
-  out_step port word new follows so =
-      let shape = before_out old.last (state_of old) follows holds.later in
+  out_step : (port word : Word) (new : Pads) → IsOpen old.last 2 → with_pad (record { ports = old.ports; sites = old.out_sites; pads = old.outs }) port word ≡ Ok new
+      → Holds (record old { last = Some (parts.Section 2); ports = new.ports; out_sites = new.sites; outs = new.pads }) (done ++ (codes "out" ∷ port ∷ word ∷ []) ∷ [])
+  out_step port word new may so =
+      let no_ffs = holds.later.ffs (not_begun old.last 2 3 may (omega arith)) in
       let pad = pad_taken (record { ports = old.ports; sites = old.out_sites; pads = old.outs }) port word new so in
       let text = site_takes word pad.site pad.reads in
       let item : Pad = (port, pad.site) in
       let line : codes "out" ∷ port ∷ word ∷ [] ≡ pad_line (codes "out") item = ap (λ (w : Word). codes "out" ∷ port ∷ w ∷ []) text.0 in
-      let step : Holds (record old { last = Some kinds.Out; ports = old.ports ++ port ∷ []; out_sites = old.out_sites ++ word ∷ []; outs = old.outs ++ item ∷ [] }) (done ++ (codes "out" ∷ port ∷ word ∷ []) ∷ []) =
+      let step : Holds (record old { last = Some (parts.Section 2); ports = old.ports ++ port ∷ []; out_sites = old.out_sites ++ word ∷ []; outs = old.outs ++ item ∷ [] }) (done ++ (codes "out" ∷ port ∷ word ∷ []) ∷ []) =
       record {
-        lines = ap (λ (l : List (List Word)). l ++ (codes "out" ∷ port ∷ word ∷ []) ∷ []) (holds.lines ∙ shape.1)
+        lines = ap (λ (l : List (List Word)). l ++ (codes "out" ∷ port ∷ word ∷ []) ∷ []) (lines_before old done 2 holds may)
             ∙ ap (λ (w : List Word). (header ∷ inner_lines (state_of old)) ++ w ∷ []) line
-            ∙ ap (λ (l : List (List Word)). header ∷ l) (out_more old.ins old.outs old.ffs item shape.0);
-        later = shape.0;
+            ∙ ap (λ (l : List (List Word)). header ∷ l) (out_more old.ins old.outs old.ffs item no_ffs);
+        later = record { ins = λ below. absurd (omega (arith, below)); outs = λ below. absurd (omega (arith, below)); ffs = λ below. no_ffs };
         port_words = ap (λ (l : List Word). l ++ port ∷ []) holds.port_words
             ∙ sym (ap (map (λ (p : Pad). p.0)) (sym (append_assoc old.ins old.outs (item ∷ []))) ∙ map_push (λ (p : Pad). p.0) (old.ins ++ old.outs) item);
         in_words = holds.in_words;
@@ -226,22 +182,21 @@ module _ (old : Known) (done : List (List Word)) (holds : Holds old done) where
         outs_fit = all_push (λ (p : Pad). IsWritable p.1) old.outs item holds.outs_fit text.1;
         ffs_fit = holds.ffs_fit;
       } in
-      subst (λ (n : Pads). Holds (record old { last = Some kinds.Out; ports = n.ports; out_sites = n.sites; outs = n.pads }) (done ++ (codes "out" ∷ port ∷ word ∷ []) ∷ [])) pad.value step
+      subst (λ (n : Pads). Holds (record old { last = Some (parts.Section 2); ports = n.ports; out_sites = n.sites; outs = n.pads }) (done ++ (codes "out" ∷ port ∷ word ∷ []) ∷ [])) pad.value step
 
-  ff_step : (word value : Word) (new : Registers) → may_follow old.last kinds.Ff ≡ true → with_register (record { sites = old.ff_sites; ffs = old.ffs }) word value ≡ Ok new
-      → Holds (record old { last = Some kinds.Ff; ff_sites = new.sites; ffs = new.ffs }) (done ++ (codes "ff" ∷ word ∷ value ∷ []) ∷ [])
-  ff_step word value new follows so =
-      let so_far_is = before_ff old.last (state_of old) follows in
+  ff_step : (word value : Word) (new : Registers) → IsOpen old.last 3 → with_register (record { sites = old.ff_sites; ffs = old.ffs }) word value ≡ Ok new
+      → Holds (record old { last = Some (parts.Section 3); ff_sites = new.sites; ffs = new.ffs }) (done ++ (codes "ff" ∷ word ∷ value ∷ []) ∷ [])
+  ff_step word value new may so =
       let reg = register_taken (record { sites = old.ff_sites; ffs = old.ffs }) word value new so in
       let text = site_takes word reg.site reg.reads in
       let item : Register = (reg.site, reg.bit) in
       let line : codes "ff" ∷ word ∷ value ∷ [] ≡ ff_line item = ap (λ (w : Word). codes "ff" ∷ w ∷ value ∷ []) text.0 ∙ ap (λ (w : Word). codes "ff" ∷ site_text reg.site ∷ w ∷ []) (digit_read value reg.bit reg.reads_digit) in
-      let step : Holds (record old { last = Some kinds.Ff; ff_sites = old.ff_sites ++ word ∷ []; ffs = old.ffs ++ item ∷ [] }) (done ++ (codes "ff" ∷ word ∷ value ∷ []) ∷ []) =
+      let step : Holds (record old { last = Some (parts.Section 3); ff_sites = old.ff_sites ++ word ∷ []; ffs = old.ffs ++ item ∷ [] }) (done ++ (codes "ff" ∷ word ∷ value ∷ []) ∷ []) =
       record {
-        lines = ap (λ (l : List (List Word)). l ++ (codes "ff" ∷ word ∷ value ∷ []) ∷ []) (holds.lines ∙ so_far_is)
+        lines = ap (λ (l : List (List Word)). l ++ (codes "ff" ∷ word ∷ value ∷ []) ∷ []) (lines_before old done 3 holds may)
             ∙ ap (λ (w : List Word). (header ∷ inner_lines (state_of old)) ++ w ∷ []) line
             ∙ ap (λ (l : List (List Word)). header ∷ l) (ff_more old.ins old.outs old.ffs item);
-        later = tt;
+        later = record { ins = λ below. absurd (omega (arith, below)); outs = λ below. absurd (omega (arith, below)); ffs = λ below. absurd (omega (arith, below)) };
         port_words = holds.port_words;
         in_words = holds.in_words;
         out_words = holds.out_words;
@@ -254,11 +209,11 @@ module _ (old : Known) (done : List (List Word)) (holds : Holds old done) where
         outs_fit = holds.outs_fit;
         ffs_fit = all_push (λ (r : Register). IsWritable r.0) old.ffs item holds.ffs_fit text.1;
       } in
-      subst (λ (n : Registers). Holds (record old { last = Some kinds.Ff; ff_sites = n.sites; ffs = n.ffs }) (done ++ (codes "ff" ∷ word ∷ value ∷ []) ∷ [])) reg.value step
+      subst (λ (n : Registers). Holds (record old { last = Some (parts.Section 3); ff_sites = n.sites; ffs = n.ffs }) (done ++ (codes "ff" ∷ word ∷ value ∷ []) ∷ [])) reg.value step
 
   -- a line that says nothing but where it stands
-  stays : (kind : Kind) (line : List Word) → done ++ line ∷ [] ≡ so_far (Some kind) (state_of old) → Later (Some kind) old.ins old.outs old.ffs → Holds (record old { last = Some kind }) (done ++ line ∷ [])
-  stays kind line lines later = record {
+  stays : (part : Part) (line : List Word) → done ++ line ∷ [] ≡ so_far (Some part) (so_many (state_of old)) → Later (Some part) (state_of old) → Holds (record old { last = Some part }) (done ++ line ∷ [])
+  stays part line lines later = record {
     lines = lines;
     later = later;
     port_words = holds.port_words;
@@ -274,36 +229,45 @@ module _ (old : Known) (done : List (List Word)) (holds : Holds old done) where
     ffs_fit = holds.ffs_fit;
   }
 
-  end_step : has_ended old.last ≡ false → may_follow old.last kinds.End ≡ true → Holds (record old { last = Some kinds.End }) (done ++ ending ∷ [])
-  end_step opened follows = stays kinds.End ending (ap (λ (l : List (List Word)). l ++ ending ∷ []) (holds.lines ∙ before_end old.last (state_of old) opened follows)) tt
+  end_step : has_ended old.last ≡ false → may_follow old.last parts.End ≡ true → Holds (record old { last = Some parts.End }) (done ++ ending ∷ [])
+  end_step opened follows =
+      let before : done ≡ so_many (state_of old) = holds.lines ∙ some_so_far old.last parts.End (so_many (state_of old)) opened follows refl in
+      stays parts.End ending (ap (λ (l : List (List Word)). l ++ ending ∷ []) before) (record { ins = λ begun. absurd begun; outs = λ begun. absurd begun; ffs = λ begun. absurd begun })
 
-  header_step : may_follow old.last kinds.Header ≡ true → Holds (record old { last = Some kinds.Header }) (done ++ header ∷ [])
+  header_step : may_follow old.last parts.Header ≡ true → Holds (record old { last = Some parts.Header }) (done ++ header ∷ [])
   header_step follows =
-      let shape = before_header old.last (state_of old) follows holds.later in
-      let empty : inner_lines (state_of old) ≡ [] = ap (λ (ins : List Pad). in_lines ins ++ out_lines old.outs ++ map ff_line old.ffs) shape.0 ∙ ap (λ (outs : List Pad). out_lines outs ++ map ff_line old.ffs) shape.1 ∙ ap (map ff_line) shape.2 in
-      stays kinds.Header header (ap (λ (l : List (List Word)). l ++ header ∷ []) (holds.lines ∙ shape.3) ∙ sym (ap (λ (l : List (List Word)). header ∷ l) empty)) (shape.1, shape.2)
+      let no_ins = holds.later.ins (none_begun old.last follows 1) in
+      let no_outs = holds.later.outs (none_begun old.last follows 2) in
+      let no_ffs = holds.later.ffs (none_begun old.last follows 3) in
+      let before : done ≡ [] = holds.lines ∙ none_so_far old.last (so_many (state_of old)) follows in
+      let empty : inner_lines (state_of old) ≡ [] = ap (λ (ins : List Pad). in_lines ins ++ out_lines old.outs ++ map ff_line old.ffs) no_ins ∙ ap (λ (outs : List Pad). out_lines outs ++ map ff_line old.ffs) no_outs ∙ ap (map ff_line) no_ffs in
+      stays parts.Header header (ap (λ (l : List (List Word)). l ++ header ∷ []) before ∙ sym (ap (λ (l : List (List Word)). header ∷ l) empty))
+      (record { ins = λ begun. no_ins; outs = λ begun. no_outs; ffs = λ begun. no_ffs })
 
-  kind_step : (next : Known) (kind : Kind) (line : List Word) → kind_of line ≡ kind → has_ended old.last ≡ false → may_follow old.last kind ≡ true → take_kind old kind line ≡ Ok next → Holds next (done ++ line ∷ [])
+  kind_step : (next : Known) (kind : Kind) (line : List Word) → kind_of line ≡ kind → has_ended old.last ≡ false → may_follow old.last (part_of kind) ≡ true → take_kind (at_kind old kind) kind line ≡ Ok next → Holds next (done ++ line ∷ [])
   kind_step next kinds.Header line is opened follows so =
-      let set = header_set old next (bytes_eq (word_at line 1) (codes "1")) (word_at line 1) refl so in
-      let whole : line ≡ header = header_line line is ∙ ap (λ (w : Word). codes "fabulous-state" ∷ w ∷ []) (equal_words (word_at line 1) (codes "1") set.0) in
-      subst (λ (k : Known). Holds k (done ++ line ∷ [])) set.1 (subst (λ (l : List Word). Holds (record old { last = Some kinds.Header }) (done ++ l ∷ [])) (sym whole) (header_step follows))
+      let set = versioned (word_at line 1) (at_kind old kinds.Header) next so in
+      let whole : line ≡ header = header_line line is ∙ ap (λ (w : Word). codes "fabulous-state" ∷ w ∷ []) set.0 in
+      subst (λ (k : Known). Holds k (done ++ line ∷ [])) set.1 (subst (λ (l : List Word). Holds (at_kind old kinds.Header) (done ++ l ∷ [])) (sym whole) (header_step follows))
   kind_step next kinds.In line is opened follows so =
-      let set = ins_set old next (with_pad (record { ports = old.ports; sites = old.in_sites; pads = old.ins }) (word_at line 1) (word_at line 2)) so in
-      subst (λ (l : List Word). Holds next (done ++ l ∷ [])) (sym (in_line line is)) (subst (λ (k : Known). Holds k (done ++ (codes "in" ∷ word_at line 1 ∷ word_at line 2 ∷ []) ∷ [])) set.2 (in_step (word_at line 1) (word_at line 2) set.0 follows set.1))
+      let set = ins_set (at_kind old kinds.In) next (with_pad (record { ports = old.ports; sites = old.in_sites; pads = old.ins }) (word_at line 1) (word_at line 2)) so in
+      let step = in_step (word_at line 1) (word_at line 2) set.0 (record { opened = opened; follows = follows }) set.1 in
+      subst (λ (l : List Word). Holds next (done ++ l ∷ [])) (sym (in_line line is)) (subst (λ (k : Known). Holds k (done ++ (codes "in" ∷ word_at line 1 ∷ word_at line 2 ∷ []) ∷ [])) set.2 step)
   kind_step next kinds.Out line is opened follows so =
-      let set = outs_set old next (with_pad (record { ports = old.ports; sites = old.out_sites; pads = old.outs }) (word_at line 1) (word_at line 2)) so in
-      subst (λ (l : List Word). Holds next (done ++ l ∷ [])) (sym (out_line line is)) (subst (λ (k : Known). Holds k (done ++ (codes "out" ∷ word_at line 1 ∷ word_at line 2 ∷ []) ∷ [])) set.2 (out_step (word_at line 1) (word_at line 2) set.0 follows set.1))
+      let set = outs_set (at_kind old kinds.Out) next (with_pad (record { ports = old.ports; sites = old.out_sites; pads = old.outs }) (word_at line 1) (word_at line 2)) so in
+      let step = out_step (word_at line 1) (word_at line 2) set.0 (record { opened = opened; follows = follows }) set.1 in
+      subst (λ (l : List Word). Holds next (done ++ l ∷ [])) (sym (out_line line is)) (subst (λ (k : Known). Holds k (done ++ (codes "out" ∷ word_at line 1 ∷ word_at line 2 ∷ []) ∷ [])) set.2 step)
   kind_step next kinds.Ff line is opened follows so =
-      let set = ffs_set old next (with_register (record { sites = old.ff_sites; ffs = old.ffs }) (word_at line 1) (word_at line 2)) so in
-      subst (λ (l : List Word). Holds next (done ++ l ∷ [])) (sym (ff_line_is line is)) (subst (λ (k : Known). Holds k (done ++ (codes "ff" ∷ word_at line 1 ∷ word_at line 2 ∷ []) ∷ [])) set.2 (ff_step (word_at line 1) (word_at line 2) set.0 follows set.1))
+      let set = ffs_set (at_kind old kinds.Ff) next (with_register (record { sites = old.ff_sites; ffs = old.ffs }) (word_at line 1) (word_at line 2)) so in
+      let step = ff_step (word_at line 1) (word_at line 2) set.0 (record { opened = opened; follows = follows }) set.1 in
+      subst (λ (l : List Word). Holds next (done ++ l ∷ [])) (sym (ff_line_is line is)) (subst (λ (k : Known). Holds k (done ++ (codes "ff" ∷ word_at line 1 ∷ word_at line 2 ∷ []) ∷ [])) set.2 step)
   kind_step next kinds.End line is opened follows so =
-      let same : record old { last = Some kinds.End } ≡ next = cc in
-      subst (λ (k : Known). Holds k (done ++ line ∷ [])) same (subst (λ (l : List Word). Holds (record old { last = Some kinds.End }) (done ++ l ∷ [])) (sym (end_line line is)) (end_step opened follows))
+      let same : at_kind old kinds.End ≡ next = cc in
+      subst (λ (k : Known). Holds k (done ++ line ∷ [])) same (subst (λ (l : List Word). Holds (at_kind old kinds.End) (done ++ l ∷ [])) (sym (end_line line is)) (end_step opened follows))
   kind_step next kinds.Other line is opened follows so = absurd cc
 
   pub line_step : (next : Known) (line : List Word) → take old line ≡ Ok next → Holds next (done ++ line ∷ [])
-  line_step next line so = let stands = line_stands old next line so in kind_step next (kind_of line) line refl stands.opened stands.follows stands.taken
+  line_step next line so = let placed = line_placed old next line so in kind_step next (kind_of line) line refl placed.opened placed.follows placed.takes
 
 pub none_apart : {X : Type 0} → AreApart {X = X} []
 none_apart = λ i j d before below. absurd (omega (arith, before, below))
@@ -311,7 +275,7 @@ none_apart = λ i j d before below. absurd (omega (arith, before, below))
 nothing_holds : Holds (known []) []
 nothing_holds = record {
   lines = refl;
-  later = (refl, refl, refl);
+  later = record { ins = λ begun. refl; outs = λ begun. refl; ffs = λ begun. refl };
   port_words = refl;
   in_words = refl;
   out_words = refl;
@@ -326,7 +290,7 @@ nothing_holds = record {
 }
 
 pub text_holds : (rows : List PlainRow) → IsFine state_format.judge rows → Holds (known (words_of rows)) (words_of rows)
-text_holds rows fine = each_line known take cut_short (λ lines. Holds (known lines) lines)
+text_holds rows fine = each_line known take (λ (k : Known). cut_short k.last) (λ lines. Holds (known lines) lines)
     (λ front line next so holds. subst (λ (k : Known). Holds k (front ++ line ∷ [])) (keeps.more front line next so) (line_step (known front) front holds next line so)) nothing_holds rows fine
 
 pub fresh_of : (old : Known) (done : List (List Word)) → Holds old done → IsFresh (state_of old)
@@ -348,25 +312,12 @@ fresh_of old done holds = record {
     mapped_ffs [] = refl
     mapped_ffs (ff ∷ ffs) = ap (λ (l : List Word). site_text ff.0 ∷ l) (mapped_ffs ffs)
 
-ended_lines : (last : Option Kind) (state : PlainState) → has_ended last ≡ true → so_far last state ≡ state_lines state
-ended_lines None state is = absurd cc
-ended_lines (Some kinds.Header) state is = absurd cc
-ended_lines (Some kinds.In) state is = absurd cc
-ended_lines (Some kinds.Out) state is = absurd cc
-ended_lines (Some kinds.Ff) state is = absurd cc
-ended_lines (Some kinds.End) state is = refl
-ended_lines (Some kinds.Other) state is = absurd cc
-
-has_come : (old : Known) (ended : Bool) → has_ended old.last ≡ ended → cut_short old ≡ None → has_ended old.last ≡ true
-has_come old true is none = is
-has_come old false is none = (let cut = rw is at none in absurd cc)
-
 -- a whole text spells what it says
 pub whole_spells : (rows : List PlainRow) → IsWhole state_format rows → Spells rows (state_of (known (words_of rows)))
 whole_spells rows whole =
     let old = known (words_of rows) in
     let holds = text_holds rows whole.fine in
-    record { lines = holds.lines ∙ ended_lines old.last (state_of old) (has_come old (has_ended old.last) refl whole.ends); fresh = fresh_of old (words_of rows) holds }
+    record { lines = holds.lines ∙ whole_so_far old.last (so_many (state_of old)) whole.ends; fresh = fresh_of old (words_of rows) holds }
 
 all_letters : {X : Type 0} (site : X → Site) (xs : List X) → AllByRecursion (λ x. IsWritable (site x)) xs → AllByRecursion (λ x. (site x).bel < 26) xs
 all_letters site [] fit = tt

@@ -6,7 +6,7 @@ use Rattle.fab_base.specs.declared.words.Reason.TheVariants as reasons
 use Rattle.fab_base.specs.declared.problem.Problem.{Problem}
 use Rattle.fab_kinds.specs.declared.kind.Kind.{Kind}
 use Rattle.fab_kinds.specs.declared.kind.Kind.TheVariants as kinds
-use Rattle.fab_model.specs.Grid.{PlainFabric}
+use Rattle.fab_implementation.specs.fab_model.specs.Grid.{PlainFabric}
 use Rattle.fab_fabric.specs.declared.wire.Site.{Site}
 use Rattle.fab_netlist.specs.Plain.{PlainNetlist, name_of}
 use Rattle.fab_implementation.specs.Plain.{Pad}
@@ -14,7 +14,8 @@ use Rattle.fab_implementation.specs.OnFabric.{kind_at}
 use Rattle.fab_lines.specs.Order.{Format, IsWhole}
 use Rattle.fab_texts.specs.Rows.{Word, PlainRow, word_at, words_of}
 use Rattle.fab_texts.specs.Keys.{is_among}
-use Rattle.fab_texts.specs.Places.{site_of, site_text, IsWritable}
+use Rattle.fab_fabric.specs.Names.{site_text}
+use Rattle.fab_texts.specs.Places.{site_of, IsWritable}
 use Rattle.fab_texts.specs.Formats.{refused, text_format}
 
 -- words with one more, where it is not among them

@@ -10,15 +10,17 @@ use Rattle.fab_texts.specs.Rows.{Word, word_at}
 use Rattle.fab_texts.specs.Keys.{is_among}
 use Rattle.fab_texts.specs.Places.{site_of}
 use Rattle.fab_texts.specs.Formats.{refused}
+use Rattle.fab_texts.specs.declared.sections.Part.{Part}
+use Rattle.fab_texts.specs.Sections.{with_version, in_place}
 use Rattle.fab_state.specs.declared.kind.Kind.{Kind}
 use Rattle.fab_state.specs.declared.kind.Kind.TheVariants as kinds
 use Rattle.fab_state.specs.Plain.{Register}
-use Rattle.fab_state.specs.Kinds.{kind_of, may_follow, has_ended}
+use Rattle.fab_state.specs.Kinds.{kind_of, part_of}
 
--- What the lines so far say: which is the last, the ports of `in` and `out` lines, the sites that lines of each first word
+-- What the lines so far say: where the last stands, the ports of `in` and `out` lines, the sites that lines of each first word
 -- name, and the state.
 pub record Known : Type 0 where
-  pub last : Option Kind
+  pub last : Option Part
   pub ports : List Word
   pub in_sites : List Word
   pub out_sites : List Word
@@ -76,7 +78,7 @@ said by lines = flat_map (λ line. by (kind_of line) line) lines
 
 abbrev pub known : List (List Word) → Known
 known lines = record {
-  last = last_or None (map kind_of lines);
+  last = last_or None (map (λ line. part_of (kind_of line)) lines);
   ports = said ports_by lines;
   in_sites = said in_sites_by lines;
   out_sites = said out_sites_by lines;
@@ -115,33 +117,30 @@ abbrev pub with_register : Registers → (word digit : Word) → Result Register
 with_register old word digit = if is_among old.sites word then refused reasons.NameTwice else register_at old word (digit_of digit) (site_of word)
 
 abbrev pub set_ins : Known → Result Pads Problem → Result Known Problem
-set_ins old (Ok new) = Ok (record old { last = Some kinds.In; ports = new.ports; in_sites = new.sites; ins = new.pads })
+set_ins old (Ok new) = Ok (record old { ports = new.ports; in_sites = new.sites; ins = new.pads })
 set_ins old (Err problem) = Err problem
 
 abbrev pub set_outs : Known → Result Pads Problem → Result Known Problem
-set_outs old (Ok new) = Ok (record old { last = Some kinds.Out; ports = new.ports; out_sites = new.sites; outs = new.pads })
+set_outs old (Ok new) = Ok (record old { ports = new.ports; out_sites = new.sites; outs = new.pads })
 set_outs old (Err problem) = Err problem
 
 abbrev pub set_ffs : Known → Result Registers Problem → Result Known Problem
-set_ffs old (Ok new) = Ok (record old { last = Some kinds.Ff; ff_sites = new.sites; ffs = new.ffs })
+set_ffs old (Ok new) = Ok (record old { ff_sites = new.sites; ffs = new.ffs })
 set_ffs old (Err problem) = Err problem
 
--- version 1 alone
-abbrev pub take_header : Known → (version : Word) → Result Known Problem
-take_header old version = if bytes_eq version (codes "1") then Ok (record old { last = Some kinds.Header }) else refused reasons.Number
-
+-- what a line of a kind adds to what is known
 abbrev pub take_kind : Known → Kind → List Word → Result Known Problem
-take_kind old kinds.Header line = take_header old (word_at line 1)
+take_kind old kinds.Header line = with_version (word_at line 1) old
 take_kind old kinds.In line = set_ins old (with_pad (record { ports = old.ports; sites = old.in_sites; pads = old.ins }) (word_at line 1) (word_at line 2))
 take_kind old kinds.Out line = set_outs old (with_pad (record { ports = old.ports; sites = old.out_sites; pads = old.outs }) (word_at line 1) (word_at line 2))
 take_kind old kinds.Ff line = set_ffs old (with_register (record { sites = old.ff_sites; ffs = old.ffs }) (word_at line 1) (word_at line 2))
-take_kind old kinds.End line = Ok (record old { last = Some kinds.End })
+take_kind old kinds.End line = Ok old
 take_kind old kinds.Other line = refused reasons.Row
 
--- What is known after a line more, or why the line is refused: after the end nothing else is asked, and then its kind and its
--- place come first.
+-- a line of a kind that has its place
+abbrev pub take_placed : Known → Kind → List Word → Result Known Problem
+take_placed old kind line = in_place old.last (part_of kind) (take_kind (record old { last = Some (part_of kind) }) kind line)
+
+-- what is known after a line more, or why the line is refused
 abbrev pub take : Known → List Word → Result Known Problem
-take old line =
-    if has_ended old.last then refused reasons.AfterEnd
-    else if not (may_follow old.last (kind_of line)) then refused reasons.Row
-    else take_kind old (kind_of line) line
+take old line = take_placed old (kind_of line) line

@@ -1,24 +1,22 @@
 -- Which state a text spells.
-use Rattle.std.specs.Prelude.{◌≡◌, ◌≢◌, ℕ, Bool, true, false, List, [], ◌∷◌, ◌++◌, map, codes, if◌then◌else◌, All, AllPairs, ◌<◌, Option, Some, None}
+use Rattle.std.specs.Prelude.{◌≡◌, ◌≢◌, ℕ, Bool, true, false, List, [], ◌∷◌, ◌++◌, map, codes, All, AllPairs, ◌<◌}
 use Rattle.std.specs.List.{AllByRecursion, list_all}
-use Rattle.fab_base.specs.declared.words.Reason.TheVariants as reasons
-use Rattle.fab_base.specs.declared.problem.Problem.{Problem}
-use Rattle.fab_base.specs.declared.problem.Problem.TheVariants as problems
 use Rattle.fab_fabric.specs.declared.wire.Site.{Site}
 use Rattle.fab_implementation.specs.Plain.{Pad}
 use Rattle.fab_lines.specs.Order.{Format, IsWhole}
 use Rattle.fab_texts.specs.Rows.{Word, PlainRow, words_of}
-use Rattle.fab_texts.specs.Places.{site_text, IsWritable}
+use Rattle.fab_fabric.specs.Names.{site_text}
+use Rattle.fab_texts.specs.Places.{IsWritable}
 use Rattle.fab_texts.specs.Formats.{text_format}
+use Rattle.fab_texts.specs.Sections.{version, ending, cut_short}
 use Rattle.fab_texts.specs.Printed.{rows_text, is_word}
 use Rattle.fab_state.specs.Plain.{Register, PlainState}
-use Rattle.fab_state.specs.Kinds.{has_ended}
 use Rattle.fab_state.specs.Lines.{Known, known, take}
 
 -- ---- the lines of a state
 
 abbrev pub header : List Word
-header = codes "fabulous-state" ∷ codes "1" ∷ []
+header = codes "fabulous-state" ∷ version ∷ []
 
 abbrev pub pad_line : (first : Word) → Pad → List Word
 pad_line first pad = first ∷ pad.0 ∷ site_text pad.1 ∷ []
@@ -29,9 +27,6 @@ digit true = codes "1"
 
 abbrev pub ff_line : Register → List Word
 ff_line register = codes "ff" ∷ site_text register.0 ∷ digit register.1 ∷ []
-
-abbrev pub ending : List Word
-ending = codes "end" ∷ []
 
 abbrev pub inner_lines : PlainState → List (List Word)
 inner_lines state = map (pad_line (codes "in")) state.ins ++ map (pad_line (codes "out")) state.outs ++ map ff_line state.ffs
@@ -86,12 +81,8 @@ pub record HasLetters (state : PlainState) : Type 0 where
 abbrev pub state_of : Known → PlainState
 state_of old = record { ins = old.ins; outs = old.outs; ffs = old.ffs }
 
--- the last line has to have come
-abbrev pub cut_short : Known → Option Problem
-cut_short old = if has_ended old.last then None else Some (problems.Malformed reasons.EndOfFile)
-
 abbrev pub state_format : Format PlainRow
-state_format = text_format known take cut_short
+state_format = text_format known take (λ old. cut_short old.last)
 
 -- ---- what is spelled is read
 

@@ -6,23 +6,26 @@ ghost use Rattle.fab_base.specs.declared.fault.Fault.TheVariants as faults;
 ghost use Rattle.fab_base.specs.Reading.{Answers, Gives};
 ghost use Rattle.fab_lines.specs.Order.{IsTextFault, IsWhole, ended, judged, placed, read_all};
 ghost use Rattle.fab_texts.specs.Rows.{after_row, rows_of, words_of};
-ghost use Rattle.fab_state.specs.Lines.{known, set_ffs, set_ins, set_outs, take, take_header, take_kind, with_pad, with_register};
-ghost use Rattle.fab_state.specs.Spelled.{HasLetters, Spells, cut_short, state_format, state_of};
+ghost use Rattle.fab_texts.specs.Sections.{cut_short};
+ghost use Rattle.fab_state.specs.Lines.{known, set_ffs, set_ins, set_outs, take, take_kind, with_pad, with_register};
+ghost use Rattle.fab_state.specs.Spelled.{HasLetters, Spells, state_format, state_of};
 
-use crate::kind::{Kind, has_ended, kind_of, may_follow};
+use crate::kind::{Kind, kind_of};
 use crate::lines::{take_pad, take_register};
 use crate::state::State;
 use fab_base::{Fault, MAX_FILE_BYTES, Name, Problem, Reason};
 use fab_fabric::Site;
 use fab_lines::last_line;
-use fab_texts::{WordReader, WordSet, read_words, word_at};
+use fab_texts::{
+    Part, WordReader, WordSet, check_end, check_place, check_version, read_words, word_at,
+};
 use std::alloc::Global;
 use std::marker::Model;
 
 /// What the lines so far say.
 #[derive(Drop)]
 struct Known {
-    last: Option<Kind>,
+    last: Option<Part>,
     ports: WordSet,
     in_sites: WordSet,
     out_sites: WordSet,
@@ -65,16 +68,6 @@ impl Known {
         }
     }
 
-    fn take_header(&mut self, version: &[u8]) -> Result<(), Problem>
-        ensures { Answers (λ _. self.new) result (take_header self.old version.now) }
-    {
-        if version != b"1".as_slice() {
-            return Err(Problem::Malformed(Reason::Number));
-        }
-        self.last = Some(Kind::Header);
-        Ok(())
-    }
-
     fn take_in(&mut self, alloc: Global, port: &[u8], site: &[u8]) -> Result<(), Problem>
         ensures { Answers (λ _. self.new) result (set_ins self.old (with_pad (record { ports = self.old.ports; sites = self.old.in_sites; pads = self.old.ins }) port.now site.now)) }
     {
@@ -85,9 +78,7 @@ impl Known {
             alloc,
             port,
             site,
-        )?;
-        self.last = Some(Kind::In);
-        Ok(())
+        )
     }
 
     fn take_out(&mut self, alloc: Global, port: &[u8], site: &[u8]) -> Result<(), Problem>
@@ -100,31 +91,24 @@ impl Known {
             alloc,
             port,
             site,
-        )?;
-        self.last = Some(Kind::Out);
-        Ok(())
+        )
     }
 
     fn take_ff(&mut self, alloc: Global, site: &[u8], digit: &[u8]) -> Result<(), Problem>
         ensures { Answers (λ _. self.new) result (set_ffs self.old (with_register (record { sites = self.old.ff_sites; ffs = self.old.ffs }) site.now digit.now)) }
     {
-        take_register(&mut self.ff_sites, &mut self.ffs, alloc, site, digit)?;
-        self.last = Some(Kind::Ff);
-        Ok(())
+        take_register(&mut self.ff_sites, &mut self.ffs, alloc, site, digit)
     }
 
     fn take_kind(&mut self, alloc: Global, kind: Kind, words: &[&[u8]]) -> Result<(), Problem>
         ensures { Answers (λ _. self.new) result (take_kind self.old kind (map (λ w. w.now) words.now)) }
     {
         match kind {
-            Kind::Header => self.take_header(word_at(words, 1)),
+            Kind::Header => check_version(word_at(words, 1)),
             Kind::In => self.take_in(alloc, word_at(words, 1), word_at(words, 2)),
             Kind::Out => self.take_out(alloc, word_at(words, 1), word_at(words, 2)),
             Kind::Ff => self.take_ff(alloc, word_at(words, 1), word_at(words, 2)),
-            Kind::End => {
-                self.last = Some(Kind::End);
-                Ok(())
-            }
+            Kind::End => Ok(()),
             Kind::Other => Err(Problem::Malformed(Reason::Row)),
         }
     }
@@ -132,23 +116,18 @@ impl Known {
     fn take(&mut self, alloc: Global, words: &[&[u8]]) -> Result<(), Problem>
         ensures { Answers (λ _. self.new) result (take self.old (map (λ w. w.now) words.now)) }
     {
-        if has_ended(self.last) {
-            return Err(Problem::Malformed(Reason::AfterEnd));
-        }
         let kind = kind_of(words);
-        if !may_follow(self.last, kind) {
-            return Err(Problem::Malformed(Reason::Row));
-        }
+        let part = kind.part();
+        check_place(self.last, part)?;
+        self.last = Some(part);
         self.take_kind(alloc, kind, words)
     }
 
     /// The state, where the last line has come.
     fn finish(self) -> Result<State, Problem>
-        ensures { Answers (λ state. state) result (judged (cut_short self) (state_of self)) }
+        ensures { Answers (λ state. state) result (judged (cut_short self.last) (state_of self)) }
     {
-        if !has_ended(self.last) {
-            return Err(Problem::Malformed(Reason::EndOfFile));
-        }
+        check_end(self.last)?;
         let Known { ins, outs, ffs, .. } = self;
         Ok(State { ins, outs, ffs })
     }
@@ -164,7 +143,7 @@ impl WordReader for Known {
 
 fn read(alloc: Global, file: &Name, bytes: &[u8]) -> Result<State, Fault>
     requires { length bytes.now ≤ MAX_FILE_BYTES }
-    ensures { Gives (λ state. state) result (placed file.now (ended (λ k. judged (cut_short k) (state_of k)) (max 1 (length (lines bytes.now)))
+    ensures { Gives (λ state. state) result (placed file.now (ended (λ k. judged (cut_short k.last) (state_of k)) (max 1 (length (lines bytes.now)))
         (read_all (after_row take) (λ row. row.line) (known []) (rows_of bytes.now)))) }
 {
     let known = read_words(alloc, file, bytes, Known::nothing(alloc))?;

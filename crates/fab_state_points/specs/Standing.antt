@@ -8,7 +8,7 @@ use Rattle.fab_base.specs.declared.words.Reason.TheVariants as reasons
 use Rattle.fab_syntax.specs.Plain.{PlainModule}
 use Rattle.fab_syntax.specs.declared.tree.Shape.TheVariants.{Scalar, Vector}
 use Rattle.fab_meaning.specs.Runs.{clock_name, user_clock_name}
-use Rattle.fab_meaning.specs.Loading.{data_name, strobe_name}
+use Rattle.fab_meaning.specs.Loading.{write_data_name, write_strobe_name}
 use Rattle.fab_values.specs.declared.names.Role.TheVariants as roles
 use Rattle.fab_state.specs.Plain.{PlainState}
 use Rattle.fab_equations.specs.Equations.{IsPoint}
@@ -22,13 +22,13 @@ use Rattle.fab_state_points.specs.declared.points.StatePoints.{StatePoints}
 pub record HasStream (text : List PlainModule) : Type 0 where
   pub loader : IsDeclared text [] clock_name Scalar roles.Input
   pub user : IsDeclared text [] user_clock_name Scalar roles.Input
-  pub strobe : IsDeclared text [] strobe_name Scalar roles.Input
-  pub words : IsDeclared text [] data_name (Vector 32) roles.Input
+  pub strobe : IsDeclared text [] write_strobe_name Scalar roles.Input
+  pub words : IsDeclared text [] write_data_name (Vector 32) roles.Input
 
 -- the points of the inputs that carry words
 pub record IsStreamAt (text : List PlainModule) (stream : Stream) : Type 0 where
-  pub strobe : AreBits text [] strobe_name Scalar stream.strobe
-  pub words : AreBits text [] data_name (Vector 32) stream.data_word
+  pub strobe : AreBits text [] write_strobe_name Scalar stream.strobe
+  pub words : AreBits text [] write_data_name (Vector 32) stream.data_word
 
 -- the same, or that the top lacks one of these inputs
 abbrev pub IsFoundStream : List PlainModule → Option Stream → Type 0

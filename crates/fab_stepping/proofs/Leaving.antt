@@ -7,7 +7,7 @@ use Rattle.fab_syntax.specs.Sound.{IsSound}
 use Rattle.fab_sound.specs.Narrow.{AreNarrow}
 use Rattle.fab_systems.specs.Ternary.{Tern, known}
 use Rattle.fab_systems.proofs.Order.{below_both}
-use Rattle.fab_meaning.specs.Points.{Point, Driver, outside, copy, bit_of, flop, hold, Drives}
+use Rattle.fab_meaning.specs.Points.{Point, Driver, outside, copy, bit_of, flop, hold, Drives, IsStored}
 use Rattle.fab_meaning.specs.Settled.{Assignment}
 use Rattle.fab_meaning.specs.Reads.{is_declared}
 use Rattle.fab_meaning.specs.Runs.{clock_of, is_clock, kept, user_clock_name}
@@ -29,7 +29,7 @@ use Rattle.fab_network.specs.declared.network.Network.{Network}
 use Rattle.fab_network.specs.Passes.{kept_tern}
 use Rattle.fab_network.specs.Solved.{IsLeast}
 use Rattle.fab_wiring.specs.Wiring.{AreDrives, IsDriveOf}
-use Rattle.fab_wiring.specs.Given.{HoldsValue, IsGivenTo, AreGivenByNumber, given_at, left_by}
+use Rattle.fab_wiring.specs.Given.{IsGivenTo, AreGivenByNumber, given_at, left_by}
 use Rattle.fab_wiring.proofs.Left.{left_by_number}
 use Rattle.fab_wiring.proofs.Numbered.{numbers_have_terns}
 use Rattle.fab_wiring.proofs.Solved.{least_by_number}
@@ -57,7 +57,7 @@ kept_known text clock held now p (bit_of path e bit) = refl
 -- ---- what is given by number
 
 given_is : (text : List PlainModule) (trees : List Tree) (now held : Assignment) (p : Point) (d : Driver) (drive : Drive) (shown kept_there : Tern) → IsDriveOf text trees d drive →
-    shown ≡ known (now p) → (HoldsValue d → kept_there ≡ known (held p)) →
+    shown ≡ known (now p) → (IsStored d → kept_there ≡ known (held p)) →
     IsGivenTo (λ q. known (now q)) (λ q. known (held q)) p d (given_at (Some drive) shown kept_there)
 given_is text trees now held p outside Given shown kept_there of is holds = is
 given_is text trees now held p (copy other) drive shown kept_there of is holds = tt
@@ -66,7 +66,7 @@ given_is text trees now held p (flop path clock next bit) (Flop kind source) sho
 given_is text trees now held p (hold path gate e bit) (Hold opens latched) shown kept_there of is holds = holds tt
 given_is text trees now held p d drive shown kept_there of is holds = absurd of
 
-given_held : (text : List PlainModule) (trees : List Tree) (d : Driver) (drive : Drive) (shown kept_there : Tern) → IsDriveOf text trees d drive → HoldsValue d →
+given_held : (text : List PlainModule) (trees : List Tree) (d : Driver) (drive : Drive) (shown kept_there : Tern) → IsDriveOf text trees d drive → IsStored d →
     given_at (Some drive) shown kept_there ≡ kept_there
 given_held text trees (flop path clock next bit) (Flop kind source) shown kept_there of holds = refl
 given_held text trees (hold path gate e bit) (Hold opens latched) shown kept_there of holds = refl
@@ -143,7 +143,7 @@ module _ (text : List PlainModule) (sound : IsSound text) (one : PointsOfSoundTe
     pub keeps : (p : Point) (d : Driver) → is_declared text p ≡ true → Drives text p d → next_state.held p ≡ kept text user_clock_name state.held state.now p d
     pub still : StandsFor text after next_state
 
-  left_is : (number : ℕ) (p : Point) (d : Driver) → IsPoint text number p → Drives text p d → HoldsValue d →
+  left_is : (number : ℕ) (p : Point) (d : Driver) → IsPoint text number p → Drives text p d → IsStored d →
       left_on network board number ≡ known (kept text user_clock_name state.held state.now p d)
   left_is number p d at driven holds =
       let w = wired number p d at driven in

@@ -5,9 +5,8 @@ use Rattle.std.proofs.lemmas.Bool.{cases_Bool, cases_eq}
 use Rattle.std.proofs.lemmas.Option.{slice_get_within}
 use Rattle.fab_syntax.specs.Plain.{PlainModule}
 use Rattle.fab_syntax.specs.Sound.{IsSound}
-use Rattle.fab_systems.specs.Ternary.{known}
-use Rattle.fab_systems.specs.Ternary.{Tern as PlainTern}
-use Rattle.fab_meaning.specs.Points.{Point, Driver, outside, copy, bit_of, flop, hold, Drives}
+use Rattle.fab_systems.specs.Ternary.{known, Tern as PlainTern}
+use Rattle.fab_meaning.specs.Points.{Point, Driver, outside, copy, bit_of, flop, hold, Drives, IsStored}
 use Rattle.fab_meaning.specs.Settled.{Assignment, shown}
 use Rattle.fab_meaning.specs.Reads.{is_declared, same_point}
 use Rattle.fab_meaning.specs.Activation.{State, activate, held_after, IsActivation, IsStep, AreSteps}
@@ -28,7 +27,7 @@ use Rattle.fab_network.specs.declared.network.Network.{Network}
 use Rattle.fab_network.specs.Passes.{kept_tern}
 use Rattle.fab_network.specs.Solved.{asked_by, asked_tern}
 use Rattle.fab_wiring.specs.Wiring.{AreDrives, IsDriveOf}
-use Rattle.fab_wiring.specs.Given.{HoldsValue, given_at}
+use Rattle.fab_wiring.specs.Given.{given_at}
 use Rattle.fab_wiring.proofs.Solved.{point_there}
 use Rattle.fab_stepping.specs.declared.board.Board.{Board}
 use Rattle.fab_stepping.specs.Boards.{given_on, shown_on, IsBoardOf, LeadToThemselves}
@@ -39,7 +38,7 @@ use Rattle.fab_stepping.proofs.Reading.{board_shown}
 module _ (text : List PlainModule) (trees : List Tree) (now held : Assignment) (s : PointTerns) (same : AreByNumber text (λ p. known (now p)) s) where
   -- what a drive asks of its point is what its driver gives it
   asked_is : (number : ℕ) (p : Point) (d : Driver) (drive : Drive) (kept : PlainTern) → IsPoint text number p → IsDriveOf text trees d drive →
-      (HoldsValue d → kept ≡ known (held p)) →
+      (IsStored d → kept ≡ known (held p)) →
       asked_by trees (given_at (Some drive) (s number) kept) s (Some drive) ≡ tern_shown text now held (λ q. known (now q)) p d
   asked_is number p outside Given kept is of holds = same number p is
   asked_is number p (copy other) (Same n) kept is of holds = same n other of
@@ -50,7 +49,7 @@ module _ (text : List PlainModule) (trees : List Tree) (now held : Assignment) (
   asked_is number p d drive kept is of holds = absurd of
 
   -- what a latch holds
-  held_is : (d : Driver) (drive : Drive) (kept found : PlainTern) (h v : Bool) → IsDriveOf text trees d drive → HoldsValue d → kept ≡ known h → found ≡ known v →
+  held_is : (d : Driver) (drive : Drive) (kept found : PlainTern) (h v : Bool) → IsDriveOf text trees d drive → IsStored d → kept ≡ known h → found ≡ known v →
       held_by (Some drive) kept found ≡ known (held_after d h v)
   held_is (flop path clock next bit) (Flop kind source) kept found h v of holds old new = old
   held_is (hold path gate e bit) (Hold opens latched) kept found h v of holds old new = new
@@ -143,7 +142,7 @@ module _ (text : List PlainModule) (sound : IsSound text) (one : PointsOfSoundTe
                 let here = same_number k q there e in
                 let drives_p : Drives text p d = subst (λ (x : Point). Drives text x d) here drives in
                 let same : driver.0 ≡ d = only d drives_p in
-                let holds_p : HoldsValue driver.0 = subst HoldsValue (sym same) holds in
+                let holds_p : IsStored driver.0 = subst IsStored (sym same) holds in
                 let w = wired number p driver.0 at driver.1 in
                 ap (kept_tern after.held.items) e ∙ step.holds
                 ∙ ap (λ (o : Option Drive). held_by o (kept_tern before.held.items number) (kept_tern after.terns.items number)) w.is

@@ -9,7 +9,7 @@ use Rattle.fab_rows.specs.Rows.{PlainRow}
 use Rattle.fab_model.specs.Tiles.{PlainTile, tile_bits}
 use Rattle.fab_tables.specs.declared.entry.Entry.{Entry}
 use Rattle.fab_tables.specs.Config.{frame_of, row_entries, frames_of, entries_of, entry_bits, config_judge, config_format, end_problem, rows_behind}
-use Rattle.fab_tables.specs.FollowingConfig.{TableState, after_table_row, row_problem, table_start, table_end, table_of}
+use Rattle.fab_tables.specs.inner.FollowingConfig.{TableState, after_table_row, row_problem, table_start, table_end, table_of}
 
 -- what is known after rows
 abbrev pub table_summary : (bits : ℕ) → List PlainRow → TableState

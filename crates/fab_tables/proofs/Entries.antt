@@ -12,7 +12,7 @@ use Rattle.fab_base.specs.declared.problem.Problem.TheVariants as problems
 use Rattle.fab_model.specs.Tiles.{counted}
 use Rattle.fab_tables.specs.declared.entry.Entry.{Entry}
 use Rattle.fab_tables.specs.Config.{entry_in, entries_with, entry_bits, bits_twice, twice_reason, place_of, all_below}
-use Rattle.fab_tables.specs.FollowingConfig.{table_of, unless_placed}
+use Rattle.fab_tables.specs.inner.FollowingConfig.{table_of, unless_placed}
 use Rattle.fab_tables.proofs.Runs.{counted_push}
 
 any_bit : (bit : ℕ) (entries : List Entry) → list_any (λ entry. nat_eq bit entry.bit) entries ≡ list_any (nat_eq bit) (entry_bits entries)

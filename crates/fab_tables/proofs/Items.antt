@@ -10,7 +10,7 @@ use Rattle.std.proofs.lemmas.Grind.{flat_map-append}
 use Rattle.fab_base.specs.declared.words.Reason.TheVariants as reasons
 use Rattle.fab_lines.specs.Numbers.{number_of}
 use Rattle.fab_tables.specs.Config.{first_end, last_end, is_item, item_bits, items, are_ranges, listed_bits, are_below, range_reason, outside_reason}
-use Rattle.fab_tables.specs.FollowingConfig.{bits_below}
+use Rattle.fab_tables.specs.inner.FollowingConfig.{bits_below}
 use Rattle.fab_tables.proofs.Seen.{all_seen}
 use Rattle.fab_tables.proofs.Runs.{all_of_lists, run_below}
 

@@ -9,7 +9,7 @@ use Rattle.fab_rows.specs.Rows.{PlainRow}
 use Rattle.fab_select.specs.declared.pair.Pair.{Pair}
 use Rattle.fab_model.specs.Tiles.{PlainTile}
 use Rattle.fab_tables.specs.Matrix.{cells_behind, input_number, input_numbers, output_of, output_problem, pairs_of_row, matrix_judge, matrix_format, matrix_pairs}
-use Rattle.fab_tables.specs.FollowingMatrix.{MatrixState, after_matrix_row, matrix_start, matrix_end}
+use Rattle.fab_tables.specs.inner.FollowingMatrix.{MatrixState, after_matrix_row, matrix_start, matrix_end}
 
 abbrev pub outputs_of : List PlainRow → List (List ℕ)
 outputs_of rows = map (λ row. output_of row.cells) rows

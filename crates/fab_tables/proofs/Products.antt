@@ -8,7 +8,7 @@ use Rattle.std.proofs.lemmas.List.Splits.{length-slice_split}
 use Rattle.std.proofs.lemmas.Bool.{cases_lt}
 use Rattle.fab_lines.specs.Numbers.{capped}
 use Rattle.fab_tables.specs.Cells.{is_bar, is_close, alternatives, choice_parts, parts_of, product, product_size}
-use Rattle.fab_tables.specs.Expanding.{extended, extended_by}
+use Rattle.fab_tables.specs.inner.Expanding.{extended, extended_by}
 use Rattle.fab_tables.proofs.Seen.{map_drop_next}
 
 -- functions that agree on all items

@@ -10,7 +10,7 @@ use Rattle.fab_select.specs.declared.pair.Pair.{Pair}
 use Rattle.fab_model.specs.declared.tiles.WireRow.{WireRow}
 use Rattle.fab_model.specs.Rows.{source_bits, dest_bits}
 use Rattle.fab_model.specs.Tiles.{TileWire, counted, source_bit, dest_bit, row_wires, is_matrix_output}
-use Rattle.fab_model.specs.Numbering.{key_names}
+use Rattle.fab_bits.specs.Keys.{key_names}
 use Rattle.fab_model.proofs.Inserts.{map_counted, counted_more}
 use Rattle.fab_tables.specs.Matrix.{is_one, pair_with, pairs_with}
 

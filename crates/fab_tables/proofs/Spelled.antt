@@ -7,7 +7,7 @@ use Rattle.fab_lines.specs.Order.{judged}
 use Rattle.fab_lines.proofs.Wholes.{FollowsFormat}
 use Rattle.fab_rows.specs.Rows.{PlainRow}
 use Rattle.fab_tables.specs.Lists.{PlainBody, PlainListRow, row_body, refusal_of, row_with, listed, list_format}
-use Rattle.fab_tables.specs.Following.{ListSoFar, with_body, so_far, after_row, list_end}
+use Rattle.fab_tables.specs.inner.Following.{ListSoFar, with_body, so_far, after_row, list_end}
 
 abbrev pub list_summary : (file : List ℕ) → List PlainRow → ListSoFar
 list_summary file rows = record { file = file; rows = flat_map (listed file) rows }

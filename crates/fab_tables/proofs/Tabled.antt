@@ -15,7 +15,7 @@ use Rattle.fab_model.specs.Tiles.{PlainTile, counted, tile_bits, with_table}
 use Rattle.fab_model.specs.Tables.{HasTable}
 use Rattle.fab_tables.specs.declared.entry.Entry.{Entry}
 use Rattle.fab_tables.specs.Config.{cell_at, frame_of, row_bits, row_ones, row_entries, frames_of, entries_of, entry_bits, is_mask, mask_digits, used_bits, or_else, shape_reason, frame_reason, mask_reason, range_reason, outside_reason, twice_reason, row_reason, config_judge, config_format, end_problem, rows_behind, place_of, all_below, is_complete, SpellsTable}
-use Rattle.fab_tables.specs.FollowingConfig.{table_of}
+use Rattle.fab_tables.specs.inner.FollowingConfig.{table_of}
 use Rattle.fab_tables.proofs.Runs.{length-counted}
 use Rattle.fab_tables.proofs.ConfigRules.{frames_more, entries_more}
 use Rattle.fab_tables.proofs.Placing.{Falls, ArePlaces, no_places, more_places, ones_fall, length-ones}

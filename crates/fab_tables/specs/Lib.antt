@@ -1,10 +1,7 @@
 pub mod Cells
-pub mod Expanding
 pub mod Lists
 pub mod Bodies
-pub mod Following
 pub mod Frames
 pub mod Matrix
-pub mod FollowingMatrix
 pub mod Config
-pub mod FollowingConfig
+pub mod inner

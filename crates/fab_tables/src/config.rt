@@ -32,7 +32,7 @@ ghost use Rattle.fab_tables.specs.Config.{
   used_bits,
   SpellsTable,
 };
-ghost use Rattle.fab_tables.specs.FollowingConfig.{after_cells, behind_first, config_of, table_end, table_of, unless_placed};
+ghost use Rattle.fab_tables.specs.inner.FollowingConfig.{after_cells, behind_first, config_of, table_end, table_of, unless_placed};
 
 use crate::entry::Entry;
 use crate::mask::{is_mask, used_bits};
@@ -270,7 +270,7 @@ struct TableRows {
 }
 
 impl Model for TableRows {
-    ghost use Rattle.fab_tables.specs.FollowingConfig.{TableState};
+    ghost use Rattle.fab_tables.specs.inner.FollowingConfig.{TableState};
 
     ghost Value = { TableState };
 
@@ -278,7 +278,7 @@ impl Model for TableRows {
 }
 
 impl RowReader for TableRows {
-    ghost use Rattle.fab_tables.specs.FollowingConfig.{after_table_row};
+    ghost use Rattle.fab_tables.specs.inner.FollowingConfig.{after_table_row};
 
     ghost after = { after_table_row };
 

@@ -15,7 +15,7 @@ ghost use Rattle.fab_tables.specs.Cells.{
   product_size,
   repeats,
 };
-ghost use Rattle.fab_tables.specs.Expanding.{extended, extended_by};
+ghost use Rattle.fab_tables.specs.inner.Expanding.{extended, extended_by};
 
 use crate::cell::{after, before, body, pieces, repeats};
 use fab_base::{Memory, Name};

@@ -9,7 +9,7 @@ ghost use Rattle.fab_paths.specs.Paths.{file_of};
 ghost use Rattle.fab_rows.specs.Rows.{rows_of};
 ghost use Rattle.fab_tables.specs.Bodies.{plain_body};
 ghost use Rattle.fab_tables.specs.Lists.{body_of, include_body, included, list_format, named_body, pairs_body, row_body, two_cells, SpellsList};
-ghost use Rattle.fab_tables.specs.Following.{list_of, with_body};
+ghost use Rattle.fab_tables.specs.inner.Following.{list_of, with_body};
 
 use crate::known::{KnownNames, NothingKnown};
 use crate::list_cells::{cell_names, long_problem, paired};
@@ -134,7 +134,7 @@ struct ListRows<'a> {
 }
 
 impl<'a> Model for ListRows<'a> {
-    ghost use Rattle.fab_tables.specs.Following.{ListSoFar};
+    ghost use Rattle.fab_tables.specs.inner.Following.{ListSoFar};
 
     ghost Value = { ListSoFar };
 
@@ -142,7 +142,7 @@ impl<'a> Model for ListRows<'a> {
 }
 
 impl<'a> RowReader for ListRows<'a> {
-    ghost use Rattle.fab_tables.specs.Following.{after_row};
+    ghost use Rattle.fab_tables.specs.inner.Following.{after_row};
 
     ghost after = { after_row };
 

@@ -7,7 +7,7 @@ ghost use Rattle.std.specs.Str.Lines.{lines};
 ghost use Rattle.fab_base.specs.declared.fault.Fault.TheVariants as faults;
 ghost use Rattle.fab_base.specs.Reading.{Answers, Gives};
 ghost use Rattle.fab_lines.specs.Order.{judged, IsTextFault, IsWhole};
-ghost use Rattle.fab_model.specs.Numbering.{key_names};
+ghost use Rattle.fab_bits.specs.Keys.{key_names};
 ghost use Rattle.fab_model.specs.Tiles.{IsPair};
 ghost use Rattle.fab_rows.specs.Rows.{rows_of};
 ghost use Rattle.fab_tables.specs.Matrix.{
@@ -23,7 +23,7 @@ ghost use Rattle.fab_tables.specs.Matrix.{
   pairs_with,
   SpellsMatrix,
 };
-ghost use Rattle.fab_tables.specs.FollowingMatrix.{after_cells, behind_inputs, known_inputs, matrix_of, unless_begun};
+ghost use Rattle.fab_tables.specs.inner.FollowingMatrix.{after_cells, behind_inputs, known_inputs, matrix_of, unless_begun};
 
 use crate::list_cells::{are_wire_names, long_problem};
 use crate::matrix_names::MatrixNames;
@@ -233,8 +233,8 @@ struct MatrixRows<'a> {
 
 impl<'a> Model for MatrixRows<'a> {
     ghost use Rattle.std.specs.Prelude.{option_map};
-    ghost use Rattle.fab_model.specs.Numbering.{key_names};
-    ghost use Rattle.fab_tables.specs.FollowingMatrix.{MatrixState};
+    ghost use Rattle.fab_bits.specs.Keys.{key_names};
+    ghost use Rattle.fab_tables.specs.inner.FollowingMatrix.{MatrixState};
 
     ghost Value = { MatrixState };
 
@@ -242,7 +242,7 @@ impl<'a> Model for MatrixRows<'a> {
 }
 
 impl<'a> RowReader for MatrixRows<'a> {
-    ghost use Rattle.fab_tables.specs.FollowingMatrix.{after_matrix_row};
+    ghost use Rattle.fab_tables.specs.inner.FollowingMatrix.{after_matrix_row};
 
     ghost after = { after_matrix_row };
 

@@ -73,7 +73,7 @@ pub struct MatrixNames<'a> {
 
 impl<'a> Model for MatrixNames<'a> {
     ghost use Rattle.fab_model.specs.Tiles.{PlainTile};
-    ghost use Rattle.fab_tables.specs.FollowingMatrix.{AreSides};
+    ghost use Rattle.fab_tables.specs.inner.FollowingMatrix.{AreSides};
 
     ghost Value = { PlainTile };
 

@@ -4,7 +4,7 @@ ghost use Rattle.std.specs.Prelude.{◌≡◌, ◌≤◌, ◌<◌, ◌+◌, ◌-
 ghost use Rattle.std.specs.List.{flat_map, list_all};
 ghost use Rattle.fab_lines.specs.Numbers.{capped, is_digit, is_number, number_of};
 ghost use Rattle.fab_model.specs.Tiles.{counted};
-ghost use Rattle.fab_tables.specs.FollowingConfig.{bits_below};
+ghost use Rattle.fab_tables.specs.inner.FollowingConfig.{bits_below};
 ghost use Rattle.fab_tables.specs.Config.{first_end, is_item, item_bits, items, last_end, lists_nothing, run};
 
 use crate::cell::{after, before, has, pieces};

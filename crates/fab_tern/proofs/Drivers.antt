@@ -3,13 +3,13 @@ use Rattle.std.proofs.Common.{◌≡◌, ℕ, zero, suc, ◌<◌, Bool, true, fa
 use Rattle.std.proofs.lemmas.Bool.{or_left, or_right}
 use Rattle.fab_bits.specs.Bits.{first_bits}
 use Rattle.fab_systems.specs.Ternary.{Tern, known}
-use Rattle.fab_syntax.specs.Plain.{PlainExpr, PlainModule}
-use Rattle.fab_syntax.specs.Declarations.{width_in}
-use Rattle.fab_meaning.specs.Points.{Path, Point, point, Driver, outside, copy, bit_of, flop, hold, module_at}
-use Rattle.fab_meaning.specs.Settled.{Assignment, names_at, shown}
-use Rattle.fab_meaning.specs.Value.{value, bit_at}
-use Rattle.fab_meaning.specs.Reads.{reads, expression_reads, is_declared}
-use Rattle.fab_meaning.proofs.Dependence.{same_path_refl, same_point_refl}
+use Rattle.fab_matrix.specs.fab_syntax.specs.Plain.{PlainExpr, PlainModule}
+use Rattle.fab_matrix.specs.fab_syntax.specs.Declarations.{width_in}
+use Rattle.fab_matrix.specs.fab_meaning.specs.Points.{Path, Point, point, Driver, outside, copy, bit_of, flop, hold, module_at}
+use Rattle.fab_matrix.specs.fab_meaning.specs.Settled.{Assignment, names_at, shown}
+use Rattle.fab_matrix.specs.fab_meaning.specs.Value.{value, bit_at}
+use Rattle.fab_matrix.specs.fab_meaning.specs.Reads.{reads, expression_reads, is_declared}
+use Rattle.fab_matrix.specs.fab_meaning.proofs.Dependence.{same_path_refl, same_point_refl}
 use Rattle.fab_tern.specs.Operators.{tern_at}
 use Rattle.fab_tern.specs.Values.{tern_value}
 use Rattle.fab_tern.specs.Shown.{Terns, first_terns, tern_names, through, tern_shown}

@@ -4,12 +4,12 @@ use Rattle.std.specs.Str.{bytes_eq}
 use Rattle.std.proofs.lemmas.Bool.{or_left, or_right}
 use Rattle.std.proofs.lemmas.List.{map-append}
 use Rattle.fab_bits.specs.Bits.{number, same_bit, other_bit, each_bit, same_bits}
-use Rattle.fab_syntax.specs.declared.tree.Op.{Op}
-use Rattle.fab_syntax.specs.declared.tree.Op.TheVariants.{And, Or, Xor, Equal, Minus}
-use Rattle.fab_syntax.specs.Plain.{PlainExpr, PlainExprs, constant, variable, pick, part, concatenation, complement, operation, conditional, none, more}
-use Rattle.fab_meaning.specs.Value.{value, concatenated, operated, bit_at}
-use Rattle.fab_meaning.specs.Reads.{mentions, some_mentions}
-use Rattle.fab_meaning.proofs.Dependence.{same_name}
+use Rattle.fab_matrix.specs.fab_syntax.specs.declared.tree.Op.{Op}
+use Rattle.fab_matrix.specs.fab_syntax.specs.declared.tree.Op.TheVariants.{And, Or, Xor, Equal, Minus}
+use Rattle.fab_matrix.specs.fab_syntax.specs.Plain.{PlainExpr, PlainExprs, constant, variable, pick, part, concatenation, complement, operation, conditional, none, more}
+use Rattle.fab_matrix.specs.fab_meaning.specs.Value.{value, concatenated, operated, bit_at}
+use Rattle.fab_matrix.specs.fab_meaning.specs.Reads.{mentions, some_mentions}
+use Rattle.fab_matrix.specs.fab_meaning.proofs.Dependence.{same_name}
 use Rattle.fab_systems.specs.Ternary.{Tern, no, yes, known}
 use Rattle.fab_tern.specs.Operators.{tern_at, inverse, both, either, differs, each_tern, same_terns, bools, minus_of, tern_operated, one_of, evens, odds, entry}
 use Rattle.fab_tern.specs.Values.{tern_value, tern_concatenated}

@@ -4,9 +4,10 @@ use Rattle.std.proofs.lemmas.Bool.Decides.{eqb_tells}
 use Rattle.std.proofs.lemmas.Bool.{cases_Bool, cases_lt}
 use Rattle.fab_bits.specs.Bits.{number, digits, same_bits}
 use Rattle.fab_bits.proofs.Numbers.{same_bits_digits}
-use Rattle.fab_meaning.specs.Value.{value, bit_at}
+use Rattle.fab_matrix.specs.fab_meaning.specs.Value.{value, bit_at}
 use Rattle.fab_matrix.specs.Names.{Name}
-use Rattle.fab_matrix.specs.Matrix.{config_name, field, chain}
+use Rattle.fab_matrix.specs.fab_meaning.specs.Ports.{config_name}
+use Rattle.fab_matrix.specs.Matrix.{field, chain}
 use Rattle.fab_systems.specs.Ternary.{Tern, no, yes, unknown, known}
 use Rattle.fab_tern.specs.Operators.{agreed, same_terns, one_of, evens, odds, entry}
 use Rattle.fab_tern.specs.Values.{tern_value}

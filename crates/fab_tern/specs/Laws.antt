@@ -1,13 +1,14 @@
 -- Laws of ternary values.
 use Rattle.std.specs.Prelude.{◌≡◌, ℕ, ◌+◌, ◌-◌, ◌^◌, ◌≤◌, Bool, true, List, [], ◌∷◌, map, length, get_or, nat_lt, if◌then◌else◌}
 use Rattle.fab_bits.specs.Bits.{number}
-use Rattle.fab_syntax.specs.Plain.{PlainExpr, PlainModule}
-use Rattle.fab_meaning.specs.Value.{value, bit_at}
-use Rattle.fab_meaning.specs.Points.{Point, Driver}
-use Rattle.fab_meaning.specs.Settled.{Assignment, shown}
-use Rattle.fab_meaning.specs.Reads.{mentions, reads}
+use Rattle.fab_matrix.specs.fab_syntax.specs.Plain.{PlainExpr, PlainModule}
+use Rattle.fab_matrix.specs.fab_meaning.specs.Value.{value, bit_at}
+use Rattle.fab_matrix.specs.fab_meaning.specs.Points.{Point, Driver}
+use Rattle.fab_matrix.specs.fab_meaning.specs.Settled.{Assignment, shown}
+use Rattle.fab_matrix.specs.fab_meaning.specs.Reads.{mentions, reads}
 use Rattle.fab_matrix.specs.Names.{Name}
-use Rattle.fab_matrix.specs.Matrix.{config_name, field, chain}
+use Rattle.fab_matrix.specs.fab_meaning.specs.Ports.{config_name}
+use Rattle.fab_matrix.specs.Matrix.{field, chain}
 use Rattle.fab_systems.specs.Ternary.{Tern, known, IsBelow}
 use Rattle.fab_tern.specs.Operators.{entry}
 use Rattle.fab_tern.specs.Values.{tern_value}

@@ -1,8 +1,8 @@
 -- Ternary bits: 0, 1 and unknown. An operator gives what it gives for every choice of the unknown bits, as far as each bit alone tells.
 use Rattle.std.specs.Prelude.{ℕ, Bool, true, false, List, [], ◌∷◌, map, slice_index_or, Option, Some, None, option_map}
-use Rattle.fab_syntax.specs.declared.tree.Op.{Op}
-use Rattle.fab_syntax.specs.declared.tree.Op.TheVariants.{And, Or, Xor, Equal, Minus}
-use Rattle.fab_meaning.specs.Value.{operated}
+use Rattle.fab_matrix.specs.fab_syntax.specs.declared.tree.Op.{Op}
+use Rattle.fab_matrix.specs.fab_syntax.specs.declared.tree.Op.TheVariants.{And, Or, Xor, Equal, Minus}
+use Rattle.fab_matrix.specs.fab_meaning.specs.Value.{operated}
 use Rattle.fab_systems.specs.Ternary.{Tern, no, yes, unknown, known}
 
 -- the bit at a place, and 0 past the end

@@ -1,9 +1,9 @@
 -- What a driver gives its point, where points have ternary values. It is `shown` of `fab_meaning` case by case.
 use Rattle.std.specs.Prelude.{ℕ, zero, suc, List, [], ◌∷◌}
-use Rattle.fab_syntax.specs.Plain.{PlainModule}
-use Rattle.fab_syntax.specs.Declarations.{width_in}
-use Rattle.fab_meaning.specs.Points.{Path, Point, point, Driver, outside, copy, bit_of, flop, hold, module_at}
-use Rattle.fab_meaning.specs.Settled.{Assignment}
+use Rattle.fab_matrix.specs.fab_syntax.specs.Plain.{PlainModule}
+use Rattle.fab_matrix.specs.fab_syntax.specs.Declarations.{width_in}
+use Rattle.fab_matrix.specs.fab_meaning.specs.Points.{Path, Point, point, Driver, outside, copy, bit_of, flop, hold, module_at}
+use Rattle.fab_matrix.specs.fab_meaning.specs.Settled.{Assignment}
 use Rattle.fab_systems.specs.Ternary.{Tern, no, yes, unknown, known}
 use Rattle.fab_tern.specs.Operators.{tern_at, agreed}
 use Rattle.fab_tern.specs.Values.{tern_value}

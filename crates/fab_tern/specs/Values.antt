@@ -1,6 +1,6 @@
 -- The ternary value of an expression, from the ternary bits of each name. It is `value` of `fab_meaning` case by case.
 use Rattle.std.specs.Prelude.{ℕ, ◌+◌, List, [], ◌∷◌, ◌++◌, map, slice_range}
-use Rattle.fab_syntax.specs.Plain.{PlainExpr, PlainExprs, constant, variable, pick, part, concatenation, complement, operation, conditional, none, more}
+use Rattle.fab_matrix.specs.fab_syntax.specs.Plain.{PlainExpr, PlainExprs, constant, variable, pick, part, concatenation, complement, operation, conditional, none, more}
 use Rattle.fab_systems.specs.Ternary.{Tern, known}
 use Rattle.fab_tern.specs.Operators.{tern_at, inverse, tern_operated, one_of, entry}
 

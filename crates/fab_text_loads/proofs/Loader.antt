@@ -13,24 +13,24 @@ use Rattle.fab_syntax.specs.Plain.{PlainExpr, PlainItem, PlainModule, variable, 
 use Rattle.fab_syntax.specs.Declarations.{module_named, declared_shape, width_if_any, is_input}
 use Rattle.fab_meaning.specs.Points.{point, flop, Drives, Found, instance_named, instance_in, module_of, module_at}
 use Rattle.fab_meaning.specs.Runs.{clock_name, clock_of}
-use Rattle.fab_meaning.specs.Loading.{data_name}
+use Rattle.fab_meaning.specs.Loading.{write_data_name, write_strobe_name}
 use Rattle.fab_meaning.proofs.Clocks.{clock_at_top, clock_below}
 use Rattle.fab_meaning.proofs.Dependence.{same_name}
 use Rattle.fab_meaning.proofs.Modules.{each_all}
-use Rattle.fab_prim.specs.Modules.{module_of_kind}
-use Rattle.fab_model.specs.Tiles.{PlainTile, counted}
-use Rattle.fab_model.specs.Grid.{PlainFabric}
-use Rattle.fab_fabric.specs.Names.{place_name}
-use Rattle.fab_fabric.specs.Fabric.{IsFabric}
-use Rattle.fab_gen_tile.specs.Names.{config_module_name, matrix_module_name, tile_module_name}
-use Rattle.fab_gen_loader.specs.Loader.{NextValues, port, address_port, strobe_port, row_port, loader_ports, registers, processes, outputs, loader_of, state_name, count_name, address_name, strobe_register_name, row_name, TakesNext, StepsAsTheMachine}
-use Rattle.fab_fabric_text.specs.Names.{loader_module_name, top_module_name, loader_instance_name, write_strobe_name}
-use Rattle.fab_fabric_text.specs.Top.{loader_wires, loader_joins, loader_instance, top_items, top_module}
-use Rattle.fab_fabric_text.specs.Text.{used_kinds, standing_types, tile_modules, fabric_text}
-use Rattle.fab_tile_drives.proofs.Driven.{width_of}
-use Rattle.fab_tile_drives.proofs.Endings.{all_counted, all_flat_map}
-use Rattle.fab_tile_drives.proofs.Members.{contains_first, contains_counted}
-use Rattle.fab_tile_drives.proofs.Widths.{passed_ports}
+use Rattle.fab_drives.specs.fab_prim.specs.Modules.{module_of_kind}
+use Rattle.fab_drives.specs.fab_model.specs.Tiles.{PlainTile, counted}
+use Rattle.fab_drives.specs.fab_model.specs.Grid.{PlainFabric}
+use Rattle.fab_drives.specs.fab_fabric.specs.Names.{place_name}
+use Rattle.fab_drives.specs.fab_fabric.specs.Fabric.{IsFabric}
+use Rattle.fab_drives.specs.fab_gen_tile.specs.Names.{config_module_name, matrix_module_name, tile_module_name}
+use Rattle.fab_drives.specs.fab_gen_loader.specs.Loader.{NextValues, port, address_port, strobe_port, row_port, loader_ports, registers, processes, outputs, loader_of, state_name, count_name, strobe_register_name, TakesNext, StepsAsTheMachine, address_register_name, row_register_name, loader_module_name}
+use Rattle.fab_drives.specs.fab_fabric_text.specs.Names.{top_module_name, loader_instance_name}
+use Rattle.fab_drives.specs.fab_fabric_text.specs.Top.{loader_wires, loader_joins, loader_instance, top_items, top_module}
+use Rattle.fab_drives.specs.fab_fabric_text.specs.Text.{used_kinds, standing_types, tile_modules, fabric_text}
+use Rattle.fab_drives.specs.fab_tile_drives.proofs.Driven.{width_of}
+use Rattle.fab_drives.specs.fab_tile_drives.proofs.Endings.{all_counted, all_flat_map}
+use Rattle.fab_drives.specs.fab_tile_drives.proofs.Members.{contains_first, contains_counted}
+use Rattle.fab_drives.specs.fab_tile_drives.proofs.Widths.{passed_ports}
 use Rattle.fab_drives.proofs.Apart.{told_apart}
 use Rattle.fab_drives.proofs.Lists.{all_of, only_one_found}
 use Rattle.fab_drives.proofs.Modules.{Only, all_of_tile, no_loader_kind, top_is_last}
@@ -138,7 +138,7 @@ module _ (rows : ℕ) (next : NextValues) where
       let name = strobe_register_name in
       let Differs : Port → Type 0 = λ other. other.name ≢ name in
       let front : List Port =
-      port true Scalar clock_name ∷ port true Scalar write_strobe_name ∷ port true (Vector 32) data_name
+      port true Scalar clock_name ∷ port true Scalar write_strobe_name ∷ port true (Vector 32) write_data_name
       ∷ port false (Vector 32) address_port ∷ port false Scalar strobe_port ∷ [] in
       let of_rows = counted rows (λ row. port false (Vector 32) (row_port row)) in
       passed_ports (loader_ports rows) (loader_of rows next).items name
@@ -148,7 +148,7 @@ module _ (rows : ℕ) (next : NextValues) where
         (
           told_apart 0 write_strobe_name name refl,
           (
-            told_apart 0 data_name name refl,
+            told_apart 0 write_data_name name refl,
             (told_apart 0 address_port name refl, (told_apart 0 strobe_port name refl, tt)),
           ),
         ),
@@ -161,29 +161,29 @@ pub output_there : (rows : ℕ) (next : NextValues) (item : PlainItem) → Conta
 output_there rows next item there =
     Contains-append_right (registers rows) (processes rows next ++ outputs rows) item (Contains-append_right (processes rows next) (outputs rows) item there)
 
-pub row_output_there : (rows row : ℕ) → row < rows → Contains (outputs rows) (assign (row_port row) (variable (row_name row)))
+pub row_output_there : (rows row : ℕ) → row < rows → Contains (outputs rows) (assign (row_port row) (variable (row_register_name row)))
 row_output_there rows row within =
-    Contains-append_right (assign address_port (variable address_name) ∷ assign strobe_port (variable strobe_register_name) ∷ [])
-    (counted rows (λ row. assign (row_port row) (variable (row_name row)))) (assign (row_port row) (variable (row_name row)))
-    (contains_counted rows (λ row. assign (row_port row) (variable (row_name row))) row within)
+    Contains-append_right (assign address_port (variable address_register_name) ∷ assign strobe_port (variable strobe_register_name) ∷ [])
+    (counted rows (λ row. assign (row_port row) (variable (row_register_name row)))) (assign (row_port row) (variable (row_register_name row)))
+    (contains_counted rows (λ row. assign (row_port row) (variable (row_register_name row))) row within)
 
 -- ---- its registers
 
 abbrev pub register_names : (rows : ℕ) → List (List ℕ)
-register_names rows = state_name ∷ count_name ∷ address_name ∷ strobe_register_name ∷ counted rows row_name
+register_names rows = state_name ∷ count_name ∷ address_register_name ∷ strobe_register_name ∷ counted rows row_register_name
 
-pub all_registers : (P : List ℕ → Type 0) (rows : ℕ) → P state_name → P count_name → P address_name → P strobe_register_name → ((row : ℕ) → row < rows → P (row_name row)) →
+pub all_registers : (P : List ℕ → Type 0) (rows : ℕ) → P state_name → P count_name → P address_register_name → P strobe_register_name → ((row : ℕ) → row < rows → P (row_register_name row)) →
     All P (register_names rows)
 all_registers P rows state count address strobe each =
-    All-cons P state_name (count_name ∷ address_name ∷ strobe_register_name ∷ counted rows row_name) state
-    (All-cons P count_name (address_name ∷ strobe_register_name ∷ counted rows row_name) count
-    (All-cons P address_name (strobe_register_name ∷ counted rows row_name) address
-    (All-cons P strobe_register_name (counted rows row_name) strobe (all_counted P rows row_name each))))
+    All-cons P state_name (count_name ∷ address_register_name ∷ strobe_register_name ∷ counted rows row_register_name) state
+    (All-cons P count_name (address_register_name ∷ strobe_register_name ∷ counted rows row_register_name) count
+    (All-cons P address_register_name (strobe_register_name ∷ counted rows row_register_name) address
+    (All-cons P strobe_register_name (counted rows row_register_name) strobe (all_counted P rows row_register_name each))))
 
-pub row_register : (rows row : ℕ) → row < rows → Contains (register_names rows) (row_name row)
+pub row_register : (rows row : ℕ) → row < rows → Contains (register_names rows) (row_register_name row)
 row_register rows row within =
-    Contains-append_right (state_name ∷ count_name ∷ address_name ∷ strobe_register_name ∷ []) (counted rows row_name) (row_name row)
-    (contains_counted rows row_name row within)
+    Contains-append_right (state_name ∷ count_name ∷ address_register_name ∷ strobe_register_name ∷ []) (counted rows row_register_name) (row_register_name row)
+    (contains_counted rows row_register_name row within)
 
 -- flip-flops of CLK drive the bits of the name
 abbrev pub IsFlop : List PlainModule → (name : List ℕ) → Type 0

@@ -14,24 +14,24 @@ use Rattle.fab_syntax.specs.Declarations.{module_named}
 use Rattle.fab_meaning.specs.Points.{Path, Found, instance_named, instance_in, module_of, module_at}
 use Rattle.fab_meaning.specs.Runs.{clock_name, user_clock_name}
 use Rattle.fab_meaning.proofs.Modules.{each_all}
-use Rattle.fab_matrix.specs.Matrix.{config_name}
-use Rattle.fab_prim.specs.Ports.{clock_names, top_inputs, top_outputs}
-use Rattle.fab_prim.specs.Modules.{module_name, module_items, module_of_kind}
-use Rattle.fab_model.specs.declared.tiles.Bel.{Bel}
-use Rattle.fab_model.specs.Tiles.{PlainTile, counted, matrix_names, tile_bits}
-use Rattle.fab_model.specs.Grid.{PlainFabric, tile_at}
-use Rattle.fab_fabric.specs.Names.{place_name}
-use Rattle.fab_gen_tile.specs.Names.{config_module_name, matrix_module_name, tile_module_name, config_instance_name, bits_name, latch_name, pad_name, joined, same_join}
-use Rattle.fab_gen_tile.specs.ConfigModule.{bit_latch, all_latches, config_items, config_module}
-use Rattle.fab_gen_tile.specs.MatrixModule.{matrix_module, numbered_outputs}
-use Rattle.fab_gen_tile.specs.TileModule.{bits_join, matrix_outputs, pin_join, pad_join, bel_joins, tile_items, tile_module}
-use Rattle.fab_gen_loader.specs.Loader.{NextValues, address_port, strobe_port, registers, processes, outputs, loader_of, state_name, count_name, address_name, strobe_register_name, row_name, row_port}
-use Rattle.fab_fabric_text.specs.Names.{loader_module_name, loader_instance_name}
-use Rattle.fab_fabric_text.specs.Places.{PlacedTile}
-use Rattle.fab_fabric_text.specs.Top.{top_items, top_module}
+use Rattle.fab_meaning.specs.Ports.{config_name}
+use Rattle.fab_drives.specs.fab_prim.specs.Ports.{clock_names, top_inputs, top_outputs}
+use Rattle.fab_drives.specs.fab_prim.specs.Modules.{module_name, module_items, module_of_kind}
+use Rattle.fab_drives.specs.fab_model.specs.declared.tiles.Bel.{Bel}
+use Rattle.fab_drives.specs.fab_model.specs.Tiles.{PlainTile, counted, matrix_names, tile_bits}
+use Rattle.fab_drives.specs.fab_model.specs.Grid.{PlainFabric, tile_at}
+use Rattle.fab_drives.specs.fab_fabric.specs.Names.{place_name}
+use Rattle.fab_drives.specs.fab_gen_tile.specs.Names.{config_module_name, matrix_module_name, tile_module_name, config_instance_name, bits_name, latch_name, pad_name, joined, same_join}
+use Rattle.fab_drives.specs.fab_gen_tile.specs.ConfigModule.{bit_latch, all_latches, config_items, config_module}
+use Rattle.fab_drives.specs.fab_gen_tile.specs.MatrixModule.{matrix_module, numbered_outputs}
+use Rattle.fab_drives.specs.fab_gen_tile.specs.TileModule.{bits_join, matrix_outputs, pin_join, pad_join, bel_joins, tile_items, tile_module}
+use Rattle.fab_drives.specs.fab_gen_loader.specs.Loader.{NextValues, address_port, strobe_port, registers, processes, outputs, loader_of, state_name, count_name, strobe_register_name, row_port, address_register_name, row_register_name, loader_module_name}
+use Rattle.fab_drives.specs.fab_fabric_text.specs.Names.{loader_instance_name}
+use Rattle.fab_drives.specs.fab_fabric_text.specs.Places.{PlacedTile}
+use Rattle.fab_drives.specs.fab_fabric_text.specs.Top.{top_items, top_module}
 use Rattle.fab_parts_sound.proofs.Apart.{differs_from}
 use Rattle.fab_parts_sound.proofs.Names.{Differ}
-use Rattle.fab_tile_drives.proofs.Endings.{all_counted}
+use Rattle.fab_drives.specs.fab_tile_drives.proofs.Endings.{all_counted}
 use Rattle.fab_drives.specs.Points.{place_path}
 use Rattle.fab_drives.proofs.Apart.{told_apart}
 use Rattle.fab_drives.proofs.Instances.{all_of_top}
@@ -120,20 +120,20 @@ IsRegister rows clock target = Contains (register_names rows) target
 pub loader_is : (rows : ℕ) (next : NextValues) → All (ItemIs NoInstance NoLatch (IsRegister rows)) (loader_of rows next).items
 loader_is rows next =
     let P = ItemIs NoInstance NoLatch (IsRegister rows) in
-    let fixed_registers : List PlainItem = reg (Vector 2) state_name ∷ reg (Vector 5) count_name ∷ reg (Vector 32) address_name ∷ reg Scalar strobe_register_name ∷ [] in
+    let fixed_registers : List PlainItem = reg (Vector 2) state_name ∷ reg (Vector 5) count_name ∷ reg (Vector 32) address_register_name ∷ reg Scalar strobe_register_name ∷ [] in
     let fixed_processes : List PlainItem =
     clocked clock_name state_name next.state ∷ clocked clock_name count_name next.count
-    ∷ clocked clock_name address_name next.address ∷ clocked clock_name strobe_register_name next.strobe ∷ [] in
-    let fixed_outputs : List PlainItem = assign address_port (variable address_name) ∷ assign strobe_port (variable strobe_register_name) ∷ [] in
+    ∷ clocked clock_name address_register_name next.address ∷ clocked clock_name strobe_register_name next.strobe ∷ [] in
+    let fixed_outputs : List PlainItem = assign address_port (variable address_register_name) ∷ assign strobe_port (variable strobe_register_name) ∷ [] in
     All-append P (registers rows) (processes rows next ++ outputs rows)
-    (All-append P fixed_registers (counted rows (λ row. reg (Vector 32) (row_name row))) (each_all P fixed_registers (tt, (tt, (tt, (tt, tt)))))
-    (all_counted P rows (λ row. reg (Vector 32) (row_name row)) (λ row few. tt)))
+    (All-append P fixed_registers (counted rows (λ row. reg (Vector 32) (row_register_name row))) (each_all P fixed_registers (tt, (tt, (tt, (tt, tt)))))
+    (all_counted P rows (λ row. reg (Vector 32) (row_register_name row)) (λ row few. tt)))
     (All-append P (processes rows next) (outputs rows)
-    (All-append P fixed_processes (counted rows (λ row. clocked clock_name (row_name row) (next.row row)))
+    (All-append P fixed_processes (counted rows (λ row. clocked clock_name (row_register_name row) (next.row row)))
     (each_all P fixed_processes ((0, omega arith, refl), ((1, omega arith, refl), ((2, omega arith, refl), ((3, omega arith, refl), tt)))))
-    (all_counted P rows (λ row. clocked clock_name (row_name row) (next.row row)) (λ row few. row_register rows row few)))
-    (All-append P fixed_outputs (counted rows (λ row. assign (row_port row) (variable (row_name row)))) (each_all P fixed_outputs (tt, (tt, tt)))
-    (all_counted P rows (λ row. assign (row_port row) (variable (row_name row))) (λ row few. tt))))
+    (all_counted P rows (λ row. clocked clock_name (row_register_name row) (next.row row)) (λ row few. row_register rows row few)))
+    (All-append P fixed_outputs (counted rows (λ row. assign (row_port row) (variable (row_register_name row)))) (each_all P fixed_outputs (tt, (tt, tt)))
+    (all_counted P rows (λ row. assign (row_port row) (variable (row_register_name row))) (λ row few. tt))))
 
 -- ---- a configuration
 

@@ -9,27 +9,26 @@ use Rattle.fab_meaning.specs.Value.{value, bit_at}
 use Rattle.fab_meaning.specs.Points.{Path, Point, point, outside, hold, flop, module_at}
 use Rattle.fab_meaning.specs.Settled.{Assignment, names_at, IsSettledOn}
 use Rattle.fab_meaning.specs.Runs.{clock_name}
-use Rattle.fab_meaning.specs.Loading.{IsLoading}
+use Rattle.fab_meaning.specs.Loading.{IsLoading, write_strobe_name, write_data_name}
 use Rattle.fab_meaning.proofs.Declared.{bits_of_name}
-use Rattle.fab_model.specs.Tiles.{PlainTile, counted, tile_bits}
-use Rattle.fab_model.specs.Grid.{PlainFabric, tile_at}
-use Rattle.fab_fabric.specs.Names.{place_name}
-use Rattle.fab_fabric.specs.Fabric.{IsFabric}
-use Rattle.fab_gen_tile.specs.Names.{tile_module_name, config_module_name, config_instance_name, frame_data_name, frame_strobe_name, latch_name, joined}
-use Rattle.fab_gen_tile.specs.ConfigModule.{config_module}
-use Rattle.fab_gen_tile.specs.TileModule.{config_joins, tile_module}
-use Rattle.fab_gen_loader.specs.Machine.{Machine}
-use Rattle.fab_gen_loader.specs.Loader.{NextValues, outputs, loader_of, machine_at, bits_at}
-use Rattle.fab_gen_loader.specs.Loader.{address_name as address_register, strobe_register_name, row_name as row_register_name}
-use Rattle.fab_gen_loader.proofs.Counted.{get_counted}
-use Rattle.fab_gen_loader.proofs.Widths.{address_width as address_register_width, row_width as row_register_width}
-use Rattle.fab_fabric_text.specs.Names.{loader_module_name, loader_instance_name, write_strobe_name, write_data_name, address_name, strobe_name, row_name, column_strobe_name}
-use Rattle.fab_fabric_text.specs.Top.{loader_joins, tile_joins, top_module}
-use Rattle.fab_tile_drives.specs.Stands.{IsSettledOnDeclared}
-use Rattle.fab_tile_drives.proofs.Driven.{width_of, declared_at, variable_bit, part_bit, assigned, joined_in, joined_out}
-use Rattle.fab_tile_drives.proofs.Latches.{latch_width}
-use Rattle.fab_tile_drives.proofs.Members.{contains_counted}
-use Rattle.fab_tile_drives.proofs.TileItems.{config_there}
+use Rattle.fab_drives.specs.fab_model.specs.Tiles.{PlainTile, counted, tile_bits}
+use Rattle.fab_drives.specs.fab_model.specs.Grid.{PlainFabric, tile_at}
+use Rattle.fab_drives.specs.fab_fabric.specs.Names.{place_name}
+use Rattle.fab_drives.specs.fab_fabric.specs.Fabric.{IsFabric}
+use Rattle.fab_drives.specs.fab_gen_tile.specs.Names.{tile_module_name, config_module_name, config_instance_name, frame_data_name, frame_strobe_name, latch_name, joined}
+use Rattle.fab_drives.specs.fab_gen_tile.specs.ConfigModule.{config_module}
+use Rattle.fab_drives.specs.fab_gen_tile.specs.TileModule.{config_joins, tile_module}
+use Rattle.fab_drives.specs.fab_gen_loader.specs.Machine.{Machine}
+use Rattle.fab_drives.specs.fab_gen_loader.specs.Loader.{NextValues, outputs, loader_of, machine_at, bits_at, strobe_register_name, address_register_name as address_register, row_register_name, loader_module_name}
+use Rattle.fab_drives.specs.fab_gen_loader.proofs.Counted.{get_counted}
+use Rattle.fab_drives.specs.fab_gen_loader.proofs.Widths.{address_width as address_register_width, row_width as row_register_width}
+use Rattle.fab_drives.specs.fab_fabric_text.specs.Names.{loader_instance_name, address_name, strobe_name, row_name, column_strobe_name}
+use Rattle.fab_drives.specs.fab_fabric_text.specs.Top.{loader_joins, tile_joins, top_module}
+use Rattle.fab_drives.specs.fab_tile_drives.specs.Stands.{IsSettledOnDeclared}
+use Rattle.fab_drives.specs.fab_tile_drives.proofs.Driven.{width_of, declared_at, variable_bit, part_bit, assigned, joined_in, joined_out}
+use Rattle.fab_drives.specs.fab_tile_drives.proofs.Latches.{latch_width}
+use Rattle.fab_drives.specs.fab_tile_drives.proofs.Members.{contains_counted}
+use Rattle.fab_drives.specs.fab_tile_drives.proofs.TileItems.{config_there}
 use Rattle.fab_drives.specs.Points.{place_path}
 use Rattle.fab_drives.proofs.Instances.{tile_instance_there}
 use Rattle.fab_drives.proofs.Places.{in_grid, placed_tile}

@@ -5,8 +5,8 @@ use Rattle.fab_bits.proofs.Numbers.{same_bits_digits, length_first_bits, range_f
 use Rattle.fab_syntax.specs.declared.tree.Op.TheVariants.{And}
 use Rattle.fab_syntax.specs.Plain.{PlainExpr, variable, part, constant, operation, conditional}
 use Rattle.fab_meaning.specs.Value.{value, bit_at}
-use Rattle.fab_fabric_text.specs.Names.{address_name, strobe_name}
-use Rattle.fab_fabric_text.specs.Top.{names_column}
+use Rattle.fab_drives.specs.fab_fabric_text.specs.Names.{address_name, strobe_name}
+use Rattle.fab_drives.specs.fab_fabric_text.specs.Top.{names_column}
 
 abbrev pub strobe_expression : (x : ℕ) → PlainExpr
 strobe_expression x = conditional (operation And (variable strobe_name) (names_column x)) (part address_name 19 0) (constant (digits 20 0))

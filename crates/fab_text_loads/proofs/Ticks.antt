@@ -6,23 +6,22 @@ use Rattle.std.proofs.lemmas.List.Elements.{All-contains}
 use Rattle.std.proofs.lemmas.Slice.Eq.{bytes_eq-Decides}
 use Rattle.fab_bits.specs.Bits.{number, digits, first_bits}
 use Rattle.fab_bits.proofs.Numbers.{length_first_bits, first_bits_same, get_first_bits}
-use Rattle.fab_frames.proofs.Numbers.{digits_number, number_digits, number_below}
+use Rattle.fab_loading.specs.fab_frames.proofs.Numbers.{digits_number, number_digits, number_below}
 use Rattle.fab_syntax.specs.Plain.{PlainModule}
 use Rattle.fab_meaning.specs.Value.{value, bit_at}
 use Rattle.fab_meaning.specs.Points.{point, flop}
 use Rattle.fab_meaning.specs.Settled.{Assignment, names_at, IsSettledOn}
 use Rattle.fab_meaning.specs.Runs.{clock_name, is_clock, Ticks}
-use Rattle.fab_meaning.specs.Loading.{data_name, OffersWord, IsLoading}
-use Rattle.fab_model.specs.Tiles.{counted}
-use Rattle.fab_model.specs.Grid.{PlainFabric}
-use Rattle.fab_fabric.specs.Fabric.{IsFabric}
-use Rattle.fab_gen_loader.specs.Machine.{Machine, Word, tick}
-use Rattle.fab_gen_loader.specs.Loader.{NextValues, loader_of, state_name, count_name, address_name, strobe_register_name, row_name, bits_at, machine_at, machine_next, Takes, TakesNext}
-use Rattle.fab_gen_loader.proofs.Counted.{length-counted, get_counted}
-use Rattle.fab_gen_loader.proofs.Widths.{state_width, count_width, address_width, row_width}
-use Rattle.fab_fabric_text.specs.Names.{write_strobe_name}
-use Rattle.fab_tile_drives.proofs.Driven.{width_of, declared_at}
-use Rattle.fab_tile_drives.proofs.Endings.{all_counted}
+use Rattle.fab_meaning.specs.Loading.{OffersWord, IsLoading, write_data_name, write_strobe_name}
+use Rattle.fab_drives.specs.fab_model.specs.Tiles.{counted}
+use Rattle.fab_drives.specs.fab_model.specs.Grid.{PlainFabric}
+use Rattle.fab_drives.specs.fab_fabric.specs.Fabric.{IsFabric}
+use Rattle.fab_drives.specs.fab_gen_loader.specs.Machine.{Machine, Word, tick}
+use Rattle.fab_drives.specs.fab_gen_loader.specs.Loader.{NextValues, loader_of, state_name, count_name, strobe_register_name, bits_at, machine_at, machine_next, Takes, TakesNext, address_register_name, row_register_name}
+use Rattle.fab_drives.specs.fab_gen_loader.proofs.Counted.{length-counted, get_counted}
+use Rattle.fab_drives.specs.fab_gen_loader.proofs.Widths.{state_width, count_width, address_width, row_width}
+use Rattle.fab_drives.specs.fab_tile_drives.proofs.Driven.{width_of, declared_at}
+use Rattle.fab_drives.specs.fab_tile_drives.proofs.Endings.{all_counted}
 use Rattle.fab_loading.specs.Latches.{IsWord, IsMachine}
 use Rattle.fab_loading.specs.Streams.{TicksKeepMachines}
 use Rattle.fab_text_loads.specs.Points.{loader_path, in_loader}
@@ -59,9 +58,9 @@ pub held_is_machine : (rows : ℕ) (held : Assignment) → IsMachine rows (machi
 held_is_machine rows held = record {
   state = omega (arith, number_of 2 (λ bit. held (point loader_path state_name bit)));
   count = omega (arith, number_of 5 (λ bit. held (point loader_path count_name bit)));
-  address = length_first_bits 32 (λ bit. held (point loader_path address_name bit));
-  as_many = length-counted rows (λ row. bits_at held loader_path (row_name row) 32);
-  words = all_counted IsWord rows (λ row. bits_at held loader_path (row_name row) 32) (λ row few. length_first_bits 32 (λ bit. held (point loader_path (row_name row) bit)));
+  address = length_first_bits 32 (λ bit. held (point loader_path address_register_name bit));
+  as_many = length-counted rows (λ row. bits_at held loader_path (row_register_name row) 32);
+  words = all_counted IsWord rows (λ row. bits_at held loader_path (row_register_name row) 32) (λ row few. length_first_bits 32 (λ bit. held (point loader_path (row_register_name row) bit)));
 }
 
 -- registers that agree make one machine
@@ -75,13 +74,13 @@ machine_same rows next held other same =
     (λ bit few. same name bit listed (omega (arith, few, wide))) in
     let state = bits state_name 2 (0, omega arith, refl) (state_width rows next) in
     let count = bits count_name 5 (1, omega arith, refl) (count_width rows next) in
-    let address = bits address_name 32 (2, omega arith, refl) (address_width rows next) in
+    let address = bits address_register_name 32 (2, omega arith, refl) (address_width rows next) in
     let strobe = same strobe_register_name 0 (3, omega arith, refl) (omega (arith, strobe_register_width rows next)) in
-    let others : counted rows (λ row. bits_at held loader_path (row_name row) 32) ≡ counted rows (λ row. bits_at other loader_path (row_name row) 32) =
-    counted_again (counted rows (λ row. bits_at other loader_path (row_name row) 32)) rows (λ row. bits_at held loader_path (row_name row) 32) []
-    (length-counted rows (λ row. bits_at other loader_path (row_name row) 32))
-    (λ row few. bits (row_name row) 32 (row_register rows row few) (row_width rows next row few)
-    ∙ sym (get_counted rows (λ row. bits_at other loader_path (row_name row) 32) row [] few)) in
+    let others : counted rows (λ row. bits_at held loader_path (row_register_name row) 32) ≡ counted rows (λ row. bits_at other loader_path (row_register_name row) 32) =
+    counted_again (counted rows (λ row. bits_at other loader_path (row_register_name row) 32)) rows (λ row. bits_at held loader_path (row_register_name row) 32) []
+    (length-counted rows (λ row. bits_at other loader_path (row_register_name row) 32))
+    (λ row few. bits (row_register_name row) 32 (row_register rows row few) (row_width rows next row few)
+    ∙ sym (get_counted rows (λ row. bits_at other loader_path (row_register_name row) 32) row [] few)) in
     λ j. record { state = number (state j); count = number (count j); address = address j; strobe = strobe j; rows = others j }
 
 -- ---- a tick
@@ -120,8 +119,8 @@ module _ (fabric : PlainFabric) (next : NextValues) (text : List PlainModule) (h
   stepped_is_machine : IsMachine rows stepped
   stepped_is_machine =
       let few = is.few_rows in
-      keeps rows (machine_at now loader_path rows) (now (point loader_path write_strobe_name 0)) (bits_at now loader_path data_name 32) (omega (arith, few))
-      (held_is_machine rows now) (length_first_bits 32 (λ bit. now (point loader_path data_name bit)))
+      keeps rows (machine_at now loader_path rows) (now (point loader_path write_strobe_name 0)) (bits_at now loader_path write_data_name 32) (omega (arith, few))
+      (held_is_machine rows now) (length_first_bits 32 (λ bit. now (point loader_path write_data_name bit)))
 
   machine_steps : machine_at after loader_path rows ≡ stepped
   machine_steps =
@@ -132,12 +131,12 @@ module _ (fabric : PlainFabric) (next : NextValues) (text : List PlainModule) (h
       ap number (bits_after state_name (digits 2 stepped.state) 2 takes_here.state (digits_long 2 stepped.state) (state_width rows next)) ∙ number_digits 2 stepped.state (omega (arith, few_states)) in
       let count : number (bits_at after loader_path count_name 5) ≡ stepped.count =
       ap number (bits_after count_name (digits 5 stepped.count) 5 takes_here.count (digits_long 5 stepped.count) (count_width rows next)) ∙ number_digits 5 stepped.count (omega (arith, few_counts)) in
-      let address = bits_after address_name stepped.address 32 takes_here.address may.address (address_width rows next) in
+      let address = bits_after address_register_name stepped.address 32 takes_here.address may.address (address_width rows next) in
       let strobe : after (point loader_path strobe_register_name 0) ≡ stepped.strobe =
       after_takes strobe_register_name (stepped.strobe ∷ []) 0 takes_here.strobe (omega (arith, strobe_register_width rows next)) in
-      let others : counted rows (λ row. bits_at after loader_path (row_name row) 32) ≡ stepped.rows =
-      counted_again stepped.rows rows (λ row. bits_at after loader_path (row_name row) 32) [] may.as_many
-      (λ row few. bits_after (row_name row) (slice_index_or stepped.rows row []) 32 (takes_here.each_row row few)
+      let others : counted rows (λ row. bits_at after loader_path (row_register_name row) 32) ≡ stepped.rows =
+      counted_again stepped.rows rows (λ row. bits_at after loader_path (row_register_name row) 32) [] may.as_many
+      (λ row few. bits_after (row_register_name row) (slice_index_or stepped.rows row []) 32 (takes_here.each_row row few)
       (may.words row [] (omega (arith, few, may.as_many))) (row_width rows next row few)) in
       λ j. record { state = state j; count = count j; address = address j; strobe = strobe j; rows = others j }
 
@@ -146,9 +145,9 @@ module _ (fabric : PlainFabric) (next : NextValues) (text : List PlainModule) (h
   word_ticks word offers long =
       let strobe : now (point loader_path write_strobe_name 0) ≡ true =
       input_shows fabric next text has is inputs held now settled write_strobe_name 0 (1, omega arith, refl) (1, omega arith, refl) refl refl (omega arith) (omega arith) ∙ offers.strobe in
-      let bits : bits_at now loader_path data_name 32 ≡ word =
-      first_bits_same 32 (λ bit. now (point loader_path data_name bit)) (λ bit. bit_at word bit)
-      (λ bit few. input_shows fabric next text has is inputs held now settled data_name bit (2, omega arith, refl) (2, omega arith, refl) refl refl few few ∙ offers.bits bit)
+      let bits : bits_at now loader_path write_data_name 32 ≡ word =
+      first_bits_same 32 (λ bit. now (point loader_path write_data_name bit)) (λ bit. bit_at word bit)
+      (λ bit few. input_shows fabric next text has is inputs held now settled write_data_name bit (2, omega arith, refl) (2, omega arith, refl) refl refl few few ∙ offers.bits bit)
       ∙ ap (λ n. first_bits n (λ bit. bit_at word bit)) (sym long)
       ∙ bits_again word in
       machine_steps ∙ (λ j. tick rows (shown_machine j) (strobe j) (bits j))
@@ -159,7 +158,7 @@ module _ (fabric : PlainFabric) (next : NextValues) (text : List PlainModule) (h
   quiet_step quiet =
       let strobe : now (point loader_path write_strobe_name 0) ≡ false =
       input_shows fabric next text has is inputs held now settled write_strobe_name 0 (1, omega arith, refl) (1, omega arith, refl) refl refl (omega arith) (omega arith) ∙ quiet in
-      λ j. tick rows (shown_machine j) (strobe j) (bits_at now loader_path data_name 32)
+      λ j. tick rows (shown_machine j) (strobe j) (bits_at now loader_path write_data_name 32)
 
   -- the machine after the tick, where they offer none
   pub quiet_ticks : inputs (point [] write_strobe_name 0) ≡ false → machine_at after loader_path rows ≡ tick rows (machine_at held loader_path rows) false []
@@ -188,11 +187,11 @@ module _ (fabric : PlainFabric) (next : NextValues) (text : List PlainModule) (h
         ∙ ap (λ bits. bit_at bits bit) (digits_again 5 f)
         ∙ get_first_bits 5 f bit false (omega (arith, few, count_width rows next))
 
-    address_stays : Stays address_name
+    address_stays : Stays address_register_name
     address_stays bit few =
-        after_takes address_name stepped.address bit takes_here.address few
+        after_takes address_register_name stepped.address bit takes_here.address few
         ∙ ap (λ (m : Machine). bit_at m.address bit) (quiet_step quiet)
-        ∙ get_first_bits 32 (λ bit. held (point loader_path address_name bit)) bit false (omega (arith, few, address_width rows next))
+        ∙ get_first_bits 32 (λ bit. held (point loader_path address_register_name bit)) bit false (omega (arith, few, address_width rows next))
 
     strobe_stays : Stays strobe_register_name
     strobe_stays bit few =
@@ -202,12 +201,12 @@ module _ (fabric : PlainFabric) (next : NextValues) (text : List PlainModule) (h
         ∙ ap (λ (m : Machine). m.strobe) (quiet_step quiet)
         ∙ sym strobe_low)
 
-    row_stays : (row : ℕ) → row < rows → Stays (row_name row)
+    row_stays : (row : ℕ) → row < rows → Stays (row_register_name row)
     row_stays row within bit few =
-        let f : ℕ → Bool = λ bit. held (point loader_path (row_name row) bit) in
-        after_takes (row_name row) (slice_index_or stepped.rows row []) bit (takes_here.each_row row within) few
+        let f : ℕ → Bool = λ bit. held (point loader_path (row_register_name row) bit) in
+        after_takes (row_register_name row) (slice_index_or stepped.rows row []) bit (takes_here.each_row row within) few
         ∙ ap (λ (m : Machine). bit_at (slice_index_or m.rows row []) bit) (quiet_step quiet)
-        ∙ ap (λ bits. bit_at bits bit) (get_counted rows (λ row. bits_at held loader_path (row_name row) 32) row [] within)
+        ∙ ap (λ bits. bit_at bits bit) (get_counted rows (λ row. bits_at held loader_path (row_register_name row) 32) row [] within)
         ∙ get_first_bits 32 f bit false (omega (arith, few, row_width rows next row within))
 
     -- then the registers stay as they are

@@ -7,18 +7,19 @@ use Rattle.fab_syntax.specs.declared.tree.Port.{Port}
 use Rattle.fab_syntax.specs.Plain.{PlainItem, wire}
 use Rattle.fab_syntax.specs.Declarations.{width_if_any, item_shape}
 use Rattle.fab_meaning.specs.Runs.{user_clock_name}
-use Rattle.fab_matrix.specs.Matrix.{scalar}
-use Rattle.fab_prim.specs.Ports.{top_inputs, top_outputs}
-use Rattle.fab_model.specs.declared.tiles.Bel.{Bel}
-use Rattle.fab_model.specs.Tiles.{counted}
-use Rattle.fab_model.specs.Grid.{PlainFabric}
-use Rattle.fab_gen_tile.specs.Names.{vector}
-use Rattle.fab_fabric_text.specs.Names.{loader_clock_name, write_strobe_name, write_data_name, address_name, strobe_name, row_name, column_strobe_name, pad_port_name}
-use Rattle.fab_fabric_text.specs.Places.{PlacedTile, placed_tiles}
-use Rattle.fab_fabric_text.specs.Top.{pad_ports, tile_pads, top_ports, loader_instance, column_strobes, tile_begin_wires, tile_instance, top_items, top_module}
-use Rattle.fab_tile_drives.proofs.Driven.{width_of}
-use Rattle.fab_tile_drives.proofs.Endings.{all_flat_map}
-use Rattle.fab_tile_drives.proofs.Widths.{passed_ports}
+use Rattle.fab_meaning.specs.Ports.{scalar}
+use Rattle.fab_drives.specs.fab_prim.specs.Ports.{top_inputs, top_outputs}
+use Rattle.fab_drives.specs.fab_model.specs.declared.tiles.Bel.{Bel}
+use Rattle.fab_drives.specs.fab_model.specs.Tiles.{counted}
+use Rattle.fab_drives.specs.fab_model.specs.Grid.{PlainFabric}
+use Rattle.fab_drives.specs.fab_gen_tile.specs.Names.{vector}
+use Rattle.fab_meaning.specs.Loading.{write_strobe_name, write_data_name}
+use Rattle.fab_drives.specs.fab_fabric_text.specs.Names.{loader_clock_name, address_name, strobe_name, row_name, column_strobe_name, pad_port_name}
+use Rattle.fab_drives.specs.fab_fabric_text.specs.Places.{PlacedTile, placed_tiles}
+use Rattle.fab_drives.specs.fab_fabric_text.specs.Top.{pad_ports, tile_pads, top_ports, loader_instance, column_strobes, tile_begin_wires, tile_instance, top_items, top_module}
+use Rattle.fab_drives.specs.fab_tile_drives.proofs.Driven.{width_of}
+use Rattle.fab_drives.specs.fab_tile_drives.proofs.Endings.{all_flat_map}
+use Rattle.fab_drives.specs.fab_tile_drives.proofs.Widths.{passed_ports}
 use Rattle.fab_drives.proofs.Lists.{all_of}
 use Rattle.fab_drives.proofs.Apart.{told_apart}
 use Rattle.fab_text_loads.proofs.Declared.{wire_found, wires_passed}

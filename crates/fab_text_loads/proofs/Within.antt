@@ -14,15 +14,15 @@ use Rattle.fab_syntax.specs.Declarations.{is_input, is_input_of}
 use Rattle.fab_meaning.specs.Points.{Path, Point, point, copy, bit_of, flop, Drives, module_at}
 use Rattle.fab_meaning.specs.Reads.{mentions, is_declared, expression_reads, same_path}
 use Rattle.fab_meaning.specs.Runs.{clock_name}
-use Rattle.fab_meaning.specs.Loading.{data_name, Within, by_flop, by_stream, by_reads, IsClosed, IsLoading}
+use Rattle.fab_meaning.specs.Loading.{Within, by_flop, by_stream, by_reads, IsClosed, IsLoading, write_data_name, write_strobe_name}
 use Rattle.fab_meaning.proofs.Dependence.{same_name, same_path_refl, same_point_is}
 use Rattle.fab_meaning.proofs.Modules.{each_all}
-use Rattle.fab_model.specs.Tiles.{counted}
-use Rattle.fab_model.specs.Grid.{PlainFabric}
-use Rattle.fab_gen_loader.specs.Loader.{NextValues, port, address_port, strobe_port, row_port, registers, processes, outputs, loader_of, state_name, count_name, address_name, strobe_register_name, row_name}
-use Rattle.fab_fabric_text.specs.Names.{loader_module_name, loader_instance_name, write_strobe_name}
-use Rattle.fab_fabric_text.specs.Top.{loader_joins, top_module}
-use Rattle.fab_tile_drives.proofs.Endings.{all_counted}
+use Rattle.fab_drives.specs.fab_model.specs.Tiles.{counted}
+use Rattle.fab_drives.specs.fab_model.specs.Grid.{PlainFabric}
+use Rattle.fab_drives.specs.fab_gen_loader.specs.Loader.{NextValues, port, address_port, strobe_port, row_port, registers, processes, outputs, loader_of, state_name, count_name, strobe_register_name, address_register_name, row_register_name, loader_module_name}
+use Rattle.fab_drives.specs.fab_fabric_text.specs.Names.{loader_instance_name}
+use Rattle.fab_drives.specs.fab_fabric_text.specs.Top.{loader_joins, top_module}
+use Rattle.fab_drives.specs.fab_tile_drives.proofs.Endings.{all_counted}
 use Rattle.fab_drives.proofs.Modules.{any_there}
 use Rattle.fab_text_loads.specs.Points.{loader_path}
 use Rattle.fab_text_loads.proofs.Drivers.{assigned_by, joined_to}
@@ -79,7 +79,7 @@ module _ (fabric : PlainFabric) (next : NextValues) (text : List PlainModule) (h
 
   -- ---- what comes from the top
 
-  pub stream_within : (name : List ℕ) → (name ≡ clock_name) ⊎ ((name ≡ write_strobe_name) ⊎ (name ≡ data_name)) → is_input (top_module fabric).ports name ≡ true →
+  pub stream_within : (name : List ℕ) → (name ≡ clock_name) ⊎ ((name ≡ write_strobe_name) ⊎ (name ≡ write_data_name)) → is_input (top_module fabric).ports name ≡ true →
       AreWithin text flops [] name
   stream_within name named input bit declared =
       let is : is_input_of (module_at text []) name ≡ true = ap (λ m. is_input_of m name) has.tiles.top_is ∙ input in
@@ -91,8 +91,8 @@ module _ (fabric : PlainFabric) (next : NextValues) (text : List PlainModule) (h
   pub strobe_within : AreWithin text flops [] write_strobe_name
   strobe_within = stream_within write_strobe_name (inr (inl refl)) refl
 
-  pub data_within : AreWithin text flops [] data_name
-  data_within = stream_within data_name (inr (inr refl)) refl
+  pub data_within : AreWithin text flops [] write_data_name
+  data_within = stream_within write_data_name (inr (inr refl)) refl
 
   -- ---- the loader
 
@@ -121,7 +121,7 @@ module _ (fabric : PlainFabric) (next : NextValues) (text : List PlainModule) (h
   ports_within =
       let P : Port → Type 0 = λ port. AreWithin text flops loader_path port.name in
       let fixed : List Port =
-      port true Scalar clock_name ∷ port true Scalar write_strobe_name ∷ port true (Vector 32) data_name
+      port true Scalar clock_name ∷ port true Scalar write_strobe_name ∷ port true (Vector 32) write_data_name
       ∷ port false (Vector 32) address_port ∷ port false Scalar strobe_port ∷ [] in
       All-append P fixed (counted rows (λ row. port false (Vector 32) (row_port row)))
       (each_all P fixed (
@@ -129,40 +129,40 @@ module _ (fabric : PlainFabric) (next : NextValues) (text : List PlainModule) (h
         (
           input_within write_strobe_name (1, omega arith, refl) refl strobe_within,
           (
-            input_within data_name (2, omega arith, refl) refl data_within,
+            input_within write_data_name (2, omega arith, refl) refl data_within,
             (
-              output_within address_port address_name (0, omega arith, refl) (2, omega arith, refl),
+              output_within address_port address_register_name (0, omega arith, refl) (2, omega arith, refl),
               (output_within strobe_port strobe_register_name (1, omega arith, refl) (3, omega arith, refl), tt),
             ),
           ),
         ),
       ))
       (all_counted P rows (λ row. port false (Vector 32) (row_port row)) (λ row few.
-      output_within (row_port row) (row_name row) (row_output_there rows row few) (row_register rows row few)))
+      output_within (row_port row) (row_register_name row) (row_output_there rows row few) (row_register rows row few)))
 
   nets_within : All (NetHolds (AreWithin text flops loader_path)) loader.items
   nets_within =
       let P = NetHolds (AreWithin text flops loader_path) in
-      let fixed_registers : List PlainItem = reg (Vector 2) state_name ∷ reg (Vector 5) count_name ∷ reg (Vector 32) address_name ∷ reg Scalar strobe_register_name ∷ [] in
+      let fixed_registers : List PlainItem = reg (Vector 2) state_name ∷ reg (Vector 5) count_name ∷ reg (Vector 32) address_register_name ∷ reg Scalar strobe_register_name ∷ [] in
       let fixed_processes : List PlainItem =
       clocked clock_name state_name next.state ∷ clocked clock_name count_name next.count
-      ∷ clocked clock_name address_name next.address ∷ clocked clock_name strobe_register_name next.strobe ∷ [] in
-      let fixed_outputs : List PlainItem = assign address_port (variable address_name) ∷ assign strobe_port (variable strobe_register_name) ∷ [] in
+      ∷ clocked clock_name address_register_name next.address ∷ clocked clock_name strobe_register_name next.strobe ∷ [] in
+      let fixed_outputs : List PlainItem = assign address_port (variable address_register_name) ∷ assign strobe_port (variable strobe_register_name) ∷ [] in
       All-append P (registers rows) (processes rows next ++ outputs rows)
-      (All-append P fixed_registers (counted rows (λ row. reg (Vector 32) (row_name row)))
+      (All-append P fixed_registers (counted rows (λ row. reg (Vector 32) (row_register_name row)))
       (each_all P fixed_registers (
         register_within state_name (0, omega arith, refl),
         (
           register_within count_name (1, omega arith, refl),
-          (register_within address_name (2, omega arith, refl), (register_within strobe_register_name (3, omega arith, refl), tt)),
+          (register_within address_register_name (2, omega arith, refl), (register_within strobe_register_name (3, omega arith, refl), tt)),
         ),
       ))
-      (all_counted P rows (λ row. reg (Vector 32) (row_name row)) (λ row few. register_within (row_name row) (row_register rows row few))))
+      (all_counted P rows (λ row. reg (Vector 32) (row_register_name row)) (λ row few. register_within (row_register_name row) (row_register rows row few))))
       (All-append P (processes rows next) (outputs rows)
-      (All-append P fixed_processes (counted rows (λ row. clocked clock_name (row_name row) (next.row row))) (each_all P fixed_processes (tt, (tt, (tt, (tt, tt)))))
-      (all_counted P rows (λ row. clocked clock_name (row_name row) (next.row row)) (λ row few. tt)))
-      (All-append P fixed_outputs (counted rows (λ row. assign (row_port row) (variable (row_name row)))) (each_all P fixed_outputs (tt, (tt, tt)))
-      (all_counted P rows (λ row. assign (row_port row) (variable (row_name row))) (λ row few. tt))))
+      (All-append P fixed_processes (counted rows (λ row. clocked clock_name (row_register_name row) (next.row row))) (each_all P fixed_processes (tt, (tt, (tt, (tt, tt)))))
+      (all_counted P rows (λ row. clocked clock_name (row_register_name row) (next.row row)) (λ row few. tt)))
+      (All-append P fixed_outputs (counted rows (λ row. assign (row_port row) (variable (row_register_name row)))) (each_all P fixed_outputs (tt, (tt, tt)))
+      (all_counted P rows (λ row. assign (row_port row) (variable (row_register_name row))) (λ row few. tt))))
 
   -- all points of the loader
   pub loader_within : (name : List ℕ) → AreWithin text flops loader_path name

@@ -6,7 +6,7 @@ use Rattle.std.proofs.lemmas.List.Elements.{All-map}
 use Rattle.fab_meaning.specs.Value.{bit_at}
 use Rattle.fab_meaning.specs.Settled.{Assignment}
 use Rattle.fab_meaning.specs.Runs.{clock_name, Moment}
-use Rattle.fab_meaning.specs.Loading.{strobe_name, data_name}
+use Rattle.fab_meaning.specs.Loading.{write_strobe_name, write_data_name}
 use Rattle.fab_loading.specs.Latches.{word, words_of}
 use Rattle.fab_load_runs.specs.Runs.{IsClockLow}
 use Rattle.fab_drives.proofs.Lists.{all_of}
@@ -14,7 +14,7 @@ use Rattle.fab_text_loads.specs.Loads.{IsTurn, Writes}
 
 -- inputs that offer the bits
 abbrev offered : List Bool → Assignment
-offered bits p = bytes_eq p.name strobe_name || (bytes_eq p.name data_name && bit_at bits p.bit)
+offered bits p = bytes_eq p.name write_strobe_name || (bytes_eq p.name write_data_name && bit_at bits p.bit)
 
 abbrev offer : List Bool → Moment
 offer bits = record { inputs = offered bits; clock = clock_name }

@@ -1,3 +1,15 @@
 pub mod Points
-pub mod Texts
 pub mod Loads
+pub use Rattle.fab_drives.specs.fab_matrix
+pub use Rattle.fab_drives.specs.fab_prim
+pub use Rattle.fab_drives.specs.fab_fabric
+pub use Rattle.fab_load_runs.specs.fab_equations
+pub use Rattle.fab_drives.specs.fab_gen_tile
+pub use Rattle.fab_drives.specs.fab_tile_drives
+pub use Rattle.fab_drives.specs.fab_gen_loader
+pub use Rattle.fab_drives.specs.fab_fabric_text
+pub use Rattle.fab_drives
+pub use Rattle.fab_parts_sound
+pub use Rattle.fab_loading.specs.fab_frames
+pub use Rattle.fab_loading
+pub use Rattle.fab_load_runs

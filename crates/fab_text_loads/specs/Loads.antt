@@ -6,10 +6,10 @@ use Rattle.fab_meaning.specs.Points.{Point, point}
 use Rattle.fab_meaning.specs.Settled.{Assignment, IsSettledOn}
 use Rattle.fab_meaning.specs.Reads.{is_declared}
 use Rattle.fab_meaning.specs.Runs.{clock_name, Moment, IsRunOn}
-use Rattle.fab_meaning.specs.Loading.{strobe_name, OffersWord, IsLoading, IsSameStream, IsIdle}
-use Rattle.fab_model.specs.Grid.{PlainFabric}
-use Rattle.fab_model.specs.Drive.{PlainBits}
-use Rattle.fab_gen_loader.specs.Loader.{state_name, strobe_register_name}
+use Rattle.fab_meaning.specs.Loading.{OffersWord, IsLoading, IsSameStream, IsIdle, write_strobe_name}
+use Rattle.fab_drives.specs.fab_model.specs.Grid.{PlainFabric}
+use Rattle.fab_drives.specs.fab_model.specs.Drive.{PlainBits}
+use Rattle.fab_drives.specs.fab_gen_loader.specs.Loader.{state_name, strobe_register_name}
 use Rattle.fab_drives.specs.Points.{ShowsBits}
 use Rattle.fab_loading.specs.Latches.{Turn, word, pause, other_clock, words_of}
 use Rattle.fab_loading.specs.Streams.{stream_words}
@@ -20,7 +20,7 @@ use Rattle.fab_text_loads.specs.Points.{loader_path, IsLoadingPoint}
 
 -- no word is written
 abbrev pub IsQuiet : Moment → Type 0
-IsQuiet moment = moment.inputs (point [] strobe_name 0) ≡ false
+IsQuiet moment = moment.inputs (point [] write_strobe_name 0) ≡ false
 
 -- What the loader sees at the end of a moment. Where another clock than CLK ticks, the inputs are free.
 abbrev pub IsTurn : Turn → Moment → Type 0

@@ -6,8 +6,8 @@ use Rattle.fab_syntax.specs.declared.tree.Shape.TheVariants.{Vector}
 use Rattle.fab_syntax.specs.Plain.{PlainItem, variable, reg, assign, clocked}
 use Rattle.fab_model.specs.Tiles.{counted}
 use Rattle.fab_meaning.specs.Runs.{clock_name}
-use Rattle.fab_meaning.specs.Loading.{data_name}
-use Rattle.fab_gen_loader.specs.Loader.{address_name, address_port, count_name, loader_ports, outputs, port, processes, registers, row_name, row_port, state_name, strobe_port, strobe_register_name}
+use Rattle.fab_meaning.specs.Loading.{write_data_name}
+use Rattle.fab_gen_loader.specs.Loader.{address_port, count_name, loader_ports, outputs, port, processes, registers, row_port, state_name, strobe_port, strobe_register_name, address_register_name, row_register_name}
 use Rattle.fab_gen_loader.specs.Expressions.{both, loader_module, next_address, next_count, next_row, next_state, next_strobe, next_values, rows_left, takes_in}
 use Rattle.fab_grammar.specs.Printable.{IsItem, IsModule, IsPrintable}
 use Rattle.fab_tile_drives.proofs.Endings.{all_counted}
@@ -19,7 +19,7 @@ use Rattle.fab_text_reads.proofs.TileWords.{numbered_name}
 row_port_named : (row : ℕ) → IsIdentifier (row_port row)
 row_port_named row = numbered_name (codes "Row") row refl refl
 
-row_named : (row : ℕ) → IsIdentifier (row_name row)
+row_named : (row : ℕ) → IsIdentifier (row_register_name row)
 row_named row = numbered_name (codes "row") row refl refl
 
 -- ---- ports
@@ -48,12 +48,12 @@ ports_all rows =
 row_printable : (rows row : ℕ) → IsPrintable (next_row rows row)
 unfolding keyword_of
 row_printable rows row =
-    ((written_of (both (takes_in 2) (rows_left (rows - row))) refl, written_of (variable data_name) refl, row_named row), lit≤ tt)
+    ((written_of (both (takes_in 2) (rows_left (rows - row))) refl, written_of (variable write_data_name) refl, row_named row), lit≤ tt)
 
 registers_all : (rows : ℕ) → All IsItem (registers rows)
 unfolding keyword_of
 registers_all rows =
-    let each : ℕ → PlainItem = λ (row : ℕ). reg (Vector 32) (row_name row) in
+    let each : ℕ → PlainItem = λ (row : ℕ). reg (Vector 32) (row_register_name row) in
     all_items (registers rows) (
       ((lit< tt, lit≤ tt), name_of (codes "state") refl),
       (
@@ -68,13 +68,13 @@ registers_all rows =
 processes_all : (rows : ℕ) → All IsItem (processes rows (next_values rows))
 unfolding keyword_of
 processes_all rows =
-    let each : ℕ → PlainItem = λ (row : ℕ). clocked clock_name (row_name row) (next_row rows row) in
+    let each : ℕ → PlainItem = λ (row : ℕ). clocked clock_name (row_register_name row) (next_row rows row) in
     all_items (processes rows (next_values rows)) (
       tested_item (clocked clock_name state_name next_state) refl,
       (
         tested_item (clocked clock_name count_name (next_count rows)) refl,
         (
-          tested_item (clocked clock_name address_name next_address) refl,
+          tested_item (clocked clock_name address_register_name next_address) refl,
           (
             tested_item (clocked clock_name strobe_register_name next_strobe) refl,
             items_of (counted rows each) (all_counted IsItem rows each (λ row few. (name_of clock_name refl, row_named row, row_printable rows row))),
@@ -86,9 +86,9 @@ processes_all rows =
 outputs_all : (rows : ℕ) → All IsItem (outputs rows)
 unfolding keyword_of
 outputs_all rows =
-    let each : ℕ → PlainItem = λ (row : ℕ). assign (row_port row) (variable (row_name row)) in
+    let each : ℕ → PlainItem = λ (row : ℕ). assign (row_port row) (variable (row_register_name row)) in
     all_items (outputs rows) (
-      tested_item (assign address_port (variable address_name)) refl,
+      tested_item (assign address_port (variable address_register_name)) refl,
       (tested_item (assign strobe_port (variable strobe_register_name)) refl, items_of (counted rows each) (all_counted IsItem rows each (λ row few. (row_port_named row, (row_named row, lit≤ tt))))),
     )
 

@@ -15,17 +15,17 @@ use Rattle.fab_meaning.proofs.Modules.{each_all}
 use Rattle.fab_syntax.specs.declared.tree.Shape.TheVariants.{Scalar}
 use Rattle.fab_syntax.specs.Plain.{constant, variable, wire}
 use Rattle.fab_select.specs.Selection.{select_bits}
-use Rattle.fab_matrix.specs.Matrix.{config_name, scalar}
+use Rattle.fab_meaning.specs.Ports.{config_name, scalar}
 use Rattle.fab_prim.specs.Ports.{clock_names, top_inputs, top_outputs}
 use Rattle.fab_prim.specs.Modules.{module_name}
 use Rattle.fab_model.specs.declared.tiles.WireRow.{WireRow}
 use Rattle.fab_model.specs.declared.tiles.Bel.{Bel}
 use Rattle.fab_model.specs.Rows.{dest_bits, side_bits, is_jump, is_named, bit_name}
-use Rattle.fab_model.specs.Tiles.{PlainTile, IsTile, bel_bits, counted, matrix_names, numbered_pairs, tile_bits, tile_wires}
+use Rattle.fab_model.specs.Tiles.{PlainTile, IsTile, bel_bits, counted, matrix_names, numbered_pairs, tile_bits, tile_wires, bits_before}
 use Rattle.fab_gen_tile.specs.Words.{IsFreeName}
 use Rattle.fab_gen_tile.specs.Names.{bits_name, config_instance_name, frame_data_name, frame_strobe_name, begin_name, end_name, joined, matrix_instance_name, pad_name, same_join}
 use Rattle.fab_gen_tile.specs.Borders.{begin_assigns, beginning_assign, border, border_ports, dest_assign, fixed_bit, passing_assign, row_assigns, side_border}
-use Rattle.fab_gen_tile.specs.TileModule.{bel_instance, bel_instances, bel_joins, bels_ports, bits_before, bits_join, bits_wire, config_instances, config_joins, matrix_instances, matrix_joins, matrix_inputs, matrix_outputs, side_names, pad_join, pad_ports, pin_join, tile_items, tile_module, tile_ports}
+use Rattle.fab_gen_tile.specs.TileModule.{bel_instance, bel_instances, bel_joins, bels_ports, bits_join, bits_wire, config_instances, config_joins, matrix_instances, matrix_joins, matrix_inputs, matrix_outputs, side_names, pad_join, pad_ports, pin_join, tile_items, tile_module, tile_ports}
 use Rattle.fab_tile_drives.proofs.Endings.{all_counted, all_flat_map}
 use Rattle.fab_tile_drives.proofs.PinPorts.{bits_within}
 use Rattle.fab_tiles_sound.proofs.Standing.{each_placed}

@@ -13,7 +13,8 @@ use Rattle.fab_select.specs.Selection.{inputs_of, field_low, field_width, select
 use Rattle.fab_syntax.specs.declared.tree.Shape.TheVariants.{Scalar, Vector}
 use Rattle.fab_syntax.specs.declared.tree.Op.TheVariants.{Equal}
 use Rattle.fab_syntax.specs.Plain.{PlainExpr, PlainItem, constant, variable, operation, concatenation, plain_exprs, assign, reg}
-use Rattle.fab_matrix.specs.Matrix.{chain, config_name, config_port, field, output_value, scalar, selection}
+use Rattle.fab_meaning.specs.Ports.{config_name, config_port, scalar}
+use Rattle.fab_matrix.specs.Matrix.{chain, field, output_value, selection}
 use Rattle.fab_matrix.proofs.Fields.{field_within}
 use Rattle.fab_model.specs.Tables.{HasTable}
 use Rattle.fab_model.specs.Tiles.{PlainTile, TileWire, IsPair, IsTile, counted, is_matrix_output, matrix_names, numbered_pairs, tile_bits, tile_wires, wire_name, wire_passes}
@@ -23,13 +24,12 @@ use Rattle.fab_gen_tile.specs.ConfigModule.{all_latches, bit_latch, config_modul
 use Rattle.fab_gen_tile.specs.MatrixModule.{matrix_module, named_pairs, numbered_outputs}
 use Rattle.fab_gen_loader.proofs.Counted.{length-counted}
 use Rattle.fab_tile_drives.proofs.Endings.{all_counted}
-use Rattle.fab_parts_sound.proofs.Lists.{all_reverse}
+use Rattle.fab_tiles_sound.specs.fab_parts_sound.proofs.Lists.{all_reverse}
 use Rattle.fab_tile_drives.proofs.NamedPairs.{bits_same, inputs_same}
-use Rattle.fab_parts_sound.proofs.Sized.{length-digits}
-use Rattle.fab_parts_sound.proofs.TileMatrices.{outputs_named}
+use Rattle.fab_tiles_sound.specs.fab_parts_sound.proofs.Sized.{length-digits}
+use Rattle.fab_tiles_sound.specs.fab_parts_sound.proofs.TileMatrices.{outputs_named}
 use Rattle.fab_tokens.specs.Tokens.{IsIdentifier, keyword_of}
-use Rattle.fab_grammar.specs.Printable.{AreWritten, HasPart, IsItem, IsModule, IsPrintable, nested, nested_parts}
-use Rattle.fab_grammar.specs.Printable.{IsWritten as IsSpelled}
+use Rattle.fab_grammar.specs.Printable.{AreWritten, HasPart, IsItem, IsModule, IsPrintable, nested, nested_parts, IsWritten as IsSpelled}
 use Rattle.fab_text_reads.specs.Laws.{IsWritten}
 use Rattle.fab_text_reads.proofs.Each.{IsPort, ports_of, items_of}
 use Rattle.fab_text_reads.proofs.Tested.{name_of}

@@ -10,7 +10,7 @@ use Rattle.fab_kinds.specs.declared.kind.Kind.TheVariants.{Lut4c, Io, Mux8}
 use Rattle.fab_meaning.specs.Runs.{user_clock_name}
 use Rattle.fab_syntax.specs.declared.tree.Shape.TheVariants.{Scalar, Vector}
 use Rattle.fab_syntax.specs.Plain.{PlainItem, PlainJoin, variable, wire}
-use Rattle.fab_matrix.specs.Matrix.{scalar}
+use Rattle.fab_meaning.specs.Ports.{scalar}
 use Rattle.fab_prim.specs.Ports.{top_inputs, top_outputs}
 use Rattle.fab_model.specs.declared.tiles.WireRow.{WireRow}
 use Rattle.fab_model.specs.declared.tiles.Bel.{Bel}
@@ -24,15 +24,17 @@ use Rattle.fab_fabric.specs.Names.{place_name}
 use Rattle.fab_gen_tile.specs.Words.{IsFreeName}
 use Rattle.fab_gen_tile.specs.Names.{begin_name, border_name, end_name, frame_data_name, frame_strobe_name, joined, letter, pad_name, same_join}
 use Rattle.fab_gen_tile.specs.Borders.{side_border}
-use Rattle.fab_fabric_text.specs.Names.{address_name, begin_wire_name, column_strobe_name, loader_clock_name, loader_instance_name, loader_module_name, pad_port_name, row_name, strobe_name, top_module_name, write_data_name, write_strobe_name}
-use Rattle.fab_fabric_text.specs.Places.{PlacedTile, placed_tiles}
-use Rattle.fab_fabric_text.specs.Top.{column_strobes, end_value, loader_instance, loader_joins, loader_wires, numbered_row, pad_joins, pad_ports, row_begin_wires, row_joins, tile_begin_wires, tile_instance, tile_joins, tile_pads, top_items, top_module}
+use Rattle.fab_meaning.specs.Loading.{write_data_name, write_strobe_name}
+use Rattle.fab_gen_loader.specs.Loader.{loader_module_name}
+use Rattle.fab_drives.specs.fab_fabric_text.specs.Names.{address_name, begin_wire_name, column_strobe_name, loader_clock_name, loader_instance_name, pad_port_name, row_name, strobe_name, top_module_name}
+use Rattle.fab_drives.specs.fab_fabric_text.specs.Places.{PlacedTile, placed_tiles}
+use Rattle.fab_drives.specs.fab_fabric_text.specs.Top.{column_strobes, end_value, loader_instance, loader_joins, loader_wires, numbered_row, pad_joins, pad_ports, row_begin_wires, row_joins, tile_begin_wires, tile_instance, tile_joins, tile_pads, top_items, top_module}
 use Rattle.fab_drives.proofs.Modules.{tile_of_types}
 use Rattle.fab_drives.proofs.Places.{IsThere, all_placed}
 use Rattle.fab_tile_drives.proofs.Endings.{all_counted, all_flat_map}
 use Rattle.fab_tile_drives.proofs.Members.{contains_first, contains_later}
 use Rattle.fab_tiles_sound.proofs.Standing.{each_placed}
-use Rattle.fab_parts_sound.proofs.Sized.{length-digits}
+use Rattle.fab_tiles_sound.specs.fab_parts_sound.proofs.Sized.{length-digits}
 use Rattle.fab_tokens.specs.Literals.{is_word_byte}
 use Rattle.fab_tokens.specs.Tokens.{IsIdentifier, keyword_of}
 use Rattle.fab_grammar.specs.Words.{is_foreign}

@@ -10,10 +10,11 @@ use Rattle.fab_model.specs.Grid.{PlainFabric}
 use Rattle.fab_fabric.specs.Fabric.{AreTiles, IsFabric}
 use Rattle.fab_gen_tile.specs.Words.{IsNamed}
 use Rattle.fab_gen_loader.specs.Expressions.{loader_module}
-use Rattle.fab_read.specs.Fabrics.{SpellsFabric}
+use Rattle.fab_fabric_names.specs.fab_read.specs.Fabrics.{SpellsFabric}
 use Rattle.fab_grammar.specs.Grammar.{SpellsText}
 use Rattle.fab_grammar.specs.Printable.{IsModule, IsPrintableText}
-use Rattle.fab_fabric_text.specs.Text.{fabric_text}
+use Rattle.fab_drives.specs.fab_fabric_text.specs.Text.{fabric_text}
+use Rattle.fab_drives.specs.fab_fabric_text.specs.Texts.{generated_text}
 
 -- What tables promise beside: the tile has a name, and it has no more inputs of an output and configuration bits than tables allow.
 pub record IsWritten (tile : PlainTile) : Type 0 where
@@ -30,11 +31,7 @@ FabricTextsArePrintable =
 abbrev pub LoadersArePrintable : Type 0
 LoadersArePrintable = (rows : ℕ) → IsModule (loader_module rows)
 
--- the text that the generator makes
-abbrev pub generated : PlainFabric → List PlainModule
-generated fabric = fabric_text fabric (loader_module fabric.rows)
-
 abbrev pub GeneratedTextsAreRead : Type 0
 GeneratedTextsAreRead =
     (files : Map) (name : List ℕ) (fabric : PlainFabric) → SpellsFabric files name fabric → IsFabric fabric → AreTiles fabric →
-    IsPrintableText (generated fabric) × SpellsText 300 128 (text_bytes (generated fabric)) (generated fabric)
+    IsPrintableText (generated_text fabric) × SpellsText 300 128 (text_bytes (generated_text fabric)) (generated_text fabric)

@@ -14,7 +14,7 @@ use Rattle.fab_syntax.specs.Declarations.{times_driven, times_held}
 use Rattle.fab_syntax.specs.Sound.{DirectionFits, PortIsDriven, ItemIsDriven}
 use Rattle.fab_meaning.specs.Runs.{clock_name}
 use Rattle.fab_meaning.specs.Loading as loading
-use Rattle.fab_matrix.specs.Matrix.{scalar}
+use Rattle.fab_meaning.specs.Ports.{scalar}
 use Rattle.fab_model.specs.declared.tiles.WireRow.{WireRow}
 use Rattle.fab_model.specs.declared.tiles.Bel.{Bel}
 use Rattle.fab_model.specs.Rows.{is_jump}
@@ -22,23 +22,23 @@ use Rattle.fab_model.specs.Tiles.{PlainTile, counted, IsTile}
 use Rattle.fab_model.specs.Grid.{PlainFabric}
 use Rattle.fab_model.specs.Cascade.{previous_row}
 use Rattle.fab_fabric.specs.Fabric.{IsFabric, AreTiles}
-use Rattle.fab_gen_tile.specs.Names.{begin_name, end_name, joined, same_join}
-use Rattle.fab_gen_tile.specs.Words.{IsNamed}
-use Rattle.fab_gen_tile.specs.Borders.{side_border, border_ports}
-use Rattle.fab_gen_tile.specs.TileModule.{tile_ports, tile_module, bels_ports}
-use Rattle.fab_gen_tile.specs.TileModule as tiles
-use Rattle.fab_gen_loader.specs.Loader.{loader_ports, address_port, strobe_port, row_port}
-use Rattle.fab_gen_loader.specs.Loader as loaders
-use Rattle.fab_gen_loader.specs.Expressions.{loader_module}
-use Rattle.fab_fabric_text.specs.Names.{address_name, strobe_name, row_name, column_strobe_name, begin_wire_name}
-use Rattle.fab_fabric_text.specs.Places.{PlacedTile, placed_tiles}
-use Rattle.fab_fabric_text.specs.Top.{pad_ports, tile_pads, top_ports, loader_wires, loader_joins, loader_instance, column_strobes, row_begin_wires, tile_begin_wires, end_value, numbered_row, row_joins, pad_joins, tile_joins, tile_instance, top_items, top_module}
+use Rattle.fab_drives.specs.fab_gen_tile.specs.Names.{begin_name, end_name, joined, same_join}
+use Rattle.fab_drives.specs.fab_gen_tile.specs.Words.{IsNamed}
+use Rattle.fab_drives.specs.fab_gen_tile.specs.Borders.{side_border, border_ports}
+use Rattle.fab_drives.specs.fab_gen_tile.specs.TileModule.{tile_ports, tile_module, bels_ports}
+use Rattle.fab_drives.specs.fab_gen_tile.specs.TileModule as tiles
+use Rattle.fab_drives.specs.fab_gen_loader.specs.Loader.{loader_ports, address_port, strobe_port, row_port}
+use Rattle.fab_drives.specs.fab_gen_loader.specs.Loader as loaders
+use Rattle.fab_drives.specs.fab_gen_loader.specs.Expressions.{loader_module}
+use Rattle.fab_drives.specs.fab_fabric_text.specs.Names.{address_name, strobe_name, row_name, column_strobe_name, begin_wire_name}
+use Rattle.fab_drives.specs.fab_fabric_text.specs.Places.{PlacedTile, placed_tiles}
+use Rattle.fab_drives.specs.fab_fabric_text.specs.Top.{pad_ports, tile_pads, top_ports, loader_wires, loader_joins, loader_instance, column_strobes, row_begin_wires, tile_begin_wires, end_value, numbered_row, row_joins, pad_joins, tile_joins, tile_instance, top_items, top_module}
 use Rattle.fab_drives.proofs.Apart.{told_apart}
 use Rattle.fab_drives.proofs.Lists.{all_of}
 use Rattle.fab_drives.proofs.Modules.{tile_of_types}
-use Rattle.fab_parts_sound.proofs.Counts.{joined_names, item_drives, driven_names, times, driven_times}
-use Rattle.fab_parts_sound.proofs.Lists.{all_counted, all_flat_map, pairs_left, pairs_counted, one_each}
-use Rattle.fab_parts_sound.proofs.Names.{Differ, AreApart, net_names}
+use Rattle.fab_tiles_sound.specs.fab_parts_sound.proofs.Counts.{joined_names, item_drives, driven_names, times, driven_times}
+use Rattle.fab_tiles_sound.specs.fab_parts_sound.proofs.Lists.{all_counted, all_flat_map, pairs_left, pairs_counted, one_each}
+use Rattle.fab_tiles_sound.specs.fab_parts_sound.proofs.Names.{Differ, AreApart, net_names}
 use Rattle.fab_tiles_sound.proofs.Apart.{declarations, nets_apart}
 use Rattle.fab_tiles_sound.proofs.Drives.{times_both, out_names, out_append}
 use Rattle.fab_tiles_sound.proofs.Joins.{port_name, directions, zip_append}
@@ -57,25 +57,25 @@ use Rattle.fab_text_sound.proofs.TopDrivers.{outs, SameName, outs_are, outs_appe
 pub loader_ports_apart : (rows : ℕ) → rows < 32 → AreApart (map port_name (loader_ports rows))
 loader_ports_apart rows few =
     let clock = loaders.port true Scalar clock_name in
-    let strobe = loaders.port true Scalar loading.strobe_name in
-    let word = loaders.port true (Vector 32) loading.data_name in
+    let strobe = loaders.port true Scalar loading.write_strobe_name in
+    let word = loaders.port true (Vector 32) loading.write_data_name in
     let address = loaders.port false (Vector 32) address_port in
     let out = loaders.port false Scalar strobe_port in
     let others = counted rows (λ row. loaders.port false (Vector 32) (row_port row)) in
     let each = λ (port : Port) (differ : (y : ℕ) → port.name ≢ row_port y). all_counted (PortsDiffer port) rows (λ row. loaders.port false (Vector 32) (row_port row)) (λ y within. differ y) in
     pairs_map Differ port_name (loader_ports rows)
     (AllPairs-cons PortsDiffer clock (strobe ∷ word ∷ address ∷ out ∷ others)
-    (All-cons (PortsDiffer clock) strobe (word ∷ address ∷ out ∷ others) (told_apart 0 clock_name loading.strobe_name refl)
-    (All-cons (PortsDiffer clock) word (address ∷ out ∷ others) (told_apart 0 clock_name loading.data_name refl)
+    (All-cons (PortsDiffer clock) strobe (word ∷ address ∷ out ∷ others) (told_apart 0 clock_name loading.write_strobe_name refl)
+    (All-cons (PortsDiffer clock) word (address ∷ out ∷ others) (told_apart 0 clock_name loading.write_data_name refl)
     (All-cons (PortsDiffer clock) address (out ∷ others) (told_apart 0 clock_name address_port refl)
     (All-cons (PortsDiffer clock) out others (told_apart 0 clock_name strobe_port refl) (each clock (λ y. told_apart 0 clock_name (row_port y) refl))))))
     (AllPairs-cons PortsDiffer strobe (word ∷ address ∷ out ∷ others)
-    (All-cons (PortsDiffer strobe) word (address ∷ out ∷ others) (told_apart 5 loading.strobe_name loading.data_name refl)
-    (All-cons (PortsDiffer strobe) address (out ∷ others) (told_apart 0 loading.strobe_name address_port refl)
-    (All-cons (PortsDiffer strobe) out others (told_apart 0 loading.strobe_name strobe_port refl) (each strobe (λ y. told_apart 0 loading.strobe_name (row_port y) refl)))))
+    (All-cons (PortsDiffer strobe) word (address ∷ out ∷ others) (told_apart 5 loading.write_strobe_name loading.write_data_name refl)
+    (All-cons (PortsDiffer strobe) address (out ∷ others) (told_apart 0 loading.write_strobe_name address_port refl)
+    (All-cons (PortsDiffer strobe) out others (told_apart 0 loading.write_strobe_name strobe_port refl) (each strobe (λ y. told_apart 0 loading.write_strobe_name (row_port y) refl)))))
     (AllPairs-cons PortsDiffer word (address ∷ out ∷ others)
-    (All-cons (PortsDiffer word) address (out ∷ others) (told_apart 0 loading.data_name address_port refl)
-    (All-cons (PortsDiffer word) out others (told_apart 0 loading.data_name strobe_port refl) (each word (λ y. told_apart 0 loading.data_name (row_port y) refl))))
+    (All-cons (PortsDiffer word) address (out ∷ others) (told_apart 0 loading.write_data_name address_port refl)
+    (All-cons (PortsDiffer word) out others (told_apart 0 loading.write_data_name strobe_port refl) (each word (λ y. told_apart 0 loading.write_data_name (row_port y) refl))))
     (AllPairs-cons PortsDiffer address (out ∷ others)
     (All-cons (PortsDiffer address) out others (told_apart 0 address_port strobe_port refl) (each address (λ y. told_apart 0 address_port (row_port y) refl)))
     (AllPairs-cons PortsDiffer out others (each out (λ y. told_apart 0 strobe_port (row_port y) refl))

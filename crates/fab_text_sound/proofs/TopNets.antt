@@ -8,7 +8,7 @@ use Rattle.fab_syntax.specs.declared.tree.Shape.TheVariants.{Scalar, Vector}
 use Rattle.fab_syntax.specs.declared.tree.Port.{Port}
 use Rattle.fab_syntax.specs.Plain.{PlainExpr, PlainJoin, PlainItem, constant, variable, wire}
 use Rattle.fab_meaning.specs.Runs.{user_clock_name}
-use Rattle.fab_matrix.specs.Matrix.{scalar}
+use Rattle.fab_meaning.specs.Ports.{scalar}
 use Rattle.fab_prim.specs.Ports.{top_inputs, top_outputs}
 use Rattle.fab_model.specs.declared.tiles.WireRow.{WireRow}
 use Rattle.fab_model.specs.declared.tiles.Bel.{Bel}
@@ -19,20 +19,21 @@ use Rattle.fab_model.specs.Joins.{goes, comes}
 use Rattle.fab_model.specs.Cascade.{PlacedRow, previous_row, opposite}
 use Rattle.fab_model.proofs.Crossings.{partner_is, goes_from, standing_is_wire_row}
 use Rattle.fab_fabric.specs.Fabric.{AreTiles}
-use Rattle.fab_gen_tile.specs.Names.{begin_name, end_name, pad_name, vector, joined, same_join}
-use Rattle.fab_gen_tile.specs.Borders.{side_border, border_ports}
-use Rattle.fab_gen_tile.specs.TileModule.{bels_ports, tile_ports}
-use Rattle.fab_gen_tile.specs.TileModule as tiles
-use Rattle.fab_gen_loader.specs.Loader.{loader_ports, row_port}
-use Rattle.fab_gen_loader.specs.Loader as loaders
-use Rattle.fab_fabric_text.specs.Names.{loader_clock_name, write_strobe_name, write_data_name, address_name, strobe_name, row_name, column_strobe_name, begin_wire_name, pad_port_name}
-use Rattle.fab_fabric_text.specs.Places.{PlacedTile, placed_tiles}
-use Rattle.fab_fabric_text.specs.Top.{pad_ports, tile_pads, top_ports, loader_wires, loader_joins, loader_instance, column_strobes, tile_begin_wires, tile_instance, top_items, end_value, numbered_row, row_joins, pad_joins, tile_joins}
-use Rattle.fab_tile_drives.proofs.BorderBits.{source_within}
+use Rattle.fab_drives.specs.fab_gen_tile.specs.Names.{begin_name, end_name, pad_name, vector, joined, same_join}
+use Rattle.fab_drives.specs.fab_gen_tile.specs.Borders.{side_border, border_ports}
+use Rattle.fab_drives.specs.fab_gen_tile.specs.TileModule.{bels_ports, tile_ports}
+use Rattle.fab_drives.specs.fab_gen_tile.specs.TileModule as tiles
+use Rattle.fab_drives.specs.fab_gen_loader.specs.Loader.{loader_ports, row_port}
+use Rattle.fab_drives.specs.fab_gen_loader.specs.Loader as loaders
+use Rattle.fab_meaning.specs.Loading.{write_strobe_name, write_data_name}
+use Rattle.fab_drives.specs.fab_fabric_text.specs.Names.{loader_clock_name, address_name, strobe_name, row_name, column_strobe_name, begin_wire_name, pad_port_name}
+use Rattle.fab_drives.specs.fab_fabric_text.specs.Places.{PlacedTile, placed_tiles}
+use Rattle.fab_drives.specs.fab_fabric_text.specs.Top.{pad_ports, tile_pads, top_ports, loader_wires, loader_joins, loader_instance, column_strobes, tile_begin_wires, tile_instance, top_items, end_value, numbered_row, row_joins, pad_joins, tile_joins}
+use Rattle.fab_drives.specs.fab_tile_drives.proofs.BorderBits.{source_within}
 use Rattle.fab_drives.proofs.Lists.{contains_flat}
 use Rattle.fab_drives.proofs.Places.{tile_is_placed}
 use Rattle.fab_drives.proofs.TopNames.{begin_wire}
-use Rattle.fab_parts_sound.proofs.Lists.{contains_first, contains_later, contains_map, contains_counted}
+use Rattle.fab_tiles_sound.specs.fab_parts_sound.proofs.Lists.{contains_first, contains_later, contains_map, contains_counted}
 use Rattle.fab_tiles_sound.proofs.Joins.{zip_append, zip_map}
 use Rattle.fab_text_sound.proofs.Matched.{matched_counted, matched_flat, matched_numbered, numbers_find}
 use Rattle.fab_text_sound.proofs.Standing.{IsStanding}

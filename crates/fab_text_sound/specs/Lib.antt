@@ -1,1 +1,2 @@
 pub mod HasTop
+pub use Rattle.fab_tiles_sound

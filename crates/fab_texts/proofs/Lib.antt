@@ -4,6 +4,7 @@ pub mod Entries
 pub mod ByRows
 pub mod Joining
 pub mod Formats
+pub mod InSections
 pub mod SiteLaws
 pub mod PrintedRows
 pub mod Whole

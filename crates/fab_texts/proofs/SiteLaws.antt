@@ -6,9 +6,9 @@ use Rattle.std.proofs.lemmas.Bool.Decides.{nat_tests}
 use Rattle.std.proofs.lemmas.Fmt.{decimal_digit, decimal_step}
 use Rattle.std.proofs.lemmas.List.{append-nil}
 use Rattle.fab_lines.specs.Numbers.{is_digit}
-use Rattle.fab_fabric.specs.Names.{place_name}
+use Rattle.fab_fabric.specs.Names.{place_name, site_text}
 use Rattle.fab_fabric.specs.declared.wire.Site.{Site}
-use Rattle.fab_texts.specs.Places.{site_text, IsWritable, number_at, after_byte, letter_of, PlaceAt, place_at, site_of, ◌>>=◌}
+use Rattle.fab_texts.specs.Places.{IsWritable, number_at, after_byte, letter_of, PlaceAt, place_at, site_of, ◌>>=◌}
 
 digit_is : (n : ℕ) → n < 10 → is_digit (48 + n) ≡ true
 digit_is n h = grind (arith, nat_tests)

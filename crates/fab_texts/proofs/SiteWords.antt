@@ -8,7 +8,8 @@ use Rattle.std.proofs.lemmas.List.{get_or-append-add}
 use Rattle.std.proofs.lemmas.Fmt.{decimal_digit, decimal_step}
 use Rattle.fab_fabric.specs.declared.wire.Site.{Site}
 use Rattle.fab_texts.specs.Printed.{is_word_byte, ends_line, is_last_word}
-use Rattle.fab_texts.specs.Places.{site_text, IsWritable}
+use Rattle.fab_fabric.specs.Names.{site_text}
+use Rattle.fab_texts.specs.Places.{IsWritable}
 use Rattle.fab_texts.proofs.PrintedRows.{all_append}
 
 digit_byte : (n : ℕ) → n < 10 → is_word_byte (48 + n) ≡ true

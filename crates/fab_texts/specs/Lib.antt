@@ -3,3 +3,4 @@ pub mod Printed
 pub mod Places
 pub mod Keys
 pub mod Formats
+pub mod Sections

@@ -3,12 +3,7 @@ use Rattle.std.specs.Prelude.{◌<◌, ◌+◌, ◌-◌, ◌*◌, ℕ, List, [],
 use Rattle.std.specs.Option.{option_and_then}
 use Rattle.fab_lines.specs.Numbers.{is_digit}
 use Rattle.fab_lines.specs.Names.{is_between}
-use Rattle.fab_fabric.specs.Names.{site_name}
 use Rattle.fab_fabric.specs.declared.wire.Site.{Site}
-
--- XxYy.L
-abbrev pub site_text : Site → List ℕ
-site_text site = site_name site.x site.y site.bel
 
 -- the numbers of a site that can be written
 pub record IsWritable (site : Site) : Type 0 where

@@ -17,7 +17,7 @@ pub struct WordSet {
 
 impl Model for WordSet {
     ghost use Rattle.std.specs.Prelude.{ℕ, List};
-    ghost use Rattle.fab_texts.specs.Keys.{key_names};
+    ghost use Rattle.fab_bits.specs.Keys.{key_names};
 
     ghost Value = { List (List ℕ) };
 

@@ -1,11 +1,11 @@
 -- The configuration bits come from the latches to the instances that use them.
 use Rattle.std.proofs.Common.{◌≡◌, ℕ, zero, suc, ◌+◌, ◌<◌, ◌≤◌, Bool, true, List, [], ◌∷◌, refl, ap, ◌∙◌, arith, Some, Contains}
-use Rattle.fab_syntax.specs.Plain.{PlainJoin, PlainModule, variable, part, instance}
-use Rattle.fab_syntax.specs.Declarations.{module_named, is_input}
-use Rattle.fab_meaning.specs.Points.{Path, Point, point, Found, instance_in, instance_named, module_of, module_at}
-use Rattle.fab_meaning.specs.Settled.{Assignment}
-use Rattle.fab_matrix.specs.Matrix.{config_name}
-use Rattle.fab_model.specs.Tiles.{PlainTile, tile_bits}
+use Rattle.fab_gen_tile.specs.fab_syntax.specs.Plain.{PlainJoin, PlainModule, variable, part, instance}
+use Rattle.fab_gen_tile.specs.fab_syntax.specs.Declarations.{module_named, is_input}
+use Rattle.fab_gen_tile.specs.fab_meaning.specs.Points.{Path, Point, point, Found, instance_in, instance_named, module_of, module_at}
+use Rattle.fab_gen_tile.specs.fab_meaning.specs.Settled.{Assignment}
+use Rattle.fab_gen_tile.specs.fab_meaning.specs.Ports.{config_name}
+use Rattle.fab_gen_tile.specs.fab_model.specs.Tiles.{PlainTile, tile_bits}
 use Rattle.fab_gen_tile.specs.Names.{config_module_name, config_instance_name, bits_name, joined}
 use Rattle.fab_gen_tile.specs.ConfigModule.{all_latches, config_module}
 use Rattle.fab_gen_tile.specs.TileModule.{config_joins, bits_join, tile_items, tile_module}

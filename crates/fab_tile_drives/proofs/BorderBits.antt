@@ -4,11 +4,11 @@ use Rattle.std.specs.Bool.{MatchBool}
 use Rattle.std.proofs.lemmas.Bool.{false≢true}
 use Rattle.std.proofs.lemmas.List.Elements.{Contains-append_left, Contains-append_right}
 use Rattle.std.proofs.Math.Nat.{suc-mul}
-use Rattle.fab_syntax.specs.Plain.{PlainItem, variable, assign}
-use Rattle.fab_model.specs.declared.tiles.WireRow.{WireRow}
-use Rattle.fab_model.specs.Rows.{is_jump, is_named, border_bits, side_bits, source_bits, dest_bits, bit_name, IsWireRow}
-use Rattle.fab_model.specs.Tiles.{counted}
-use Rattle.fab_model.specs.Cascade.{passing_bits}
+use Rattle.fab_gen_tile.specs.fab_syntax.specs.Plain.{PlainItem, variable, assign}
+use Rattle.fab_gen_tile.specs.fab_model.specs.declared.tiles.WireRow.{WireRow}
+use Rattle.fab_gen_tile.specs.fab_model.specs.Rows.{is_jump, is_named, border_bits, side_bits, source_bits, dest_bits, bit_name, IsWireRow}
+use Rattle.fab_gen_tile.specs.fab_model.specs.Tiles.{counted}
+use Rattle.fab_gen_tile.specs.fab_model.specs.Cascade.{passing_bits}
 use Rattle.fab_gen_tile.specs.Names.{begin_name}
 use Rattle.fab_gen_tile.specs.Borders.{border, side_border, passing_assign, beginning_assign, begin_assigns, dest_assign, row_assigns}
 use Rattle.fab_tile_drives.proofs.Members.{contains_counted}

@@ -3,13 +3,13 @@ use Rattle.std.proofs.Common.{◌≡◌, ℕ, suc, ◌+◌, ◌-◌, ◌<◌, �
 use Rattle.std.proofs.lemmas.Bool.{lt-ltb}
 use Rattle.fab_bits.specs.Bits.{first_bits}
 use Rattle.fab_bits.proofs.Numbers.{get_first_bits, range_first_bits}
-use Rattle.fab_syntax.specs.Plain.{PlainExpr, variable, part, PlainJoin, assign, instance, PlainModule}
-use Rattle.fab_syntax.specs.Declarations.{module_named, declared_width, width_in, is_input, is_input_of}
-use Rattle.fab_meaning.specs.Value.{value, bit_at}
-use Rattle.fab_meaning.specs.Points.{Path, Point, point, bit_of, copy, JoinDrives, module_at}
-use Rattle.fab_meaning.specs.Settled.{Assignment, names_at}
-use Rattle.fab_meaning.specs.Reads.{is_declared}
-use Rattle.fab_meaning.proofs.Declared.{bits_of_name}
+use Rattle.fab_gen_tile.specs.fab_syntax.specs.Plain.{PlainExpr, variable, part, PlainJoin, assign, instance, PlainModule}
+use Rattle.fab_gen_tile.specs.fab_syntax.specs.Declarations.{module_named, declared_width, width_in, is_input, is_input_of}
+use Rattle.fab_gen_tile.specs.fab_meaning.specs.Value.{value, bit_at}
+use Rattle.fab_gen_tile.specs.fab_meaning.specs.Points.{Path, Point, point, bit_of, copy, JoinDrives, module_at}
+use Rattle.fab_gen_tile.specs.fab_meaning.specs.Settled.{Assignment, names_at}
+use Rattle.fab_gen_tile.specs.fab_meaning.specs.Reads.{is_declared}
+use Rattle.fab_gen_tile.specs.fab_meaning.proofs.Declared.{bits_of_name}
 use Rattle.fab_gen_tile.specs.Names.{joined}
 use Rattle.fab_tile_drives.specs.Stands.{IsSettledOnDeclared}
 

@@ -7,15 +7,15 @@ use Rattle.std.proofs.lemmas.List.Elements.{Contains-append_right}
 use Rattle.std.proofs.lemmas.Slice.Eq.{bytes_eq-Decides}
 use Rattle.fab_bits.specs.Bits.{first_bits}
 use Rattle.fab_bits.proofs.Numbers.{get_first_bits}
-use Rattle.fab_syntax.specs.declared.tree.Shape.TheVariants.{Scalar}
-use Rattle.fab_syntax.specs.Plain.{PlainExpr, PlainItem, PlainModule, variable, plain_exprs, reg, assign}
-use Rattle.fab_syntax.specs.Declarations.{width_if_any, item_shape}
-use Rattle.fab_meaning.specs.Value.{value, concatenated, bit_at}
-use Rattle.fab_meaning.specs.Points.{Path, point, module_at}
-use Rattle.fab_meaning.specs.Settled.{Assignment, names_at}
-use Rattle.fab_meaning.proofs.Declared.{bits_of_name}
-use Rattle.fab_matrix.specs.Matrix.{config_name}
-use Rattle.fab_model.specs.Tiles.{PlainTile, counted, tile_bits}
+use Rattle.fab_gen_tile.specs.fab_syntax.specs.declared.tree.Shape.TheVariants.{Scalar}
+use Rattle.fab_gen_tile.specs.fab_syntax.specs.Plain.{PlainExpr, PlainItem, PlainModule, variable, plain_exprs, reg, assign}
+use Rattle.fab_gen_tile.specs.fab_syntax.specs.Declarations.{width_if_any, item_shape}
+use Rattle.fab_gen_tile.specs.fab_meaning.specs.Value.{value, concatenated, bit_at}
+use Rattle.fab_gen_tile.specs.fab_meaning.specs.Points.{Path, point, module_at}
+use Rattle.fab_gen_tile.specs.fab_meaning.specs.Settled.{Assignment, names_at}
+use Rattle.fab_gen_tile.specs.fab_meaning.proofs.Declared.{bits_of_name}
+use Rattle.fab_gen_tile.specs.fab_meaning.specs.Ports.{config_name}
+use Rattle.fab_gen_tile.specs.fab_model.specs.Tiles.{PlainTile, counted, tile_bits}
 use Rattle.fab_gen_tile.specs.Names.{latch_name}
 use Rattle.fab_gen_tile.specs.ConfigModule.{bit_latch, all_latches, config_module}
 use Rattle.fab_tile_drives.proofs.Members.{contains_first}

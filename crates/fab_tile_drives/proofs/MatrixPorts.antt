@@ -8,12 +8,12 @@ use Rattle.std.proofs.lemmas.List.{length-map, get_or-map}
 use Rattle.std.proofs.lemmas.List.Elements.{All-nil, All-cons, All-head, All-tail, All-append, All-map, All-filter, All-weaker, Contains-append_right}
 use Rattle.std.proofs.lemmas.Option.{slice_get_within, get_or_from_slice_get}
 use Rattle.fab_select.specs.Selection.{select_bits}
-use Rattle.fab_syntax.specs.declared.tree.Port.{Port}
-use Rattle.fab_syntax.specs.Plain.{PlainItem}
-use Rattle.fab_syntax.specs.Declarations.{declared_width, is_input}
-use Rattle.fab_meaning.proofs.Declared.{bytes_apart, width_passed}
-use Rattle.fab_matrix.specs.Matrix.{config_name, scalar, config_port}
-use Rattle.fab_model.specs.Tiles.{PlainTile, TileWire, tile_wires, wire_name, matrix_names, is_matrix_output, IsTile}
+use Rattle.fab_gen_tile.specs.fab_syntax.specs.declared.tree.Port.{Port}
+use Rattle.fab_gen_tile.specs.fab_syntax.specs.Plain.{PlainItem}
+use Rattle.fab_gen_tile.specs.fab_syntax.specs.Declarations.{declared_width, is_input}
+use Rattle.fab_gen_tile.specs.fab_meaning.proofs.Declared.{bytes_apart, width_passed}
+use Rattle.fab_gen_tile.specs.fab_meaning.specs.Ports.{config_name, scalar, config_port}
+use Rattle.fab_gen_tile.specs.fab_model.specs.Tiles.{PlainTile, TileWire, tile_wires, wire_name, matrix_names, is_matrix_output, IsTile}
 use Rattle.fab_gen_tile.specs.TileModule.{is_on_side, side_names, matrix_inputs}
 use Rattle.fab_gen_tile.specs.MatrixModule.{numbered_outputs, named_pairs, matrix_module}
 use Rattle.fab_tile_drives.proofs.Endings.{EndsLow, low_apart, low_wires}

@@ -11,20 +11,20 @@ use Rattle.fab_bits.specs.Widths.{select_width}
 use Rattle.fab_bits.proofs.Numbers.{first_bits_same}
 use Rattle.fab_select.specs.declared.pair.Pair.{Pair}
 use Rattle.fab_select.specs.Selection.{inputs_of, field_width, field_low, select_bits}
-use Rattle.fab_syntax.specs.Plain.{PlainJoin, PlainModule, variable}
-use Rattle.fab_meaning.specs.Points.{Path, Point, point, module_at}
-use Rattle.fab_meaning.specs.Settled.{Assignment}
-use Rattle.fab_meaning.specs.Reads.{is_declared}
-use Rattle.fab_matrix.specs.Matrix.{config_name}
-use Rattle.fab_matrix.specs.Selects as law
-use Rattle.fab_matrix.specs.Selects.{Selects, chosen}
-use Rattle.fab_matrix.proofs.Fields.{field_within}
-use Rattle.fab_matrix.proofs.Selecting.{matrix_selects}
-use Rattle.fab_model.specs.Tiles.{PlainTile, TileWire, tile_wires, wire_name, matrix_names, is_matrix_output, numbered_pairs, IsPair, IsTile, wire_passes, bel_bits, output_field}
-use Rattle.fab_model.specs.Wires.{PlainWire, wire_of, IsWire, IsMatrixOutput, plain_wires, wire_number}
-use Rattle.fab_model.specs.Drive as drive
-use Rattle.fab_model.specs.Drive.{input_at}
-use Rattle.fab_model.proofs.Wires.{wire_at_number, number_has_wire, plain_wires_are_wires}
+use Rattle.fab_gen_tile.specs.fab_syntax.specs.Plain.{PlainJoin, PlainModule, variable}
+use Rattle.fab_gen_tile.specs.fab_meaning.specs.Points.{Path, Point, point, module_at}
+use Rattle.fab_gen_tile.specs.fab_meaning.specs.Settled.{Assignment}
+use Rattle.fab_gen_tile.specs.fab_meaning.specs.Reads.{is_declared}
+use Rattle.fab_gen_tile.specs.fab_meaning.specs.Ports.{config_name}
+use Rattle.fab_gen_tile.specs.fab_matrix.specs.Selects as law
+use Rattle.fab_gen_tile.specs.fab_matrix.specs.Selects.{Selects, chosen}
+use Rattle.fab_gen_tile.specs.fab_matrix.proofs.Fields.{field_within}
+use Rattle.fab_gen_tile.specs.fab_matrix.proofs.Selecting.{matrix_selects}
+use Rattle.fab_gen_tile.specs.fab_model.specs.Tiles.{PlainTile, TileWire, tile_wires, wire_name, matrix_names, is_matrix_output, numbered_pairs, IsPair, IsTile, wire_passes, bel_bits, output_field}
+use Rattle.fab_gen_tile.specs.fab_model.specs.Wires.{PlainWire, wire_of, IsWire, IsMatrixOutput, plain_wires, wire_number}
+use Rattle.fab_gen_tile.specs.fab_model.specs.Drive as drive
+use Rattle.fab_gen_tile.specs.fab_model.specs.Drive.{input_at}
+use Rattle.fab_gen_tile.specs.fab_model.proofs.Wires.{wire_at_number, number_has_wire, plain_wires_are_wires}
 use Rattle.fab_gen_tile.specs.Names.{matrix_module_name, matrix_instance_name, same_join}
 use Rattle.fab_gen_tile.specs.TileModule.{is_on_side, matrix_inputs, matrix_outputs, bits_join, matrix_joins, tile_module}
 use Rattle.fab_gen_tile.specs.MatrixModule.{numbered_outputs, named_pairs, matrix_module}

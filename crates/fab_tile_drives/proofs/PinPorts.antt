@@ -9,18 +9,19 @@ use Rattle.fab_kinds.specs.declared.kind.Kind.{Kind}
 use Rattle.fab_kinds.specs.declared.kind.Kind.TheVariants as kinds
 use Rattle.fab_kinds.specs.Pins.{input_names, output_names, bit_count}
 use Rattle.fab_kinds.specs.Kinds.{output_of}
-use Rattle.fab_syntax.specs.declared.tree.Port.{Port}
-use Rattle.fab_syntax.specs.declared.tree.Shape.TheVariants.{Scalar}
-use Rattle.fab_syntax.specs.Plain.{PlainJoin, PlainItem}
-use Rattle.fab_syntax.specs.Declarations.{declared_width, is_input}
-use Rattle.fab_meaning.proofs.Declared.{width_of_scalar}
-use Rattle.fab_meaning.proofs.Modules.{each_all}
-use Rattle.fab_matrix.specs.Matrix.{scalar}
-use Rattle.fab_model.specs.declared.tiles.Bel.{Bel}
-use Rattle.fab_prim.specs.Ports.{config_name, clock_names, top_name, top_inputs, top_outputs}
-use Rattle.fab_prim.specs.Modules.{module_of_kind}
+use Rattle.fab_gen_tile.specs.fab_syntax.specs.declared.tree.Port.{Port}
+use Rattle.fab_gen_tile.specs.fab_syntax.specs.declared.tree.Shape.TheVariants.{Scalar}
+use Rattle.fab_gen_tile.specs.fab_syntax.specs.Plain.{PlainJoin, PlainItem}
+use Rattle.fab_gen_tile.specs.fab_syntax.specs.Declarations.{declared_width, is_input}
+use Rattle.fab_gen_tile.specs.fab_meaning.proofs.Declared.{width_of_scalar}
+use Rattle.fab_gen_tile.specs.fab_meaning.proofs.Modules.{each_all}
+use Rattle.fab_gen_tile.specs.fab_meaning.specs.Ports.{scalar, config_name}
+use Rattle.fab_gen_tile.specs.fab_model.specs.declared.tiles.Bel.{Bel}
+use Rattle.fab_gen_tile.specs.fab_prim.specs.Ports.{clock_names, top_name, top_inputs, top_outputs}
+use Rattle.fab_gen_tile.specs.fab_prim.specs.Modules.{module_of_kind}
 use Rattle.fab_gen_tile.specs.Names.{same_join}
-use Rattle.fab_gen_tile.specs.TileModule.{bits_join, bits_before, pin_join, pad_join, bel_joins}
+use Rattle.fab_gen_tile.specs.fab_model.specs.Tiles.{bits_before}
+use Rattle.fab_gen_tile.specs.TileModule.{bits_join, pin_join, pad_join, bel_joins}
 use Rattle.fab_tile_drives.proofs.Members.{contains_map}
 use Rattle.fab_tile_drives.proofs.Driven.{width_of}
 

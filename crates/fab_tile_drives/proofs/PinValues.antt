@@ -8,19 +8,20 @@ use Rattle.fab_bits.specs.Bits.{first_bits}
 use Rattle.fab_bits.proofs.Numbers.{first_bits_same}
 use Rattle.fab_kinds.specs.Pins.{input_names, output_names, input_count, pin_names, bit_count}
 use Rattle.fab_kinds.specs.Kinds.{output_of}
-use Rattle.fab_syntax.specs.Plain.{PlainModule, variable}
-use Rattle.fab_syntax.specs.Declarations.{module_named}
-use Rattle.fab_meaning.specs.Points.{Path, point, module_at}
-use Rattle.fab_meaning.specs.Settled.{Assignment}
-use Rattle.fab_model.specs.declared.tiles.Bel.{Bel}
-use Rattle.fab_model.specs.Tiles.{PlainTile, bel_pin, wire_name, matrix_names}
-use Rattle.fab_model.specs.Wires.{pin_of, pin_count, IsWire}
-use Rattle.fab_prim.specs.Ports.{config_name, top_name, top_inputs}
-use Rattle.fab_prim.specs.Modules.{module_name, module_of_kind, flip_flop_name}
-use Rattle.fab_prim.specs.Works.{pin_values, config_values, top_value}
-use Rattle.fab_prim.proofs.Works.{primitive_works}
+use Rattle.fab_gen_tile.specs.fab_syntax.specs.Plain.{PlainModule, variable}
+use Rattle.fab_gen_tile.specs.fab_syntax.specs.Declarations.{module_named}
+use Rattle.fab_gen_tile.specs.fab_meaning.specs.Points.{Path, point, module_at}
+use Rattle.fab_gen_tile.specs.fab_meaning.specs.Settled.{Assignment}
+use Rattle.fab_gen_tile.specs.fab_model.specs.declared.tiles.Bel.{Bel}
+use Rattle.fab_gen_tile.specs.fab_model.specs.Tiles.{PlainTile, bel_pin, wire_name, matrix_names, bits_before}
+use Rattle.fab_gen_tile.specs.fab_model.specs.Wires.{pin_of, pin_count, IsWire}
+use Rattle.fab_gen_tile.specs.fab_meaning.specs.Ports.{config_name}
+use Rattle.fab_gen_tile.specs.fab_prim.specs.Ports.{top_name, top_inputs}
+use Rattle.fab_gen_tile.specs.fab_prim.specs.Modules.{module_name, module_of_kind, flip_flop_name}
+use Rattle.fab_gen_tile.specs.fab_prim.specs.Works.{pin_values, config_values, top_value}
+use Rattle.fab_gen_tile.specs.fab_prim.proofs.Works.{primitive_works}
 use Rattle.fab_gen_tile.specs.Names.{bel_instance_name, pad_name}
-use Rattle.fab_gen_tile.specs.TileModule.{bits_before, bel_joins, tile_module}
+use Rattle.fab_gen_tile.specs.TileModule.{bel_joins, tile_module}
 use Rattle.fab_tile_drives.specs.Stands.{TileStands, bel_path, name_of, IsSettledOnDeclared}
 use Rattle.fab_tile_drives.specs.Tiles.{ShowsTileBits, IsOwnOfPin, itself, configuration, in_bel, ShowsPins, pin_value}
 use Rattle.fab_tile_drives.proofs.Members.{contains_at}

@@ -2,15 +2,15 @@
 use Rattle.std.proofs.Common.{◌≡◌, ℕ, ◌+◌, ◌-◌, ◌<◌, List, [], ◌∷◌, slice_get, refl, sym, ap, ◌∙◌, subst, inl, inr, Some, Contains}
 use Rattle.std.proofs.lemmas.Bool.{cases_Bool, cases_lt, lt-ltb, le-ltb}
 use Rattle.std.proofs.lemmas.List.Elements.{All-contains}
-use Rattle.fab_syntax.specs.Plain.{variable, constant, assign, PlainModule}
-use Rattle.fab_meaning.specs.Value.{value, bit_at}
-use Rattle.fab_meaning.specs.Points.{Path, Point, point}
-use Rattle.fab_meaning.specs.Settled.{Assignment, names_at}
-use Rattle.fab_model.specs.declared.tiles.WireRow.{WireRow}
-use Rattle.fab_model.specs.Rows.{is_named, dest_bits, bit_name, IsWireRow}
-use Rattle.fab_model.specs.Tiles.{PlainTile, IsTile}
-use Rattle.fab_model.specs.Cascade.{passing_bits}
-use Rattle.fab_model.specs.Wires.{PlainWire, source_of, dest_of, IsWire}
+use Rattle.fab_gen_tile.specs.fab_syntax.specs.Plain.{variable, constant, assign, PlainModule}
+use Rattle.fab_gen_tile.specs.fab_meaning.specs.Value.{value, bit_at}
+use Rattle.fab_gen_tile.specs.fab_meaning.specs.Points.{Path, Point, point}
+use Rattle.fab_gen_tile.specs.fab_meaning.specs.Settled.{Assignment, names_at}
+use Rattle.fab_gen_tile.specs.fab_model.specs.declared.tiles.WireRow.{WireRow}
+use Rattle.fab_gen_tile.specs.fab_model.specs.Rows.{is_named, dest_bits, bit_name, IsWireRow}
+use Rattle.fab_gen_tile.specs.fab_model.specs.Tiles.{PlainTile, IsTile}
+use Rattle.fab_gen_tile.specs.fab_model.specs.Cascade.{passing_bits}
+use Rattle.fab_gen_tile.specs.fab_model.specs.Wires.{PlainWire, source_of, dest_of, IsWire}
 use Rattle.fab_gen_tile.specs.Names.{begin_name, end_name}
 use Rattle.fab_gen_tile.specs.Borders.{fixed_bit, dest_value}
 use Rattle.fab_gen_tile.specs.TileModule.{tile_module}

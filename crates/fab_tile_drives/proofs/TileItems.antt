@@ -5,18 +5,18 @@ use Rattle.std.specs.Str.{bytes_eq}
 use Rattle.std.proofs.lemmas.Bool.{cases_Bool}
 use Rattle.std.proofs.lemmas.List.Elements.{All-nil, All-cons, All-head, All-tail, All-append, All-map, Contains-append_left, Contains-append_right}
 use Rattle.std.proofs.lemmas.Slice.Eq.{bytes_eq-Decides}
-use Rattle.fab_syntax.specs.declared.tree.Shape.TheVariants.{Scalar}
-use Rattle.fab_syntax.specs.Plain.{PlainJoin, PlainItem, wire, instance}
-use Rattle.fab_meaning.specs.Points.{Found, instance_named}
-use Rattle.fab_meaning.proofs.Declared.{bytes_apart}
-use Rattle.fab_model.specs.declared.tiles.WireRow.{WireRow}
-use Rattle.fab_model.specs.declared.tiles.Bel.{Bel}
-use Rattle.fab_model.specs.Rows.{is_jump, dest_bits}
-use Rattle.fab_model.specs.Tiles.{PlainTile, counted, matrix_names, tile_bits}
-use Rattle.fab_prim.specs.Modules.{module_name}
+use Rattle.fab_gen_tile.specs.fab_syntax.specs.declared.tree.Shape.TheVariants.{Scalar}
+use Rattle.fab_gen_tile.specs.fab_syntax.specs.Plain.{PlainJoin, PlainItem, wire, instance}
+use Rattle.fab_gen_tile.specs.fab_meaning.specs.Points.{Found, instance_named}
+use Rattle.fab_gen_tile.specs.fab_meaning.proofs.Declared.{bytes_apart}
+use Rattle.fab_gen_tile.specs.fab_model.specs.declared.tiles.WireRow.{WireRow}
+use Rattle.fab_gen_tile.specs.fab_model.specs.declared.tiles.Bel.{Bel}
+use Rattle.fab_gen_tile.specs.fab_model.specs.Rows.{is_jump, dest_bits}
+use Rattle.fab_gen_tile.specs.fab_model.specs.Tiles.{PlainTile, counted, matrix_names, tile_bits, bits_before}
+use Rattle.fab_gen_tile.specs.fab_prim.specs.Modules.{module_name}
 use Rattle.fab_gen_tile.specs.Names.{config_module_name, matrix_module_name, config_instance_name, matrix_instance_name, bel_instance_name}
 use Rattle.fab_gen_tile.specs.Borders.{border, passing_assign, beginning_assign, begin_assigns, dest_assign, row_assigns}
-use Rattle.fab_gen_tile.specs.TileModule.{bits_wire, config_joins, config_instances, matrix_joins, matrix_outputs, matrix_instances, bits_before, bel_joins, bel_instance, bel_instances, tile_items}
+use Rattle.fab_gen_tile.specs.TileModule.{bits_wire, config_joins, config_instances, matrix_joins, matrix_outputs, matrix_instances, bel_joins, bel_instance, bel_instances, tile_items}
 use Rattle.fab_tile_drives.proofs.Endings.{last_byte, all_counted, all_flat_map}
 use Rattle.fab_tile_drives.proofs.Members.{contains_first, contains_at, contains_map, contains_flat_map, get_enumerated}
 

@@ -5,17 +5,17 @@ use Rattle.std.proofs.lemmas.Bool.{cases_Bool}
 use Rattle.std.proofs.lemmas.List.Elements.{All-nil, All-cons, All-append, All-weaker, Contains-append_left, Contains-append_right}
 use Rattle.fab_kinds.specs.declared.kind.Kind.{Kind}
 use Rattle.fab_kinds.specs.declared.kind.Kind.TheVariants as kinds
-use Rattle.fab_syntax.specs.declared.tree.Port.{Port}
-use Rattle.fab_syntax.specs.Plain.{PlainItem}
-use Rattle.fab_syntax.specs.Declarations.{width_if_any, item_shape, declared_width}
-use Rattle.fab_meaning.specs.Runs.{user_clock_name}
-use Rattle.fab_meaning.proofs.Modules.{each_all}
-use Rattle.fab_matrix.specs.Matrix.{scalar}
-use Rattle.fab_model.specs.declared.tiles.WireRow.{WireRow}
-use Rattle.fab_model.specs.declared.tiles.Bel.{Bel}
-use Rattle.fab_model.specs.Rows.{is_jump}
-use Rattle.fab_model.specs.Tiles.{PlainTile, counted, matrix_names, tile_bits}
-use Rattle.fab_prim.specs.Ports.{top_inputs, top_outputs}
+use Rattle.fab_gen_tile.specs.fab_syntax.specs.declared.tree.Port.{Port}
+use Rattle.fab_gen_tile.specs.fab_syntax.specs.Plain.{PlainItem}
+use Rattle.fab_gen_tile.specs.fab_syntax.specs.Declarations.{width_if_any, item_shape, declared_width}
+use Rattle.fab_gen_tile.specs.fab_meaning.specs.Runs.{user_clock_name}
+use Rattle.fab_gen_tile.specs.fab_meaning.proofs.Modules.{each_all}
+use Rattle.fab_gen_tile.specs.fab_meaning.specs.Ports.{scalar}
+use Rattle.fab_gen_tile.specs.fab_model.specs.declared.tiles.WireRow.{WireRow}
+use Rattle.fab_gen_tile.specs.fab_model.specs.declared.tiles.Bel.{Bel}
+use Rattle.fab_gen_tile.specs.fab_model.specs.Rows.{is_jump}
+use Rattle.fab_gen_tile.specs.fab_model.specs.Tiles.{PlainTile, counted, matrix_names, tile_bits}
+use Rattle.fab_gen_tile.specs.fab_prim.specs.Ports.{top_inputs, top_outputs}
 use Rattle.fab_gen_tile.specs.Names.{bits_name, border_name, begin_name, end_name, pad_name}
 use Rattle.fab_gen_tile.specs.Borders.{side_border, border_ports}
 use Rattle.fab_gen_tile.specs.ConfigModule.{frame_ports}

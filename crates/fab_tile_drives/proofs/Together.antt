@@ -1,8 +1,8 @@
 -- A tile works wherever it stands in a text, from the five parts of this.
 use Rattle.std.proofs.Common.{List}
-use Rattle.fab_syntax.specs.Plain.{PlainModule}
-use Rattle.fab_meaning.specs.Points.{Path}
-use Rattle.fab_model.specs.Tiles.{PlainTile, IsTile}
+use Rattle.fab_gen_tile.specs.fab_syntax.specs.Plain.{PlainModule}
+use Rattle.fab_gen_tile.specs.fab_meaning.specs.Points.{Path}
+use Rattle.fab_gen_tile.specs.fab_model.specs.Tiles.{PlainTile, IsTile}
 use Rattle.fab_tile_drives.specs.Stands.{TileStands}
 use Rattle.fab_tile_drives.specs.Tiles.{TileWorks}
 use Rattle.fab_tile_drives.proofs.RowValues.{ends_show, jumps_show, begins_show}

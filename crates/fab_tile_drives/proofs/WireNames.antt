@@ -2,11 +2,11 @@
 use Rattle.std.proofs.Common.{◌≡◌, ℕ, ◌<◌, [], slice_get, refl, sym, ap, ◌∙◌, subst, Option, Some, None, option_map, Contains}
 use Rattle.std.specs.Option.{option_map_or}
 use Rattle.std.proofs.lemmas.Option.{slice_get-map}
-use Rattle.fab_model.specs.declared.tiles.WireRow.{WireRow}
-use Rattle.fab_model.specs.Rows.{source_bits, dest_bits, bit_name}
-use Rattle.fab_model.specs.Tiles.{PlainTile, TileWire, source_bit, dest_bit, tile_wires, wire_name, matrix_names}
-use Rattle.fab_model.specs.Wires.{PlainWire, source_of, dest_of, wire_of, IsWire, plain_wires, wire_number}
-use Rattle.fab_model.proofs.Wires.{wire_at_number, plain_wires_are_wires}
+use Rattle.fab_gen_tile.specs.fab_model.specs.declared.tiles.WireRow.{WireRow}
+use Rattle.fab_gen_tile.specs.fab_model.specs.Rows.{source_bits, dest_bits, bit_name}
+use Rattle.fab_gen_tile.specs.fab_model.specs.Tiles.{PlainTile, TileWire, source_bit, dest_bit, tile_wires, wire_name, matrix_names}
+use Rattle.fab_gen_tile.specs.fab_model.specs.Wires.{PlainWire, source_of, dest_of, wire_of, IsWire, plain_wires, wire_number}
+use Rattle.fab_gen_tile.specs.fab_model.proofs.Wires.{wire_at_number, plain_wires_are_wires}
 use Rattle.fab_tile_drives.specs.Stands.{name_of}
 use Rattle.fab_tile_drives.proofs.Members.{contains_at}
 

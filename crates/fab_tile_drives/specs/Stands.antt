@@ -1,14 +1,14 @@
 -- Where the parts of a tile stand in a text.
 use Rattle.std.specs.Prelude.{◌≡◌, ◌<◌, ℕ, true, List, [], ◌∷◌, All, length, Some}
 use Rattle.std.specs.Option.{option_map_or}
-use Rattle.fab_syntax.specs.Plain.{PlainModule}
-use Rattle.fab_syntax.specs.Declarations.{module_named}
-use Rattle.fab_meaning.specs.Points.{Path, Point, point, module_at}
-use Rattle.fab_meaning.specs.Settled.{Assignment, IsSettledOn}
-use Rattle.fab_meaning.specs.Reads.{is_declared}
-use Rattle.fab_prim.specs.Modules.{module_name, module_of_kind}
-use Rattle.fab_model.specs.Tiles.{PlainTile, wire_name, tile_bits}
-use Rattle.fab_model.specs.Wires.{PlainWire, wire_of}
+use Rattle.fab_gen_tile.specs.fab_syntax.specs.Plain.{PlainModule}
+use Rattle.fab_gen_tile.specs.fab_syntax.specs.Declarations.{module_named}
+use Rattle.fab_gen_tile.specs.fab_meaning.specs.Points.{Path, Point, point, module_at}
+use Rattle.fab_gen_tile.specs.fab_meaning.specs.Settled.{Assignment, IsSettledOn}
+use Rattle.fab_gen_tile.specs.fab_meaning.specs.Reads.{is_declared}
+use Rattle.fab_gen_tile.specs.fab_prim.specs.Modules.{module_name, module_of_kind}
+use Rattle.fab_gen_tile.specs.fab_model.specs.Tiles.{PlainTile, wire_name, tile_bits}
+use Rattle.fab_gen_tile.specs.fab_model.specs.Wires.{PlainWire, wire_of}
 use Rattle.fab_gen_tile.specs.Names.{config_module_name, matrix_module_name, matrix_instance_name, bel_instance_name}
 use Rattle.fab_gen_tile.specs.ConfigModule.{config_module}
 use Rattle.fab_gen_tile.specs.MatrixModule.{matrix_module}

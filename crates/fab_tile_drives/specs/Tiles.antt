@@ -4,21 +4,21 @@ use Rattle.std.specs.Option.{option_map_or, option_and_then}
 use Rattle.fab_bits.specs.Bits.{first_bits}
 use Rattle.fab_kinds.specs.Pins.{input_names, input_count, bit_count}
 use Rattle.fab_kinds.specs.Kinds.{output_of}
-use Rattle.fab_syntax.specs.Plain.{PlainModule}
-use Rattle.fab_meaning.specs.Points.{Path, Point, point}
-use Rattle.fab_meaning.specs.Settled.{Assignment}
-use Rattle.fab_model.specs.declared.tiles.WireRow.{WireRow}
-use Rattle.fab_model.specs.declared.tiles.Bel.{Bel}
-use Rattle.fab_model.specs.Rows.{is_jump, is_named, border_bits, dest_bits}
-use Rattle.fab_model.specs.Tiles.{PlainTile, tile_bits}
-use Rattle.fab_model.specs.Cascade.{passing_bits}
-use Rattle.fab_model.specs.Wires.{PlainWire, source_of, dest_of, pin_of, plain_wires, wire_number, pin_count, IsWire, IsMatrixOutput}
-use Rattle.fab_model.specs.Drive.{matrix_inputs, select_value, input_at}
-use Rattle.fab_prim.specs.Ports.{config_name, top_name}
-use Rattle.fab_prim.specs.Modules.{flip_flop_name}
+use Rattle.fab_gen_tile.specs.fab_syntax.specs.Plain.{PlainModule}
+use Rattle.fab_gen_tile.specs.fab_meaning.specs.Points.{Path, Point, point}
+use Rattle.fab_gen_tile.specs.fab_meaning.specs.Settled.{Assignment}
+use Rattle.fab_gen_tile.specs.fab_model.specs.declared.tiles.WireRow.{WireRow}
+use Rattle.fab_gen_tile.specs.fab_model.specs.declared.tiles.Bel.{Bel}
+use Rattle.fab_gen_tile.specs.fab_model.specs.Rows.{is_jump, is_named, border_bits, dest_bits}
+use Rattle.fab_gen_tile.specs.fab_model.specs.Tiles.{PlainTile, tile_bits, bits_before}
+use Rattle.fab_gen_tile.specs.fab_model.specs.Cascade.{passing_bits}
+use Rattle.fab_gen_tile.specs.fab_model.specs.Wires.{PlainWire, source_of, dest_of, pin_of, plain_wires, wire_number, pin_count, IsWire, IsMatrixOutput}
+use Rattle.fab_gen_tile.specs.fab_model.specs.Drive.{matrix_inputs, select_value, input_at}
+use Rattle.fab_gen_tile.specs.fab_meaning.specs.Ports.{config_name}
+use Rattle.fab_gen_tile.specs.fab_prim.specs.Ports.{top_name}
+use Rattle.fab_gen_tile.specs.fab_prim.specs.Modules.{flip_flop_name}
 use Rattle.fab_gen_tile.specs.Names.{config_instance_name, bits_name, latch_name, begin_name, end_name, pad_name}
 use Rattle.fab_gen_tile.specs.Borders.{fixed_bit}
-use Rattle.fab_gen_tile.specs.TileModule.{bits_before}
 use Rattle.fab_tile_drives.specs.Stands.{matrix_path, bel_path, name_of, wire_point, IsSettledOnDeclared}
 
 -- ---- configuration

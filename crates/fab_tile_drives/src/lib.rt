@@ -2,9 +2,9 @@
 #![tactic(auto)]
 
 ghost use Rattle.std.specs.Prelude.{List};
-ghost use Rattle.fab_syntax.specs.Plain.{PlainModule};
-ghost use Rattle.fab_meaning.specs.Points.{Path};
-ghost use Rattle.fab_model.specs.Tiles.{PlainTile, IsTile};
+ghost use Rattle.fab_gen_tile.specs.fab_syntax.specs.Plain.{PlainModule};
+ghost use Rattle.fab_gen_tile.specs.fab_meaning.specs.Points.{Path};
+ghost use Rattle.fab_gen_tile.specs.fab_model.specs.Tiles.{PlainTile, IsTile};
 ghost use Rattle.fab_tile_drives.specs.Stands.{TileStands};
 ghost use Rattle.fab_tile_drives.specs.Tiles.{TileWorks};
 

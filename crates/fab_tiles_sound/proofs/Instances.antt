@@ -9,19 +9,18 @@ use Rattle.fab_syntax.specs.declared.tree.Port.{Port}
 use Rattle.fab_syntax.specs.Plain.{PlainJoin, PlainItem, PlainModule, instance}
 use Rattle.fab_syntax.specs.Declarations.{module_named}
 use Rattle.fab_syntax.specs.Sound.{InstanceFits, JoinFits, IsJoinedOnce}
-use Rattle.fab_matrix.specs.Matrix.{config_port, scalar}
+use Rattle.fab_meaning.specs.Ports.{config_port, scalar}
 use Rattle.fab_model.specs.declared.tiles.Bel.{Bel}
-use Rattle.fab_model.specs.Tiles.{PlainTile, matrix_names, numbered_pairs, bel_bits, tile_bits, IsTile}
-use Rattle.fab_prim.specs.Ports as prim
+use Rattle.fab_model.specs.Tiles.{PlainTile, matrix_names, numbered_pairs, bel_bits, tile_bits, IsTile, bits_before}
 use Rattle.fab_prim.specs.Ports.{clock_names, top_inputs, top_outputs, module_ports}
 use Rattle.fab_prim.specs.Modules.{module_name, module_of_kind}
-use Rattle.fab_gen_tile.specs.Words.{IsNamed}
-use Rattle.fab_gen_tile.specs.Names.{config_module_name, matrix_module_name, config_instance_name, matrix_instance_name, frame_data_name, frame_strobe_name, bits_name, bel_instance_name, pad_name, same_join}
-use Rattle.fab_gen_tile.specs.ConfigModule.{config_module}
-use Rattle.fab_gen_tile.specs.MatrixModule.{named_pairs, matrix_module}
-use Rattle.fab_gen_tile.specs.TileModule.{config_joins, config_instances, bits_join, matrix_inputs, matrix_outputs, matrix_joins, matrix_instances, pin_join, pad_join, bel_joins, bits_before, bel_instance, bel_instances, tile_items, tile_module}
-use Rattle.fab_tile_drives.proofs.NamedPairs.{bits_same}
-use Rattle.fab_tile_drives.proofs.Members.{contains_at}
+use Rattle.fab_parts_sound.specs.fab_gen_tile.specs.Words.{IsNamed}
+use Rattle.fab_parts_sound.specs.fab_gen_tile.specs.Names.{config_module_name, matrix_module_name, config_instance_name, matrix_instance_name, frame_data_name, frame_strobe_name, bits_name, bel_instance_name, pad_name, same_join}
+use Rattle.fab_parts_sound.specs.fab_gen_tile.specs.ConfigModule.{config_module}
+use Rattle.fab_parts_sound.specs.fab_gen_tile.specs.MatrixModule.{named_pairs, matrix_module}
+use Rattle.fab_parts_sound.specs.fab_gen_tile.specs.TileModule.{config_joins, config_instances, bits_join, matrix_inputs, matrix_outputs, matrix_joins, matrix_instances, pin_join, pad_join, bel_joins, bel_instance, bel_instances, tile_items, tile_module}
+use Rattle.fab_parts_sound.specs.fab_tile_drives.proofs.NamedPairs.{bits_same}
+use Rattle.fab_parts_sound.specs.fab_tile_drives.proofs.Members.{contains_at}
 use Rattle.fab_tiles_sound.specs.Has.{HasModules}
 use Rattle.fab_tiles_sound.proofs.Apart.{each_of_tile}
 use Rattle.fab_tiles_sound.proofs.Shapes.{shape_of, bits_shape}
@@ -57,7 +56,7 @@ module _ (tile : PlainTile) (is : IsTile tile) (named : IsNamed tile) where
   bits_zip low zero = tt
   bits_zip low (suc bits) = ((refl, omega arith), tt)
 
-  kind_bits_zip : (low bits : ℕ) → AllZip ToPort (bits_join low bits) (prim.config_port bits)
+  kind_bits_zip : (low bits : ℕ) → AllZip ToPort (bits_join low bits) (config_port bits)
   kind_bits_zip low zero = tt
   kind_bits_zip low (suc bits) = ((refl, omega arith), tt)
 
@@ -77,22 +76,22 @@ module _ (tile : PlainTile) (is : IsTile tile) (named : IsNamed tile) where
     bel_zip =
         let low = bits_before tile.bels place in
         let kind = bel.kind in
-        zip_append ToPort (map (pin_join bel) (input_names kind)) _ (map (prim.scalar true) (input_names kind)) _
-        (zip_map ToPort (pin_join bel) (prim.scalar true) (input_names kind)
-        (All-weaker (λ pin. shape_of tile (bel.prefix ++ pin) ≡ Some Scalar) (λ pin. ToPort (pin_join bel pin) (prim.scalar true pin))
+        zip_append ToPort (map (pin_join bel) (input_names kind)) _ (map (scalar true) (input_names kind)) _
+        (zip_map ToPort (pin_join bel) (scalar true) (input_names kind)
+        (All-weaker (λ pin. shape_of tile (bel.prefix ++ pin) ≡ Some Scalar) (λ pin. ToPort (pin_join bel pin) (scalar true pin))
         (λ pin e. (refl, width_is tile (bel.prefix ++ pin) Scalar e)) (input_names kind) (inputs_scalar tile is named place bel there)))
-        (zip_append ToPort (map same_join (clock_names kind)) _ (map (prim.scalar true) (clock_names kind)) _
-        (zip_map ToPort same_join (prim.scalar true) (clock_names kind)
-        (All-weaker (λ name. shape_of tile name ≡ Some Scalar) (λ name. ToPort (same_join name) (prim.scalar true name))
+        (zip_append ToPort (map same_join (clock_names kind)) _ (map (scalar true) (clock_names kind)) _
+        (zip_map ToPort same_join (scalar true) (clock_names kind)
+        (All-weaker (λ name. shape_of tile name ≡ Some Scalar) (λ name. ToPort (same_join name) (scalar true name))
         (λ name e. (refl, width_is tile name Scalar e)) (clock_names kind) (clocks_scalar tile is named place bel there)))
-        (zip_append ToPort (bits_join low (bit_count kind)) _ (prim.config_port (bit_count kind)) _ (kind_bits_zip low (bit_count kind))
-        (zip_append ToPort (map (pad_join place) (top_inputs kind)) _ (map (prim.scalar true) (top_inputs kind)) _
-        (zip_map ToPort (pad_join place) (prim.scalar true) (top_inputs kind)
+        (zip_append ToPort (bits_join low (bit_count kind)) _ (config_port (bit_count kind)) _ (kind_bits_zip low (bit_count kind))
+        (zip_append ToPort (map (pad_join place) (top_inputs kind)) _ (map (scalar true) (top_inputs kind)) _
+        (zip_map ToPort (pad_join place) (scalar true) (top_inputs kind)
         (λ k d few. (refl, width_is tile (pad_name place (get_or (top_inputs kind) k d)) Scalar (tops_scalar tile is named place bel there k d few))))
-        (zip_append ToPort (map (pin_join bel) (output_names kind)) _ (map (prim.scalar false) (output_names kind)) _
-        (zip_map ToPort (pin_join bel) (prim.scalar false) (output_names kind)
+        (zip_append ToPort (map (pin_join bel) (output_names kind)) _ (map (scalar false) (output_names kind)) _
+        (zip_map ToPort (pin_join bel) (scalar false) (output_names kind)
         (λ k d few. (refl, width_is tile (bel.prefix ++ get_or (output_names kind) k d) Scalar (outputs_scalar tile is named place bel there k d few))))
-        (zip_map ToPort (pad_join place) (prim.scalar false) (top_outputs kind)
+        (zip_map ToPort (pad_join place) (scalar false) (top_outputs kind)
         (λ k d few. (refl, width_is tile (pad_name place (get_or (top_outputs kind) k d)) Scalar (outside_scalar tile is named place bel there k d few))))))))
 
   -- ---- the rule

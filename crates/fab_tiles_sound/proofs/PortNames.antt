@@ -4,12 +4,12 @@ use Rattle.std.proofs.lemmas.List.{map-append}
 use Rattle.fab_kinds.specs.declared.kind.Kind.{Kind}
 use Rattle.fab_kinds.specs.declared.kind.Kind.TheVariants.{Lut4c, Io, Mux8}
 use Rattle.fab_select.specs.Selection.{select_bits}
-use Rattle.fab_matrix.specs.Matrix.{config_port, scalar}
+use Rattle.fab_meaning.specs.Ports.{config_port, scalar}
 use Rattle.fab_model.specs.Tiles.{PlainTile, IsTile}
 use Rattle.fab_prim.specs.Ports.{module_ports}
-use Rattle.fab_gen_tile.specs.ConfigModule.{config_module}
-use Rattle.fab_gen_tile.specs.TileModule.{matrix_inputs, matrix_outputs}
-use Rattle.fab_gen_tile.specs.MatrixModule.{numbered_outputs, named_pairs, matrix_module}
+use Rattle.fab_parts_sound.specs.fab_gen_tile.specs.ConfigModule.{config_module}
+use Rattle.fab_parts_sound.specs.fab_gen_tile.specs.TileModule.{matrix_inputs, matrix_outputs}
+use Rattle.fab_parts_sound.specs.fab_gen_tile.specs.MatrixModule.{numbered_outputs, named_pairs, matrix_module}
 use Rattle.fab_parts_sound.proofs.Apart.{any_same, apart_if}
 use Rattle.fab_parts_sound.proofs.Declared.{port_names}
 use Rattle.fab_parts_sound.proofs.Matrices.{config_names}

@@ -1,1 +1,2 @@
 pub mod Has
+pub use Rattle.fab_parts_sound

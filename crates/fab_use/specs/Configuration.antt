@@ -8,14 +8,14 @@ use Rattle.fab_select.specs.Selection.{select_bits}
 use Rattle.fab_model.specs.declared.tiles.Bel.{Bel}
 use Rattle.fab_model.specs.Tiles.{PlainTile, counted, tile_bits, numbered_pairs}
 use Rattle.fab_model.specs.Grid.{PlainFabric}
-use Rattle.fab_prim.specs.Ports.{config_name}
-use Rattle.fab_gen_tile.specs.Names.{config_instance_name, frame_data_name, frame_strobe_name, bits_name, latch_name}
-use Rattle.fab_gen_loader.specs.Loader as loader
-use Rattle.fab_fabric_text.specs.Names.{address_name, strobe_name, row_name, column_strobe_name}
-use Rattle.fab_fabric_text.specs.Places.{PlacedTile, placed_tiles}
-use Rattle.fab_fabric_text.specs.Text.{same_kind}
-use Rattle.fab_tile_drives.specs.Stands.{matrix_path, bel_path}
-use Rattle.fab_drives.specs.Points.{place_path}
+use Rattle.fab_meaning.specs.Ports.{config_name}
+use Rattle.fab_text_loads.specs.fab_gen_tile.specs.Names.{config_instance_name, frame_data_name, frame_strobe_name, bits_name, latch_name}
+use Rattle.fab_text_loads.specs.fab_gen_loader.specs.Loader as loader
+use Rattle.fab_text_loads.specs.fab_fabric_text.specs.Names.{address_name, strobe_name, row_name, column_strobe_name}
+use Rattle.fab_text_loads.specs.fab_fabric_text.specs.Places.{PlacedTile, placed_tiles}
+use Rattle.fab_text_loads.specs.fab_fabric.specs.Sites.{same_kind}
+use Rattle.fab_text_loads.specs.fab_tile_drives.specs.Stands.{matrix_path, bel_path}
+use Rattle.fab_text_loads.specs.fab_drives.specs.Points.{place_path}
 use Rattle.fab_text_loads.specs.Points.{loader_path}
 
 -- a name of an instance, with its width in bits
@@ -41,8 +41,8 @@ top_configuration fabric =
 abbrev pub loader_configuration : PlainFabric → List NamedBits
 loader_configuration fabric =
     named_bits loader_path loader.address_port 32 ∷ named_bits loader_path loader.strobe_port 1
-    ∷ named_bits loader_path loader.address_name 32 ∷ named_bits loader_path loader.strobe_register_name 1
-    ∷ (counted fabric.rows (λ y. named_bits loader_path (loader.row_port y) 32) ++ counted fabric.rows (λ y. named_bits loader_path (loader.row_name y) 32))
+    ∷ named_bits loader_path loader.address_register_name 32 ∷ named_bits loader_path loader.strobe_register_name 1
+    ∷ (counted fabric.rows (λ y. named_bits loader_path (loader.row_port y) 32) ++ counted fabric.rows (λ y. named_bits loader_path (loader.row_register_name y) 32))
 
 -- the ports by which frames come to a tile, and to its configuration module
 abbrev pub frame_names : Path → List NamedBits

@@ -4,11 +4,11 @@ use Rattle.fab_syntax.specs.Plain.{PlainModule}
 use Rattle.fab_meaning.specs.Points.{Point, point}
 use Rattle.fab_meaning.specs.Settled.{Assignment, IsSettledOn}
 use Rattle.fab_meaning.specs.Runs.{clock_name, user_clock_name, AreClocksLow, Ticks}
-use Rattle.fab_meaning.specs.Loading.{strobe_name}
-use Rattle.fab_fabric.specs.declared.wire.Site.{Site}
-use Rattle.fab_netlist.specs.Plain.{PlainNetlist, IsAt, bit_at, name_of}
-use Rattle.fab_implementation.specs.Plain.{PlainImplementation}
-use Rattle.fab_prim.specs.Ports.{top_name}
+use Rattle.fab_meaning.specs.Loading.{write_strobe_name}
+use Rattle.fab_text_loads.specs.fab_fabric.specs.declared.wire.Site.{Site}
+use Rattle.fab_state.specs.fab_netlist.specs.Plain.{PlainNetlist, IsAt, bit_at, name_of}
+use Rattle.fab_state.specs.fab_implementation.specs.Plain.{PlainImplementation}
+use Rattle.fab_text_loads.specs.fab_prim.specs.Ports.{top_name}
 use Rattle.fab_use.specs.Sites.{top_point}
 
 -- ---- instants
@@ -30,7 +30,7 @@ AreInstants Has text (i ∷ more) held after =
 
 -- No word is written, CLK is 0, and the pad of each input port has at O_top the value that is given for the port.
 pub record Feeds (netlist : PlainNetlist) (implementation : PlainImplementation) (given : List Bool) (inputs : Assignment) : Type 0 where
-  pub quiet : inputs (point [] strobe_name 0) ≡ false
+  pub quiet : inputs (point [] write_strobe_name 0) ≡ false
   pub low : inputs (point [] clock_name 0) ≡ false
   pub pads : (place net : ℕ) (site : Site) → IsAt netlist.inputs place net → Contains implementation.ins (name_of netlist net, site) →
       inputs (top_point site top_name) ≡ bit_at given place

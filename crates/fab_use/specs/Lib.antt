@@ -7,3 +7,16 @@ pub mod Registers
 pub mod Headline
 pub mod Ways
 pub mod Sources
+pub use Rattle.fab_text_loads.specs.fab_equations
+pub use Rattle.fab_state.specs.fab_implementation
+pub use Rattle.fab_text_loads.specs.fab_gen_tile
+pub use Rattle.fab_legal
+pub use Rattle.fab_state
+pub use Rattle.fab_text_loads.specs.fab_tile_drives
+pub use Rattle.fab_text_loads.specs.fab_gen_loader
+pub use Rattle.fab_text_loads.specs.fab_fabric_text
+pub use Rattle.fab_text_loads.specs.fab_drives
+pub use Rattle.fab_text_loads.specs.fab_parts_sound
+pub use Rattle.fab_text_loads.specs.fab_frames
+pub use Rattle.fab_text_loads.specs.fab_loading
+pub use Rattle.fab_text_loads

@@ -2,3 +2,4 @@ pub mod Declarations
 pub mod Places
 pub mod Evaluation
 pub mod Agreement
+pub use Rattle.fab_meaning

@@ -4,6 +4,7 @@ ghost use Rattle.std.specs.Prelude.{◌≤◌, ◌+◌, length};
 ghost use Rattle.fab_vread.specs.Pieces.{fed_len};
 
 use crate::cases::{Case, cases_of, tree_of};
+use crate::fabrics::stored_text;
 use crate::reading::shown;
 use fab_base::{Fault, MAX_FILE_BYTES, Name};
 use fab_desk::{Desk, Sink};
@@ -67,6 +68,43 @@ fn agreed(alloc: Global, case: Case, answer: &[u8]) -> Result<String, Stop>
     )?)
 }
 
+// Whether a text that comes in pieces of so many gives this answer.
+fn is_alike(alloc: Global, case: Case, size: usize, answer: &[u8]) -> Result<bool, Stop>
+    requires some { 1 ≤ size }
+    requires few { length case.text.now ≤ MAX_FILE_BYTES }
+{
+    let found = tree_in_pieces(alloc, case, 0, size);
+    Ok(shown(alloc, case.name, found)?.as_slice() == answer)
+}
+
+// Prints whether a text that comes byte by byte, or in pieces of seven, gives this answer.
+fn put_alike<S: Sink>(alloc: Global, out: &mut S, case: Case, answer: &[u8]) -> Result<(), Stop>
+    requires { length case.text.now ≤ MAX_FILE_BYTES }
+{
+    let ones = is_alike(alloc, case, 1, answer)?;
+    let sevens = is_alike(alloc, case, 7, answer)?;
+    let line = format!(in alloc;
+        "{}: one by one alike {ones}, in sevens alike {sevens}\n",
+        case.name
+    )?;
+    out.put(line.as_bytes())?;
+    Ok(())
+}
+
+// Prints the same of the whole text of a fabric, and of that text without its last bytes, so that it ends inside `endmodule`.
+fn put_fabric_text<D: Desk, S: Sink>(alloc: Global, desk: &mut D, out: &mut S) -> Result<(), Stop> {
+    let bytes = stored_text(alloc, desk, "duo")?;
+    let name = "inv.v";
+    let whole = Case { name, text: &bytes };
+    let answer = shown(alloc, name, tree_of(alloc, whole))?;
+    put_alike(alloc, out, whole, &answer)?;
+    let front = bytes.strip_suffix(b"dule\n").ok_or(Stop::Data)?;
+    let cut = Case { name, text: front };
+    let refusal = shown(alloc, name, tree_of(alloc, cut))?;
+    out.put(&refusal)?;
+    put_alike(alloc, out, cut, &refusal)
+}
+
 /// Prints what is read of texts, and of how many ways to cut them the same is read.
 pub fn put_pieces<D: Desk, S: Sink>(alloc: Global, desk: &mut D, out: &mut S) -> Result<(), Stop> {
     let bytes = fetch(alloc, desk, "pieces.cases")?;
@@ -77,5 +115,5 @@ pub fn put_pieces<D: Desk, S: Sink>(alloc: Global, desk: &mut D, out: &mut S) ->
             out.put(agreed(alloc, case, &answer)?.as_bytes())?;
         }
     }
-    Ok(())
+    put_fabric_text(alloc, desk, out)
 }

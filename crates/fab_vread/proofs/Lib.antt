@@ -17,6 +17,7 @@ pub mod Ending
 pub mod Viable
 pub mod Malformed
 pub mod Wrong
+pub mod LastLine
 pub mod Refusing
 pub mod Lexemes
 pub mod Determined

@@ -8,6 +8,7 @@ use Rattle.fab_base.specs.declared.problem.Problem.TheVariants as problems
 use Rattle.fab_base.specs.declared.words.Reason.TheVariants as reasons
 use Rattle.fab_base.specs.declared.fault.Fault.{Fault}
 use Rattle.fab_base.specs.Reading.{fault_at}
+use Rattle.fab_lines.specs.Counts.{last_line}
 use Rattle.fab_syntax.specs.Plain.{PlainModule}
 use Rattle.fab_tokens.specs.declared.token.Token.{Token}
 use Rattle.fab_tokens.specs.declared.scanner.Scan.{Scan}
@@ -15,8 +16,9 @@ use Rattle.fab_tokens.specs.Scanning.{Lexeme, after_byte, at_end}
 use Rattle.fab_vread.specs.declared.expressions.Over.{Over}
 use Rattle.fab_vread.specs.Machine.{Machine, Progress, after_token, first_machine, is_done, limit, past, line_checked, with_machine, located, and_go, after_lexeme, after_optional, behind_byte, read_from, unless_over, closing, first_progress, read_of}
 use Rattle.fab_vread.proofs.Running.{run}
-use Rattle.fab_vread.specs.Refusals.{next_line, lexeme, on_line, lexemes_from, lexemes_of, last_line_from, last_line, tokens_in, BeginsWithin, IsAbove, UpTo, by_token, by_end, by_limit, Refused}
+use Rattle.fab_vread.specs.Refusals.{next_line, lexeme, on_line, lexemes_from, lexemes_of, tokens_in, BeginsWithin, IsAbove, UpTo, by_token, by_end, by_limit, Refused}
 use Rattle.fab_vread.proofs.Bytes.{further, further_is}
+use Rattle.fab_vread.proofs.LastLine.{last_line_from, last_line_is}
 use Rattle.fab_vread.proofs.Viable.{taken_begins, taken_within, within_fine, text_done, done_text, over_above}
 use Rattle.fab_vread.proofs.Wrong.{token_wrong, token_unfit, token_behind}
 
@@ -284,4 +286,5 @@ module _ (file : List ℕ) where
   -- what the reader refuses is the first refusal
   pub text_refused : (bytes : List ℕ) (fault : Fault) → read_of file bytes ≡ Err fault → Refused file (lexemes_of bytes) (last_line bytes) fault
   unfolding read_of
-  text_refused bytes fault e = bytes_refused bytes first_progress [] fault stands_first (omega arith) (omega arith) e
+  text_refused bytes fault e =
+      subst (λ last. Refused file (lexemes_of bytes) last fault) (last_line_is bytes) (bytes_refused bytes first_progress [] fault stands_first (omega arith) (omega arith) e)

@@ -6,6 +6,7 @@ use Rattle.fab_base.specs.declared.words.Reason.TheVariants as reasons
 use Rattle.fab_base.specs.declared.words.Quantity.TheVariants as quantities
 use Rattle.fab_base.specs.declared.fault.Fault.{Fault}
 use Rattle.fab_base.specs.Reading.{fault_at}
+use Rattle.fab_lines.specs.Counts.{last_line}
 use Rattle.fab_syntax.specs.Plain.{PlainModule}
 use Rattle.fab_tokens.specs.declared.token.Token.{Token}
 use Rattle.fab_tokens.specs.declared.token.Token.TheVariants as tokens
@@ -42,14 +43,6 @@ lexemes_from scan last line (byte ∷ bytes) =
 
 abbrev pub lexemes_of : List ℕ → List Lexeme
 lexemes_of bytes = lexemes_from scans.Between 1 1 bytes
-
--- the line of the last byte
-unfoldable pub last_line_from : (last line : ℕ) → List ℕ → ℕ
-last_line_from last line [] = last
-last_line_from last line (byte ∷ bytes) = last_line_from line (next_line line byte) bytes
-
-abbrev pub last_line : List ℕ → ℕ
-last_line bytes = last_line_from 1 1 bytes
 
 abbrev pub tokens_in : List Lexeme → List Token
 tokens_in lexemes = map (λ x. x.token) lexemes

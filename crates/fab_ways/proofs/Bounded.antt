@@ -3,17 +3,17 @@ use Rattle.std.proofs.Common.{◌≡◌, ℕ, ◌+◌, ◌-◌, ◌*◌, ◌/◌
 use Rattle.std.proofs.lemmas.Nat.{div_below}
 use Rattle.std.proofs.Math.Nat.{lt-div-mul-add}
 use Rattle.fab_select.specs.declared.pair.Pair.{Pair}
-use Rattle.fab_model.specs.Tiles.{IsPair, is_matrix_output}
-use Rattle.fab_model.specs.Wires.{PlainWire, source_of, dest_of, pin_of}
-use Rattle.fab_model.specs.Cascade.{join_to}
-use Rattle.fab_model.specs.Grid.{PlainFabric}
-use Rattle.fab_fabric.specs.Fabric.{AreTiles, wires_at, wire_count}
-use Rattle.fab_fabric.specs.Wires.{wire_index, IsIndexOf, row_place, dest_wire, wire_join_to}
-use Rattle.fab_fabric.specs.declared.wire.Wire.{Wire}
-use Rattle.fab_fabric.specs.declared.fabric.joins.RowAt.{RowAt}
-use Rattle.fab_fabric.proofs.Numbered.{index_within, wired_within, wires_of_tile, number_at, number_within, wire_within}
-use Rattle.fab_fabric.proofs.Pairs.{passes_named}
-use Rattle.fab_fabric.proofs.Joined.{join_lands}
+use Rattle.fab_legal.specs.fab_model.specs.Tiles.{IsPair, is_matrix_output}
+use Rattle.fab_legal.specs.fab_model.specs.Wires.{PlainWire, source_of, dest_of, pin_of}
+use Rattle.fab_legal.specs.fab_model.specs.Cascade.{join_to}
+use Rattle.fab_legal.specs.fab_model.specs.Grid.{PlainFabric}
+use Rattle.fab_legal.specs.fab_fabric.specs.Fabric.{AreTiles, wires_at, wire_count}
+use Rattle.fab_legal.specs.fab_fabric.specs.Wires.{wire_index, IsIndexOf, row_place, dest_wire, wire_join_to}
+use Rattle.fab_legal.specs.fab_fabric.specs.declared.wire.Wire.{Wire}
+use Rattle.fab_legal.specs.fab_fabric.specs.declared.fabric.joins.RowAt.{RowAt}
+use Rattle.fab_legal.specs.fab_fabric.proofs.Numbered.{index_within, wired_within, wires_of_tile, number_at, number_within, wire_within}
+use Rattle.fab_legal.specs.fab_fabric.proofs.Pairs.{passes_named}
+use Rattle.fab_legal.specs.fab_fabric.proofs.Joined.{join_lands}
 use Rattle.fab_legal.specs.Steps.{IsPaired, IsJoined, IsStep}
 use Rattle.fab_legal.proofs.Pins.{is_tile_at}
 use Rattle.fab_ways.specs.Placing.{gap}

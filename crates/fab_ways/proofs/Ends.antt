@@ -5,14 +5,14 @@ use Rattle.std.proofs.lemmas.Bool.{cases_Bool, cases_lt, false≢true, le-leb, l
 use Rattle.std.proofs.lemmas.Option.{same_Some, slice_get_cases}
 use Rattle.std.proofs.lemmas.List.{length-map}
 use Rattle.fab_select.specs.declared.pair.Pair.{Pair}
-use Rattle.fab_model.specs.Tiles.{PlainTile, IsTile, IsPair, TileWire, counted, matrix_names, tile_wires, wire_name, wire_passes, is_matrix_output}
-use Rattle.fab_model.specs.Wires.{PlainWire, plain_wires}
-use Rattle.fab_model.specs.Grid.{PlainFabric, tile_at}
-use Rattle.fab_fabric.specs.Fabric.{AreTiles, wires_at}
-use Rattle.fab_fabric.specs.Wires.{wire_index, numbered_wire, wire_join_to}
-use Rattle.fab_fabric.specs.declared.wire.Wire.{Wire}
-use Rattle.fab_fabric.proofs.Numbered.{one_place, some_place, one_wire, some_item, wired_tile, wired_within, wires_of_tile, wires_are_named, wire_with_number}
-use Rattle.fab_netlist.proofs.Members.{first_in, in_left, in_right, mapped_in}
+use Rattle.fab_legal.specs.fab_model.specs.Tiles.{PlainTile, IsTile, IsPair, TileWire, counted, matrix_names, tile_wires, wire_name, wire_passes, is_matrix_output}
+use Rattle.fab_legal.specs.fab_model.specs.Wires.{PlainWire, plain_wires}
+use Rattle.fab_legal.specs.fab_model.specs.Grid.{PlainFabric, tile_at}
+use Rattle.fab_legal.specs.fab_fabric.specs.Fabric.{AreTiles, wires_at}
+use Rattle.fab_legal.specs.fab_fabric.specs.Wires.{wire_index, numbered_wire, wire_join_to}
+use Rattle.fab_legal.specs.fab_fabric.specs.declared.wire.Wire.{Wire}
+use Rattle.fab_legal.specs.fab_fabric.proofs.Numbered.{one_place, some_place, one_wire, some_item, wired_tile, wired_within, wires_of_tile, wires_are_named, wire_with_number}
+use Rattle.fab_legal.specs.fab_netlist.proofs.Members.{first_in, in_left, in_right, mapped_in}
 use Rattle.fab_legal.specs.Steps.{IsPaired, IsJoined, IsStep}
 use Rattle.fab_legal.proofs.Members.{in_either, from_mapped}
 use Rattle.fab_legal.proofs.Pins.{is_tile_at}

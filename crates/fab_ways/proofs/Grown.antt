@@ -2,16 +2,16 @@
 use Rattle.std.proofs.Common.{◌≡◌, ◌⊎◌, ℕ, ◌+◌, ◌≤◌, true, false, if◌then◌else◌, List, [], ◌∷◌, ◌++◌, map, Contains, nat_eq, refl, sym, ap, ◌∙◌, subst, inl, inr, arith, eq-eqb, eqb-true, append_assoc, append-nil}
 use Rattle.std.proofs.lemmas.Bool.{cases_Bool, cases_lt}
 use Rattle.std.proofs.lemmas.List.{map-append}
-use Rattle.fab_model.specs.Grid.{PlainFabric}
-use Rattle.fab_fabric.specs.Wires.{numbered_wire}
-use Rattle.fab_fabric.specs.declared.wire.Wire.{Wire}
-use Rattle.fab_implementation.specs.Plain.{Edge, PlainImplementation}
-use Rattle.fab_netlist.specs.WellMade.{times}
-use Rattle.fab_netlist.proofs.Members.{in_none, first_or_later, first_in, later_in, in_left, in_right, mapped_in}
-use Rattle.fab_netlist.proofs.Counts.{times_joined, member_counts}
+use Rattle.fab_legal.specs.fab_model.specs.Grid.{PlainFabric}
+use Rattle.fab_legal.specs.fab_fabric.specs.Wires.{numbered_wire}
+use Rattle.fab_legal.specs.fab_fabric.specs.declared.wire.Wire.{Wire}
+use Rattle.fab_legal.specs.fab_implementation.specs.Plain.{Edge, PlainImplementation}
+use Rattle.fab_legal.specs.fab_netlist.specs.WellMade.{times}
+use Rattle.fab_legal.specs.fab_netlist.proofs.Members.{in_none, first_or_later, first_in, later_in, in_left, in_right, mapped_in}
+use Rattle.fab_legal.specs.fab_netlist.proofs.Counts.{times_joined, member_counts}
 use Rattle.fab_legal.specs.Steps.{IsStep}
 use Rattle.fab_legal.specs.Nets.{Net, IsRoot, entered_wires, Reached, root, step}
-use Rattle.fab_legal.specs.Tables.{entered_number, left_number}
+use Rattle.fab_legal.specs.inner.Tables.{entered_number, left_number}
 use Rattle.fab_legal.proofs.Members.{in_either, from_mapped}
 use Rattle.fab_ways.specs.Routing.{Path, Paths, has, Walk, IsLeastWalk, MayBegin, AreGrown, wires_of}
 use Rattle.fab_ways.specs.Trees.{edge_into, edges_along, edges_of}

@@ -4,18 +4,18 @@ use Rattle.std.specs.Option.{option_map_or}
 use Rattle.fab_kinds.specs.declared.kind.Kind.{Kind}
 use Rattle.fab_kinds.specs.declared.kind.Kind.TheVariants as kinds
 use Rattle.fab_kinds.specs.Pins.{input_count, pin_names}
-use Rattle.fab_model.specs.declared.tiles.Bel.{Bel}
-use Rattle.fab_model.specs.Drive.{PlainDrive, zero_bit, one_bit}
-use Rattle.fab_model.specs.Wires.{dest_of, pin_of, pin_count}
-use Rattle.fab_model.specs.Grid.{PlainFabric}
-use Rattle.fab_fabric.specs.Wires.{IsIndexOf}
-use Rattle.fab_fabric.specs.declared.wire.Site.{Site}
-use Rattle.fab_fabric.specs.declared.wire.Wire.{Wire}
-use Rattle.fab_fabric.proofs.Numbered.{one_wire}
-use Rattle.fab_netlist.specs.Packed.{PlainCell, PlainPacked}
-use Rattle.fab_netlist.specs.Plain.{IsAt}
-use Rattle.fab_implementation.specs.Plain.{PlainImplementation}
-use Rattle.fab_implementation.specs.OnFabric.{kind_at}
+use Rattle.fab_legal.specs.fab_model.specs.declared.tiles.Bel.{Bel}
+use Rattle.fab_legal.specs.fab_model.specs.Drive.{PlainDrive, zero_bit, one_bit}
+use Rattle.fab_legal.specs.fab_model.specs.Wires.{dest_of, pin_of, pin_count}
+use Rattle.fab_legal.specs.fab_model.specs.Grid.{PlainFabric}
+use Rattle.fab_legal.specs.fab_fabric.specs.Wires.{IsIndexOf}
+use Rattle.fab_legal.specs.fab_fabric.specs.declared.wire.Site.{Site}
+use Rattle.fab_legal.specs.fab_fabric.specs.declared.wire.Wire.{Wire}
+use Rattle.fab_legal.specs.fab_fabric.proofs.Numbered.{one_wire}
+use Rattle.fab_legal.specs.fab_netlist.specs.Packed.{PlainCell, PlainPacked}
+use Rattle.fab_legal.specs.fab_netlist.specs.Plain.{IsAt}
+use Rattle.fab_legal.specs.fab_implementation.specs.Plain.{PlainImplementation}
+use Rattle.fab_legal.specs.fab_implementation.specs.OnFabric.{kind_at}
 use Rattle.fab_legal.specs.Turns.{AreRight}
 use Rattle.fab_legal.specs.WellMade.{IsWellMadePacked, IsWellMadeCell}
 use Rattle.fab_legal.specs.Lines.{IsRightLine}
@@ -23,7 +23,7 @@ use Rattle.fab_legal.specs.Legal.{ArePlaced}
 use Rattle.fab_legal.specs.Steps.{IsConstant, pin_wire}
 use Rattle.fab_legal.specs.Nets.{Net, zero_net, one_net, port_net, cell_net, IsRoot}
 use Rattle.fab_legal.specs.Sinks.{Required, cell_input, latch_enable, latch_reset, input_released, output_shown, output_driven}
-use Rattle.fab_legal.specs.Keeping.{HasPin}
+use Rattle.fab_legal.specs.inner.Keeping.{HasPin}
 use Rattle.fab_legal.proofs.Pins.{pin_parts}
 
 -- the number of the wire of a pin

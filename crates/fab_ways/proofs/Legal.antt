@@ -2,24 +2,24 @@
 use Rattle.std.proofs.Common.{◌≡◌, ◌⊎◌, ℕ, ◌+◌, ◌*◌, ◌<◌, ◌≤◌, true, List, [], ◌∷◌, ◌++◌, map, filter, length, get_or, take, drop, AllPairs, Contains, refl, sym, ap, ◌∙◌, subst, inl, inr, arith, append-nil, mul-le-mul_right, take-append-drop, eqb-true, eq-eqb}
 use Rattle.std.proofs.lemmas.Bool.{cases_lt, false≢true}
 use Rattle.std.proofs.lemmas.List.{map-append, drop_more, get_or_default, length-take-le, get_or-take}
-use Rattle.fab_model.specs.Grid.{PlainFabric}
-use Rattle.fab_fabric.specs.Wires.{numbered_wire}
-use Rattle.fab_fabric.specs.declared.wire.Wire.{Wire}
-use Rattle.fab_netlist.specs.declared.net_id.NetId.{NetId}
-use Rattle.fab_netlist.specs.declared.net_id.NetId.TheVariants as ids
-use Rattle.fab_netlist.specs.WellMade.{times}
-use Rattle.fab_netlist.specs.Packed.{PlainPacked}
-use Rattle.fab_netlist.specs.Plain.{IsAt}
-use Rattle.fab_netlist.proofs.Members.{in_none, first_in, in_left, in_right, mapped_in}
-use Rattle.fab_netlist.proofs.Counts.{times_joined, member_counts}
-use Rattle.fab_implementation.specs.Plain.{Edge, Pad, PlainTree, PlainImplementation}
+use Rattle.fab_legal.specs.fab_model.specs.Grid.{PlainFabric}
+use Rattle.fab_legal.specs.fab_fabric.specs.Wires.{numbered_wire}
+use Rattle.fab_legal.specs.fab_fabric.specs.declared.wire.Wire.{Wire}
+use Rattle.fab_legal.specs.fab_netlist.specs.declared.net_id.NetId.{NetId}
+use Rattle.fab_legal.specs.fab_netlist.specs.declared.net_id.NetId.TheVariants as ids
+use Rattle.fab_legal.specs.fab_netlist.specs.WellMade.{times}
+use Rattle.fab_legal.specs.fab_netlist.specs.Packed.{PlainPacked}
+use Rattle.fab_legal.specs.fab_netlist.specs.Plain.{IsAt}
+use Rattle.fab_legal.specs.fab_netlist.proofs.Members.{in_none, first_in, in_left, in_right, mapped_in}
+use Rattle.fab_legal.specs.fab_netlist.proofs.Counts.{times_joined, member_counts}
+use Rattle.fab_legal.specs.fab_implementation.specs.Plain.{Edge, Pad, PlainTree, PlainImplementation}
 use Rattle.fab_legal.specs.Turns.{AreRight}
 use Rattle.fab_legal.specs.WellMade.{IsWellMadePacked, IsNetId}
 use Rattle.fab_legal.specs.Lines.{named, ConstraintsHold}
 use Rattle.fab_legal.specs.Legal.{ArePlaced, IsLegal, HasRightEntries}
 use Rattle.fab_legal.specs.Nets.{Net, port_net, net_of, IsNet, IsRoot, StandsIn, IsRightStep, IsRightEntry, IsRightStart, IsRightNet, entered_wires, left_wires, Reached}
 use Rattle.fab_legal.specs.Sinks.{Required, sinks, packed_net, named_sink}
-use Rattle.fab_legal.specs.Tables.{entered_number, left_number}
+use Rattle.fab_legal.specs.inner.Tables.{entered_number, left_number}
 use Rattle.fab_legal.proofs.PortNumbers.{name_at, known_number}
 use Rattle.fab_legal.proofs.Lists.{at_default, same_at}
 use Rattle.fab_legal.proofs.Members.{in_either, from_mapped}

@@ -8,10 +8,10 @@ use Rattle.std.proofs.lemmas.List.Kept.{AllPairs-cons}
 use Rattle.std.proofs.lemmas.List.Sums.{sum_by-cons}
 use Rattle.fab_select.specs.Selection.{firsts}
 use Rattle.fab_select.proofs.Firsts.{firsts_all, firsts_hold}
-use Rattle.fab_model.specs.Tiles.{counted}
-use Rattle.fab_netlist.specs.Plain.{IsAt}
-use Rattle.fab_netlist.proofs.Members.{in_none, first_or_later, first_in, later_in, any_gives}
-use Rattle.fab_netlist.proofs.Stepping.{all_of}
+use Rattle.fab_legal.specs.fab_model.specs.Tiles.{counted}
+use Rattle.fab_legal.specs.fab_netlist.specs.Plain.{IsAt}
+use Rattle.fab_legal.specs.fab_netlist.proofs.Members.{in_none, first_or_later, first_in, later_in, any_gives}
+use Rattle.fab_legal.specs.fab_netlist.proofs.Stepping.{all_of}
 use Rattle.fab_legal.proofs.Members.{in_either}
 
 -- ---- values that may be missing

@@ -1,14 +1,14 @@
 -- The nets of a design in order, and the trees that are made for them.
 use Rattle.std.proofs.Common.{◌≡◌, ◌≢◌, ℕ, zero, suc, ◌<◌, List, [], ◌∷◌, ◌++◌, length, get_or, AllPairs, Contains, refl, sym, subst, inl, inr, arith}
 use Rattle.std.proofs.lemmas.List.Kept.{AllPairs-cons}
-use Rattle.fab_model.specs.Tiles.{counted}
-use Rattle.fab_netlist.specs.declared.net_id.NetId.{NetId}
-use Rattle.fab_netlist.specs.declared.net_id.NetId.TheVariants as ids
-use Rattle.fab_netlist.specs.Packed.{PlainPacked}
-use Rattle.fab_netlist.specs.Plain.{IsAt}
-use Rattle.fab_netlist.proofs.Members.{in_none, first_or_later, first_in, later_in, in_left, in_right}
-use Rattle.fab_netlist.proofs.Stepping.{all_of}
-use Rattle.fab_implementation.specs.Plain.{Edge, PlainTree}
+use Rattle.fab_legal.specs.fab_model.specs.Tiles.{counted}
+use Rattle.fab_legal.specs.fab_netlist.specs.declared.net_id.NetId.{NetId}
+use Rattle.fab_legal.specs.fab_netlist.specs.declared.net_id.NetId.TheVariants as ids
+use Rattle.fab_legal.specs.fab_netlist.specs.Packed.{PlainPacked}
+use Rattle.fab_legal.specs.fab_netlist.specs.Plain.{IsAt}
+use Rattle.fab_legal.specs.fab_netlist.proofs.Members.{in_none, first_or_later, first_in, later_in, in_left, in_right}
+use Rattle.fab_legal.specs.fab_netlist.proofs.Stepping.{all_of}
+use Rattle.fab_legal.specs.fab_implementation.specs.Plain.{Edge, PlainTree}
 use Rattle.fab_legal.specs.WellMade.{IsWellMadePacked, IsNetId, output_ports}
 use Rattle.fab_legal.specs.Nets.{port_net, cell_net}
 use Rattle.fab_legal.specs.Sinks.{packed_net}

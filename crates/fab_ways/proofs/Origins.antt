@@ -3,21 +3,21 @@ use Rattle.std.proofs.Common.{◌≡◌, ℕ, ◌-◌, ◌<◌, true, List, [], 
 use Rattle.std.specs.Option.{option_map_or}
 use Rattle.std.proofs.lemmas.Option.{same_Some}
 use Rattle.fab_select.specs.declared.pair.Pair.{Pair}
-use Rattle.fab_model.specs.declared.tiles.WireRow.{WireRow}
-use Rattle.fab_model.specs.Rows.{source_bits, dest_bits}
-use Rattle.fab_model.specs.Tiles.{PlainTile}
-use Rattle.fab_model.specs.Wires.{PlainWire, HasWire, source_of, dest_of, pin_of, plain_wires}
-use Rattle.fab_model.specs.Joins.{RowPlace}
-use Rattle.fab_model.specs.Cascade.{join_to, join_from, IsSourceBit, IsDestBit}
-use Rattle.fab_model.specs.Grid.{PlainFabric, tile_at}
-use Rattle.fab_model.proofs.Found.{to_and_from, from_and_to}
-use Rattle.fab_fabric.specs.Fabric.{AreTiles, wires_at}
-use Rattle.fab_fabric.specs.Wires.{wire_index, numbered_wire, IsIndexOf, row_place, dest_wire, source_wire, wire_join_to, wire_join_from}
-use Rattle.fab_fabric.specs.declared.wire.Wire.{Wire}
-use Rattle.fab_fabric.specs.declared.fabric.joins.RowAt.{RowAt}
-use Rattle.fab_fabric.proofs.Numbered.{one_place, some_place, one_wire, some_item, wired_tile, wires_of_tile, wires_are_named, wire_with_number}
-use Rattle.fab_fabric.proofs.Joined.{are_rows, join_lands, join_departs}
-use Rattle.fab_netlist.proofs.Members.{first_in, in_left, in_right, mapped_in}
+use Rattle.fab_legal.specs.fab_model.specs.declared.tiles.WireRow.{WireRow}
+use Rattle.fab_legal.specs.fab_model.specs.Rows.{source_bits, dest_bits}
+use Rattle.fab_legal.specs.fab_model.specs.Tiles.{PlainTile}
+use Rattle.fab_legal.specs.fab_model.specs.Wires.{PlainWire, HasWire, source_of, dest_of, pin_of, plain_wires}
+use Rattle.fab_legal.specs.fab_model.specs.Joins.{RowPlace}
+use Rattle.fab_legal.specs.fab_model.specs.Cascade.{join_to, join_from, IsSourceBit, IsDestBit}
+use Rattle.fab_legal.specs.fab_model.specs.Grid.{PlainFabric, tile_at}
+use Rattle.fab_legal.specs.fab_model.proofs.Found.{to_and_from, from_and_to}
+use Rattle.fab_legal.specs.fab_fabric.specs.Fabric.{AreTiles, wires_at}
+use Rattle.fab_legal.specs.fab_fabric.specs.Wires.{wire_index, numbered_wire, IsIndexOf, row_place, dest_wire, source_wire, wire_join_to, wire_join_from}
+use Rattle.fab_legal.specs.fab_fabric.specs.declared.wire.Wire.{Wire}
+use Rattle.fab_legal.specs.fab_fabric.specs.declared.fabric.joins.RowAt.{RowAt}
+use Rattle.fab_legal.specs.fab_fabric.proofs.Numbered.{one_place, some_place, one_wire, some_item, wired_tile, wires_of_tile, wires_are_named, wire_with_number}
+use Rattle.fab_legal.specs.fab_fabric.proofs.Joined.{are_rows, join_lands, join_departs}
+use Rattle.fab_legal.specs.fab_netlist.proofs.Members.{first_in, in_left, in_right, mapped_in}
 use Rattle.fab_legal.specs.Steps.{IsPaired, IsJoined, IsStep}
 use Rattle.fab_legal.proofs.Members.{in_either, from_mapped}
 use Rattle.fab_ways.specs.Edges.{outputs_of, swapped, turned_pairs, wire_at, join_before, origins_in, origins_at, origins}

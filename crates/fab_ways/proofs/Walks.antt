@@ -2,10 +2,10 @@
 use Rattle.std.proofs.Common.{◌≡◌, ℕ, ◌+◌, ◌≤◌, Bool, true, false, if◌then◌else◌, List, [], ◌∷◌, Contains, nat_eq, refl, sym, ◌∙◌, subst, inl, inr, arith, eqb-true}
 use Rattle.std.proofs.lemmas.Bool.{cases_Bool, cases_lt, false≢true}
 use Rattle.std.proofs.lemmas.List.Sums.{sum_by-cons}
-use Rattle.fab_model.specs.Grid.{PlainFabric}
-use Rattle.fab_netlist.specs.WellMade.{times}
-use Rattle.fab_netlist.proofs.Members.{in_none, first_or_later, number_any, any_number}
-use Rattle.fab_netlist.proofs.Counts.{nowhere_or_at}
+use Rattle.fab_legal.specs.fab_model.specs.Grid.{PlainFabric}
+use Rattle.fab_legal.specs.fab_netlist.specs.WellMade.{times}
+use Rattle.fab_legal.specs.fab_netlist.proofs.Members.{in_none, first_or_later, number_any, any_number}
+use Rattle.fab_legal.specs.fab_netlist.proofs.Counts.{nowhere_or_at}
 use Rattle.fab_ways.specs.Routing.{Path, has, Walk, toll, total, IsLeastWalk}
 use Rattle.fab_ways.specs.Routing.Walk.{begins, goes}
 

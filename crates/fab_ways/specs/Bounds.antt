@@ -1,7 +1,7 @@
 -- A lower bound on how many edges a walk still takes, by distance.
 use Rattle.std.specs.Prelude.{◌≡◌, ◌⊎◌, ℕ, suc, ◌+◌, ◌-◌, ◌/◌, ◌≤◌}
-use Rattle.fab_model.specs.Grid.{PlainFabric}
-use Rattle.fab_fabric.specs.declared.wire.Wire.{Wire}
+use Rattle.fab_legal.specs.fab_model.specs.Grid.{PlainFabric}
+use Rattle.fab_legal.specs.fab_fabric.specs.declared.wire.Wire.{Wire}
 use Rattle.fab_legal.specs.Steps.{IsJoined, IsStep}
 use Rattle.fab_ways.specs.Placing.{tile_distance}
 use Rattle.fab_ways.specs.Edges.{place_of}

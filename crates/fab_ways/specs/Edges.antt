@@ -3,12 +3,12 @@ use Rattle.std.specs.Prelude.{ℕ, ◌+◌, ◌-◌, Bool, true, false, ◌&&◌
 use Rattle.std.specs.List.{flat_map}
 use Rattle.fab_select.specs.declared.pair.Pair.{Pair}
 use Rattle.fab_select.specs.Selection.{firsts}
-use Rattle.fab_model.specs.Tiles.{PlainTile, counted}
-use Rattle.fab_model.specs.Wires.{plain_wires}
-use Rattle.fab_model.specs.Grid.{PlainFabric, tile_at}
-use Rattle.fab_fabric.specs.Wires.{wire_index, numbered_wire, wire_join_to, wire_join_from}
-use Rattle.fab_fabric.specs.declared.wire.Wire.{Wire}
-use Rattle.fab_fabric.specs.Fabric.{wires_at}
+use Rattle.fab_legal.specs.fab_model.specs.Tiles.{PlainTile, counted}
+use Rattle.fab_legal.specs.fab_model.specs.Wires.{plain_wires}
+use Rattle.fab_legal.specs.fab_model.specs.Grid.{PlainFabric, tile_at}
+use Rattle.fab_legal.specs.fab_fabric.specs.Wires.{wire_index, numbered_wire, wire_join_to, wire_join_from}
+use Rattle.fab_legal.specs.fab_fabric.specs.declared.wire.Wire.{Wire}
+use Rattle.fab_legal.specs.fab_fabric.specs.Fabric.{wires_at}
 
 -- ---- the place of a wire
 

@@ -1,11 +1,11 @@
 -- What follows from the definitions of this crate.
 use Rattle.std.specs.Prelude.{◌≡◌, ◌↔◌, ℕ, ◌+◌, ◌<◌, ◌≤◌, List, length, Contains}
-use Rattle.fab_model.specs.Grid.{PlainFabric}
-use Rattle.fab_fabric.specs.Fabric.{AreTiles, wires_at, wire_count}
-use Rattle.fab_fabric.specs.Wires.{wire_index, numbered_wire}
-use Rattle.fab_fabric.specs.declared.wire.Wire.{Wire}
-use Rattle.fab_netlist.specs.Packed.{PlainPacked}
-use Rattle.fab_implementation.specs.Plain.{Pad, PlainImplementation}
+use Rattle.fab_legal.specs.fab_model.specs.Grid.{PlainFabric}
+use Rattle.fab_legal.specs.fab_fabric.specs.Fabric.{AreTiles, wires_at, wire_count}
+use Rattle.fab_legal.specs.fab_fabric.specs.Wires.{wire_index, numbered_wire}
+use Rattle.fab_legal.specs.fab_fabric.specs.declared.wire.Wire.{Wire}
+use Rattle.fab_legal.specs.fab_netlist.specs.Packed.{PlainPacked}
+use Rattle.fab_legal.specs.fab_implementation.specs.Plain.{Pad, PlainImplementation}
 use Rattle.fab_legal.specs.WellMade.{IsWellMadePacked}
 use Rattle.fab_legal.specs.Lines.{ConstraintsHold}
 use Rattle.fab_legal.specs.Legal.{ArePlaced, IsLegal}

@@ -6,3 +6,4 @@ pub mod Trees
 pub mod Mapping
 pub mod Bounds
 pub mod Laws
+pub use Rattle.fab_legal

@@ -1,8 +1,8 @@
 -- What a mapping of a packed design onto a fabric is.
 use Rattle.std.specs.Prelude.{◌≡◌, ℕ, ◌<◌, ◌≤◌, List, length}
-use Rattle.fab_model.specs.Grid.{PlainFabric}
-use Rattle.fab_netlist.specs.Packed.{PlainPacked}
-use Rattle.fab_implementation.specs.Plain.{Pad, PlainImplementation}
+use Rattle.fab_legal.specs.fab_model.specs.Grid.{PlainFabric}
+use Rattle.fab_legal.specs.fab_netlist.specs.Packed.{PlainPacked}
+use Rattle.fab_legal.specs.fab_implementation.specs.Plain.{Pad, PlainImplementation}
 use Rattle.fab_ways.specs.Placing.{IsGoodPlacement}
 use Rattle.fab_ways.specs.Routing.{Paths, Run, LeavesShared}
 use Rattle.fab_ways.specs.Trees.{trees_of, with_trees}

@@ -2,19 +2,20 @@
 use Rattle.std.specs.Prelude.{◌≡◌, ◌⊎◌, ℕ, ◌+◌, ◌-◌, ◌≤◌, Bool, true, false, List, [], ◌∷◌, ◌++◌, map, filter, not, take, drop, length, fold, max, min, sum_by, Contains, nat_eq, bytes_eq, get_or, if◌then◌else◌}
 use Rattle.std.specs.List.{enumerate_from, list_any}
 use Rattle.fab_kinds.specs.declared.kind.Kind.TheVariants as kinds
-use Rattle.fab_model.specs.Tiles.{counted}
-use Rattle.fab_model.specs.Grid.{PlainFabric}
-use Rattle.fab_fabric.specs.declared.wire.Site.{Site}
-use Rattle.fab_netlist.specs.declared.net_id.NetId.{NetId}
-use Rattle.fab_netlist.specs.declared.net_id.NetId.TheVariants as ids
-use Rattle.fab_netlist.specs.Packed.{PlainPacked}
-use Rattle.fab_implementation.specs.Plain.{Pad, PlainImplementation}
-use Rattle.fab_implementation.specs.OnFabric.{IsSite, kind_at}
+use Rattle.fab_legal.specs.fab_model.specs.Tiles.{counted}
+use Rattle.fab_legal.specs.fab_model.specs.Grid.{PlainFabric}
+use Rattle.fab_legal.specs.fab_fabric.specs.declared.wire.Site.{Site}
+use Rattle.fab_legal.specs.fab_netlist.specs.declared.net_id.NetId.{NetId}
+use Rattle.fab_legal.specs.fab_netlist.specs.declared.net_id.NetId.TheVariants as ids
+use Rattle.fab_legal.specs.fab_netlist.specs.Packed.{PlainPacked}
+use Rattle.fab_legal.specs.fab_implementation.specs.Plain.{Pad, PlainImplementation}
+use Rattle.fab_legal.specs.fab_implementation.specs.OnFabric.{IsSite, kind_at}
 use Rattle.fab_legal.specs.Lines.{named, ConstraintsHold}
 use Rattle.fab_legal.specs.Legal.{ArePlaced}
 use Rattle.fab_legal.specs.Sinks.{site_of}
 use Rattle.fab_legal.specs.WellMade.{output_ports}
-use Rattle.fab_ways.specs.Sites.{same_site, sites_of_kind}
+use Rattle.fab_legal.specs.fab_fabric.specs.Sites.{sites_of_kind}
+use Rattle.fab_ways.specs.Sites.{same_site}
 
 -- ---- distances
 

@@ -1,14 +1,14 @@
 -- Walks of wires, the trees that nets grow from them, and negotiated runs. Wires stand here as numbers.
 use Rattle.std.specs.Prelude.{◌≡◌, ◌⊎◌, ℕ, ◌+◌, ◌-◌, ◌*◌, ◌<◌, ◌≤◌, Bool, false, List, [], ◌∷◌, ◌++◌, map, filter, length, take, drop, sum_by, count_by, Contains, nat_eq, if◌then◌else◌}
 use Rattle.std.specs.List.{flat_map, list_any}
-use Rattle.fab_model.specs.Tiles.{counted}
-use Rattle.fab_model.specs.Grid.{PlainFabric}
-use Rattle.fab_fabric.specs.Wires.{numbered_wire}
-use Rattle.fab_netlist.specs.declared.net_id.NetId.{NetId}
-use Rattle.fab_netlist.specs.declared.net_id.NetId.TheVariants as ids
-use Rattle.fab_netlist.specs.Plain.{IsAt}
-use Rattle.fab_netlist.specs.Packed.{PlainPacked}
-use Rattle.fab_implementation.specs.Plain.{PlainImplementation}
+use Rattle.fab_legal.specs.fab_model.specs.Tiles.{counted}
+use Rattle.fab_legal.specs.fab_model.specs.Grid.{PlainFabric}
+use Rattle.fab_legal.specs.fab_fabric.specs.Wires.{numbered_wire}
+use Rattle.fab_legal.specs.fab_netlist.specs.declared.net_id.NetId.{NetId}
+use Rattle.fab_legal.specs.fab_netlist.specs.declared.net_id.NetId.TheVariants as ids
+use Rattle.fab_legal.specs.fab_netlist.specs.Plain.{IsAt}
+use Rattle.fab_legal.specs.fab_netlist.specs.Packed.{PlainPacked}
+use Rattle.fab_legal.specs.fab_implementation.specs.Plain.{PlainImplementation}
 use Rattle.fab_legal.specs.Steps.{IsStep}
 use Rattle.fab_legal.specs.Nets.{Net, IsRoot}
 use Rattle.fab_legal.specs.Sinks.{sinks, packed_net}

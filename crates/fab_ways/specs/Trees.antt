@@ -2,11 +2,11 @@
 use Rattle.std.specs.Prelude.{ℕ, List, [], ◌∷◌, ◌++◌, get_or}
 use Rattle.std.specs.List.{position_or_len}
 use Rattle.std.specs.Str.{bytes_eq}
-use Rattle.fab_fabric.specs.Wires.{numbered_wire}
-use Rattle.fab_netlist.specs.declared.net_id.NetId.{NetId}
-use Rattle.fab_netlist.specs.declared.net_id.NetId.TheVariants as ids
-use Rattle.fab_netlist.specs.Packed.{PlainPacked}
-use Rattle.fab_implementation.specs.Plain.{Edge, PlainTree, PlainImplementation}
+use Rattle.fab_legal.specs.fab_fabric.specs.Wires.{numbered_wire}
+use Rattle.fab_legal.specs.fab_netlist.specs.declared.net_id.NetId.{NetId}
+use Rattle.fab_legal.specs.fab_netlist.specs.declared.net_id.NetId.TheVariants as ids
+use Rattle.fab_legal.specs.fab_netlist.specs.Packed.{PlainPacked}
+use Rattle.fab_legal.specs.fab_implementation.specs.Plain.{Edge, PlainTree, PlainImplementation}
 use Rattle.fab_legal.specs.Lines.{named}
 use Rattle.fab_ways.specs.Routing.{Path, Paths, nets}
 

@@ -19,7 +19,7 @@ use Rattle.fab_network.specs.declared.network.Drive.{Drive}
 use Rattle.fab_network.specs.declared.network.Drive.TheVariants.{Hold}
 use Rattle.fab_network.specs.Network.{IsFitDrive, AreFit}
 use Rattle.fab_wiring.specs.Wiring.{IsDriveOf, IsSourceOf, AreDrives}
-use Rattle.fab_wiring.specs.Trees.{AreKept, IsMade}
+use Rattle.fab_wiring.specs.inner.Trees.{AreKept, IsMade}
 use Rattle.fab_wiring.proofs.Solved.{point_there}
 use Rattle.fab_wiring.proofs.Sources.{drive_fit_stays, drive_stays}
 

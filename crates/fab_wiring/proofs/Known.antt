@@ -13,7 +13,7 @@ use Rattle.fab_compiled.specs.declared.tree.Tree.{Tree}
 use Rattle.fab_compiled.specs.Compiling.{IsCompiled}
 use Rattle.fab_wiring.specs.declared.trees.Known.{Known}
 use Rattle.fab_wiring.specs.declared.trees.Trees.{Trees}
-use Rattle.fab_wiring.specs.Trees.{AreTrees, AreKept, IsTreeFor, IsKnown}
+use Rattle.fab_wiring.specs.inner.Trees.{AreTrees, AreKept, IsTreeFor, IsKnown}
 
 set_cases : {X : Type 0} (xs : List X) (k : ℕ) (x : X) (n : ℕ) (y : X) → slice_get (slice_set xs k x) n ≡ Some y →
     (slice_get xs n ≡ Some y) ⊎ ((n ≡ k) × (x ≡ y))

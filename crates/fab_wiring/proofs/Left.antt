@@ -3,11 +3,11 @@ use Rattle.std.proofs.Common.{◌≡◌, ℕ, Bool, true, false, List, Option, S
 use Rattle.std.specs.Str.{bytes_eq}
 use Rattle.std.proofs.lemmas.Slice.Eq.{bytes_eq-Decides}
 use Rattle.fab_syntax.specs.Plain.{PlainModule}
-use Rattle.fab_meaning.specs.Points.{Point, Driver, outside, copy, bit_of, flop, hold}
+use Rattle.fab_meaning.specs.Points.{Point, Driver, outside, copy, bit_of, flop, hold, IsStored}
 use Rattle.fab_meaning.specs.Runs.{clock_name, user_clock_name, clock_of, is_clock}
 use Rattle.fab_systems.specs.Ternary.{Tern}
 use Rattle.fab_tern.specs.Shown.{Terns}
-use Rattle.fab_solutions.specs.Solutions.{tern_kept}
+use Rattle.fab_network.specs.fab_solutions.specs.Solutions.{tern_kept}
 use Rattle.fab_equations.specs.Equations.{IsPoint}
 use Rattle.fab_equations.proofs.Points.{points_are_declared}
 use Rattle.fab_compiled.specs.declared.tree.Tree.{Tree}
@@ -18,7 +18,7 @@ use Rattle.fab_network.specs.declared.network.Clock.TheVariants.{Loader, User, O
 use Rattle.fab_network.specs.declared.network.Drive.{Drive}
 use Rattle.fab_network.specs.declared.network.Drive.TheVariants.{Given, Flop, Hold}
 use Rattle.fab_wiring.specs.Wiring.{clock_called, IsDriveOf}
-use Rattle.fab_wiring.specs.Given.{IsGivenTo, IsClockNamed, HoldsValue, given_at, ticks_at, left_by, left_tern}
+use Rattle.fab_wiring.specs.Given.{IsGivenTo, IsClockNamed, given_at, ticks_at, left_by, left_tern}
 use Rattle.fab_wiring.specs.Laws.{GivenByNumber, LeftByNumber, NextByNumber}
 use Rattle.fab_wiring.proofs.Solved.{point_there}
 
@@ -51,7 +51,7 @@ clock_ticks Other name is o = absurd is
 
 module _ (text : List PlainModule) (trees : List Tree) (inputs held t : Terns) (given s : PointTerns) (same : AreByNumber text t s)
     (tick : Clock) (name : List ℕ) (named : IsClockNamed tick name) where
-  left_is : (number : ℕ) (p : Point) (d : Driver) (drive : Drive) → IsPoint text number p → IsGivenTo inputs held p d (given number) → HoldsValue d →
+  left_is : (number : ℕ) (p : Point) (d : Driver) (drive : Drive) → IsPoint text number p → IsGivenTo inputs held p d (given number) → IsStored d →
       IsDriveOf text trees d drive → tern_kept text name held t p d ≡ left_by trees tick (given number) s number (Some drive)
   left_is number p (flop path own next bit) (Flop kind source) is g holds of =
       let ticks : is_clock name (clock_of text path own) ≡ ticks_at tick kind = clock_ticks tick name named (clock_of text path own) ∙ ap (ticks_at tick) (sym of.0) in
@@ -72,7 +72,7 @@ left_by_number text trees drives wired inputs held t given s are_given same tick
 -- ---- what is given
 
 module _ (text : List PlainModule) (trees : List Tree) (inputs held : Terns) (p : Point) (fed kept : Tern) where
-  given_is : (d : Driver) (drive : Drive) → IsDriveOf text trees d drive → fed ≡ inputs p → (HoldsValue d → kept ≡ held p) →
+  given_is : (d : Driver) (drive : Drive) → IsDriveOf text trees d drive → fed ≡ inputs p → (IsStored d → kept ≡ held p) →
       IsGivenTo inputs held p d (given_at (Some drive) fed kept)
   given_is outside Given of input hold_is = input
   given_is (copy other) drive of input hold_is = tt

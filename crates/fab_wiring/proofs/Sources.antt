@@ -21,7 +21,7 @@ use Rattle.fab_network.specs.declared.network.Drive.{Drive}
 use Rattle.fab_network.specs.declared.network.Drive.TheVariants.{Given, Flop, Same, Value, Hold}
 use Rattle.fab_network.specs.Network.{tern_in, IsFitSource, IsFitDrive}
 use Rattle.fab_wiring.specs.Wiring.{IsSourceOf, IsDriveOf}
-use Rattle.fab_wiring.specs.Trees.{IsTreeFor, AreKept, IsMade, HasSource}
+use Rattle.fab_wiring.specs.inner.Trees.{IsTreeFor, AreKept, IsMade, HasSource}
 
 below_more : (a b : ℕ) → a ≤ b → (tree : Tree) → IsBelowPlace a tree → IsBelowPlace b tree
 below_more a b l (Const bits) h = tt

@@ -60,11 +60,3 @@ left_by trees tick given t point None = given
 
 abbrev pub left_tern : List Tree → List Drive → (tick : Clock) → (given t : PointTerns) → (point : ℕ) → Tern
 left_tern trees drives tick given t point = left_by trees tick (given point) t point (slice_get drives point)
-
--- whether a driver keeps a value from tick to tick
-abbrev pub HoldsValue : Driver → Type 0
-HoldsValue (flop path clock next bit) = Unit {0}
-HoldsValue (hold path gate e bit) = Unit {0}
-HoldsValue outside = ⊥
-HoldsValue (copy other) = ⊥
-HoldsValue (bit_of path e bit) = ⊥

@@ -2,10 +2,10 @@
 use Rattle.std.specs.Prelude.{◌≡◌, ◌↔◌, ℕ, true, List, length}
 use Rattle.fab_syntax.specs.Plain.{PlainModule}
 use Rattle.fab_syntax.specs.Sound.{IsSound}
-use Rattle.fab_meaning.specs.Points.{Point, Driver, Drives}
+use Rattle.fab_meaning.specs.Points.{Point, Driver, Drives, IsStored}
 use Rattle.fab_meaning.specs.Reads.{is_declared}
 use Rattle.fab_tern.specs.Shown.{Terns}
-use Rattle.fab_solutions.specs.Solutions.{Solves as SolvesText, IsLeastSolution, tern_kept}
+use Rattle.fab_network.specs.fab_solutions.specs.Solutions.{Solves as SolvesText, IsLeastSolution, tern_kept}
 use Rattle.fab_equations.specs.Instances.{points}
 use Rattle.fab_equations.specs.Equations.{IsPoint}
 use Rattle.fab_compiled.specs.declared.tree.Tree.{Tree}
@@ -15,7 +15,7 @@ use Rattle.fab_network.specs.declared.network.Clock.{Clock}
 use Rattle.fab_network.specs.declared.network.Drive.{Drive}
 use Rattle.fab_network.specs.Solved.{Solves, IsLeast}
 use Rattle.fab_wiring.specs.Wiring.{AreDrives}
-use Rattle.fab_wiring.specs.Given.{AreGivenByNumber, HoldsValue, IsClockNamed, given_tern, left_tern}
+use Rattle.fab_wiring.specs.Given.{AreGivenByNumber, IsClockNamed, given_tern, left_tern}
 
 -- Each assignment to the points of a text is one to their numbers, and the other way round.
 abbrev pub NumbersHaveTerns : Type 0
@@ -44,7 +44,7 @@ LeftByNumber =
     (text : List PlainModule) (trees : List Tree) (drives : List Drive) → AreDrives text trees drives →
     (inputs held t : Terns) (given s : PointTerns) → AreGivenByNumber text inputs held given → AreByNumber text t s →
     (tick : Clock) (name : List ℕ) → IsClockNamed tick name →
-    (number : ℕ) (p : Point) (d : Driver) → IsPoint text number p → Drives text p d → HoldsValue d →
+    (number : ℕ) (p : Point) (d : Driver) → IsPoint text number p → Drives text p d → IsStored d →
     tern_kept text name held t p d ≡ left_tern trees drives tick given s number
 
 -- Inputs and held values by number are what is given by number, as drives tell them apart.

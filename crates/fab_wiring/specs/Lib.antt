@@ -2,4 +2,4 @@ pub mod Wiring
 pub mod Given
 pub mod Laws
 pub mod Clocks
-pub mod Trees
+pub mod inner

@@ -8,7 +8,7 @@ ghost use Rattle.fab_equations.specs.Instances.{Instance, expressions, instances
 ghost use Rattle.fab_equations.specs.Numbering.{IsNumbered};
 ghost use Rattle.fab_equations.specs.Tables.{IsExpression};
 ghost use Rattle.fab_equations.specs.Equations.{SourceFits};
-ghost use Rattle.fab_wiring.specs.Trees.{AreTrees, AreKept, HasSource, IsMade, IsTreeFor};
+ghost use Rattle.fab_wiring.specs.inner.Trees.{AreTrees, AreKept, HasSource, IsMade, IsTreeFor};
 
 use fab_base::Memory;
 use fab_compiled::laws::compiled_values;

@@ -8,7 +8,7 @@ ghost use Rattle.fab_equations.specs.Equations.{DriverFits, Means};
 ghost use Rattle.fab_network.specs.Network.{AreFit, IsFitDrive};
 ghost use Rattle.fab_wiring.specs.Wiring.{AreDrives, IsDriveOf};
 ghost use Rattle.fab_wiring.specs.Clocks.{AreClocks};
-ghost use Rattle.fab_wiring.specs.Trees.{AreTrees, AreKept};
+ghost use Rattle.fab_wiring.specs.inner.Trees.{AreTrees, AreKept};
 
 use crate::clocks::{Clocks, clocks_of};
 use crate::trees::Trees;

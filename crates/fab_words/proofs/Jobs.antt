@@ -7,7 +7,7 @@ use Rattle.clap.specs.Words.{found_of, first_value}
 use Rattle.clap.specs.declared.parser.matches.ArgMatches.{ArgMatches}
 use Rattle.fab_words.specs.Arguments.{PlainSetting, value_of}
 use Rattle.fab_words.specs.Forms.{synopsis, values_in}
-use Rattle.fab_words.specs.Matching.{Gives}
+use Rattle.fab_words.specs.inner.Matching.{Gives}
 use Rattle.fab_words.specs.Words.{job_in, job_of, job_of_form}
 use Rattle.fab_words.specs.declared.forms.Form.{Form}
 

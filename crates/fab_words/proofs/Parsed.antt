@@ -15,7 +15,7 @@ use Rattle.clap.specs.Walk.{Held, Row, Rule, Text, Walk, finished, first_of, has
 use Rattle.clap.specs.declared.parser.matches.ArgMatches.{ArgMatches}
 use Rattle.fab_words.specs.Arguments.{PlainSetting, PlainArguments, arguments_of, has_setting, value_of, are_options}
 use Rattle.fab_words.specs.Forms.{PlainSynopsis, fits, synopsis, values_of, values_in}
-use Rattle.fab_words.specs.Matching.{app, Gives}
+use Rattle.fab_words.specs.inner.Matching.{app, Gives}
 use Rattle.fab_words.specs.declared.forms.Form.{Form}
 use Rattle.fab_words.specs.declared.forms.Form.TheVariants as form
 use Rattle.fab_words.proofs.Rules.{HasOptions, HasPlaces, built_rules, built_shape, optional, placed, placed_from}
@@ -186,6 +186,15 @@ forms_built form.Simulate = record {
   top = refl;
   subs = refl;
   places = (refl, refl, (refl, refl, (refl, refl, (refl, refl, (refl, refl, tt)))));
+  options = ((refl, refl, refl), tt);
+  distinct = refl;
+  few = omega arith;
+}
+forms_built form.Sample = record {
+  simple = refl;
+  top = refl;
+  subs = refl;
+  places = (refl, refl, (refl, refl, tt));
   options = tt;
   distinct = refl;
   few = omega arith;

@@ -6,7 +6,7 @@ use Rattle.std.specs.List.{list_any, before_first, after_first}
 use Rattle.std.proofs.lemmas.List.{at_drop_more, at_drop_all}
 use Rattle.fab_base.specs.declared.fault.Fault.{Fault}
 use Rattle.fab_words.specs.Arguments.{PlainSetting, PlainArguments, setting, no_arguments, with_setting, is_equals, is_positional, is_option, is_setting, option_text, name_in, value_in, arguments_of, IsUsage}
-use Rattle.fab_words.specs.Taking.{behind, and_setting, Takes, Ends}
+use Rattle.fab_words.specs.inner.Taking.{behind, and_setting, Takes, Ends}
 
 -- with nothing in front
 behind_nothing : (more : Option PlainArguments) → behind no_arguments more ≡ more

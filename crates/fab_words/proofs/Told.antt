@@ -11,7 +11,7 @@ use Rattle.clap.specs.declared.builder.command.Command.TheViews.{out-Command as 
 use Rattle.clap.specs.declared.builder.arg.Arg.{Arg}
 use Rattle.clap.specs.declared.builder.command.Command.{Command}
 use Rattle.fab_words.specs.Forms.{PlainSynopsis}
-use Rattle.fab_words.specs.Matching.{app, option_rule, positional_rule, rules}
+use Rattle.fab_words.specs.inner.Matching.{app, option_rule, positional_rule, rules}
 
 -- one more argument
 pub told_more : {X : Type 0} (f : X → Rule) (start : List Rule) (names : List X) (place : ℕ) (name : X) (old new : List Arg) (argument : Arg)

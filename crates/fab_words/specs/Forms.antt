@@ -22,10 +22,11 @@ synopsis form.Map = line (codes "map") (codes "FABRIC" ∷ codes "BLIF" ∷ code
 synopsis form.Flow = line (codes "flow") (codes "FABRIC" ∷ codes "BLIF" ∷ codes "BASE" ∷ []) (codes "pcf" ∷ codes "seed" ∷ codes "rounds" ∷ [])
 synopsis form.Bits = line (codes "bits") (codes "FABRIC" ∷ codes "FASM" ∷ codes "OUT" ∷ []) []
 synopsis form.Features = line (codes "features") (codes "FABRIC" ∷ codes "BIT" ∷ codes "OUT" ∷ []) []
-synopsis form.Simulate = line (codes "simulate") (codes "VERILOG" ∷ codes "BIT" ∷ codes "STATE" ∷ codes "STIM" ∷ codes "TRACE" ∷ []) []
+synopsis form.Simulate = line (codes "simulate") (codes "VERILOG" ∷ codes "BIT" ∷ codes "STATE" ∷ codes "STIM" ∷ codes "TRACE" ∷ []) (codes "order" ∷ [])
+synopsis form.Sample = line (codes "sample") (codes "N" ∷ codes "SEED" ∷ []) []
 
 abbrev pub forms : List Form
-forms = form.Matrix ∷ form.Generate ∷ form.Assemble ∷ form.Map ∷ form.Flow ∷ form.Bits ∷ form.Features ∷ form.Simulate ∷ []
+forms = form.Matrix ∷ form.Generate ∷ form.Assemble ∷ form.Map ∷ form.Flow ∷ form.Bits ∷ form.Features ∷ form.Simulate ∷ form.Sample ∷ []
 
 -- the form of a command, if there is one
 abbrev pub form_of : (command : List ℕ) → Option Form

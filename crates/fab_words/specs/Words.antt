@@ -6,11 +6,11 @@ use Rattle.fab_lines.specs.Names.{is_name}
 use Rattle.fab_paths.specs.Paths.{stem}
 use Rattle.fab_words.specs.Arguments.{value_of}
 use Rattle.fab_words.specs.Forms.{form_of, synopsis, values_in}
-use Rattle.fab_words.specs.Numbers.{seed_of, rounds_of}
+use Rattle.fab_words.specs.Numbers.{any_number, seed_of, rounds_of, order_of, size_of}
 use Rattle.fab_words.specs.declared.forms.Form.{Form}
 use Rattle.fab_words.specs.declared.forms.Form.TheVariants as form
 use Rattle.fab_words.specs.declared.job.Job.{Job}
-use Rattle.fab_words.specs.declared.job.Job.TheVariants.{Matrix, Generate, Assemble, Map, Flow, Bits, Features, Simulate}
+use Rattle.fab_words.specs.declared.job.Job.TheVariants.{Matrix, Generate, Assemble, Map, Flow, Bits, Features, Simulate, Sample}
 
 -- ---- the job of each form
 
@@ -44,9 +44,15 @@ abbrev pub features_job : (fabric bit out : Option (List ℕ)) → Option Job
 features_job (Some fabric) (Some bit) (Some out) = Some (Features fabric bit out)
 features_job fabric bit out = None
 
-abbrev pub simulate_job : (verilog bit state stimulus trace : Option (List ℕ)) → Option Job
-simulate_job (Some verilog) (Some bit) (Some state) (Some stimulus) (Some trace) = Some (Simulate verilog bit state stimulus trace)
-simulate_job verilog bit state stimulus trace = None
+-- the order is given where its option is absent or writes a seed
+abbrev pub simulate_job : (verilog bit state stimulus trace : Option (List ℕ)) (order : Option (Option ℕ)) → Option Job
+simulate_job (Some verilog) (Some bit) (Some state) (Some stimulus) (Some trace) (Some order) = Some (Simulate verilog bit state stimulus order trace)
+simulate_job verilog bit state stimulus trace order = None
+
+-- the words write a size and a seed
+abbrev pub sample_job : (size seed : Option ℕ) → Option Job
+sample_job (Some size) (Some seed) = Some (Sample size seed)
+sample_job size seed = None
 
 -- the job of a form whose names have these values
 abbrev pub job_of_form : Form → (value : List ℕ → Option (List ℕ)) → Option Job
@@ -64,6 +70,8 @@ job_of_form form.Bits value = bits_job (value (codes "FABRIC")) (value (codes "F
 job_of_form form.Features value = features_job (value (codes "FABRIC")) (value (codes "BIT")) (value (codes "OUT"))
 job_of_form form.Simulate value =
     simulate_job (value (codes "VERILOG")) (value (codes "BIT")) (value (codes "STATE")) (value (codes "STIM")) (value (codes "TRACE"))
+    (order_of (value (codes "order")))
+job_of_form form.Sample value = sample_job (option_and_then size_of (value (codes "N"))) (option_and_then any_number (value (codes "SEED")))
 
 -- ---- the words
 
@@ -76,7 +84,7 @@ abbrev pub job_of : List (List ℕ) → Option Job
 job_of [] = None
 job_of (command ∷ words) = option_and_then (job_in (command ∷ words)) (form_of command)
 
--- what is needed of a job: its file names are text, and rounds are from 1 to 64
+-- what is needed of a job: its file names are text, rounds are from 1 to 64, and the size of a sample is from 2 to 16
 abbrev pub IsText : Job → Type 0
 IsText (Matrix list out) = IsUtf8 list × IsUtf8 out
 IsText (Generate fabric out) = IsUtf8 fabric × IsUtf8 out
@@ -85,4 +93,5 @@ IsText (Map fabric blif pcf seed rounds out) = IsUtf8 fabric × IsUtf8 blif × F
 IsText (Flow fabric blif pcf seed rounds base) = IsUtf8 fabric × IsUtf8 blif × ForSome pcf IsUtf8 × IsUtf8 base × (1 ≤ rounds) × (rounds ≤ 64)
 IsText (Bits fabric fasm out) = IsUtf8 fabric × IsUtf8 fasm × IsUtf8 out
 IsText (Features fabric bit out) = IsUtf8 fabric × IsUtf8 bit × IsUtf8 out
-IsText (Simulate verilog bit state stimulus trace) = IsUtf8 verilog × IsUtf8 bit × IsUtf8 state × IsUtf8 stimulus × IsUtf8 trace
+IsText (Simulate verilog bit state stimulus order trace) = IsUtf8 verilog × IsUtf8 bit × IsUtf8 state × IsUtf8 stimulus × IsUtf8 trace
+IsText (Sample size seed) = (2 ≤ size) × (size ≤ 16)

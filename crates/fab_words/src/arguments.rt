@@ -4,8 +4,8 @@ ghost use Rattle.std.specs.Prelude.{◌≡◌, ◌⊎◌, ℕ, List, ◌∷◌, 
 ghost use Rattle.std.specs.List.{list_any, before_first, after_first};
 ghost use Rattle.std.specs.Str.{bytes_eq};
 ghost use Rattle.fab_words.specs.Arguments.{is_equals, is_positional, is_option, option_text, setting, arguments_of, has_setting, are_options, value_of, IsUsage};
-ghost use Rattle.fab_words.specs.Plain.{plain_setting, plain_arguments};
-ghost use Rattle.fab_words.specs.Taking.{behind, and_setting, Takes, Ends};
+ghost use Rattle.fab_words.specs.inner.Plain.{plain_setting, plain_arguments};
+ghost use Rattle.fab_words.specs.inner.Taking.{behind, and_setting, Takes, Ends};
 
 use fab_base::{Fault, Memory};
 use std::alloc::Global;

@@ -3,7 +3,7 @@
 ghost use Rattle.std.specs.Prelude.{◌≡◌, find, map};
 ghost use Rattle.std.specs.Str.{bytes_eq};
 ghost use Rattle.fab_words.specs.Forms.{fits, form_of, line, synopsis};
-ghost use Rattle.fab_words.specs.Plain.{plain_arguments, plain_synopsis};
+ghost use Rattle.fab_words.specs.inner.Plain.{plain_arguments, plain_synopsis};
 
 use crate::arguments::{Arguments, are_options};
 
@@ -18,6 +18,7 @@ pub enum Form {
     Bits,
     Features,
     Simulate,
+    Sample,
 }
 
 /// What a manual says of a form: its command, the names of its positional words in their order, and the names of the
@@ -30,7 +31,7 @@ pub struct Synopsis {
 }
 
 /// All forms.
-const FORMS: [Form; 8] = [
+const FORMS: [Form; 9] = [
     Form::Matrix,
     Form::Generate,
     Form::Assemble,
@@ -39,6 +40,7 @@ const FORMS: [Form; 8] = [
     Form::Bits,
     Form::Features,
     Form::Simulate,
+    Form::Sample,
 ];
 
 impl Form {
@@ -72,8 +74,9 @@ impl Form {
             Form::Simulate => line(
                 "simulate",
                 &["VERILOG", "BIT", "STATE", "STIM", "TRACE"],
-                &[],
+                &["order"],
             ),
+            Form::Sample => line("sample", &["N", "SEED"], &[]),
         }
     }
 }

@@ -22,7 +22,9 @@ pub enum Job {
     Bits(Name, Name, Name),
     /// `features FABRIC BIT OUT`: the features that a bitstream spells.
     Features(Name, Name, Name),
-    /// `simulate VERILOG BIT STATE STIM TRACE`: what a text shows, loaded with a bitstream, in the state of its flip-flops and
-    /// with a stimulus, as a trace.
-    Simulate(Name, Name, Name, Name, Name),
+    /// `simulate VERILOG BIT STATE STIM TRACE` with `--order SEED`: what a text shows, loaded with a bitstream, in the state of its
+    /// flip-flops and with a stimulus, as a trace; with a seed its points are activated one by one, in the order that it draws.
+    Simulate(Name, Name, Name, Name, Option<u64>, Name),
+    /// `sample N SEED`: a fabric and a design that are made of a size and a seed, run from the files to a trace, and summed up.
+    Sample(usize, u64),
 }

@@ -6,8 +6,8 @@ ghost use Rattle.std.specs.Option.{ForSome};
 ghost use Rattle.clap.specs.Words.{app_of, kind_of, rule_of};
 ghost use Rattle.clap.specs.declared.error.kind.ErrorKind.TheVariants.{OutOfMemory};
 ghost use Rattle.fab_words.specs.Forms.{synopsis, values_in};
-ghost use Rattle.fab_words.specs.Matching.{app, option_rule, positional_rule, rules, Gives};
-ghost use Rattle.fab_words.specs.Plain.{plain_synopsis};
+ghost use Rattle.fab_words.specs.inner.Matching.{app, option_rule, positional_rule, rules, Gives};
+ghost use Rattle.fab_words.specs.inner.Plain.{plain_synopsis};
 
 use crate::forms::{Form, Synopsis};
 use clap::{Arg, ArgMatches, Command, Error};

@@ -4,7 +4,7 @@ ghost use Rattle.std.specs.Prelude.{◌≡◌, ◌≤◌, option_copied};
 ghost use Rattle.std.specs.List.{list_all};
 ghost use Rattle.std.specs.Option.{ForSome};
 ghost use Rattle.fab_lines.specs.Numbers.{is_digit};
-ghost use Rattle.fab_words.specs.Numbers.{is_decimal, number_or, number_within, rounds_of, seed_of};
+ghost use Rattle.fab_words.specs.Numbers.{any_number, is_decimal, number_or, number_within, order_of, rounds_of, seed_of, size_of};
 
 fn is_digit(byte: u8) -> bool
     ensures { result ≡ is_digit byte }
@@ -26,8 +26,8 @@ fn is_decimal(word: &str) -> bool
 }
 
 /// The number of 64 bits that decimal digits write, if they write one.
-fn decimal(word: &str) -> Option<u64>
-    ensures { result ≡ number_within 0 18446744073709551615 word.now }
+pub fn decimal(word: &str) -> Option<u64>
+    ensures { result ≡ any_number word.now }
 {
     if !is_decimal(word) {
         return None;
@@ -74,4 +74,23 @@ pub fn rounds_of(value: Option<&str>) -> Option<u32>
 {
     let rounds = number_or(value, 32, 1, 64)?;
     u32::try_from(rounds).ok()
+}
+
+/// The seed of an order that the value of its option writes, if that is such a number; without the option there is none.
+pub fn order_of(value: Option<&str>) -> Option<Option<u64>>
+    ensures { result ≡ order_of (option_copied value.entry) }
+{
+    match value {
+        None => Some(None),
+        Some(word) => decimal(word).map(Some),
+    }
+}
+
+/// The size of a sample that a word writes, if it writes one.
+pub fn size_of(word: &str) -> Option<usize>
+    ensures size { result ≡ size_of word.now }
+    ensures within { ForSome result (λ size. (2 ≤ size) × (size ≤ 16)) }
+{
+    let size = number_within(word, 2, 16)?;
+    usize::try_from(size).ok()
 }

@@ -13,7 +13,7 @@ use crate::arguments::Arguments;
 use crate::forms::Form;
 use crate::job::Job;
 use crate::matching::matches_of;
-use crate::numbers::{rounds_of, seed_of};
+use crate::numbers::{decimal, order_of, rounds_of, seed_of, size_of};
 use clap::ArgMatches;
 use fab_base::{Fault, Memory, Name};
 use fab_lines::is_name;
@@ -152,7 +152,7 @@ fn features(alloc: Global, matches: &ArgMatches<'_>) -> Result<Job, Fault>
     Ok(Job::Features(fabric, bit, out))
 }
 
-/// `simulate VERILOG BIT STATE STIM TRACE`.
+/// `simulate VERILOG BIT STATE STIM TRACE [--order SEED]`.
 fn simulate(alloc: Global, matches: &ArgMatches<'_>) -> Result<Job, Fault>
     ensures job { IfOk result (λ job. job_of_form form.Simulate (first_value (found_of matches.now)) ≡ Some job) }
     ensures text { IfOk result IsText }
@@ -163,12 +163,26 @@ fn simulate(alloc: Global, matches: &ArgMatches<'_>) -> Result<Job, Fault>
     let state = matches.get_str("STATE").ok_or(Fault::Usage)?;
     let stimulus = matches.get_str("STIM").ok_or(Fault::Usage)?;
     let trace = matches.get_str("TRACE").ok_or(Fault::Usage)?;
+    let order = order_of(matches.get_str("order")).ok_or(Fault::Usage)?;
     let verilog = name_of(alloc, verilog)?;
     let bit = name_of(alloc, bit)?;
     let state = name_of(alloc, state)?;
     let stimulus = name_of(alloc, stimulus)?;
     let trace = name_of(alloc, trace)?;
-    Ok(Job::Simulate(verilog, bit, state, stimulus, trace))
+    Ok(Job::Simulate(verilog, bit, state, stimulus, order, trace))
+}
+
+/// `sample N SEED`.
+fn sample(matches: &ArgMatches<'_>) -> Result<Job, Fault>
+    ensures job { IfOk result (λ job. job_of_form form.Sample (first_value (found_of matches.now)) ≡ Some job) }
+    ensures text { IfOk result IsText }
+    ensures usage { IfErr result (IsUsage (job_of_form form.Sample (first_value (found_of matches.now)) ≡ None)) }
+{
+    let size = matches.get_str("N").ok_or(Fault::Usage)?;
+    let seed = matches.get_str("SEED").ok_or(Fault::Usage)?;
+    let size = size_of(size).ok_or(Fault::Usage)?;
+    let seed = decimal(seed).ok_or(Fault::Usage)?;
+    Ok(Job::Sample(size, seed))
 }
 
 /// The job of a form with the values that clap gives to its names.
@@ -186,6 +200,7 @@ fn job_of_form(alloc: Global, form: Form, matches: &ArgMatches<'_>) -> Result<Jo
         Form::Bits => bits(alloc, matches),
         Form::Features => features(alloc, matches),
         Form::Simulate => simulate(alloc, matches),
+        Form::Sample => sample(matches),
     }
 }
 

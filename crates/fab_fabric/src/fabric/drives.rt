@@ -1,7 +1,7 @@
 //! What drives each wire of a fabric.
 
 ghost use Rattle.std.specs.Prelude.{◌≡◌, ◌<◌, ◌≤◌, ◌+◌, ℕ, Bool, false, Some, length, slice_index, slice_index_or};
-ghost use Rattle.fab_bits.specs.Bits.{number, first_bits};
+ghost use Rattle.fab_model.specs.fab_bits.specs.Bits.{number, first_bits};
 ghost use Rattle.fab_model.specs.Grid.{PlainFabric, tile_at};
 ghost use Rattle.fab_model.specs.Tiles.{PlainTile};
 ghost use Rattle.fab_model.specs.Wires.{PlainWire, HasWire, dest_of, pin_of};

@@ -8,7 +8,7 @@ ghost use Rattle.fab_model.specs.Cascade.{step, opposite, next_row, previous_row
 ghost use Rattle.fab_model.specs.Grid.{tile_at};
 ghost use Rattle.fab_fabric.specs.Fabric.{AreTiles, wire_count};
 ghost use Rattle.fab_fabric.specs.Wires.{IsIndexOf, wire_join_to, wire_join_from, numbered_wire, index_of};
-ghost use Rattle.fab_fabric.specs.Index.{has_side};
+ghost use Rattle.fab_fabric.specs.inner.Index.{has_side};
 ghost use Rattle.fab_fabric.specs.declared.fabric.joins.RowAt.{RowAt};
 ghost use Rattle.fab_fabric.specs.Walks.{place_of, found_bit, HasRow, FindsRow, placed_at, row_at, both_sides};
 

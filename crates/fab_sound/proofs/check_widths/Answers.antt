@@ -1,7 +1,7 @@
 use Rattle.std.proofs.Common.{◌≡◌, [], map}
 use Rattle.fab_syntax.specs.Plain.{plain_module}
 use Rattle.fab_syntax.specs.Sound.{text_refusals}
-use Rattle.fab_sound.specs.Checks.{StartsWith}
+use Rattle.fab_sound.specs.inner.Checks.{StartsWith}
 use Rattle.fab_sound.proofs.Noting.{of_err, first_refused}
 use Rattle.fab_sound.proofs.check_widths.Goals as goal
 

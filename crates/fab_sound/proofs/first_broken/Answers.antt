@@ -1,7 +1,7 @@
 use Rattle.std.proofs.Common.{◌≡◌, true, false, rules}
 use Rattle.fab_base.specs.declared.words.Reason.TheVariants.{Select, Width, Instance, Drivers, Clock}
 use Rattle.fab_syntax.specs.Sound.{breaks_selects, breaks_widths, breaks_instances, breaks_drivers, breaks_clocks}
-use Rattle.fab_sound.specs.Checks.{library_text}
+use Rattle.fab_sound.specs.inner.Checks.{library_text}
 use Rattle.fab_sound.proofs.Judging.{for_reason}
 use Rattle.fab_sound.proofs.first_broken.Goals as goal
 

@@ -5,7 +5,8 @@ use Rattle.fab_fabric_names.proofs.Blocks.{names_kept}
 use Rattle.fab_fabric_names.proofs.Readings.{spelled_keep}
 use Rattle.fab_fabric_names.proofs.Sizes.{HasName, IsSized, sizes_kept}
 use Rattle.fab_grammar.proofs.Printed.{texts_form}
-use Rattle.fab_text_reads.specs.Laws.{IsWritten, generated}
+use Rattle.fab_drives.specs.fab_fabric_text.specs.Texts.{generated_text}
+use Rattle.fab_text_reads.specs.Laws.{IsWritten}
 use Rattle.fab_text_reads.proofs.Loaders.{loader_printable}
 use Rattle.fab_text_reads.proofs.Texts.{texts_printable}
 use Rattle.fab_text_reads.proofs.generated_texts_are_read.Goals as goal
@@ -16,4 +17,4 @@ returns c = λ files name fabric spelled is tiles.
     let sized = spelled_keep HasName IsSized sizes_kept files name fabric spelled k d few in
     record { name = sized.name; named = spelled_keep IsNamed IsNamed names_kept files name fabric spelled k d few; few_bits = sized.few_bits; few_inputs = sized.few_inputs } in
     let printable = texts_printable fabric (loader_module fabric.rows) is tiles written (loader_printable fabric.rows) in
-    (printable, texts_form (generated fabric) printable)
+    (printable, texts_form (generated_text fabric) printable)

@@ -1,5 +1,5 @@
 use Rattle.std.proofs.Common.{map, reverse}
-use Rattle.fab_assemble.specs.Sites.{HoldSites}
+use Rattle.fab_assemble.specs.inner.Sites.{HoldSites}
 use Rattle.fab_assemble.proofs.state.cell_sites.Given as goal
 
 -- the lines so far, from the last

@@ -1,6 +1,6 @@
 use Rattle.std.proofs.Common.{List, map, reverse, sym, ◌∙◌, subst}
 use Rattle.fab_implementation.specs.Plain.{Pad}
-use Rattle.fab_assemble.specs.Sites.{HoldPads}
+use Rattle.fab_assemble.specs.inner.Sites.{HoldPads}
 use Rattle.fab_assemble.proofs.Sites.{last_first, pads_more}
 use Rattle.fab_assemble.proofs.state.pad_sites.Goals as goal
 

@@ -1,5 +1,5 @@
 use Rattle.std.proofs.Common.{map, reverse}
-use Rattle.fab_assemble.specs.Sites.{HoldPads}
+use Rattle.fab_assemble.specs.inner.Sites.{HoldPads}
 use Rattle.fab_assemble.proofs.state.pad_sites.Given as goal
 
 -- the lines so far, from the last

@@ -2,7 +2,7 @@ use Rattle.std.proofs.Common.{◌≡◌, ◌++◌, ◌∙◌, ap, Bool, ℕ, map
 use Rattle.fab_blif.specs.Clocks.{clock_uses, data_faults, first_use, is_clock, named_faults}
 use Rattle.fab_blif.specs.Design.{PlainDesign}
 use Rattle.fab_blif.specs.Judged.{inner_drivers, is_among, is_driven, readers}
-use Rattle.fab_blif.specs.Walk.{plain_clock, plain_nets}
+use Rattle.fab_blif.specs.inner.Walk.{plain_clock, plain_nets}
 use Rattle.fab_blif.proofs.clocks.clock_faults.Goals as goal
 
 pub returns : goal.returns

@@ -4,7 +4,7 @@ use Rattle.fab_blif.specs.declared.clocks.WrongClock.{WrongClock}
 use Rattle.fab_blif.specs.Clocks.{faults_at, wrong_by}
 use Rattle.fab_blif.specs.Design.{PlainClock, number_in}
 use Rattle.fab_blif.specs.Judged.{is_among}
-use Rattle.fab_blif.specs.Walk.{plain_clock, plain_net, plain_nets}
+use Rattle.fab_blif.specs.inner.Walk.{plain_clock, plain_net, plain_nets}
 use Rattle.fab_blif.proofs.Clocking.{named_more}
 use Rattle.fab_blif.proofs.clocks.put_named.Goals as goal
 

@@ -1,7 +1,7 @@
 use Rattle.std.proofs.Common.{◌≡◌, ◌++◌, map, take}
 use Rattle.fab_blif.specs.Clocks.{named_faults}
 use Rattle.fab_blif.specs.Judged.{is_among}
-use Rattle.fab_blif.specs.Walk.{plain_clock, plain_nets}
+use Rattle.fab_blif.specs.inner.Walk.{plain_clock, plain_nets}
 use Rattle.fab_blif.proofs.clocks.put_named.Given as goal
 
 abbrev pub invariant-loop-clock : goal.invariant-loop-clock

@@ -1,7 +1,7 @@
 use Rattle.std.proofs.Common.{◌≡◌, ◌∙◌, ap, subst, IfOk, List, ℕ}
 use Rattle.fab_blif.specs.Flat.{PlainNet, net_in}
 use Rattle.fab_blif.specs.Design.{number_in}
-use Rattle.fab_blif.specs.Walk.{plain_nets}
+use Rattle.fab_blif.specs.inner.Walk.{plain_nets}
 use Rattle.fab_blif.proofs.design.number_name.Goals as goal
 
 pub returns-clause-number : goal.returns-clause-number

@@ -1,7 +1,7 @@
 use Rattle.std.proofs.Common.{map}
 use Rattle.indexmap.specs.IndexSet.{insert_all}
 use Rattle.fab_blif.specs.Flat.{net_eq, net_in}
-use Rattle.fab_blif.specs.Walk.{plain_nets, numbered}
+use Rattle.fab_blif.specs.inner.Walk.{plain_nets, numbered}
 use Rattle.fab_blif.proofs.Numbers.{nets_more, numbers_more}
 use Rattle.fab_blif.proofs.design.number_names.Goals as goal
 

@@ -1,7 +1,7 @@
 use Rattle.std.proofs.Common.{◌≡◌, ◌++◌, drop, map}
 use Rattle.indexmap.specs.IndexSet.{insert_all}
 use Rattle.fab_blif.specs.Flat.{net_eq, net_in}
-use Rattle.fab_blif.specs.Walk.{plain_nets, numbered}
+use Rattle.fab_blif.specs.inner.Walk.{plain_nets, numbered}
 use Rattle.fab_blif.proofs.design.number_names.Given as goal
 
 abbrev pub invariant-loop-name : goal.invariant-loop-name

@@ -1,5 +1,5 @@
 use Rattle.std.proofs.Common.{◌∙◌, ap}
-use Rattle.fab_blif.specs.Walk.{plain_nets}
+use Rattle.fab_blif.specs.inner.Walk.{plain_nets}
 use Rattle.fab_blif.proofs.Numbers.{nets_of_insert, place_of_net}
 use Rattle.fab_blif.proofs.design.number_of.Goals as goal
 

@@ -1,5 +1,5 @@
 use Rattle.std.proofs.Common.{◌≡◌, ◌++◌, take}
-use Rattle.fab_blif.specs.Walk.{used_at}
+use Rattle.fab_blif.specs.inner.Walk.{used_at}
 use Rattle.fab_blif.proofs.design.push_uses.Given as goal
 
 abbrev pub invariant-loop-net : goal.invariant-loop-net

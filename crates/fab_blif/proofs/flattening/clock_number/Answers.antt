@@ -2,7 +2,7 @@ use Rattle.std.proofs.Common.{◌∙◌, sym, ap, ℕ, Option, option_map, optio
 use Rattle.fab_blif.specs.declared.design.ClockName.{ClockName}
 use Rattle.fab_blif.specs.Design.{PlainClock}
 use Rattle.fab_blif.specs.Flat.{net_eq}
-use Rattle.fab_blif.specs.Walk.{plain_nets, plain_clock}
+use Rattle.fab_blif.specs.inner.Walk.{plain_nets, plain_clock}
 use Rattle.fab_blif.proofs.Numbers.{at_net, first_clock}
 use Rattle.fab_blif.proofs.flattening.clock_number.Goals as goal
 

@@ -1,7 +1,7 @@
 use Rattle.std.proofs.Common.{◌≡◌, ◌∙◌, rules}
 use Rattle.fab_models.specs.Plain.{plain_models}
 use Rattle.fab_blif.specs.Flat.{flat_lines}
-use Rattle.fab_blif.specs.Walk.{after_all, nothing}
+use Rattle.fab_blif.specs.inner.Walk.{after_all, nothing}
 use Rattle.fab_blif.proofs.Designed.{designed}
 use Rattle.fab_blif.proofs.flattening.design_of.Goals as goal
 

@@ -38,10 +38,13 @@ design_refused file last_line models design fault is some differ fine refused =
 pub returns-in_err-places-clause-refused : goal.returns-in_err-places-clause-refused
 returns-in_err-places-clause-refused c =
     let told = err_from_is_err_and c.from_residual.result c.from_residual.ensures.1 in
-    rw (told.1, told.2) (models_refused c.args.file.now c.args.last_line c.args.models.now c.in_err-places.field-0.0 c.in_err-places.ensures.refused)
+    let fault = c.in_err-places.field-0.0 in
+    rw (told.1, told.2) (λ other. models_refused c.args.file.now c.args.last_line c.args.models.now fault (c.in_err-places.ensures.refused other))
 
 pub returns-in_err-refuse_design-clause-refused : goal.returns-in_err-refuse_design-clause-refused
 returns-in_err-refuse_design-clause-refused c =
     let told = err_from_is_err_and c.from_residual-in_err-refuse_design.result c.from_residual-in_err-refuse_design.ensures.1 in
-    rw (told.1, told.2) (design_refused c.args.file.now c.args.last_line c.args.models.now c.in_ok-design.design c.in_err-refuse_design.field-0.0 c.in_ok-design.ensures c.in_ok-places.ensures.named.0 c.in_ok-places.ensures.named.1
-    c.in_ok-places.ensures.fine c.in_err-refuse_design.ensures.refused)
+    let fault = c.in_err-refuse_design.field-0.0 in
+    let named = c.in_ok-places.ensures.named in
+    rw (told.1, told.2) (λ other. design_refused c.args.file.now c.args.last_line c.args.models.now c.in_ok-design.design fault c.in_ok-design.ensures named.0 named.1
+    c.in_ok-places.ensures.fine (c.in_err-refuse_design.ensures.refused other))

@@ -1,5 +1,5 @@
 use Rattle.std.proofs.Common.{◌≡◌, take, map}
-use Rattle.fab_blif.specs.Walk.{plain_nets}
+use Rattle.fab_blif.specs.inner.Walk.{plain_nets}
 use Rattle.fab_blif.proofs.flattening.names_of.Given as goal
 
 abbrev pub invariant-loop-net : goal.invariant-loop-net

@@ -1,7 +1,7 @@
 use Rattle.std.proofs.Common.{◌≡◌, ◌++◌, ◌∙◌, ap, List}
 use Rattle.fab_netlist.specs.Plain.{PlainCover}
 use Rattle.fab_blif.specs.declared.design.Use.{Use}
-use Rattle.fab_blif.specs.Walk.{used_at}
+use Rattle.fab_blif.specs.inner.Walk.{used_at}
 use Rattle.fab_blif.proofs.Judging.{input_step}
 use Rattle.fab_blif.proofs.judge.put_cover_inputs.Goals as goal
 

@@ -1,5 +1,5 @@
 use Rattle.std.proofs.Common.{◌∙◌, ap, Global}
-use Rattle.fab_blif.specs.Walk.{plain_joins}
+use Rattle.fab_blif.specs.inner.Walk.{plain_joins}
 use Rattle.fab_blif.proofs.Joins.{joins_of_insert}
 use Rattle.fab_blif.proofs.model_copy.insert_join.Goals as goal
 

@@ -4,8 +4,8 @@ use Rattle.fab_models.specs.declared.model.Model.{Model}
 use Rattle.fab_models.specs.Plain.{PlainStatement, plain_model, plain_models, plain_statement}
 use Rattle.fab_blif.specs.declared.walk.Frame.{Frame}
 use Rattle.fab_blif.specs.Flat.{Placed, flat_lines, top_copy}
-use Rattle.fab_blif.specs.Walk.{after_all}
-use Rattle.fab_blif.specs.Frames.{advanced, deep_in, entered, new_frame, stack_lines, with_frames}
+use Rattle.fab_blif.specs.inner.Walk.{after_all}
+use Rattle.fab_blif.specs.inner.Frames.{advanced, deep_in, entered, new_frame, stack_lines, with_frames}
 use Rattle.fab_blif.proofs.Stack.{design_next, lines_begun, lines_done, stack_work, work_done, work_next}
 use Rattle.fab_blif.proofs.walk.take_all.Goals as goal
 

@@ -1,8 +1,8 @@
 use Rattle.std.proofs.Common.{◌≡◌}
 use Rattle.fab_models.specs.Plain.{plain_models}
 use Rattle.fab_blif.specs.Flat.{flat_lines}
-use Rattle.fab_blif.specs.Walk.{after_all}
-use Rattle.fab_blif.specs.Frames.{stack_lines}
+use Rattle.fab_blif.specs.inner.Walk.{after_all}
+use Rattle.fab_blif.specs.inner.Frames.{stack_lines}
 use Rattle.fab_blif.proofs.Stack.{stack_work}
 use Rattle.fab_blif.proofs.walk.take_all.Given as goal
 

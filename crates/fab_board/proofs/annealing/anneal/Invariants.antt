@@ -1,5 +1,5 @@
 use Rattle.fab_board.specs.Boards.{Keeps}
-use Rattle.fab_board.specs.Standing.{IsKept}
+use Rattle.fab_board.specs.inner.Standing.{IsKept}
 use Rattle.fab_board.proofs.annealing.anneal.Given as goal
 
 abbrev pub invariant-loop-temperature : goal.invariant-loop-temperature

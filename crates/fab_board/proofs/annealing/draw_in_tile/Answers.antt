@@ -2,7 +2,7 @@ use Rattle.std.proofs.Common.{◌≡◌, ◌<◌, ℕ, Bool, List, ◌%◌, leng
 use Rattle.std.specs.List.{All}
 use Rattle.std.specs.Prelude.{get_or}
 use Rattle.fab_board.specs.Boards.{site_count, is_second}
-use Rattle.fab_board.specs.Standing.{lot_number}
+use Rattle.fab_board.specs.inner.Standing.{lot_number}
 use Rattle.fab_board.proofs.annealing.draw_in_tile.Goals as goal
 
 pub at-lot-requires-clause-first : goal.at-lot-requires-clause-first

@@ -1,5 +1,5 @@
 use Rattle.fab_board.specs.Boards.{cost}
-use Rattle.fab_board.specs.Standing.{IsKept, Falls}
+use Rattle.fab_board.specs.inner.Standing.{IsKept, Falls}
 use Rattle.fab_board.proofs.descent.descend.Given as goal
 
 abbrev pub invariant-sweeps : goal.invariant-sweeps

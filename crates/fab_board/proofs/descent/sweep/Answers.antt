@@ -1,6 +1,6 @@
 use Rattle.std.proofs.Common.{ℕ, List, sym, subst, inl, inr, arith}
 use Rattle.std.proofs.lemmas.Bool.{cases_eq}
-use Rattle.fab_board.specs.Standing.{IsTried}
+use Rattle.fab_board.specs.inner.Standing.{IsTried}
 use Rattle.fab_board.proofs.Falling.{falls_refl, falls_trans, still_both, all_tried}
 use Rattle.fab_board.proofs.descent.sweep.Goals as goal
 

@@ -1,6 +1,6 @@
 use Rattle.std.proofs.Common.{◌≡◌, ◌<◌, ℕ}
 use Rattle.fab_board.specs.Boards.{cost, site_count}
-use Rattle.fab_board.specs.Standing.{IsKept, Falls, IsTried}
+use Rattle.fab_board.specs.inner.Standing.{IsKept, Falls, IsTried}
 use Rattle.fab_board.proofs.descent.sweep.Given as goal
 
 abbrev pub invariant-loop-item : goal.invariant-loop-item

@@ -3,7 +3,7 @@ use Rattle.std.proofs.lemmas.Bool.{cases_eq}
 use Rattle.std.specs.List.{All, Contains, slice_get}
 use Rattle.fab_board.specs.Measured.{numbers_of}
 use Rattle.fab_board.specs.Boards.{site_count, is_second, row}
-use Rattle.fab_board.specs.Standing.{IsTried, lot_number, lots_of_kind}
+use Rattle.fab_board.specs.inner.Standing.{IsTried, lot_number, lots_of_kind}
 use Rattle.fab_board.proofs.Falling.{falls_refl, falls_trans, still_both}
 use Rattle.fab_board.proofs.descent.try_column.Goals as goal
 

@@ -1,6 +1,6 @@
 use Rattle.std.proofs.Common.{◌≡◌, ◌<◌, ◌≤◌, ℕ}
 use Rattle.fab_board.specs.Boards.{cost, site_count, column, row, is_second}
-use Rattle.fab_board.specs.Standing.{IsKept, Falls, IsTried}
+use Rattle.fab_board.specs.inner.Standing.{IsKept, Falls, IsTried}
 use Rattle.fab_board.proofs.descent.try_column.Given as goal
 
 abbrev pub invariant-loop-row : goal.invariant-loop-row

@@ -2,7 +2,7 @@ use Rattle.std.proofs.Common.{◌≡◌, ◌<◌, true, ℕ, List, length, get_o
 use Rattle.std.proofs.lemmas.Bool.{cases_eq, cases_lt}
 use Rattle.std.proofs.lemmas.List.{get_or_default}
 use Rattle.fab_board.specs.Boards.{is_second, column, row}
-use Rattle.fab_board.specs.Standing.{IsTried}
+use Rattle.fab_board.specs.inner.Standing.{IsTried}
 use Rattle.fab_board.proofs.Falling.{falls_refl, falls_trans, still_both, locked_tried, far_tried}
 use Rattle.fab_board.proofs.descent.try_item.Goals as goal
 

@@ -1,7 +1,7 @@
 use Rattle.std.proofs.Common.{ℕ, List, get_or, sym, ◌∙◌, subst, inl, inr, arith}
 use Rattle.std.proofs.lemmas.Bool.{cases_eq}
 use Rattle.std.proofs.lemmas.Grind.{get_or_default_zero}
-use Rattle.fab_board.specs.Standing.{IsTried}
+use Rattle.fab_board.specs.inner.Standing.{IsTried}
 use Rattle.fab_board.proofs.Falling.{falls_refl, falls_trans, still_both}
 use Rattle.fab_board.proofs.descent.try_sites.Goals as goal
 

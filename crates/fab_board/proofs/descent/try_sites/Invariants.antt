@@ -1,6 +1,6 @@
 use Rattle.std.proofs.Common.{◌≡◌, ◌<◌, ℕ, get_or}
 use Rattle.fab_board.specs.Boards.{cost}
-use Rattle.fab_board.specs.Standing.{IsKept, Falls, IsTried}
+use Rattle.fab_board.specs.inner.Standing.{IsKept, Falls, IsTried}
 use Rattle.fab_board.proofs.descent.try_sites.Given as goal
 
 abbrev pub invariant-loop-site : goal.invariant-loop-site

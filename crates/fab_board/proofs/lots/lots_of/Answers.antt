@@ -3,7 +3,7 @@ use Rattle.std.proofs.lemmas.Bool.{false≢true}
 use Rattle.std.specs.List.{All, slice_get}
 use Rattle.fab_board.specs.Measured.{numbers_of}
 use Rattle.fab_board.specs.Boards.{site_count, is_second, column, row}
-use Rattle.fab_board.specs.Standing.{lot_number}
+use Rattle.fab_board.specs.inner.Standing.{lot_number}
 use Rattle.fab_board.proofs.Kept.{numbers_read}
 use Rattle.fab_board.proofs.Filling.{sound_more, whole_more, whole_past}
 use Rattle.fab_board.proofs.lots.lots_of.Goals as goal

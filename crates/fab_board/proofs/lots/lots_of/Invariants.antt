@@ -2,7 +2,7 @@ use Rattle.std.proofs.Common.{◌≡◌, ◌<◌, ℕ, length}
 use Rattle.std.specs.List.{All, Contains, slice_get}
 use Rattle.fab_board.specs.Measured.{numbers_of}
 use Rattle.fab_board.specs.Boards.{site_count, is_second, column, row}
-use Rattle.fab_board.specs.Standing.{lot_number}
+use Rattle.fab_board.specs.inner.Standing.{lot_number}
 use Rattle.fab_board.proofs.lots.lots_of.Given as goal
 
 abbrev pub invariant-loop-site : goal.invariant-loop-site

@@ -1,9 +1,19 @@
-use Rattle.std.proofs.Common.{◌<◌, ◌∙◌, ℕ, List, ap, sym, subst, Option, Some}
-use Rattle.std.proofs.Common.{OnOk, IfErr}
+use Rattle.std.proofs.Common.{◌<◌, ◌∙◌, ℕ, IfErr, List, OnOk, Option, Some, ap, map, string_bytes, subst, sym}
+use Rattle.std.proofs.lemmas.Result.{err_from_is_err_and}
+use Rattle.fab_words.specs.Words.{job_of}
 use Rattle.fab_words.specs.declared.job.Job.{Job}
 use Rattle.fab_words.specs.declared.job.Job.TheVariants.{Assemble, Map, Flow}
-use Rattle.fab_commands.specs.Running.{DoesJob, JobLeaves, JobHasCause}
+use Rattle.fab_commands.specs.Running.{DoesJob, JobLeaves, JobHasCause, WriteFailed}
+use Rattle.fab_commands.proofs.Faulted.{words_cause}
 use Rattle.fab_commands.proofs.running.perform.Goals as goal
+
+pub returns-in_err-list-clause-cause : goal.returns-in_err-list-clause-cause
+returns-in_err-list-clause-cause g c =
+    let residual = err_from_is_err_and c.from_residual.result c.from_residual.ensures.1 in
+    rw (residual.1, residual.2) (words_cause (job_of (map string_bytes c.args.words.now)) (g.D.Desk.told c.args.desk.now)
+    (g.D.Desk.reads c.args.desk.now < g.D.Desk.reads c.args.desk.now)
+    (WriteFailed (job_of (map string_bytes c.args.words.now)) (g.D.Desk.writes c.args.desk.now < g.D.Desk.writes c.args.desk.now)
+    (g.S.Sink.faults c.args.out.now < g.S.Sink.faults c.args.out.now)) c.in_err-list.field-0.0 c.in_err-list.ensures.usage)
 
 pub returns-in-Matrix-clause-done : goal.returns-in-Matrix-clause-done
 returns-in-Matrix-clause-done g c =
@@ -36,13 +46,16 @@ pub returns-in-Assemble-clause-leaves : goal.returns-in-Assemble-clause-leaves
 returns-in-Assemble-clause-leaves g c =
     let P : Option Job → Type 0 = λ job. IfErr c.do_assemble.result (JobLeaves job (g.D.Desk.told c.args.desk.now) (g.D.Desk.told c.do_assemble.new.desk)) in
     subst P (sym (c.in_ok-list.ensures.job ∙ ap (λ (job : Job). Some job) c.in-Assemble.is))
-    (subst (λ (pcf : Option (List ℕ)). P (Some (Assemble c.in-Assemble.fabric c.in-Assemble.blif pcf c.in-Assemble.implementation c.in-Assemble.base))) c.as_ref.ensures.value
+    (subst (λ (pcf : Option (List ℕ)). P (Some
+    (Assemble c.in-Assemble.fabric c.in-Assemble.blif pcf c.in-Assemble.implementation c.in-Assemble.base))) c.as_ref.ensures.value
     c.do_assemble.ensures.leaves)
 
 pub returns-in-Assemble-clause-cause : goal.returns-in-Assemble-clause-cause
 returns-in-Assemble-clause-cause g c =
     let P : Option Job → Type 0 = λ job.
-    IfErr c.do_assemble.result (JobHasCause job (g.D.Desk.told c.args.desk.now) (g.D.Desk.reads c.args.desk.now < g.D.Desk.reads c.do_assemble.new.desk) (g.D.Desk.writes c.args.desk.now < g.D.Desk.writes c.do_assemble.new.desk)) in
+    IfErr c.do_assemble.result (JobHasCause job (g.D.Desk.told c.args.desk.now) (g.D.Desk.reads c.args.desk.now < g.D.Desk.reads c.do_assemble.new.desk)
+    (WriteFailed job (g.D.Desk.writes c.args.desk.now < g.D.Desk.writes c.do_assemble.new.desk)
+    (g.S.Sink.faults c.args.out.now < g.S.Sink.faults c.args.out.now))) in
     subst P (sym (c.in_ok-list.ensures.job ∙ ap (λ (job : Job). Some job) c.in-Assemble.is))
     (subst (λ (pcf : Option (List ℕ)). P (Some (Assemble c.in-Assemble.fabric c.in-Assemble.blif pcf c.in-Assemble.implementation c.in-Assemble.base))) c.as_ref.ensures.value
     c.do_assemble.ensures.cause)
@@ -77,11 +90,15 @@ pub returns-in-Map-clause-leaves : goal.returns-in-Map-clause-leaves
 returns-in-Map-clause-leaves g c =
     let P : Option Job → Type 0 = λ job. IfErr c.do_map.result (JobLeaves job (g.D.Desk.told c.args.desk.now) (g.D.Desk.told c.do_map.new.desk)) in
     subst P (sym (c.in_ok-list.ensures.job ∙ ap (λ (job : Job). Some job) c.in-Map.is))
-    (subst (λ (pcf : Option (List ℕ)). P (Some (Map c.in-Map.fabric c.in-Map.blif pcf c.in-Map.seed c.in-Map.rounds c.in-Map.out))) c.as_ref-in-Map.ensures.value c.do_map.ensures.leaves)
+    (subst (λ (pcf : Option (List ℕ)). P (Some
+    (Map c.in-Map.fabric c.in-Map.blif pcf c.in-Map.seed c.in-Map.rounds c.in-Map.out))) c.as_ref-in-Map.ensures.value c.do_map.ensures.leaves)
 
 pub returns-in-Map-clause-cause : goal.returns-in-Map-clause-cause
 returns-in-Map-clause-cause g c =
-    let P : Option Job → Type 0 = λ job. IfErr c.do_map.result (JobHasCause job (g.D.Desk.told c.args.desk.now) (g.D.Desk.reads c.args.desk.now < g.D.Desk.reads c.do_map.new.desk) (g.D.Desk.writes c.args.desk.now < g.D.Desk.writes c.do_map.new.desk)) in
+    let P : Option Job → Type 0 = λ job. IfErr c.do_map.result (JobHasCause job (g.D.Desk.told c.args.desk.now)
+    (g.D.Desk.reads c.args.desk.now < g.D.Desk.reads c.do_map.new.desk)
+    (WriteFailed job (g.D.Desk.writes c.args.desk.now < g.D.Desk.writes c.do_map.new.desk)
+    (g.S.Sink.faults c.args.out.now < g.S.Sink.faults c.args.out.now))) in
     subst P (sym (c.in_ok-list.ensures.job ∙ ap (λ (job : Job). Some job) c.in-Map.is))
     (subst (λ (pcf : Option (List ℕ)). P (Some (Map c.in-Map.fabric c.in-Map.blif pcf c.in-Map.seed c.in-Map.rounds c.in-Map.out))) c.as_ref-in-Map.ensures.value c.do_map.ensures.cause)
 
@@ -95,11 +112,15 @@ pub returns-in-Flow-clause-leaves : goal.returns-in-Flow-clause-leaves
 returns-in-Flow-clause-leaves g c =
     let P : Option Job → Type 0 = λ job. IfErr c.do_flow.result (JobLeaves job (g.D.Desk.told c.args.desk.now) (g.D.Desk.told c.do_flow.new.desk)) in
     subst P (sym (c.in_ok-list.ensures.job ∙ ap (λ (job : Job). Some job) c.in-Flow.is))
-    (subst (λ (pcf : Option (List ℕ)). P (Some (Flow c.in-Flow.fabric c.in-Flow.blif pcf c.in-Flow.seed c.in-Flow.rounds c.in-Flow.base))) c.as_ref-in-Flow.ensures.value c.do_flow.ensures.leaves)
+    (subst (λ (pcf : Option (List ℕ)). P (Some
+    (Flow c.in-Flow.fabric c.in-Flow.blif pcf c.in-Flow.seed c.in-Flow.rounds c.in-Flow.base))) c.as_ref-in-Flow.ensures.value c.do_flow.ensures.leaves)
 
 pub returns-in-Flow-clause-cause : goal.returns-in-Flow-clause-cause
 returns-in-Flow-clause-cause g c =
-    let P : Option Job → Type 0 = λ job. IfErr c.do_flow.result (JobHasCause job (g.D.Desk.told c.args.desk.now) (g.D.Desk.reads c.args.desk.now < g.D.Desk.reads c.do_flow.new.desk) (g.D.Desk.writes c.args.desk.now < g.D.Desk.writes c.do_flow.new.desk)) in
+    let P : Option Job → Type 0 = λ job. IfErr c.do_flow.result (JobHasCause job (g.D.Desk.told c.args.desk.now)
+    (g.D.Desk.reads c.args.desk.now < g.D.Desk.reads c.do_flow.new.desk)
+    (WriteFailed job (g.D.Desk.writes c.args.desk.now < g.D.Desk.writes c.do_flow.new.desk)
+    (g.S.Sink.faults c.args.out.now < g.S.Sink.faults c.args.out.now))) in
     subst P (sym (c.in_ok-list.ensures.job ∙ ap (λ (job : Job). Some job) c.in-Flow.is))
     (subst (λ (pcf : Option (List ℕ)). P (Some (Flow c.in-Flow.fabric c.in-Flow.blif pcf c.in-Flow.seed c.in-Flow.rounds c.in-Flow.base))) c.as_ref-in-Flow.ensures.value c.do_flow.ensures.cause)
 

@@ -1,11 +1,11 @@
 use Rattle.std.proofs.Common.{◌≡◌, ◌-◌, ◌<◌, length, sym, ap, ◌∙◌, subst}
-use Rattle.fab_tern.specs.Operators.{tern_at}
+use Rattle.fab_solutions.specs.fab_tern.specs.Operators.{tern_at}
 use Rattle.fab_compiled.specs.declared.tree.Tree.{Tree}
 use Rattle.fab_compiled.specs.Trees.{tree_value, tree_width, IsMade}
 use Rattle.fab_compiled.specs.Evaluation.{value_seen, IsWithin}
 use Rattle.fab_compiled.specs.Leading.{Leads}
 use Rattle.fab_compiled.proofs.Leading.{own_leads, point_leads, low_leads, high_leads, yes_branch, no_branch}
-use Rattle.fab_compiled.specs.Picks.{PickLeads}
+use Rattle.fab_compiled.specs.inner.Picks.{PickLeads}
 use Rattle.fab_compiled.proofs.Picking.{pick_leads}
 use Rattle.fab_compiled.proofs.leads.+lead_of.Goals as goal
 

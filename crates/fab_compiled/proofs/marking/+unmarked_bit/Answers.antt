@@ -1,7 +1,7 @@
 use Rattle.std.proofs.Common.{◌≡◌, ◌-◌, ◌<◌, false, slice_get, MatchOption, Some, ap, subst}
 use Rattle.fab_compiled.specs.declared.tree.Tree.{Tree}
 use Rattle.fab_compiled.specs.Trees.{tree_value, tree_width, IsMade}
-use Rattle.fab_compiled.specs.Picks.{IsAlike}
+use Rattle.fab_compiled.specs.inner.Picks.{IsAlike}
 use Rattle.fab_compiled.proofs.Picking.{none_then, all_alike, point_alike, low_alike, high_alike}
 use Rattle.fab_compiled.proofs.marking.+unmarked_bit.Goals as goal
 

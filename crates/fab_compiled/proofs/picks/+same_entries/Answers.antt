@@ -1,6 +1,6 @@
 use Rattle.std.proofs.Common.{◌≡◌, ◌-◌, ◌<◌, length, sym, ap, ◌∙◌, subst, arith}
 use Rattle.fab_compiled.specs.declared.picks.Table.{Table}
-use Rattle.fab_compiled.specs.Picks.{evens_of, odds_of, IsTableBelow}
+use Rattle.fab_compiled.specs.inner.Picks.{evens_of, odds_of, IsTableBelow}
 use Rattle.fab_compiled.proofs.Picking.{room_below, evens_below, odds_below, halves_same, same_by}
 use Rattle.fab_compiled.proofs.picks.+same_entries.Goals as goal
 

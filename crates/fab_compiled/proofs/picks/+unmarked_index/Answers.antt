@@ -1,6 +1,6 @@
 use Rattle.std.proofs.Common.{◌≡◌, ◌+◌, ◌-◌, ◌<◌, false, length, slice_get, MatchOption, Some, sym, ap, subst, arith}
 use Rattle.fab_compiled.specs.declared.picks.Table.{Table}
-use Rattle.fab_compiled.specs.Picks.{evens_of, odds_of, IsPickedAlike, IsTableBelow}
+use Rattle.fab_compiled.specs.inner.Picks.{evens_of, odds_of, IsPickedAlike, IsTableBelow}
 use Rattle.fab_compiled.proofs.Picking.{none_then, room_below, evens_below, odds_below, same_by, last_picked, same_picked, both_picked}
 use Rattle.fab_compiled.proofs.picks.+unmarked_index.Goals as goal
 

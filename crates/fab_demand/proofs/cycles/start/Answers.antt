@@ -1,5 +1,5 @@
 use Rattle.std.proofs.Common.{◌<◌, length, ◌∙◌, ap, arith, slice_index, slice_get}
-use Rattle.fab_demand.specs.Cycles.{start_tern}
+use Rattle.fab_demand.specs.inner.Cycles.{start_tern}
 use Rattle.fab_demand.proofs.Starting.{kept_read, others_more, started_more}
 use Rattle.fab_demand.proofs.cycles.start.Goals as goal
 

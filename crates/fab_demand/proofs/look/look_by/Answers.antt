@@ -1,7 +1,7 @@
 use Rattle.std.proofs.Common.{Some, sym, subst}
 use Rattle.fab_ternary.specs.Terns.{plain_tern}
 use Rattle.fab_network.specs.declared.network.Drive.{Drive}
-use Rattle.fab_demand.specs.Looking.{Finds}
+use Rattle.fab_demand.specs.inner.Looking.{Finds}
 use Rattle.fab_demand.proofs.look.look_by.Goals as goal
 
 pub returns-in-Hold-clause-finds : goal.returns-in-Hold-clause-finds

@@ -5,7 +5,7 @@ use Rattle.fab_files.specs.Files.{MeetsFile, handed_out}
 use Rattle.fab_files.specs.Stages.{of_file, of_bytes}
 use Rattle.fab_files.proofs.Causes.{cause_weaker, text_cause}
 use Rattle.fab_designs.specs.Implementations.{MeetsImplementation}
-use Rattle.fab_designs.proofs.Parts.{said_is_spelled, inputs_are_lines}
+use Rattle.fab_designs.proofs.Parts.{said_is_spelled}
 use Rattle.fab_designs.proofs.implementation.read.Goals as goal
 
 pub returns-in_err-bytes-clause-cause : goal.returns-in_err-bytes-clause-cause
@@ -24,7 +24,7 @@ returns-clause-spelled g c = λ files is.
     c.read_impl.ensures.said
 
 pub returns-clause-lines : goal.returns-clause-lines
-returns-clause-lines g c = IfOk-weaker c.read_impl.result _ _ (λ it within. inputs_are_lines it within) c.read_impl.ensures.inputs
+returns-clause-lines g c = c.read_impl.ensures.inputs
 
 pub returns-clause-cause : goal.returns-clause-cause
 returns-clause-cause g c =

@@ -11,5 +11,5 @@ returns-clause-complete g c = λ files is it spelled still.
     let file = c.args.file.now in
     let fabric = c.args.fabric.now in
     ok_unless_memory (g.D.Desk.told c.args.desk.now) (before < after) (λ files. MeetsImplementation files file fabric) files is
-    (λ rose. omega (arith, rose, still)) (λ fault refused. spelled_not_refused files file fabric it fault c.types-types.ensures.is_fabric c.types-types.ensures.are_tiles spelled refused)
+    (λ rose. omega (arith, rose, still)) (λ fault refused. spelled_not_refused files file fabric it fault c.is_well_made.ensures.is_fabric c.is_well_made.ensures.are_tiles spelled refused)
     c.read.result c.read.ensures.cause

@@ -1,7 +1,7 @@
 use Rattle.std.proofs.Common.{◌≡◌, ◌++◌, map, sym, subst}
 use Rattle.fab_syntax.specs.Plain.{plain_item}
 use Rattle.fab_values.specs.Declarations.{port_declaration, item_declarations}
-use Rattle.fab_equations.specs.Building.{DeclaresOnce}
+use Rattle.fab_equations.specs.inner.Building.{DeclaresOnce}
 use Rattle.fab_equations.proofs.NamedOnce.{fewer_declared}
 use Rattle.fab_equations.proofs.declaring.declared_names.Goals as goal
 

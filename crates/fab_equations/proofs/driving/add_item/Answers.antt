@@ -1,7 +1,7 @@
 use Rattle.std.proofs.Common.{length, inl, inr, refl, sym, ap, ◌∙◌}
 use Rattle.fab_syntax.specs.Plain.{plain_expr, wire, reg}
 use Rattle.fab_values.specs.Declarations.{number_of}
-use Rattle.fab_equations.specs.Building.{listed, put_at}
+use Rattle.fab_equations.specs.inner.Building.{listed, put_at}
 use Rattle.fab_equations.specs.declared.tables.LocalDriver.TheVariants.{Value, Flop, Hold}
 use Rattle.fab_equations.proofs.ItemSteps.{wire_step, assign_step, latch_step, clocked_step}
 use Rattle.fab_equations.proofs.driving.add_item.Goals as goal

@@ -4,7 +4,7 @@ use Rattle.std.specs.List.{flat_map}
 use Rattle.fab_syntax.specs.Plain.{plain_item}
 use Rattle.fab_syntax.specs.Sound.{item_expressions}
 use Rattle.fab_equations.specs.Instances.{expressions}
-use Rattle.fab_equations.specs.Building.{listed, IsInside}
+use Rattle.fab_equations.specs.inner.Building.{listed, IsInside}
 use Rattle.fab_equations.proofs.ListPlaces.{map_next, map_parts, flat_next, flat_rest}
 use Rattle.fab_equations.proofs.driving.add_items.Goals as goal
 

@@ -4,7 +4,7 @@ use Rattle.fab_syntax.specs.Plain.{PlainExpr, plain_item}
 use Rattle.fab_syntax.specs.Sound.{item_expressions}
 use Rattle.fab_values.specs.Declarations.{declarations}
 use Rattle.fab_equations.specs.Instances.{expressions}
-use Rattle.fab_equations.specs.Building.{listed, IsBefore, IsInside, Spot}
+use Rattle.fab_equations.specs.inner.Building.{listed, IsBefore, IsInside, Spot}
 use Rattle.fab_equations.proofs.driving.add_items.Given as goal
 
 abbrev pub invariant-loop-item : goal.invariant-loop-item

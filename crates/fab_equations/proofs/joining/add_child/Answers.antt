@@ -4,7 +4,7 @@ use Rattle.std.specs.Str.{bytes_eq}
 use Rattle.fab_syntax.specs.Plain.{plain_join}
 use Rattle.fab_equations.specs.Counting.{count_or_none}
 use Rattle.fab_equations.specs.Children.{children}
-use Rattle.fab_equations.specs.Building.{listed}
+use Rattle.fab_equations.specs.inner.Building.{listed}
 use Rattle.fab_equations.proofs.ChildSteps.{child_step, child_of, below_here, instance_here, none_joined, names_below, names_step}
 use Rattle.fab_equations.proofs.joining.add_child.Goals as goal
 

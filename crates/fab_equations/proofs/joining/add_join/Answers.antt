@@ -2,7 +2,7 @@ use Rattle.std.proofs.Common.{◌≡◌, ◌++◌, [], ◌∷◌, false, inl, in
 use Rattle.fab_syntax.specs.Plain.{plain_expr, plain_join, plain_option}
 use Rattle.fab_syntax.specs.Sound.{joined}
 use Rattle.fab_values.specs.Declarations.{declarations, found_in, number_of}
-use Rattle.fab_equations.specs.Building.{listed, put_at, put_variable, AreJoinedSoFar}
+use Rattle.fab_equations.specs.inner.Building.{listed, put_at, put_variable, AreJoinedSoFar}
 use Rattle.fab_equations.specs.declared.tables.LocalDriver.TheVariants.{Output}
 use Rattle.fab_equations.proofs.Roles.{is_input_role}
 use Rattle.fab_equations.proofs.JoinedInputs.{none_step, declared_port, input_step, output_step}

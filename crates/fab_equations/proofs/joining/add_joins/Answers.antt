@@ -4,7 +4,7 @@ use Rattle.std.specs.List.{flat_map}
 use Rattle.fab_syntax.specs.Plain.{PlainExpr, PlainJoin, plain_join}
 use Rattle.fab_syntax.specs.Sound.{joined}
 use Rattle.fab_equations.specs.Instances.{expressions}
-use Rattle.fab_equations.specs.Building.{listed, AreJoinedSoFar}
+use Rattle.fab_equations.specs.inner.Building.{listed, AreJoinedSoFar}
 use Rattle.fab_equations.proofs.ListPlaces.{map_next, map_parts, flat_next, flat_rest}
 use Rattle.fab_equations.proofs.joining.add_joins.Goals as goal
 

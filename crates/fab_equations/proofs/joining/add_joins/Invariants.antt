@@ -5,7 +5,7 @@ use Rattle.fab_syntax.specs.Sound.{joined}
 use Rattle.fab_values.specs.Declarations.{declarations}
 use Rattle.fab_equations.specs.Instances.{expressions}
 use Rattle.fab_equations.specs.Children.{Child}
-use Rattle.fab_equations.specs.Building.{listed, AreJoinedSoFar, IsInstance, Spot}
+use Rattle.fab_equations.specs.inner.Building.{listed, AreJoinedSoFar, IsInstance, Spot}
 use Rattle.fab_equations.proofs.joining.add_joins.Given as goal
 
 abbrev pub invariant-loop-join : goal.invariant-loop-join

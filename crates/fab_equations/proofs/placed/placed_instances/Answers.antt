@@ -2,7 +2,7 @@ use Rattle.std.proofs.Common.{◌≡◌, ◌⊎◌, ℕ, ◌+◌, ◌-◌, List,
 use Rattle.std.proofs.lemmas.List.{take-append-le, take_all}
 use Rattle.fab_syntax.specs.Plain.{plain_text}
 use Rattle.fab_equations.specs.Instances.{instances}
-use Rattle.fab_equations.specs.Placed.{ArePlaced, IsNoted, bits_together}
+use Rattle.fab_equations.specs.inner.Placed.{ArePlaced, IsNoted, bits_together}
 use Rattle.fab_equations.specs.declared.placed.PlacedInstance.{PlacedInstance}
 use Rattle.fab_equations.specs.declared.tables.ChildTable.{ChildTable}
 use Rattle.fab_equations.proofs.Filling.{IsFilled, filled_first, module_at_within, table_at, child_within, filled_next, module_within, all_bits, are_placed}

@@ -4,7 +4,7 @@ use Rattle.fab_syntax.specs.declared.tree.Module.{Module}
 use Rattle.fab_syntax.specs.declared.tree.Text.{Text}
 use Rattle.fab_syntax.specs.Plain.{plain_module, plain_text}
 use Rattle.fab_equations.specs.Instances.{expressions}
-use Rattle.fab_equations.specs.Building.{listed, Spot}
+use Rattle.fab_equations.specs.inner.Building.{listed, Spot}
 use Rattle.fab_equations.proofs.SoundModules.{declares_once}
 use Rattle.fab_equations.proofs.TableSteps.{module_at, none_before, before_step, expressions_step, no_expressions}
 use Rattle.fab_equations.proofs.tables.tables_of.Goals as goal

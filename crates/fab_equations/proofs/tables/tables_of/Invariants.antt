@@ -1,7 +1,7 @@
 use Rattle.std.proofs.Common.{◌≡◌, take}
 use Rattle.fab_syntax.specs.Plain.{plain_text}
 use Rattle.fab_equations.specs.Instances.{expressions}
-use Rattle.fab_equations.specs.Building.{listed, IsBefore}
+use Rattle.fab_equations.specs.inner.Building.{listed, IsBefore}
 use Rattle.fab_equations.proofs.tables.tables_of.Given as goal
 
 abbrev pub invariant-loop-definition : goal.invariant-loop-definition

@@ -1,5 +1,5 @@
 use Rattle.std.proofs.Common.{arith, ◌≡◌, ◌∙◌, length}
-use Rattle.fab_fabric.specs.Index.{has_side}
+use Rattle.fab_fabric.specs.inner.Index.{has_side}
 use Rattle.fab_fabric.proofs.Passing.{passing_all}
 use Rattle.fab_fabric.proofs.ends.ends_of.Goals as goal
 

@@ -1,5 +1,5 @@
 use Rattle.std.proofs.Common.{◌≡◌, ℕ, ◌<◌, ◌++◌, length, get_or, count_by, take, drop}
-use Rattle.fab_fabric.specs.Index.{has_side}
+use Rattle.fab_fabric.specs.inner.Index.{has_side}
 use Rattle.fab_fabric.proofs.Passing.{passing}
 use Rattle.fab_fabric.proofs.ends.ends_of.Given as goal
 

@@ -1,6 +1,6 @@
 use Rattle.std.proofs.Common.{◌≡◌, ◌<◌, ◌*◌, ◌/◌, ◌%◌, sym, ap, ◌∙◌, length, arith}
 use Rattle.fab_fabric.specs.Fabric.{fabric_of, wires_at}
-use Rattle.fab_fabric.specs.Index.{place_wires}
+use Rattle.fab_fabric.specs.inner.Index.{place_wires}
 use Rattle.fab_fabric.proofs.Summed.{no_sum}
 use Rattle.fab_fabric.proofs.Numbered.{all_places}
 use Rattle.fab_fabric.proofs.Firsts.{few_so_far, next_first, each_more}

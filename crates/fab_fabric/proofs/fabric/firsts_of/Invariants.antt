@@ -1,7 +1,7 @@
 use Rattle.std.proofs.Common.{◌≡◌, ℕ, ◌<◌, length, get_or}
 use Rattle.fab_fabric.specs.Sums.{sum_to}
 use Rattle.fab_fabric.specs.Fabric.{fabric_of}
-use Rattle.fab_fabric.specs.Index.{place_wires}
+use Rattle.fab_fabric.specs.inner.Index.{place_wires}
 use Rattle.fab_fabric.proofs.fabric.firsts_of.Given as goal
 
 -- the wires of the places so far

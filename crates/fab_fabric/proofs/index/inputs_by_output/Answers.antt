@@ -1,6 +1,6 @@
 use Rattle.std.proofs.Common.{◌<◌, ◌∙◌, ◌++◌, ◌∷◌, [], ℕ, List, Vec, Global, ap, sym, get_or, length, arith}
 use Rattle.std.proofs.lemmas.List.{length-set, get_or-map}
-use Rattle.fab_select.specs.declared.pair.Pair.{Pair}
+use Rattle.fab_model.specs.fab_select.specs.declared.pair.Pair.{Pair}
 use Rattle.fab_fabric.proofs.Groups.{groups_more}
 use Rattle.fab_fabric.proofs.index.inputs_by_output.Goals as goal
 

@@ -1,7 +1,7 @@
 use Rattle.std.proofs.Common.{◌≡◌, ℕ, length, map, nat_eq, take}
-use Rattle.fab_select.specs.Selection.{inputs_of}
+use Rattle.fab_model.specs.fab_select.specs.Selection.{inputs_of}
 use Rattle.fab_model.specs.Tiles.{pair_numbers}
-use Rattle.fab_fabric.specs.Index.{group_at}
+use Rattle.fab_model.specs.fab_bits.specs.Keys.{group_at}
 use Rattle.fab_fabric.proofs.index.inputs_by_output.Given as goal
 
 -- the groups are those of the pairs so far

@@ -1,5 +1,5 @@
 use Rattle.std.proofs.Common.{◌≡◌, ℕ, [], length}
-use Rattle.fab_fabric.specs.Index.{group_at}
+use Rattle.fab_model.specs.fab_bits.specs.Keys.{group_at}
 use Rattle.fab_fabric.proofs.index.no_inputs.Given as goal
 
 abbrev pub invariant-loop-output : goal.invariant-loop-output

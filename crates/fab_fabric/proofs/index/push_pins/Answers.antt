@@ -1,7 +1,7 @@
 use Rattle.std.proofs.Common.{map, refl}
 use Rattle.fab_model.specs.Wires.{pin_of}
 use Rattle.fab_fabric.specs.declared.index.TileWire.TheVariants as wires
-use Rattle.fab_fabric.specs.Index.{plain_wire}
+use Rattle.fab_fabric.specs.inner.Index.{plain_wire}
 use Rattle.fab_fabric.proofs.Listed.{none_yet, one_more}
 use Rattle.fab_fabric.proofs.index.push_pins.Goals as goal
 

@@ -1,5 +1,5 @@
 use Rattle.std.proofs.Common.{map}
-use Rattle.fab_fabric.specs.Index.{plain_wire}
+use Rattle.fab_fabric.specs.inner.Index.{plain_wire}
 use Rattle.fab_fabric.proofs.Listed.{row_read}
 use Rattle.fab_fabric.proofs.index.push_rows.Goals as goal
 

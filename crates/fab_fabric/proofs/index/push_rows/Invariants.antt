@@ -1,6 +1,6 @@
 use Rattle.std.proofs.Common.{◌≡◌, ◌++◌, map, drop}
 use Rattle.fab_model.specs.Wires.{plain_row_wires}
-use Rattle.fab_fabric.specs.Index.{plain_wire}
+use Rattle.fab_fabric.specs.inner.Index.{plain_wire}
 use Rattle.fab_fabric.proofs.index.push_rows.Given as goal
 
 -- the wires so far and those of the other rows are those of all rows

@@ -1,7 +1,7 @@
 use Rattle.std.proofs.Common.{◌≡◌, ◌++◌, map}
 use Rattle.fab_model.specs.Tiles.{counted}
 use Rattle.fab_model.specs.Wires.{source_of}
-use Rattle.fab_fabric.specs.Index.{plain_wire}
+use Rattle.fab_fabric.specs.inner.Index.{plain_wire}
 use Rattle.fab_fabric.proofs.index.push_sources.Given as goal
 
 abbrev pub invariant-loop-bit : goal.invariant-loop-bit

@@ -1,5 +1,5 @@
 use Rattle.std.proofs.Common.{sym, subst, arith, take}
-use Rattle.fab_fasm.specs.Leading.{BeginsWith}
+use Rattle.fab_fasm.specs.inner.Leading.{BeginsWith}
 use Rattle.fab_fasm.specs.Numbers.{number_of, radix}
 use Rattle.fab_fasm.proofs.Numerals.{number_more}
 use Rattle.fab_fasm.proofs.leading.leading_of.Goals as goal

@@ -1,5 +1,5 @@
 use Rattle.std.proofs.Common.{◌<◌, ◌≤◌, take}
-use Rattle.fab_fasm.specs.Leading.{BeginsWith}
+use Rattle.fab_fasm.specs.inner.Leading.{BeginsWith}
 use Rattle.fab_fasm.specs.Numbers.{number_of, radix}
 use Rattle.fab_fasm.proofs.leading.leading_of.Given as goal
 

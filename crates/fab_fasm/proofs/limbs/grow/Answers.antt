@@ -1,5 +1,5 @@
 use Rattle.std.proofs.Common.{◌≡◌, ap, ◌∙◌, sym, length, ◌+◌, ◌*◌, ◌^◌}
-use Rattle.fab_fasm.specs.Limbs.{limbs_number}
+use Rattle.fab_fasm.specs.inner.Limbs.{limbs_number}
 use Rattle.fab_fasm.proofs.LimbSums.{grown}
 use Rattle.fab_fasm.proofs.limbs.grow.Goals as goal
 

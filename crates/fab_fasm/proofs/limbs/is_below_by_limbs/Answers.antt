@@ -1,7 +1,7 @@
 use Rattle.std.proofs.Common.{◌≡◌, ap, ◌∙◌, sym, arith, false, true, Bool, ℕ, ◌+◌, ◌*◌, ◌^◌, ◌/◌, ◌≤◌, get_or, ltb, div-add-mod', lit≤, lit<}
 use Rattle.std.specs.Bool.{MatchBool}
 use Rattle.std.proofs.lemmas.Bool.{le-ltb}
-use Rattle.fab_fasm.specs.Limbs.{limbs_number}
+use Rattle.fab_fasm.specs.inner.Limbs.{limbs_number}
 use Rattle.fab_fasm.specs.Numbers.{next, number_of}
 use Rattle.fab_fasm.proofs.Numerals.{number_more, number_grows}
 use Rattle.fab_fasm.proofs.Powers.{power_more}

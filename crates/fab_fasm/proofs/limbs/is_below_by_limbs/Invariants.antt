@@ -1,5 +1,5 @@
 use Rattle.std.proofs.Common.{◌≡◌, ◌≤◌, take, vec_len}
-use Rattle.fab_fasm.specs.Limbs.{IsWaiting, waiting_number}
+use Rattle.fab_fasm.specs.inner.Limbs.{IsWaiting, waiting_number}
 use Rattle.fab_fasm.specs.Numbers.{number_of}
 use Rattle.fab_fasm.proofs.limbs.is_below_by_limbs.Given as goal
 

@@ -1,5 +1,5 @@
 use Rattle.std.proofs.Common.{◌≡◌, ◌<◌, ◌+◌, ◌*◌, ◌^◌, arith, length, get_or, refl}
-use Rattle.fab_fasm.specs.Limbs.{limbs_number}
+use Rattle.fab_fasm.specs.inner.Limbs.{limbs_number}
 use Rattle.fab_fasm.proofs.LimbSums.{limb_carried, rest_stays, sum_bound}
 use Rattle.fab_fasm.proofs.limbs.push_digits.Goals as goal
 

@@ -1,5 +1,5 @@
 use Rattle.std.proofs.Common.{◌≡◌, ◌<◌, ◌+◌, ◌*◌, ◌^◌, take, drop}
-use Rattle.fab_fasm.specs.Limbs.{limbs_number}
+use Rattle.fab_fasm.specs.inner.Limbs.{limbs_number}
 use Rattle.fab_fasm.proofs.limbs.push_digits.Given as goal
 
 abbrev pub invariant-loop-limb : goal.invariant-loop-limb

@@ -3,8 +3,8 @@ use Rattle.fab_fabric.specs.Bits.{plain_bits}
 use Rattle.fab_fabric.specs.declared.wire.Site.{Site}
 use Rattle.fab_implementation.specs.Plain.{PlainTree, PlainImplementation}
 use Rattle.fab_implementation.specs.OnFabric.{HasWires}
-use Rattle.fab_features.specs.Matrices.{AreMatricesOf}
-use Rattle.fab_features.specs.Adding.{Adds, SomeOf, IsCellOne, IsCellLine, IsTreeOne}
+use Rattle.fab_features.specs.inner.Matrices.{AreMatricesOf}
+use Rattle.fab_features.specs.inner.Adding.{Adds, SomeOf, IsCellOne, IsCellLine, IsTreeOne}
 use Rattle.fab_features.specs.declared.matrices.Matrix.{Matrix}
 use Rattle.fab_features.proofs.Configured.{lines_known, wires_known, configured}
 use Rattle.fab_features.proofs.DesignMap.{design_map}

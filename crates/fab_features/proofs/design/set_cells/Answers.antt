@@ -4,7 +4,7 @@ use Rattle.fab_fabric.specs.declared.wire.Site.{Site}
 use Rattle.fab_netlist.specs.Plain.{IsAt}
 use Rattle.fab_netlist.specs.Packed.{PlainCell, PlainPacked}
 use Rattle.fab_legal.proofs.Lists.{at_default, at_read, same_at}
-use Rattle.fab_features.specs.Adding.{IsCellOne, IsSiteOne}
+use Rattle.fab_features.specs.inner.Adding.{IsCellOne, IsSiteOne}
 use Rattle.fab_features.proofs.Added.{more_of, same_added}
 use Rattle.fab_features.proofs.design.set_cells.Goals as goal
 

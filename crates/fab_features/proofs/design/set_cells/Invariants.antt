@@ -1,6 +1,6 @@
 use Rattle.std.proofs.Common.{take}
 use Rattle.fab_fabric.specs.Bits.{AreBitsOf, plain_bits}
-use Rattle.fab_features.specs.Adding.{Adds, SomeOf, IsCellOne}
+use Rattle.fab_features.specs.inner.Adding.{Adds, SomeOf, IsCellOne}
 use Rattle.fab_features.proofs.design.set_cells.Given as goal
 
 -- the cells of the lines so far

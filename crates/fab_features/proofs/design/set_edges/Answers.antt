@@ -2,7 +2,7 @@ use Rattle.std.proofs.Common.{get_or}
 use Rattle.fab_fabric.specs.Bits.{plain_bits}
 use Rattle.fab_implementation.specs.Plain.{Edge}
 use Rattle.fab_legal.proofs.Lists.{at_default}
-use Rattle.fab_features.specs.Adding.{IsEdgeOne}
+use Rattle.fab_features.specs.inner.Adding.{IsEdgeOne}
 use Rattle.fab_features.proofs.Added.{more_of}
 use Rattle.fab_features.proofs.design.set_edges.Goals as goal
 

@@ -2,7 +2,7 @@ use Rattle.std.proofs.Common.{◌≡◌, List, ap, ◌∙◌, subst}
 use Rattle.fab_fabric.specs.Bits.{plain_bits}
 use Rattle.fab_implementation.specs.Plain.{Edge, PlainTree}
 use Rattle.fab_legal.proofs.Lists.{at_read}
-use Rattle.fab_features.specs.Adding.{Adds, SomeOf, IsEdgeOne, IsTreeOne}
+use Rattle.fab_features.specs.inner.Adding.{Adds, SomeOf, IsEdgeOne, IsTreeOne}
 use Rattle.fab_features.proofs.Added.{more_of}
 use Rattle.fab_features.proofs.design.set_trees.Goals as goal
 

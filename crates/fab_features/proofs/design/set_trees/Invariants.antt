@@ -1,6 +1,6 @@
 use Rattle.std.proofs.Common.{take}
 use Rattle.fab_fabric.specs.Bits.{AreBitsOf, plain_bits}
-use Rattle.fab_features.specs.Adding.{Adds, SomeOf, IsTreeOne}
+use Rattle.fab_features.specs.inner.Adding.{Adds, SomeOf, IsTreeOne}
 use Rattle.fab_features.proofs.design.set_trees.Given as goal
 
 -- the trees so far

@@ -1,6 +1,6 @@
 use Rattle.std.proofs.Common.{◌≡◌, map, take}
 use Rattle.std.specs.List.{flat_map}
-use Rattle.fab_features.specs.Listing.{edge_key}
+use Rattle.fab_features.specs.inner.Listing.{edge_key}
 use Rattle.fab_features.proofs.features.edge_pairs.Given as goal
 
 abbrev pub invariant-loop-tree : goal.invariant-loop-tree

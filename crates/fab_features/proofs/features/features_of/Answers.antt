@@ -2,8 +2,8 @@ use Rattle.std.proofs.Common.{List, sym, subst, All}
 use Rattle.fab_model.specs.Grid.{PlainFabric}
 use Rattle.fab_implementation.specs.Plain.{PlainTree, PlainImplementation}
 use Rattle.fab_implementation.specs.OnFabric.{HasWires}
-use Rattle.fab_features.specs.Matrices.{AreMatricesOf}
-use Rattle.fab_features.specs.Adding.{IsCellLine}
+use Rattle.fab_features.specs.inner.Matrices.{AreMatricesOf}
+use Rattle.fab_features.specs.inner.Adding.{IsCellLine}
 use Rattle.fab_features.specs.declared.matrices.Matrix.{Matrix}
 use Rattle.fab_features.proofs.Configured.{lines_known, wires_known}
 use Rattle.fab_features.proofs.features.features_of.Goals as goal

@@ -1,7 +1,7 @@
 use Rattle.std.proofs.Common.{◌≡◌, ℕ, ◌+◌, ◌<◌, take, List, Option, Some, None, Vec, Global, get_or, set, length, ap, ◌∙◌, sym, subst, arith}
 use Rattle.fab_netlist.specs.Plain.{IsAt}
 use Rattle.fab_legal.proofs.Lists.{at_default}
-use Rattle.fab_features.specs.Listing.{Keyed, HoldsFirsts}
+use Rattle.fab_features.specs.inner.Listing.{Keyed, HoldsFirsts}
 use Rattle.fab_features.proofs.Tables.{first_more, first_kept, read_is, no_value, some_value}
 use Rattle.fab_features.proofs.features.first_values.Goals as goal
 use Rattle.fab_features.proofs.features.first_values.Goals.{then-is_none, else-is_none}

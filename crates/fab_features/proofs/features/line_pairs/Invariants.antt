@@ -1,5 +1,5 @@
 use Rattle.std.proofs.Common.{◌≡◌, map, take}
-use Rattle.fab_features.specs.Listing.{line_key}
+use Rattle.fab_features.specs.inner.Listing.{line_key}
 use Rattle.fab_features.proofs.features.line_pairs.Given as goal
 
 abbrev pub invariant-loop-line : goal.invariant-loop-line

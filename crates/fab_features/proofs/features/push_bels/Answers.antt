@@ -1,7 +1,7 @@
 use Rattle.std.proofs.Common.{ℕ, List, [], ap}
 use Rattle.fab_fasm.specs.declared.feature.Feature.{Feature}
 use Rattle.fab_features.specs.Design.{site_features, cell_features}
-use Rattle.fab_features.specs.Listing.{site_at}
+use Rattle.fab_features.specs.inner.Listing.{site_at}
 use Rattle.fab_features.proofs.Pushed.{none_flat, more_flat, pushes_same, pushes_none}
 use Rattle.fab_features.proofs.features.push_bels.Goals as goal
 use Rattle.fab_features.proofs.features.push_bels.Goals.{in-Some+in_ok-push_cell, in_default}

@@ -1,7 +1,7 @@
 use Rattle.std.specs.List.{flat_map}
 use Rattle.fab_model.specs.Tiles.{counted}
 use Rattle.fab_features.specs.Design.{site_features}
-use Rattle.fab_features.specs.Listing.{Pushes, site_at}
+use Rattle.fab_features.specs.inner.Listing.{Pushes, site_at}
 use Rattle.fab_features.proofs.features.push_bels.Given as goal
 
 -- the lines of the BELs so far

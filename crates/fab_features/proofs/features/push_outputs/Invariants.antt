@@ -1,7 +1,7 @@
 use Rattle.std.proofs.Common.{take}
 use Rattle.std.specs.List.{filter_map}
 use Rattle.fab_features.specs.Design.{output_feature}
-use Rattle.fab_features.specs.Listing.{Pushes}
+use Rattle.fab_features.specs.inner.Listing.{Pushes}
 use Rattle.fab_features.proofs.features.push_outputs.Given as goal
 
 -- the lines of the outputs so far

@@ -8,7 +8,7 @@ use Rattle.fab_fabric.proofs.Numbered.{wires_of_tile}
 use Rattle.fab_fabric.proofs.Pairs.{outputs_named}
 use Rattle.fab_fasm.specs.declared.feature.Feature.{Feature}
 use Rattle.fab_features.specs.Design.{site_features, output_feature}
-use Rattle.fab_features.specs.Listing.{site_at}
+use Rattle.fab_features.specs.inner.Listing.{site_at}
 use Rattle.fab_features.proofs.Pushed.{pushes_both, pushes_same}
 use Rattle.fab_features.proofs.features.push_tile.Goals as goal
 

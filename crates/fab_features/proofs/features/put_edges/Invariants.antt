@@ -1,5 +1,5 @@
 use Rattle.std.proofs.Common.{◌≡◌, ◌++◌, map, take}
-use Rattle.fab_features.specs.Listing.{edge_key}
+use Rattle.fab_features.specs.inner.Listing.{edge_key}
 use Rattle.fab_features.proofs.features.put_edges.Given as goal
 
 abbrev pub invariant-loop-edge : goal.invariant-loop-edge

@@ -1,6 +1,6 @@
 use Rattle.std.proofs.Common.{subst, List, arith}
 use Rattle.fab_model.specs.Tiles.{PlainTile}
-use Rattle.fab_features.specs.Matrices.{AreMatricesOf}
+use Rattle.fab_features.specs.inner.Matrices.{AreMatricesOf}
 use Rattle.fab_features.proofs.Kept.{have_more, have_all}
 use Rattle.fab_features.proofs.matrices.matrices_of.Goals as goal
 

@@ -1,5 +1,5 @@
 use Rattle.fab_fabric.specs.Bits.{AreBitsOf, plain_bits}
-use Rattle.fab_features.specs.Adding.{Adds, IsOneOf}
+use Rattle.fab_features.specs.inner.Adding.{Adds, IsOneOf}
 use Rattle.fab_features.proofs.Added.{first_ones}
 use Rattle.fab_features.proofs.ones.set_ones.Given as goal
 

@@ -1,6 +1,6 @@
 use Rattle.std.proofs.Common.{List, subst, sym}
 use Rattle.fab_fabric.specs.Bits.{plain_bits}
-use Rattle.fab_features.specs.Matrices.{AreMatricesOf}
+use Rattle.fab_features.specs.inner.Matrices.{AreMatricesOf}
 use Rattle.fab_features.specs.declared.matrices.Matrix.{Matrix}
 use Rattle.fab_features.proofs.BitMaps.{bit_map, right_agree}
 use Rattle.fab_features.proofs.reading.bits_of_features.Goals as goal

@@ -4,7 +4,7 @@ use Rattle.fab_fabric.specs.Bits.{plain_bits}
 use Rattle.fab_netlist.specs.Plain.{IsAt}
 use Rattle.fab_legal.proofs.Lists.{at_read, right_more}
 use Rattle.fab_features.specs.Wrong.{IsRightFeature}
-use Rattle.fab_features.specs.Lines.{IsLineOne}
+use Rattle.fab_features.specs.inner.Lines.{IsLineOne}
 use Rattle.fab_features.proofs.Added.{more_of}
 use Rattle.fab_features.proofs.Chosen.{holds_more, agrees, known_feature, first_refused}
 use Rattle.fab_features.proofs.reading.set_lines.Goals as goal

@@ -2,8 +2,8 @@ use Rattle.std.proofs.Common.{take}
 use Rattle.fab_fabric.specs.Bits.{AreBitsOf, plain_bits}
 use Rattle.fab_legal.specs.Turns.{FirstAreRight}
 use Rattle.fab_features.specs.Wrong.{IsRightFeature}
-use Rattle.fab_features.specs.Adding.{Adds, SomeOf}
-use Rattle.fab_features.specs.Lines.{HoldsChoices, IsLineOne}
+use Rattle.fab_features.specs.inner.Adding.{Adds, SomeOf}
+use Rattle.fab_features.specs.inner.Lines.{HoldsChoices, IsLineOne}
 use Rattle.fab_features.proofs.reading.set_lines.Given as goal
 
 -- the lines so far

@@ -1,5 +1,5 @@
 use Rattle.std.proofs.Common.{List, subst, sym}
-use Rattle.fab_features.specs.Matrices.{AreMatricesOf}
+use Rattle.fab_features.specs.inner.Matrices.{AreMatricesOf}
 use Rattle.fab_features.specs.declared.matrices.Matrix.{Matrix}
 use Rattle.fab_features.proofs.spelled.features_of_bits.Goals as goal
 

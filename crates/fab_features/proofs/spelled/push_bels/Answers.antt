@@ -1,5 +1,5 @@
 use Rattle.std.proofs.Common.{false, get_or}
-use Rattle.fab_features.specs.Listing.{placed_tile}
+use Rattle.fab_features.specs.inner.Listing.{placed_tile}
 use Rattle.fab_features.specs.Spelled.{bel_features}
 use Rattle.fab_features.proofs.Pushed.{none_flat, more_flat}
 use Rattle.fab_features.proofs.spelled.push_bels.Goals as goal

@@ -1,7 +1,7 @@
 use Rattle.std.proofs.Common.{false, get_or}
 use Rattle.std.specs.List.{flat_map}
 use Rattle.fab_model.specs.Tiles.{counted}
-use Rattle.fab_features.specs.Listing.{Pushes, placed_tile}
+use Rattle.fab_features.specs.inner.Listing.{Pushes, placed_tile}
 use Rattle.fab_features.specs.Spelled.{bel_features}
 use Rattle.fab_features.proofs.spelled.push_bels.Given as goal
 

@@ -3,7 +3,7 @@ use Rattle.std.specs.List.{filter_map}
 use Rattle.std.specs.Option.{option_map}
 use Rattle.fab_legal.proofs.Lists.{at_default}
 use Rattle.fab_features.specs.Design.{feature_of}
-use Rattle.fab_features.specs.Listing.{placed_tile}
+use Rattle.fab_features.specs.inner.Listing.{placed_tile}
 use Rattle.fab_features.specs.Spelled.{tile_picks, tile_pair_name}
 use Rattle.fab_features.proofs.Pushed.{pushes_both, pushes_same, some_more, none_more}
 use Rattle.fab_features.proofs.spelled.push_outputs.Goals as goal

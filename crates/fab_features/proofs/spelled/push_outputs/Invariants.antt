@@ -1,6 +1,6 @@
 use Rattle.std.proofs.Common.{false, get_or, take}
 use Rattle.std.specs.List.{filter_map}
-use Rattle.fab_features.specs.Listing.{Pushes, placed_tile}
+use Rattle.fab_features.specs.inner.Listing.{Pushes, placed_tile}
 use Rattle.fab_features.specs.Spelled.{tile_picks}
 use Rattle.fab_features.proofs.spelled.push_outputs.Given as goal
 

@@ -2,7 +2,7 @@ use Rattle.std.proofs.Common.{Bool, ℕ, false, get_or, length, nat_eq, ap}
 use Rattle.std.specs.List.{flat_map, filter_map}
 use Rattle.fab_select.specs.Selection.{in_order}
 use Rattle.fab_model.specs.Tiles.{counted, numbered_pairs}
-use Rattle.fab_features.specs.Listing.{placed_tile}
+use Rattle.fab_features.specs.inner.Listing.{placed_tile}
 use Rattle.fab_features.specs.Spelled.{bel_features, tile_picks}
 use Rattle.fab_features.proofs.Pushed.{pushes_both, pushes_same}
 use Rattle.fab_features.proofs.spelled.push_tile.Goals as goal

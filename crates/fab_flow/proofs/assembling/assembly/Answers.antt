@@ -10,7 +10,7 @@ use Rattle.fab_flow.proofs.assembling.assembly.Goals as goal
 pub outputs_of-requires : goal.outputs_of-requires
 outputs_of-requires c =
     let design = c.args.design.now in
-    let is_fabric : IsFabric design.fabric = subst (λ (d : PlainDesign). IsFabric d.fabric) c.design.view_is c.types-types.ensures.is_fabric in
+    let is_fabric : IsFabric design.fabric = subst (λ (d : PlainDesign). IsFabric d.fabric) c.design.view_is c.is_well_made.ensures.is_fabric in
     let letters = state_has_letters design.fabric (packed design.netlist) c.args.implementation is_fabric c.requires.on_fabric in
     subst HasLetters (sym c.in_ok-assembled.ensures.state) letters
 

@@ -1,7 +1,7 @@
 use Rattle.std.proofs.Common.{◌≡◌, ◌++◌, ◌∷◌, map}
 use Rattle.fab_model.specs.Tiles.{counted}
 use Rattle.fab_frames.specs.Stream.{fixed, of_row, address_word}
-use Rattle.fab_frames.specs.Taking.{plain_part}
+use Rattle.fab_frames.specs.inner.Taking.{plain_part}
 use Rattle.fab_frames.proofs.plan.put_frame.Given as goal
 
 -- the address and the rows so far

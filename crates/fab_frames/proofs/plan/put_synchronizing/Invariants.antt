@@ -1,6 +1,6 @@
 use Rattle.std.proofs.Common.{◌≡◌, ◌++◌, map, take}
 use Rattle.fab_frames.specs.Stream.{fixed, synchronizing_words}
-use Rattle.fab_frames.specs.Taking.{plain_part}
+use Rattle.fab_frames.specs.inner.Taking.{plain_part}
 use Rattle.fab_frames.proofs.plan.put_synchronizing.Given as goal
 
 -- the words so far

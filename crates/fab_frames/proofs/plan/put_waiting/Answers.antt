@@ -1,5 +1,5 @@
 use Rattle.std.proofs.Common.{◌∙◌, refl, arith, map}
-use Rattle.fab_frames.specs.Taking.{plain_part}
+use Rattle.fab_frames.specs.inner.Taking.{plain_part}
 use Rattle.fab_frames.proofs.Parts.{none_put, waiting_put, all_waiting}
 use Rattle.fab_frames.proofs.plan.put_waiting.Goals as goal
 

@@ -1,6 +1,6 @@
 use Rattle.std.proofs.Common.{◌≡◌, ◌++◌, map, replicate}
 use Rattle.fab_frames.specs.Stream.{fixed, waiting_word}
-use Rattle.fab_frames.specs.Taking.{plain_part}
+use Rattle.fab_frames.specs.inner.Taking.{plain_part}
 use Rattle.fab_frames.proofs.plan.put_waiting.Given as goal
 
 -- the words so far

@@ -1,7 +1,7 @@
 use Rattle.std.proofs.Common.{◌≡◌, map, take}
 use Rattle.fab_fabric.specs.Bits.{plain_bits}
 use Rattle.fab_frames.specs.Stream.{word_of}
-use Rattle.fab_frames.specs.Taking.{plain_part}
+use Rattle.fab_frames.specs.inner.Taking.{plain_part}
 use Rattle.fab_frames.proofs.write.frames.Given as goal
 
 -- the words so far

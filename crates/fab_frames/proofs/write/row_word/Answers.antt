@@ -1,5 +1,5 @@
 use Rattle.std.proofs.Common.{◌*◌, ◌^◌, ◌%◌, ◌∙◌, bit_or, ap, arith}
-use Rattle.fab_frames.specs.Placing.{placed_in, bit_in}
+use Rattle.fab_frames.specs.inner.Placing.{placed_in, bit_in}
 use Rattle.fab_frames.proofs.Numbers.{bits_more, byte_is}
 use Rattle.fab_frames.proofs.Words.{bit_there, all_bits}
 use Rattle.fab_frames.proofs.write.row_word.Goals as goal

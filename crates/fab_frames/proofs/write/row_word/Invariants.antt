@@ -1,6 +1,6 @@
 use Rattle.std.proofs.Common.{◌≡◌}
 use Rattle.fab_bits.specs.Bits.{number, first_bits}
-use Rattle.fab_frames.specs.Placing.{placed_in, bit_in}
+use Rattle.fab_frames.specs.inner.Placing.{placed_in, bit_in}
 use Rattle.fab_frames.proofs.Words.{bit_there}
 use Rattle.fab_frames.proofs.write.row_word.Given as goal
 

@@ -1,8 +1,8 @@
 use Rattle.std.proofs.Common.{◌≡◌, ◌<◌, ◌∙◌, ℕ, length, ap, sym, subst}
 use Rattle.fab_fabric.specs.Bits.{bits_at, plain_bits}
 use Rattle.fab_frames.specs.Stream.{word_of, placed_word, bit_placed_at}
-use Rattle.fab_frames.specs.Placing.{placed_in, bit_in}
-use Rattle.fab_frames.specs.Taking.{plain_part}
+use Rattle.fab_frames.specs.inner.Placing.{placed_in, bit_in}
+use Rattle.fab_frames.specs.inner.Taking.{plain_part}
 use Rattle.fab_frames.proofs.Mapped.{row_below}
 use Rattle.fab_frames.proofs.Parts.{row_within}
 use Rattle.fab_frames.proofs.Words.{placed_word_same}

@@ -1,6 +1,6 @@
 use Rattle.std.proofs.Common.{ℕ, ◌∙◌, ap, true}
 use Rattle.fab_syntax.specs.declared.tree.Port.{Port}
-use Rattle.fab_matrix.specs.Matrix.{scalar}
+use Rattle.fab_matrix.specs.fab_meaning.specs.Ports.{scalar}
 use Rattle.fab_gen_tile.specs.Names.{end_name}
 use Rattle.fab_gen_tile.proofs.Counted.{none_behind, items_more}
 use Rattle.fab_gen_tile.proofs.borders.push_end_ports.Goals as goal

@@ -1,6 +1,6 @@
 use Rattle.std.proofs.Common.{◌≡◌, ◌++◌, true}
 use Rattle.fab_model.specs.Tiles.{counted}
-use Rattle.fab_matrix.specs.Matrix.{scalar}
+use Rattle.fab_matrix.specs.fab_meaning.specs.Ports.{scalar}
 use Rattle.fab_gen_tile.specs.Names.{end_name}
 use Rattle.fab_gen_tile.proofs.borders.push_end_ports.Given as goal
 

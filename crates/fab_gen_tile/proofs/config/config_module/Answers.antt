@@ -1,7 +1,7 @@
 use Rattle.std.proofs.Common.{◌∙◌, ℕ, false, List, [], ◌∷◌, ◌++◌, ap, ap₂, codes, get_or}
 use Rattle.fab_syntax.specs.declared.tree.Shape.TheVariants.{Scalar}
 use Rattle.fab_syntax.specs.Plain.{PlainItem, reg, assign}
-use Rattle.fab_matrix.specs.Matrix.{config_name}
+use Rattle.fab_matrix.specs.fab_meaning.specs.Ports.{config_name}
 use Rattle.fab_model.specs.Tiles.{counted}
 use Rattle.fab_gen_tile.specs.Names.{latch_name, vector}
 use Rattle.fab_gen_tile.specs.ConfigModule.{frame_ports, latch_at, all_latches}

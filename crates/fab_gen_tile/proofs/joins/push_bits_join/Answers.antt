@@ -1,7 +1,7 @@
 use Rattle.std.proofs.Common.{◌++◌, ◌∷◌, [], ◌∙◌, ap, map, sym}
 use Rattle.std.proofs.lemmas.List.{map_push}
 use Rattle.fab_syntax.specs.Plain.{plain_join, part}
-use Rattle.fab_matrix.specs.Matrix.{config_name}
+use Rattle.fab_matrix.specs.fab_meaning.specs.Ports.{config_name}
 use Rattle.fab_gen_tile.specs.Names.{joined, bits_name}
 use Rattle.fab_gen_tile.proofs.Steps.{some_bits}
 use Rattle.fab_gen_tile.proofs.joins.push_bits_join.Goals as goal

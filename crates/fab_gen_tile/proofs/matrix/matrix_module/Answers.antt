@@ -3,7 +3,7 @@ use Rattle.fab_select.specs.declared.pair.Pair.{Pair}
 use Rattle.fab_matrix.specs.Matrix.{matrix, numbered, named}
 use Rattle.fab_gen_tile.specs.Names.{matrix_module_name}
 use Rattle.fab_gen_tile.specs.TileModule.{matrix_inputs, matrix_outputs}
-use Rattle.fab_gen_tile.specs.Places.{placed_pair}
+use Rattle.fab_gen_tile.specs.inner.Places.{placed_pair}
 use Rattle.fab_gen_tile.proofs.Renumbered.{inputs_within, outputs_within, matrix_by_places}
 use Rattle.fab_gen_tile.proofs.matrix.matrix_module.Goals as goal
 

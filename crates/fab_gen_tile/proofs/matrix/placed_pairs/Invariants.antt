@@ -1,5 +1,5 @@
 use Rattle.std.proofs.Common.{◌≡◌, map, take}
-use Rattle.fab_gen_tile.specs.Places.{placed_pair}
+use Rattle.fab_gen_tile.specs.inner.Places.{placed_pair}
 use Rattle.fab_gen_tile.proofs.matrix.placed_pairs.Given as goal
 
 -- those so far

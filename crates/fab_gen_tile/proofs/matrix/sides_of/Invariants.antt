@@ -1,7 +1,7 @@
 use Rattle.std.proofs.Common.{◌≡◌, ◌<◌, ℕ, true, false, length, take, get_or, slice_get, Some}
 use Rattle.fab_model.specs.Tiles.{TileWire, tile_wires, is_matrix_output}
 use Rattle.fab_gen_tile.specs.TileModule.{side_names}
-use Rattle.fab_gen_tile.specs.Places.{place_on_side}
+use Rattle.fab_gen_tile.specs.inner.Places.{place_on_side}
 use Rattle.fab_gen_tile.proofs.matrix.sides_of.Given as goal
 
 -- the names and the places of the wires so far

@@ -3,7 +3,8 @@ use Rattle.std.proofs.lemmas.List.{map_push}
 use Rattle.std.specs.List.{enumerate_from}
 use Rattle.fab_kinds.specs.Pins.{bit_count}
 use Rattle.fab_syntax.specs.Plain.{plain_item}
-use Rattle.fab_gen_tile.specs.TileModule.{bits_before, bel_instance}
+use Rattle.fab_model.specs.Tiles.{bits_before}
+use Rattle.fab_gen_tile.specs.TileModule.{bel_instance}
 use Rattle.fab_gen_tile.proofs.Steps.{behind, map_placed_more, bits_before_more}
 use Rattle.fab_gen_tile.proofs.tile.push_bel_instances.Goals as goal
 

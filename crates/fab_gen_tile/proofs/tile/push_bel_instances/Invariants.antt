@@ -1,7 +1,8 @@
 use Rattle.std.proofs.Common.{◌≡◌, ◌++◌, map, take}
 use Rattle.std.specs.List.{enumerate_from}
 use Rattle.fab_syntax.specs.Plain.{plain_item}
-use Rattle.fab_gen_tile.specs.TileModule.{bits_before, bel_instance}
+use Rattle.fab_model.specs.Tiles.{bits_before}
+use Rattle.fab_gen_tile.specs.TileModule.{bel_instance}
 use Rattle.fab_gen_tile.proofs.tile.push_bel_instances.Given as goal
 
 -- the bits and the instances of the BELs so far

@@ -1,7 +1,7 @@
 use Rattle.std.proofs.Common.{◌∙◌, ◌<◌, ap, sym, map, subst, Some, All, List, arith}
 use Rattle.std.proofs.lemmas.List.Elements.{All-push}
 use Rattle.fab_gen_top.specs.declared.places.Place.{Place}
-use Rattle.fab_gen_top.specs.Standing.{placed_of, IsPlaceOf}
+use Rattle.fab_gen_top.specs.inner.Standing.{placed_of, IsPlaceOf}
 use Rattle.fab_gen_top.proofs.Grid.{spot, stands_at, no_rows, row_with, row_without}
 use Rattle.fab_gen_top.proofs.places.push_column.Goals as goal
 use Rattle.fab_gen_top.proofs.places.push_column.Goals.{in-Some+in_ok-push-in-Some, in-None}

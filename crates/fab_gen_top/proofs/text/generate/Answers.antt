@@ -7,11 +7,11 @@ use Rattle.fab_prim.specs.Modules.{module_of_kind}
 use Rattle.fab_gen_loader.specs.Loader.{IsLoader}
 use Rattle.fab_gen_loader.specs.Bounds.{IsSmall}
 use Rattle.fab_gen_loader.specs.Expressions.{loader_module}
-use Rattle.fab_fabric_text.specs.Top.{top_module}
-use Rattle.fab_fabric_text.specs.Text.{used_kinds, standing_types, tile_modules}
+use Rattle.fab_text_loads.specs.fab_fabric_text.specs.Top.{top_module}
+use Rattle.fab_text_loads.specs.fab_fabric_text.specs.Text.{used_kinds, standing_types, tile_modules}
 use Rattle.fab_drives.specs.Drives.{ShowsDrives}
 use Rattle.fab_syntax.specs.Sound.{IsSound}
-use Rattle.fab_gen_top.specs.Standing.{type_of}
+use Rattle.fab_gen_top.specs.inner.Standing.{type_of}
 use Rattle.fab_gen_top.proofs.text.generate.Goals as goal
 
 pub returns-clause-text : goal.returns-clause-text

@@ -1,7 +1,7 @@
 use Rattle.std.proofs.Common.{◌≡◌, map, take, false}
 use Rattle.std.specs.List.{list_any}
-use Rattle.fab_fabric_text.specs.Text.{same_kind}
-use Rattle.fab_gen_top.specs.Standing.{type_of}
+use Rattle.fab_fabric.specs.Sites.{same_kind}
+use Rattle.fab_gen_top.specs.inner.Standing.{type_of}
 use Rattle.fab_gen_top.proofs.text.is_used.Given as goal
 
 -- none so far has one

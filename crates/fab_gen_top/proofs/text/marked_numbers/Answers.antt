@@ -1,6 +1,6 @@
 use Rattle.std.proofs.Common.{◌∙◌, ◌<◌, ℕ, List, All, length, map, ap, sym, subst, arith}
 use Rattle.std.proofs.lemmas.List.Elements.{All-push}
-use Rattle.fab_gen_top.specs.Standing.{type_of}
+use Rattle.fab_gen_top.specs.inner.Standing.{type_of}
 use Rattle.fab_gen_top.proofs.Grid.{one_stands, none_stands}
 use Rattle.fab_gen_top.proofs.text.marked_numbers.Goals as goal
 use Rattle.fab_gen_top.proofs.text.marked_numbers.Goals.{then-stands+in_ok-push, else-stands}

@@ -2,7 +2,7 @@ use Rattle.std.proofs.Common.{ℕ, ◌∙◌, ap, map}
 use Rattle.std.proofs.lemmas.List.{map_push}
 use Rattle.fab_syntax.specs.Plain.{PlainJoin, plain_join}
 use Rattle.fab_gen_tile.specs.Names.{same_join}
-use Rattle.fab_fabric_text.specs.Names.{row_name}
+use Rattle.fab_text_loads.specs.fab_fabric_text.specs.Names.{row_name}
 use Rattle.fab_gen_tile.proofs.Counted.{none_behind, items_more}
 use Rattle.fab_gen_top.proofs.wires.push_row_joins.Goals as goal
 

@@ -2,7 +2,7 @@ use Rattle.std.proofs.Common.{◌≡◌, ◌++◌, map}
 use Rattle.fab_model.specs.Tiles.{counted}
 use Rattle.fab_syntax.specs.Plain.{plain_join}
 use Rattle.fab_gen_tile.specs.Names.{same_join}
-use Rattle.fab_fabric_text.specs.Names.{row_name}
+use Rattle.fab_text_loads.specs.fab_fabric_text.specs.Names.{row_name}
 use Rattle.fab_gen_top.proofs.wires.push_row_joins.Given as goal
 
 -- those so far

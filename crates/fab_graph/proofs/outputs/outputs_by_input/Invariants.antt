@@ -1,5 +1,5 @@
 use Rattle.std.proofs.Common.{◌≡◌, ℕ, length, take}
-use Rattle.fab_fabric.specs.Index.{group_at}
+use Rattle.fab_bits.specs.Keys.{group_at}
 use Rattle.fab_ways.specs.Edges.{outputs_of}
 use Rattle.fab_graph.proofs.outputs.outputs_by_input.Given as goal
 

@@ -1,7 +1,7 @@
 use Rattle.std.proofs.Common.{◌≡◌, true, [], ◌∷◌, ◌++◌, All, take}
 use Rattle.fab_fabric.specs.declared.wire.Wire.{Wire}
 use Rattle.fab_graph.specs.Reach.{is_marked}
-use Rattle.fab_graph.specs.Search.{IsSearch, left_of}
+use Rattle.fab_graph.specs.inner.Search.{IsSearch, left_of}
 use Rattle.fab_graph.proofs.reaching.mark_ends.Given as goal
 
 abbrev pub invariant-loop-index : goal.invariant-loop-index

@@ -1,6 +1,6 @@
 use Rattle.std.proofs.Common.{◌≡◌, true, All, take}
 use Rattle.fab_graph.specs.Reach.{is_marked}
-use Rattle.fab_graph.specs.Search.{IsSearch}
+use Rattle.fab_graph.specs.inner.Search.{IsSearch}
 use Rattle.fab_graph.proofs.reaching.mark_starts.Given as goal
 
 abbrev pub invariant-loop-wire : goal.invariant-loop-wire

@@ -1,6 +1,6 @@
 use Rattle.std.proofs.Common.{◌≡◌, true, All}
 use Rattle.fab_graph.specs.Reach.{is_marked}
-use Rattle.fab_graph.specs.Search.{IsSearch, left_of}
+use Rattle.fab_graph.specs.inner.Search.{IsSearch, left_of}
 use Rattle.fab_graph.proofs.reaching.search.Given as goal
 
 abbrev pub invariant-turns : goal.invariant-turns

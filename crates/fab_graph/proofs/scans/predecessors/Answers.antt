@@ -7,7 +7,7 @@ use Rattle.fab_graph.proofs.scans.predecessors.Goals as goal
 
 pub wire_at-requires : goal.wire_at-requires
 wire_at-requires c =
-    end_within c.args.fabric.now true c.spot-x.result.0 c.spot-x.result.1 c.spot-x.result.2 c.args.index c.in-Ok.input c.pairs_at.result.now c.types-types.ensures.are_tiles c.spot-x.ensures.number c.pairs_at.ensures c.in-Ok.ensures
+    end_within c.args.fabric.now true c.spot-x.result.0 c.spot-x.result.1 c.spot-x.result.2 c.args.index c.in-Ok.input c.pairs_at.result.now c.is_well_made.ensures.are_tiles c.spot-x.ensures.number c.pairs_at.ensures c.in-Ok.ensures
 
 pub returns-in-Ok : goal.returns-in-Ok
 returns-in-Ok c =

@@ -4,7 +4,8 @@ use Rattle.fab_implementation.specs.Plain.{Pad, PlainTree, PlainImplementation}
 use Rattle.fab_implementation.specs.OnFabric.{HasSites}
 use Rattle.fab_texts.specs.Printed.{row_text, rows_text}
 use Rattle.fab_impl.specs.Lines.{Cell}
-use Rattle.fab_impl.specs.Spelled.{header, ending, cell_line, pad_line, tree_lines}
+use Rattle.fab_texts.specs.Sections.{ending}
+use Rattle.fab_impl.specs.Spelled.{header, cell_line, pad_line, tree_lines}
 use Rattle.fab_impl.proofs.Parts.{six_parts}
 use Rattle.fab_impl.proofs.writer.print.Goals as goal
 

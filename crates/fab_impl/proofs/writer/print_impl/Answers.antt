@@ -17,4 +17,4 @@ returns-clause-spells c =
 
 pub returns-clause-says : goal.returns-clause-says
 returns-clause-says c =
-    IfOk-weaker c.print.result _ _ (λ text spells has. spelled_is_read c.args.fabric.now c.types-types.ensures.is_fabric c.types-types.ensures.are_tiles (rows_of text.items) c.args.implementation.now (spells has)) (returns-clause-spells c)
+    IfOk-weaker c.print.result _ _ (λ text spells has. spelled_is_read c.args.fabric.now c.is_well_made.ensures.is_fabric c.is_well_made.ensures.are_tiles (rows_of text.items) c.args.implementation.now (spells has)) (returns-clause-spells c)

@@ -6,7 +6,7 @@ use Rattle.fab_models.specs.Plain.{plain_model, plain_models, plain_statement}
 use Rattle.fab_instances.specs.Formals.{HasPorts}
 use Rattle.fab_instances.specs.Order.{BreaksFormals, IsLeastFound}
 use Rattle.fab_instances.specs.Uses.{breaking_in, lines_before, soonest_of}
-use Rattle.fab_models.specs.Keys.{key_names}
+use Rattle.fab_bits.specs.Keys.{key_names}
 use Rattle.fab_instances.proofs.Fitting.{breaking_found}
 use Rattle.fab_instances.proofs.formals.breaking_of.Goals as goal
 

@@ -1,4 +1,4 @@
-use Rattle.fab_models.specs.Keys.{key_names}
+use Rattle.fab_bits.specs.Keys.{key_names}
 use Rattle.fab_instances.proofs.Naming.{same_more}
 use Rattle.fab_instances.proofs.formals.insert_names.Goals as goal
 

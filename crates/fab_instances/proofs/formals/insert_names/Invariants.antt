@@ -1,6 +1,6 @@
 use Rattle.std.proofs.Common.{◌++◌, take}
 use Rattle.fab_instances.specs.Formals.{SameNames}
-use Rattle.fab_models.specs.Keys.{key_names}
+use Rattle.fab_bits.specs.Keys.{key_names}
 use Rattle.fab_instances.proofs.formals.insert_names.Given as goal
 
 abbrev pub invariant-loop-name : goal.invariant-loop-name

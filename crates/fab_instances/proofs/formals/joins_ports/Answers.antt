@@ -1,6 +1,6 @@
 use Rattle.std.proofs.Common.{◌≡◌, ◌∙◌, ◌∷◌, ◌++◌, [], ap, sym, false, true, List, ℕ, length, rules}
 use Rattle.fab_instances.specs.Formals.{formal_of, joins_at, joins_new}
-use Rattle.fab_models.specs.Keys.{key_names}
+use Rattle.fab_bits.specs.Keys.{key_names}
 use Rattle.fab_instances.proofs.Fitting.{fits_broken, fits_more, formals_more, joins_here}
 use Rattle.fab_instances.proofs.formals.joins_ports.Goals as goal
 

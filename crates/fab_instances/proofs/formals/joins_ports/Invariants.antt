@@ -1,6 +1,6 @@
 use Rattle.std.proofs.Common.{◌≡◌, true, map, take}
 use Rattle.fab_instances.specs.Formals.{fits_before, formal_of}
-use Rattle.fab_models.specs.Keys.{key_names}
+use Rattle.fab_bits.specs.Keys.{key_names}
 use Rattle.fab_instances.proofs.formals.joins_ports.Given as goal
 
 abbrev pub invariant-loop-word : goal.invariant-loop-word

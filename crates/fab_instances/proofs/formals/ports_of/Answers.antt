@@ -1,6 +1,6 @@
 use Rattle.fab_models.specs.Plain.{PlainStatement, plain_statement}
 use Rattle.fab_instances.specs.Formals.{ports_by}
-use Rattle.fab_models.specs.Keys.{key_names}
+use Rattle.fab_bits.specs.Keys.{key_names}
 use Rattle.fab_instances.proofs.Naming.{same_held}
 use Rattle.fab_instances.proofs.formals.ports_of.Goals as goal
 

@@ -1,6 +1,6 @@
 use Rattle.std.proofs.Common.{◌∙◌, ◌∷◌, [], ap, arith, length, length-append, map}
 use Rattle.std.proofs.lemmas.List.{length-map, map-append}
-use Rattle.fab_models.specs.Keys.{key_names}
+use Rattle.fab_bits.specs.Keys.{key_names}
 use Rattle.fab_instances.proofs.Fitting.{ports_more}
 use Rattle.fab_instances.proofs.formals.ports_of_models.Goals as goal
 

@@ -1,7 +1,7 @@
 use Rattle.std.proofs.Common.{◌≡◌, ◌∙◌, ap, Global, not, List, ℕ}
 use Rattle.std.specs.Str.{bytes_eq}
 use Rattle.std.specs.List.{list_any}
-use Rattle.fab_models.specs.Keys.{key_names}
+use Rattle.fab_bits.specs.Keys.{key_names}
 use Rattle.fab_instances.proofs.Keys.{names_of_insert}
 use Rattle.fab_models.proofs.Sets.{any_of_names}
 use Rattle.fab_instances.proofs.names.insert_bytes.Goals as goal

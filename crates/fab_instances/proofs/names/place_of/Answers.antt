@@ -1,6 +1,6 @@
 use Rattle.std.proofs.Common.{◌∙◌, ap, position, List, ℕ}
 use Rattle.std.specs.Str.{bytes_eq}
-use Rattle.fab_models.specs.Keys.{key_names}
+use Rattle.fab_bits.specs.Keys.{key_names}
 use Rattle.fab_instances.proofs.Keys.{place_of_name}
 use Rattle.fab_instances.proofs.names.place_of.Goals as goal
 

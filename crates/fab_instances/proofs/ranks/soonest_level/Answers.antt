@@ -2,9 +2,9 @@ use Rattle.std.proofs.Common.{◌≡◌, ◌∙◌, ℕ, Bor, false, true, ap, a
 use Rattle.std.proofs.lemmas.List.{length-map}
 use Rattle.fab_base.specs.declared.name.Name.{Name}
 use Rattle.fab_models.specs.Plain.{plain_model, plain_models, plain_statement}
-use Rattle.fab_instances.specs.Ranks.{level_in}
+use Rattle.fab_instances.specs.inner.Ranks.{level_in}
 use Rattle.fab_instances.specs.Uses.{soonest_of}
-use Rattle.fab_models.specs.Keys.{key_names}
+use Rattle.fab_bits.specs.Keys.{key_names}
 use Rattle.fab_instances.proofs.Levels.{levels_done, levels_more, levels_skipped}
 use Rattle.fab_instances.proofs.Searching.{lines_here}
 use Rattle.fab_instances.proofs.ranks.soonest_level.Goals as goal

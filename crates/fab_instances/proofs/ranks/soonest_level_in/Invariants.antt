@@ -1,8 +1,8 @@
 use Rattle.std.proofs.Common.{◌≡◌, map, option_map, take}
 use Rattle.fab_models.specs.Plain.{plain_statement}
-use Rattle.fab_instances.specs.Ranks.{level_in}
+use Rattle.fab_instances.specs.inner.Ranks.{level_in}
 use Rattle.fab_instances.specs.Uses.{soonest_of}
-use Rattle.fab_models.specs.Keys.{key_names}
+use Rattle.fab_bits.specs.Keys.{key_names}
 use Rattle.fab_instances.proofs.ranks.soonest_level_in.Given as goal
 
 abbrev pub invariant-loop-line : goal.invariant-loop-line

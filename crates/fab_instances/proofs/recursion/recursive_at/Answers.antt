@@ -3,7 +3,7 @@ use Rattle.std.proofs.lemmas.List.{length-map}
 use Rattle.fab_models.specs.declared.model.Statement.{Statement}
 use Rattle.fab_models.specs.Plain.{plain_model, plain_models, plain_statement}
 use Rattle.fab_instances.specs.Uses.{lines_before}
-use Rattle.fab_models.specs.Keys.{key_names}
+use Rattle.fab_bits.specs.Keys.{key_names}
 use Rattle.fab_instances.proofs.Recursions.{recursive_found}
 use Rattle.fab_instances.proofs.recursion.recursive_at.Goals as goal
 

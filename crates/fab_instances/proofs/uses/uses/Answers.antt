@@ -5,7 +5,7 @@ use Rattle.std.proofs.lemmas.List.{length-map, with_items_is}
 use Rattle.fab_models.specs.Plain.{plain_model, plain_models, plain_statement}
 use Rattle.fab_instances.specs.Places.{statements_of}
 use Rattle.fab_instances.specs.Uses.{Marks, marked_all}
-use Rattle.fab_models.specs.Keys.{key_names}
+use Rattle.fab_bits.specs.Keys.{key_names}
 use Rattle.fab_instances.proofs.Searching.{Grown, Searched, grown_work, lines_here, listed_within, none_marked, search_begun, search_ended, search_next, stated}
 use Rattle.fab_instances.proofs.uses.uses.Goals as goal
 

@@ -1,5 +1,5 @@
 use Rattle.std.proofs.Common.{◌≡◌, ℕ, ◌<◌, get_or, Some, None, vec_len}
-use Rattle.fab_fabric.specs.declared.wire.Site.{Site}
+use Rattle.fab_implementation.specs.fab_fabric.specs.declared.wire.Site.{Site}
 use Rattle.fab_legal.proofs.lines.all_sites.Given as goal
 
 abbrev pub invariant-loop-number : goal.invariant-loop-number

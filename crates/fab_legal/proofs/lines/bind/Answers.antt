@@ -1,7 +1,7 @@
 use Rattle.std.proofs.Common.{List, Option, sym, ◌∙◌, subst, get_or}
 use Rattle.std.proofs.lemmas.Bool.{false≢true}
-use Rattle.fab_fabric.specs.declared.wire.Site.{Site}
-use Rattle.fab_legal.specs.Keeping.{FillsGap}
+use Rattle.fab_implementation.specs.fab_fabric.specs.declared.wire.Site.{Site}
+use Rattle.fab_legal.specs.inner.Keeping.{FillsGap}
 use Rattle.fab_legal.proofs.Noted.{noted_step, right_step, wrong_step, bound}
 use Rattle.fab_legal.proofs.lines.bind.Goals as goal
 

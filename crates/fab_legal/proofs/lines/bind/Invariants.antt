@@ -1,7 +1,7 @@
 use Rattle.std.proofs.Common.{take}
 use Rattle.fab_legal.specs.Turns.{FirstAreRight}
 use Rattle.fab_legal.specs.Lines.{IsRightLine}
-use Rattle.fab_legal.specs.Keeping.{AreNoted, Below}
+use Rattle.fab_legal.specs.inner.Keeping.{AreNoted, Below}
 use Rattle.fab_legal.proofs.lines.bind.Given as goal
 
 abbrev pub invariant-loop-place : goal.invariant-loop-place

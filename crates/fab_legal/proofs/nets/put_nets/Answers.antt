@@ -1,10 +1,10 @@
 use Rattle.std.proofs.Common.{◌≡◌, List, get_or, refl, sym, ap, ◌∙◌, subst}
 use Rattle.std.proofs.lemmas.Bool.{false≢true}
-use Rattle.fab_netlist.specs.Plain.{IsAt}
+use Rattle.fab_implementation.specs.fab_netlist.specs.Plain.{IsAt}
 use Rattle.fab_implementation.specs.Plain.{Edge, PlainTree, PlainImplementation}
 use Rattle.fab_legal.specs.Nets.{net_of}
 use Rattle.fab_legal.specs.Broken.{IsNetItem, net_text}
-use Rattle.fab_legal.specs.Roots.{IsNewNet, packed_id}
+use Rattle.fab_legal.specs.inner.Roots.{IsNewNet, packed_id}
 use Rattle.fab_legal.proofs.Lists.{at_read}
 use Rattle.fab_legal.proofs.Cells.{breaks_by}
 use Rattle.fab_legal.proofs.SinkLists.{have_kinds}

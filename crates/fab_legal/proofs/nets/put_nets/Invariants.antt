@@ -1,7 +1,7 @@
 use Rattle.std.proofs.Common.{◌≡◌, map, take}
 use Rattle.fab_legal.specs.Turns.{FirstAreRight}
 use Rattle.fab_legal.specs.Nets.{IsRightNet}
-use Rattle.fab_legal.specs.Roots.{tree_number}
+use Rattle.fab_legal.specs.inner.Roots.{tree_number}
 use Rattle.fab_legal.proofs.nets.put_nets.Given as goal
 
 abbrev pub invariant-loop-tree : goal.invariant-loop-tree

@@ -1,7 +1,7 @@
 use Rattle.std.proofs.Common.{get_or, nat_eq, sym, ◌∙◌, inl}
 use Rattle.std.proofs.lemmas.Bool.Decides.{Decides-eqb}
 use Rattle.fab_implementation.specs.Plain.{Edge}
-use Rattle.fab_legal.specs.Roots.{IsStart}
+use Rattle.fab_legal.specs.inner.Roots.{IsStart}
 use Rattle.fab_legal.proofs.Lists.{at_default, right_more}
 use Rattle.fab_legal.proofs.Sets.{any_in}
 use Rattle.fab_legal.proofs.nets.wrong_start.Goals as goal

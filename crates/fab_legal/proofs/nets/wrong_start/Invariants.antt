@@ -1,5 +1,5 @@
 use Rattle.fab_legal.specs.Turns.{FirstAreRight}
-use Rattle.fab_legal.specs.Roots.{IsStart}
+use Rattle.fab_legal.specs.inner.Roots.{IsStart}
 use Rattle.fab_legal.proofs.nets.wrong_start.Given as goal
 
 abbrev pub invariant-loop-place : goal.invariant-loop-place

@@ -1,10 +1,10 @@
 use Rattle.std.proofs.Common.{◌≢◌, ℕ, List, AllPairs, sym, ◌∙◌, ap, subst}
-use Rattle.fab_netlist.specs.Packed.{PlainPacked}
+use Rattle.fab_implementation.specs.fab_netlist.specs.Packed.{PlainPacked}
 use Rattle.fab_implementation.specs.Plain.{PlainImplementation}
 use Rattle.fab_legal.specs.WellMade.{output_ports}
-use Rattle.fab_legal.specs.Keeping.{BindsPads}
+use Rattle.fab_legal.specs.inner.Keeping.{BindsPads}
 use Rattle.std.proofs.lemmas.Result.{IfOk-weaker}
-use Rattle.fab_model.specs.Numbering.{key_names}
+use Rattle.fab_bits.specs.Keys.{key_names}
 use Rattle.fab_legal.proofs.Bindings.{differ_left, moved_pads}
 use Rattle.fab_legal.proofs.placed.bind_ins.Goals as goal
 

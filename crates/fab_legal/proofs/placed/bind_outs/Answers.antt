@@ -1,11 +1,11 @@
 use Rattle.std.proofs.Common.{◌≢◌, ℕ, List, map, AllPairs, sym, ◌∙◌, ap, subst}
 use Rattle.std.proofs.lemmas.Result.{IfOk-weaker}
-use Rattle.fab_model.specs.Numbering.{key_names}
-use Rattle.fab_netlist.specs.declared.net_id.NetId.{NetId}
-use Rattle.fab_netlist.specs.Packed.{PlainPacked}
+use Rattle.fab_bits.specs.Keys.{key_names}
+use Rattle.fab_implementation.specs.fab_netlist.specs.declared.net_id.NetId.{NetId}
+use Rattle.fab_implementation.specs.fab_netlist.specs.Packed.{PlainPacked}
 use Rattle.fab_implementation.specs.Plain.{PlainImplementation}
 use Rattle.fab_legal.specs.WellMade.{output_name, output_ports}
-use Rattle.fab_legal.specs.Keeping.{BindsPads}
+use Rattle.fab_legal.specs.inner.Keeping.{BindsPads}
 use Rattle.fab_legal.proofs.Bindings.{differ_right, moved_pads}
 use Rattle.fab_legal.proofs.placed.bind_outs.Goals as goal
 

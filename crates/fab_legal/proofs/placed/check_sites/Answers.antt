@@ -1,4 +1,5 @@
-use Rattle.fab_legal.specs.Broken.{IsSiteItem, site_text}
+use Rattle.fab_implementation.specs.fab_fabric.specs.Names.{site_text}
+use Rattle.fab_legal.specs.Broken.{IsSiteItem}
 use Rattle.fab_legal.proofs.Cells.{breaks_by, site_broken}
 use Rattle.fab_legal.proofs.placed.check_sites.Goals as goal
 

@@ -1,6 +1,6 @@
 use Rattle.std.proofs.Common.{◌≡◌, true, false, take, get_or, sym, ◌∙◌}
 use Rattle.std.specs.List.{list_any}
-use Rattle.fab_fabric.specs.declared.wire.Site.{Site}
+use Rattle.fab_implementation.specs.fab_fabric.specs.declared.wire.Site.{Site}
 use Rattle.fab_legal.specs.Lines.{IsNew}
 use Rattle.fab_legal.proofs.Lists.{at_default, right_more, wrong_here}
 use Rattle.fab_legal.proofs.SiteKeys.{site_test, site_seen, site_new, keys_more}

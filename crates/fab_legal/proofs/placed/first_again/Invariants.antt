@@ -1,7 +1,7 @@
 use Rattle.std.proofs.Common.{◌≡◌, map, take}
 use Rattle.fab_legal.specs.Turns.{FirstAreRight}
 use Rattle.fab_legal.specs.Lines.{IsNew}
-use Rattle.fab_legal.specs.Kept.{site_key}
+use Rattle.fab_legal.specs.inner.Kept.{site_key}
 use Rattle.fab_legal.proofs.placed.first_again.Given as goal
 
 abbrev pub invariant-loop-place : goal.invariant-loop-place

@@ -18,7 +18,7 @@ returns-in_err-cells-clause-err c =
     rw (told.1, told.2) (explained f p x i 1 (IsCellItem f p i) c.in_err-cells.field-0.0 (λ item breaks. rule_1 breaks) c.in_err-cells.ensures.err)
 
 pub check_sites-requires : goal.check_sites-requires
-check_sites-requires c = low_sites c.args.fabric.now c.args.implementation.now c.types-types.ensures.is_fabric c.requires.on_fabric
+check_sites-requires c = low_sites c.args.fabric.now c.args.implementation.now c.is_well_made.ensures.is_fabric c.requires.on_fabric
 
 pub returns-in_err-check_sites-clause-err : goal.returns-in_err-check_sites-clause-err
 returns-in_err-check_sites-clause-err c =

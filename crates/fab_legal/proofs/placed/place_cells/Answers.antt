@@ -1,5 +1,5 @@
 use Rattle.std.proofs.Common.{◌≡◌, length, ◌∙◌, ap, arith}
-use Rattle.fab_netlist.specs.Packed.{PlainPacked}
+use Rattle.fab_implementation.specs.fab_netlist.specs.Packed.{PlainPacked}
 use Rattle.fab_implementation.specs.Plain.{PlainImplementation}
 use Rattle.fab_legal.specs.Broken.{cell_text, IsCellItem}
 use Rattle.fab_legal.proofs.Cells.{breaks_by, cells_bound, cell_wrong, cell_unnamed}

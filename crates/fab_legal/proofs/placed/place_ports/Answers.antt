@@ -1,7 +1,7 @@
 use Rattle.std.proofs.Common.{subst}
 use Rattle.fab_legal.specs.WellMade.{output_ports}
 use Rattle.fab_legal.specs.Broken.{IsPortItem}
-use Rattle.fab_legal.specs.Keeping.{BindsPads}
+use Rattle.fab_legal.specs.inner.Keeping.{BindsPads}
 use Rattle.fab_legal.specs.declared.ports.PadBinding.{PadBinding}
 use Rattle.fab_legal.proofs.Bindings.{port_broken, within}
 use Rattle.fab_legal.proofs.Cells.{breaks_by}

@@ -1,5 +1,5 @@
 use Rattle.fab_legal.specs.Turns.{FirstAreRight}
-use Rattle.fab_legal.specs.Kept.{HasOne}
+use Rattle.fab_legal.specs.inner.Kept.{HasOne}
 use Rattle.fab_legal.proofs.placed.wrong_pad.Given as goal
 
 abbrev pub invariant-loop-place : goal.invariant-loop-place

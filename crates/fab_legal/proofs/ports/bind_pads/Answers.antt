@@ -1,5 +1,5 @@
 use Rattle.std.proofs.Common.{◌∙◌, refl}
-use Rattle.fab_model.specs.Numbering.{key_names}
+use Rattle.fab_bits.specs.Keys.{key_names}
 use Rattle.fab_legal.proofs.PortNumbers.{bound_names, wrong_names, unnamed_names, as_many_names}
 use Rattle.fab_legal.proofs.ports.bind_pads.Goals as goal
 

@@ -1,6 +1,6 @@
 use Rattle.std.proofs.Common.{◌≡◌, map, take}
-use Rattle.fab_model.specs.Numbering.{key_names}
-use Rattle.fab_legal.specs.Keeping.{numbered_pad}
+use Rattle.fab_bits.specs.Keys.{key_names}
+use Rattle.fab_legal.specs.inner.Keeping.{numbered_pad}
 use Rattle.fab_legal.proofs.ports.numbered.Given as goal
 
 abbrev pub invariant-loop-name : goal.invariant-loop-name

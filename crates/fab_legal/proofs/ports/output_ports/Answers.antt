@@ -2,8 +2,8 @@ use Rattle.std.proofs.Common.{List, ℕ, [], map, ◌∙◌, ap}
 use Rattle.std.proofs.lemmas.List.{take_all}
 use Rattle.std.specs.Str.{bytes_eq}
 use Rattle.indexmap.specs.IndexSet.{insert_all}
-use Rattle.fab_model.proofs.Inserts.{all_inserted}
-use Rattle.fab_netlist.specs.declared.net_id.NetId.{NetId}
+use Rattle.fab_implementation.specs.fab_model.proofs.Inserts.{all_inserted}
+use Rattle.fab_implementation.specs.fab_netlist.specs.declared.net_id.NetId.{NetId}
 use Rattle.fab_legal.specs.WellMade.{output_name}
 use Rattle.fab_legal.proofs.ports.output_ports.Goals as goal
 

@@ -1,7 +1,7 @@
 use Rattle.std.proofs.Common.{◌≡◌, [], map, take}
 use Rattle.std.specs.Str.{bytes_eq}
 use Rattle.indexmap.specs.IndexSet.{insert_all}
-use Rattle.fab_model.specs.Numbering.{key_names}
+use Rattle.fab_bits.specs.Keys.{key_names}
 use Rattle.fab_legal.specs.WellMade.{output_name}
 use Rattle.fab_legal.proofs.ports.output_ports.Given as goal
 

@@ -1,8 +1,8 @@
 use Rattle.std.proofs.Common.{List, ℕ, ◌∙◌, ap}
 use Rattle.std.specs.Str.{bytes_eq}
 use Rattle.indexmap.specs.IndexSet.{insert_key}
-use Rattle.fab_model.specs.Numbering.{key_names}
-use Rattle.fab_model.proofs.Inserts.{names_of_insert}
+use Rattle.fab_bits.specs.Keys.{key_names}
+use Rattle.fab_implementation.specs.fab_model.proofs.Inserts.{names_of_insert}
 use Rattle.fab_legal.proofs.ports.put_port.Goals as goal
 
 pub returns : goal.returns

@@ -1,5 +1,5 @@
 use Rattle.std.proofs.Common.{get_or, nat_eq}
-use Rattle.fab_legal.specs.Tables.{entered_number}
+use Rattle.fab_legal.specs.inner.Tables.{entered_number}
 use Rattle.fab_legal.proofs.Lists.{at_default}
 use Rattle.fab_legal.proofs.Sets.{keys_more}
 use Rattle.fab_legal.proofs.reach.entered.Goals as goal

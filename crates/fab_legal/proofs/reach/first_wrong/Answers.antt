@@ -1,7 +1,7 @@
 use Rattle.std.proofs.Common.{get_or, nat_eq, sym, ◌∙◌}
 use Rattle.fab_implementation.specs.Plain.{Edge}
 use Rattle.fab_legal.specs.Nets.{IsRightEntry}
-use Rattle.fab_legal.specs.Tables.{entered_number}
+use Rattle.fab_legal.specs.inner.Tables.{entered_number}
 use Rattle.fab_legal.proofs.Lists.{at_default, right_more, wrong_here}
 use Rattle.fab_legal.proofs.Sets.{keys_more}
 use Rattle.fab_legal.proofs.ReachSearch.{entered_again, not_reached, entry_right}

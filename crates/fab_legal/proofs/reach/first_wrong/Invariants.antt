@@ -2,7 +2,7 @@ use Rattle.std.proofs.Common.{◌≡◌, [], map, take, nat_eq}
 use Rattle.indexmap.specs.IndexSet.{insert_all}
 use Rattle.fab_legal.specs.Turns.{FirstAreRight}
 use Rattle.fab_legal.specs.Nets.{IsRightEntry}
-use Rattle.fab_legal.specs.Tables.{entered_number}
+use Rattle.fab_legal.specs.inner.Tables.{entered_number}
 use Rattle.fab_legal.proofs.reach.first_wrong.Given as goal
 
 abbrev pub invariant-loop-place : goal.invariant-loop-place

@@ -1,7 +1,7 @@
 use Rattle.std.proofs.Common.{◌<◌, ◌++◌, ◌∷◌, [], List, ℕ, get_or, length, sym, ap, ◌∙◌, arith}
 use Rattle.std.proofs.lemmas.List.{length-set}
 use Rattle.fab_implementation.specs.Plain.{Edge}
-use Rattle.fab_legal.specs.Tables.{left_number, entered_number}
+use Rattle.fab_legal.specs.inner.Tables.{left_number, entered_number}
 use Rattle.fab_legal.proofs.Lists.{at_default}
 use Rattle.fab_legal.proofs.ReachSearch.{found_place, no_place, group_read, groups_more, number_place, left_in}
 use Rattle.fab_legal.proofs.reach.groups.Goals as goal

@@ -1,5 +1,5 @@
 use Rattle.std.proofs.Common.{◌≡◌, ℕ, length, take}
-use Rattle.fab_legal.specs.Tables.{group_at, targets}
+use Rattle.fab_legal.specs.inner.Tables.{group_at, targets}
 use Rattle.fab_legal.proofs.reach.groups.Given as goal
 
 abbrev pub invariant-loop-edge : goal.invariant-loop-edge

@@ -1,6 +1,6 @@
 use Rattle.std.proofs.Common.{◌≡◌, [], map, take, nat_eq}
 use Rattle.indexmap.specs.IndexSet.{insert_all}
-use Rattle.fab_legal.specs.Tables.{left_number}
+use Rattle.fab_legal.specs.inner.Tables.{left_number}
 use Rattle.fab_legal.proofs.reach.left.Given as goal
 
 abbrev pub invariant-loop-edge : goal.invariant-loop-edge

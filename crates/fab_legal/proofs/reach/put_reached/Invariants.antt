@@ -1,5 +1,5 @@
 use Rattle.std.proofs.Common.{◌+◌, ◌-◌, length}
-use Rattle.fab_legal.specs.Tables.{missing}
+use Rattle.fab_legal.specs.inner.Tables.{missing}
 use Rattle.fab_legal.proofs.ReachSearch.{Searching}
 use Rattle.fab_legal.proofs.reach.put_reached.Given as goal
 

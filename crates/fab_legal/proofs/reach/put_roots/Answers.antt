@@ -1,5 +1,5 @@
 use Rattle.std.proofs.Common.{◌+◌, List, ℕ, get_or, take, sym, ◌∙◌, subst}
-use Rattle.fab_legal.specs.Tables.{IsRootSet}
+use Rattle.fab_legal.specs.inner.Tables.{IsRootSet}
 use Rattle.fab_legal.proofs.Lists.{at_default}
 use Rattle.fab_legal.proofs.ReachSearch.{no_root, root_more}
 use Rattle.fab_legal.proofs.reach.put_roots.Goals as goal

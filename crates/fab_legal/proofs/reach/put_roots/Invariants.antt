@@ -1,5 +1,5 @@
 use Rattle.std.proofs.Common.{take}
-use Rattle.fab_legal.specs.Tables.{IsRootSet}
+use Rattle.fab_legal.specs.inner.Tables.{IsRootSet}
 use Rattle.fab_legal.proofs.reach.put_roots.Given as goal
 
 abbrev pub invariant-loop-wire : goal.invariant-loop-wire

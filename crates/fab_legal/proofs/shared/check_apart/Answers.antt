@@ -1,6 +1,6 @@
 use Rattle.std.proofs.Common.{◌≡◌, ℕ, List, Option, map, refl, ap, ◌∙◌, subst}
 use Rattle.fab_legal.specs.Broken.{IsSharedItem}
-use Rattle.fab_legal.specs.Tables.{key_lists, tree_numbers, IsLeast, IsShared}
+use Rattle.fab_legal.specs.inner.Tables.{key_lists, tree_numbers, IsLeast, IsShared}
 use Rattle.fab_legal.proofs.Cells.{breaks_by}
 use Rattle.fab_legal.proofs.SinkStands.{not_shared_apart, shared_item, shared_within}
 use Rattle.fab_legal.proofs.shared.check_apart.Goals as goal

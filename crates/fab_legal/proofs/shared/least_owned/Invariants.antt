@@ -1,5 +1,5 @@
 use Rattle.std.proofs.Common.{◌≡◌, take, fold}
-use Rattle.fab_legal.specs.Tables.{keep_least}
+use Rattle.fab_legal.specs.inner.Tables.{keep_least}
 use Rattle.fab_legal.proofs.shared.least_owned.Given as goal
 
 abbrev pub invariant-loop-wire : goal.invariant-loop-wire

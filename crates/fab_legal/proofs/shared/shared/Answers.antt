@@ -1,5 +1,5 @@
 use Rattle.std.proofs.Common.{◌+◌, ℕ, List, Option, sym, subst}
-use Rattle.fab_legal.specs.Tables.{key_lists, IsLeast}
+use Rattle.fab_legal.specs.inner.Tables.{key_lists, IsLeast}
 use Rattle.fab_legal.proofs.SharedWires.{SharedBelow, Owns, owns_more, shared_more, shared_all, keys_read, as_many_lists}
 use Rattle.fab_legal.proofs.shared.shared.Goals as goal
 

@@ -1,4 +1,4 @@
-use Rattle.fab_legal.specs.Tables.{key_lists, IsLeast}
+use Rattle.fab_legal.specs.inner.Tables.{key_lists, IsLeast}
 use Rattle.fab_legal.proofs.SharedWires.{SharedBelow, Owns}
 use Rattle.fab_legal.proofs.shared.shared.Given as goal
 

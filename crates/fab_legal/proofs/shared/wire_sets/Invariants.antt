@@ -1,5 +1,5 @@
 use Rattle.std.proofs.Common.{take}
-use Rattle.fab_legal.specs.Tables.{key_lists, HaveWires}
+use Rattle.fab_legal.specs.inner.Tables.{key_lists, HaveWires}
 use Rattle.fab_legal.proofs.shared.wire_sets.Given as goal
 
 abbrev pub invariant-loop-tree : goal.invariant-loop-tree

@@ -1,6 +1,6 @@
 use Rattle.std.proofs.Common.{◌≡◌, ◌++◌, take}
 use Rattle.fab_legal.specs.Sinks.{cells_sinks}
-use Rattle.fab_legal.specs.Kept.{site_at}
+use Rattle.fab_legal.specs.inner.Kept.{site_at}
 use Rattle.fab_legal.proofs.sinks.put_cells.Given as goal
 
 abbrev pub invariant-loop-number : goal.invariant-loop-number

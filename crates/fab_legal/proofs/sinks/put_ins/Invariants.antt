@@ -1,6 +1,6 @@
 use Rattle.std.proofs.Common.{◌≡◌, ◌++◌, take}
 use Rattle.std.specs.List.{flat_map}
-use Rattle.fab_legal.specs.Kept.{in_sinks}
+use Rattle.fab_legal.specs.inner.Kept.{in_sinks}
 use Rattle.fab_legal.proofs.sinks.put_ins.Given as goal
 
 abbrev pub invariant-loop-site : goal.invariant-loop-site

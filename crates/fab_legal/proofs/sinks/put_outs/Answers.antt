@@ -1,4 +1,4 @@
-use Rattle.fab_legal.specs.Kept.{site_at}
+use Rattle.fab_legal.specs.inner.Kept.{site_at}
 use Rattle.fab_legal.proofs.Lists.{at_read}
 use Rattle.fab_legal.proofs.SinkLists.{outs_step}
 use Rattle.fab_legal.proofs.sinks.put_outs.Goals as goal

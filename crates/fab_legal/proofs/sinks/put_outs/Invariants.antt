@@ -1,5 +1,5 @@
 use Rattle.std.proofs.Common.{◌≡◌, ◌++◌, take}
-use Rattle.fab_legal.specs.Kept.{site_at, outs_sinks}
+use Rattle.fab_legal.specs.inner.Kept.{site_at, outs_sinks}
 use Rattle.fab_legal.proofs.sinks.put_outs.Given as goal
 
 abbrev pub invariant-loop-number : goal.invariant-loop-number

@@ -1,10 +1,10 @@
 use Rattle.std.proofs.Common.{◌≡◌, ◌∙◌, ◌<◌, All, Vec, Global, subst, sym}
 use Rattle.std.proofs.lemmas.Result.{IfOk-weaker}
-use Rattle.fab_fabric.specs.declared.wire.Wire.{Wire}
-use Rattle.fab_netlist.specs.declared.net_id.NetId.{NetId}
-use Rattle.fab_fabric.specs.Fabric.{wire_count}
+use Rattle.fab_implementation.specs.fab_fabric.specs.declared.wire.Wire.{Wire}
+use Rattle.fab_implementation.specs.fab_netlist.specs.declared.net_id.NetId.{NetId}
+use Rattle.fab_implementation.specs.fab_fabric.specs.Fabric.{wire_count}
 use Rattle.fab_legal.specs.Sinks.{Sinks, sinks}
-use Rattle.fab_legal.specs.Kept.{sinks_by}
+use Rattle.fab_legal.specs.inner.Kept.{sinks_by}
 use Rattle.fab_legal.proofs.SinkLaw.{sinks_within}
 use Rattle.fab_legal.proofs.SinkLists.{have_kinds, sinks_are}
 use Rattle.fab_legal.proofs.sinks.required.Goals as goal

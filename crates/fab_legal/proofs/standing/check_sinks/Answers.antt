@@ -3,8 +3,8 @@ use Rattle.fab_implementation.specs.Plain.{PlainTree, PlainImplementation}
 use Rattle.fab_legal.specs.Turns.{AreRight, IsFirstWrongAt}
 use Rattle.fab_legal.specs.Sinks.{Sinks, sinks}
 use Rattle.fab_legal.specs.Broken.{IsSinkItem}
-use Rattle.fab_legal.specs.Tables.{key_lists, tree_numbers}
-use Rattle.fab_legal.specs.Standing.{SinkStands}
+use Rattle.fab_legal.specs.inner.Tables.{key_lists, tree_numbers}
+use Rattle.fab_legal.specs.inner.Standing.{SinkStands}
 use Rattle.fab_legal.proofs.Cells.{breaks_by}
 use Rattle.fab_legal.proofs.SinkLists.{have_kinds, sinks_are}
 use Rattle.fab_legal.proofs.SinkStands.{sinks_stand, sink_item, sink_within}

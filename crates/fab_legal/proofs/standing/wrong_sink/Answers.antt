@@ -1,10 +1,10 @@
 use Rattle.std.proofs.Common.{get_or, sym, ◌∙◌}
 use Rattle.std.proofs.lemmas.Bool.{false≢true}
-use Rattle.fab_fabric.specs.declared.wire.Wire.{Wire}
-use Rattle.fab_netlist.specs.declared.net_id.NetId.{NetId}
-use Rattle.fab_netlist.specs.declared.net_id.NetId.TheVariants as ids
-use Rattle.fab_legal.specs.Tables.{key_lists}
-use Rattle.fab_legal.specs.Standing.{SinkStands}
+use Rattle.fab_implementation.specs.fab_fabric.specs.declared.wire.Wire.{Wire}
+use Rattle.fab_implementation.specs.fab_netlist.specs.declared.net_id.NetId.{NetId}
+use Rattle.fab_implementation.specs.fab_netlist.specs.declared.net_id.NetId.TheVariants as ids
+use Rattle.fab_legal.specs.inner.Tables.{key_lists}
+use Rattle.fab_legal.specs.inner.Standing.{SinkStands}
 use Rattle.fab_legal.proofs.Lists.{at_default, right_more, wrong_here}
 use Rattle.fab_legal.proofs.standing.wrong_sink.Goals as goal
 

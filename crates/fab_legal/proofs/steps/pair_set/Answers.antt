@@ -1,6 +1,6 @@
 use Rattle.std.proofs.Common.{get_or}
-use Rattle.fab_model.specs.Tiles.{pair_numbers}
-use Rattle.fab_legal.specs.Tables.{same_pair}
+use Rattle.fab_implementation.specs.fab_model.specs.Tiles.{pair_numbers}
+use Rattle.fab_legal.specs.inner.Tables.{same_pair}
 use Rattle.fab_legal.proofs.Lists.{at_default}
 use Rattle.fab_legal.proofs.Sets.{keys_more}
 use Rattle.fab_legal.proofs.steps.pair_set.Goals as goal

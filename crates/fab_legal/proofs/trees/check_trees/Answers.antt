@@ -6,7 +6,7 @@ use Rattle.fab_legal.specs.Turns.{AreRight}
 use Rattle.fab_legal.specs.Nets.{IsRightStep, IsRightEntry}
 use Rattle.fab_legal.specs.Legal.{HasRightSteps, HasRightEntries}
 use Rattle.fab_legal.specs.Broken.{IsEdgeItem, IsStepItem, IsEntryItem, IsNetItem, IsSinkItem, IsSharedItem, Explains, rule_5, rule_6, rule_7, rule_8, rule_9}
-use Rattle.fab_legal.specs.Answers.{Breaks}
+use Rattle.fab_legal.specs.inner.Answers.{Breaks}
 use Rattle.fab_legal.proofs.Cells.{explained}
 use Rattle.fab_legal.proofs.trees.check_trees.Goals as goal
 

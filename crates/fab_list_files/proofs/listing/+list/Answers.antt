@@ -6,7 +6,7 @@ use Rattle.fab_rows.specs.Rows.{PlainRow, rows_of}
 use Rattle.fab_files.specs.Files.{MeetsFile, handed_out}
 use Rattle.fab_desk.specs.Files.{Map}
 use Rattle.fab_list_files.specs.Lists.{deed_of, Knowledge, ReadsList, MeetsList, MeetsListFile, of_file, of_rows}
-use Rattle.fab_list_files.specs.Following.{Leads, MeetsRow}
+use Rattle.fab_list_files.specs.inner.Following.{Leads, MeetsRow}
 use Rattle.fab_list_files.proofs.Rows.{cause_at, adds_lead, opens_lead, opens_meets, bad_meets, leads_further, leads_to_end, leads_to_event, drop_next}
 use Rattle.fab_files.proofs.Causes.{cause_weaker}
 use Rattle.fab_list_files.proofs.Supported.{row_supported}

@@ -1,6 +1,6 @@
 use Rattle.std.proofs.Common.{◌≡◌, ◌≤◌, ◌+◌, ◌*◌, drop}
 use Rattle.std.specs.Option.{ForSome}
-use Rattle.fab_list_files.specs.Following.{LeadsOn}
+use Rattle.fab_list_files.specs.inner.Following.{LeadsOn}
 use Rattle.fab_list_files.proofs.listing.+list.Given as goal
 
 -- a row opens a file with one less to open, and each file is its rows

@@ -1,7 +1,7 @@
 use Rattle.std.proofs.Common.{◌∙◌, ap}
 use Rattle.std.specs.Str.{bytes_eq}
 use Rattle.std.specs.List.{list_any}
-use Rattle.fab_list_files.specs.Keys.{key_names}
+use Rattle.fab_bits.specs.Keys.{key_names}
 use Rattle.fab_list_files.proofs.Names.{any_of_names}
 use Rattle.fab_list_files.proofs.matrix_pairs.has_name.Goals as goal
 

@@ -6,7 +6,8 @@ use Rattle.fab_base.specs.Reading.{IsFaultOr, fault_at}
 use Rattle.fab_desk.specs.Files.{Map}
 use Rattle.fab_rows.specs.Rows.{rows_of}
 use Rattle.fab_tables.specs.Lists.{Pair}
-use Rattle.fab_files.specs.Files.{MeetsFile, handed_out, last_line}
+use Rattle.fab_lines.specs.Counts.{last_line}
+use Rattle.fab_files.specs.Files.{MeetsFile, handed_out}
 use Rattle.fab_list_files.specs.Lists.{most_open, ReadsList, MeetsList, ReadsListFile, of_file, of_rows}
 use Rattle.fab_list_files.specs.Sides.{on_both_sides, crowd, crowd_limit, most_inputs, MeetsPairs, of_list, of_crowd}
 use Rattle.fab_list_files.proofs.Rows.{limit_cause}

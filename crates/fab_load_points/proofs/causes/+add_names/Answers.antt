@@ -6,7 +6,7 @@ use Rattle.fab_syntax.specs.declared.tree.Expr.{Expr}
 use Rattle.fab_syntax.specs.Plain.{PlainExpr, pick, concatenation, complement, operation, conditional, plain_expr, plain_exprs, plain_text}
 use Rattle.fab_syntax.proofs.Plain.{plain_concatenation}
 use Rattle.fab_meaning.specs.Reads.{mentions, some_mentions}
-use Rattle.fab_load_points.specs.Causes.{AddsNames}
+use Rattle.fab_load_points.specs.inner.Causes.{AddsNames}
 use Rattle.fab_load_points.proofs.Reading.{none_added, both_added, on_ok}
 use Rattle.fab_load_points.proofs.causes.+add_names.Goals as goal
 

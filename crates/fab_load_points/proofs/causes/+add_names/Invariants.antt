@@ -3,7 +3,7 @@ use Rattle.fab_syntax.specs.Plain.{plain_expr, plain_exprs, plain_text}
 use Rattle.fab_meaning.specs.Reads.{some_mentions}
 use Rattle.fab_equations.specs.Instances.{Instance}
 use Rattle.fab_equations.specs.Numbering.{IsNumbered}
-use Rattle.fab_load_points.specs.Causes.{AddsNames}
+use Rattle.fab_load_points.specs.inner.Causes.{AddsNames}
 use Rattle.fab_load_points.proofs.causes.+add_names.Given as goal
 
 -- with the names of the parts that are left all are added

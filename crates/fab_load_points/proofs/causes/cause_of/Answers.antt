@@ -2,7 +2,7 @@ use Rattle.std.proofs.Common.{◌≡◌, ℕ, List, [], ◌∷◌, ◌++◌, ap,
 use Rattle.fab_syntax.specs.Plain.{plain_text}
 use Rattle.fab_meaning.specs.Reads.{mentions}
 use Rattle.fab_equations.specs.declared.driver.Driver.TheVariants.{Outside, Same, Value, Flop, Hold}
-use Rattle.fab_load_points.specs.Causes.{AddsNames}
+use Rattle.fab_load_points.specs.inner.Causes.{AddsNames}
 use Rattle.fab_load_points.proofs.Reading.{means_so, flop_cause, copy_cause, value_cause, hold_cause, same_within, value_within, hold_within}
 use Rattle.fab_load_points.proofs.causes.cause_of.Goals as goal
 

@@ -1,7 +1,7 @@
 use Rattle.std.proofs.Common.{ℕ, List, subst}
 use Rattle.fab_syntax.specs.Plain.{plain_text}
 use Rattle.fab_meaning.specs.Reads.{mentions}
-use Rattle.fab_load_points.specs.Causes.{AddsNames}
+use Rattle.fab_load_points.specs.inner.Causes.{AddsNames}
 use Rattle.fab_load_points.proofs.Reading.{expression_found}
 use Rattle.fab_load_points.proofs.causes.source_reads.Goals as goal
 

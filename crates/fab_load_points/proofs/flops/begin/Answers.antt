@@ -2,7 +2,7 @@ use Rattle.std.proofs.Common.{rules, ◌≡◌, List, length, take, set, slice_i
 use Rattle.std.proofs.lemmas.List.{length-set, take_more}
 use Rattle.fab_syntax.specs.Plain.{plain_text}
 use Rattle.fab_equations.specs.Instances.{points}
-use Rattle.fab_load_points.specs.Flops.{AreBegun}
+use Rattle.fab_load_points.specs.inner.Flops.{AreBegun}
 use Rattle.fab_load_points.specs.declared.flops.Flop.{Flop}
 use Rattle.fab_load_points.specs.declared.search.Status.TheVariants.{Inside}
 use Rattle.fab_load_points.proofs.Rounds.{flop_at, name_within, begun_more}

@@ -1,6 +1,6 @@
 use Rattle.std.proofs.Common.{◌≡◌, length}
 use Rattle.std.proofs.Common.{take}
-use Rattle.fab_load_points.specs.Flops.{AreBegun}
+use Rattle.fab_load_points.specs.inner.Flops.{AreBegun}
 use Rattle.fab_load_points.proofs.flops.begin.Given as goal
 
 abbrev pub invariant-loop-flop : goal.invariant-loop-flop

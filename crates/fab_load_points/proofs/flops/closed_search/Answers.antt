@@ -1,6 +1,6 @@
 use Rattle.std.proofs.Common.{◌≡◌, true, List, sym, subst}
 use Rattle.fab_syntax.specs.Plain.{plain_text}
-use Rattle.fab_load_points.specs.Flops.{among, AreLoaderFlops, HoldsClosed}
+use Rattle.fab_load_points.specs.inner.Flops.{among, AreLoaderFlops, HoldsClosed}
 use Rattle.fab_load_points.specs.declared.flops.Flop.{Flop}
 use Rattle.fab_load_points.proofs.Rounds.{loaders_reversed, holds_reversed}
 use Rattle.fab_load_points.proofs.flops.closed_search.Goals as goal

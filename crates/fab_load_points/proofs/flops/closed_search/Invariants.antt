@@ -1,6 +1,6 @@
 use Rattle.std.proofs.Common.{length}
 use Rattle.fab_syntax.specs.Plain.{plain_text}
-use Rattle.fab_load_points.specs.Flops.{among, AreLoaderFlops, HoldsClosed}
+use Rattle.fab_load_points.specs.inner.Flops.{among, AreLoaderFlops, HoldsClosed}
 use Rattle.fab_load_points.proofs.flops.closed_search.Given as goal
 
 abbrev pub invariant-rounds : goal.invariant-rounds

@@ -3,7 +3,7 @@ use Rattle.std.proofs.lemmas.List.{length-set}
 use Rattle.std.proofs.lemmas.Option.{slice_get-get_or}
 use Rattle.fab_syntax.specs.Plain.{plain_text}
 use Rattle.fab_equations.specs.Instances.{points}
-use Rattle.fab_load_points.specs.Flops.{Looks}
+use Rattle.fab_load_points.specs.inner.Flops.{Looks}
 use Rattle.fab_load_points.specs.declared.flops.Flop.{Flop}
 use Rattle.fab_load_points.specs.declared.search.Search.{Search}
 use Rattle.fab_load_points.specs.declared.search.Status.TheVariants.{Outside}

@@ -3,8 +3,8 @@ use Rattle.std.proofs.lemmas.Bool.{cases_eq}
 use Rattle.std.proofs.lemmas.Option.{slice_get_within}
 use Rattle.fab_syntax.specs.Plain.{plain_text}
 use Rattle.fab_equations.specs.Instances.{points}
-use Rattle.fab_load_points.specs.Causes.{StandsFor}
-use Rattle.fab_load_points.specs.Flops.{among, AreLoaderFlops}
+use Rattle.fab_load_points.specs.inner.Causes.{StandsFor}
+use Rattle.fab_load_points.specs.inner.Flops.{among, AreLoaderFlops}
 use Rattle.fab_load_points.specs.declared.flops.Flop.{Flop}
 use Rattle.fab_load_points.proofs.Rounds.{more_flops, among_more, among_last, all_among}
 use Rattle.fab_load_points.proofs.flops.loader_flops.Goals as goal

@@ -1,8 +1,8 @@
 use Rattle.std.proofs.Common.{◌≡◌, ℕ, ◌<◌, true}
 use Rattle.fab_syntax.specs.Plain.{plain_text}
 use Rattle.fab_meaning.specs.Points.{Point}
-use Rattle.fab_load_points.specs.Causes.{StandsFor}
-use Rattle.fab_load_points.specs.Flops.{among, AreLoaderFlops, IsLoaderPoint}
+use Rattle.fab_load_points.specs.inner.Causes.{StandsFor}
+use Rattle.fab_load_points.specs.inner.Flops.{among, AreLoaderFlops, IsLoaderPoint}
 use Rattle.fab_load_points.proofs.flops.loader_flops.Given as goal
 
 abbrev pub invariant-loop-point : goal.invariant-loop-point

@@ -5,8 +5,8 @@ use Rattle.fab_meaning.specs.Points.{Path}
 use Rattle.fab_meaning.specs.Reads.{expression_reads}
 use Rattle.fab_equations.specs.Instances.{points}
 use Rattle.fab_equations.specs.Equations.{IsSource}
-use Rattle.fab_load_points.specs.Causes.{AreReads}
-use Rattle.fab_load_points.specs.Search.{told}
+use Rattle.fab_load_points.specs.inner.Causes.{AreReads}
+use Rattle.fab_load_points.specs.inner.Search.{told}
 use Rattle.fab_load_points.proofs.Rounds.{AllInside, inside_more, read_there, read_within, read_beyond}
 use Rattle.fab_load_points.proofs.flops.stays.Goals as goal
 

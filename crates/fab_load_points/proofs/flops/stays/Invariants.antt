@@ -1,6 +1,6 @@
 use Rattle.std.proofs.Common.{◌≡◌, [], length}
 use Rattle.fab_syntax.specs.Plain.{plain_text}
-use Rattle.fab_load_points.specs.Search.{Scene, IsSearch}
+use Rattle.fab_load_points.specs.inner.Search.{Scene, IsSearch}
 use Rattle.fab_load_points.proofs.Rounds.{AllInside}
 use Rattle.fab_load_points.proofs.flops.stays.Given as goal
 

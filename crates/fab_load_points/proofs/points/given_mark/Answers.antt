@@ -3,7 +3,7 @@ use Rattle.std.proofs.lemmas.Option.{slice_get-get_or}
 use Rattle.fab_syntax.specs.Plain.{plain_text}
 use Rattle.fab_equations.specs.Equations.{IsDriven}
 use Rattle.fab_equations.specs.declared.driver.Driver.TheVariants.{Same, Value, Flop, Hold}
-use Rattle.fab_load_points.specs.Points.{bit_driven}
+use Rattle.fab_load_points.specs.inner.Points.{bit_driven}
 use Rattle.fab_load_points.proofs.Copies.{outside_marked, same_marked, same_within}
 use Rattle.fab_load_points.proofs.points.given_mark.Goals as goal
 

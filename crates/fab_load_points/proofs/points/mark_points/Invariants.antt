@@ -1,8 +1,8 @@
 use Rattle.std.proofs.Common.{◌≡◌, ◌≤◌, [], length}
 use Rattle.fab_syntax.specs.Plain.{plain_text}
 use Rattle.fab_equations.specs.Instances.{points}
-use Rattle.fab_load_points.specs.Flops.{IsClosedSearch}
-use Rattle.fab_load_points.specs.Points.{AreMarkedFrom}
+use Rattle.fab_load_points.specs.inner.Flops.{IsClosedSearch}
+use Rattle.fab_load_points.specs.inner.Points.{AreMarkedFrom}
 use Rattle.fab_load_points.proofs.points.mark_points.Given as goal
 
 abbrev pub invariant-loop-point : goal.invariant-loop-point

@@ -1,8 +1,7 @@
 use Rattle.std.proofs.Common.{◌≡◌, ℕ, ◌<◌, false, Some, length, slice_get}
 use Rattle.fab_syntax.specs.Plain.{plain_text}
-use Rattle.fab_meaning.specs.Points.{Point, Driver, Drives}
+use Rattle.fab_meaning.specs.Points.{Point, Driver, Drives, IsStored}
 use Rattle.fab_equations.specs.Equations.{IsPoint}
-use Rattle.fab_load_points.specs.Registers.{IsStored}
 use Rattle.fab_load_points.proofs.registers.registers_among.Given as goal
 
 abbrev pub invariant-loop-point : goal.invariant-loop-point

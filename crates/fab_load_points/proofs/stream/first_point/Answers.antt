@@ -1,6 +1,6 @@
 use Rattle.std.proofs.Common.{ℕ, Option, ◌∙◌, sym, subst, arith}
 use Rattle.fab_syntax.specs.Plain.{plain_text}
-use Rattle.fab_load_points.specs.Causes.{IsFirstOf}
+use Rattle.fab_load_points.specs.inner.Causes.{IsFirstOf}
 use Rattle.fab_load_points.proofs.Names.{not_found_first, no_bits_first, found_first}
 use Rattle.fab_load_points.proofs.stream.first_point.Goals as goal
 

@@ -11,10 +11,10 @@ returns-in-Ok-clause-legal g c =
 
 pub returns-in-Ok-clause-on_fabric : goal.returns-in-Ok-clause-on_fabric
 returns-in-Ok-clause-on_fabric g c =
-    routed_on_fabric c.args.fabric.now c.types-types.ensures.are_tiles c.args.packed.now c.args.placed c.requires.fits.made c.requires.good.placed c.requires.on_fabric _ c.in-Ok.routed.trees.items
+    routed_on_fabric c.args.fabric.now c.is_well_made.ensures.are_tiles c.args.packed.now c.args.placed c.requires.fits.made c.requires.good.placed c.requires.on_fabric _ c.in-Ok.routed.trees.items
     c.with_trees.result c.in-Ok.ensures.routed c.with_trees.ensures
 
 pub returns-in-Ok-clause-inputs : goal.returns-in-Ok-clause-inputs
 returns-in-Ok-clause-inputs g c =
-    routed_inputs c.args.fabric.now c.types-types.ensures.are_tiles c.args.packed.now c.args.placed c.requires.fits.made c.requires.good.placed c.requires.on_fabric _ c.in-Ok.routed.trees.items
+    routed_inputs c.args.fabric.now c.is_well_made.ensures.are_tiles c.args.packed.now c.args.placed c.requires.fits.made c.requires.good.placed c.requires.on_fabric _ c.in-Ok.routed.trees.items
     c.with_trees.result c.in-Ok.ensures.routed c.with_trees.ensures

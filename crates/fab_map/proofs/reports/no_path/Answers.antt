@@ -3,8 +3,8 @@ use Rattle.fab_map.proofs.reports.no_path.Goals as goal
 
 pub net_name-requires : goal.net_name-requires
 net_name-requires c =
-    net_there c.args.fabric.now c.types-types.ensures.are_tiles c.args.packed.now c.args.placed c.requires.made c.requires.good.placed c.args.net c.requires.cut_off.place c.requires.cut_off.net_is
+    net_there c.args.fabric.now c.is_well_made.ensures.are_tiles c.args.packed.now c.args.placed c.requires.made c.requires.good.placed c.args.net c.requires.cut_off.place c.requires.cut_off.net_is
 
 pub wire_name-requires : goal.wire_name-requires
 wire_name-requires c =
-    sink_there c.args.fabric.now c.types-types.ensures.are_tiles c.args.packed.now c.args.placed c.requires.made c.requires.good.placed c.args.net c.requires.cut_off.number c.args.sink.0 c.requires.cut_off.sink_is
+    sink_there c.args.fabric.now c.is_well_made.ensures.are_tiles c.args.packed.now c.args.placed c.requires.made c.requires.good.placed c.args.net c.requires.cut_off.number c.args.sink.0 c.requires.cut_off.sink_is

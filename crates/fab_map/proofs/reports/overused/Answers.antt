@@ -9,25 +9,25 @@ use Rattle.fab_map.proofs.reports.overused.Goals as goal
 
 pub print_impl-requires-clause-on_fabric : goal.print_impl-requires-clause-on_fabric
 print_impl-requires-clause-on_fabric c =
-    reached_on_fabric c.args.fabric.now c.types-types.ensures.are_tiles c.args.packed.now c.args.placed c.requires.made c.requires.good.placed c.requires.on_fabric c.args._rounds c.args.wire c.args.first c.args.second (plain_rounds c.args.rounds.items) c.requires.overused c.requires.some
+    reached_on_fabric c.args.fabric.now c.is_well_made.ensures.are_tiles c.args.packed.now c.args.placed c.requires.made c.requires.good.placed c.requires.on_fabric c.args._rounds c.args.wire c.args.first c.args.second (plain_rounds c.args.rounds.items) c.requires.overused c.requires.some
     c.last_trees.result.items (length c.args.rounds.items - 1) c.last_trees.ensures (omega (arith, length-map c.args.rounds.items (λ (trees : Vec PlainTree Global). trees.items), length-map c.requires.overused.rounds (trees_of c.args.packed.now c.args.placed), ap length c.requires.overused.told_are, c.requires.overused.all_rounds, c.requires.some)) c.with_trees-reached.result c.with_trees-reached.ensures
 
 pub print_impl-requires-clause-inputs : goal.print_impl-requires-clause-inputs
 print_impl-requires-clause-inputs c =
-    reached_inputs c.args.fabric.now c.types-types.ensures.are_tiles c.args.packed.now c.args.placed c.requires.made c.requires.good.placed c.requires.on_fabric c.args._rounds c.args.wire c.args.first c.args.second (plain_rounds c.args.rounds.items) c.requires.overused c.requires.some
+    reached_inputs c.args.fabric.now c.is_well_made.ensures.are_tiles c.args.packed.now c.args.placed c.requires.made c.requires.good.placed c.requires.on_fabric c.args._rounds c.args.wire c.args.first c.args.second (plain_rounds c.args.rounds.items) c.requires.overused c.requires.some
     c.last_trees.result.items (length c.args.rounds.items - 1) c.last_trees.ensures (omega (arith, length-map c.args.rounds.items (λ (trees : Vec PlainTree Global). trees.items), length-map c.requires.overused.rounds (trees_of c.args.packed.now c.args.placed), ap length c.requires.overused.told_are, c.requires.overused.all_rounds, c.requires.some)) c.with_trees-reached.result c.with_trees-reached.ensures
 
 pub wire_name-requires : goal.wire_name-requires
 wire_name-requires c =
-    shared_there c.args.fabric.now c.types-types.ensures.are_tiles c.args.packed.now c.args.placed c.requires.made c.requires.good.placed c.requires.on_fabric c.args._rounds c.args.wire c.args.first c.args.second (plain_rounds c.args.rounds.items) c.requires.overused c.requires.some
+    shared_there c.args.fabric.now c.is_well_made.ensures.are_tiles c.args.packed.now c.args.placed c.requires.made c.requires.good.placed c.requires.on_fabric c.args._rounds c.args.wire c.args.first c.args.second (plain_rounds c.args.rounds.items) c.requires.overused c.requires.some
 
 pub net_name-requires : goal.net_name-requires
 net_name-requires c =
-    first_known c.args.fabric.now c.types-types.ensures.are_tiles c.args.packed.now c.args.placed c.requires.made c.requires.good.placed c.requires.on_fabric c.args._rounds c.args.wire c.args.first c.args.second (plain_rounds c.args.rounds.items) c.requires.overused c.requires.some
+    first_known c.args.fabric.now c.is_well_made.ensures.are_tiles c.args.packed.now c.args.placed c.requires.made c.requires.good.placed c.requires.on_fabric c.args._rounds c.args.wire c.args.first c.args.second (plain_rounds c.args.rounds.items) c.requires.overused c.requires.some
 
 pub net_name-requires-2 : goal.net_name-requires-2
 net_name-requires-2 c =
-    second_known c.args.fabric.now c.types-types.ensures.are_tiles c.args.packed.now c.args.placed c.requires.made c.requires.good.placed c.requires.on_fabric c.args._rounds c.args.wire c.args.first c.args.second (plain_rounds c.args.rounds.items) c.requires.overused c.requires.some
+    second_known c.args.fabric.now c.is_well_made.ensures.are_tiles c.args.packed.now c.args.placed c.requires.made c.requires.good.placed c.requires.on_fabric c.args._rounds c.args.wire c.args.first c.args.second (plain_rounds c.args.rounds.items) c.requires.overused c.requires.some
 
 pub returns : goal.returns
 returns c = record {
@@ -42,6 +42,6 @@ returns c = record {
   first_is = c.in_ok-first.ensures;
   second_is = c.in_ok-second.ensures;
   text_is = c.from.ensures ∙ c.in_ok-text.ensures.text ∙ ap (λ (i : PlainImplementation). implementation_text c.args.fabric.now i)
-      (reached_is c.args.fabric.now c.types-types.ensures.are_tiles c.args.packed.now c.args.placed c.requires.made c.requires.good.placed c.requires.on_fabric c.args._rounds c.args.wire c.args.first c.args.second (plain_rounds c.args.rounds.items) c.requires.overused c.requires.some
+      (reached_is c.args.fabric.now c.is_well_made.ensures.are_tiles c.args.packed.now c.args.placed c.requires.made c.requires.good.placed c.requires.on_fabric c.args._rounds c.args.wire c.args.first c.args.second (plain_rounds c.args.rounds.items) c.requires.overused c.requires.some
       c.last_trees.result.items (length c.args.rounds.items - 1) c.last_trees.ensures (omega (arith, length-map c.args.rounds.items (λ (trees : Vec PlainTree Global). trees.items), length-map c.requires.overused.rounds (trees_of c.args.packed.now c.args.placed), ap length c.requires.overused.told_are, c.requires.overused.all_rounds, c.requires.some)) c.with_trees-reached.result c.with_trees-reached.ensures);
 }

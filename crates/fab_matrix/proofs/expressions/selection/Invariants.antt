@@ -1,7 +1,7 @@
 use Rattle.std.proofs.Common.{◌≡◌, ◌≤◌, drop, map, get_or}
 use Rattle.fab_syntax.specs.Plain.{plain_expr}
 use Rattle.fab_matrix.specs.Matrix.{chain}
-use Rattle.fab_matrix.specs.Grouped.{name_at}
+use Rattle.fab_matrix.specs.inner.Grouped.{name_at}
 use Rattle.fab_matrix.proofs.expressions.selection.Given as goal
 
 -- the value so far is the chain from the next number on

@@ -1,5 +1,6 @@
 use Rattle.std.proofs.Common.{◌≡◌, ℕ, length, take}
-use Rattle.fab_matrix.specs.Grouped.{group_at, numbers_of}
+use Rattle.fab_bits.specs.Keys.{group_at}
+use Rattle.fab_matrix.specs.inner.Grouped.{numbers_of}
 use Rattle.fab_matrix.proofs.grouping.inputs_by_output.Given as goal
 
 -- the groups are those of the pairs so far

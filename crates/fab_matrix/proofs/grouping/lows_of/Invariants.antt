@@ -1,5 +1,5 @@
 use Rattle.std.proofs.Common.{◌≡◌, ◌<◌, ℕ, length, get_or, sum_by, take}
-use Rattle.fab_matrix.specs.Grouped.{width_at}
+use Rattle.fab_matrix.specs.inner.Grouped.{width_at}
 use Rattle.fab_matrix.proofs.grouping.lows_of.Given as goal
 
 -- the running sum, and the sums before it

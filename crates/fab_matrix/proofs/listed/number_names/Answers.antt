@@ -1,6 +1,6 @@
 use Rattle.fab_select.specs.declared.pair.Pair.{Pair}
 use Rattle.fab_matrix.specs.Names.{Name}
-use Rattle.fab_matrix.specs.Numbering.{key_names}
+use Rattle.fab_bits.specs.Keys.{key_names}
 use Rattle.fab_matrix.proofs.Places.{pair_numbered}
 use Rattle.fab_matrix.proofs.listed.number_names.Goals as goal
 

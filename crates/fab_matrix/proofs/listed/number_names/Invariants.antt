@@ -1,5 +1,6 @@
 use Rattle.std.proofs.Common.{map, take}
-use Rattle.fab_matrix.specs.Numbering.{key_names, IsNumbered}
+use Rattle.fab_bits.specs.Keys.{key_names}
+use Rattle.fab_matrix.specs.inner.Numbering.{IsNumbered}
 use Rattle.fab_matrix.proofs.listed.number_names.Given as goal
 
 -- the pairs so far are numbered

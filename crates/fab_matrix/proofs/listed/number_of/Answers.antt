@@ -3,7 +3,7 @@ use Rattle.std.specs.List.{position_or_len}
 use Rattle.std.specs.Str.{bytes_eq}
 use Rattle.indexmap.specs.IndexSet.{insert_key}
 use Rattle.fab_matrix.specs.Names.{Name}
-use Rattle.fab_matrix.specs.Numbering.{key_names}
+use Rattle.fab_bits.specs.Keys.{key_names}
 use Rattle.fab_matrix.proofs.Places.{insert_of_names, place_of_names}
 use Rattle.fab_matrix.proofs.listed.number_of.Goals as goal
 

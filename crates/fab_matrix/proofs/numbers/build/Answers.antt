@@ -4,8 +4,10 @@ use Rattle.std.proofs.lemmas.List.Elements.{All-map, All-same}
 use Rattle.fab_select.specs.declared.pair.Pair.{Pair}
 use Rattle.fab_select.specs.Selection.{firsts, select_bits}
 use Rattle.fab_matrix.specs.Names.{Name}
-use Rattle.fab_matrix.specs.Matrix.{scalar, config_port, named, numbered}
-use Rattle.fab_matrix.specs.Grouped.{group_at, numbers_of, width_at, item_of}
+use Rattle.fab_meaning.specs.Ports.{scalar, config_port}
+use Rattle.fab_matrix.specs.Matrix.{named, numbered}
+use Rattle.fab_bits.specs.Keys.{group_at}
+use Rattle.fab_matrix.specs.inner.Grouped.{numbers_of, width_at, item_of}
 use Rattle.fab_select.proofs.Firsts.{firsts_all}
 use Rattle.fab_matrix.proofs.Groups.{groups_within, names_of_numbered, bits_named, items_named}
 use Rattle.fab_matrix.proofs.numbers.build.Goals as goal

@@ -1,7 +1,7 @@
 use Rattle.std.proofs.Common.{◌∙◌, ap, map}
 use Rattle.std.proofs.lemmas.List.{map_push}
 use Rattle.fab_syntax.specs.Plain.{plain_item}
-use Rattle.fab_matrix.specs.Grouped.{item_of}
+use Rattle.fab_matrix.specs.inner.Grouped.{item_of}
 use Rattle.fab_matrix.proofs.Groups.{items_more}
 use Rattle.fab_matrix.proofs.numbers.items_of.Goals as goal
 

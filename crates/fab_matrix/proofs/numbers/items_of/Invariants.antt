@@ -1,7 +1,7 @@
 use Rattle.std.proofs.Common.{◌≡◌, map, take}
 use Rattle.fab_syntax.specs.Plain.{plain_item}
 use Rattle.fab_matrix.specs.Matrix.{numbered}
-use Rattle.fab_matrix.specs.Grouped.{item_of}
+use Rattle.fab_matrix.specs.inner.Grouped.{item_of}
 use Rattle.fab_matrix.proofs.numbers.items_of.Given as goal
 
 -- the items so far are those of the outputs so far

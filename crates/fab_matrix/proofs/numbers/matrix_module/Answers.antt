@@ -6,7 +6,7 @@ use Rattle.fab_select.specs.declared.pair.Pair.{Pair}
 use Rattle.fab_matrix.specs.Names.{Name}
 use Rattle.fab_matrix.specs.Matrix.{numbered, named}
 use Rattle.fab_matrix.specs.Selects.{Selects}
-use Rattle.fab_matrix.specs.Grouped.{name_at}
+use Rattle.fab_matrix.specs.inner.Grouped.{name_at}
 use Rattle.fab_matrix.proofs.Selecting.{matrix_selects}
 use Rattle.fab_matrix.proofs.numbers.matrix_module.Goals as goal
 

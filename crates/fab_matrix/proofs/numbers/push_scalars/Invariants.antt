@@ -1,5 +1,5 @@
 use Rattle.std.proofs.Common.{◌≡◌, ◌++◌, map, take}
-use Rattle.fab_matrix.specs.Matrix.{scalar}
+use Rattle.fab_meaning.specs.Ports.{scalar}
 use Rattle.fab_matrix.proofs.numbers.push_scalars.Given as goal
 
 -- the ports so far are those of the names so far

@@ -1,7 +1,7 @@
 use Rattle.std.proofs.Common.{◌<◌, ◌∙◌, ℕ, All, List, length, sym, subst, subst₂, ap, map, get_or, sum_by, take, ◌≡◌, ◌+◌}
 use Rattle.fab_model.specs.Tiles.{pair_numbers}
 use Rattle.fab_model.proofs.LaidOut.{widths_are, ordered_within, fields_by_widths}
-use Rattle.fab_model.specs.Numbering.{width_in}
+use Rattle.fab_model.specs.inner.Numbering.{width_in}
 use Rattle.fab_model.proofs.fields.fields_of.Goals as goal
 
 pub laid_out-requires : goal.laid_out-requires

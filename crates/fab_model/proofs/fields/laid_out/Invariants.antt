@@ -1,5 +1,5 @@
 use Rattle.std.proofs.Common.{◌≡◌, ◌<◌, ◌+◌, ℕ, length, sum_by, take, get_or}
-use Rattle.fab_model.specs.Numbering.{width_in}
+use Rattle.fab_model.specs.inner.Numbering.{width_in}
 use Rattle.fab_model.proofs.fields.laid_out.Given as goal
 
 -- the fields so far, and the bit behind them

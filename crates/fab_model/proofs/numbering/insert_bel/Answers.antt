@@ -1,6 +1,6 @@
 use Rattle.fab_kinds.specs.Pins.{pin_names}
 use Rattle.fab_model.specs.Tiles.{wire_name, bel_pin}
-use Rattle.fab_model.specs.Numbering.{key_names}
+use Rattle.fab_kinds.specs.fab_bits.specs.Keys.{key_names}
 use Rattle.fab_model.proofs.Inserts.{counted_inserted, none_counted, pin_key}
 use Rattle.std.proofs.Common.{ap, ◌∙◌, ◌++◌, List, ℕ}
 use Rattle.fab_model.proofs.numbering.insert_bel.Goals as goal

@@ -3,7 +3,7 @@ use Rattle.std.specs.Str.{bytes_eq}
 use Rattle.std.specs.List.{flat_map}
 use Rattle.indexmap.specs.IndexSet.{insert_all}
 use Rattle.fab_model.specs.Tiles.{bel_wires, wire_name}
-use Rattle.fab_model.specs.Numbering.{key_names}
+use Rattle.fab_kinds.specs.fab_bits.specs.Keys.{key_names}
 use Rattle.fab_model.proofs.numbering.insert_bels.Given as goal
 
 abbrev pub invariant-loop-bel : goal.invariant-loop-bel

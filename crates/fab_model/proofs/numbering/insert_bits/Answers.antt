@@ -1,5 +1,5 @@
 use Rattle.fab_model.specs.Rows.{bit_name}
-use Rattle.fab_model.specs.Numbering.{key_names}
+use Rattle.fab_kinds.specs.fab_bits.specs.Keys.{key_names}
 use Rattle.fab_model.proofs.Inserts.{bits_inserted, no_bits}
 use Rattle.fab_model.proofs.numbering.insert_bits.Goals as goal
 

@@ -3,7 +3,7 @@ use Rattle.std.specs.Str.{bytes_eq}
 use Rattle.indexmap.specs.IndexSet.{insert_all}
 use Rattle.fab_model.specs.Rows.{bit_name}
 use Rattle.fab_model.specs.Tiles.{counted}
-use Rattle.fab_model.specs.Numbering.{key_names}
+use Rattle.fab_kinds.specs.fab_bits.specs.Keys.{key_names}
 use Rattle.fab_model.proofs.numbering.insert_bits.Given as goal
 
 abbrev pub invariant-loop-bit : goal.invariant-loop-bit

@@ -1,5 +1,5 @@
 use Rattle.std.proofs.Common.{◌∙◌, ap, Global}
-use Rattle.fab_model.specs.Numbering.{key_names}
+use Rattle.fab_kinds.specs.fab_bits.specs.Keys.{key_names}
 use Rattle.fab_model.proofs.Inserts.{names_of_insert}
 use Rattle.fab_model.proofs.numbering.insert_key.Goals as goal
 

@@ -1,4 +1,4 @@
-use Rattle.fab_model.specs.Numbering.{key_names}
+use Rattle.fab_kinds.specs.fab_bits.specs.Keys.{key_names}
 use Rattle.fab_model.proofs.Inserts.{row_inserted}
 use Rattle.fab_model.proofs.numbering.insert_row.Goals as goal
 

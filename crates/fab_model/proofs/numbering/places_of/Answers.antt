@@ -1,5 +1,5 @@
 use Rattle.std.proofs.Common.{ap, Global}
-use Rattle.fab_model.specs.Numbering.{key_names}
+use Rattle.fab_kinds.specs.fab_bits.specs.Keys.{key_names}
 use Rattle.fab_model.proofs.Inserts.{tile_inserted}
 use Rattle.fab_model.proofs.numbering.places_of.Goals as goal
 

@@ -1,6 +1,6 @@
 use Rattle.std.proofs.Common.{◌++◌, ◌∷◌, [], List, refl}
 use Rattle.fab_models.specs.declared.model.Model.{Model}
-use Rattle.fab_models.specs.Following.{with_statements}
+use Rattle.fab_models.specs.inner.Following.{with_statements}
 use Rattle.fab_models.specs.Plain.{PlainStatement, plain_model, plain_body}
 use Rattle.fab_models.proofs.Models.{put_back, model_changed, statement_pushed}
 use Rattle.fab_models.proofs.bodies.push_statement.Goals as goal

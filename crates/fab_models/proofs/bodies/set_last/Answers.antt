@@ -1,4 +1,4 @@
-use Rattle.fab_models.specs.Following.{with_table}
+use Rattle.fab_models.specs.inner.Following.{with_table}
 use Rattle.fab_models.specs.Plain.{plain_statement}
 use Rattle.fab_models.proofs.Models.{put_back}
 use Rattle.fab_models.proofs.bodies.set_last.Goals as goal

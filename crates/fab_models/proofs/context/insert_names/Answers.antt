@@ -1,5 +1,5 @@
 use Rattle.std.proofs.Common.{ℕ, List, Bor, Global, ap, ◌∙◌}
-use Rattle.fab_models.specs.Keys.{key_names}
+use Rattle.fab_bits.specs.Keys.{key_names}
 use Rattle.fab_models.proofs.Sets.{insert_of_names, insert_step}
 use Rattle.fab_models.proofs.context.insert_names.Goals as goal
 

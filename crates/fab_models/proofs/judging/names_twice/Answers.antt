@@ -2,7 +2,7 @@ use Rattle.std.proofs.Common.{ℕ, List, Bor, Global, [], ◌++◌, ap, sym, ◌
 use Rattle.std.specs.Str.{bytes_eq}
 use Rattle.indexmap.specs.IndexSet.{insert_key}
 use Rattle.fab_models.specs.Judge.{names_twice}
-use Rattle.fab_models.specs.Keys.{key_names}
+use Rattle.fab_bits.specs.Keys.{key_names}
 use Rattle.fab_models.proofs.Sets.{insert_of_names, map_drop_cons, twice_here, twice_later}
 use Rattle.fab_models.proofs.judging.names_twice.Goals as goal
 

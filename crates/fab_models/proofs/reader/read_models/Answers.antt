@@ -4,7 +4,7 @@ use Rattle.std.proofs.lemmas.Result.{err_from_is_err_and}
 use Rattle.fab_base.specs.declared.fault.Fault.{Fault}
 use Rattle.fab_lines.specs.Joined.{joined_lines}
 use Rattle.fab_lines.proofs.Judging.{gives_fine, gives_first, fine_gives, first_gives}
-use Rattle.fab_models.specs.Following.{State}
+use Rattle.fab_models.specs.inner.Following.{State}
 use Rattle.fab_models.specs.Plain.{PlainModel}
 use Rattle.fab_models.specs.Spelled.{spelled}
 use Rattle.fab_models.proofs.FollowsLines.{follows_judge}

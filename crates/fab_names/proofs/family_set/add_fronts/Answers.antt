@@ -1,5 +1,5 @@
 use Rattle.std.proofs.Common.{List, ℕ, Contains, inl, inr, length, subst}
-use Rattle.fab_names.specs.Keyed.{under}
+use Rattle.fab_names.specs.inner.Keyed.{under}
 use Rattle.fab_names.proofs.Keys.{cut_is, last_or_before}
 use Rattle.fab_names.proofs.family_set.add_fronts.Goals as goal
 

@@ -1,7 +1,7 @@
 use Rattle.std.proofs.Common.{◌≡◌, ◌++◌, ◌<◌, ℕ, List, true, Contains, length}
 use Rattle.std.specs.List.{list_all}
 use Rattle.fab_lines.specs.Numbers.{is_digit}
-use Rattle.fab_names.specs.Keyed.{under}
+use Rattle.fab_names.specs.inner.Keyed.{under}
 use Rattle.fab_names.proofs.family_set.add_fronts.Given as goal
 
 abbrev pub invariant-loop-long : goal.invariant-loop-long

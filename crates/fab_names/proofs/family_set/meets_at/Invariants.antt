@@ -1,5 +1,5 @@
 use Rattle.std.proofs.Common.{◌≡◌, ◌<◌, ℕ, true, Contains, length, take}
-use Rattle.fab_names.specs.Keyed.{family_at}
+use Rattle.fab_names.specs.inner.Keyed.{family_at}
 use Rattle.fab_names.specs.Names.{meet}
 use Rattle.fab_names.proofs.family_set.meets_at.Given as goal
 

@@ -1,5 +1,5 @@
 use Rattle.std.proofs.Common.{◌≡◌, drop}
-use Rattle.fab_netlist.specs.Passes.{asked}
+use Rattle.fab_netlist.specs.inner.Passes.{asked}
 use Rattle.fab_netlist.proofs.cycle.ask_in_turn.Given as goal
 
 abbrev pub invariant-loop-place : goal.invariant-loop-place

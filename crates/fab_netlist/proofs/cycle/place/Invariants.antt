@@ -1,5 +1,5 @@
 use Rattle.std.proofs.Common.{◌≡◌, drop}
-use Rattle.fab_netlist.specs.Passes.{placed}
+use Rattle.fab_netlist.specs.inner.Passes.{placed}
 use Rattle.fab_netlist.proofs.cycle.place.Given as goal
 
 abbrev pub invariant-loop-place : goal.invariant-loop-place

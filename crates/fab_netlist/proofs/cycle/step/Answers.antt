@@ -1,7 +1,7 @@
 use Rattle.std.proofs.Common.{rules, ◌≡◌, Bool, false, List, sym, subst, ◌∙◌, length, replicate}
 use Rattle.fab_netlist.specs.Plain.{bit_at}
 use Rattle.fab_netlist.specs.Meaning.{Meets}
-use Rattle.fab_netlist.specs.Passes.{asked, placed, start, settled}
+use Rattle.fab_netlist.specs.inner.Passes.{asked, placed, start, settled}
 use Rattle.fab_netlist.proofs.Meaning.{settled_meets}
 use Rattle.fab_netlist.proofs.Stepping.{inputs_below, latch_outputs_below, covers_within, latch_inputs_below, order_below}
 use Rattle.fab_netlist.proofs.cycle.step.Goals as goal

@@ -1,6 +1,6 @@
 use Rattle.std.proofs.Common.{rules, arith, length, ◌∙◌, ap, sym, subst}
-use Rattle.fab_netlist.specs.Survey.{PlainSurvey}
-use Rattle.fab_netlist.specs.Places.{IsFor, nets_by}
+use Rattle.fab_netlist.specs.inner.Survey.{PlainSurvey}
+use Rattle.fab_netlist.specs.inner.Places.{IsFor, nets_by}
 use Rattle.fab_netlist.proofs.Stepping.{inputs_below, outputs_below}
 use Rattle.fab_netlist.proofs.Packs.{is_for, nets_below, few_nets, table_length}
 use Rattle.fab_netlist.proofs.packing.assemble.Goals as goal

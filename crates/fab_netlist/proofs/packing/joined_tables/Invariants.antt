@@ -1,5 +1,5 @@
 use Rattle.std.proofs.Common.{◌≡◌, ◌++◌, drop}
-use Rattle.fab_netlist.specs.Places.{ids_by}
+use Rattle.fab_netlist.specs.inner.Places.{ids_by}
 use Rattle.fab_netlist.proofs.packing.joined_tables.Given as goal
 
 abbrev pub invariant-loop-net : goal.invariant-loop-net

@@ -1,7 +1,7 @@
 use Rattle.std.proofs.Common.{rules, arith, ◌≡◌, ◌+◌, length, Ok, ap, sym, subst, ◌∙◌}
 use Rattle.fab_netlist.specs.WellMade.{ports}
-use Rattle.fab_netlist.specs.Survey.{PlainSurvey, survey_of}
-use Rattle.fab_netlist.specs.Places.{IsFor, nets_by, packed_by}
+use Rattle.fab_netlist.specs.inner.Survey.{PlainSurvey, survey_of}
+use Rattle.fab_netlist.specs.inner.Places.{IsFor, nets_by, packed_by}
 use Rattle.fab_netlist.proofs.Packs.{is_for, few_nets, few_ports, nets_length, length_joined, packed_alike}
 use Rattle.fab_netlist.proofs.Rooms.{refused_by, given_by}
 use Rattle.fab_netlist.proofs.packing.pack.Goals as goal

@@ -1,7 +1,7 @@
 use Rattle.std.proofs.Common.{◌≡◌, ◌++◌, drop, map}
 use Rattle.std.specs.List.{filter}
-use Rattle.fab_netlist.specs.Survey.{kept_by}
-use Rattle.fab_netlist.specs.Places.{net_by}
+use Rattle.fab_netlist.specs.inner.Survey.{kept_by}
+use Rattle.fab_netlist.specs.inner.Places.{net_by}
 use Rattle.fab_netlist.proofs.packing.put_cover_nets.Given as goal
 
 abbrev pub invariant-loop-cover : goal.invariant-loop-cover

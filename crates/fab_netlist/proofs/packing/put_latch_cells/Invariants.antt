@@ -1,7 +1,7 @@
 use Rattle.std.proofs.Common.{◌≡◌, ◌++◌, drop, map, not}
 use Rattle.std.specs.List.{filter}
-use Rattle.fab_netlist.specs.Survey.{paired_by}
-use Rattle.fab_netlist.specs.Places.{latch_cell_by}
+use Rattle.fab_netlist.specs.inner.Survey.{paired_by}
+use Rattle.fab_netlist.specs.inner.Places.{latch_cell_by}
 use Rattle.fab_netlist.proofs.packing.put_latch_cells.Given as goal
 
 abbrev pub invariant-loop-latch : goal.invariant-loop-latch

@@ -1,6 +1,6 @@
 use Rattle.std.proofs.Common.{◌≡◌, ◌++◌, drop, map, not}
 use Rattle.std.specs.List.{filter}
-use Rattle.fab_netlist.specs.Survey.{paired_by}
+use Rattle.fab_netlist.specs.inner.Survey.{paired_by}
 use Rattle.fab_netlist.proofs.packing.put_latch_nets.Given as goal
 
 abbrev pub invariant-loop-latch : goal.invariant-loop-latch

@@ -1,6 +1,6 @@
 use Rattle.std.proofs.Common.{◌≡◌, ◌++◌, drop, map}
 use Rattle.fab_netlist.specs.Plain.{name_of}
-use Rattle.fab_netlist.specs.Places.{id_at}
+use Rattle.fab_netlist.specs.inner.Places.{id_at}
 use Rattle.fab_netlist.proofs.packing.shown.Given as goal
 
 abbrev pub invariant-loop-net : goal.invariant-loop-net

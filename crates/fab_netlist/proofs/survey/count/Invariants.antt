@@ -1,5 +1,5 @@
 use Rattle.std.proofs.Common.{◌≡◌, drop}
-use Rattle.fab_netlist.specs.Survey.{counted}
+use Rattle.fab_netlist.specs.inner.Survey.{counted}
 use Rattle.fab_netlist.proofs.survey.count.Given as goal
 
 abbrev pub invariant-loop-net : goal.invariant-loop-net

@@ -1,7 +1,7 @@
 use Rattle.std.proofs.Common.{◌≡◌, get_or, sym, ap, ◌∙◌, drop, ◌+◌, rules}
 use Rattle.std.specs.List.{flat_map}
 use Rattle.fab_netlist.specs.Plain.{PlainCover}
-use Rattle.fab_netlist.specs.Survey.{counted}
+use Rattle.fab_netlist.specs.inner.Survey.{counted}
 use Rattle.fab_netlist.proofs.Noting.{counted_more}
 use Rattle.fab_netlist.proofs.survey.count_cover_inputs.Goals as goal
 

@@ -1,7 +1,7 @@
 use Rattle.std.proofs.Common.{rules, arith, ◌≡◌, length, List, ap, ◌∙◌}
 use Rattle.std.specs.List.{flat_map}
 use Rattle.fab_netlist.specs.Plain.{PlainCover}
-use Rattle.fab_netlist.specs.Survey.{counted}
+use Rattle.fab_netlist.specs.inner.Survey.{counted}
 use Rattle.fab_netlist.proofs.Noting.{counted_by_parts}
 use Rattle.fab_netlist.proofs.Stepping.{cover_inputs_below, outputs_below}
 use Rattle.fab_netlist.proofs.Surveying.{taken_small}

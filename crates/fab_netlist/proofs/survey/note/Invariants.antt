@@ -1,5 +1,5 @@
 use Rattle.std.proofs.Common.{◌≡◌, drop}
-use Rattle.fab_netlist.specs.Survey.{noted}
+use Rattle.fab_netlist.specs.inner.Survey.{noted}
 use Rattle.fab_netlist.proofs.survey.note.Given as goal
 
 abbrev pub invariant-loop-place : goal.invariant-loop-place

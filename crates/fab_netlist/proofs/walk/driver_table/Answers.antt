@@ -1,7 +1,7 @@
 use Rattle.std.proofs.Common.{rules, arith, ◌≡◌, ◌<◌, ◌+◌, ◌∙◌, sym, ap, subst, Some, length, set, get_or, vec_len}
 use Rattle.std.proofs.lemmas.List.{get_or_read}
 use Rattle.fab_netlist.specs.Plain.{PlainCover, cover_at, no_cover}
-use Rattle.fab_netlist.specs.Search.{HasDrivers}
+use Rattle.fab_netlist.specs.inner.Search.{HasDrivers}
 use Rattle.fab_netlist.proofs.Marks.{few_covers}
 use Rattle.fab_netlist.proofs.Finds.{drivers_more, output_in_table}
 use Rattle.fab_netlist.proofs.walk.driver_table.Goals as goal

@@ -1,4 +1,4 @@
-use Rattle.fab_netlist.specs.Search.{HasDrivers}
+use Rattle.fab_netlist.specs.inner.Search.{HasDrivers}
 use Rattle.fab_netlist.proofs.walk.driver_table.Given as goal
 
 abbrev pub invariant-loop-place : goal.invariant-loop-place

@@ -1,8 +1,8 @@
 use Rattle.std.proofs.Common.{arith, ◌≡◌, ◌<◌, ◌∙◌, List, Option, ℕ, ap, sym, subst, length, drop, get_or}
 use Rattle.std.specs.Option.{MatchOption}
 use Rattle.fab_netlist.specs.Cycles.{HasNoCycle, IsOneCycle}
-use Rattle.fab_netlist.specs.Order.{IsOrder}
-use Rattle.fab_netlist.specs.Search.{IsRound}
+use Rattle.fab_netlist.specs.inner.Order.{IsOrder}
+use Rattle.fab_netlist.specs.inner.Search.{IsRound}
 use Rattle.fab_netlist.proofs.Finds.{round_cycle}
 use Rattle.fab_netlist.proofs.walk.find_order.Goals as goal
 

@@ -2,7 +2,7 @@ use Rattle.std.proofs.Common.{rules, arith, ◌≡◌, ◌∙◌, sym, ap, subst
 use Rattle.std.proofs.lemmas.List.{length-take-le, length-append}
 use Rattle.fab_netlist.specs.declared.walk.Mark.TheVariants as marks
 use Rattle.fab_netlist.specs.Plain.{cover_at}
-use Rattle.fab_netlist.specs.Search.{IsGoing, IsListed, is_open, mark_at, unfinished}
+use Rattle.fab_netlist.specs.inner.Search.{IsGoing, IsListed, is_open, mark_at, unfinished}
 use Rattle.fab_netlist.proofs.Follows.{ends_with, listed_leave, listed_enter, going_leave, going_enter, going_round, new_source, source_small, reader_marked, reader_open, reader_small}
 use Rattle.fab_netlist.proofs.Finds.{open_fewer, done_same}
 use Rattle.fab_netlist.proofs.walk.follow.Goals as goal

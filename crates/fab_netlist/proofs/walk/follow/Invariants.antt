@@ -1,5 +1,5 @@
 use Rattle.std.proofs.Common.{◌+◌, ◌*◌, length}
-use Rattle.fab_netlist.specs.Search.{IsGoing, IsListed, is_new}
+use Rattle.fab_netlist.specs.inner.Search.{IsGoing, IsListed, is_new}
 use Rattle.fab_netlist.proofs.Levels.{passing}
 use Rattle.fab_netlist.proofs.walk.follow.Given as goal
 

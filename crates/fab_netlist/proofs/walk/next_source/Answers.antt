@@ -1,7 +1,7 @@
 use Rattle.std.proofs.Common.{rules, ◌≡◌, ◌∙◌, ap, get_or}
 use Rattle.std.proofs.lemmas.List.{get_or_read}
 use Rattle.fab_netlist.specs.Plain.{PlainCover, cover_at, no_cover}
-use Rattle.fab_netlist.specs.Search.{unfinished}
+use Rattle.fab_netlist.specs.inner.Search.{unfinished}
 use Rattle.fab_netlist.proofs.Finds.{cover_nets_small, drivers_small}
 use Rattle.fab_netlist.proofs.walk.next_source.Goals as goal
 

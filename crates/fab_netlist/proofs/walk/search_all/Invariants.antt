@@ -1,6 +1,6 @@
 use Rattle.std.proofs.Common.{◌≡◌, ◌<◌, ℕ, []}
 use Rattle.fab_netlist.specs.declared.walk.Mark.TheVariants as marks
-use Rattle.fab_netlist.specs.Search.{IsListed, IsSearch, mark_at}
+use Rattle.fab_netlist.specs.inner.Search.{IsListed, IsSearch, mark_at}
 use Rattle.fab_netlist.proofs.walk.search_all.Given as goal
 
 abbrev pub invariant-loop-start : goal.invariant-loop-start

@@ -1,5 +1,5 @@
 use Rattle.std.proofs.Common.{◌≡◌, drop}
-use Rattle.fab_netlist.specs.Search.{unfinished}
+use Rattle.fab_netlist.specs.inner.Search.{unfinished}
 use Rattle.fab_netlist.proofs.walk.unfinished.Given as goal
 
 abbrev pub invariant-loop-net : goal.invariant-loop-net

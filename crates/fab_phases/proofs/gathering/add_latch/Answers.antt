@@ -1,6 +1,6 @@
 use Rattle.std.proofs.Common.{length, refl, sym, subst, List, ◌+◌, ◌∙◌}
 use Rattle.fab_network.specs.declared.network.Drive.TheVariants.{Hold}
-use Rattle.fab_phases.specs.Gathering.{AreGated, HasGated, IsGated}
+use Rattle.fab_phases.specs.inner.Gathering.{AreGated, HasGated, IsGated}
 use Rattle.fab_phases.specs.declared.gathering.GatedLatch.{GatedLatch}
 use Rattle.fab_phases.proofs.Asking.{gated_grow, more_twice, ready_grows}
 use Rattle.fab_phases.proofs.Gathered.{gated_is, has_gated_more}

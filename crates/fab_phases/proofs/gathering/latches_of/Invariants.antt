@@ -2,7 +2,7 @@ use Rattle.fab_network.specs.declared.network.Clock.TheVariants.{Loader}
 use Rattle.fab_network.specs.Passes.{kept_tern}
 use Rattle.fab_demand.specs.Asked.{AsksMore}
 use Rattle.fab_demand.specs.Demand.{IsAsked}
-use Rattle.fab_phases.specs.Gathering.{AreGated, HasGated}
+use Rattle.fab_phases.specs.inner.Gathering.{AreGated, HasGated}
 use Rattle.fab_phases.proofs.gathering.latches_of.Given as goal
 
 abbrev pub invariant-loop-point : goal.invariant-loop-point

@@ -1,5 +1,5 @@
 use Rattle.std.proofs.Common.{length, sym, subst}
-use Rattle.fab_phases.specs.Gathering.{AreGated, AreInRuns}
+use Rattle.fab_phases.specs.inner.Gathering.{AreGated, AreInRuns}
 use Rattle.fab_phases.proofs.Asking.{flops_grow, more_twice}
 use Rattle.fab_phases.proofs.Gathered.{has_latches}
 use Rattle.fab_phases.proofs.gathering.loading_of.Goals as goal

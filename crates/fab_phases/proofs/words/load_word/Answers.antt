@@ -1,7 +1,7 @@
 use Rattle.std.proofs.Common.{◌≡◌, ◌+◌, length, sym, ap, ◌∙◌, subst, arith, List}
 use Rattle.std.proofs.lemmas.Option.{slice_get_within}
 use Rattle.fab_network.specs.declared.network.Drive.TheVariants.{Given}
-use Rattle.fab_phases.specs.Ticks.{AreFitFlops, AreFitRuns, LeavesFlops, LeavesRuns}
+use Rattle.fab_phases.specs.inner.Ticks.{AreFitFlops, AreFitRuns, LeavesFlops, LeavesRuns}
 use Rattle.fab_phases.specs.declared.loading.LoadedFlop.{LoadedFlop}
 use Rattle.fab_phases.specs.declared.loading.Run.{Run}
 use Rattle.fab_phases.proofs.Running.{differs_none}

@@ -1,5 +1,5 @@
 use Rattle.std.proofs.Common.{◌≡◌, ◌++◌, map, take}
-use Rattle.fab_place.specs.Constraints.{pad_in}
+use Rattle.fab_place.specs.inner.Constraints.{pad_in}
 use Rattle.fab_place.proofs.constraints.put_inputs.Given as goal
 
 abbrev pub invariant-loop-port : goal.invariant-loop-port

@@ -4,28 +4,28 @@ use Rattle.std.specs.Option.{IfSome}
 use Rattle.std.proofs.lemmas.Grind.{common_steps}
 use Rattle.fab_fabric.specs.declared.wire.Site.{Site}
 use Rattle.fab_board.specs.Boards.{IsPlaced, Keeps, cost}
-use Rattle.fab_place.specs.Starts.{start_numbers}
-use Rattle.fab_place.specs.BoardOf.{IsBoardOf}
+use Rattle.fab_place.specs.inner.Starts.{start_numbers}
+use Rattle.fab_place.specs.inner.BoardOf.{IsBoardOf}
 use Rattle.fab_place.proofs.Settling.{few_luts, few_pads, pads_apart, pads_inside, board_good, start_placed}
 use Rattle.fab_place.proofs.placing.numbers_of.Goals as goal
 
 pub overflow_cast-first_pad : goal.overflow_cast-first_pad
-overflow_cast-first_pad g c = omega (arith, few_luts c.args.fabric.now c.args.packed.now c.args.fixed.now c.args.luts.now c.args.pads.now c.requires.luts c.requires.pads c.types-types.ensures.is_fabric)
+overflow_cast-first_pad g c = omega (arith, few_luts c.args.fabric.now c.args.packed.now c.args.fixed.now c.args.luts.now c.args.pads.now c.requires.luts c.requires.pads c.is_well_made.ensures.is_fabric)
 
 pub overflow_cast-pad_count : goal.overflow_cast-pad_count
-overflow_cast-pad_count g c = omega (arith, few_pads c.args.fabric.now c.args.packed.now c.args.fixed.now c.args.luts.now c.args.pads.now c.requires.luts c.requires.pads c.types-types.ensures.is_fabric)
+overflow_cast-pad_count g c = omega (arith, few_pads c.args.fabric.now c.args.packed.now c.args.fixed.now c.args.luts.now c.args.pads.now c.requires.luts c.requires.pads c.is_well_made.ensures.is_fabric)
 
 pub constrained_pads-requires-clause-few : goal.constrained_pads-requires-clause-few
-constrained_pads-requires-clause-few g c = omega (arith, few_pads c.args.fabric.now c.args.packed.now c.args.fixed.now c.args.luts.now c.args.pads.now c.requires.luts c.requires.pads c.types-types.ensures.is_fabric)
+constrained_pads-requires-clause-few g c = omega (arith, few_pads c.args.fabric.now c.args.packed.now c.args.fixed.now c.args.luts.now c.args.pads.now c.requires.luts c.requires.pads c.is_well_made.ensures.is_fabric)
 
 pub constrained_pads-requires-clause-pads_apart : goal.constrained_pads-requires-clause-pads_apart
 constrained_pads-requires-clause-pads_apart g c = pads_apart c.args.fabric.now c.args.packed.now c.args.fixed.now c.args.luts.now c.args.pads.now c.requires.luts c.requires.pads
 
 pub start_of-requires-clause-few : goal.start_of-requires-clause-few
-start_of-requires-clause-few g c = omega (arith, few_luts c.args.fabric.now c.args.packed.now c.args.fixed.now c.args.luts.now c.args.pads.now c.requires.luts c.requires.pads c.types-types.ensures.is_fabric)
+start_of-requires-clause-few g c = omega (arith, few_luts c.args.fabric.now c.args.packed.now c.args.fixed.now c.args.luts.now c.args.pads.now c.requires.luts c.requires.pads c.is_well_made.ensures.is_fabric)
 
 pub start_of-requires-clause-few_pads : goal.start_of-requires-clause-few_pads
-start_of-requires-clause-few_pads g c = omega (arith, few_pads c.args.fabric.now c.args.packed.now c.args.fixed.now c.args.luts.now c.args.pads.now c.requires.luts c.requires.pads c.types-types.ensures.is_fabric)
+start_of-requires-clause-few_pads g c = omega (arith, few_pads c.args.fabric.now c.args.packed.now c.args.fixed.now c.args.luts.now c.args.pads.now c.requires.luts c.requires.pads c.is_well_made.ensures.is_fabric)
 
 pub start_of-requires-clause-inside : goal.start_of-requires-clause-inside
 start_of-requires-clause-inside g c =
@@ -38,7 +38,7 @@ settled-requires-clause-board g c =
     let luts = c.args.luts.now in
     let is = subst (λ (found : List (Option ℕ)). IsBoardOf c.args.packed.now (luts ++ c.args.pads.now) (length luts) found board) c.deref.ensures.value
     (subst (λ (sites : List Site). IsBoardOf c.args.packed.now sites (length luts) c.deref.result.now board) c.requires.sites c.in_ok-board.ensures) in
-    board_good c.args.fabric.now c.args.packed.now c.args.fixed.now c.args.luts.now c.args.pads.now c.requires.luts c.requires.pads c.requires.fits c.requires.fixed c.in_ok-constrained.constrained.items c.in_ok-constrained.ensures board is c.types-types.ensures.is_fabric
+    board_good c.args.fabric.now c.args.packed.now c.args.fixed.now c.args.luts.now c.args.pads.now c.requires.luts c.requires.pads c.requires.fits c.requires.fixed c.in_ok-constrained.constrained.items c.in_ok-constrained.ensures board is c.is_well_made.ensures.is_fabric
 
 pub settled-requires-clause-placed : goal.settled-requires-clause-placed
 settled-requires-clause-placed g c =

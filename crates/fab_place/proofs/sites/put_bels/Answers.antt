@@ -3,7 +3,7 @@ use Rattle.std.proofs.lemmas.List.{append-nil, append_assoc}
 use Rattle.std.proofs.Math.Seq.{take-length}
 use Rattle.fab_fabric.specs.declared.wire.Site.{Site}
 use Rattle.fab_model.specs.declared.tiles.Bel.{Bel}
-use Rattle.fab_ways.specs.Sites.{same_kind}
+use Rattle.fab_fabric.specs.Sites.{same_kind}
 use Rattle.fab_place.proofs.Listed.{kept_from, kept_yes, kept_no}
 use Rattle.fab_place.proofs.sites.put_bels.Goals as goal
 

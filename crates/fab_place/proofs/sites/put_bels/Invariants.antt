@@ -1,6 +1,6 @@
 use Rattle.std.proofs.Common.{◌≡◌, ◌++◌, take}
 use Rattle.fab_model.specs.declared.tiles.Bel.{Bel}
-use Rattle.fab_ways.specs.Sites.{same_kind}
+use Rattle.fab_fabric.specs.Sites.{same_kind}
 use Rattle.fab_place.proofs.Listed.{kept_from}
 use Rattle.fab_place.proofs.sites.put_bels.Given as goal
 

@@ -1,5 +1,5 @@
 use Rattle.fab_model.specs.Grid.{tile_at}
-use Rattle.fab_ways.specs.Sites.{tile_sites}
+use Rattle.fab_fabric.specs.Sites.{tile_sites}
 use Rattle.fab_place.proofs.Listed.{behind_none, behind_more}
 use Rattle.fab_place.proofs.sites.put_column.Goals as goal
 

@@ -2,7 +2,7 @@ use Rattle.std.proofs.Common.{◌≡◌, ◌++◌}
 use Rattle.std.specs.List.{flat_map}
 use Rattle.fab_model.specs.Tiles.{counted}
 use Rattle.fab_model.specs.Grid.{tile_at}
-use Rattle.fab_ways.specs.Sites.{tile_sites}
+use Rattle.fab_fabric.specs.Sites.{tile_sites}
 use Rattle.fab_place.proofs.sites.put_column.Given as goal
 
 abbrev pub invariant-loop-y : goal.invariant-loop-y

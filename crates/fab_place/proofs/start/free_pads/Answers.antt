@@ -1,6 +1,6 @@
 use Rattle.std.proofs.Common.{◌≡◌, ◌++◌, ◌∷◌, [], true, false, not, get_or, sym, ◌∙◌, ap, arith}
 use Rattle.std.proofs.lemmas.Grind.{common_steps}
-use Rattle.fab_place.specs.Starts.{is_taken}
+use Rattle.fab_place.specs.inner.Starts.{is_taken}
 use Rattle.fab_place.proofs.Orders.{free_none, free_yes, free_no}
 use Rattle.fab_place.proofs.start.free_pads.Goals as goal
 

@@ -1,7 +1,7 @@
 use Rattle.std.proofs.Common.{◌≡◌, not}
 use Rattle.std.specs.List.{filter}
 use Rattle.fab_model.specs.Tiles.{counted}
-use Rattle.fab_place.specs.Starts.{is_taken}
+use Rattle.fab_place.specs.inner.Starts.{is_taken}
 use Rattle.fab_place.proofs.start.free_pads.Given as goal
 
 abbrev pub invariant-loop-pad : goal.invariant-loop-pad

@@ -1,6 +1,6 @@
 use Rattle.std.proofs.Common.{◌≡◌, ◌+◌, ◌≤◌, ◌<◌, ◌++◌, length, map, drop}
 use Rattle.std.specs.List.{All}
-use Rattle.fab_place.specs.Starts.{loose, numbers_in_order}
+use Rattle.fab_place.specs.inner.Starts.{loose, numbers_in_order}
 use Rattle.fab_place.proofs.start.put_ports.Given as goal
 
 abbrev pub invariant-loop-pad : goal.invariant-loop-pad

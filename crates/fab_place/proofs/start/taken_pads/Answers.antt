@@ -1,5 +1,5 @@
 use Rattle.std.proofs.Common.{◌||◌, None, get_or, sym, ◌∙◌, ap, arith}
-use Rattle.fab_place.specs.Starts.{is_number}
+use Rattle.fab_place.specs.inner.Starts.{is_number}
 use Rattle.fab_place.proofs.Orders.{taken_more}
 use Rattle.fab_place.proofs.start.taken_pads.Goals as goal
 

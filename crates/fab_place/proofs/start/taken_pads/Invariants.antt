@@ -1,5 +1,5 @@
 use Rattle.std.proofs.Common.{◌≡◌, ℕ, ◌<◌, false, length, get_or, take}
-use Rattle.fab_place.specs.Starts.{is_taken}
+use Rattle.fab_place.specs.inner.Starts.{is_taken}
 use Rattle.fab_place.proofs.start.taken_pads.Given as goal
 
 abbrev pub invariant-loop-pad : goal.invariant-loop-pad

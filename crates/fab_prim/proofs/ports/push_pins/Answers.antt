@@ -1,7 +1,7 @@
 use Rattle.std.proofs.Common.{◌∙◌, ◌++◌, [], ◌∷◌, ap, sym, map, slice_range, List, ℕ, arith, append_assoc}
 use Rattle.std.proofs.lemmas.List.{map_push}
 use Rattle.fab_kinds.specs.Pins.{pin_names}
-use Rattle.fab_prim.specs.Ports.{scalar}
+use Rattle.fab_meaning.specs.Ports.{scalar}
 use Rattle.fab_prim.proofs.Pins.{range_more}
 use Rattle.fab_prim.proofs.ports.push_pins.Goals as goal
 

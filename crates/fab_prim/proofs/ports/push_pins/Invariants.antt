@@ -1,6 +1,6 @@
 use Rattle.std.proofs.Common.{◌≡◌, ◌++◌, ◌≤◌, map, slice_range}
 use Rattle.fab_kinds.specs.Pins.{pin_names}
-use Rattle.fab_prim.specs.Ports.{scalar}
+use Rattle.fab_meaning.specs.Ports.{scalar}
 use Rattle.fab_prim.proofs.ports.push_pins.Given as goal
 
 -- the ports so far are those of the pins so far

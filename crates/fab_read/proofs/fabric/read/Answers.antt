@@ -11,7 +11,7 @@ use Rattle.fab_blocks.specs.Reading.{PlainReading, PlainGridLine, start}
 use Rattle.fab_fabric.specs.Fabric.{fabric_of, wire_count}
 use Rattle.fab_files.proofs.Causes.{cause_weaker, placed_cause}
 use Rattle.fab_read.specs.Rows.{MeetsRowsFile}
-use Rattle.fab_read.specs.Following.{ReadsFileTo}
+use Rattle.fab_read.specs.inner.Following.{ReadsFileTo}
 use Rattle.fab_read.specs.Fabrics.{top, strange_line, column_count, places, most_wires, MeetsFabric, of_rows}
 use Rattle.fab_read.proofs.Grids.{some_lines, rows_are, reading_is_fabric}
 use Rattle.fab_read.proofs.Whole.{grid_absent, tile_absent, wires_past}

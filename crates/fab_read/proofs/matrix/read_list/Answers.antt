@@ -5,7 +5,7 @@ use Rattle.fab_model.specs.Tiles.{PlainTile, IsPair}
 use Rattle.fab_tables.specs.Lists.{Pair}
 use Rattle.fab_list_files.specs.Lists.{ReadsListFile, MeetsListFile}
 use Rattle.fab_files.proofs.Causes.{cause_weaker}
-use Rattle.fab_read.specs.Following.{KnownPairs}
+use Rattle.fab_read.specs.inner.Following.{KnownPairs}
 use Rattle.fab_read.specs.Tiles.{known_in, numbered, ReadsMatrix, of_list, MeetsMatrix, in_list}
 use Rattle.fab_read.proofs.Matrices.{numbered_paired}
 use Rattle.fab_read.proofs.matrix.read_list.Goals as goal

@@ -10,12 +10,13 @@ use Rattle.fab_blocks.specs.declared.mode.Said.TheVariants as said
 use Rattle.fab_desk.specs.Files.{Map}
 use Rattle.fab_model.specs.Tables.{HasTable}
 use Rattle.fab_rows.specs.Rows.{PlainRow, rows_of}
-use Rattle.fab_files.specs.Files.{MeetsFile, handed_out, last_line}
+use Rattle.fab_lines.specs.Counts.{last_line}
+use Rattle.fab_files.specs.Files.{MeetsFile, handed_out}
 use Rattle.fab_list_files.proofs.Rows.{cause_at, drop_next}
 use Rattle.fab_files.proofs.Causes.{cause_weaker, placed_cause}
 use Rattle.fab_read.specs.Rows.{end_at, is_left_open, ReadsRows, MeetsRows, MeetsRowsFile, of_file, of_rows, of_end}
 use Rattle.fab_read.specs.Tiles.{End, MeetsTile}
-use Rattle.fab_read.specs.Following.{EndsTile, MeetsRow}
+use Rattle.fab_read.specs.inner.Following.{EndsTile, MeetsRow}
 use Rattle.fab_read.proofs.Opened.{opened_included, opened_named}
 use Rattle.fab_read.proofs.RowByRow.{taken_leads, file_leads, tile_leads, file_meets, tile_meets, bad_meets, leads_further, leads_to_end, leads_to_event}
 use Rattle.fab_read.proofs.rows.+rows.Goals as goal

@@ -1,7 +1,7 @@
 use Rattle.std.proofs.Common.{◌≡◌, ◌≤◌, ◌+◌, ◌*◌, All, drop}
 use Rattle.std.specs.Option.{ForSome}
 use Rattle.fab_model.specs.Tables.{HasTable}
-use Rattle.fab_read.specs.Following.{LeadsOn}
+use Rattle.fab_read.specs.inner.Following.{LeadsOn}
 use Rattle.fab_read.proofs.RowByRow.{depth}
 use Rattle.fab_read.proofs.rows.+rows.Given as goal
 

@@ -4,7 +4,7 @@ use Rattle.fab_base.specs.Reading.{IsFaultOr, fault_at}
 use Rattle.fab_list_files.proofs.Rows.{cause_at}
 use Rattle.fab_files.proofs.Causes.{cause_weaker}
 use Rattle.std.specs.Option.{option_copied}
-use Rattle.fab_read.specs.Following.{judged_tile}
+use Rattle.fab_read.specs.inner.Following.{judged_tile}
 use Rattle.fab_read.specs.Tiles.{End, MeetsMatrix, MeetsTile}
 use Rattle.fab_read.proofs.Paired.{refused_block, meets_matrix, reads_paired, pairs_cause}
 use Rattle.fab_read.proofs.tile.read_paired.Goals as goal

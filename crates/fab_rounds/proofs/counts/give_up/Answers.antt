@@ -2,7 +2,7 @@ use Rattle.std.proofs.Common.{ℕ, List, get_or, refl, sym, ◌∙◌, ap, arith
 use Rattle.std.proofs.lemmas.List.Elements.{Contains-get_or}
 use Rattle.fab_search.specs.Tables.{users_of}
 use Rattle.fab_search.proofs.Members.{contains_has}
-use Rattle.fab_rounds.specs.Prices.{bit}
+use Rattle.fab_rounds.specs.inner.Prices.{bit}
 use Rattle.fab_rounds.proofs.Counting.{held_more, given}
 use Rattle.fab_rounds.proofs.counts.give_up.Goals as goal
 

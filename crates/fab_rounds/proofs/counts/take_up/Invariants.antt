@@ -1,7 +1,7 @@
 use Rattle.std.proofs.Common.{◌≡◌, ℕ, ◌+◌, take}
 use Rattle.fab_search.specs.Walks.{has}
 use Rattle.fab_search.specs.Tables.{AreTables, count_of, users_of, is_held}
-use Rattle.fab_rounds.specs.Prices.{bit, ArePriced}
+use Rattle.fab_rounds.specs.inner.Prices.{bit, ArePriced}
 use Rattle.fab_rounds.proofs.counts.take_up.Given as goal
 
 abbrev pub invariant-loop-node : goal.invariant-loop-node

@@ -8,7 +8,7 @@ use Rattle.fab_rounds.specs.declared.net.Net as demand
 use Rattle.fab_rounds.specs.declared.tree.Tree.{Tree}
 use Rattle.fab_rounds.specs.Rounds.{Net, Paths, nodes_of, users}
 use Rattle.fab_rounds.specs.Plain.{paths_of, trees_of, nets_of, goals_of, IsInside}
-use Rattle.fab_rounds.specs.Prices.{bit}
+use Rattle.fab_rounds.specs.inner.Prices.{bit}
 use Rattle.fab_rounds.proofs.Counting.{priced_low, past_on, priced_same}
 use Rattle.fab_rounds.proofs.Passes.{IsPassing, passed, dropped, few_left, users-le, tree_there, tree_nodes, trees_long, net_there, cut_off_in}
 use Rattle.fab_rounds.proofs.round.run_round.Goals as goal

@@ -1,4 +1,4 @@
-use Rattle.fab_route.specs.Guided.{AreAims}
+use Rattle.fab_route.specs.inner.Guided.{AreAims}
 use Rattle.fab_route.proofs.aims.put_aims.Given as goal
 
 abbrev pub invariant-loop-sink : goal.invariant-loop-sink

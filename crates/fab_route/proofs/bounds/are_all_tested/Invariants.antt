@@ -1,5 +1,5 @@
 use Rattle.std.proofs.Common.{◌<◌, ◌*◌, ℕ, length}
-use Rattle.fab_route.specs.Guided.{AreTested}
+use Rattle.fab_route.specs.inner.Guided.{AreTested}
 use Rattle.fab_route.proofs.bounds.are_all_tested.Given as goal
 
 abbrev pub invariant-loop-table : goal.invariant-loop-table

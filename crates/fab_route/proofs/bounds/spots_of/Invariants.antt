@@ -1,5 +1,5 @@
 use Rattle.std.proofs.Common.{◌≡◌, map, take}
-use Rattle.fab_route.specs.Guided.{spot_of}
+use Rattle.fab_route.specs.inner.Guided.{spot_of}
 use Rattle.fab_route.proofs.bounds.spots_of.Given as goal
 
 abbrev pub invariant-loop-place : goal.invariant-loop-place

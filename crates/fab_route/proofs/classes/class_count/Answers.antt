@@ -4,7 +4,7 @@ use Rattle.std.proofs.lemmas.List.{take_all}
 use Rattle.std.proofs.lemmas.List.Elements.{All-more, All-weaker}
 use Rattle.std.proofs.Common.{take}
 use Rattle.fab_route.specs.declared.classes.Place.{Place}
-use Rattle.fab_route.specs.Guided.{no_place}
+use Rattle.fab_route.specs.inner.Guided.{no_place}
 use Rattle.fab_route.proofs.classes.class_count.Goals as goal
 
 pub loop-place-preserved : goal.loop-place-preserved

@@ -1,5 +1,5 @@
 use Rattle.std.proofs.Common.{arith}
-use Rattle.fab_route.specs.Guided.{hop_between}
+use Rattle.fab_route.specs.inner.Guided.{hop_between}
 use Rattle.fab_route.proofs.Hopping.{pushed}
 use Rattle.fab_route.proofs.hops.add_hop.Goals as goal
 

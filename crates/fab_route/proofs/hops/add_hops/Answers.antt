@@ -3,7 +3,7 @@ use Rattle.std.specs.List.{All}
 use Rattle.std.proofs.lemmas.List.{take_all}
 use Rattle.std.proofs.lemmas.List.Elements.{All-more}
 use Rattle.fab_route.specs.declared.classes.Place.{Place}
-use Rattle.fab_route.specs.Guided.{HasHop, place_at}
+use Rattle.fab_route.specs.inner.Guided.{HasHop, place_at}
 use Rattle.fab_route.proofs.Hopping.{keeps_on, all_kept, place_read}
 use Rattle.fab_route.proofs.hops.add_hops.Goals as goal
 

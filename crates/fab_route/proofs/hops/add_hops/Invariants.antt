@@ -1,6 +1,6 @@
 use Rattle.std.proofs.Common.{ℕ, take}
 use Rattle.std.specs.List.{All}
-use Rattle.fab_route.specs.Guided.{place_at, HasHop, KeepHops}
+use Rattle.fab_route.specs.inner.Guided.{place_at, HasHop, KeepHops}
 use Rattle.fab_route.proofs.hops.add_hops.Given as goal
 
 abbrev pub invariant-loop-end : goal.invariant-loop-end

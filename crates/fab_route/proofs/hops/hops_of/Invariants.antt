@@ -1,5 +1,5 @@
 use Rattle.std.proofs.Common.{◌≡◌, length}
-use Rattle.fab_route.specs.Guided.{HaveHops}
+use Rattle.fab_route.specs.inner.Guided.{HaveHops}
 use Rattle.fab_route.specs.Plain.{graph_of}
 use Rattle.fab_route.proofs.hops.hops_of.Given as goal
 

@@ -1,6 +1,6 @@
 use Rattle.std.proofs.Common.{◌≢◌, ◌≤◌, ℕ, List, AllPairs, length, sym, ap, ◌∙◌, subst}
 use Rattle.fab_implementation.specs.Plain.{Pad, PlainImplementation}
-use Rattle.fab_legal.specs.Keeping.{port_number}
+use Rattle.fab_legal.specs.inner.Keeping.{port_number}
 use Rattle.fab_legal.specs.Lines.{named}
 use Rattle.fab_legal.proofs.Lists.{at_read}
 use Rattle.fab_route.proofs.Naming.{names_apart, few_lines}

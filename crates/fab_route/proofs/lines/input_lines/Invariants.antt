@@ -1,5 +1,5 @@
 use Rattle.std.proofs.Common.{◌≡◌, map, take}
-use Rattle.fab_legal.specs.Keeping.{port_number}
+use Rattle.fab_legal.specs.inner.Keeping.{port_number}
 use Rattle.fab_legal.specs.Lines.{named}
 use Rattle.fab_route.proofs.lines.input_lines.Given as goal
 

@@ -1,7 +1,7 @@
 use Rattle.std.proofs.Common.{◌≡◌, [], take}
 use Rattle.std.specs.Str.{bytes_eq}
 use Rattle.indexmap.specs.IndexSet.{insert_all}
-use Rattle.fab_model.specs.Numbering.{key_names}
+use Rattle.fab_bits.specs.Keys.{key_names}
 use Rattle.fab_legal.specs.Lines.{named}
 use Rattle.fab_route.proofs.lines.line_names.Given as goal
 

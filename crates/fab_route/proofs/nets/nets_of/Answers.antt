@@ -6,7 +6,7 @@ use Rattle.fab_ways.proofs.NetTrees.{net_known}
 use Rattle.fab_nodes.specs.Nets.{AreGoals}
 use Rattle.std.specs.List.{All}
 use Rattle.fab_route.specs.Plain.{graph_of, numbering_of}
-use Rattle.fab_route.specs.Wanted.{IsUnjoined, AreRoots}
+use Rattle.fab_route.specs.inner.Wanted.{IsUnjoined, AreRoots}
 use Rattle.fab_route.proofs.Grouping.{group_is}
 use Rattle.fab_route.proofs.Wanting.{number, unjoined_sinks, net_more, all_nets}
 use Rattle.fab_route.proofs.nets.nets_of.Goals as goal
@@ -19,7 +19,7 @@ pub net_to-requires-clause-wires : goal.net_to-requires-clause-wires
 net_to-requires-clause-wires c =
     let same = ap (map number) c.deref.ensures.value ∙ group_is c.args.fabric.now c.args.packed.now c.args.placed.now c.args.sinks.now.items c.loop-place.place c.index.result.now c.net_at-net.result c.requires.sinks c.net_at-net.ensures c.index.ensures in
     subst (λ (f : PlainFabric). All (IsUnjoined f) c.deref.result.now) (sym c.in_ok-graph.ensures)
-    (unjoined_sinks c.args.fabric.now c.types-types.ensures.are_tiles c.args.packed.now c.args.placed.now c.requires.made c.requires.placed c.net_at-net.result c.deref.result.now same)
+    (unjoined_sinks c.args.fabric.now c.is_well_made.ensures.are_tiles c.args.packed.now c.args.placed.now c.requires.made c.requires.placed c.net_at-net.result c.deref.result.now same)
 
 pub loop-place-preserved : goal.loop-place-preserved
 loop-place-preserved c =

@@ -1,4 +1,4 @@
-use Rattle.fab_route.specs.Numbers.{AreNumbered}
+use Rattle.fab_route.specs.inner.Numbers.{AreNumbered}
 use Rattle.fab_route.proofs.numbers.number_inputs.Given as goal
 
 abbrev pub invariant-loop-number : goal.invariant-loop-number

@@ -1,5 +1,5 @@
 use Rattle.std.proofs.Common.{◌≡◌, ℕ, length, arith, subst}
-use Rattle.fab_route.specs.Numbers.{AreBefore}
+use Rattle.fab_route.specs.inner.Numbers.{AreBefore}
 use Rattle.fab_route.proofs.Tabled.{more_before}
 use Rattle.fab_route.proofs.numbers.outputs_before.Goals as goal
 

@@ -1,5 +1,5 @@
 use Rattle.std.proofs.Common.{◌≡◌, length}
-use Rattle.fab_route.specs.Numbers.{AreBefore}
+use Rattle.fab_route.specs.inner.Numbers.{AreBefore}
 use Rattle.fab_route.proofs.numbers.outputs_before.Given as goal
 
 abbrev pub invariant-loop-wire : goal.invariant-loop-wire

@@ -10,7 +10,7 @@ use Rattle.fab_ways.specs.Trees.{with_trees}
 use Rattle.fab_ways.proofs.Legal.{unshared_is_legal}
 use Rattle.fab_route.specs.Answers.{AreRouted}
 use Rattle.fab_route.specs.Plain.{graph_of}
-use Rattle.fab_route.specs.Told.{IsNodeRun}
+use Rattle.fab_route.specs.inner.Told.{IsNodeRun}
 use Rattle.fab_route.specs.declared.router.Routed.{Routed}
 use Rattle.fab_route.proofs.router.route_with_progress.Goals as goal
 

@@ -1,5 +1,5 @@
 use Rattle.std.proofs.Common.{ℕ, subst, arith}
-use Rattle.fab_route.specs.Owners.{IsLeastShared}
+use Rattle.fab_route.specs.inner.Owners.{IsLeastShared}
 use Rattle.fab_route.proofs.shared.least_shared.Goals as goal
 
 pub returns : goal.returns

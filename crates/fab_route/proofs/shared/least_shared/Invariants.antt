@@ -1,4 +1,4 @@
-use Rattle.fab_route.specs.Owners.{IsLeastShared}
+use Rattle.fab_route.specs.inner.Owners.{IsLeastShared}
 use Rattle.fab_route.proofs.shared.least_shared.Given as goal
 
 abbrev pub invariant-loop-node : goal.invariant-loop-node

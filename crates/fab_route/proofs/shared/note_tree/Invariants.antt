@@ -1,5 +1,5 @@
 use Rattle.std.proofs.Common.{◌≡◌, take, length}
-use Rattle.fab_route.specs.Owners.{IsNoted}
+use Rattle.fab_route.specs.inner.Owners.{IsNoted}
 use Rattle.fab_route.proofs.shared.note_tree.Given as goal
 
 abbrev pub invariant-loop-node : goal.invariant-loop-node

@@ -1,7 +1,7 @@
 use Rattle.std.proofs.Common.{◌≡◌, ℕ, Option, sym, ap₂, ◌∙◌, arith}
 use Rattle.std.proofs.lemmas.List.{get_or_default}
 use Rattle.fab_route.specs.declared.shared.Shared.{Shared}
-use Rattle.fab_route.specs.Owners.{no_owners, owners_at}
+use Rattle.fab_route.specs.inner.Owners.{no_owners, owners_at}
 use Rattle.fab_route.proofs.Sharing.{not_twice, no_first, no_second, with_twice}
 use Rattle.fab_route.proofs.shared.with_node.Goals as goal
 

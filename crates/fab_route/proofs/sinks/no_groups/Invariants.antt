@@ -1,5 +1,5 @@
 use Rattle.std.proofs.Common.{◌≡◌, ℕ, [], length, get_or}
-use Rattle.fab_route.specs.Wanted.{wire_groups}
+use Rattle.fab_route.specs.inner.Wanted.{wire_groups}
 use Rattle.fab_route.proofs.sinks.no_groups.Given as goal
 
 abbrev pub invariant-loop-place : goal.invariant-loop-place

@@ -2,7 +2,7 @@ use Rattle.std.proofs.Common.{◌<◌, ◌∙◌, ap, sym, subst, ℕ, List}
 use Rattle.fab_model.specs.Grid.{PlainFabric}
 use Rattle.fab_fabric.specs.Fabric.{wire_count}
 use Rattle.fab_ways.specs.Edges.{ends}
-use Rattle.fab_route.specs.Numbers.{Adds}
+use Rattle.fab_route.specs.inner.Numbers.{Adds}
 use Rattle.std.proofs.Common.{take, ◌+◌}
 use Rattle.fab_route.proofs.Leading.{joined_added, unjoined_added, end_within}
 use Rattle.fab_route.proofs.targets.add_targets.Goals as goal

@@ -1,5 +1,5 @@
 use Rattle.std.proofs.Common.{take}
-use Rattle.fab_route.specs.Numbers.{Adds}
+use Rattle.fab_route.specs.inner.Numbers.{Adds}
 use Rattle.fab_route.proofs.targets.add_targets.Given as goal
 
 abbrev pub invariant-loop-index : goal.invariant-loop-index

@@ -1,4 +1,4 @@
-use Rattle.fab_route.specs.Numbers.{AreFlat}
+use Rattle.fab_route.specs.inner.Numbers.{AreFlat}
 use Rattle.fab_route.proofs.targets.targets.Given as goal
 
 abbrev pub invariant-loop-wire : goal.invariant-loop-wire

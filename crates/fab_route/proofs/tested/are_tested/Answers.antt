@@ -3,7 +3,7 @@ use Rattle.std.specs.List.{All}
 use Rattle.std.proofs.lemmas.List.{take_all}
 use Rattle.std.proofs.lemmas.List.Elements.{All-more}
 use Rattle.fab_route.specs.declared.hops.Hop.{Hop}
-use Rattle.fab_route.specs.Guided.{IsHopTested}
+use Rattle.fab_route.specs.inner.Guided.{IsHopTested}
 use Rattle.fab_route.proofs.tested.are_tested.Goals as goal
 
 pub loop-hop-preserved : goal.loop-hop-preserved

@@ -1,6 +1,6 @@
 use Rattle.std.proofs.Common.{take}
 use Rattle.std.specs.List.{All}
-use Rattle.fab_route.specs.Guided.{IsHopTested}
+use Rattle.fab_route.specs.inner.Guided.{IsHopTested}
 use Rattle.fab_route.proofs.tested.are_tested.Given as goal
 
 abbrev pub invariant-loop-hop : goal.invariant-loop-hop

@@ -1,4 +1,4 @@
-use Rattle.fab_route.specs.Guided.{AreTested}
+use Rattle.fab_route.specs.inner.Guided.{AreTested}
 use Rattle.fab_route.proofs.tested.is_tested.Given as goal
 
 abbrev pub invariant-loop-to : goal.invariant-loop-to

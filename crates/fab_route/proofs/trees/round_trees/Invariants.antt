@@ -2,8 +2,8 @@ use Rattle.std.proofs.Common.{◌≡◌, map, take}
 use Rattle.fab_rounds.specs.Plain.{rounds_of}
 use Rattle.fab_route.specs.Answers.{plain_rounds}
 use Rattle.fab_route.specs.Plain.{numbering_of}
-use Rattle.fab_route.specs.Told.{told_trees}
-use Rattle.fab_route.specs.Wanted.{wire_groups}
+use Rattle.fab_route.specs.inner.Told.{told_trees}
+use Rattle.fab_route.specs.inner.Wanted.{wire_groups}
 use Rattle.fab_route.proofs.trees.round_trees.Given as goal
 
 abbrev pub invariant-loop-round : goal.invariant-loop-round

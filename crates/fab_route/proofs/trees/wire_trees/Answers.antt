@@ -6,7 +6,7 @@ use Rattle.fab_rounds.specs.declared.tree.Tree.{Tree}
 use Rattle.fab_rounds.specs.Plain.{paths_of, trees_of}
 use Rattle.fab_nodes.proofs.NetSinks.{mapped_at}
 use Rattle.fab_route.specs.Plain.{numbering_of}
-use Rattle.fab_route.specs.Wanted.{wire_groups}
+use Rattle.fab_route.specs.inner.Wanted.{wire_groups}
 use Rattle.fab_route.proofs.Growing.{tree_more, all_trees}
 use Rattle.fab_route.proofs.Grouping.{numbers, group_read}
 use Rattle.fab_route.proofs.Wanting.{number}

@@ -1,6 +1,6 @@
 use Rattle.fab_rounds.specs.Plain.{trees_of}
 use Rattle.fab_route.specs.Plain.{numbering_of}
-use Rattle.fab_route.specs.Wanted.{wire_groups}
+use Rattle.fab_route.specs.inner.Wanted.{wire_groups}
 use Rattle.fab_route.proofs.Growing.{HaveTrees}
 use Rattle.fab_route.proofs.trees.wire_trees.Given as goal
 

@@ -1,28 +1,24 @@
-use Rattle.std.proofs.Common.{◌<◌, IfErr, IfOk, Some, refl}
-use Rattle.std.proofs.lemmas.Result.{IfErr-weaker, err_from_is_err_and}
+use Rattle.std.proofs.Common.{◌≡◌, ℕ, refl, sym, subst}
+use Rattle.fab_base.specs.declared.fault.Fault.TheVariants as faults
+use Rattle.fab_desk.specs.Files.{Map}
 use Rattle.fab_desk.specs.Memory.{map_of}
-use Rattle.fab_files.specs.Files.{HasReadCause}
-use Rattle.fab_designs.specs.Designs.{DesignFiles, MeetsDesign, SpellsDesign}
-use Rattle.fab_sampling.specs.Sampling.{memory}
-use Rattle.fab_sampling.proofs.Ending.{design_ends}
-use Rattle.fab_sampling.proofs.Named.{design_named, never}
+use Rattle.fab_designs.specs.Designs.{DesignFiles, PlainDesign, SpellsDesign}
+use Rattle.fab_draws.specs.Draws.{draws_of}
+use Rattle.fab_sample_runs.specs.Commands.{names}
+use Rattle.fab_sampling.specs.Sampling.{sample_map}
+use Rattle.fab_sampling.proofs.Named.{design_named}
+use Rattle.fab_sampling.proofs.Told.{sample_told}
 use Rattle.fab_sampling.proofs.run.read_sample.Goals as goal
 
-pub returns-in_err-fabric-clause-cause : goal.returns-in_err-fabric-clause-cause
-returns-in_err-fabric-clause-cause c =
-    let residual = err_from_is_err_and c.from_residual.result c.from_residual.ensures.1 in rw (residual.1, residual.2) memory
+pub returns-in-Ok-clause-spelled : goal.returns-in-Ok-clause-spelled
+returns-in-Ok-clause-spelled c =
+    design_named (λ (n : DesignFiles). SpellsDesign (map_of c.args.shelf.now) n c.in-Ok.design) _ _ c.in_ok-fabric.ensures c.in_ok-blif.ensures
+    (c.in-Ok.ensures.spelled (map_of c.args.shelf.now) refl)
 
-pub returns-in_err-blif-clause-cause : goal.returns-in_err-blif-clause-cause
-returns-in_err-blif-clause-cause c =
-    let residual = err_from_is_err_and c.from_residual-in_err-blif.result c.from_residual-in_err-blif.ensures.1 in rw (residual.1, residual.2) memory
-
-pub returns-clause-spelled : goal.returns-clause-spelled
-returns-clause-spelled c =
-    design_named (λ (n : DesignFiles). IfOk c.read_design.result (SpellsDesign (map_of c.args.shelf.now) n)) _ _ c.in_ok-fabric.ensures c.in_ok-blif.ensures
-    (c.read_design.ensures.spelled (map_of c.args.shelf.now) refl)
-
-pub returns-clause-cause : goal.returns-clause-cause
-returns-clause-cause c =
-    IfErr-weaker c.read_design.result _ _ (λ fault cause. design_ends (map_of c.args.shelf.now) (0 < 0) never fault cause)
-    (design_named (λ (n : DesignFiles). IfErr c.read_design.result (HasReadCause (Some (map_of c.args.shelf.now)) (0 < 0) (λ told. MeetsDesign told n))) _ _ c.in_ok-fabric.ensures
-    c.in_ok-blif.ensures c.read_design.ensures.cause)
+pub only_memory-requires : goal.only_memory-requires
+only_memory-requires c =
+    let read =
+    c.sample_designs_are_read.ensures (sample_map c.args.size c.args.seed) c.args.size (draws_of c.args.seed) c.requires.least c.requires.most (sample_told c.args.size c.args.seed) in
+    design_named (λ (n : DesignFiles). (design : PlainDesign) → SpellsDesign (map_of c.args.shelf.now) n design → ◌≡◌ {A = ℕ} 0 0 → c.in-Err.fault ≡ faults.Memory) _ _ c.in_ok-fabric.ensures
+    c.in_ok-blif.ensures (c.in-Err.ensures.complete (map_of c.args.shelf.now) refl) read.0
+    (subst (λ (files : Map). SpellsDesign files names.design read.0) (sym c.requires.files) read.1.spelled) refl

@@ -9,7 +9,7 @@ use Rattle.fab_equations.specs.Instances.{points}
 use Rattle.fab_equations.specs.Equations.{IsPoint}
 use Rattle.fab_wiring.specs.Clocks.{IsClockAt}
 use Rattle.fab_state_points.specs.Entries.{in_entries}
-use Rattle.fab_sim.specs.Rooms.{IsUnmarked, IsUnmarkedAt}
+use Rattle.fab_sim.specs.inner.Rooms.{IsUnmarked, IsUnmarkedAt}
 use Rattle.fab_sim.specs.Stepper.{AreFreeInputs}
 use Rattle.fab_sim.proofs.FreeInputs.{are_free}
 use Rattle.fab_sim.proofs.Numbers.{numbers_within}

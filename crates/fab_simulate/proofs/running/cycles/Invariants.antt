@@ -3,7 +3,7 @@ use Rattle.fab_syntax.specs.Plain.{PlainModule}
 use Rattle.fab_systems.specs.Ternary.{Tern as PlainTern}
 use Rattle.fab_state.specs.Plain.{PlainState}
 use Rattle.fab_ternary.specs.Terns.{plain_tern}
-use Rattle.fab_simulate.specs.Going.{GoesThrough}
+use Rattle.fab_simulate.specs.inner.Going.{GoesThrough}
 use Rattle.fab_simulate.proofs.Goings.{HasGone}
 use Rattle.fab_simulate.proofs.running.cycles.Given as goal
 

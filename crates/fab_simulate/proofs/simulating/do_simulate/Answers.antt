@@ -39,9 +39,9 @@ returns-clause-done g c =
     let names : SimulationFiles = simulation_files c.args.verilog.now c.args.bit.now c.args.state.now c.args.stimulus.now c.args.trace.now in
     let told = g.D.Desk.told c.args.desk.now in
     let outputs = map plain_output c.deref.result.now in
-    let made : ForSome told (λ files. MakesTrace files names outputs) =
-    λ files is. made_of files names c.in_ok-outputs.outputs.items c.deref.result.now c.deref.ensures.value (c.in_ok-outputs.ensures.made files (c.in_ok-text.ensures.told ∙ is) (c.in_ok-text.ensures.spelled files is)) in
-    on_ok_weaker c.store_all.result (λ stored. done_of_store (λ files. MakesTrace files names) told outputs (g.D.Desk.told c.outputs_of.new.desk) (g.D.Desk.told c.store_all.new.desk) made
+    let made : ForSome told (λ files. MakesTrace files names c.args.order outputs) =
+    λ files is. made_of files names c.args.order c.in_ok-outputs.outputs.items c.deref.result.now c.deref.ensures.value (c.in_ok-outputs.ensures.made files (c.in_ok-text.ensures.told ∙ is) (c.in_ok-text.ensures.spelled files is)) in
+    on_ok_weaker c.store_all.result (λ stored. done_of_store (λ files. MakesTrace files names c.args.order) told outputs (g.D.Desk.told c.outputs_of.new.desk) (g.D.Desk.told c.store_all.new.desk) made
     (c.in_ok-outputs.ensures.told ∙ c.in_ok-text.ensures.told) stored) c.store_all.ensures.done
 
 pub returns-clause-leaves : goal.returns-clause-leaves
@@ -49,9 +49,9 @@ returns-clause-leaves g c =
     let names : SimulationFiles = simulation_files c.args.verilog.now c.args.bit.now c.args.state.now c.args.stimulus.now c.args.trace.now in
     let told = g.D.Desk.told c.args.desk.now in
     let outputs = map plain_output c.deref.result.now in
-    let made : ForSome told (λ files. MakesTrace files names outputs) =
-    λ files is. made_of files names c.in_ok-outputs.outputs.items c.deref.result.now c.deref.ensures.value (c.in_ok-outputs.ensures.made files (c.in_ok-text.ensures.told ∙ is) (c.in_ok-text.ensures.spelled files is)) in
-    IfErr-weaker c.store_all.result _ _ (λ fault stopped. leaves_of_store (λ files. MakesTrace files names) told outputs (g.D.Desk.told c.outputs_of.new.desk) (g.D.Desk.told c.store_all.new.desk) _ fault made
+    let made : ForSome told (λ files. MakesTrace files names c.args.order outputs) =
+    λ files is. made_of files names c.args.order c.in_ok-outputs.outputs.items c.deref.result.now c.deref.ensures.value (c.in_ok-outputs.ensures.made files (c.in_ok-text.ensures.told ∙ is) (c.in_ok-text.ensures.spelled files is)) in
+    IfErr-weaker c.store_all.result _ _ (λ fault stopped. leaves_of_store (λ files. MakesTrace files names c.args.order) told outputs (g.D.Desk.told c.outputs_of.new.desk) (g.D.Desk.told c.store_all.new.desk) _ fault made
     (c.in_ok-outputs.ensures.told ∙ c.in_ok-text.ensures.told) stopped) c.store_all.ensures.stopped
 
 pub returns-clause-cause : goal.returns-clause-cause
@@ -62,5 +62,5 @@ returns-clause-cause g c =
     let second = c.in_ok-outputs.ensures.writes in
     IfErr-weaker c.store_all.result _ _ (λ fault stopped. cause_of_store told _ _ (λ files. MeetsSimulation files names) (λ files. IsReadyToSimulate files names) simulate_refusals
     (map plain_output c.deref.result.now) _ _ _ fault
-    (λ files is. ready_of files names (map plain_output c.in_ok-outputs.outputs.items) (c.in_ok-outputs.ensures.made files (c.in_ok-text.ensures.told ∙ is) (c.in_ok-text.ensures.spelled files is)))
+    (λ files is. ready_of files names c.args.order (map plain_output c.in_ok-outputs.outputs.items) (c.in_ok-outputs.ensures.made files (c.in_ok-text.ensures.told ∙ is) (c.in_ok-text.ensures.spelled files is)))
     (λ rose. omega (arith, rose, first, second)) stopped) c.store_all.ensures.stopped

@@ -32,10 +32,10 @@ pub returns-clause-trace : goal.returns-clause-trace
 returns-clause-trace g c = λ files is.
     let text = plain_text c.args.equations.now in
     let behind = c.in_ok-words.ensures.told ∙ is in
-    IfOk-weaker c.stimulated-found.result _ _
-    (λ bytes made. is_trace files c.args.bit.now c.args.state.now c.args.stimulus.now text c.deref.result.now c.in_ok-words.words.items c.in_ok-standing.standing bytes.items
+    IfOk-weaker c.stimulated.result _ _
+    (λ bytes made. is_trace files c.args.bit.now c.args.state.now c.args.stimulus.now text c.args.order c.deref.result.now c.in_ok-words.words.items c.in_ok-standing.standing bytes.items
     c.deref.ensures.value (c.in_ok-words.ensures.spelled files is) (c.in_ok-standing.ensures.spelled files behind) made)
-    (c.stimulated-found.ensures.traced text c.in_ok-standing.ensures.made files (c.in_ok-standing.ensures.told ∙ behind))
+    (c.stimulated.ensures.traced text c.in_ok-standing.ensures.made files (c.in_ok-standing.ensures.told ∙ behind))
 
 pub returns-clause-cause : goal.returns-clause-cause
 returns-clause-cause g c =
@@ -43,8 +43,8 @@ returns-clause-cause g c =
     let before = c.in_ok-words.ensures.reads in
     let then = c.in_ok-standing.ensures.reads in
     let text = plain_text c.args.equations.now in
-    IfErr-weaker c.stimulated-found.result _ _
-    (λ fault cause. stimulus_cause (g.D.Desk.told c.args.desk.now) (g.D.Desk.told c.read_standing.new.desk) (reads c.read_standing.new.desk < reads c.stimulated-found.new.desk)
-    (reads c.args.desk.now < reads c.stimulated-found.new.desk) c.args.bit.now c.args.state.now c.args.stimulus.now text c.in_ok-words.words.items c.in_ok-standing.standing fault
+    IfErr-weaker c.stimulated.result _ _
+    (λ fault cause. stimulus_cause (g.D.Desk.told c.args.desk.now) (g.D.Desk.told c.read_standing.new.desk) (reads c.read_standing.new.desk < reads c.stimulated.new.desk)
+    (reads c.args.desk.now < reads c.stimulated.new.desk) c.args.bit.now c.args.state.now c.args.stimulus.now text c.in_ok-words.words.items c.in_ok-standing.standing fault
     (c.in_ok-standing.ensures.told ∙ c.in_ok-words.ensures.told) (λ rose. omega (arith, rose, before, then)) (λ files is. c.in_ok-words.ensures.spelled files is)
-    (λ files is. c.in_ok-standing.ensures.spelled files (c.in_ok-words.ensures.told ∙ is)) cause) c.stimulated-found.ensures.cause
+    (λ files is. c.in_ok-standing.ensures.spelled files (c.in_ok-words.ensures.told ∙ is)) cause) c.stimulated.ensures.cause

@@ -1,8 +1,8 @@
 use Rattle.std.proofs.Common.{◌≡◌, ◌∙◌, ℕ, ◌+◌, ◌<◌, List, [], ◌∷◌, length, get_or, is_some, sym, ap, arith, rules}
 use Rattle.std.specs.List.{list_any}
 use Rattle.std.proofs.lemmas.List.{length-append}
-use Rattle.fab_sound.specs.Checks.{known_module}
-use Rattle.fab_sound.specs.Rules.{is_counted, serves_in, item_serves}
+use Rattle.fab_sound.specs.inner.Checks.{known_module}
+use Rattle.fab_sound.specs.inner.Rules.{is_counted, serves_in, item_serves}
 use Rattle.fab_sound.proofs.Leading.{same_before, pushed_same, of_some, fails, fit_more, serve_more, taken_all}
 use Rattle.fab_sound.proofs.clocks.clocks_fit.Goals as goal
 

@@ -1,7 +1,7 @@
 use Rattle.std.proofs.Common.{◌≡◌, length, take}
 use Rattle.std.specs.Prelude.{All}
 use Rattle.fab_syntax.specs.Sound.{ClockFits}
-use Rattle.fab_sound.specs.Checks.{library_text}
+use Rattle.fab_sound.specs.inner.Checks.{library_text}
 use Rattle.fab_sound.proofs.Leading.{ServeBefore}
 use Rattle.fab_sound.proofs.clocks.clocks_fit.Given as goal
 

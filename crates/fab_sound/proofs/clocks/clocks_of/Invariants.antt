@@ -1,8 +1,8 @@
 use Rattle.std.proofs.Common.{◌≡◌, ◌||◌, ℕ, List, drop, map}
 use Rattle.std.specs.List.{list_all, list_any}
 use Rattle.fab_syntax.specs.Plain.{plain_item}
-use Rattle.fab_sound.specs.Checks.{found, is_scalar_entry}
-use Rattle.fab_sound.specs.Rules.{is_counted, serves_in, item_serves, item_clocks}
+use Rattle.fab_sound.specs.inner.Checks.{found, is_scalar_entry}
+use Rattle.fab_sound.specs.inner.Rules.{is_counted, serves_in, item_serves, item_clocks}
 use Rattle.fab_sound.proofs.clocks.clocks_of.Given as goal
 
 abbrev pub invariant-loop-item : goal.invariant-loop-item

@@ -1,7 +1,7 @@
 use Rattle.std.proofs.Common.{◌∙◌, ap}
 use Rattle.std.specs.Prelude.{nat_lt}
 use Rattle.std.specs.Str.{bytes_eq}
-use Rattle.fab_sound.specs.Checks.{count_at}
+use Rattle.fab_sound.specs.inner.Checks.{count_at}
 use Rattle.fab_sound.proofs.Clocking.{counted_more}
 use Rattle.fab_sound.proofs.clocks.take_clock.Goals as goal
 

@@ -1,8 +1,8 @@
 use Rattle.std.proofs.Common.{◌∙◌, ◌||◌, ℕ, List, map, sym, ap}
 use Rattle.fab_syntax.specs.declared.tree.Item.{Item}
 use Rattle.fab_syntax.specs.Plain.{plain_item, plain_join}
-use Rattle.fab_sound.specs.Checks.{found, is_scalar_entry}
-use Rattle.fab_sound.specs.Rules.{is_counted, serves_in, item_serves, item_clocks}
+use Rattle.fab_sound.specs.inner.Checks.{found, is_scalar_entry}
+use Rattle.fab_sound.specs.inner.Rules.{is_counted, serves_in, item_serves, item_clocks}
 use Rattle.fab_sound.proofs.Clocking.{none_clocks, none_serve}
 use Rattle.fab_sound.proofs.clocks.take_item.Goals as goal
 

@@ -1,7 +1,7 @@
 use Rattle.std.proofs.Common.{◌≡◌, ◌∙◌, get_or, sym, rules}
 use Rattle.fab_syntax.specs.Plain.{plain_join}
-use Rattle.fab_sound.specs.Checks.{found, is_scalar_entry}
-use Rattle.fab_sound.specs.Rules.{is_counted, join_serves, join_clocks}
+use Rattle.fab_sound.specs.inner.Checks.{found, is_scalar_entry}
+use Rattle.fab_sound.specs.inner.Rules.{is_counted, join_serves, join_clocks}
 use Rattle.fab_sound.proofs.Driven.{fails_at, passes_at}
 use Rattle.fab_sound.proofs.Clocking.{found_more, found_all, passed_all}
 use Rattle.fab_sound.proofs.clocks.take_joins.Goals as goal

@@ -1,8 +1,8 @@
 use Rattle.std.proofs.Common.{◌≡◌, ◌||◌, ℕ, List, drop, map}
 use Rattle.std.specs.List.{list_all, list_any}
 use Rattle.fab_syntax.specs.Plain.{plain_join}
-use Rattle.fab_sound.specs.Checks.{found, is_scalar_entry}
-use Rattle.fab_sound.specs.Rules.{is_counted, join_serves, join_clocks}
+use Rattle.fab_sound.specs.inner.Checks.{found, is_scalar_entry}
+use Rattle.fab_sound.specs.inner.Rules.{is_counted, join_serves, join_clocks}
 use Rattle.fab_sound.proofs.clocks.take_joins.Given as goal
 
 abbrev pub invariant-loop-join : goal.invariant-loop-join

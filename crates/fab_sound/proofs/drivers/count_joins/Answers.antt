@@ -1,6 +1,6 @@
 use Rattle.std.proofs.Common.{◌≡◌, get_or, ap, arith, rules}
 use Rattle.fab_syntax.specs.Declarations.{module_named}
-use Rattle.fab_sound.specs.Checks.{count_at, library_text}
+use Rattle.fab_sound.specs.inner.Checks.{count_at, library_text}
 use Rattle.fab_sound.proofs.Driven.{join_drives_one, join_drives_none}
 use Rattle.fab_sound.proofs.drivers.count_joins.Goals as goal
 use Rattle.fab_sound.proofs.drivers.count_joins.Goals.{in-Some+in_ok-count_up-in-Some, in-None}

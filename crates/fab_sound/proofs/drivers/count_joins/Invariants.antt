@@ -1,7 +1,7 @@
 use Rattle.std.proofs.Common.{◌≡◌, ◌+◌, ℕ, List, drop, map}
 use Rattle.fab_syntax.specs.Plain.{plain_join}
 use Rattle.fab_syntax.specs.Declarations.{module_named, times_joined_out}
-use Rattle.fab_sound.specs.Checks.{count_at, library_text}
+use Rattle.fab_sound.specs.inner.Checks.{count_at, library_text}
 use Rattle.fab_sound.proofs.drivers.count_joins.Given as goal
 
 -- what is counted so far and what is to come is what there was and all

@@ -1,8 +1,8 @@
 use Rattle.std.proofs.Common.{◌≡◌, ◌∙◌, ◌<◌, get_or, length, sym, ap, arith, rules}
 use Rattle.std.proofs.lemmas.Bool.Decides.{not_from_Decides}
 use Rattle.std.specs.List.{list_all}
-use Rattle.fab_sound.specs.Checks.{known_module, library_text}
-use Rattle.fab_sound.specs.Rules.{module_is_driven}
+use Rattle.fab_sound.specs.inner.Checks.{known_module, library_text}
+use Rattle.fab_sound.specs.inner.Rules.{module_is_driven}
 use Rattle.fab_sound.proofs.Driven.{fails_at, drivers_decide}
 use Rattle.fab_sound.proofs.drivers.drivers_fit.Goals as goal
 

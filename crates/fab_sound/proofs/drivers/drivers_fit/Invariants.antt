@@ -1,7 +1,7 @@
 use Rattle.std.proofs.Common.{◌≡◌, drop, map}
 use Rattle.std.specs.List.{list_all}
-use Rattle.fab_sound.specs.Checks.{known_module, library_text}
-use Rattle.fab_sound.specs.Rules.{module_is_driven}
+use Rattle.fab_sound.specs.inner.Checks.{known_module, library_text}
+use Rattle.fab_sound.specs.inner.Rules.{module_is_driven}
 use Rattle.fab_sound.proofs.drivers.drivers_fit.Given as goal
 
 abbrev pub invariant-loop-known : goal.invariant-loop-known

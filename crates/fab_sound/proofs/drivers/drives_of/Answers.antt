@@ -1,5 +1,5 @@
 use Rattle.std.proofs.Common.{◌≡◌, get_or, arith, rules}
-use Rattle.fab_sound.specs.Checks.{library_text}
+use Rattle.fab_sound.specs.inner.Checks.{library_text}
 use Rattle.fab_sound.proofs.Driven.{item_drives, item_holds}
 use Rattle.fab_sound.proofs.drivers.drives_of.Goals as goal
 

@@ -1,7 +1,7 @@
 use Rattle.std.proofs.Common.{◌≡◌, ◌+◌, ℕ, List, drop, map}
 use Rattle.fab_syntax.specs.Plain.{plain_item}
 use Rattle.fab_syntax.specs.Declarations.{times_driven, times_held}
-use Rattle.fab_sound.specs.Checks.{count_at, library_text}
+use Rattle.fab_sound.specs.inner.Checks.{count_at, library_text}
 use Rattle.fab_sound.proofs.drivers.drives_of.Given as goal
 
 -- what is counted so far and what is to come is all

@@ -1,6 +1,6 @@
 use Rattle.std.proofs.Common.{◌∙◌, sym, ap, Some, None}
 use Rattle.fab_syntax.specs.Declarations.{is_input_of}
-use Rattle.fab_sound.specs.Checks.{known_module}
+use Rattle.fab_sound.specs.inner.Checks.{known_module}
 use Rattle.fab_sound.proofs.Places.{among_all, input_net}
 use Rattle.fab_sound.proofs.drivers.is_input_of.Goals as goal
 

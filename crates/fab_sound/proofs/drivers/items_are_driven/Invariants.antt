@@ -1,8 +1,8 @@
 use Rattle.std.proofs.Common.{◌≡◌, drop, map}
 use Rattle.std.specs.List.{list_all}
 use Rattle.fab_syntax.specs.Plain.{plain_item}
-use Rattle.fab_sound.specs.Checks.{count_at}
-use Rattle.fab_sound.specs.Rules.{item_is_driven}
+use Rattle.fab_sound.specs.inner.Checks.{count_at}
+use Rattle.fab_sound.specs.inner.Rules.{item_is_driven}
 use Rattle.fab_sound.proofs.drivers.items_are_driven.Given as goal
 
 abbrev pub invariant-loop-item : goal.invariant-loop-item

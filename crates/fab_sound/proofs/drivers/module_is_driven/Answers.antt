@@ -2,8 +2,8 @@ use Rattle.std.proofs.Common.{◌≡◌, ◌∙◌, ℕ, List, ◌&&◌, map, sy
 use Rattle.std.specs.List.{list_all}
 use Rattle.fab_syntax.specs.Plain.{plain_item}
 use Rattle.fab_syntax.specs.Declarations.{times_driven, times_held}
-use Rattle.fab_sound.specs.Checks.{count_at, known_module, library_text}
-use Rattle.fab_sound.specs.Rules.{port_is_driven, item_is_driven}
+use Rattle.fab_sound.specs.inner.Checks.{count_at, known_module, library_text}
+use Rattle.fab_sound.specs.inner.Rules.{port_is_driven, item_is_driven}
 use Rattle.fab_sound.proofs.Driven.{ports_same, items_same}
 use Rattle.fab_sound.proofs.drivers.module_is_driven.Goals as goal
 use Rattle.fab_sound.proofs.drivers.module_is_driven.Goals.{then-ports_are_driven, else-ports_are_driven}

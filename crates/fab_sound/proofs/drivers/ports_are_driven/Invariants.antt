@@ -1,7 +1,7 @@
 use Rattle.std.proofs.Common.{◌≡◌, drop}
 use Rattle.std.specs.List.{list_all}
-use Rattle.fab_sound.specs.Checks.{count_at}
-use Rattle.fab_sound.specs.Rules.{port_is_driven}
+use Rattle.fab_sound.specs.inner.Checks.{count_at}
+use Rattle.fab_sound.specs.inner.Rules.{port_is_driven}
 use Rattle.fab_sound.proofs.drivers.ports_are_driven.Given as goal
 
 abbrev pub invariant-loop-port : goal.invariant-loop-port

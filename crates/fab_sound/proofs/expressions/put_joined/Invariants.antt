@@ -2,7 +2,7 @@ use Rattle.std.proofs.Common.{◌≡◌, ◌++◌, drop, map}
 use Rattle.std.specs.List.{flat_map}
 use Rattle.fab_syntax.specs.Plain.{PlainJoin, plain_join}
 use Rattle.fab_syntax.specs.Sound.{joined}
-use Rattle.fab_sound.specs.Checks.{plain_all}
+use Rattle.fab_sound.specs.inner.Checks.{plain_all}
 use Rattle.fab_sound.proofs.expressions.put_joined.Given as goal
 
 abbrev pub invariant-loop-join : goal.invariant-loop-join

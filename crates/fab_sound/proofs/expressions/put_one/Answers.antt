@@ -1,5 +1,5 @@
 use Rattle.std.proofs.Common.{ap, ◌∙◌}
-use Rattle.fab_sound.specs.Checks.{waiting_parts}
+use Rattle.fab_sound.specs.inner.Checks.{waiting_parts}
 use Rattle.fab_sound.proofs.Waiting.{waiting_push}
 use Rattle.fab_sound.proofs.expressions.put_one.Goals as goal
 

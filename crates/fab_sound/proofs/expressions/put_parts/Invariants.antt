@@ -1,7 +1,7 @@
 use Rattle.std.proofs.Common.{◌≡◌, ◌++◌, ◌≤◌, drop, length, map}
 use Rattle.fab_syntax.specs.Plain.{plain_expr, plain_exprs}
 use Rattle.fab_syntax.specs.Sound.{parts_subexpressions}
-use Rattle.fab_sound.specs.Checks.{waiting_parts}
+use Rattle.fab_sound.specs.inner.Checks.{waiting_parts}
 use Rattle.fab_sound.proofs.expressions.put_parts.Given as goal
 
 abbrev pub invariant-loop-left : goal.invariant-loop-left

@@ -1,6 +1,6 @@
 use Rattle.std.proofs.Common.{ap, ◌∙◌}
 use Rattle.fab_syntax.specs.Plain.{plain_expr}
-use Rattle.fab_sound.specs.Checks.{plain_all, waiting_parts}
+use Rattle.fab_sound.specs.inner.Checks.{plain_all, waiting_parts}
 use Rattle.fab_sound.proofs.Waiting.{waiting_push, plain_push, fewer, one_found}
 use Rattle.fab_sound.proofs.expressions.subexpressions.Goals as goal
 

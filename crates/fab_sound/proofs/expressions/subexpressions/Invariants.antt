@@ -1,7 +1,7 @@
 use Rattle.std.proofs.Common.{◌≡◌, ◌++◌, length}
 use Rattle.fab_syntax.specs.Plain.{plain_expr}
 use Rattle.fab_syntax.specs.Sound.{subexpressions}
-use Rattle.fab_sound.specs.Checks.{plain_all, waiting_parts}
+use Rattle.fab_sound.specs.inner.Checks.{plain_all, waiting_parts}
 use Rattle.fab_sound.proofs.expressions.subexpressions.Given as goal
 
 abbrev pub invariant-loop-next : goal.invariant-loop-next

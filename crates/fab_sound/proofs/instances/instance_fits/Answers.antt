@@ -5,8 +5,8 @@ use Rattle.std.proofs.lemmas.List.{drop_all}
 use Rattle.fab_syntax.specs.declared.tree.Join.{Join}
 use Rattle.fab_syntax.specs.Plain.{plain_join}
 use Rattle.fab_syntax.specs.Declarations.{times_joined}
-use Rattle.fab_sound.specs.Checks.{count_at, known_module}
-use Rattle.fab_sound.specs.Rules.{join_passes, is_joined_once}
+use Rattle.fab_sound.specs.inner.Checks.{count_at, known_module}
+use Rattle.fab_sound.specs.inner.Rules.{join_passes, is_joined_once}
 use Rattle.fab_sound.proofs.Driven.{fails_at, passes_at}
 use Rattle.fab_sound.proofs.Joining.{join_counts}
 use Rattle.fab_sound.proofs.instances.instance_fits.Goals as goal

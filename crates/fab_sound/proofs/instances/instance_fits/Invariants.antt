@@ -2,8 +2,8 @@ use Rattle.std.proofs.Common.{◌≡◌, ◌+◌, ℕ, List, drop, map}
 use Rattle.std.specs.List.{list_all}
 use Rattle.fab_syntax.specs.Plain.{plain_join}
 use Rattle.fab_syntax.specs.Declarations.{times_joined}
-use Rattle.fab_sound.specs.Checks.{count_at, known_module}
-use Rattle.fab_sound.specs.Rules.{join_passes}
+use Rattle.fab_sound.specs.inner.Checks.{count_at, known_module}
+use Rattle.fab_sound.specs.inner.Rules.{join_passes}
 use Rattle.fab_sound.proofs.instances.instance_fits.Given as goal
 
 abbrev pub invariant-loop-join : goal.invariant-loop-join

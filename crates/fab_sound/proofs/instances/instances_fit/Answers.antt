@@ -1,8 +1,8 @@
 use Rattle.std.proofs.Common.{◌≡◌, ◌∙◌, ◌+◌, ◌<◌, [], Bool, ◌&&◌, take, drop, length, get_or, sym, ap, subst, arith, rules}
 use Rattle.std.proofs.lemmas.Bool.Decides.{not_from_Decides}
 use Rattle.fab_sound.specs.declared.tables.Known.{Known}
-use Rattle.fab_sound.specs.Checks.{known_module, library_text, HasNets}
-use Rattle.fab_sound.specs.Rules.{instances_pass}
+use Rattle.fab_sound.specs.inner.Checks.{known_module, library_text, HasNets}
+use Rattle.fab_sound.specs.inner.Rules.{instances_pass}
 use Rattle.fab_sound.proofs.Joining.{instances_decide, instances_step, instances_end}
 use Rattle.fab_sound.proofs.instances.instances_fit.Goals as goal
 

@@ -1,6 +1,6 @@
 use Rattle.std.proofs.Common.{◌≡◌, [], drop, take}
-use Rattle.fab_sound.specs.Checks.{library_text}
-use Rattle.fab_sound.specs.Rules.{instances_pass}
+use Rattle.fab_sound.specs.inner.Checks.{library_text}
+use Rattle.fab_sound.specs.inner.Rules.{instances_pass}
 use Rattle.fab_sound.proofs.instances.instances_fit.Given as goal
 
 abbrev pub invariant-loop-number : goal.invariant-loop-number

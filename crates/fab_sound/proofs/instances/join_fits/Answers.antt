@@ -1,7 +1,7 @@
 use Rattle.std.proofs.Common.{◌≡◌, ◌∙◌, Bool, IfOk, ap, subst}
 use Rattle.fab_syntax.specs.Plain.{plain_join}
-use Rattle.fab_sound.specs.Checks.{known_module, found_width}
-use Rattle.fab_sound.specs.Rules.{fits_declared}
+use Rattle.fab_sound.specs.inner.Checks.{known_module, found_width}
+use Rattle.fab_sound.specs.inner.Rules.{fits_declared}
 use Rattle.fab_sound.proofs.Joining.{found_join}
 use Rattle.fab_sound.proofs.instances.join_fits.Goals as goal
 

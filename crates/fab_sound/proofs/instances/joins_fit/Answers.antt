@@ -1,7 +1,7 @@
 use Rattle.std.proofs.Common.{◌≡◌, Option, IfOk, map, sym, ap, subst}
 use Rattle.fab_syntax.specs.Plain.{PlainModule, plain_join}
-use Rattle.fab_sound.specs.Checks.{known_module}
-use Rattle.fab_sound.specs.Rules.{joins_pass}
+use Rattle.fab_sound.specs.inner.Checks.{known_module}
+use Rattle.fab_sound.specs.inner.Rules.{joins_pass}
 use Rattle.fab_sound.proofs.instances.joins_fit.Goals as goal
 
 pub returns-in-Some : goal.returns-in-Some

@@ -2,7 +2,7 @@ use Rattle.std.proofs.Common.{◌≡◌, ◌∙◌, [], map, sym, ap, drop, true
 use Rattle.std.specs.Option.{option_or}
 use Rattle.std.proofs.lemmas.List.{drop_all}
 use Rattle.fab_syntax.specs.Plain.{plain_item}
-use Rattle.fab_sound.specs.Checks.{found, net_declared, net_of}
+use Rattle.fab_sound.specs.inner.Checks.{found, net_declared, net_of}
 use Rattle.fab_sound.proofs.Nets.{items_step, or_none}
 use Rattle.fab_sound.proofs.Noting.{items_twice, items_unknown, items_pass}
 use Rattle.fab_sound.proofs.names.name_items.Goals as goal

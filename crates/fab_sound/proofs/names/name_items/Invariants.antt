@@ -3,7 +3,7 @@ use Rattle.std.specs.Option.{option_or}
 use Rattle.std.specs.List.{flat_map}
 use Rattle.fab_syntax.specs.Plain.{plain_item}
 use Rattle.fab_syntax.specs.Sound.{Mention, item_mentions, refusals}
-use Rattle.fab_sound.specs.Checks.{Notes, found, net_declared, net_of}
+use Rattle.fab_sound.specs.inner.Checks.{Notes, found, net_declared, net_of}
 use Rattle.fab_sound.proofs.names.name_items.Given as goal
 
 abbrev pub invariant-loop-item : goal.invariant-loop-item

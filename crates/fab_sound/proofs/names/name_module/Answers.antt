@@ -3,7 +3,7 @@ use Rattle.fab_base.specs.declared.words.Reason.TheVariants.{NameTwice}
 use Rattle.fab_syntax.specs.declared.tree.Port.{Port}
 use Rattle.fab_syntax.specs.declared.tree.Item.{Item}
 use Rattle.fab_syntax.specs.Sound.{refusals}
-use Rattle.fab_sound.specs.Checks.{StartsWith, TakesNets}
+use Rattle.fab_sound.specs.inner.Checks.{StartsWith, TakesNets}
 use Rattle.fab_syntax.specs.Plain.{plain_item}
 use Rattle.fab_sound.proofs.Nets.{module_nets}
 use Rattle.fab_sound.proofs.Noting.{port_nets, items_mentions, notes_empty, advances_true, advances_false, of_some, of_none}

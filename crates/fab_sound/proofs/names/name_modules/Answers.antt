@@ -1,7 +1,7 @@
 use Rattle.std.proofs.Common.{◌≡◌, ◌∙◌, [], refl, sym, true, false, get_or, is_some, rules}
 use Rattle.fab_syntax.specs.Plain.{plain_module}
 use Rattle.fab_syntax.specs.Sound.{mentions_in, refusals}
-use Rattle.fab_sound.specs.Checks.{found, StartsWith}
+use Rattle.fab_sound.specs.inner.Checks.{found, StartsWith}
 use Rattle.fab_sound.proofs.Noting.{not_true, modules_pass, of_ok}
 use Rattle.fab_sound.proofs.Nets.{of_fine, text_step, nets_step, places_step}
 use Rattle.fab_sound.proofs.names.name_modules.Goals as goal

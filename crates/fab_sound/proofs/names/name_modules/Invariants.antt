@@ -3,7 +3,7 @@ use Rattle.std.specs.Prelude.{All}
 use Rattle.fab_syntax.specs.Plain.{PlainModule, plain_module}
 use Rattle.fab_syntax.specs.Sound.{text_refusals}
 use Rattle.fab_sound.specs.declared.tables.Known.{Known}
-use Rattle.fab_sound.specs.Checks.{found, Numbers, HasNets, known_module, place_named}
+use Rattle.fab_sound.specs.inner.Checks.{found, Numbers, HasNets, known_module, place_named}
 use Rattle.fab_sound.proofs.names.name_modules.Given as goal
 
 abbrev pub invariant-loop-module : goal.invariant-loop-module

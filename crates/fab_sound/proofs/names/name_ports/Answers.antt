@@ -2,7 +2,7 @@ use Rattle.std.proofs.Common.{◌≡◌, ◌∙◌, ◌++◌, [], sym, ap, subst
 use Rattle.std.proofs.lemmas.List.{drop_all}
 use Rattle.fab_syntax.specs.Sound.{refusals}
 use Rattle.fab_sound.specs.declared.tables.Declared.{Declared}
-use Rattle.fab_sound.specs.Checks.{found, Gives, net_declared, net_of}
+use Rattle.fab_sound.specs.inner.Checks.{found, Gives, net_declared, net_of}
 use Rattle.std.specs.Option.{option_or}
 use Rattle.fab_sound.proofs.Nets.{ports_step, or_none}
 use Rattle.fab_sound.proofs.Noting.{not_true, not_false, port_nets, ports_twice, ports_pass}

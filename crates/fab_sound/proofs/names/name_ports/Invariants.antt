@@ -2,7 +2,7 @@ use Rattle.std.proofs.Common.{◌≡◌, ◌++◌, ℕ, drop, List, [], map}
 use Rattle.std.specs.Option.{option_or}
 use Rattle.fab_syntax.specs.declared.tree.Port.{Port}
 use Rattle.fab_syntax.specs.Sound.{Mention, net, refusals}
-use Rattle.fab_sound.specs.Checks.{Notes, found, net_declared, net_of}
+use Rattle.fab_sound.specs.inner.Checks.{Notes, found, net_declared, net_of}
 use Rattle.fab_sound.proofs.names.name_ports.Given as goal
 
 abbrev pub invariant-loop-port : goal.invariant-loop-port

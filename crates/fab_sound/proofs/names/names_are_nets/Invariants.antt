@@ -1,7 +1,7 @@
 use Rattle.std.proofs.Common.{◌≡◌, drop}
 use Rattle.std.specs.List.{flat_map, list_all}
 use Rattle.fab_syntax.specs.Sound.{own_names}
-use Rattle.fab_sound.specs.Checks.{has_net, plain_all}
+use Rattle.fab_sound.specs.inner.Checks.{has_net, plain_all}
 use Rattle.fab_sound.proofs.names.names_are_nets.Given as goal
 
 abbrev pub invariant-loop-part : goal.invariant-loop-part

@@ -1,6 +1,6 @@
 use Rattle.std.proofs.Common.{◌≡◌, drop}
 use Rattle.std.specs.List.{flat_map, list_all}
-use Rattle.fab_sound.specs.Checks.{has_net, plain_all, expression_names}
+use Rattle.fab_sound.specs.inner.Checks.{has_net, plain_all, expression_names}
 use Rattle.fab_sound.proofs.names.uses_nets.Given as goal
 
 abbrev pub invariant-loop-value : goal.invariant-loop-value

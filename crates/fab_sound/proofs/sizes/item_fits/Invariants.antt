@@ -1,6 +1,6 @@
 use Rattle.std.proofs.Common.{◌≡◌, drop}
 use Rattle.std.specs.List.{list_all}
-use Rattle.fab_sound.specs.Checks.{plain_all, expression_passes, found_width, all_narrow}
+use Rattle.fab_sound.specs.inner.Checks.{plain_all, expression_passes, found_width, all_narrow}
 use Rattle.fab_sound.proofs.sizes.item_fits.Given as goal
 
 abbrev pub invariant-loop-value : goal.invariant-loop-value

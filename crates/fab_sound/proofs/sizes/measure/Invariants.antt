@@ -1,7 +1,7 @@
 use Rattle.std.proofs.Common.{◌≡◌, ◌++◌, List, reverse, vec_len, true}
 use Rattle.fab_syntax.specs.Plain.{PlainExpr, plain_expr}
 use Rattle.fab_syntax.specs.Sound.{subexpressions}
-use Rattle.fab_sound.specs.Checks.{plain_all, found_width, widths_from, select_passes, operands_pass, narrow_over}
+use Rattle.fab_sound.specs.inner.Checks.{plain_all, found_width, widths_from, select_passes, operands_pass, narrow_over}
 use Rattle.fab_sound.proofs.Sizing.{steps_pass}
 use Rattle.fab_sound.proofs.sizes.measure.Given as goal
 

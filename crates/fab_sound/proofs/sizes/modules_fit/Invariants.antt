@@ -1,6 +1,6 @@
 use Rattle.std.proofs.Common.{◌≡◌, drop}
 use Rattle.std.specs.List.{list_all}
-use Rattle.fab_sound.specs.Checks.{module_passes, module_narrow}
+use Rattle.fab_sound.specs.inner.Checks.{module_passes, module_narrow}
 use Rattle.fab_sound.proofs.sizes.modules_fit.Given as goal
 
 abbrev pub invariant-loop-known : goal.invariant-loop-known

@@ -1,5 +1,5 @@
 use Rattle.std.proofs.Common.{◌≡◌, rules, ap, ◌∙◌, sym, length}
-use Rattle.fab_sound.specs.Checks.{operands}
+use Rattle.fab_sound.specs.inner.Checks.{operands}
 use Rattle.fab_sound.proofs.Sizing.{cat_operands}
 use Rattle.fab_sound.proofs.sizes.operand_count.Goals as goal
 

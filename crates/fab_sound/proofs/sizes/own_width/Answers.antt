@@ -1,6 +1,6 @@
 use Rattle.std.proofs.Common.{◌≡◌, rules, ap, ◌∙◌, sym, ℕ, subst, length, take, reverse, IfOk}
 use Rattle.std.specs.List.{sum}
-use Rattle.fab_sound.specs.Checks.{found_width, width_over}
+use Rattle.fab_sound.specs.inner.Checks.{found_width, width_over}
 use Rattle.fab_sound.proofs.Sizing.{cat_operands}
 use Rattle.fab_sound.proofs.sizes.own_width.Goals as goal
 

@@ -2,7 +2,7 @@ use Rattle.std.proofs.Common.{◌≡◌, true, false}
 use Rattle.std.specs.List.{list_all}
 use Rattle.fab_syntax.specs.Sound.{SelectsFit}
 use Rattle.fab_sound.specs.declared.sizes.Rule.TheVariants.{Selects}
-use Rattle.fab_sound.specs.Checks.{module_passes, library_text}
+use Rattle.fab_sound.specs.inner.Checks.{module_passes, library_text}
 use Rattle.fab_sound.proofs.Judging.{selects_says, yes_of, no_of, along_ok}
 use Rattle.fab_sound.proofs.sizes.selects_fit.Goals as goal
 

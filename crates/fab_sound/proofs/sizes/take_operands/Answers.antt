@@ -1,6 +1,6 @@
 use Rattle.std.proofs.Common.{◌≡◌, ap, ◌∙◌, length, take, ◌-◌, drop, reverse, ◌∷◌, rules}
 use Rattle.fab_syntax.specs.Plain.{plain_expr}
-use Rattle.fab_sound.specs.Checks.{found_width, width_over}
+use Rattle.fab_sound.specs.inner.Checks.{found_width, width_over}
 use Rattle.fab_sound.proofs.Sizing.{stack_step}
 use Rattle.fab_sound.proofs.sizes.take_operands.Goals as goal
 

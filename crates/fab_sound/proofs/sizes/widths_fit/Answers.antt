@@ -2,7 +2,7 @@ use Rattle.std.proofs.Common.{◌≡◌, true, false}
 use Rattle.std.specs.List.{list_all}
 use Rattle.fab_syntax.specs.Sound.{WidthsFit}
 use Rattle.fab_sound.specs.declared.sizes.Rule.TheVariants.{Widths}
-use Rattle.fab_sound.specs.Checks.{module_passes, module_narrow, library_text}
+use Rattle.fab_sound.specs.inner.Checks.{module_passes, module_narrow, library_text}
 use Rattle.fab_sound.specs.Narrow.{AreNarrow}
 use Rattle.fab_sound.proofs.Judging.{widths_says, text_narrow_says, yes_of, no_of, along_ok}
 use Rattle.fab_sound.proofs.sizes.widths_fit.Goals as goal

@@ -1,7 +1,7 @@
 use Rattle.std.proofs.Common.{ap, ◌∙◌, ℕ, List, Some, if◌then◌else◌}
 use Rattle.std.specs.Str.{bytes_eq}
 use Rattle.std.specs.Map.{lookup}
-use Rattle.fab_sound.specs.Checks.{found}
+use Rattle.fab_sound.specs.inner.Checks.{found}
 use Rattle.fab_sound.proofs.Waiting.{lookup_inserted}
 use Rattle.fab_sound.proofs.tables.enter.Goals as goal
 

@@ -5,7 +5,7 @@ use Rattle.fab_base.specs.Reading.{Gives}
 use Rattle.fab_lines.proofs.Wholes.{gives_whole, gives_fault}
 use Rattle.fab_rows.specs.Rows.{rows_of}
 use Rattle.fab_model.specs.Tiles.{tile_bits}
-use Rattle.fab_tables.specs.FollowingConfig.{config_of}
+use Rattle.fab_tables.specs.inner.FollowingConfig.{config_of}
 use Rattle.fab_tables.proofs.ConfigRules.{follows_config}
 use Rattle.fab_tables.proofs.Tabled.{spelled_table, table_of_rows}
 use Rattle.fab_tables.proofs.WholeReads.{whole_gives}

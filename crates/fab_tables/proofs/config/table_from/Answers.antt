@@ -1,6 +1,6 @@
 use Rattle.std.proofs.Common.{◌≡◌, Err, refl, sym, ap, ◌∙◌}
 use Rattle.fab_lines.specs.Order.{judged}
-use Rattle.fab_tables.specs.FollowingConfig.{table_of}
+use Rattle.fab_tables.specs.inner.FollowingConfig.{table_of}
 use Rattle.fab_tables.proofs.Entries.{table_none, table_more, all_more, not_placed}
 use Rattle.fab_tables.proofs.config.table_from.Goals as goal
 

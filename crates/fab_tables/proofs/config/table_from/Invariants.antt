@@ -1,7 +1,7 @@
 use Rattle.std.proofs.Common.{◌≡◌, true}
 use Rattle.std.specs.Prelude.{is_some}
 use Rattle.fab_tables.specs.Config.{all_below, place_of}
-use Rattle.fab_tables.specs.FollowingConfig.{table_of}
+use Rattle.fab_tables.specs.inner.FollowingConfig.{table_of}
 use Rattle.fab_tables.proofs.config.table_from.Given as goal
 
 abbrev pub invariant-loop-bit : goal.invariant-loop-bit

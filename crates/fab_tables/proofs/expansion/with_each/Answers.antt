@@ -1,5 +1,5 @@
 use Rattle.std.proofs.Common.{◌≡◌, ℕ, List, Bor, map, take, ◌++◌, sym, ap, ◌∙◌}
-use Rattle.fab_tables.specs.Expanding.{extended}
+use Rattle.fab_tables.specs.inner.Expanding.{extended}
 use Rattle.fab_tables.proofs.Products.{extended_more}
 use Rattle.fab_tables.proofs.expansion.with_each.Goals as goal
 

@@ -1,5 +1,5 @@
 use Rattle.std.proofs.Common.{◌≡◌, map, take}
-use Rattle.fab_tables.specs.Expanding.{extended}
+use Rattle.fab_tables.specs.inner.Expanding.{extended}
 use Rattle.fab_tables.proofs.expansion.with_each.Given as goal
 
 abbrev pub invariant-loop-name : goal.invariant-loop-name

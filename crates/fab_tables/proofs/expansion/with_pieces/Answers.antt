@@ -2,7 +2,7 @@ use Rattle.std.proofs.Common.{◌≡◌, ℕ, List, Bor, map, sym, ap, ◌∙◌
 use Rattle.std.specs.List.{flat_map}
 use Rattle.std.proofs.lemmas.List.{drop_all}
 use Rattle.fab_tables.specs.Cells.{choice_parts}
-use Rattle.fab_tables.specs.Expanding.{extended_by}
+use Rattle.fab_tables.specs.inner.Expanding.{extended_by}
 use Rattle.fab_tables.proofs.Products.{piece_more, text_before}
 use Rattle.fab_tables.proofs.expansion.with_pieces.Goals as goal
 

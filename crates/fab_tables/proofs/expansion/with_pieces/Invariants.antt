@@ -1,7 +1,7 @@
 use Rattle.std.proofs.Common.{◌≡◌, ◌∷◌, [], map, drop}
 use Rattle.std.specs.List.{flat_map}
 use Rattle.fab_tables.specs.Cells.{choice_parts}
-use Rattle.fab_tables.specs.Expanding.{extended_by}
+use Rattle.fab_tables.specs.inner.Expanding.{extended_by}
 use Rattle.fab_tables.proofs.expansion.with_pieces.Given as goal
 
 abbrev pub invariant-loop-choice : goal.invariant-loop-choice

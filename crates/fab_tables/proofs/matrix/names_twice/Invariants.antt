@@ -1,6 +1,6 @@
 use Rattle.std.proofs.Common.{◌≡◌, [], drop}
 use Rattle.fab_tables.specs.Matrix.{names_twice}
-use Rattle.fab_model.specs.Numbering.{key_names}
+use Rattle.fab_bits.specs.Keys.{key_names}
 use Rattle.fab_tables.proofs.matrix.names_twice.Given as goal
 
 abbrev pub invariant-loop-name : goal.invariant-loop-name

@@ -3,9 +3,9 @@ use Rattle.std.specs.Prelude.{option_map}
 use Rattle.std.proofs.lemmas.Result.{err_from_is_err_and}
 use Rattle.fab_base.specs.Reading.{Refuses}
 use Rattle.fab_lines.specs.Order.{judged}
-use Rattle.fab_model.specs.Numbering.{key_names}
+use Rattle.fab_bits.specs.Keys.{key_names}
 use Rattle.fab_tables.specs.Matrix.{cells_behind, inputs_problem, input_numbers}
-use Rattle.fab_tables.specs.FollowingMatrix.{MatrixState, after_cells, with_inputs}
+use Rattle.fab_tables.specs.inner.FollowingMatrix.{MatrixState, after_cells, with_inputs}
 use Rattle.fab_tables.proofs.Chains.{refused_same}
 use Rattle.fab_tables.proofs.matrix.take_cells.Goals as goal
 

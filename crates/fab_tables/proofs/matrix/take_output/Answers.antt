@@ -5,7 +5,7 @@ use Rattle.std.specs.Str.{bytes_eq}
 use Rattle.std.proofs.lemmas.Result.{err_from_is_err_and}
 use Rattle.fab_lines.specs.Order.{judged}
 use Rattle.fab_lines.proofs.Judging.{judged_ok}
-use Rattle.fab_model.specs.Numbering.{key_names}
+use Rattle.fab_bits.specs.Keys.{key_names}
 use Rattle.fab_tables.specs.Matrix.{output_number, output_of, output_problem, pairs_with, pairs_of_row}
 use Rattle.fab_tables.proofs.Chains.{refused_same}
 use Rattle.fab_tables.proofs.Wired.{new_output}

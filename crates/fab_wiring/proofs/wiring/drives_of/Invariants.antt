@@ -1,5 +1,5 @@
 use Rattle.fab_syntax.specs.Plain.{plain_text}
-use Rattle.fab_wiring.specs.Trees.{AreTrees}
+use Rattle.fab_wiring.specs.inner.Trees.{AreTrees}
 use Rattle.fab_wiring.proofs.Driving.{AreDriven}
 use Rattle.fab_wiring.proofs.wiring.drives_of.Given as goal
 

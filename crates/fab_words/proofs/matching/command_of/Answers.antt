@@ -1,5 +1,5 @@
 use Rattle.std.proofs.lemmas.Result.{IfOk-weaker}
-use Rattle.fab_words.specs.Plain.{plain_synopsis}
+use Rattle.fab_words.specs.inner.Plain.{plain_synopsis}
 use Rattle.fab_words.proofs.Told.{form_told}
 use Rattle.fab_words.proofs.matching.command_of.Goals as goal
 

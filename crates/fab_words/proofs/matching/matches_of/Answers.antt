@@ -2,7 +2,7 @@ use Rattle.std.proofs.Common.{◌≡◌, ◌∙◌, ap}
 use Rattle.std.proofs.lemmas.Result.{IfErr-weaker, IfOk-weaker}
 use Rattle.clap.specs.Words.{app_of}
 use Rattle.fab_words.specs.Forms.{synopsis}
-use Rattle.fab_words.specs.Matching.{app}
+use Rattle.fab_words.specs.inner.Matching.{app}
 use Rattle.fab_words.proofs.Parsed.{words_given, words_taken}
 use Rattle.fab_words.proofs.matching.matches_of.Goals as goal
 

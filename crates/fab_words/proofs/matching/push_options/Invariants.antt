@@ -1,7 +1,7 @@
 use Rattle.std.proofs.Common.{◌≡◌, ◌++◌, map, take, false}
 use Rattle.std.specs.List.{All}
 use Rattle.clap.specs.Words.{rule_of}
-use Rattle.fab_words.specs.Matching.{option_rule}
+use Rattle.fab_words.specs.inner.Matching.{option_rule}
 use Rattle.fab_words.proofs.matching.push_options.Given as goal
 
 abbrev pub invariant-loop-name : goal.invariant-loop-name

@@ -1,6 +1,6 @@
 use Rattle.std.proofs.Common.{map, rules, arith, []}
 use Rattle.clap.specs.Words.{rule_of}
-use Rattle.fab_words.specs.Matching.{positional_rule}
+use Rattle.fab_words.specs.inner.Matching.{positional_rule}
 use Rattle.fab_words.proofs.Told.{told_more, local_more}
 use Rattle.fab_words.proofs.matching.push_positionals.Goals as goal
 

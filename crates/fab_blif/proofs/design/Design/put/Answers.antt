@@ -3,7 +3,7 @@ use Rattle.fab_models.specs.Plain.{plain_body}
 use Rattle.fab_models.specs.declared.model.Body.{Body}
 use Rattle.fab_blif.specs.Design.{PlainDesign}
 use Rattle.fab_blif.specs.Flat.{net_in, lines_by}
-use Rattle.fab_blif.specs.Walk.{after_all, with_control}
+use Rattle.fab_blif.specs.inner.Walk.{after_all, with_control}
 use Rattle.fab_blif.proofs.design.Design.put.Goals as goal
 
 pub returns-in_ok-latch-in-Latch : goal.returns-in_ok-latch-in-Latch

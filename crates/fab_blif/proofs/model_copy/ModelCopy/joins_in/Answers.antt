@@ -3,7 +3,7 @@ use Rattle.std.specs.Str.{bytes_eq}
 use Rattle.std.proofs.lemmas.List.{at_drop_more}
 use Rattle.indexmap.specs.IndexMap.{insert_all}
 use Rattle.fab_blif.specs.Flat.{join_in, PlainNet}
-use Rattle.fab_blif.specs.Walk.{plain_joins}
+use Rattle.fab_blif.specs.inner.Walk.{plain_joins}
 use Rattle.fab_blif.proofs.Joins.{word_joined}
 use Rattle.fab_blif.proofs.model_copy.ModelCopy.joins_in.Goals as goal
 

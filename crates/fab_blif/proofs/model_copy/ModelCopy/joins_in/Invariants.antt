@@ -2,7 +2,7 @@ use Rattle.std.proofs.Common.{◌≡◌, [], drop, filter_map}
 use Rattle.std.specs.Str.{bytes_eq}
 use Rattle.indexmap.specs.IndexMap.{insert_all}
 use Rattle.fab_blif.specs.Flat.{join_in}
-use Rattle.fab_blif.specs.Walk.{plain_joins}
+use Rattle.fab_blif.specs.inner.Walk.{plain_joins}
 use Rattle.fab_blif.proofs.model_copy.ModelCopy.joins_in.Given as goal
 
 abbrev pub invariant-loop-word : goal.invariant-loop-word

@@ -1,7 +1,7 @@
 use Rattle.std.proofs.Common.{◌≡◌, ◌++◌, ◌∙◌, sym, ap, subst, Option, IfOk, List, ℕ}
 use Rattle.fab_blif.specs.declared.net.Net.{Net}
 use Rattle.fab_blif.specs.Flat.{PlainCopy, PlainNet, net_in}
-use Rattle.fab_blif.specs.Walk.{plain_net}
+use Rattle.fab_blif.specs.inner.Walk.{plain_net}
 use Rattle.fab_blif.proofs.Joins.{looked_up, net_or}
 use Rattle.fab_blif.proofs.model_copy.ModelCopy.net_in.Goals as goal
 

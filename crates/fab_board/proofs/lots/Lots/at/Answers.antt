@@ -1,7 +1,7 @@
 use Rattle.std.proofs.Common.{◌+◌, ◌*◌, ◌∙◌, ap, sym, arith}
 use Rattle.std.specs.List.{slice_get}
 use Rattle.fab_board.specs.Measured.{numbers_of}
-use Rattle.fab_board.specs.Standing.{lots_of_kind}
+use Rattle.fab_board.specs.inner.Standing.{lots_of_kind}
 use Rattle.fab_board.proofs.Kept.{numbers_read}
 use Rattle.fab_board.proofs.lots.Lots.at.Goals as goal
 

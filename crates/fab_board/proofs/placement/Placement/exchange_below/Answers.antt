@@ -2,7 +2,7 @@ use Rattle.std.proofs.Common.{â„•, List, length, get_or, set, Some, None, sym, â
 use Rattle.std.proofs.lemmas.List.{get_or_default}
 use Rattle.std.proofs.lemmas.Grind.{get_or_default_zero}
 use Rattle.fab_board.specs.Boards.{cost}
-use Rattle.fab_board.specs.Standing.{set_at}
+use Rattle.fab_board.specs.inner.Standing.{set_at}
 use Rattle.fab_board.proofs.Exchanging.{exchanged_by}
 use Rattle.fab_board.proofs.Laying.{taken_kept, back_kept, laid_cost, other_inside, set_at_length}
 use Rattle.fab_board.proofs.placement.Placement.exchange_below.Goals as goal

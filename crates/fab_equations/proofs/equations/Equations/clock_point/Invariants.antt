@@ -1,6 +1,6 @@
 use Rattle.std.proofs.Common.{◌≡◌}
 use Rattle.fab_syntax.specs.Plain.{plain_text}
-use Rattle.fab_meaning.specs.Runs.{clock_of}
+use Rattle.fab_values.specs.fab_meaning.specs.Runs.{clock_of}
 use Rattle.fab_equations.specs.Lookups.{IsClock}
 use Rattle.fab_equations.proofs.equations.Equations.clock_point.Given as goal
 

@@ -1,6 +1,6 @@
 use Rattle.std.proofs.Common.{subst, refl, arith}
 use Rattle.fab_syntax.specs.Plain.{plain_text}
-use Rattle.fab_equations.specs.Placed.{Keeps}
+use Rattle.fab_equations.specs.inner.Placed.{Keeps}
 use Rattle.fab_equations.proofs.Located.{kept_number, kept_here}
 use Rattle.fab_equations.proofs.equations.Equations.here.Goals as goal
 

@@ -1,7 +1,7 @@
 use Rattle.std.proofs.Common.{leb, subst, sym, rules}
 use Rattle.std.proofs.lemmas.List.Sorted.{IsPartitionPoint-from_clause, IsPartitionedBy-leb}
 use Rattle.fab_syntax.specs.Plain.{plain_text}
-use Rattle.fab_equations.specs.Placed.{ArePlaced}
+use Rattle.fab_equations.specs.inner.Placed.{ArePlaced}
 use Rattle.fab_equations.specs.declared.placed.PlacedInstance.{PlacedInstance}
 use Rattle.fab_equations.proofs.Located.{placed_rise, instance_found}
 use Rattle.fab_equations.proofs.equations.Equations.instance_of.Goals as goal

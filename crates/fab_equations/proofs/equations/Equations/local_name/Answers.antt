@@ -4,7 +4,7 @@ use Rattle.std.proofs.lemmas.Option.{slice_get_within}
 use Rattle.fab_syntax.specs.Plain.{plain_text}
 use Rattle.fab_syntax.specs.Sound.{IsSound}
 use Rattle.fab_equations.specs.Instances.{instances}
-use Rattle.fab_equations.specs.Placed.{ArePlaced, Keeps}
+use Rattle.fab_equations.specs.inner.Placed.{ArePlaced, Keeps}
 use Rattle.fab_equations.specs.Lookups.{IsLocalName}
 use Rattle.fab_equations.proofs.Found.{read_start, nothing_read, read_more, read_fails, dot_parts, no_dots}
 use Rattle.fab_equations.proofs.equations.Equations.local_name.Goals as goal

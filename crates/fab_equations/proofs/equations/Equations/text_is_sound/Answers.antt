@@ -1,7 +1,7 @@
 use Rattle.std.proofs.Common.{subst}
 use Rattle.fab_syntax.specs.declared.tree.Text.{Text}
 use Rattle.fab_syntax.specs.Plain.{plain_text}
-use Rattle.fab_equations.specs.Placed.{Keeps}
+use Rattle.fab_equations.specs.inner.Placed.{Keeps}
 use Rattle.fab_equations.proofs.equations.Equations.text_is_sound.Goals as goal
 
 pub returns-clause-sound : goal.returns-clause-sound

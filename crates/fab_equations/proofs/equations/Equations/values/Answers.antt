@@ -1,7 +1,7 @@
 use Rattle.std.proofs.Common.{Result, IfOk, Ok, Err, subst, ◌∙◌, arith}
 use Rattle.fab_syntax.specs.declared.tree.Text.{Text}
 use Rattle.fab_syntax.specs.Plain.{plain_text}
-use Rattle.fab_equations.specs.Placed.{Keeps}
+use Rattle.fab_equations.specs.inner.Placed.{Keeps}
 use Rattle.fab_equations.proofs.Keeping.{module_kept, names_kept}
 use Rattle.fab_equations.proofs.equations.Equations.values.Goals as goal
 

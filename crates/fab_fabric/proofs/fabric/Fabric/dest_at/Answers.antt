@@ -1,7 +1,7 @@
 use Rattle.std.proofs.Common.{sym, subst}
 use Rattle.fab_model.specs.Wires.{HasWire, dest_of}
 use Rattle.fab_fabric.specs.Wires.{wire_index, IsIndexOf}
-use Rattle.fab_fabric.specs.Index.{plain_wire}
+use Rattle.fab_fabric.specs.inner.Index.{plain_wire}
 use Rattle.fab_fabric.proofs.Stepped.{row_spot}
 use Rattle.fab_fabric.proofs.Joined.{dest_stands, dest_found, no_dest_found}
 use Rattle.fab_fabric.proofs.fabric.Fabric.dest_at.Goals as goal

@@ -5,7 +5,7 @@ use Rattle.fab_fabric.specs.declared.wire.Drive.{Drive}
 use Rattle.fab_fabric.specs.Wires.{wire_index, IsIndexOf}
 use Rattle.fab_fabric.specs.Bits.{plain_bits}
 use Rattle.fab_fabric.specs.Drive.{numbered_drive}
-use Rattle.fab_fabric.specs.Index.{plain_wire}
+use Rattle.fab_fabric.specs.inner.Index.{plain_wire}
 use Rattle.fab_fabric.proofs.Joined.{same_at}
 use Rattle.fab_fabric.proofs.Selecting.{matrix_driven, source_is_output}
 use Rattle.fab_fabric.proofs.fabric.Fabric.drive_of.Goals as goal

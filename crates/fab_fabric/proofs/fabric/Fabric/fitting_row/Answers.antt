@@ -1,5 +1,5 @@
 use Rattle.std.proofs.Common.{rules, ◌<◌, arith, sym, ap, length, get_or, ◌∙◌}
-use Rattle.fab_fabric.specs.Index.{has_side}
+use Rattle.fab_fabric.specs.inner.Index.{has_side}
 use Rattle.fab_fabric.proofs.Stepped.{ends_read, nth_within, fits, misfits}
 use Rattle.fab_fabric.proofs.fabric.Fabric.fitting_row.Goals as goal
 

@@ -1,7 +1,7 @@
 use Rattle.std.proofs.Common.{◌∙◌, ap, sym, Some, option_map, subst}
 use Rattle.fab_model.specs.Wires.{HasWire}
 use Rattle.fab_fabric.specs.Wires.{wire_join_to, dest_wire}
-use Rattle.fab_fabric.specs.Index.{plain_wire}
+use Rattle.fab_fabric.specs.inner.Index.{plain_wire}
 use Rattle.fab_fabric.proofs.Stepped.{row_spot}
 use Rattle.fab_fabric.proofs.Joined.{same_at, join_lands, no_to}
 use Rattle.fab_fabric.proofs.fabric.Fabric.join_to.Goals as goal

@@ -1,6 +1,6 @@
 use Rattle.std.proofs.Common.{◌≡◌, ◌<◌, ◌+◌, ◌^◌, ◌∙◌, sym, ap, length, get_or, false, arith}
 use Rattle.std.proofs.lemmas.Option.{same_Some}
-use Rattle.fab_bits.specs.Bits.{number, first_bits}
+use Rattle.fab_model.specs.fab_bits.specs.Bits.{number, first_bits}
 use Rattle.fab_model.specs.Tiles.{PlainTile}
 use Rattle.fab_model.specs.Drive.{matrix_inputs, select_value, matrix_drive}
 use Rattle.fab_fabric.specs.declared.wire.Drive.TheVariants as drives

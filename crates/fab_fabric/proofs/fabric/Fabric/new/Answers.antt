@@ -1,7 +1,7 @@
 use Rattle.fab_fabric.proofs.Kept.{new_is_indexed}
 use Rattle.std.proofs.Common.{List, All, subst, sym, ◌∙◌, arith}
 use Rattle.fab_model.specs.Tiles.{PlainTile, IsTile}
-use Rattle.fab_fabric.specs.Index.{HaveIndexes}
+use Rattle.fab_fabric.specs.inner.Index.{HaveIndexes}
 use Rattle.fab_fabric.proofs.fabric.Fabric.new.Goals as goal
 
 pub invariant_of-result : goal.invariant_of-result

@@ -1,6 +1,6 @@
 use Rattle.std.proofs.Common.{◌≡◌, ◌<◌, ◌≤◌, ◌∙◌, length, get_or, slice_get, Some, sym, ap, refl, arith}
 use Rattle.std.proofs.lemmas.Option.{same_Some, slice_get_read}
-use Rattle.fab_kinds.specs.Pins.{input_count}
+use Rattle.fab_model.specs.fab_kinds.specs.Pins.{input_count}
 use Rattle.fab_model.specs.declared.tiles.Bel.{Bel}
 use Rattle.fab_model.specs.Tiles.{PlainTile}
 use Rattle.fab_model.specs.Wires.{pin_of}

@@ -2,7 +2,7 @@ use Rattle.std.proofs.Common.{◌<◌, ◌-◌, rules, nat_le, sym, subst}
 use Rattle.std.proofs.lemmas.List.Sorted.{IsPartitionPoint-from_clause}
 use Rattle.fab_model.specs.Grid.{PlainFabric}
 use Rattle.fab_fabric.specs.Fabric.{wire_count}
-use Rattle.fab_fabric.specs.Index.{HasFirsts}
+use Rattle.fab_fabric.specs.inner.Index.{HasFirsts}
 use Rattle.fab_fabric.proofs.Spots.{firsts_rise, some_begin, last_place, spot_is, first_early}
 use Rattle.fab_fabric.proofs.fabric.Fabric.spot.Goals as goal
 

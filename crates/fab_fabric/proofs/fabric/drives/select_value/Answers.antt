@@ -1,6 +1,6 @@
 use Rattle.std.proofs.Common.{◌≡◌, ◌+◌, ◌*◌, arith, ap, ◌∙◌, refl, inl, inr}
 use Rattle.std.proofs.lemmas.Bool.{cases_Bool}
-use Rattle.fab_bits.specs.Bits.{bit_number}
+use Rattle.fab_model.specs.fab_bits.specs.Bits.{bit_number}
 use Rattle.fab_fabric.proofs.Selecting.{bit_more, all_bits, value_small}
 use Rattle.fab_fabric.proofs.fabric.drives.select_value.Goals as goal
 

@@ -1,5 +1,5 @@
 use Rattle.std.proofs.Common.{◌≡◌, ◌<◌, ◌+◌, ◌-◌, ◌^◌, false, get_or}
-use Rattle.fab_bits.specs.Bits.{number, first_bits}
+use Rattle.fab_model.specs.fab_bits.specs.Bits.{number, first_bits}
 use Rattle.fab_fabric.proofs.fabric.drives.select_value.Given as goal
 
 -- the bits taken so far are the last ones

@@ -1,7 +1,7 @@
 use Rattle.std.proofs.Common.{◌≤◌, ◌^◌, ◌∙◌, sym, arith}
 use Rattle.std.proofs.lemmas.Bool.{le-ltb}
 use Rattle.fab_fasm.specs.Values.{value_number, room}
-use Rattle.fab_fasm.specs.Plain.{plain_literal}
+use Rattle.fab_fasm.specs.inner.Plain.{plain_literal}
 use Rattle.fab_fasm.proofs.Numerals.{small_is_none}
 use Rattle.fab_fasm.proofs.Powers.{power_more}
 use Rattle.fab_fasm.proofs.literal.Literal.fits.Goals as goal

@@ -5,9 +5,9 @@ use Rattle.fab_kinds.specs.declared.kind.Kind.TheVariants as kinds
 use Rattle.fab_fabric.specs.declared.wire.Site.{Site}
 use Rattle.fab_netlist.specs.Packed.{PlainCell, PlainPacked}
 use Rattle.fab_features.specs.Design.{same_site}
-use Rattle.fab_features.specs.Listing.{site_index, IsInGrid}
+use Rattle.fab_features.specs.inner.Listing.{site_index, IsInGrid}
 use Rattle.fab_features.specs.declared.features.Lookup.{Lookup}
-use Rattle.fab_features.specs.Lookups.{IsLookup}
+use Rattle.fab_features.specs.inner.Lookups.{IsLookup}
 use Rattle.fab_features.proofs.Tables.{read_is, index_fits, site_near, first_line, cell_of}
 use Rattle.fab_features.proofs.features.Lookup.cell_on.Goals as goal
 

@@ -7,7 +7,7 @@ use Rattle.fab_fabric.specs.declared.wire.Wire.{Wire}
 use Rattle.fab_fabric.proofs.Numbered.{index_within}
 use Rattle.fab_implementation.specs.Plain.{Edge, PlainTree}
 use Rattle.fab_features.specs.Design.{edge_into}
-use Rattle.fab_features.specs.Lookups.{IsLookup}
+use Rattle.fab_features.specs.inner.Lookups.{IsLookup}
 use Rattle.fab_features.specs.declared.features.Lookup.{Lookup}
 use Rattle.fab_features.proofs.Tables.{read_is, first_edge, left_of}
 use Rattle.fab_features.proofs.features.Lookup.input_of.Goals as goal

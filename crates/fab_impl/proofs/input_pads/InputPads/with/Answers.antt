@@ -1,7 +1,7 @@
 use Rattle.std.proofs.Common.{◌≡◌, ◌∷◌, [], ◌++◌, ℕ, List, length, ◌∙◌, ap, sym, subst}
 use Rattle.fab_implementation.specs.Plain.{Pad}
 use Rattle.fab_texts.specs.Rows.{Word}
-use Rattle.fab_impl.specs.Firsts.{HasFirsts}
+use Rattle.fab_impl.specs.inner.Firsts.{HasFirsts}
 use Rattle.fab_impl.proofs.FirstPads.{push_new, push_old}
 use Rattle.fab_impl.proofs.input_pads.InputPads.with.Goals as goal
 use Rattle.fab_impl.proofs.input_pads.InputPads.with.Goals.{then-not-contains+in_ok-add+in_ok-push, else-not-contains}

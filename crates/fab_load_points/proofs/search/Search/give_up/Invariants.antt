@@ -1,5 +1,5 @@
 use Rattle.std.proofs.Common.{◌≡◌, length, reverse, vec_len}
-use Rattle.fab_load_points.specs.Search.{AreBelow, given_up}
+use Rattle.fab_load_points.specs.inner.Search.{AreBelow, given_up}
 use Rattle.fab_load_points.proofs.search.Search.give_up.Given as goal
 
 abbrev pub invariant-loop-visit : goal.invariant-loop-visit

@@ -1,6 +1,6 @@
 use Rattle.std.proofs.Common.{◌≡◌, List, [], ◌∷◌, length, reverse, slice_get, Some, inl, inr, sym, ap, ◌∙◌, subst, arith}
 use Rattle.std.proofs.lemmas.List.{length-set, append-nil}
-use Rattle.fab_load_points.specs.Search.{AreBelow, IsSearch, given_up, new_count}
+use Rattle.fab_load_points.specs.inner.Search.{AreBelow, IsSearch, given_up, new_count}
 use Rattle.fab_load_points.specs.declared.search.Status.{Status}
 use Rattle.fab_load_points.specs.declared.search.Status.TheVariants.{New, Waiting, Inside, Outside}
 use Rattle.fab_load_points.specs.declared.search.Visit.{Visit}

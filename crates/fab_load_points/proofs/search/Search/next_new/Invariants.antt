@@ -1,6 +1,6 @@
 use Rattle.std.proofs.Common.{◌≡◌, ◌≤◌, ℕ, List, Some, length, reverse, slice_get, vec_len}
 use Rattle.fab_syntax.specs.Plain.{PlainModule}
-use Rattle.fab_load_points.specs.Search.{Scene, AreBelow, IsSearch, new_count}
+use Rattle.fab_load_points.specs.inner.Search.{Scene, AreBelow, IsSearch, new_count}
 use Rattle.fab_load_points.specs.declared.search.Status.TheVariants.{New}
 use Rattle.fab_load_points.proofs.search.Search.next_new.Given as goal
 

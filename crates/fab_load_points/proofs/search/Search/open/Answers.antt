@@ -5,8 +5,8 @@ use Rattle.std.proofs.lemmas.Option.{slice_get_within}
 use Rattle.fab_syntax.specs.Plain.{plain_text}
 use Rattle.fab_meaning.specs.Points.{Point, Driver, Drives}
 use Rattle.fab_equations.specs.Instances.{points}
-use Rattle.fab_load_points.specs.Causes.{StandsFor, IsCause, IsWithin}
-use Rattle.fab_load_points.specs.Search.{AreBelow, IsSearch, Opens, given_up, entered}
+use Rattle.fab_load_points.specs.inner.Causes.{StandsFor, IsCause, IsWithin}
+use Rattle.fab_load_points.specs.inner.Search.{AreBelow, IsSearch, Opens, given_up, entered}
 use Rattle.fab_load_points.specs.declared.causes.Cause.TheVariants.{Input, Register, Reads}
 use Rattle.fab_load_points.specs.declared.search.Status.{Status}
 use Rattle.fab_load_points.specs.declared.search.Status.TheVariants.{New, Waiting, Inside, Outside}

@@ -1,6 +1,6 @@
 use Rattle.std.proofs.Common.{List, reverse, ◌∙◌, subst}
 use Rattle.fab_syntax.specs.Plain.{plain_text}
-use Rattle.fab_load_points.specs.Search.{IsSearch}
+use Rattle.fab_load_points.specs.inner.Search.{IsSearch}
 use Rattle.fab_load_points.specs.declared.search.Visit.{Visit}
 use Rattle.fab_load_points.proofs.search.Search.run.Goals as goal
 

@@ -1,6 +1,6 @@
 use Rattle.std.proofs.Common.{◌≡◌, ℕ, Some, length, reverse, slice_get}
 use Rattle.fab_syntax.specs.Plain.{plain_text}
-use Rattle.fab_load_points.specs.Search.{Scene, AreBelow, IsSearch, new_count}
+use Rattle.fab_load_points.specs.inner.Search.{Scene, AreBelow, IsSearch, new_count}
 use Rattle.fab_load_points.specs.declared.search.Status.TheVariants.{New}
 use Rattle.fab_load_points.proofs.search.Search.run.Given as goal
 

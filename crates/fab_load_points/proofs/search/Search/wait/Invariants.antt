@@ -1,5 +1,5 @@
 use Rattle.std.proofs.Common.{◌≡◌, ◌∷◌, drop, reverse}
-use Rattle.fab_load_points.specs.Search.{entered}
+use Rattle.fab_load_points.specs.inner.Search.{entered}
 use Rattle.fab_load_points.specs.declared.search.Visit.TheVariants.{Leave}
 use Rattle.fab_load_points.proofs.search.Search.wait.Given as goal
 

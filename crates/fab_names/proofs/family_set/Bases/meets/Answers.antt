@@ -1,6 +1,6 @@
 use Rattle.std.proofs.Common.{◌∙◌, List, ℕ, Contains, ap, inl, inr, length, subst, sym, take}
 use Rattle.std.proofs.lemmas.Bool.{false≢true}
-use Rattle.fab_names.specs.Keyed.{under}
+use Rattle.fab_names.specs.inner.Keyed.{under}
 use Rattle.fab_names.proofs.Keys.{cut_is, last_or_before}
 use Rattle.fab_names.proofs.family_set.Bases.meets.Goals as goal
 

@@ -1,7 +1,7 @@
 use Rattle.std.proofs.Common.{◌≡◌, ◌++◌, ◌<◌, ℕ, List, true, Contains, length}
 use Rattle.std.specs.List.{list_all}
 use Rattle.fab_lines.specs.Numbers.{is_digit}
-use Rattle.fab_names.specs.Keyed.{family_at, under}
+use Rattle.fab_names.specs.inner.Keyed.{family_at, under}
 use Rattle.fab_names.specs.Names.{meet}
 use Rattle.fab_names.proofs.family_set.Bases.meets.Given as goal
 

@@ -1,7 +1,7 @@
 use Rattle.std.proofs.Common.{◌≡◌, ◌∙◌, ◌<◌, List, ℕ, Contains, true, ap, inl, inr, length, subst, sym}
 use Rattle.std.specs.List.{list_any}
 use Rattle.std.proofs.lemmas.Bool.{false≢true}
-use Rattle.fab_names.specs.Keyed.{family_at, no_family, under}
+use Rattle.fab_names.specs.inner.Keyed.{family_at, no_family, under}
 use Rattle.fab_names.specs.Names.{PlainFamily, meet}
 use Rattle.fab_names.proofs.Kept.{any_at, bare_meets_none, found_near}
 use Rattle.fab_names.proofs.Twice.{same_test}

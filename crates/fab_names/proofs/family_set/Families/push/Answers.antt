@@ -1,5 +1,5 @@
 use Rattle.std.proofs.Common.{◌≡◌, ◌∙◌, ◌≤◌, List, ℕ, length, rules, subst, sym}
-use Rattle.fab_names.specs.Keyed.{Adds, AddsFronts, IsKept, under}
+use Rattle.fab_names.specs.inner.Keyed.{Adds, AddsFronts, IsKept, under}
 use Rattle.fab_names.specs.Names.{PlainFamily}
 use Rattle.fab_names.proofs.Kept.{kept_bare, kept_more, none_is}
 use Rattle.fab_names.proofs.family_set.Families.push.Goals as goal

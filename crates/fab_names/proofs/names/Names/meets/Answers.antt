@@ -1,5 +1,5 @@
 use Rattle.std.proofs.Common.{Bool, ◌||◌, ap, ◌∙◌}
-use Rattle.fab_names.specs.Sides.{opt_meets}
+use Rattle.fab_names.specs.inner.Sides.{opt_meets}
 use Rattle.fab_names.proofs.Twice.{twice_sides}
 use Rattle.fab_names.proofs.names.Names.meets.Goals as goal
 

@@ -1,5 +1,5 @@
 use Rattle.std.proofs.Common.{List, ℕ, subst}
-use Rattle.fab_names.specs.Keyed.{Adds, under}
+use Rattle.fab_names.specs.inner.Keyed.{Adds, under}
 use Rattle.fab_names.proofs.Keys.{more_under}
 use Rattle.fab_names.proofs.places.Places.add.Goals as goal
 

@@ -1,6 +1,6 @@
 use Rattle.std.proofs.Common.{◌∙◌, List, Vec, ℕ, Global, ap, sym, subst, Bor, MatchOption, ◌≡◌, ◌<◌, ◌≤◌, length}
 use Rattle.std.specs.List.{HoldsAt}
-use Rattle.fab_names.specs.Keyed.{group_of}
+use Rattle.fab_names.specs.inner.Keyed.{group_of}
 use Rattle.fab_names.proofs.Keys.{group_read, place_of_key}
 use Rattle.fab_names.proofs.places.Places.under.Goals as goal
 

@@ -1,6 +1,6 @@
 use Rattle.std.proofs.Common.{ℕ, List, ◌*◌, map, get_or, ap, ◌∙◌, arith}
 use Rattle.fab_route.specs.declared.classes.Place.{Place}
-use Rattle.fab_route.specs.Guided.{spot_of}
+use Rattle.fab_route.specs.inner.Guided.{spot_of}
 use Rattle.fab_route.specs.Plain.{graph_of}
 use Rattle.fab_route.proofs.Guiding.{is_bound, ends_inside}
 use Rattle.fab_route.proofs.bounds.Bounds.new.Goals as goal

@@ -11,7 +11,7 @@ use Rattle.fab_legal.specs.Steps.{pin_wire}
 use Rattle.fab_legal.specs.WellMade.{IsNetId}
 use Rattle.fab_ways.proofs.InputPins.{kind_of_line}
 use Rattle.fab_route.specs.Plain.{node_of}
-use Rattle.fab_route.specs.Wanted.{AreRoots}
+use Rattle.fab_route.specs.inner.Wanted.{AreRoots}
 use Rattle.fab_route.proofs.Naming.{line_low, line_there, line_listed, pad_kind}
 use Rattle.fab_route.proofs.Reaching.{cell_root, port_root}
 use Rattle.fab_route.proofs.sources.Sources.roots.Goals as goal
@@ -58,7 +58,7 @@ returns-in-In c =
     let line = c.index-line.ensures ∙ line_listed c.args.packed.now c.args.placed.now c.args.self.now.lines.items c.in-In.number c.index-line.result.now c.requires.sources.lines low in
     let port : List ℕ = get_or c.args.packed.now.inputs c.in-In.number [] in
     let here = line_there c.args.fabric.now c.args.packed.now c.args.placed.now c.requires.placed port c.index-pad.result.now (c.in-In.number, low, get_or_default c.args.packed.now.inputs c.in-In.number port [] low) (c.index-pad.ensures ∙ ap₂ (λ (pads : List Pad) (k : ℕ). get_or pads k c.index-pad.result.now) (ap (λ (i : PlainImplementation). i.ins) c.placed.view_is) line) in
-    let roots = port_root c.args.fabric.now c.types-types.ensures.are_tiles c.args.packed.now c.args.placed.now c.requires.placed c.args.nodes.now c.requires.nodes port c.index-pad.result.now.1 here in
+    let roots = port_root c.args.fabric.now c.is_well_made.ensures.are_tiles c.args.packed.now c.args.placed.now c.requires.placed c.args.nodes.now c.requires.nodes port c.index-pad.result.now.1 here in
     IfOk-weaker c.root_at.result (λ (v : Vec ℕ Global). v.items ≡ node_of c.args.nodes.now (pin_wire c.args.fabric.now c.index-pad.result.now.1 2) ∷ [])
     (λ (v : Vec ℕ Global). AreRoots c.args.fabric.now c.args.placed.now c.args.nodes.now (packed_net c.args.packed.now c.args.net) v.items)
     (λ v is.
@@ -70,7 +70,7 @@ pub returns-in-Cell : goal.returns-in-Cell
 returns-in-Cell c =
     let low = subst (λ (n : NetId). IsNetId c.args.packed.now n) c.in-Cell.is c.requires.known in
     let here = subst (λ (s : Site). Contains c.args.placed.now.cells (c.in-Cell.number, s)) (sym c.index.ensures) (c.requires.sources.cells.each c.in-Cell.number c.index.result.now low) in
-    let roots = cell_root c.args.fabric.now c.types-types.ensures.are_tiles c.args.packed.now c.args.placed.now c.requires.placed c.args.nodes.now c.requires.nodes c.in-Cell.number c.index.result.now here in
+    let roots = cell_root c.args.fabric.now c.is_well_made.ensures.are_tiles c.args.packed.now c.args.placed.now c.requires.placed c.args.nodes.now c.requires.nodes c.in-Cell.number c.index.result.now here in
     IfOk-weaker c.root_at-in-Cell.result (λ (v : Vec ℕ Global). v.items ≡ node_of c.args.nodes.now (pin_wire c.args.fabric.now c.index.result.now 7) ∷ [])
     (λ (v : Vec ℕ Global). AreRoots c.args.fabric.now c.args.placed.now c.args.nodes.now (packed_net c.args.packed.now c.args.net) v.items)
     (λ v is.

@@ -1,28 +1,25 @@
-use Rattle.std.proofs.Common.{◌<◌, IfErr, IfOk, OnOk, Some, subst}
+use Rattle.std.proofs.Common.{◌<◌, IfErr, OnOk, Some, refl, inl}
 use Rattle.std.proofs.lemmas.Result.{IfErr-weaker, err_from_is_err_and, on_ok_weaker}
-use Rattle.fab_base.specs.declared.fault.Fault.{Fault}
-use Rattle.fab_desk.specs.Files.{Map}
 use Rattle.fab_desk.specs.Memory.{map_of}
 use Rattle.fab_outputs.specs.Storing.{IsDone}
-use Rattle.fab_flow.specs.Flowing.{FlowFiles, HasFlowCause, MakesFlow}
-use Rattle.fab_sampling.specs.Running.{outcome_of}
-use Rattle.fab_sampling.specs.Sampling.{names, rounds, ComesTo, HasNoSummary, memory}
+use Rattle.fab_sample_runs.specs.fab_flow.specs.Flowing.{FlowFiles, HasFlowCause, MakesFlow}
+use Rattle.fab_sample_runs.specs.Commands.{rounds}
 use Rattle.fab_sampling.proofs.Ending.{flow_ends}
 use Rattle.fab_sampling.proofs.Flowed.{has_flowed}
 use Rattle.fab_sampling.proofs.Named.{flow_named, never}
 use Rattle.fab_sampling.proofs.run.Run.flow.Goals as goal
 
-pub returns-in_err-fabric-clause-cause : goal.returns-in_err-fabric-clause-cause
-returns-in_err-fabric-clause-cause g c =
-    let residual = err_from_is_err_and c.from_residual.result c.from_residual.ensures.1 in rw (residual.1, residual.2) memory
+pub returns-in_err-fabric-clause-ends : goal.returns-in_err-fabric-clause-ends
+returns-in_err-fabric-clause-ends g c =
+    let residual = err_from_is_err_and c.from_residual.result c.from_residual.ensures.1 in rw (residual.1, residual.2) (inl refl)
 
-pub returns-in_err-blif-clause-cause : goal.returns-in_err-blif-clause-cause
-returns-in_err-blif-clause-cause g c =
-    let residual = err_from_is_err_and c.from_residual-in_err-blif.result c.from_residual-in_err-blif.ensures.1 in rw (residual.1, residual.2) memory
+pub returns-in_err-blif-clause-ends : goal.returns-in_err-blif-clause-ends
+returns-in_err-blif-clause-ends g c =
+    let residual = err_from_is_err_and c.from_residual-in_err-blif.result c.from_residual-in_err-blif.ensures.1 in rw (residual.1, residual.2) (inl refl)
 
-pub returns-in_err-base-clause-cause : goal.returns-in_err-base-clause-cause
-returns-in_err-base-clause-cause g c =
-    let residual = err_from_is_err_and c.from_residual-in_err-base.result c.from_residual-in_err-base.ensures.1 in rw (residual.1, residual.2) memory
+pub returns-in_err-base-clause-ends : goal.returns-in_err-base-clause-ends
+returns-in_err-base-clause-ends g c =
+    let residual = err_from_is_err_and c.from_residual-in_err-base.result c.from_residual-in_err-base.ensures.1 in rw (residual.1, residual.2) (inl refl)
 
 pub returns-clause-done : goal.returns-clause-done
 returns-clause-done g c =
@@ -32,16 +29,6 @@ returns-clause-done g c =
 
 pub returns-clause-ends : goal.returns-clause-ends
 returns-clause-ends g c =
-    IfErr-weaker c.do_flow.result _ _
-    (λ fault cause. subst (λ (files : Map). IfOk (outcome_of fault) (ComesTo files)) c.requires.files
-    (flow_ends (map_of c.args.self.now.shelf) (0 < 0) (0 < 0) never never fault cause).0)
-    (flow_named (λ (n : FlowFiles). IfErr c.do_flow.result (HasFlowCause (Some (map_of c.args.self.now.shelf)) n rounds (0 < 0) (0 < 0))) _ _ _
-    c.in_ok-fabric.ensures c.in_ok-blif.ensures c.in_ok-base.ensures c.do_flow.ensures.cause)
-
-pub returns-clause-cause : goal.returns-clause-cause
-returns-clause-cause g c =
-    IfErr-weaker c.do_flow.result _ _
-    (λ fault cause. subst (λ (files : Map). IfErr (outcome_of fault) (HasNoSummary files)) c.requires.files
-    (flow_ends (map_of c.args.self.now.shelf) (0 < 0) (0 < 0) never never fault cause).1)
+    IfErr-weaker c.do_flow.result _ _ (λ fault cause. flow_ends c.samples_are_ready.ensures c.args.self.now c.requires (0 < 0) (0 < 0) never never fault cause)
     (flow_named (λ (n : FlowFiles). IfErr c.do_flow.result (HasFlowCause (Some (map_of c.args.self.now.shelf)) n rounds (0 < 0) (0 < 0))) _ _ _
     c.in_ok-fabric.ensures c.in_ok-blif.ensures c.in_ok-base.ensures c.do_flow.ensures.cause)

@@ -4,7 +4,7 @@ use Rattle.fab_meaning.specs.Runs.{user_clock_name}
 use Rattle.fab_state.specs.Plain.{PlainState, Register}
 use Rattle.fab_wiring.specs.Clocks.{IsClockAt}
 use Rattle.fab_sim.specs.Making.{AreLoadingPoints, IsNetworkOf}
-use Rattle.fab_sim.specs.Made.{IsMadeOf}
+use Rattle.fab_sim.specs.inner.Made.{IsMadeOf}
 use Rattle.fab_sim.proofs.Building.{register_loads, strobe_within, word_given}
 use Rattle.fab_sim.proofs.Made.{made_new}
 use Rattle.fab_sim.proofs.machine.Machine.new.Goals as goal

@@ -1,5 +1,5 @@
 use Rattle.std.proofs.Common.{map, ap}
-use Rattle.fab_words.specs.Plain.{plain_setting}
+use Rattle.fab_words.specs.inner.Plain.{plain_setting}
 use Rattle.fab_words.proofs.Taken.{taken_from_nothing}
 use Rattle.fab_words.proofs.arguments.Arguments.of.Goals as goal
 

@@ -1,7 +1,7 @@
 use Rattle.std.proofs.Common.{◌≡◌, map, option_copied, string_bytes, None, drop}
 use Rattle.fab_words.specs.Arguments.{arguments_of}
-use Rattle.fab_words.specs.Plain.{plain_arguments}
-use Rattle.fab_words.specs.Taking.{behind}
+use Rattle.fab_words.specs.inner.Plain.{plain_arguments}
+use Rattle.fab_words.specs.inner.Taking.{behind}
 use Rattle.fab_words.proofs.arguments.Arguments.take_all.Given as goal
 
 abbrev pub invariant-loop-word : goal.invariant-loop-word

@@ -1,0 +1,1 @@
+pub use Rattle.fab_read

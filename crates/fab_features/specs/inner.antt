@@ -1,0 +1,6 @@
+-- What only contracts inside the crate cite: how its code keeps and counts. No call that it hands on rests on these files.
+pub mod Adding
+pub mod Matrices
+pub mod Listing
+pub mod Lookups
+pub mod Lines

@@ -1,0 +1,24 @@
+-- Tiles by the numbers of their types.
+use Rattle.std.specs.Prelude.{◌≡◌, ◌<◌, ℕ, Bool, false, List, [], length, slice_index_or, Some}
+use Rattle.fab_model.specs.Tiles.{PlainTile, bare_tile}
+use Rattle.fab_model.specs.Grid.{PlainFabric, tile_at}
+use Rattle.fab_text_loads.specs.fab_fabric_text.specs.Places.{PlacedTile}
+use Rattle.fab_text_loads.specs.fab_fabric_text.specs.Text.{stands}
+use Rattle.fab_gen_top.specs.declared.places.Place.{Place}
+
+-- the type of a number
+abbrev pub type_of : PlainFabric → (number : ℕ) → PlainTile
+type_of fabric number = slice_index_or fabric.types number (bare_tile [] [] [])
+
+abbrev pub placed_of : PlainFabric → Place → PlacedTile
+placed_of fabric place = record { x = place.x; y = place.y; tile = type_of fabric place.number }
+
+-- a tile of the type of this number stands there
+pub record IsPlaceOf (fabric : PlainFabric) (place : Place) : Type 0 where
+  pub is_type : place.number < length fabric.types
+  pub tile_is : tile_at fabric place.x place.y ≡ Some (type_of fabric place.number)
+
+-- for each type whether it stands at some place
+pub record AreStanding (fabric : PlainFabric) (marks : List Bool) : Type 0 where
+  pub as_many : length marks ≡ length fabric.types
+  pub each : (number : ℕ) → number < length fabric.types → slice_index_or marks number false ≡ stands fabric number

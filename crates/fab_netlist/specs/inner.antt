@@ -1,0 +1,6 @@
+-- What only contracts inside the crate cite: how its code keeps and counts. No call that it hands on rests on these files.
+pub mod Passes
+pub mod Order
+pub mod Search
+pub mod Survey
+pub mod Places

@@ -1,0 +1,3 @@
+mod WireNames
+mod PortNames
+mod Simulated

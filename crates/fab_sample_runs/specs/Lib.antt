@@ -1,0 +1,10 @@
+pub mod Commands
+pub mod Laws
+pub use Rattle.fab_sample_designs.specs.fab_sample_fabrics
+pub use Rattle.fab_ready_flow.specs.fab_use
+pub use Rattle.fab_ready_flow.specs.fab_spelled_designs
+pub use Rattle.fab_ready_flow.specs.fab_flow
+pub use Rattle.fab_sample_designs
+pub use Rattle.fab_ready_flow.specs.fab_simulate
+pub use Rattle.fab_ready_flow.specs.fab_simulated_flow
+pub use Rattle.fab_ready_flow

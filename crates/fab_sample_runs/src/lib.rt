@@ -1,0 +1,39 @@
+//! The laws that a sample runs through the commands. Each function does nothing: its contract is a law.
+#![tactic(auto)]
+
+ghost use Rattle.fab_sample_runs.specs.Laws.{SampleImplementationsAreShort, SamplesSimulate};
+
+use fab_designs::designs_are_spelled_once;
+use fab_read::fabrics_are_spelled_once;
+use fab_ready_flow::fab_short_texts::{legal_implementations_are_short, legal_states_are_short};
+use fab_ready_flow::fab_spelled_designs::spelled_designs_are_sound;
+use fab_ready_flow::flow_files_are_ready;
+pub use fab_ready_flow::{fab_flow, fab_simulate, fab_simulated_flow, fab_spelled_designs};
+pub use fab_sample_designs;
+use fab_sample_designs::fab_sample_sizes::sample_texts_are_small;
+use fab_sample_designs::sample_designs_are_read;
+use fab_sample_reads::sample_stimuli_are_read;
+
+/// Of what a flow makes of the files of a sample `simulate` refuses nothing.
+pub fn samples_simulate()
+    ensures { SamplesSimulate }
+{
+    sample_designs_are_read();
+    designs_are_spelled_once();
+    spelled_designs_are_sound();
+    legal_states_are_short();
+    sample_stimuli_are_read();
+    sample_texts_are_small();
+    flow_files_are_ready();
+}
+
+/// The text of the implementation that a flow makes of the files of a sample is no longer than a file may be.
+pub fn sample_implementations_are_short()
+    ensures { SampleImplementationsAreShort }
+{
+    sample_designs_are_read();
+    designs_are_spelled_once();
+    fabrics_are_spelled_once();
+    spelled_designs_are_sound();
+    legal_implementations_are_short();
+}

@@ -1,0 +1,2 @@
+pub mod Sizes
+pub use Rattle.fab_sample_fabrics

@@ -1,0 +1,5 @@
+-- What only contracts inside the crate cite: how its code keeps and counts. No call that it hands on rests on these files.
+pub mod Starting
+pub mod Made
+pub mod Unset
+pub mod Rooms
