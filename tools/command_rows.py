@@ -119,6 +119,12 @@ def rows(is_small=False):
             fixtures("duo.v", "inv.bit", "inv.state"), **{"inv.stim": b"a\n0\n1\n1\n"})),
         row(4, "simulate duo.v tog.bit tog.state tog.stim t", dict(
             fixtures("duo.v", "tog.bit", "tog.state"), **{"tog.stim": b"-\n-\n-\n"})),
+        row(3, "simulate duo.v tog.bit tog.state tog.stim t --order 5", dict(
+            fixtures("duo.v", "tog.bit", "tog.state"), **{"tog.stim": b"-\n-\n"})),
+        row(2, "simulate duo.v ring.bit ring.state ring.stim t", dict(
+            fixtures("duo.v", "ring.bit"), **{
+                "ring.state": b"fabulous-state 1\nout w X0Y0.A\nend\n", "ring.stim": b"-\n-\n"})),
+        row(1, "sample 2 5", {"none": b"no file is read\n"}),
     ]
     if is_small:
         return found
