@@ -9,7 +9,7 @@ use Rattle.indexmap.specs.IndexSet.{insert_key, insert_all}
 use Rattle.fab_blif.specs.declared.design.Use.{Use}
 use Rattle.fab_blif.specs.Flat.{PlainNet, net_eq, Placed, placed_inputs, placed_outputs, placed_clock, copied_clock, placed_cover, placed_latch}
 use Rattle.fab_blif.specs.Design.{PlainDesign, named, number_in, uses, inputs_by, outputs_by, clock_ports_by, covers_by, latches_by, latch_lines, clocks_by, design_of}
-use Rattle.fab_blif.specs.inner.Walk.{numbered, used_at, clocked, after, after_all, nothing}
+use Rattle.fab_blif.specs.inner.Walk.{net_numbers, used_at, clocked, after, after_all, nothing}
 
 -- ---- places in lists that grow
 
@@ -77,20 +77,20 @@ number_last nets net more =
     let here = inserted nets net in
     sym (all_keep (insert_key net_eq nets net) more net here.0 ∙ here.1)
 
-numbers_last : (nets names more : List PlainNet) → numbered nets names ≡ map (number_in (insert_all net_eq (insert_all net_eq nets names) more)) names
+numbers_last : (nets names more : List PlainNet) → net_numbers nets names ≡ map (number_in (insert_all net_eq (insert_all net_eq nets names) more)) names
 numbers_last nets [] more = refl
 numbers_last nets (net ∷ names) more =
     let next = insert_key net_eq nets net in
     let final = insert_all net_eq (insert_all net_eq next names) more in
     let first : number_in nets net ≡ number_in final net = number_last nets net (names ++ more) ∙ ap (λ (all : List PlainNet). number_in all net) (fold-append (insert_key net_eq) next names more) in
-    let rest : numbered next names ≡ map (number_in final) names = numbers_last next names more in
+    let rest : net_numbers next names ≡ map (number_in final) names = numbers_last next names more in
     λ j. first j ∷ rest j
 
 uses_last : (line : ℕ) (nets names : List PlainNet) → used_at line (map (number_in nets) names) ≡ uses nets line names
 uses_last line nets [] = refl
 uses_last line nets (net ∷ names) = ap (λ (rest : List Use). record { line = line; net = number_in nets net } ∷ rest) (uses_last line nets names)
 
-used_last : (line : ℕ) (nets names more : List PlainNet) → used_at line (numbered nets names) ≡ uses (insert_all net_eq (insert_all net_eq nets names) more) line names
+used_last : (line : ℕ) (nets names more : List PlainNet) → used_at line (net_numbers nets names) ≡ uses (insert_all net_eq (insert_all net_eq nets names) more) line names
 used_last line nets names more = ap (used_at line) (numbers_last nets names more) ∙ uses_last line (insert_all net_eq (insert_all net_eq nets names) more) names
 
 -- ---- a line
@@ -155,7 +155,7 @@ adds d (copied_clock line net) more = record {
 }
 adds d (placed_cover line names output table) more =
     let before = insert_all net_eq d.nets names in
-    let ins : numbered d.nets names ≡ map (number_in (insert_all net_eq (insert_key net_eq before output) more)) names = numbers_last d.nets names (output ∷ more) in
+    let ins : net_numbers d.nets names ≡ map (number_in (insert_all net_eq (insert_key net_eq before output) more)) names = numbers_last d.nets names (output ∷ more) in
     let out : number_in before output ≡ number_in (insert_all net_eq (insert_key net_eq before output) more) output = number_last before output more in
     record {
       inputs = none_more d.inputs;

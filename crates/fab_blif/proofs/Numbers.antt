@@ -11,7 +11,7 @@ use Rattle.fab_blif.specs.declared.design.ClockName.{ClockName}
 use Rattle.fab_blif.specs.declared.net.Net.{Net}
 use Rattle.fab_blif.specs.Flat.{PlainNet, net_eq}
 use Rattle.fab_blif.specs.Design.{number_in}
-use Rattle.fab_blif.specs.inner.Walk.{plain_net, plain_nets, plain_clock, numbered}
+use Rattle.fab_blif.specs.inner.Walk.{plain_net, plain_nets, plain_clock, net_numbers}
 
 -- how keys are compared
 abbrev pub same_net : Net → Net → Bool
@@ -45,15 +45,15 @@ module _ {X : Type 0} (net : X → PlainNet) (names : List X) (at : ℕ) (name :
 
   -- the numbers of names, after one more name
   pub numbers_more : (all numbers pushed : List ℕ) (number : ℕ) → pushed ≡ numbers ++ number ∷ [] → number ≡ number_in old (net name) →
-      numbers ++ numbered old (map net (drop at names)) ≡ all → pushed ++ numbered new (map net (drop (at + 1) names)) ≡ all
+      numbers ++ net_numbers old (map net (drop at names)) ≡ all → pushed ++ net_numbers new (map net (drop (at + 1) names)) ≡ all
   numbers_more all numbers pushed number push is_number so_far =
       let rest = drop (at + 1) names in
-      ap (λ list. list ++ numbered new (map net rest)) push
-      ∙ append_assoc numbers (number ∷ []) (numbered new (map net rest))
-      ∙ ap (λ n. numbers ++ n ∷ numbered new (map net rest)) is_number
-      ∙ ap (λ nets. numbers ++ number_in old (net name) ∷ numbered nets (map net rest)) added
-      ∙ ap (λ first. numbers ++ number_in old (net first) ∷ numbered (insert_key net_eq old (net first)) (map net rest)) is
-      ∙ sym (ap (λ list. numbers ++ list) (at_drop_more (λ list. numbered old (map net list)) names at name within))
+      ap (λ list. list ++ net_numbers new (map net rest)) push
+      ∙ append_assoc numbers (number ∷ []) (net_numbers new (map net rest))
+      ∙ ap (λ n. numbers ++ n ∷ net_numbers new (map net rest)) is_number
+      ∙ ap (λ nets. numbers ++ number_in old (net name) ∷ net_numbers nets (map net rest)) added
+      ∙ ap (λ first. numbers ++ number_in old (net first) ∷ net_numbers (insert_key net_eq old (net first)) (map net rest)) is
+      ∙ sym (ap (λ list. numbers ++ list) (at_drop_more (λ list. net_numbers old (map net list)) names at name within))
       ∙ so_far
 
 -- a net stands where its key stands

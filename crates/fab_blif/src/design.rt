@@ -5,7 +5,7 @@ ghost use Rattle.indexmap.specs.IndexSet.{insert_all, insert_key};
 ghost use Rattle.fab_models.specs.Plain.{plain_body, plain_models};
 ghost use Rattle.fab_blif.specs.Design.{number_in};
 ghost use Rattle.fab_blif.specs.Flat.{net_eq, net_in, clock_at, if_top, lines_by, placed_inputs, placed_outputs};
-ghost use Rattle.fab_blif.specs.inner.Walk.{plain_net, plain_nets, plain_clock, numbered, used_at, after_all, latch_next, with_control, with_cover, with_latch};
+ghost use Rattle.fab_blif.specs.inner.Walk.{plain_net, plain_nets, plain_clock, net_numbers, used_at, after_all, latch_next, with_control, with_cover, with_latch};
 
 use crate::model_copy::ModelCopy;
 use crate::net::Net;
@@ -99,7 +99,7 @@ fn number_names(
     names: &[Name],
 ) -> Result<Vec<u32>, Memory>
     ensures nets { OnOk result (plain_nets nets.new.keys ≡ insert_all net_eq (plain_nets nets.old.keys) (map (net_in copy.now) names.now)) }
-    ensures numbers { IfOk result (λ numbers. numbers.items ≡ numbered (plain_nets nets.old.keys) (map (net_in copy.now) names.now)) }
+    ensures numbers { IfOk result (λ numbers. numbers.items ≡ net_numbers (plain_nets nets.old.keys) (map (net_in copy.now) names.now)) }
 {
     let mut numbers = Vec::new(alloc);
     for name in names {

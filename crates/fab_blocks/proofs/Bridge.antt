@@ -11,7 +11,7 @@ use Rattle.fab_model.specs.declared.tiles.WireRow.{WireRow}
 use Rattle.fab_model.specs.declared.tiles.Bel.{Bel}
 use Rattle.fab_model.specs.Rows.{source_bits, dest_bits, side_bits, bit_name}
 use Rattle.fab_model.specs.Tiles.{source_bit, dest_bit, bel_pin, counted, row_wires, bel_wires, wire_name, matrix_names, IsTile}
-use Rattle.fab_names.specs.Names.{text_of, numbered, names_of, side_families, all_names}
+use Rattle.fab_names.specs.Names.{text_of, numbered_names, names_of, side_families, all_names}
 use Rattle.fab_names.proofs.Texts.{text_of_zero, text_of_some}
 use Rattle.fab_names.proofs.Twice.{names_of_append, length_numbered}
 use Rattle.fab_blocks.specs.Blocks.{PlainBlock, IsBlock, bare, names, side_of, row_families, bel_names}
@@ -42,7 +42,7 @@ side_names : (side : Option (List ℕ)) (bits : ℕ) → (side ≡ None → bits
 side_names None bits none small = none_counted bits (λ (bit : ℕ). bit_name None bit) (none refl)
 side_names (Some name) bits none small =
     counted_same bits (λ (bit : ℕ). name ++ decimal bit) (λ (bit : ℕ). name ++ text_of bit) (λ i within. ap (λ (text : List ℕ). name ++ text) (decimal_text i (omega arith)))
-    ∙ sym (append-nil (numbered (record { base = name; bits = bits })))
+    ∙ sym (append-nil (numbered_names (record { base = name; bits = bits })))
 
 side_none : (row : WireRow) (side other : Option (List ℕ)) → side ≡ None → side_bits row side other ≡ 0
 side_none row side other none = ap (λ (s : Option (List ℕ)). side_bits row s other) none
@@ -55,7 +55,7 @@ no_dest row side is none = side_none row row.dest row.source (is ∙ none)
 
 length_side : (side : Option (List ℕ)) (bits : ℕ) → (side ≡ None → bits ≡ 0) → length (names_of (side_families (side_of side bits))) ≡ bits
 length_side None bits none = sym (none refl)
-length_side (Some name) bits none = omega (arith, length_numbered (record { base = name; bits = bits }), length-append (numbered (record { base = name; bits = bits })) [])
+length_side (Some name) bits none = omega (arith, length_numbered (record { base = name; bits = bits }), length-append (numbered_names (record { base = name; bits = bits })) [])
 
 row_names_are : (row : WireRow) → length (names_of (row_families row)) ≤ 4096 → map wire_name (row_wires row) ≡ names_of (row_families row)
 row_names_are row small =

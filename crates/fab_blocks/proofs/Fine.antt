@@ -16,7 +16,7 @@ use Rattle.fab_model.specs.declared.tiles.Dir.{Dir}
 use Rattle.fab_model.specs.declared.tiles.Dir.TheVariants as dirs
 use Rattle.fab_model.specs.declared.tiles.WireRow.{WireRow}
 use Rattle.fab_model.specs.Rows.{IsWireRow, is_jump, is_named, side_bits}
-use Rattle.fab_names.specs.Names.{PlainFamily, PlainNames, numbered, names_of, all_names, with_sides, with_pins, side_families, come_twice}
+use Rattle.fab_names.specs.Names.{PlainFamily, PlainNames, numbered_names, names_of, all_names, with_sides, with_pins, side_families, come_twice}
 use Rattle.fab_names.proofs.Families.{both_first, both_second}
 use Rattle.fab_names.proofs.Twice.{distinct_sides, distinct_pins, names_of_append, length_sides, length_pins, length_numbered}
 use Rattle.fab_blocks.specs.Cells.{is_negative, magnitude, is_zero, is_positive, is_signed, long_of, first_problem}
@@ -219,7 +219,7 @@ pub capped_more : (a b : ℕ) → capped (capped a + capped b) ≡ capped (a + b
 capped_more a b = omega arith
 
 pub length_of_side : (family : PlainFamily) → length (names_of (side_families (Some family))) ≡ family.bits
-length_of_side family = omega (arith, length_numbered family, length-append (numbered family) [])
+length_of_side family = omega (arith, length_numbered family, length-append (numbered_names family) [])
 
 regroup : (a b c : ℕ) → a + (b + c) ≡ a + b + c
 regroup a b c = omega arith

@@ -11,7 +11,7 @@ use Rattle.fab_compiled.specs.declared.leads.Lead.TheVariants.{Known, Point, Own
 use Rattle.fab_compiled.specs.declared.picks.Table.{Table}
 use Rattle.fab_compiled.specs.declared.tree.Tree.{Tree, Bits}
 use Rattle.fab_compiled.specs.Trees.{tree_value, tree_width, IsMade}
-use Rattle.fab_compiled.specs.Leading.{PointTerns, AreAbove, AreMarked, IsMarked, RangeIsMarked, bit_under, Leads}
+use Rattle.fab_compiled.specs.Leading.{PointTerns, AreAbove, AreMarked, IsMarked, RangeIsMarked, bit_under, TellsBit}
 use Rattle.fab_compiled.specs.inner.Picks.{entries, evens_of, odds_of, index_under, picked, AreSame, IsAlike, IsPickedAlike, IsTableBelow, PickLeads}
 use Rattle.fab_compiled.proofs.Bits.{first_at}
 use Rattle.fab_compiled.proofs.Entries.{table, even_entries, odd_entries, entry_no, entry_yes, entry_open, entries_even, entries_odd, entries_room}
@@ -186,7 +186,7 @@ own_pick terns leads marks first place width index range alike t u above over ag
 
 pub pick_leads : (terns : List Tern) (leads : List ℕ) (marks : List Bool) (first place width bit : ℕ) (tree index : Tree) →
     ((at : ℕ → PlainTern) → tree_value at tree ≡ entry (first_terns (2 ^ width) (λ k. at (place + k))) (tree_value at index) ∷ []) → bit < 1 →
-    (lead : Lead) → PickLeads terns leads marks first place width index lead → Leads terns leads marks first tree bit lead
+    (lead : Lead) → PickLeads terns leads marks first place width index lead → TellsBit terns leads marks first tree bit lead
 pick_leads terns leads marks first place width bit tree index is l (Known b) h = absurd h
 pick_leads terns leads marks first place width bit tree index is l (Point lead) h = absurd h
 pick_leads terns leads marks first place width bit tree index is l Own h = λ t u above over agree.

@@ -10,7 +10,7 @@ use Rattle.fab_systems.specs.Ternary.{Tern}
 use Rattle.fab_solutions.specs.fab_tern.specs.Values.{tern_value}
 use Rattle.fab_solutions.specs.fab_tern.specs.Shown.{Terns, first_terns, tern_names}
 use Rattle.fab_equations.specs.Instances.{Instance}
-use Rattle.fab_equations.specs.Numbering.{IsNumbered, points_before}
+use Rattle.fab_equations.specs.Numbering.{IsInstanceOfNumber, points_before}
 use Rattle.fab_equations.proofs.Numbering.{instances_stand}
 use Rattle.fab_equations.proofs.Places.{names_have_points}
 use Rattle.fab_equations.proofs.Points.{found_width, not_found_width}
@@ -19,7 +19,7 @@ use Rattle.fab_compiled.specs.Leading.{PointTerns}
 use Rattle.fab_compiled.specs.Values.{AreByNumber, CompiledValues}
 use Rattle.fab_compiled.proofs.TreesGrow.{same_first}
 
-module _ (text : List PlainModule) (sound : IsSound text) (number : ℕ) (i : Instance) (is : IsNumbered text number i)
+module _ (text : List PlainModule) (sound : IsSound text) (number : ℕ) (i : Instance) (is : IsInstanceOfNumber text number i)
     (t : Terns) (s : PointTerns) (same : AreByNumber text t s) where
   abbrev at : ℕ → Tern
   at place = s (points_before text number + place)

@@ -44,13 +44,13 @@ abbrev pub bit_under : PointTerns → (first : ℕ) → Tree → (bit : ℕ) →
 bit_under t first tree bit = tern_at (tree_value (λ place. t (first + place)) tree) bit
 
 -- What is told of a bit of an expression.
-abbrev pub Leads : List Tern → List ℕ → (marks : List Bool) → (first : ℕ) → Tree → (bit : ℕ) → Lead → Type 0
-Leads terns leads marks first tree bit (Known b) = (t : PointTerns) → AreAbove terns leads t → bit_under t first tree bit ≡ known b
-Leads terns leads marks first tree bit (Point lead) =
+abbrev pub TellsBit : List Tern → List ℕ → (marks : List Bool) → (first : ℕ) → Tree → (bit : ℕ) → Lead → Type 0
+TellsBit terns leads marks first tree bit (Known b) = (t : PointTerns) → AreAbove terns leads t → bit_under t first tree bit ≡ known b
+TellsBit terns leads marks first tree bit (Point lead) =
     ((t : PointTerns) → AreAbove terns leads t → FollowLeads leads marks t → bit_under t first tree bit ≡ t lead) × IsLedTo leads marks lead
-Leads terns leads marks first tree bit Own =
+TellsBit terns leads marks first tree bit Own =
     (t u : PointTerns) → AreAbove terns leads t → AreAbove terns leads u → AgreeOnMarked marks t u → bit_under t first tree bit ≡ bit_under u first tree bit
-Leads terns leads marks first tree bit (Unmarked point) = slice_get marks point ≡ Some false
+TellsBit terns leads marks first tree bit (Unmarked point) = slice_get marks point ≡ Some false
 
 -- what is told of a point
 abbrev pub PointLeads : List ℕ → (marks : List Bool) → (point : ℕ) → Lead → Type 0

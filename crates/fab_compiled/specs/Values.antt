@@ -8,7 +8,7 @@ use Rattle.fab_solutions.specs.fab_tern.specs.Values.{tern_value}
 use Rattle.fab_solutions.specs.fab_tern.specs.Shown.{Terns, tern_names}
 use Rattle.fab_equations.specs.Equations.{IsPoint}
 use Rattle.fab_equations.specs.Instances.{Instance}
-use Rattle.fab_equations.specs.Numbering.{IsNumbered, points_before}
+use Rattle.fab_equations.specs.Numbering.{IsInstanceOfNumber, points_before}
 use Rattle.fab_compiled.specs.declared.tree.Tree.{Tree}
 use Rattle.fab_compiled.specs.Trees.{tree_value}
 use Rattle.fab_compiled.specs.Compiling.{IsCompiled}
@@ -21,6 +21,6 @@ AreByNumber text t s = (number : ℕ) (p : Point) → IsPoint text number p → 
 -- Over the points of an instance a compiled expression has the value that the meaning of the text gives the expression there.
 abbrev pub CompiledValues : Type 0
 CompiledValues =
-    (text : List PlainModule) → IsSound text → (number : ℕ) (i : Instance) → IsNumbered text number i → (t : Terns) (s : PointTerns) → AreByNumber text t s →
+    (text : List PlainModule) → IsSound text → (number : ℕ) (i : Instance) → IsInstanceOfNumber text number i → (t : Terns) (s : PointTerns) → AreByNumber text t s →
     (e : PlainExpr) (tree : Tree) (wide : ℕ) → IsCompiled (declarations i.here) e tree wide →
     tree_value (λ place. s (points_before text number + place)) tree ≡ tern_value (tern_names text t i.path) e

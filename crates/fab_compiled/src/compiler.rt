@@ -6,7 +6,7 @@ ghost use Rattle.fab_values.specs.Declarations.{declarations, found_in};
 ghost use Rattle.fab_values.specs.Evaluation.{IsFit, AreFit};
 ghost use Rattle.fab_values.specs.declared.names.Local.{Local};
 ghost use Rattle.fab_equations.specs.Instances.{Instance, instances};
-ghost use Rattle.fab_equations.specs.Numbering.{IsNumbered};
+ghost use Rattle.fab_equations.specs.Numbering.{IsInstanceOfNumber};
 ghost use Rattle.fab_compiled.specs.Compiling.{IsCompiled, AreCompiled, IsPlaceOf, IsJoined, IsOperation, tree_is_constant};
 
 use crate::tree::Tree;
@@ -39,8 +39,8 @@ pub fn compile(
     expr: &Expr,
 ) -> Result<Compiled, Memory>
     requires instance { instance < length (instances (plain_text equations.now)) }
-    requires fit { (i : Instance) → IsNumbered (plain_text equations.now) instance i → IsFit (declarations i.here) (plain_expr expr.now) }
-    ensures { IfOk result (λ made. (i : Instance) → IsNumbered (plain_text equations.now) instance i → IsCompiled (declarations i.here) (plain_expr expr.now) made.tree.value made.width) }
+    requires fit { (i : Instance) → IsInstanceOfNumber (plain_text equations.now) instance i → IsFit (declarations i.here) (plain_expr expr.now) }
+    ensures { IfOk result (λ made. (i : Instance) → IsInstanceOfNumber (plain_text equations.now) instance i → IsCompiled (declarations i.here) (plain_expr expr.now) made.tree.value made.width) }
 {
     match expr {
         Expr::Const(word) => constant(alloc, word),
@@ -95,9 +95,9 @@ pub fn compile(
 
 // That the parts of a concatenation are fit where it is.
 fn parts_fit(equations: &Equations, instance: u32, expr: &Expr, parts: &[Expr])
-    requires fit { (i : Instance) → IsNumbered (plain_text equations.now) instance i → IsFit (declarations i.here) (plain_expr expr.now) }
+    requires fit { (i : Instance) → IsInstanceOfNumber (plain_text equations.now) instance i → IsFit (declarations i.here) (plain_expr expr.now) }
     requires parts { plain_expr expr.now ≡ concatenation (plain_exprs (map plain_expr parts.now)) }
-    ensures { (i : Instance) → IsNumbered (plain_text equations.now) instance i → AreFit (declarations i.here) (plain_exprs (map plain_expr parts.now)) }
+    ensures { (i : Instance) → IsInstanceOfNumber (plain_text equations.now) instance i → AreFit (declarations i.here) (plain_exprs (map plain_expr parts.now)) }
 {}
 
 // A concatenation, from its least significant part on.
@@ -109,8 +109,8 @@ fn compile_parts(
     parts: &[Expr],
 ) -> Result<Compiled, Memory>
     requires instance { instance < length (instances (plain_text equations.now)) }
-    requires fit { (i : Instance) → IsNumbered (plain_text equations.now) instance i → AreFit (declarations i.here) (plain_exprs (map plain_expr parts.now)) }
-    ensures { IfOk result (λ made. (i : Instance) → IsNumbered (plain_text equations.now) instance i →
+    requires fit { (i : Instance) → IsInstanceOfNumber (plain_text equations.now) instance i → AreFit (declarations i.here) (plain_exprs (map plain_expr parts.now)) }
+    ensures { IfOk result (λ made. (i : Instance) → IsInstanceOfNumber (plain_text equations.now) instance i →
         AreCompiled (declarations i.here) (plain_exprs (map plain_expr parts.now)) made.tree.value made.width) }
 {
     let mut low = boxed(alloc, Tree::Const(Vec::new(alloc)), 0)?;
@@ -175,8 +175,8 @@ fn boxed(alloc: Global, tree: Tree, width: u64) -> Result<Compiled, Memory>
 // Where a name of an instance is declared.
 fn place_of(equations: &Equations, instance: u32, name: &[u8]) -> Place
     requires instance { instance < length (instances (plain_text equations.now)) }
-    requires declared { (i : Instance) → IsNumbered (plain_text equations.now) instance i → (local : Local) × (found_in (declarations i.here) name.now ≡ Some local) }
-    ensures place { (i : Instance) → IsNumbered (plain_text equations.now) instance i → IsPlaceOf (found_in (declarations i.here) name.now) result }
+    requires declared { (i : Instance) → IsInstanceOfNumber (plain_text equations.now) instance i → (local : Local) × (found_in (declarations i.here) name.now ≡ Some local) }
+    ensures place { (i : Instance) → IsInstanceOfNumber (plain_text equations.now) instance i → IsPlaceOf (found_in (declarations i.here) name.now) result }
     ensures small { result.first + result.count < 2 ^ 32 }
 {
     let Some(declared) = equations.local(instance, name) else {

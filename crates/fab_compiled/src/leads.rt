@@ -4,7 +4,7 @@ ghost use Rattle.std.specs.Prelude.{◌≡◌, ◌+◌, ◌^◌, ◌<◌, ◌≤
 ghost use Rattle.fab_compiled.specs.Trees.{tree_width, IsMade};
 ghost use Rattle.fab_compiled.specs.Terns.{IsView};
 ghost use Rattle.fab_compiled.specs.Evaluation.{IsWithin};
-ghost use Rattle.fab_compiled.specs.Leading.{Leads, OwnLeads, PointLeads};
+ghost use Rattle.fab_compiled.specs.Leading.{TellsBit, OwnLeads, PointLeads};
 ghost use Rattle.fab_compiled.specs.inner.Picks.{PickLeads};
 
 use crate::evaluation::eval;
@@ -36,7 +36,7 @@ pub fn follow(tree: &Tree, bit: u64, first: usize, view: &View, marks: &[bool]) 
     requires inside { IsWithin tree.now first (length view.now.leads.now) }
     requires within { bit < tree_width tree.now }
     requires marks { length marks.now ≡ length view.now.leads.now }
-    ensures { Leads view.now.terns.now view.now.leads.now marks.now first tree.now bit result }
+    ensures { TellsBit view.now.terns.now view.now.leads.now marks.now first tree.now bit result }
 {
     match eval(tree, bit, first, view) {
         Tern::Yes => Lead::Known(true),
@@ -54,7 +54,7 @@ fn lead_of(tree: &Tree, bit: u64, first: usize, view: &View, marks: &[bool]) -> 
     requires inside { IsWithin tree.now first (length view.now.leads.now) }
     requires within { bit < tree_width tree.now }
     requires marks { length marks.now ≡ length view.now.leads.now }
-    ensures { Leads view.now.terns.now view.now.leads.now marks.now first tree.now bit result }
+    ensures { TellsBit view.now.terns.now view.now.leads.now marks.now first tree.now bit result }
 {
     match tree {
         Tree::Bits(place, _) => lead_of_point(first + *place as usize + bit as usize, view, marks),

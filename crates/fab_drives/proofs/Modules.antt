@@ -17,7 +17,7 @@ use Rattle.fab_fabric_text.specs.fab_model.specs.Tiles.{PlainTile, tile_bits}
 use Rattle.fab_fabric_text.specs.fab_model.specs.Grid.{PlainFabric, tile_at, numbered_type}
 use Rattle.fab_fabric_text.specs.fab_fabric.specs.Fabric.{IsFabric}
 use Rattle.fab_fabric_text.specs.fab_gen_tile.specs.Names.{config_module_name, matrix_module_name, tile_module_name}
-use Rattle.fab_fabric_text.specs.fab_gen_tile.specs.TileModule.{tile_module, matrix_outputs}
+use Rattle.fab_fabric_text.specs.fab_gen_tile.specs.TileModule.{tile_module, matrix_output_names}
 use Rattle.fab_fabric_text.specs.fab_gen_tile.specs.ConfigModule.{config_module}
 use Rattle.fab_fabric_text.specs.fab_gen_tile.specs.MatrixModule.{matrix_module}
 use Rattle.fab_fabric_text.specs.fab_gen_loader.specs.Loader.{loader_module_name}
@@ -113,8 +113,8 @@ all_of_config P tile (suc n) is = All-cons P (config_module tile) [] is (All-nil
 
 pub all_of_tile : (P : PlainModule → Type 0) (tile : PlainTile) → P (matrix_module tile) → P (config_module tile) → P (tile_module tile) → All P (tile_modules tile)
 all_of_tile P tile matrix config whole =
-    All-append P (matrix_modules tile (matrix_outputs tile)) (config_modules tile (tile_bits tile) ++ tile_module tile ∷ [])
-    (all_of_matrix P tile (matrix_outputs tile) matrix)
+    All-append P (matrix_modules tile (matrix_output_names tile)) (config_modules tile (tile_bits tile) ++ tile_module tile ∷ [])
+    (all_of_matrix P tile (matrix_output_names tile) matrix)
     (All-append P (config_modules tile (tile_bits tile)) (tile_module tile ∷ []) (all_of_config P tile (tile_bits tile) config)
     (All-cons P (tile_module tile) [] whole (All-nil P)))
 
@@ -222,7 +222,7 @@ module _ (fabric : PlainFabric) (loader : PlainModule) (is : IsFabric fabric) (l
       let name = tile_module_name tile in
       found_alone text (tile_module tile)
       (tile_part fabric loader x y tile (tile_module tile) there
-      (Contains-append_right (matrix_modules tile (matrix_outputs tile)) (config_modules tile (tile_bits tile) ++ tile_module tile ∷ []) (tile_module tile)
+      (Contains-append_right (matrix_modules tile (matrix_output_names tile)) (config_modules tile (tile_bits tile) ++ tile_module tile ∷ []) (tile_module tile)
       (Contains-append_right (config_modules tile (tile_bits tile)) (tile_module tile ∷ []) (tile_module tile) (contains_first (tile_module tile) []))))
       (only_in_text name (tile_module tile) (omega arith) (told_apart 0 loader_module_name name refl) (told_apart 0 top_module_name name refl)
       (λ other one. all_of_tile (Only name (tile_module tile)) other
@@ -230,13 +230,13 @@ module _ (fabric : PlainFabric) (loader : PlainModule) (is : IsFabric fabric) (l
       (λ same. absurd (told_apart 0 (config_module_name other) name refl same))
       (λ same. ap tile_module (one (ap (drop 5) same)))))
 
-  pub matrix_found : 0 < length (matrix_outputs tile) → module_named text (matrix_module_name tile) ≡ Some (matrix_module tile)
+  pub matrix_found : 0 < length (matrix_output_names tile) → module_named text (matrix_module_name tile) ≡ Some (matrix_module tile)
   matrix_found some =
       let name = matrix_module_name tile in
       found_alone text (matrix_module tile)
       (tile_part fabric loader x y tile (matrix_module tile) there
-      (Contains-append_left (matrix_modules tile (matrix_outputs tile)) (config_modules tile (tile_bits tile) ++ tile_module tile ∷ []) (matrix_module tile)
-      (contains_matrix tile (matrix_outputs tile) some)))
+      (Contains-append_left (matrix_modules tile (matrix_output_names tile)) (config_modules tile (tile_bits tile) ++ tile_module tile ∷ []) (matrix_module tile)
+      (contains_matrix tile (matrix_output_names tile) some)))
       (only_in_text name (matrix_module tile) (omega arith) (told_apart 0 loader_module_name name refl) (told_apart 0 top_module_name name refl)
       (λ other one. all_of_tile (Only name (matrix_module tile)) other
       (λ same. ap matrix_module (one (ap (drop 7) same)))
@@ -248,7 +248,7 @@ module _ (fabric : PlainFabric) (loader : PlainModule) (is : IsFabric fabric) (l
       let name = config_module_name tile in
       found_alone text (config_module tile)
       (tile_part fabric loader x y tile (config_module tile) there
-      (Contains-append_right (matrix_modules tile (matrix_outputs tile)) (config_modules tile (tile_bits tile) ++ tile_module tile ∷ []) (config_module tile)
+      (Contains-append_right (matrix_modules tile (matrix_output_names tile)) (config_modules tile (tile_bits tile) ++ tile_module tile ∷ []) (config_module tile)
       (Contains-append_left (config_modules tile (tile_bits tile)) (tile_module tile ∷ []) (config_module tile) (contains_config tile (tile_bits tile) some))))
       (only_in_text name (config_module tile) (omega arith) (told_apart 0 loader_module_name name refl) (told_apart 0 top_module_name name refl)
       (λ other one. all_of_tile (Only name (config_module tile)) other

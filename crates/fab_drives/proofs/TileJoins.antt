@@ -11,7 +11,7 @@ use Rattle.fab_fabric_text.specs.fab_model.specs.Rows.{is_jump}
 use Rattle.fab_fabric_text.specs.fab_model.specs.Tiles.{counted}
 use Rattle.fab_fabric_text.specs.fab_model.specs.Grid.{PlainFabric}
 use Rattle.fab_fabric_text.specs.fab_model.specs.Cascade.{previous_row}
-use Rattle.fab_fabric_text.specs.fab_gen_tile.specs.Names.{frame_data_name, frame_strobe_name, begin_name, end_name, pad_name, joined, same_join}
+use Rattle.fab_fabric_text.specs.fab_gen_tile.specs.Names.{frame_data_name, frame_strobe_name, begin_name, end_name, pad_name, port_join, same_join}
 use Rattle.fab_fabric_text.specs.fab_gen_tile.specs.Borders.{side_border}
 use Rattle.fab_fabric_text.specs.Names.{row_name, column_strobe_name, pad_port_name, begin_wire_name}
 use Rattle.fab_fabric_text.specs.Places.{PlacedTile}
@@ -21,7 +21,7 @@ use Rattle.fab_drives.proofs.Lists.{contains_flat, contains_numbered}
 
 module _ (fabric : PlainFabric) (placed : PlacedTile) where
   abbrev front : List PlainJoin
-  front = same_join user_clock_name ∷ joined frame_data_name (variable (row_name placed.y)) ∷ joined frame_strobe_name (variable (column_strobe_name placed.x)) ∷ []
+  front = same_join user_clock_name ∷ port_join frame_data_name (variable (row_name placed.y)) ∷ port_join frame_strobe_name (variable (column_strobe_name placed.x)) ∷ []
 
   abbrev borders : List PlainJoin
   borders = flat_map (row_joins fabric placed) (enumerate_from 0 placed.tile.rows)
@@ -32,10 +32,10 @@ module _ (fabric : PlainFabric) (placed : PlacedTile) where
   -- ---- rows
 
   abbrev begin_join : WireRow → (bit : ℕ) → PlainJoin
-  begin_join row bit = joined (begin_name row bit) (variable (begin_wire_name placed.x placed.y row bit))
+  begin_join row bit = port_join (begin_name row bit) (variable (begin_wire_name placed.x placed.y row bit))
 
   abbrev end_join : (number : ℕ) → WireRow → (bit : ℕ) → PlainJoin
-  end_join number row bit = joined (end_name row bit) (end_value (previous_row fabric (numbered_row placed number row)) bit)
+  end_join number row bit = port_join (end_name row bit) (end_value (previous_row fabric (numbered_row placed number row)) bit)
 
   no_jump_joins : (number : ℕ) (row : WireRow) (join : PlainJoin) → is_jump row.dir ≡ false →
       Contains (counted (side_border row row.source) (begin_join row) ++ counted (side_border row row.dest) (end_join number row)) join →
@@ -54,7 +54,7 @@ module _ (fabric : PlainFabric) (placed : PlacedTile) where
       (contains_flat (row_joins fabric placed) (enumerate_from 0 placed.tile.rows) (number, row) join (contains_numbered placed.tile.rows number row stands) there))
 
   pub begin_is_joined : (number : ℕ) (row : WireRow) (bit : ℕ) → slice_get placed.tile.rows number ≡ Some row → is_jump row.dir ≡ false → bit < side_border row row.source →
-      Contains (tile_joins fabric placed) (joined (begin_name row bit) (variable (begin_wire_name placed.x placed.y row bit)))
+      Contains (tile_joins fabric placed) (port_join (begin_name row bit) (variable (begin_wire_name placed.x placed.y row bit)))
   begin_is_joined number row bit stands no_jump few =
       let join = begin_join row bit in
       border_join number row join stands
@@ -63,7 +63,7 @@ module _ (fabric : PlainFabric) (placed : PlacedTile) where
       (contains_counted (side_border row row.source) (begin_join row) bit few)))
 
   pub end_is_joined : (number : ℕ) (row : WireRow) (bit : ℕ) → slice_get placed.tile.rows number ≡ Some row → is_jump row.dir ≡ false → bit < side_border row row.dest →
-      Contains (tile_joins fabric placed) (joined (end_name row bit) (end_value (previous_row fabric (numbered_row placed number row)) bit))
+      Contains (tile_joins fabric placed) (port_join (end_name row bit) (end_value (previous_row fabric (numbered_row placed number row)) bit))
   end_is_joined number row bit stands no_jump few =
       let join = end_join number row bit in
       border_join number row join stands
@@ -74,9 +74,9 @@ module _ (fabric : PlainFabric) (placed : PlacedTile) where
   -- ---- pads
 
   pub pad_is_joined : (number : ℕ) (bel : Bel) → slice_get placed.tile.bels number ≡ Some bel → Contains (top_inputs bel.kind) top_name →
-      Contains (tile_joins fabric placed) (joined (pad_name number top_name) (variable (pad_port_name placed.x placed.y number top_name)))
+      Contains (tile_joins fabric placed) (port_join (pad_name number top_name) (variable (pad_port_name placed.x placed.y number top_name)))
   pad_is_joined number bel stands is_pad =
-      let pad_join = λ (port : List ℕ). joined (pad_name number port) (variable (pad_port_name placed.x placed.y number port)) in
+      let pad_join = λ (port : List ℕ). port_join (pad_name number port) (variable (pad_port_name placed.x placed.y number port)) in
       let join = pad_join top_name in
       let numbered : ℕ × Bel = (number, bel) in
       Contains-append_right front (borders ++ pads) join

@@ -27,7 +27,7 @@ use Rattle.fab_values.specs.Declarations.{Declaration, declarations, port_declar
 use Rattle.fab_values.specs.declared.names.Role.TheVariants as roles
 use Rattle.fab_values.specs.declared.names.Local.{Local}
 use Rattle.fab_equations.specs.Instances.{Instance, instances, expressions, points}
-use Rattle.fab_equations.specs.Numbering.{IsNumbered}
+use Rattle.fab_equations.specs.Numbering.{IsInstanceOfNumber}
 use Rattle.fab_equations.specs.Tables.{IsExpression, firsts_of}
 use Rattle.fab_equations.specs.Equations.{IsPoint}
 use Rattle.fab_equations.specs.Lookups.{IsHere, IsJoinedAbove, IsName, IsClock}
@@ -227,8 +227,8 @@ same_clock text number declared a b =
     λ k. clock_of text (i k).path (d k).name
 
 module _ (text : List PlainModule) (number declared : ℕ) (here : Here) (is : IsHere text 0 here) (clock : IsClock text number declared) (top : number ≡ 0) where
-  zeroth : IsNumbered text 0 clock.i
-  zeroth = subst (λ n. IsNumbered text n clock.i) top clock.is
+  zeroth : IsInstanceOfNumber text 0 clock.i
+  zeroth = subst (λ n. IsInstanceOfNumber text n clock.i) top clock.is
 
   same_top : is.placed.i ≡ clock.i
   same_top = same_value (slice_get (instances text) 0) is.placed.i clock.i is.placed.is zeroth

@@ -13,7 +13,7 @@ use Rattle.fab_values.specs.fab_meaning.proofs.SoundTexts.{some_value, instances
 use Rattle.fab_values.specs.Declarations.{Declaration, declarations, found_in}
 use Rattle.fab_equations.specs.Children.{Child, children}
 use Rattle.fab_equations.specs.Instances.{Instance, instances, points, expressions}
-use Rattle.fab_equations.specs.Numbering.{IsNumbered, offset_in}
+use Rattle.fab_equations.specs.Numbering.{IsInstanceOfNumber, offset_in}
 use Rattle.fab_equations.specs.Tables.{IsExpression, DrivesName, IsDrivenByChild}
 use Rattle.fab_equations.specs.Equations.{IsPoint, IsSource, IsClockPoint, IsDriven}
 use Rattle.fab_equations.specs.Lookups.{IsHere, IsBit, IsInput, IsJoinedAbove, IsClock, HasChild, IsChild}
@@ -170,7 +170,7 @@ module _ (text : List PlainModule) (number : ℕ) (bit : LocalBit) (is : IsBit t
 
   pub outside_drives : DrivesName text is.i.here is.d.name local.Input → bit.instance ≡ 0 → IsDriven text number given.Outside
   outside_drives input top =
-      let path = top_path text is.i (subst (λ n. IsNumbered text n is.i) top is.is) in
+      let path = top_path text is.i (subst (λ n. IsInstanceOfNumber text n is.i) top is.is) in
       let at_top : module_at text [] ≡ Some is.i.here = ap (module_at text) (sym path) ∙ at_path in
       record {
         of = point is.i.path is.d.name bit.bit;

@@ -3,14 +3,14 @@ use Rattle.std.proofs.Common.{◌≡◌, ℕ, ◌<◌, true, Bool, List, [], ◌
 use Rattle.fab_syntax.specs.Declarations.{module_named, is_input, width, width_if_any}
 use Rattle.fab_syntax.specs.declared.tree.Port.{Port}
 use Rattle.fab_syntax.specs.Plain.{PlainExpr, PlainJoin, assign, latch, clocked, instance, PlainModule}
-use Rattle.fab_syntax.specs.Sound.{joined, item_expressions, width_of, width_of_name, FitsPort, JoinFits, IsJoinedOnce, InstanceFits, port_named}
+use Rattle.fab_syntax.specs.Sound.{joined_expressions, item_expressions, width_of, width_of_name, FitsPort, JoinFits, IsJoinedOnce, InstanceFits, port_named}
 use Rattle.fab_values.specs.fab_meaning.specs.Points.{module_at}
 use Rattle.fab_values.specs.fab_meaning.proofs.Modules.{all_holds, module_at_holds}
 use Rattle.fab_values.specs.fab_meaning.proofs.SoundTexts.{some_value, instances_fit, contains_first, contains_later}
 use Rattle.fab_values.specs.Declarations.{Declaration, declarations}
 use Rattle.fab_values.specs.Evaluation.{expr_width, IsFit}
 use Rattle.fab_equations.specs.Instances.{Instance, instances, expressions}
-use Rattle.fab_equations.specs.Numbering.{IsNumbered}
+use Rattle.fab_equations.specs.Numbering.{IsInstanceOfNumber}
 use Rattle.fab_equations.specs.Tables.{IsExpression, DrivesName}
 use Rattle.fab_equations.specs.Equations.{SourceFits, DriverFits}
 use Rattle.fab_equations.specs.Lookups.{IsHere, IsBit, IsJoinedAbove}
@@ -24,7 +24,7 @@ use Rattle.fab_equations.proofs.Standing.{child_item}
 use Rattle.fab_equations.proofs.Driven.{port_input, port_shape, wide_name}
 use Rattle.fab_equations.proofs.Fitting.{in_flat, same_width, sides_fit, item_expression_fits}
 
-source_fits : (text : List PlainModule) (source : Source) (i : Instance) (e : PlainExpr) → IsNumbered text source.instance i → IsExpression text source.expr e →
+source_fits : (text : List PlainModule) (source : Source) (i : Instance) (e : PlainExpr) → IsInstanceOfNumber text source.instance i → IsExpression text source.expr e →
     IsFit (declarations i.here) e × (source.bit < expr_width (declarations i.here) e) → SourceFits text source
 source_fits text source i e is there fit j f j_is f_there =
     let same : i ≡ j = same_value (slice_get (instances text) source.instance) i j is j_is in
@@ -88,8 +88,8 @@ module _ (text : List PlainModule) (number : ℕ) (bit : LocalBit) (is : IsBit t
       let of : module_named text child.module_name ≡ Some is.i.here = up.child.of ∙ ap (λ (i : Instance). Some i.here) same in
       let port_is : to.join.port ≡ is.d.name = to.port_is ∙ ap (λ (d : Declaration). d.name) same_d in
       let among : Contains (item_expressions item) to.e =
-      in_flat (λ (join : PlainJoin). joined join.to) child.joins to.join to.e to.holds
-      (subst (λ (o : Option PlainExpr). Contains (joined o) to.e) (sym to.to) (contains_first to.e to.e [] refl)) in
+      in_flat (λ (join : PlainJoin). joined_expressions join.to) child.joins to.join to.e to.holds
+      (subst (λ (o : Option PlainExpr). Contains (joined_expressions o) to.e) (sym to.to) (contains_first to.e to.e [] refl)) in
       let Fits : PlainModule → Type 0 = λ b. All (JoinFits m b) child.joins × All (IsJoinedOnce child.joins) b.ports in
       let all = module_at_holds (λ (n : PlainModule). All (InstanceFits text n) n.items) text above.path m (instances_fit text kept.sound.instances) stands in
       let below = some_value (module_named text child.module_name) Fits (all_holds (InstanceFits text m) m.items item all holds) in

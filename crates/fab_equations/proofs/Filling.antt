@@ -12,7 +12,7 @@ use Rattle.fab_values.specs.Declarations.{bits_of, declarations}
 use Rattle.fab_equations.specs.Children.{Child, children, modules_before, instances_of_children}
 use Rattle.fab_equations.specs.Counting.{instances_count}
 use Rattle.fab_equations.specs.Instances.{Instance, instances, instances_of_last, instance_points, points}
-use Rattle.fab_equations.specs.Numbering.{IsNumbered, offset_in, points_before}
+use Rattle.fab_equations.specs.Numbering.{IsInstanceOfNumber, offset_in, points_before}
 use Rattle.fab_equations.specs.Tables.{IsTable, IsChildTable, AreTables}
 use Rattle.fab_equations.specs.inner.Placed.{IsUnder, IsPlaced, ArePlaced, noted, IsNoted, bits_in, bits_together}
 use Rattle.fab_equations.specs.declared.placed.PlacedInstance.{PlacedInstance}
@@ -29,7 +29,7 @@ use Rattle.fab_equations.proofs.Placing.{Kept, get_replicate, same_sums, one_mod
 pub record IsFollower (text : List PlainModule) (number follower : ℕ) : Type 0 where
   pub above : ℕ
   pub i : Instance
-  pub is : IsNumbered text above i
+  pub is : IsInstanceOfNumber text above i
   pub child : ℕ
   pub within : child < length (children i.here.items)
   pub follows : follower ≡ above + offset_in text i child
@@ -41,7 +41,7 @@ IsReached text number place = (place ≡ 0) ⊎ IsFollower text number place
 -- an instance with its module and its parent
 pub record IsRight (text : List PlainModule) (number : ℕ) (p : PlacedInstance) : Type 0 where
   pub i : Instance
-  pub is : IsNumbered text number i
+  pub is : IsInstanceOfNumber text number i
   pub of_module : p.«module» ≡ i.number
   pub under : 0 < number → IsUnder text number p.parent p.child
 
@@ -58,7 +58,7 @@ reached text sound number (suc place) l within =
 
 -- ---- the top
 
-top_number : (text : List PlainModule) (i : Instance) → IsNumbered text 0 i → i.number ≡ length text - 1
+top_number : (text : List PlainModule) (i : Instance) → IsInstanceOfNumber text 0 i → i.number ≡ length text - 1
 unfolding instances
 top_number text i is = by (reverse text) refl
   where
@@ -78,8 +78,8 @@ filled_first text module_number count is counted =
       long = length-replicate count top ∙ counted;
       right = λ place p e reach. elim reach [
         | inl none ↦ (let there = get_replicate count place top p e in
-            let here : (i : Instance) × IsNumbered text place i = some_there (instances text) place (omega (arith, there.0, counted)) in
-            let first : IsNumbered text 0 here.0 = ap (slice_get (instances text)) (sym none) ∙ here.1 in
+            let here : (i : Instance) × IsInstanceOfNumber text place i = some_there (instances text) place (omega (arith, there.0, counted)) in
+            let first : IsInstanceOfNumber text 0 here.0 = ap (slice_get (instances text)) (sym none) ∙ here.1 in
             record {
               i = here.0;
               is = here.1;
@@ -99,7 +99,7 @@ at_least before [] each (suc k) l = absurd (omega (arith, l))
 at_least before (child ∷ all) each (suc k) l =
     omega (arith, each 0 child refl, at_least before all (λ n other e. each (suc n) other e) k (omega (arith, l)))
 
-past_offset : (text : List PlainModule) → IsSound text → (number : ℕ) (i : Instance) → IsNumbered text number i → (k : ℕ) → k ≤ length (children i.here.items) → k < offset_in text i k
+past_offset : (text : List PlainModule) → IsSound text → (number : ℕ) (i : Instance) → IsInstanceOfNumber text number i → (k : ℕ) → k ≤ length (children i.here.items) → k < offset_in text i k
 past_offset text sound number i is k l =
     let s = standing text sound number i is in
     let each : (n : ℕ) (child : Child) → slice_get (children i.here.items) n ≡ Some child → 1 ≤ instances_count s.before child.module_name =
@@ -108,7 +108,7 @@ past_offset text sound number i is k l =
     omega (arith, least, ap (λ (ms : List PlainModule). instances_of_children ms (take k (children i.here.items))) (modules_before_it text number i s))
 
 module _ (text : List PlainModule) (sound : IsSound text) (small : length (instances text) < 2 ^ 64) (tables : List Table) (are : AreTables text tables)
-    (number : ℕ) (i : Instance) (is : IsNumbered text number i) (table : Table) (at : slice_get tables i.number ≡ Some table) where
+    (number : ℕ) (i : Instance) (is : IsInstanceOfNumber text number i) (table : Table) (at : slice_get tables i.number ≡ Some table) where
   fits : IsTable text (modules_before text i.number) i.here table
   fits = are.1 i.number i.here table (instances_stand text sound number i is).1 at
 
@@ -137,7 +137,7 @@ module _ (text : List PlainModule) (sound : IsSound text) (small : length (insta
         let same : is_child.child ≡ f.2.child = same_value (slice_get (children i.here.items) k) is_child.child f.2.child is_child.is f.2.is in
         let below : is_child.below ≡ f.0.here = same_value (module_named text f.2.child.module_name) is_child.below f.0.here
         (ap (λ (c : Child). module_named text c.module_name) (sym same) ∙ is_child.stands) f.2.of in
-        let below_is : IsNumbered text (number + child.offset) f.0 = ap (slice_get (instances text)) place ∙ f.1 in
+        let below_is : IsInstanceOfNumber text (number + child.offset) f.0 = ap (slice_get (instances text)) place ∙ f.1 in
         record {
           i = f.0;
           is = below_is;
@@ -177,7 +177,7 @@ module _ (text : List PlainModule) (sound : IsSound text) (small : length (insta
 -- the table of the module of an instance
 pub record IsTableAt (text : List PlainModule) (tables : List Table) (number : ℕ) (table : Table) : Type 0 where
   pub i : Instance
-  pub is : IsNumbered text number i
+  pub is : IsInstanceOfNumber text number i
   pub at : slice_get tables i.number ≡ Some table
 
 module _ (text : List PlainModule) (sound : IsSound text) (tables : List Table) (are : AreTables text tables) (number : ℕ) (filled_in : List PlacedInstance)
@@ -216,7 +216,7 @@ module _ (text : List PlainModule) (sound : IsSound text) (tables : List Table) 
       same_sums (λ (p : PlacedInstance). bits_in (slice_get tables p.«module»)) (λ (i : Instance). length (instance_points i)) placed (instances text) filled.long same number
       ∙ sym (length-flat_map instance_points (take number (instances text)))
     where
-      same : (k : ℕ) (p : PlacedInstance) (i : Instance) → slice_get placed k ≡ Some p → IsNumbered text k i → bits_in (slice_get tables p.«module») ≡ length (instance_points i)
+      same : (k : ℕ) (p : PlacedInstance) (i : Instance) → slice_get placed k ≡ Some p → IsInstanceOfNumber text k i → bits_in (slice_get tables p.«module») ≡ length (instance_points i)
       same k p i e is =
           let r = right_here k p e in
           let table : (t : Table) × (slice_get tables p.«module» ≡ Some t) = some_there tables p.«module» (module_within k p e) in

@@ -10,7 +10,7 @@ use Rattle.fab_syntax.specs.declared.tree.Shape.{Shape}
 use Rattle.fab_syntax.specs.declared.tree.Shape.TheVariants.{Scalar, Vector}
 use Rattle.fab_syntax.specs.Declarations.{declared_shape, item_shape, width, width_if_any}
 use Rattle.fab_syntax.specs.Plain.{PlainExpr, PlainExprs, constant, variable, pick, part, concatenation, complement, operation, conditional, none, more, PlainJoin, PlainItem, wire, reg, assign, latch, clocked, instance, PlainModule}
-use Rattle.fab_syntax.specs.Sound.{Mention, net, use_of, instance_name, own_names, uses, item_mentions, mentions_in, refusals, subexpressions, parts_subexpressions, joined, item_expressions, expression_width, width_of_name, width_of, IsVectorAnd, SelectFits, OperandsFit, SidesFit, Every, EachItem, IsSound}
+use Rattle.fab_syntax.specs.Sound.{Mention, net, use_of, instance_name, own_names, uses, item_mentions, mentions_in, refusals, subexpressions, parts_subexpressions, joined_expressions, item_expressions, expression_width, width_of_name, width_of, IsVectorAnd, SelectFits, OperandsFit, SidesFit, Every, EachItem, IsSound}
 use Rattle.fab_syntax.proofs.SoundNames.{is_use, each_names_fit, used_is_net, net_has_shape}
 use Rattle.fab_sound.specs.Narrow.{IsNarrow, AreNarrow}
 use Rattle.fab_values.specs.fab_meaning.specs.Points.{Path, module_at}
@@ -174,14 +174,14 @@ module _ (m : PlainModule) where
 
 -- ---- what an expression of an item mentions, the item mentions
 
-in_joins : (joins : List PlainJoin) (e : PlainExpr) (mention : Mention) → Contains (flat_map (λ (join : PlainJoin). joined join.to) joins) e → Contains (uses e) mention →
-    Contains (flat_map (λ (join : PlainJoin). flat_map uses (joined join.to)) joins) mention
+in_joins : (joins : List PlainJoin) (e : PlainExpr) (mention : Mention) → Contains (flat_map (λ (join : PlainJoin). joined_expressions join.to) joins) e → Contains (uses e) mention →
+    Contains (flat_map (λ (join : PlainJoin). flat_map uses (joined_expressions join.to)) joins) mention
 in_joins [] e mention (k, l, is) used = absurd (omega arith)
 in_joins (join ∷ joins) e mention there used =
-    let rest : List Mention = flat_map (λ (join : PlainJoin). flat_map uses (joined join.to)) joins in
-    elim (Contains-append_cases (joined join.to) (flat_map (λ (join : PlainJoin). joined join.to) joins) e there) [
-      | inl here ↦ Contains-append_left (flat_map uses (joined join.to)) rest mention (in_flat uses (joined join.to) e mention here used)
-      | inr later ↦ Contains-append_right (flat_map uses (joined join.to)) rest mention (in_joins joins e mention later used)
+    let rest : List Mention = flat_map (λ (join : PlainJoin). flat_map uses (joined_expressions join.to)) joins in
+    elim (Contains-append_cases (joined_expressions join.to) (flat_map (λ (join : PlainJoin). joined_expressions join.to) joins) e there) [
+      | inl here ↦ Contains-append_left (flat_map uses (joined_expressions join.to)) rest mention (in_flat uses (joined_expressions join.to) e mention here used)
+      | inr later ↦ Contains-append_right (flat_map uses (joined_expressions join.to)) rest mention (in_joins joins e mention later used)
     ]
 
 mentioned : (item : PlainItem) (e : PlainExpr) (mention : Mention) → Contains (item_expressions item) e → Contains (uses e) mention → Contains (item_mentions item) mention

@@ -20,8 +20,8 @@ use Rattle.fab_values.specs.Declarations.{declarations, found_in}
 use Rattle.fab_values.specs.declared.names.Local.{Local}
 use Rattle.fab_equations.specs.Children.{Child, children}
 use Rattle.fab_equations.specs.Instances.{Instance, instances, points, whole_count, most_points}
-use Rattle.fab_equations.specs.Numbering.{IsNumbered}
-use Rattle.fab_equations.specs.Equations.{joined, HasNoDot, IsFound, IsNotFound, IsPlace, IsNoPlace, declared_as, declared_in}
+use Rattle.fab_equations.specs.Numbering.{IsInstanceOfNumber}
+use Rattle.fab_equations.specs.Equations.{hierarchical_name, HasNoDot, IsFound, IsNotFound, IsPlace, IsNoPlace, declared_as, declared_in}
 use Rattle.fab_equations.specs.Lookups.{IsHere, IsChild, IsChildNamed, LeadsThrough, IsRead}
 use Rattle.std.specs.Borrow.{Bor}
 use Rattle.fab_syntax.specs.declared.tree.Expr.{Expr}
@@ -63,7 +63,7 @@ passed_by_none p xs k x none e t =
 
 -- ---- the child of a name
 
-module _ {A : Type 0} (text : List PlainModule) (sound : IsSound text) (number : ℕ) (i : Instance) (is : IsNumbered text number i) (keys : List (Vec ℕ A))
+module _ {A : Type 0} (text : List PlainModule) (sound : IsSound text) (number : ℕ) (i : Instance) (is : IsInstanceOfNumber text number i) (keys : List (Vec ℕ A))
     (names : map (λ (key : Vec ℕ A). key.items) keys ≡ map (λ (child : Child). child.name) (children i.here.items)) (name : List ℕ) where
   pub no_child : position (λ (key : Vec ℕ A). bytes_eq name key.items) keys ≡ None → module_at text (name ∷ i.path) ≡ None
   no_child none =
@@ -92,7 +92,7 @@ module _ {A : Type 0} (text : List PlainModule) (sound : IsSound text) (number :
       (stands.below, stands.below_is, stands.of.path ∙ (λ k. named k ∷ (same_i k).path))
 
 -- the names that the table has
-pub names_here : (text : List PlainModule) (number : ℕ) (here : Here) → IsHere text number here → (i : Instance) → IsNumbered text number i →
+pub names_here : (text : List PlainModule) (number : ℕ) (here : Here) → IsHere text number here → (i : Instance) → IsInstanceOfNumber text number i →
     map (λ key. key.items) here.table.now.child_names.keys ≡ map (λ (child : Child). child.name) (children i.here.items)
 names_here text number here is i numbered =
     is.table.child_names
@@ -122,7 +122,7 @@ split_last (x ∷ front) =
       | inr more ↦ inr (x ∷ more.0, more.1, ap (λ (p : Path). x ∷ p) more.2)
     ]
 
-joined_last : (path : Path) (last name : List ℕ) → joined (path ++ last ∷ []) name ≡ last ++ 46 ∷ joined path name
+joined_last : (path : Path) (last name : List ℕ) → hierarchical_name (path ++ last ∷ []) name ≡ last ++ 46 ∷ hierarchical_name path name
 joined_last [] last name = refl
 joined_last (x ∷ path) last name = joined_last path last (x ++ 46 ∷ name)
 
@@ -146,7 +146,7 @@ read_none text sound small name some =
       small = small;
       i = top.0;
       is = top.1;
-      spelled = ap (λ (p : Path). joined p name) (sym path);
+      spelled = ap (λ (p : Path). hierarchical_name p name) (sym path);
       only = λ p m local stands dots no_dot spelled. (p, sym (append-nil p) ∙ ap (λ (q : Path). p ++ q) (sym path), spelled);
     }
 
@@ -157,13 +157,13 @@ module _ (text : List PlainModule) (name : List ℕ) (number : ℕ) (rest : List
     through path m local stands dots no_local spelled =
         let way = read.only path m local stands dots no_local spelled in
         elim (split_last way.0) [
-          | inl none ↦ (let short : rest ≡ local = way.2 ∙ ap (λ (p : Path). joined p local) none in
+          | inl none ↦ (let short : rest ≡ local = way.2 ∙ ap (λ (p : Path). hierarchical_name p local) none in
               absurd (no_dot_inside next later (subst HasNoDot (sym short ∙ parts) no_local)))
           | inr more ↦ (let whole : path ≡ (more.0 ++ more.1 ∷ []) ++ read.i.path = way.1 ∙ ap (λ (p : Path). p ++ read.i.path) more.2 in
               let no_dot_last : HasNoDot more.1 = path_parts more.0 more.1 read.i.path (subst (All HasNoDot) whole dots) in
-              let both : next ++ 46 ∷ later ≡ more.1 ++ 46 ∷ joined more.0 local =
-              sym parts ∙ way.2 ∙ ap (λ (p : Path). joined p local) more.2 ∙ joined_last more.0 more.1 local in
-              let same = first_dot next more.1 later (joined more.0 local) no_dot no_dot_last both in
+              let both : next ++ 46 ∷ later ≡ more.1 ++ 46 ∷ hierarchical_name more.0 local =
+              sym parts ∙ way.2 ∙ ap (λ (p : Path). hierarchical_name p local) more.2 ∙ joined_last more.0 more.1 local in
+              let same = first_dot next more.1 later (hierarchical_name more.0 local) no_dot no_dot_last both in
               (more.0, whole ∙ append_assoc more.0 (more.1 ∷ []) read.i.path ∙ ap (λ (x : List ℕ). more.0 ++ x ∷ read.i.path) (sym same.0), same.1))
         ]
 
@@ -173,7 +173,7 @@ module _ (text : List PlainModule) (name : List ℕ) (number : ℕ) (rest : List
       small = read.small;
       i = below;
       is = is;
-      spelled = read.spelled ∙ ap (joined read.i.path) parts ∙ ap (λ (p : Path). joined p later) (sym path);
+      spelled = read.spelled ∙ ap (hierarchical_name read.i.path) parts ∙ ap (λ (p : Path). hierarchical_name p later) (sym path);
       only = subst (λ (p : Path). LeadsThrough text name p later) (sym path) through;
     }
 
@@ -199,22 +199,22 @@ module _ (text : List PlainModule) (name : List ℕ) (number : ℕ) (rest : List
             i = read.i;
             name = rest;
             spelled = read.spelled;
-            is = subst (λ n. IsNumbered text n read.i) (sym numbered) read.is;
+            is = subst (λ n. IsInstanceOfNumber text n read.i) (sym numbered) read.is;
             declares = subst (λ n. declared_in text n read.i rest ≡ Some declared) (sym numbered) (sym e);
           }
 
   -- no other way to read it
-  only_so : HasNoDot rest → (path : Path) (m : PlainModule) (local : List ℕ) → module_at text path ≡ Some m → All HasNoDot path → HasNoDot local → name ≡ joined path local →
+  only_so : HasNoDot rest → (path : Path) (m : PlainModule) (local : List ℕ) → module_at text path ≡ Some m → All HasNoDot path → HasNoDot local → name ≡ hierarchical_name path local →
       (path ≡ read.i.path) × (rest ≡ local)
   only_so no_dot path m local stands dots no_local spelled =
       let way = read.only path m local stands dots no_local spelled in
       elim (split_last way.0) [
-        | inl none ↦ (way.1 ∙ ap (λ (p : Path). p ++ read.i.path) none, way.2 ∙ ap (λ (p : Path). joined p local) none)
-        | inr more ↦ (let long : rest ≡ more.1 ++ 46 ∷ joined more.0 local = way.2 ∙ ap (λ (p : Path). joined p local) more.2 ∙ joined_last more.0 more.1 local in
-            absurd (no_dot_inside more.1 (joined more.0 local) (subst HasNoDot long no_dot)))
+        | inl none ↦ (way.1 ∙ ap (λ (p : Path). p ++ read.i.path) none, way.2 ∙ ap (λ (p : Path). hierarchical_name p local) none)
+        | inr more ↦ (let long : rest ≡ more.1 ++ 46 ∷ hierarchical_name more.0 local = way.2 ∙ ap (λ (p : Path). hierarchical_name p local) more.2 ∙ joined_last more.0 more.1 local in
+            absurd (no_dot_inside more.1 (hierarchical_name more.0 local) (subst HasNoDot long no_dot)))
       ]
 
-  same_found : HasNoDot rest → (other : ℕ) (j : Instance) (local : List ℕ) → IsNumbered text other j → All HasNoDot j.path → HasNoDot local → name ≡ joined j.path local →
+  same_found : HasNoDot rest → (other : ℕ) (j : Instance) (local : List ℕ) → IsInstanceOfNumber text other j → All HasNoDot j.path → HasNoDot local → name ≡ hierarchical_name j.path local →
       found_in (declarations j.here) local ≡ found_in (declarations read.i.here) rest
   same_found no_dot other j local is dots no_local spelled =
       let stands = (instances_stand text read.sound other j is).0 in
@@ -280,7 +280,7 @@ module _ (text : List PlainModule) (name : List ℕ) (number : ℕ) (rest : List
         let at = point_at text read.sound there.0 p (slice_get-get_or (points text) there.0 p there.1 ∙ ap Some there.2) in
         let d = declared_so declared so in
         let same : found_in (declarations at.i.here) local ≡ found_in (declarations read.i.here) rest =
-        same_found no_dot at.above at.i local at.is (subst (All HasNoDot) (sym at.same) dots) no_local (spelled ∙ ap (λ (q : Path). joined q local) (sym at.same)) in
+        same_found no_dot at.above at.i local at.is (subst (All HasNoDot) (sym at.same) dots) no_local (spelled ∙ ap (λ (q : Path). hierarchical_name q local) (sym at.same)) in
         let locals : at.local ≡ d.local = same_value (found_in (declarations at.i.here) local) at.local d.local at.found (same ∙ d.found) in
         omega (arith, at.less, past, ap (λ (l : Local). width l.shape) locals, ap (λ (x : Declared). width x.shape) d.is)
 
@@ -289,7 +289,7 @@ not_found_no_place text sound name bit none path local dots no_local spelled the
     let p = point path local bit in
     let at = point_at text sound there.0 p (slice_get-get_or (points text) there.0 p there.1 ∙ ap Some there.2) in
     let nothing : found_in (declarations at.i.here) local ≡ None =
-    none at.above at.i local at.is (subst (All HasNoDot) (sym at.same) dots) no_local (spelled ∙ ap (λ (q : Path). joined q local) (sym at.same)) in
+    none at.above at.i local at.is (subst (All HasNoDot) (sym at.same) dots) no_local (spelled ∙ ap (λ (q : Path). hierarchical_name q local) (sym at.same)) in
     let clash : Some at.local ≡ None = sym at.found ∙ nothing in
     cc
 

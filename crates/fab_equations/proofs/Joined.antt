@@ -14,7 +14,7 @@ use Rattle.fab_values.specs.Declarations.{Declaration, declarations, port_declar
 use Rattle.fab_values.specs.declared.names.Role.TheVariants as roles
 use Rattle.fab_equations.specs.Children.{Child, children}
 use Rattle.fab_equations.specs.Instances.{Instance, instances}
-use Rattle.fab_equations.specs.Numbering.{IsNumbered, IsChildOf, offset_in}
+use Rattle.fab_equations.specs.Numbering.{IsInstanceOfNumber, IsChildOf, offset_in}
 use Rattle.fab_equations.specs.Tables.{IsJoined}
 use Rattle.fab_equations.specs.Lookups.{IsHere, IsInput, IsJoinedAbove}
 use Rattle.fab_equations.specs.declared.lookups.Here.{Here}
@@ -42,7 +42,7 @@ input_role (port ∷ ports) rest (suc number) d once input e =
           input_role ports rest number d (omega (arith, once)) later e)
     ]
 
-pub role_of_input : (text : List PlainModule) → IsSound text → (number declared : ℕ) (i : Instance) → IsNumbered text number i → (d : Declaration) →
+pub role_of_input : (text : List PlainModule) → IsSound text → (number declared : ℕ) (i : Instance) → IsInstanceOfNumber text number i → (d : Declaration) →
     slice_get (declarations i.here) declared ≡ Some d → is_input i.here.ports d.name ≡ true → d.role ≡ roles.Input
 role_of_input text sound number declared i numbered d e input =
     let once = named_once text sound i.path i.here (instances_stand text sound number i numbered).0 in

@@ -8,7 +8,7 @@ use Rattle.std.specs.Str.{bytes_eq}
 use Rattle.fab_syntax.specs.declared.tree.Port.{Port}
 use Rattle.fab_syntax.specs.Plain.{PlainExpr, variable, PlainJoin, PlainItem, PlainModule}
 use Rattle.fab_syntax.specs.Declarations.{width, is_input, one_if_same, one_if_variable, times_driven, times_joined, times_joined_out}
-use Rattle.fab_syntax.specs.Sound.{joined, JoinFits, FitsPort, port_named}
+use Rattle.fab_syntax.specs.Sound.{joined_expressions, JoinFits, FitsPort, port_named}
 use Rattle.fab_values.specs.Declarations.{Declaration, declarations, found_in, number_of, item_declarations, port_declaration}
 use Rattle.fab_values.specs.declared.names.Local.{Local}
 use Rattle.fab_values.specs.declared.names.Role.TheVariants as roles
@@ -141,7 +141,7 @@ module _ (spot : Spot) (items : List PlainItem) (number : ℕ) (child : Child) (
       local.role ≡ roles.Input → AreJoinedSoFar spot items child below (so_far ++ join ∷ []) drivers (put_at inputs (number_of (declarations below) join.port) (Some added))
   input_step e added local to place found role =
       let input : is_input below.ports join.port ≡ true = input_role 0 below.ports below.items join.port local found ∙ ap is_input_role role in
-      let all : es ++ e ∷ next.more ≡ expressions spot.text = subst (λ o. es ++ (joined o ++ next.more) ≡ expressions spot.text) to next.all in
+      let all : es ++ e ∷ next.more ≡ expressions spot.text = subst (λ o. es ++ (joined_expressions o ++ next.more) ≡ expressions spot.text) to next.all in
       record {
         drivers_are = drivers_kept spot items below so_far join drivers (λ name. ap (λ b. if b then 0 else one_if_variable join.to name) input) are.drivers_are;
         inputs_are = inputs_put spot child.joins so_far join (declarations below) e added inputs here.once to (at_place es e next.more (expressions spot.text) added all place)

@@ -17,7 +17,7 @@ use Rattle.fab_values.specs.declared.names.Local.{Local}
 use Rattle.fab_syntax.specs.declared.tree.Expr.{Expr}
 use Rattle.fab_equations.specs.Instances.{Instance, instance_points, instances, points, most_points}
 use Rattle.fab_equations.specs.Children.{modules_before}
-use Rattle.fab_equations.specs.Numbering.{IsNumbered, points_before}
+use Rattle.fab_equations.specs.Numbering.{IsInstanceOfNumber, points_before}
 use Rattle.fab_equations.specs.Tables.{firsts_from, firsts_of, IsTable}
 use Rattle.fab_equations.specs.inner.Placed.{IsPlaced, ArePlaced, Keeps}
 use Rattle.fab_equations.specs.Lookups.{IsHere, IsBit, IsLastAtMost, IsPointOf}
@@ -176,7 +176,7 @@ module _ {X Y : Type 0} (f : X → List Y) where
       omega (arith, length-append (f x) (flat_map f (take k xs)), length-append (f x) (flat_map f xs), flat_all xs k (omega arith))
 
 module _ (text : List PlainModule) where
-  pub points_next : (number : ℕ) (i : Instance) → IsNumbered text number i → points_before text (suc number) ≡ points_before text number + bits_of (declarations i.here)
+  pub points_next : (number : ℕ) (i : Instance) → IsInstanceOfNumber text number i → points_before text (suc number) ≡ points_before text number + bits_of (declarations i.here)
   points_next number i e = flat_next instance_points (instances text) number i e ∙ ap (λ n. points_before text number + n) (points_length i.path (declarations i.here))
 
   pub points_rise : (i j : ℕ) → i ≤ j → points_before text i ≤ points_before text j
@@ -186,7 +186,7 @@ module _ (text : List PlainModule) where
   unfolding points
   points_all number l = flat_all instance_points (instances text) number l
 
-  pub points_within : (number : ℕ) (i : Instance) → IsNumbered text number i → bits_of (declarations i.here) + points_before text number ≤ length (points text)
+  pub points_within : (number : ℕ) (i : Instance) → IsInstanceOfNumber text number i → bits_of (declarations i.here) + points_before text number ≤ length (points text)
   points_within number i e =
       omega (arith, points_next number i e, points_rise (suc number) (suc number + length (instances text)) (omega arith), points_all (suc number + length (instances text)) (omega arith))
 

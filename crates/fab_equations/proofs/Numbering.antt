@@ -7,7 +7,7 @@ use Rattle.fab_syntax.specs.Sound.{IsSound}
 use Rattle.fab_values.specs.fab_meaning.specs.Points.{Path}
 use Rattle.fab_equations.specs.Children.{Child, children, modules_before, offset_of}
 use Rattle.fab_equations.specs.Instances.{Instance, instances}
-use Rattle.fab_equations.specs.Numbering.{IsNumbered, InstancesStand, ChildrenFollow, InstancesAreChildren, offset_in}
+use Rattle.fab_equations.specs.Numbering.{IsInstanceOfNumber, InstancesStand, ChildrenFollow, InstancesAreChildren, offset_in}
 use Rattle.fab_equations.proofs.Standing.{Stands, the_instance, is_numbered, is_module, modules_are, child_stands, each_reached}
 
 pub same_value : {X : Type 0} (o : Option X) (x y : X) → o ≡ Some x → o ≡ Some y → x ≡ y
@@ -24,7 +24,7 @@ pub record Standing (text : List PlainModule) (number : ℕ) (i : Instance) : Ty
   pub stands : Stands text number before i.here i.path
   pub last : length before ≡ i.number
 
-pub standing : (text : List PlainModule) → IsSound text → (number : ℕ) (i : Instance) → IsNumbered text number i → Standing text number i
+pub standing : (text : List PlainModule) → IsSound text → (number : ℕ) (i : Instance) → IsInstanceOfNumber text number i → Standing text number i
 standing text sound number i e =
     let r = each_reached text sound number (slice_get_within (instances text) number i e) in
     let same : the_instance r.before r.m r.path ≡ i = same_value (slice_get (instances text) number) (the_instance r.before r.m r.path) i (is_numbered text number r.before r.m r.path r.stands) e in
@@ -39,9 +39,9 @@ pub modules_before_it : (text : List PlainModule) (number : ℕ) (i : Instance) 
 modules_before_it text number i s = ap (modules_before text) (sym s.last) ∙ modules_are text number s.before i.here i.path s.stands
 
 -- the child of a number stands at its offset
-pub child_follows : (text : List PlainModule) → IsSound text → (number : ℕ) (i : Instance) → IsNumbered text number i → (place : ℕ) (child : Child) →
+pub child_follows : (text : List PlainModule) → IsSound text → (number : ℕ) (i : Instance) → IsInstanceOfNumber text number i → (place : ℕ) (child : Child) →
     slice_get (children i.here.items) place ≡ Some child →
-    (below : Instance) × IsNumbered text (number + offset_in text i place) below × (below.path ≡ child.name ∷ i.path) × (module_named text child.module_name ≡ Some below.here)
+    (below : Instance) × IsInstanceOfNumber text (number + offset_in text i place) below × (below.path ≡ child.name ∷ i.path) × (module_named text child.module_name ≡ Some below.here)
 child_follows text sound number i e place child is =
     let s = standing text sound number i e in
     let b = child_stands text number s.before i.here i.path s.stands place child sound is in
@@ -64,7 +64,7 @@ children_follow text sound number i e place l =
 pub record IsChildAt (text : List PlainModule) (number : ℕ) (path : Path) : Type 0 where
   pub above : ℕ
   pub i : Instance
-  pub is : IsNumbered text above i
+  pub is : IsInstanceOfNumber text above i
   pub place : ℕ
   pub child : Child
   pub child_is : slice_get (children i.here.items) place ≡ Some child
@@ -72,7 +72,7 @@ pub record IsChildAt (text : List PlainModule) (number : ℕ) (path : Path) : Ty
   pub named : path ≡ child.name ∷ i.path
 
 -- an instance behind the top is such a child
-pub child_at : (text : List PlainModule) → IsSound text → (number : ℕ) (i : Instance) → IsNumbered text number i → 0 < number → IsChildAt text number i.path
+pub child_at : (text : List PlainModule) → IsSound text → (number : ℕ) (i : Instance) → IsInstanceOfNumber text number i → 0 < number → IsChildAt text number i.path
 child_at text sound number i e behind =
     let r = each_reached text sound number (slice_get_within (instances text) number i e) in
     let same : the_instance r.before r.m r.path ≡ i = same_value (slice_get (instances text) number) (the_instance r.before r.m r.path) i (is_numbered text number r.before r.m r.path r.stands) e in

@@ -15,7 +15,7 @@ use Rattle.fab_values.specs.fab_meaning.proofs.Modules.{module_at_holds}
 use Rattle.fab_values.specs.fab_meaning.proofs.SoundTexts.{sound_drives_once}
 use Rattle.fab_equations.specs.Children.{Child, children}
 use Rattle.fab_equations.specs.Instances.{Instance, instances_of_last, instances}
-use Rattle.fab_equations.specs.Numbering.{IsNumbered, PathsAreInstances, PathsDiffer, offset_in}
+use Rattle.fab_equations.specs.Numbering.{IsInstanceOfNumber, PathsAreInstances, PathsDiffer, offset_in}
 use Rattle.fab_equations.proofs.Standing.{Stands, the_instance, is_numbered, top_stands, child_stands}
 use Rattle.fab_equations.proofs.Numbering.{same_value, standing, child_at}
 
@@ -87,7 +87,7 @@ paths_are_instances text sound path m e =
 
 -- ---- and just one
 
-pub top_path : (text : List PlainModule) (i : Instance) → IsNumbered text 0 i → i.path ≡ []
+pub top_path : (text : List PlainModule) (i : Instance) → IsInstanceOfNumber text 0 i → i.path ≡ []
 unfolding instances
 top_path text i e = by (reverse text) refl
   where
@@ -124,13 +124,13 @@ child_once (instance of first joins ∷ items) name once (suc place) (suc other)
 child_once (_ ∷ items) name once place other x y e f same also = child_once items name once place other x y e f same also
 
 module _ (text : List PlainModule) (sound : IsSound text) where
-  one_number : (path : Path) (number other : ℕ) (i j : Instance) → IsNumbered text number i → IsNumbered text other j → i.path ≡ path → j.path ≡ path → number ≡ other
+  one_number : (path : Path) (number other : ℕ) (i j : Instance) → IsInstanceOfNumber text number i → IsInstanceOfNumber text other j → i.path ≡ path → j.path ≡ path → number ≡ other
   one_number [] number other i j e f ip jp =
       let first : number ≤ 0 = is_top number i e ip in
       let second : other ≤ 0 = is_top other j f jp in
       omega arith
     where
-      is_top : (n : ℕ) (x : Instance) → IsNumbered text n x → x.path ≡ [] → n ≤ 0
+      is_top : (n : ℕ) (x : Instance) → IsInstanceOfNumber text n x → x.path ≡ [] → n ≤ 0
       is_top n x is none =
           elim (cases_lt 0 n) [
             | inl behind ↦ (let at = child_at text sound n x is behind in
@@ -151,11 +151,11 @@ module _ (text : List PlainModule) (sound : IsSound text) where
       let place : a.place ≡ b.place = child_once a.i.here.items name once a.place b.place a.child b.child a.child_is there (cc) (cc) in
       a.offset ∙ (λ k. above k + offset_in text (same k) (place k)) ∙ sym b.offset
     where
-      is_behind : (n : ℕ) (x : Instance) → IsNumbered text n x → x.path ≡ name ∷ path → 0 < n
+      is_behind : (n : ℕ) (x : Instance) → IsInstanceOfNumber text n x → x.path ≡ name ∷ path → 0 < n
       is_behind n x is long =
           elim (cases_lt 0 n) [
             | inl behind ↦ behind
-            | inr top ↦ (let zeroth : IsNumbered text 0 x = subst (λ k. IsNumbered text k x) (omega (arith, top)) is in
+            | inr top ↦ (let zeroth : IsInstanceOfNumber text 0 x = subst (λ k. IsInstanceOfNumber text k x) (omega (arith, top)) is in
                 let short : name ∷ path ≡ [] = sym long ∙ top_path text x zeroth in
                 cc)
           ]

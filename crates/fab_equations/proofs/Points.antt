@@ -17,7 +17,7 @@ use Rattle.fab_values.specs.declared.names.Local.{Local}
 use Rattle.fab_values.proofs.Agreement.{bits_are_names}
 use Rattle.fab_values.proofs.Named as named
 use Rattle.fab_equations.specs.Instances.{Instance, instance_points, instances, points}
-use Rattle.fab_equations.specs.Numbering.{IsNumbered, points_before, PointsAreDeclared, DeclaredArePoints, PointsDiffer}
+use Rattle.fab_equations.specs.Numbering.{IsInstanceOfNumber, points_before, PointsAreDeclared, DeclaredArePoints, PointsDiffer}
 use Rattle.fab_equations.proofs.Counted.{points_length}
 use Rattle.fab_equations.proofs.Numbering.{same_value, standing}
 use Rattle.fab_equations.proofs.Paths.{paths_are_instances, paths_differ}
@@ -72,7 +72,7 @@ not_found_width m name e =
 pub record IsPointAt (text : List PlainModule) (number : ℕ) (p : Point) : Type 0 where
   pub above : ℕ
   pub i : Instance
-  pub is : IsNumbered text above i
+  pub is : IsInstanceOfNumber text above i
   pub local : Local
   pub found : found_in (declarations i.here) p.name ≡ Some local
   pub less : p.bit < width local.shape

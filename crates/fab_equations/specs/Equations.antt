@@ -15,7 +15,7 @@ use Rattle.fab_values.specs.Declarations.{declarations, found_in}
 use Rattle.fab_values.specs.Evaluation.{expr_width, IsFit}
 use Rattle.fab_values.specs.declared.names.Local.{Local}
 use Rattle.fab_equations.specs.Instances.{Instance, instances, points, expressions, whole_count, most_points, in_64_bits}
-use Rattle.fab_equations.specs.Numbering.{IsNumbered, points_before}
+use Rattle.fab_equations.specs.Numbering.{IsInstanceOfNumber, points_before}
 use Rattle.fab_equations.specs.Tables.{IsExpression}
 use Rattle.fab_equations.specs.declared.driver.Source.{Source}
 use Rattle.fab_equations.specs.declared.driver.Driver.{Driver}
@@ -31,7 +31,7 @@ IsPoint text number p = slice_get (points text) number ≡ Some p
 -- a source is an expression over the names of the instance at a path
 pub record IsSource (text : List PlainModule) (source : Source) (path : Path) (e : PlainExpr) : Type 0 where
   pub i : Instance
-  pub instance_is : IsNumbered text source.instance i
+  pub instance_is : IsInstanceOfNumber text source.instance i
   pub at : i.path ≡ path
   pub expression : IsExpression text source.expr e
 
@@ -62,7 +62,7 @@ pub record IsDriven (text : List PlainModule) (number : ℕ) (driver : Driver) :
 -- the expression of a source has a value over the names of its instance, and the bit is one of it
 abbrev pub SourceFits : List PlainModule → Source → Type 0
 SourceFits text source =
-    (i : Instance) (e : PlainExpr) → IsNumbered text source.instance i → IsExpression text source.expr e →
+    (i : Instance) (e : PlainExpr) → IsInstanceOfNumber text source.instance i → IsExpression text source.expr e →
     IsFit (declarations i.here) e × (source.bit < expr_width (declarations i.here) e)
 
 -- the same of each source of a driver
@@ -84,9 +84,9 @@ abbrev pub declared_in : List PlainModule → (number : ℕ) → Instance → (n
 declared_in text number i name = option_map (declared_as text number) (found_in (declarations i.here) name)
 
 -- a hierarchical name: the names of the instances from the top, and the local name, joined by dots
-abbrev pub joined : Path → (name : List ℕ) → List ℕ
-joined [] name = name
-joined (i ∷ path) name = joined path (i ++ 46 ∷ name)
+abbrev pub hierarchical_name : Path → (name : List ℕ) → List ℕ
+hierarchical_name [] name = name
+hierarchical_name (i ∷ path) name = hierarchical_name path (i ++ 46 ∷ name)
 
 -- a name without a dot; where no name has one, a hierarchical name is joined in one way
 abbrev pub HasNoDot : List ℕ → Type 0
@@ -96,27 +96,27 @@ HasNoDot name = All (λ byte. byte ≢ 46) name
 pub record IsFound (text : List PlainModule) (bytes : List ℕ) (declared : Declared) : Type 0 where
   pub i : Instance
   pub name : List ℕ
-  pub spelled : bytes ≡ joined i.path name
-  pub is : IsNumbered text declared.instance i
+  pub spelled : bytes ≡ hierarchical_name i.path name
+  pub is : IsInstanceOfNumber text declared.instance i
   pub declares : declared_in text declared.instance i name ≡ Some declared
 
 -- no instance declares the name
 abbrev pub IsNotFound : List PlainModule → (bytes : List ℕ) → Type 0
 IsNotFound text bytes =
-    (number : ℕ) (i : Instance) (name : List ℕ) → IsNumbered text number i → All HasNoDot i.path → HasNoDot name →
-    bytes ≡ joined i.path name → found_in (declarations i.here) name ≡ None
+    (number : ℕ) (i : Instance) (name : List ℕ) → IsInstanceOfNumber text number i → All HasNoDot i.path → HasNoDot name →
+    bytes ≡ hierarchical_name i.path name → found_in (declarations i.here) name ≡ None
 
 -- the point of a bit of a hierarchical name
 pub record IsPlace (text : List PlainModule) (bytes : List ℕ) (bit number : ℕ) : Type 0 where
   pub path : Path
   pub name : List ℕ
-  pub spelled : bytes ≡ joined path name
+  pub spelled : bytes ≡ hierarchical_name path name
   pub is : IsPoint text number (point path name bit)
 
 -- the text has no such point
 abbrev pub IsNoPlace : List PlainModule → (bytes : List ℕ) → (bit : ℕ) → Type 0
 IsNoPlace text bytes bit =
-    (path : Path) (name : List ℕ) → All HasNoDot path → HasNoDot name → bytes ≡ joined path name → ¬ Contains (points text) (point path name bit)
+    (path : Path) (name : List ℕ) → All HasNoDot path → HasNoDot name → bytes ≡ hierarchical_name path name → ¬ Contains (points text) (point path name bit)
 
 -- ---- faults of a whole text
 

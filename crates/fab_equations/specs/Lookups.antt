@@ -7,11 +7,11 @@ use Rattle.fab_values.specs.fab_meaning.specs.Points.{Path, point, module_at}
 use Rattle.fab_values.specs.Declarations.{Declaration, declarations, bits_of, number_of, width}
 use Rattle.fab_values.specs.declared.names.Role.TheVariants as roles
 use Rattle.fab_equations.specs.Instances.{Instance, whole_count, most_points}
-use Rattle.fab_equations.specs.Numbering.{IsNumbered, IsChildOf, points_before}
+use Rattle.fab_equations.specs.Numbering.{IsInstanceOfNumber, IsChildOf, points_before}
 use Rattle.fab_equations.specs.Children.{children, modules_before}
 use Rattle.fab_equations.specs.Tables.{IsExpression, IsTable, IsJoined}
 use Rattle.fab_equations.specs.inner.Placed.{IsPlaced}
-use Rattle.fab_equations.specs.Equations.{IsPoint, joined, HasNoDot, IsNotFound}
+use Rattle.fab_equations.specs.Equations.{IsPoint, hierarchical_name, HasNoDot, IsNotFound}
 use Rattle.fab_equations.specs.declared.driver.Source.{Source}
 use Rattle.fab_equations.specs.declared.lookups.Here.{Here}
 use Rattle.fab_equations.specs.declared.lookups.LocalBit.{LocalBit}
@@ -30,7 +30,7 @@ pub record IsHere (text : List PlainModule) (number : ℕ) (here : Here) : Type 
 -- a point is among those of the instance of a number
 pub record IsPointOf (text : List PlainModule) (point number : ℕ) : Type 0 where
   pub i : Instance
-  pub is : IsNumbered text number i
+  pub is : IsInstanceOfNumber text number i
   pub begins : points_before text number ≤ point
   pub ends : point < bits_of (declarations i.here) + points_before text number
 
@@ -44,7 +44,7 @@ pub record IsLastAtMost {X : Type 0} (begins : X → ℕ) (xs : List X) (place n
 -- the point of a number is this bit of a declared name
 pub record IsBit (text : List PlainModule) (number : ℕ) (local : LocalBit) : Type 0 where
   pub i : Instance
-  pub is : IsNumbered text local.instance i
+  pub is : IsInstanceOfNumber text local.instance i
   pub d : Declaration
   pub declares : slice_get (declarations i.here) local.declared ≡ Some d
   pub less : local.bit < width d.shape
@@ -55,7 +55,7 @@ pub record IsBit (text : List PlainModule) (number : ℕ) (local : LocalBit) : T
 -- a declared name of an instance is an input
 pub record IsInput (text : List PlainModule) (number declared : ℕ) : Type 0 where
   pub i : Instance
-  pub is : IsNumbered text number i
+  pub is : IsInstanceOfNumber text number i
   pub d : Declaration
   pub declares : slice_get (declarations i.here) declared ≡ Some d
   pub role : d.role ≡ roles.Input
@@ -66,7 +66,7 @@ pub record IsJoinedAbove (text : List PlainModule) (number declared : ℕ) (sour
   pub input : IsInput text number declared
   pub less : source.instance < number
   pub above : Instance
-  pub above_is : IsNumbered text source.instance above
+  pub above_is : IsInstanceOfNumber text source.instance above
   pub place : ℕ
   pub child : IsChildOf text above place input.i
   pub joined : IsJoined text child.child.joins input.d.name (Some source.expr)
@@ -81,7 +81,7 @@ IsJoin text number declared (Some source) = IsJoinedAbove text number declared s
 -- an expression is a name, which the instance declares under a number
 pub record IsName (text : List PlainModule) (source : Source) (declared : ℕ) : Type 0 where
   pub i : Instance
-  pub is : IsNumbered text source.instance i
+  pub is : IsInstanceOfNumber text source.instance i
   pub name : List ℕ
   pub expression : IsExpression text source.expr (variable name)
   pub declares : number_of (declarations i.here) name ≡ Some declared
@@ -89,7 +89,7 @@ pub record IsName (text : List PlainModule) (source : Source) (declared : ℕ) :
 -- a declared name of an instance is a clock
 pub record IsClock (text : List PlainModule) (number declared : ℕ) : Type 0 where
   pub i : Instance
-  pub is : IsNumbered text number i
+  pub is : IsInstanceOfNumber text number i
   pub d : Declaration
   pub declares : slice_get (declarations i.here) declared ≡ Some d
   pub role : d.role ≡ roles.Input
@@ -101,37 +101,37 @@ pub record IsClock (text : List PlainModule) (number declared : ℕ) : Type 0 wh
 -- an instance has a child of this number
 pub record HasChild (text : List PlainModule) (number place : ℕ) : Type 0 where
   pub i : Instance
-  pub is : IsNumbered text number i
+  pub is : IsInstanceOfNumber text number i
   pub within : place < length (children i.here.items)
 
 -- the child of this number
 pub record IsChild (text : List PlainModule) (number place child : ℕ) : Type 0 where
   pub i : Instance
-  pub is : IsNumbered text number i
+  pub is : IsInstanceOfNumber text number i
   pub below : Instance
-  pub below_is : IsNumbered text child below
+  pub below_is : IsInstanceOfNumber text child below
   pub of : IsChildOf text i place below
 
 -- the instance of a name in another, if there is one
 abbrev pub IsChildNamed : List PlainModule → Instance → (name : List ℕ) → Option ℕ → Type 0
 IsChildNamed text i name None = module_at text (name ∷ i.path) ≡ None
-IsChildNamed text i name (Some number) = (below : Instance) × IsNumbered text number below × (below.path ≡ name ∷ i.path)
+IsChildNamed text i name (Some number) = (below : Instance) × IsInstanceOfNumber text number below × (below.path ≡ name ∷ i.path)
 
 -- ---- hierarchical names
 
 -- each way to read a name leads through the instance at a path, with this rest of the name
 abbrev pub LeadsThrough : List PlainModule → (name : List ℕ) → Path → (rest : List ℕ) → Type 0
 LeadsThrough text name at rest =
-    (path : Path) (m : PlainModule) (local : List ℕ) → module_at text path ≡ Some m → All HasNoDot path → HasNoDot local → name ≡ joined path local →
-    (front : Path) × (path ≡ front ++ at) × (rest ≡ joined front local)
+    (path : Path) (m : PlainModule) (local : List ℕ) → module_at text path ≡ Some m → All HasNoDot path → HasNoDot local → name ≡ hierarchical_name path local →
+    (front : Path) × (path ≡ front ++ at) × (rest ≡ hierarchical_name front local)
 
 -- A name is read up to a rest within the instance of a number, in a sound text that is small enough.
 pub record IsRead (text : List PlainModule) (name : List ℕ) (number : ℕ) (rest : List ℕ) : Type 0 where
   pub sound : IsSound text
   pub small : whole_count text ≤ most_points
   pub i : Instance
-  pub is : IsNumbered text number i
-  pub spelled : name ≡ joined i.path rest
+  pub is : IsInstanceOfNumber text number i
+  pub spelled : name ≡ hierarchical_name i.path rest
   pub only : LeadsThrough text name i.path rest
 
 -- The instance to which a name leads, and the last part of the name; none where no instance declares the name. The text is sound.

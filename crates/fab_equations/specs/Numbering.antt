@@ -12,28 +12,28 @@ use Rattle.fab_equations.specs.Instances.{Instance, instances, instance_points, 
 use Rattle.fab_equations.specs.Children.{Child, children, modules_before, offset_of}
 
 -- the instance of a number
-abbrev pub IsNumbered : List PlainModule → ℕ → Instance → Type 0
-IsNumbered text number i = slice_get (instances text) number ≡ Some i
+abbrev pub IsInstanceOfNumber : List PlainModule → ℕ → Instance → Type 0
+IsInstanceOfNumber text number i = slice_get (instances text) number ≡ Some i
 
 -- ---- instances
 
 -- Instances stand at their paths. Their modules have their numbers.
 abbrev pub InstancesStand : Type 0
 InstancesStand =
-    (text : List PlainModule) → IsSound text → (number : ℕ) (i : Instance) → IsNumbered text number i →
+    (text : List PlainModule) → IsSound text → (number : ℕ) (i : Instance) → IsInstanceOfNumber text number i →
     (module_at text i.path ≡ Some i.here) × (slice_get text i.number ≡ Some i.here)
 
 -- At each path at which a module stands there is an instance,
 abbrev pub PathsAreInstances : Type 0
 PathsAreInstances =
     (text : List PlainModule) → IsSound text → (path : Path) (m : PlainModule) → module_at text path ≡ Some m →
-    (number : ℕ) × (i : Instance) × IsNumbered text number i × (i.path ≡ path)
+    (number : ℕ) × (i : Instance) × IsInstanceOfNumber text number i × (i.path ≡ path)
 
 -- and just one.
 abbrev pub PathsDiffer : Type 0
 PathsDiffer =
     (text : List PlainModule) → IsSound text → (number other : ℕ) (i j : Instance) →
-    IsNumbered text number i → IsNumbered text other j → i.path ≡ j.path → number ≡ other
+    IsInstanceOfNumber text number i → IsInstanceOfNumber text other j → i.path ≡ j.path → number ≡ other
 
 -- ---- the instances in an instance
 
@@ -50,15 +50,15 @@ offset_in text i child = offset_of (modules_before text i.number) (children i.he
 -- A child follows its instance at its offset,
 abbrev pub ChildrenFollow : Type 0
 ChildrenFollow =
-    (text : List PlainModule) → IsSound text → (number : ℕ) (i : Instance) → IsNumbered text number i →
+    (text : List PlainModule) → IsSound text → (number : ℕ) (i : Instance) → IsInstanceOfNumber text number i →
     (child : ℕ) → child < length (children i.here.items) →
-    (below : Instance) × IsNumbered text (number + offset_in text i child) below × IsChildOf text i child below
+    (below : Instance) × IsInstanceOfNumber text (number + offset_in text i child) below × IsChildOf text i child below
 
 -- and each instance but the top is such a child.
 abbrev pub InstancesAreChildren : Type 0
 InstancesAreChildren =
     (text : List PlainModule) → IsSound text → (number : ℕ) → 0 < number → number < length (instances text) →
-    (above : ℕ) × (i : Instance) × IsNumbered text above i × (child : ℕ) × (child < length (children i.here.items))
+    (above : ℕ) × (i : Instance) × IsInstanceOfNumber text above i × (child : ℕ) × (child < length (children i.here.items))
     × (number ≡ above + offset_in text i child)
 
 -- ---- points
@@ -70,7 +70,7 @@ points_before text number = length (flat_map instance_points (take number (insta
 -- The bits of a name of an instance follow one another, behind those of the names declared before it and of the instances before.
 abbrev pub NamesHavePoints : Type 0
 NamesHavePoints =
-    (text : List PlainModule) (number : ℕ) (i : Instance) → IsNumbered text number i →
+    (text : List PlainModule) (number : ℕ) (i : Instance) → IsInstanceOfNumber text number i →
     (name : List ℕ) (local : Local) → found_in (declarations i.here) name ≡ Some local → (bit : ℕ) → bit < width local.shape →
     slice_get (points text) (points_before text number + (local.first + bit)) ≡ Some (point i.path name bit)
 

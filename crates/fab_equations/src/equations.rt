@@ -6,7 +6,7 @@ ghost use Rattle.fab_syntax.specs.Sound.{IsSound};
 ghost use Rattle.fab_sound.specs.Narrow.{AreNarrow};
 ghost use Rattle.fab_values.specs.Declarations.{bits_of, declarations};
 ghost use Rattle.fab_equations.specs.Instances.{Instance, expressions, instances, most_points, points, whole_count};
-ghost use Rattle.fab_equations.specs.Numbering.{IsNumbered};
+ghost use Rattle.fab_equations.specs.Numbering.{IsInstanceOfNumber};
 ghost use Rattle.fab_equations.specs.Equations.{IsRefused};
 
 use crate::counts::top_count;
@@ -103,7 +103,7 @@ impl<'a> Equations<'a> {
     /// The number of the module of an instance.
     pub fn module_of(&self, instance: u32) -> u32
         requires { instance < length (instances (plain_text self.now)) }
-        ensures { (i : Instance) → IsNumbered (plain_text self.now) instance i → result ≡ i.number }
+        ensures { (i : Instance) → IsInstanceOfNumber (plain_text self.now) instance i → result ≡ i.number }
     {
         self.placed[instance as usize].module
     }
@@ -135,7 +135,7 @@ impl<'a> Equations<'a> {
     /// The bits of an instance, all 0, over the names that its module declares.
     pub fn values(&self, alloc: Global, instance: u32) -> Result<Values<'_>, Memory>
         requires { instance < length (instances (plain_text self.now)) }
-        ensures declarations { IfOk result (λ values. (i : Instance) → IsNumbered (plain_text self.now) instance i → values.declarations ≡ declarations i.here) }
+        ensures declarations { IfOk result (λ values. (i : Instance) → IsInstanceOfNumber (plain_text self.now) instance i → values.declarations ≡ declarations i.here) }
         ensures bits { IfOk result (λ values. values.bits ≡ replicate (bits_of values.declarations) false) }
     {
         let here = self.placed[instance as usize];

@@ -3,7 +3,7 @@
 ghost use Rattle.std.specs.Prelude.{◌≡◌, ◌++◌, ℕ, List, [], ◌∷◌, map, Option, OnOk, Some};
 ghost use Rattle.std.specs.List.{flat_map};
 ghost use Rattle.fab_syntax.specs.Plain.{PlainExpr, PlainItem, PlainJoin, PlainModule, instance, plain_expr, plain_join};
-ghost use Rattle.fab_syntax.specs.Sound.{joined};
+ghost use Rattle.fab_syntax.specs.Sound.{joined_expressions};
 ghost use Rattle.fab_values.specs.Declarations.{declarations};
 ghost use Rattle.fab_equations.specs.Instances.{expressions};
 ghost use Rattle.fab_equations.specs.Children.{Child};
@@ -28,7 +28,7 @@ pub fn add_child<'a>(
     inside: &mut Inside,
     exprs: &mut Vec<&'a Expr>,
 ) -> Result<(), Memory>
-    ensures exprs { OnOk result (listed exprs.new.items ≡ listed exprs.old.items ++ flat_map (λ join. joined join.to) (map plain_join joins.now)) }
+    ensures exprs { OnOk result (listed exprs.new.items ≡ listed exprs.old.items ++ flat_map (λ join. joined_expressions join.to) (map plain_join joins.now)) }
     ensures inside { OnOk result ((spot : Spot) (so_far : List PlainItem) → names.now ≡ declarations spot.here → IsBefore spot.text spot.number before.now →
         IsItem spot so_far (instance of.now name.now (map plain_join joins.now)) (listed exprs.old.items) → IsInside spot so_far inside.old →
         IsInside spot (so_far ++ instance of.now name.now (map plain_join joins.now) ∷ []) inside.new) }
@@ -71,10 +71,10 @@ fn add_joins<'a>(
     inputs: &mut Vec<Option<u32>>,
     exprs: &mut Vec<&'a Expr>,
 ) -> Result<(), Memory>
-    ensures exprs { OnOk result (listed exprs.new.items ≡ listed exprs.old.items ++ flat_map (λ join. joined join.to) (map plain_join joins.now)) }
+    ensures exprs { OnOk result (listed exprs.new.items ≡ listed exprs.old.items ++ flat_map (λ join. joined_expressions join.to) (map plain_join joins.now)) }
     ensures joins { OnOk result ((spot : Spot) (items : List PlainItem) (child : Child) (below : PlainModule) (more : List PlainExpr) →
         names.now ≡ declarations spot.here → below_names.now ≡ declarations below → IsInstance spot number child below → child.joins ≡ map plain_join joins.now →
-        listed exprs.old.items ++ (flat_map (λ join. joined join.to) child.joins ++ more) ≡ expressions spot.text →
+        listed exprs.old.items ++ (flat_map (λ join. joined_expressions join.to) child.joins ++ more) ≡ expressions spot.text →
         AreJoinedSoFar spot items child below [] drivers.old.items inputs.old.items →
         AreJoinedSoFar spot items child below child.joins drivers.new.items inputs.new.items) }
 {
@@ -94,7 +94,7 @@ fn add_join<'a>(
     inputs: &mut Vec<Option<u32>>,
     exprs: &mut Vec<&'a Expr>,
 ) -> Result<(), Memory>
-    ensures exprs { OnOk result (listed exprs.new.items ≡ listed exprs.old.items ++ joined (plain_join join.now).to) }
+    ensures exprs { OnOk result (listed exprs.new.items ≡ listed exprs.old.items ++ joined_expressions (plain_join join.now).to) }
     ensures joins { OnOk result ((spot : Spot) (items : List PlainItem) (child : Child) (below : PlainModule) (so_far : List PlainJoin) →
         names.now ≡ declarations spot.here → below_names.now ≡ declarations below → IsInstance spot number child below →
         IsJoin spot child so_far (plain_join join.now) (listed exprs.old.items) →

@@ -5,7 +5,7 @@ ghost use Rattle.std.specs.List.Sorted.{IsNonDecreasingBy};
 ghost use Rattle.fab_syntax.specs.Plain.{plain_text};
 ghost use Rattle.fab_values.specs.Declarations.{declarations, bits_of};
 ghost use Rattle.fab_equations.specs.Instances.{Instance, instances, points, expressions};
-ghost use Rattle.fab_equations.specs.Numbering.{IsNumbered, points_before};
+ghost use Rattle.fab_equations.specs.Numbering.{IsInstanceOfNumber, points_before};
 ghost use Rattle.fab_equations.specs.Equations.{IsDriven, DriverFits, IsFound, IsNotFound, IsPlace, IsNoPlace, declared_in, IsClockPoint};
 ghost use Rattle.fab_equations.specs.Lookups.{IsHere, IsPointOf, IsBit, IsInput, IsJoin, IsName, IsClock, IsChildNamed, IsLastAtMost, HasChild, IsChild, IsLocalName};
 
@@ -103,7 +103,7 @@ impl<'a> Equations<'a> {
     /// The points of an instance, which follow one another.
     pub fn points_of(&self, instance: u32) -> Range<u32>
         requires { instance < length (instances (plain_text self.now)) }
-        ensures { (i : Instance) → IsNumbered (plain_text self.now) instance i →
+        ensures { (i : Instance) → IsInstanceOfNumber (plain_text self.now) instance i →
             result ≡ record { start = points_before (plain_text self.now) instance; end = points_before (plain_text self.now) instance + bits_of (declarations i.here) } }
     {
         let here = self.here(instance);
@@ -212,7 +212,7 @@ impl<'a> Equations<'a> {
     /// The instance of a name in another; none where there is no such instance.
     pub fn child(&self, instance: u32, name: &[u8]) -> Option<u32>
         requires { instance < length (instances (plain_text self.now)) }
-        ensures { (i : Instance) → IsNumbered (plain_text self.now) instance i → IsChildNamed (plain_text self.now) i name.now result }
+        ensures { (i : Instance) → IsInstanceOfNumber (plain_text self.now) instance i → IsChildNamed (plain_text self.now) i name.now result }
     {
         let child = self.here(instance).table.child_names.get_index_of(name)?;
         Some(self.child_of(instance, child))
@@ -230,7 +230,7 @@ impl<'a> Equations<'a> {
     /// Where a name of an instance is declared; none where its module does not declare it.
     pub fn local(&self, instance: u32, name: &[u8]) -> Option<Declared>
         requires { instance < length (instances (plain_text self.now)) }
-        ensures { (i : Instance) → IsNumbered (plain_text self.now) instance i → result ≡ declared_in (plain_text self.now) instance i name.now }
+        ensures { (i : Instance) → IsInstanceOfNumber (plain_text self.now) instance i → result ≡ declared_in (plain_text self.now) instance i name.now }
     {
         let here = self.here(instance);
         let local = here.table.names.get(name)?;

@@ -9,7 +9,7 @@ use Rattle.fab_gen_tile.specs.fab_prim.specs.Modules.{module_of_kind}
 use Rattle.fab_gen_tile.specs.fab_model.specs.Tiles.{PlainTile, tile_bits}
 use Rattle.fab_gen_tile.specs.fab_model.specs.Grid.{PlainFabric}
 use Rattle.fab_fabric.specs.Sites.{same_kind}
-use Rattle.fab_gen_tile.specs.TileModule.{tile_module, matrix_outputs}
+use Rattle.fab_gen_tile.specs.TileModule.{tile_module, matrix_output_names}
 use Rattle.fab_gen_tile.specs.ConfigModule.{config_module}
 use Rattle.fab_gen_tile.specs.MatrixModule.{matrix_module}
 use Rattle.fab_fabric_text.specs.Top.{top_module}
@@ -44,7 +44,7 @@ config_modules tile zero = []
 config_modules tile (suc n) = config_module tile ∷ []
 
 abbrev pub tile_modules : PlainTile → List PlainModule
-tile_modules tile = matrix_modules tile (matrix_outputs tile) ++ (config_modules tile (tile_bits tile) ++ tile_module tile ∷ [])
+tile_modules tile = matrix_modules tile (matrix_output_names tile) ++ (config_modules tile (tile_bits tile) ++ tile_module tile ∷ [])
 
 -- The text of a fabric with this loader.
 abbrev pub fabric_text : PlainFabric → (loader : PlainModule) → List PlainModule

@@ -16,7 +16,7 @@ use Rattle.fab_gen_tile.specs.fab_model.specs.Tiles.{counted}
 use Rattle.fab_gen_tile.specs.fab_model.specs.Grid.{PlainFabric}
 use Rattle.fab_gen_tile.specs.fab_model.specs.Cascade.{PlacedRow, previous_row}
 use Rattle.fab_fabric.specs.Names.{place_name}
-use Rattle.fab_gen_tile.specs.Names.{tile_module_name, frame_data_name, frame_strobe_name, begin_name, end_name, pad_name, vector, joined, same_join}
+use Rattle.fab_gen_tile.specs.Names.{tile_module_name, frame_data_name, frame_strobe_name, begin_name, end_name, pad_name, vector, port_join, same_join}
 use Rattle.fab_gen_tile.specs.Borders.{side_border}
 use Rattle.fab_gen_tile.specs.fab_meaning.specs.Loading.{write_strobe_name, write_data_name}
 use Rattle.fab_gen_loader.specs.Loader.{loader_module_name}
@@ -90,20 +90,20 @@ abbrev pub row_joins : PlainFabric → PlacedTile → ℕ × WireRow → List Pl
 row_joins fabric placed numbered =
     let row = numbered.1 in
     if is_jump row.dir then []
-    else counted (side_border row row.source) (λ bit. joined (begin_name row bit) (variable (begin_wire_name placed.x placed.y row bit)))
-    ++ counted (side_border row row.dest) (λ bit. joined (end_name row bit) (end_value (previous_row fabric (numbered_row placed numbered.0 row)) bit))
+    else counted (side_border row row.source) (λ bit. port_join (begin_name row bit) (variable (begin_wire_name placed.x placed.y row bit)))
+    ++ counted (side_border row row.dest) (λ bit. port_join (end_name row bit) (end_value (previous_row fabric (numbered_row placed numbered.0 row)) bit))
 
 abbrev pub pad_joins : (x y : ℕ) → ℕ × Bel → List PlainJoin
 pad_joins x y placed =
-    map (λ port. joined (pad_name placed.0 port) (variable (pad_port_name x y placed.0 port))) (top_inputs placed.1.kind)
-    ++ map (λ port. joined (pad_name placed.0 port) (variable (pad_port_name x y placed.0 port))) (top_outputs placed.1.kind)
+    map (λ port. port_join (pad_name placed.0 port) (variable (pad_port_name x y placed.0 port))) (top_inputs placed.1.kind)
+    ++ map (λ port. port_join (pad_name placed.0 port) (variable (pad_port_name x y placed.0 port))) (top_outputs placed.1.kind)
 
 -- in the order of the ports of the tile's module
 abbrev pub tile_joins : PlainFabric → PlacedTile → List PlainJoin
 tile_joins fabric placed =
     same_join user_clock_name
-    ∷ joined frame_data_name (variable (row_name placed.y))
-    ∷ joined frame_strobe_name (variable (column_strobe_name placed.x))
+    ∷ port_join frame_data_name (variable (row_name placed.y))
+    ∷ port_join frame_strobe_name (variable (column_strobe_name placed.x))
     ∷ (flat_map (row_joins fabric placed) (enumerate_from 0 placed.tile.rows)
     ++ flat_map (pad_joins placed.x placed.y) (enumerate_from 0 placed.tile.bels))
 

@@ -8,7 +8,7 @@ use Rattle.std.proofs.lemmas.List.Elements.{All-head, All-tail}
 use Rattle.std.proofs.lemmas.List.Sums.{AllPass-from_list_all}
 use Rattle.fab_lines.proofs.FirstLine.{lines_at_feed}
 use Rattle.fab_fasm.specs.declared.feature.Feature.{Feature}
-use Rattle.fab_fasm.specs.Printing.{feature_text, printed, HasSpelling, numbered}
+use Rattle.fab_fasm.specs.Printing.{feature_text, printed, HasSpelling, line_by_line}
 use Rattle.fab_fasm.specs.Spelled.{SpellsFrom, ends, goes_on, SpellsFasm}
 use Rattle.fab_fasm.proofs.Cutting.{differs, position_at, drop_behind, list_all_weaker}
 use Rattle.fab_fasm.proofs.Clean.{is_clean, feature_clean}
@@ -42,10 +42,10 @@ lines_printed (feature ∷ features) all =
     lines_push (feature_text feature) (printed features) (feature_clean feature (All-head HasSpelling feature features all))
     ∙ ap (λ (ls : List (List ℕ)). feature_text feature ∷ ls) (lines_printed features (All-tail HasSpelling feature features all))
 
-features_said : (number : ℕ) (features : List Feature) → All HasSpelling features → SpellsFrom number (map feature_text features) (numbered number features)
+features_said : (number : ℕ) (features : List Feature) → All HasSpelling features → SpellsFrom number (map feature_text features) (line_by_line number features)
 features_said number [] all = ends
 features_said number (feature ∷ features) all =
     goes_on (feature_says number feature (All-head HasSpelling feature features all)) (features_said (number + 1) features (All-tail HasSpelling feature features all))
 
-pub printed_spells : (features : List Feature) → All HasSpelling features → SpellsFasm (lines (printed features)) (numbered 1 features)
-printed_spells features all = subst (λ (ls : List (List ℕ)). SpellsFasm ls (numbered 1 features)) (sym (lines_printed features all)) (features_said 1 features all)
+pub printed_spells : (features : List Feature) → All HasSpelling features → SpellsFasm (lines (printed features)) (line_by_line 1 features)
+printed_spells features all = subst (λ (ls : List (List ℕ)). SpellsFasm ls (line_by_line 1 features)) (sym (lines_printed features all)) (features_said 1 features all)

@@ -39,6 +39,6 @@ pub record HasSpelling (feature : Feature) : Type 0 where
   pub fitting : feature.value < 2 ^ width_of feature.high feature.low
 
 -- the same features, each with its place as the number of its line
-abbrev pub numbered : (number : ℕ) (features : List Feature) → List Feature
-numbered number [] = []
-numbered number (feature ∷ features) = record feature { line = number } ∷ numbered (number + 1) features
+abbrev pub line_by_line : (number : ℕ) (features : List Feature) → List Feature
+line_by_line number [] = []
+line_by_line number (feature ∷ features) = record feature { line = number } ∷ line_by_line (number + 1) features

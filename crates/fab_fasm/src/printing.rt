@@ -3,7 +3,7 @@
 ghost use Rattle.std.specs.Prelude.{◌≡◌, ◌++◌, ◌/◌, ◌%◌, ◌^◌, All, IfOk, OnOk, codes, decimal};
 ghost use Rattle.std.specs.Str.Lines.{lines};
 ghost use Rattle.fab_fasm.specs.Parts.{width_of};
-ghost use Rattle.fab_fasm.specs.Printing.{HasSpelling, address_text, binary, feature_text, numbered, printed, value_text};
+ghost use Rattle.fab_fasm.specs.Printing.{HasSpelling, address_text, binary, feature_text, line_by_line, printed, value_text};
 ghost use Rattle.fab_fasm.specs.Spelled.{SpellsFasm};
 
 use crate::address::width_of;
@@ -92,7 +92,7 @@ fn put_feature(out: &mut Vec<u8>, feature: &Feature) -> Result<(), Memory>
 /// What is printed is read as the same features where they have a spelling, each with its place as the number of its line.
 pub fn print_fasm(alloc: Global, features: &[Feature]) -> Result<Vec<u8>, Memory>
     ensures printed { IfOk result (λ bytes. bytes.items ≡ printed features.now) }
-    ensures printed_is_read { IfOk result (λ bytes. All HasSpelling features.now → SpellsFasm (lines bytes.items) (numbered 1 features.now)) }
+    ensures printed_is_read { IfOk result (λ bytes. All HasSpelling features.now → SpellsFasm (lines bytes.items) (line_by_line 1 features.now)) }
 {
     let mut out = Vec::new(alloc);
     for feature in features {

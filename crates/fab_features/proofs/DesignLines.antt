@@ -20,7 +20,7 @@ use Rattle.fab_legal.proofs.Members.{from_mapped}
 use Rattle.fab_legal.proofs.SinkLaw.{in_flat, into_flat}
 use Rattle.fab_use.specs.fab_tile_drives.proofs.Members.{contains_counted}
 use Rattle.fab_fasm.specs.declared.feature.Feature.{Feature}
-use Rattle.fab_fasm.specs.Printing.{numbered}
+use Rattle.fab_fasm.specs.Printing.{line_by_line}
 use Rattle.fab_use.specs.fab_fabric_text.specs.Places.{PlacedTile, placed_at, column_tiles, placed_tiles}
 use Rattle.fab_features.specs.inner.Listing.{placed_tile}
 use Rattle.fab_features.proofs.Fields.{ordered}
@@ -97,20 +97,20 @@ from_found {X} {Y} f (z ∷ xs) y here = split (λ there. from_found f xs y ther
 abbrev pub relined : (line : ℕ) → Feature → Feature
 relined line feature = record feature { line = line }
 
-pub from_numbered : (n : ℕ) (xs : List Feature) (f : Feature) → Contains (numbered n xs) f → (line : ℕ) × (g : Feature) × Contains xs g × (relined line g ≡ f)
+pub from_numbered : (n : ℕ) (xs : List Feature) (f : Feature) → Contains (line_by_line n xs) f → (line : ℕ) × (g : Feature) × Contains xs g × (relined line g ≡ f)
 from_numbered n [] f here = absurd (in_none f here)
 from_numbered n (x ∷ xs) f here =
-    elim (first_or_later (relined n x) (numbered (n + 1) xs) f here) [
+    elim (first_or_later (relined n x) (line_by_line (n + 1) xs) f here) [
       | inl same ↦ (n, x, first_in x xs x refl, same)
       | inr later ↦ (let rest = from_numbered (n + 1) xs f later in (rest.0, rest.1, later_in x xs rest.1 rest.2, rest.3))
     ]
 
-pub into_numbered : (n : ℕ) (xs : List Feature) (g : Feature) → Contains xs g → (line : ℕ) × Contains (numbered n xs) (relined line g)
+pub into_numbered : (n : ℕ) (xs : List Feature) (g : Feature) → Contains xs g → (line : ℕ) × Contains (line_by_line n xs) (relined line g)
 into_numbered n [] g here = absurd (in_none g here)
 into_numbered n (x ∷ xs) g here =
     elim (first_or_later x xs g here) [
-      | inl same ↦ (n, first_in (relined n x) (numbered (n + 1) xs) (relined n g) (ap (relined n) same))
-      | inr later ↦ (let rest = into_numbered (n + 1) xs g later in (rest.0, later_in (relined n x) (numbered (n + 1) xs) (relined rest.0 g) rest.1))
+      | inl same ↦ (n, first_in (relined n x) (line_by_line (n + 1) xs) (relined n g) (ap (relined n) same))
+      | inr later ↦ (let rest = into_numbered (n + 1) xs g later in (rest.0, later_in (relined n x) (line_by_line (n + 1) xs) (relined rest.0 g) rest.1))
     ]
 
 -- ---- places

@@ -9,32 +9,32 @@ use Rattle.fab_model.proofs.Inserts.{counted_more}
 use Rattle.fab_netlist.specs.Plain.{IsAt}
 use Rattle.fab_legal.proofs.Members.{taken_more}
 use Rattle.fab_fasm.specs.declared.feature.Feature.{Feature}
-use Rattle.fab_fasm.specs.Printing.{numbered}
+use Rattle.fab_fasm.specs.Printing.{line_by_line}
 use Rattle.fab_features.specs.inner.Listing.{Pushes}
 
 pub pushes_none : (old : List Feature) → Pushes old old []
 pushes_none old = sym (append-nil old)
 
-numbered_append : (n : ℕ) (xs ys : List Feature) → numbered n (xs ++ ys) ≡ numbered n xs ++ numbered (n + length xs) ys
-numbered_append n [] ys = ap (λ k. numbered k ys) (omega arith)
+numbered_append : (n : ℕ) (xs ys : List Feature) → line_by_line n (xs ++ ys) ≡ line_by_line n xs ++ line_by_line (n + length xs) ys
+numbered_append n [] ys = ap (λ k. line_by_line k ys) (omega arith)
 numbered_append n (x ∷ xs) ys =
-    ap (λ more. record x { line = n } ∷ more) (numbered_append (n + 1) xs ys ∙ ap (λ k. numbered (n + 1) xs ++ numbered k ys) (omega arith))
+    ap (λ more. record x { line = n } ∷ more) (numbered_append (n + 1) xs ys ∙ ap (λ k. line_by_line (n + 1) xs ++ line_by_line k ys) (omega arith))
 
-length_numbered : (n : ℕ) (xs : List Feature) → length (numbered n xs) ≡ length xs
+length_numbered : (n : ℕ) (xs : List Feature) → length (line_by_line n xs) ≡ length xs
 length_numbered n [] = refl
 length_numbered n (x ∷ xs) = ap suc (length_numbered (n + 1) xs)
 
 pub pushes_both : (a b c xs ys : List Feature) → Pushes a b xs → Pushes b c ys → Pushes a c (xs ++ ys)
 pushes_both a b c xs ys first second =
-    let many : length b + 1 ≡ length a + 1 + length xs = omega (arith, ap length first, length-append a (numbered (length a + 1) xs), length_numbered (length a + 1) xs) in
+    let many : length b + 1 ≡ length a + 1 + length xs = omega (arith, ap length first, length-append a (line_by_line (length a + 1) xs), length_numbered (length a + 1) xs) in
     second
-    ∙ ap (λ front. front ++ numbered (length b + 1) ys) first
-    ∙ append_assoc a (numbered (length a + 1) xs) (numbered (length b + 1) ys)
-    ∙ ap (λ n. a ++ (numbered (length a + 1) xs ++ numbered n ys)) many
+    ∙ ap (λ front. front ++ line_by_line (length b + 1) ys) first
+    ∙ append_assoc a (line_by_line (length a + 1) xs) (line_by_line (length b + 1) ys)
+    ∙ ap (λ n. a ++ (line_by_line (length a + 1) xs ++ line_by_line n ys)) many
     ∙ ap (λ more. a ++ more) (sym (numbered_append (length a + 1) xs ys))
 
 pub pushes_same : (a b xs ys : List Feature) → xs ≡ ys → Pushes a b xs → Pushes a b ys
-pushes_same a b xs ys same pushes = pushes ∙ ap (λ more. a ++ numbered (length a + 1) more) same
+pushes_same a b xs ys same pushes = pushes ∙ ap (λ more. a ++ line_by_line (length a + 1) more) same
 
 -- ---- in loops
 

@@ -11,7 +11,7 @@ use Rattle.fab_fabric.specs.declared.wire.Site.{Site}
 use Rattle.fab_netlist.specs.Packed.{PlainCell, PlainPacked}
 use Rattle.fab_implementation.specs.Plain.{Edge, PlainImplementation}
 use Rattle.fab_fasm.specs.declared.feature.Feature.{Feature}
-use Rattle.fab_fasm.specs.Printing.{numbered}
+use Rattle.fab_fasm.specs.Printing.{line_by_line}
 use Rattle.fab_use.specs.fab_fabric_text.specs.Places.{PlacedTile, placed_tiles}
 
 abbrev pub feature_of : (name : List ℕ) → (high low value : ℕ) → Feature
@@ -70,4 +70,4 @@ tile_features fabric packed implementation placed =
 
 -- column by column, in a column from the top; line numbers count from 1
 abbrev pub design_features : PlainFabric → PlainPacked → PlainImplementation → List Feature
-design_features fabric packed implementation = numbered 1 (flat_map (tile_features fabric packed implementation) (placed_tiles fabric))
+design_features fabric packed implementation = line_by_line 1 (flat_map (tile_features fabric packed implementation) (placed_tiles fabric))

@@ -13,7 +13,7 @@ use Rattle.fab_model.specs.Drive.{PlainBits, select_value, matrix_inputs}
 use Rattle.fab_fabric.specs.Names.{place_name}
 use Rattle.fab_fabric.specs.declared.wire.Site.{Site}
 use Rattle.fab_fasm.specs.declared.feature.Feature.{Feature}
-use Rattle.fab_fasm.specs.Printing.{numbered}
+use Rattle.fab_fasm.specs.Printing.{line_by_line}
 use Rattle.fab_use.specs.fab_fabric_text.specs.Places.{PlacedTile, placed_tiles}
 use Rattle.fab_features.specs.Design.{feature_of, field_name, site_in}
 
@@ -72,4 +72,4 @@ place_spells bits placed = tile_spells (bits placed.x placed.y) placed
 
 -- column by column, in a column from the top; line numbers count from 1
 abbrev pub features_in : PlainFabric → PlainBits → List Feature
-features_in fabric bits = numbered 1 (flat_map (place_spells bits) (placed_tiles fabric))
+features_in fabric bits = line_by_line 1 (flat_map (place_spells bits) (placed_tiles fabric))

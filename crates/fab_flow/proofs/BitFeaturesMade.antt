@@ -16,7 +16,7 @@ use Rattle.fab_model.specs.Grid.{PlainFabric}
 use Rattle.fab_fabric.specs.Bits.{AreBitsOf, plain_bits}
 use Rattle.fab_fasm.specs.Printing.{printed}
 use Rattle.fab_frames.specs.Bytes.{word_bytes}
-use Rattle.fab_frames.specs.Refusals.{IsCut, IsRefusal}
+use Rattle.fab_frames.specs.Refusals.{IsCut, IsStreamRefusal}
 use Rattle.fab_frames.specs.Stream.{stream}
 use Rattle.fab_frames.proofs.ByteWords.{length_bytes}
 use Rattle.fab_assemble.specs.fab_features.specs.Spelled.{features_in}
@@ -41,7 +41,7 @@ bytes_spell fabric bytes words (Err fault) of are is = tt
 
 -- words are refused, and so are their bytes
 pub words_refused : (fabric : PlainFabric) (file bytes words : List ℕ) (fault : Fault) → AreBytesOf words bytes
-    → (fault ≡ faults.Memory) ⊎ IsRefusal fabric file words fault → (fault ≡ faults.Memory) ⊎ RefusesBitstream fabric file bytes fault
+    → (fault ≡ faults.Memory) ⊎ IsStreamRefusal fabric file words fault → (fault ≡ faults.Memory) ⊎ RefusesBitstream fabric file bytes fault
 words_refused fabric file bytes words fault of (inl memory) = inl memory
 words_refused fabric file bytes words fault of (inr is) = inr (wrong words of is)
 

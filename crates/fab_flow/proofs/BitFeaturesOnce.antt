@@ -11,7 +11,7 @@ use Rattle.fab_files.specs.Stages.{IsJudged, AreJudged}
 use Rattle.fab_files.proofs.Stages.{file_is_judged, turn_is_judged}
 use Rattle.fab_model.specs.Grid.{PlainFabric}
 use Rattle.fab_fabric.specs.Bits.{plain_bits}
-use Rattle.fab_frames.specs.Refusals.{IsRefusal}
+use Rattle.fab_frames.specs.Refusals.{IsStreamRefusal}
 use Rattle.fab_frames.specs.Stream.{problem_at, stream}
 use Rattle.fab_frames.proofs.ByteWords.{length_bytes, bytes_tell_words, all_fit}
 use Rattle.fab_frames.proofs.Streams.{stream_fine}
@@ -26,16 +26,16 @@ use Rattle.fab_files.specs.Stages.{ReadsFrom}
 same_reason : {a b : Reason} → (let reason : Reason → Option Reason = λ r. Some r in reason a ≡ reason b) → a ≡ b
 same_reason same = cc
 
-same_refusal : (fabric : PlainFabric) (file words : List ℕ) (a b : Fault) (x : IsRefusal fabric file words a) (y : IsRefusal fabric file words b) → x.place ≡ y.place → a ≡ b
+same_refusal : (fabric : PlainFabric) (file words : List ℕ) (a b : Fault) (x : IsStreamRefusal fabric file words a) (y : IsStreamRefusal fabric file words b) → x.place ≡ y.place → a ≡ b
 same_refusal fabric file words a b x y same =
     let alike : x.reason ≡ y.reason = same_reason (sym x.first.wrong ∙ ap (problem_at fabric words) same ∙ y.first.wrong) in
     x.told ∙ ap (λ n. fault_at file (n + 1) (problems.Malformed x.reason)) same ∙ ap (λ r. fault_at file (y.place + 1) (problems.Malformed r)) alike ∙ sym y.told
 
 -- no word before the first wrong one is wrong
-none_before : (fabric : PlainFabric) (file words : List ℕ) (a b : Fault) (x : IsRefusal fabric file words a) (y : IsRefusal fabric file words b) → x.place < y.place → ⊥
+none_before : (fabric : PlainFabric) (file words : List ℕ) (a b : Fault) (x : IsStreamRefusal fabric file words a) (y : IsStreamRefusal fabric file words b) → x.place < y.place → ⊥
 none_before fabric file words a b x y less = let differ = sym x.first.wrong ∙ y.first.before x.place less in cc
 
-refusal_once : (fabric : PlainFabric) (file words : List ℕ) (a b : Fault) → IsRefusal fabric file words a → IsRefusal fabric file words b → a ≡ b
+refusal_once : (fabric : PlainFabric) (file words : List ℕ) (a b : Fault) → IsStreamRefusal fabric file words a → IsStreamRefusal fabric file words b → a ≡ b
 refusal_once fabric file words a b x y = elim (cases_lt x.place y.place) [
   | inl less ↦ absurd (none_before fabric file words a b x y less)
   | inr other ↦ elim (cases_lt y.place x.place) [
@@ -61,7 +61,7 @@ bitstream_once fabric file bytes a b (cut x) (cut y) = x.told ∙ sym y.told
 bitstream_once fabric file bytes a b (cut x) (wrong words of y) = absurd (x.rest (whole bytes words of))
 bitstream_once fabric file bytes a b (wrong words of x) (cut y) = absurd (y.rest (whole bytes words of))
 bitstream_once fabric file bytes a b (wrong words of x) (wrong others also y) =
-    refusal_once fabric file others a b (subst (λ (w : List ℕ). IsRefusal fabric file w a) (one_list bytes words others of also) x) y
+    refusal_once fabric file others a b (subst (λ (w : List ℕ). IsStreamRefusal fabric file w a) (one_list bytes words others of also) x) y
 
 -- the bytes spell bits
 abbrev SpellsSome : PlainFabric → (bytes : List ℕ) → Unit {0} → Type 0

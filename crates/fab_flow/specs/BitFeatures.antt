@@ -7,7 +7,7 @@ use Rattle.fab_files.specs.Stages.{ReadsFrom, MeetsIn, MeetsBehind}
 use Rattle.fab_model.specs.Grid.{PlainFabric}
 use Rattle.fab_fabric.specs.Bits.{AreBitsOf, plain_bits}
 use Rattle.fab_fasm.specs.Printing.{printed}
-use Rattle.fab_frames.specs.Refusals.{IsCut, IsRefusal}
+use Rattle.fab_frames.specs.Refusals.{IsCut, IsStreamRefusal}
 use Rattle.fab_frames.specs.Stream.{stream}
 use Rattle.fab_read.specs.Fabrics.{SpellsFabric, MeetsFabric}
 use Rattle.fab_assemble.specs.fab_features.specs.Spelled.{features_in}
@@ -39,7 +39,7 @@ ReadsBits files file fabric bits = ReadsFrom files file (SpellsBits fabric) bits
 -- The bytes end within a word, or else they are those of words, and the first of these is told that no bitstream of the fabric has there.
 pub data RefusesBitstream (fabric : PlainFabric) (file bytes : List ℕ) : Fault → Type 0 where
   cut : {fault : Fault} → IsCut file bytes fault → RefusesBitstream fabric file bytes fault
-  wrong : {fault : Fault} (words : List ℕ) → AreBytesOf words bytes → IsRefusal fabric file words fault → RefusesBitstream fabric file bytes fault
+  wrong : {fault : Fault} (words : List ℕ) → AreBytesOf words bytes → IsStreamRefusal fabric file words fault → RefusesBitstream fabric file bytes fault
 
 abbrev pub MeetsBitstream : (files : Map) (file : List ℕ) → PlainFabric → Event → Type 0
 MeetsBitstream files file fabric event = MeetsIn files file (RefusesBitstream fabric file) event

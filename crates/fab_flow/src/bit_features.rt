@@ -8,7 +8,7 @@ ghost use Rattle.fab_base.specs.declared.fault.Fault.TheVariants as faults;
 ghost use Rattle.fab_files.specs.Files.{HasReadCause};
 ghost use Rattle.fab_fabric.specs.Bits.{AreBitsOf, plain_bits};
 ghost use Rattle.fab_fasm.specs.Printing.{printed};
-ghost use Rattle.fab_frames.specs.Refusals.{IsRefusal};
+ghost use Rattle.fab_frames.specs.Refusals.{IsStreamRefusal};
 ghost use Rattle.fab_frames.specs.Stream.{stream};
 ghost use Rattle.fab_assemble.specs.fab_features.specs.Spelled.{features_in};
 ghost use Rattle.fab_flow.specs.BitFeatures.{HasFeaturesCause, MakesFeatures, MeetsBitstream, ReadsBits, RefusesBitstream, SpellsBits, features_files};
@@ -32,7 +32,7 @@ fn bits_of_words(alloc: Global, fabric: &Fabric, file: &Name, words: &[u32]) -> 
     ensures fit { All (λ word. word < 2 ^ 32) words.now }
     ensures are { IfOk result (AreBitsOf fabric.now) }
     ensures stream { IfOk result (λ bits. words.now ≡ stream fabric.now (plain_bits bits)) }
-    ensures refused { IfErr result (λ fault. (fault ≡ faults.Memory) ⊎ IsRefusal fabric.now file.now words.now fault) }
+    ensures refused { IfErr result (λ fault. (fault ≡ faults.Memory) ⊎ IsStreamRefusal fabric.now file.now words.now fault) }
 {
     bits_of(alloc, fabric, file, words)
 }

@@ -17,8 +17,8 @@ use Rattle.fab_model.specs.Drive.{PlainBits}
 use Rattle.fab_fabric.specs.Fabric.{IsFabric}
 use Rattle.fab_fabric.specs.Bits.{plain_bits, place_bits, column_bits, bits_at, AreBitsOf}
 use Rattle.fab_frames.specs.Stream.{Part, fixed, of_row, parts, word_of, stream, bit_placed_at, word_bit, has_spare_bit, row_word, part_problem, problem_of, problem_at, IsFirstWrong}
-use Rattle.fab_frames.specs.Refusals.{IsRefusal}
-use Rattle.fab_frames.specs.inner.Taking.{Takes}
+use Rattle.fab_frames.specs.Refusals.{IsStreamRefusal}
+use Rattle.fab_frames.specs.inner.Taking.{TakesWord}
 use Rattle.fab_frames.proofs.Rows.{row_place, row_at, row_found}
 use Rattle.fab_frames.proofs.Mapped.{placed_nowhere_else, placed_somewhere}
 use Rattle.fab_frames.proofs.Words.{bit_there, placed_word_is, bit_of_word, zero_there, placed_word_fine}
@@ -64,7 +64,7 @@ pub record HaveTaken (fabric : PlainFabric) (words : List ℕ) (n : ℕ) (bits :
 
 -- rows that were taken before stay as they are
 row_stays : (fabric : PlainFabric) (n k x y frame x2 y2 frame2 word word2 : ℕ) (old new : List (List (List Bool))) → k < n → slice_get (parts fabric) n ≡ Some (of_row x y frame) →
-    slice_get (parts fabric) k ≡ Some (of_row x2 y2 frame2) → Takes fabric (of_row x y frame) (Some word) old new → HasRow fabric old x2 y2 frame2 word2 → HasRow fabric new x2 y2 frame2 word2
+    slice_get (parts fabric) k ≡ Some (of_row x2 y2 frame2) → TakesWord fabric (of_row x y frame) (Some word) old new → HasRow fabric old x2 y2 frame2 word2 → HasRow fabric new x2 y2 frame2 word2
 row_stays fabric n k x y frame x2 y2 frame2 word word2 old new less at at2 takes has bit2 number small2 is2 =
     let found = row_found fabric n x y frame at in
     let found2 = row_found fabric k x2 y2 frame2 at2 in
@@ -78,30 +78,30 @@ row_stays fabric n k x y frame x2 y2 frame2 word word2 old new less at at2 takes
 
 -- the word in the last place, if it is a row
 row_has : (fabric : PlainFabric) (n x y frame word : ℕ) (words : List ℕ) (part : Part) (given : Option ℕ) (old new : List (List (List Bool))) → slice_get (parts fabric) n ≡ Some part → slice_get words n ≡ given →
-    Takes fabric part given old new → slice_get (parts fabric) n ≡ Some (of_row x y frame) → slice_get words n ≡ Some word → HasRow fabric new x y frame word
+    TakesWord fabric part given old new → slice_get (parts fabric) n ≡ Some (of_row x y frame) → slice_get words n ≡ Some word → HasRow fabric new x y frame word
 row_has fabric n x y frame word words part given old new at given_is takes row_is word_is =
     let parts_same : Some part ≡ Some (of_row x y frame) = sym at ∙ row_is in
     let part_same : part ≡ of_row x y frame = cc in
     let given_same : given ≡ Some word = sym given_is ∙ word_is in
-    let takes_row : Takes fabric (of_row x y frame) (Some word) old new =
-    subst (λ (p : Part). Takes fabric p (Some word) old new) part_same (subst (λ (o : Option ℕ). Takes fabric part o old new) given_same takes) in
+    let takes_row : TakesWord fabric (of_row x y frame) (Some word) old new =
+    subst (λ (p : Part). TakesWord fabric p (Some word) old new) part_same (subst (λ (o : Option ℕ). TakesWord fabric part o old new) given_same takes) in
     takes_row.taken
 
 -- rows that were taken before stay, whatever the part is
 stays : (fabric : PlainFabric) (n k x2 y2 frame2 word2 : ℕ) (part : Part) (given : Option ℕ) (old new : List (List (List Bool))) → k < n → slice_get (parts fabric) n ≡ Some part →
-    slice_get (parts fabric) k ≡ Some (of_row x2 y2 frame2) → Takes fabric part given old new → HasRow fabric old x2 y2 frame2 word2 → HasRow fabric new x2 y2 frame2 word2
+    slice_get (parts fabric) k ≡ Some (of_row x2 y2 frame2) → TakesWord fabric part given old new → HasRow fabric old x2 y2 frame2 word2 → HasRow fabric new x2 y2 frame2 word2
 stays fabric n k x2 y2 frame2 word2 part None old new less at at2 takes has = absurd takes
 stays fabric n k x2 y2 frame2 word2 (fixed expected) (Some word) old new less at at2 takes has =
     subst (λ (bits : List (List (List Bool))). HasRow fabric bits x2 y2 frame2 word2) (sym takes) has
 stays fabric n k x2 y2 frame2 word2 (of_row x y frame) (Some word) old new less at at2 takes has = row_stays fabric n k x y frame x2 y2 frame2 word word2 old new less at at2 takes has
 
 -- a word that is taken is there
-taken_present : (fabric : PlainFabric) (n : ℕ) (words : List ℕ) (part : Part) (given : Option ℕ) (old new : List (List (List Bool))) → slice_get words n ≡ given → Takes fabric part given old new → n < length words
+taken_present : (fabric : PlainFabric) (n : ℕ) (words : List ℕ) (part : Part) (given : Option ℕ) (old new : List (List (List Bool))) → slice_get words n ≡ given → TakesWord fabric part given old new → n < length words
 taken_present fabric n words part None old new is takes = absurd takes
 taken_present fabric n words part (Some word) old new is takes = slice_get_within words n word is
 
 pub word_taken : (fabric : PlainFabric) (words : List ℕ) (n : ℕ) (part : Part) (given : Option ℕ) (old new : List (List (List Bool))) → slice_get (parts fabric) n ≡ Some part → slice_get words n ≡ given →
-    problem_of fabric (Some part) given ≡ None → AreBitsOf fabric new → Takes fabric part given old new → HaveTaken fabric words n old → HaveTaken fabric words (n + 1) new
+    problem_of fabric (Some part) given ≡ None → AreBitsOf fabric new → TakesWord fabric part given old new → HaveTaken fabric words n old → HaveTaken fabric words (n + 1) new
 word_taken fabric words n part given old new at given_is no_problem are takes so_far = record {
   are_bits = are;
   present = omega (arith, taken_present fabric n words part given old new given_is takes);
@@ -198,7 +198,7 @@ word_behind fabric words n m bits m_is all more so_far =
 
 -- the fault of a word that is refused
 pub refused_at : (fabric : PlainFabric) (file words : List ℕ) (n : ℕ) (reason : Reason) (fault : Fault) → IsFirstWrong fabric words n reason → IsFaultOr fault (fault_at file (n + 1) (problems.Malformed reason)) →
-    (fault ≡ faults.Memory) ⊎ IsRefusal fabric file words fault
+    (fault ≡ faults.Memory) ⊎ IsStreamRefusal fabric file words fault
 refused_at fabric file words n reason fault first told =
     elim told [
       | inl memory ↦ inl memory
@@ -250,7 +250,7 @@ bits_told fabric first second is are are2 same =
 
 -- what was read of a stream is what it was made of
 pub stream_read : (fabric : PlainFabric) (file words : List ℕ) (bits : List (List (List Bool))) (result : Result (List (List (List Bool))) Fault) → IsFabric fabric → IfOk result (AreBitsOf fabric) →
-    IfOk result (λ found. words ≡ stream fabric (plain_bits found)) → IfErr result (λ fault. (fault ≡ faults.Memory) ⊎ IsRefusal fabric file words fault) →
+    IfOk result (λ found. words ≡ stream fabric (plain_bits found)) → IfErr result (λ fault. (fault ≡ faults.Memory) ⊎ IsStreamRefusal fabric file words fault) →
     AreBitsOf fabric bits → words ≡ stream fabric (plain_bits bits) → MatchResult result (λ found. found ≡ bits) (λ fault. fault ≡ faults.Memory)
 stream_read fabric file words bits (Ok found) is are same refused are2 same2 = bits_told fabric found bits is are are2 (sym same ∙ same2)
 stream_read fabric file words bits (Err fault) is are same refused are2 same2 =

@@ -9,7 +9,7 @@ use Rattle.fab_model.specs.Grid.{PlainFabric}
 use Rattle.fab_frames.specs.Stream.{IsFirstWrong}
 
 -- the fault tells the first word that is refused, by its number from 1
-pub record IsRefusal (fabric : PlainFabric) (file words : List ℕ) (fault : Fault) : Type 0 where
+pub record IsStreamRefusal (fabric : PlainFabric) (file words : List ℕ) (fault : Fault) : Type 0 where
   pub place : ℕ
   pub reason : Reason
   pub first : IsFirstWrong fabric words place reason

@@ -8,9 +8,9 @@ ghost use Rattle.fab_base.specs.declared.problem.Problem.TheVariants as problems
 ghost use Rattle.fab_base.specs.Reading.{fault_at, IsFaultOr};
 ghost use Rattle.fab_fabric.specs.Bits.{AreBitsOf, plain_bits, column_bits, place_bits};
 ghost use Rattle.fab_frames.specs.Stream.{problem_of, word_bit, has_spare, stream};
-ghost use Rattle.fab_frames.specs.Refusals.{IsRefusal};
+ghost use Rattle.fab_frames.specs.Refusals.{IsStreamRefusal};
 ghost use Rattle.fab_frames.specs.inner.Placing.{HaveMaps, placed_in};
-ghost use Rattle.fab_frames.specs.inner.Taking.{plain_part, IsWithin, ArePlacedOnce, HaveBits, TakesRow, Takes};
+ghost use Rattle.fab_frames.specs.inner.Taking.{plain_part, IsWithin, ArePlacedOnce, HaveBits, TakesRow, TakesWord};
 
 use crate::placing::{FrameMap, frame_maps, placed_row};
 use crate::plan::{Part, parts};
@@ -29,7 +29,7 @@ pub fn bits_of(alloc: Global, fabric: &Fabric, file: &Name, words: &[u32]) -> Re
     requires { length words.now ≤ 16777216 }
     ensures are_bits { IfOk result (AreBitsOf fabric.now) }
     ensures stream { IfOk result (λ bits. words.now ≡ stream fabric.now (plain_bits bits)) }
-    ensures refused { IfErr result (λ fault. (fault ≡ faults.Memory) ⊎ IsRefusal fabric.now file.now words.now fault) }
+    ensures refused { IfErr result (λ fault. (fault ≡ faults.Memory) ⊎ IsStreamRefusal fabric.now file.now words.now fault) }
     ensures read_back { (bits : List (List (List Bool))) → AreBitsOf fabric.now bits → words.now ≡ stream fabric.now (plain_bits bits) →
         MatchResult result (λ found. found ≡ bits) (λ fault. fault ≡ faults.Memory) }
 {
@@ -42,7 +42,7 @@ fn read_words(alloc: Global, fabric: &Fabric, file: &Name, words: &[u32]) -> Res
     requires { length words.now ≤ 16777216 }
     ensures are_bits { IfOk result (AreBitsOf fabric.now) }
     ensures stream { IfOk result (λ bits. words.now ≡ stream fabric.now (plain_bits bits)) }
-    ensures refused { IfErr result (λ fault. (fault ≡ faults.Memory) ⊎ IsRefusal fabric.now file.now words.now fault) }
+    ensures refused { IfErr result (λ fault. (fault ≡ faults.Memory) ⊎ IsStreamRefusal fabric.now file.now words.now fault) }
 {
     let maps = frame_maps(alloc, fabric)?;
     let parts = parts(alloc, fabric)?;
@@ -87,7 +87,7 @@ fn take_word(
     ensures are_bits { AreBitsOf fabric.now bits.new }
     ensures fine { OnOk result (problem_of fabric.now (Some (plain_part part)) word ≡ None) }
     ensures refused { IfErr result (λ reason. problem_of fabric.now (Some (plain_part part)) word ≡ Some reason) }
-    ensures taken { OnOk result (Takes fabric.now (plain_part part) word bits.old bits.new) }
+    ensures taken { OnOk result (TakesWord fabric.now (plain_part part) word bits.old bits.new) }
 {
     let word = word.ok_or(Reason::Stream)?;
     match part {

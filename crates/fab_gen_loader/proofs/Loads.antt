@@ -12,7 +12,7 @@ use Rattle.fab_prim.specs.fab_meaning.specs.Loading.{write_strobe_name, write_da
 use Rattle.fab_prim.specs.fab_meaning.proofs.Declared.{bits_of_name}
 use Rattle.fab_model.specs.Tiles.{counted}
 use Rattle.fab_gen_loader.specs.Machine.{Machine, Word}
-use Rattle.fab_gen_loader.specs.Loader.{state_name, count_name, strobe_register_name, registers, processes, outputs, bits_at, machine_at, machine_next, Takes, TakesNext, IsLoader, address_register_name, row_register_name}
+use Rattle.fab_gen_loader.specs.Loader.{state_name, count_name, strobe_register_name, registers, processes, outputs, bits_at, machine_at, machine_next, RegisterTakes, TakesNext, IsLoader, address_register_name, row_register_name}
 use Rattle.fab_gen_loader.specs.Expressions.{next_state, next_count, next_address, next_strobe, next_row, next_values, loader_module}
 use Rattle.fab_gen_loader.proofs.Counted.{length-counted, get_counted}
 use Rattle.fab_gen_loader.proofs.Digits.{digits_number}
@@ -59,7 +59,7 @@ module _ (rows : ℕ) (few : rows ≤ 31) (text : List PlainModule) (path : Path
 
   -- the process of a register stands in the module
   takes : (register : List ℕ) (next : PlainExpr) (bits : List Bool) → Contains (processes rows (next_values rows)) (clocked clock_name register next) →
-      value names next ≡ bits → Takes text path now register bits
+      value names next ≡ bits → RegisterTakes text path now register bits
   takes register next bits there is = record {
     next = next;
     drives = λ bit. inr (record {

@@ -105,18 +105,18 @@ machine_next now path rows =
     tick rows (machine_at now path rows) (now (point path write_strobe_name 0)) (bits_at now path write_data_name 32)
 
 -- a register is flip-flops of CLK that take these bits
-pub record Takes (text : List PlainModule) (path : Path) (now : Assignment) (register : List ℕ) (bits : List Bool) : Type 0 where
+pub record RegisterTakes (text : List PlainModule) (path : Path) (now : Assignment) (register : List ℕ) (bits : List Bool) : Type 0 where
   pub next : PlainExpr
   pub drives : (bit : ℕ) → Drives text (point path register bit) (flop path clock_name next bit)
   pub gives : value (names_at text now path) next ≡ bits
 
 -- wherever the module stands, its registers take what the machine comes to
 pub record TakesNext (rows : ℕ) (text : List PlainModule) (path : Path) (now : Assignment) : Type 0 where
-  pub state : Takes text path now state_name (digits 2 (machine_next now path rows).state)
-  pub count : Takes text path now count_name (digits 5 (machine_next now path rows).count)
-  pub address : Takes text path now address_register_name (machine_next now path rows).address
-  pub strobe : Takes text path now strobe_register_name ((machine_next now path rows).strobe ∷ [])
-  pub each_row : (row : ℕ) → row < rows → Takes text path now (row_register_name row) (slice_index_or (machine_next now path rows).rows row [])
+  pub state : RegisterTakes text path now state_name (digits 2 (machine_next now path rows).state)
+  pub count : RegisterTakes text path now count_name (digits 5 (machine_next now path rows).count)
+  pub address : RegisterTakes text path now address_register_name (machine_next now path rows).address
+  pub strobe : RegisterTakes text path now strobe_register_name ((machine_next now path rows).strobe ∷ [])
+  pub each_row : (row : ℕ) → row < rows → RegisterTakes text path now (row_register_name row) (slice_index_or (machine_next now path rows).rows row [])
 
 abbrev pub StepsAsTheMachine : (rows : ℕ) → PlainModule → Type 0
 StepsAsTheMachine rows m = (text : List PlainModule) (path : Path) (now : Assignment) → module_at text path ≡ Some m → TakesNext rows text path now

@@ -7,10 +7,10 @@ use Rattle.std.proofs.lemmas.List.Elements.{All-cons, All-map, All-head, All-tai
 use Rattle.std.proofs.lemmas.Option.{slice_get_within, get_or_from_slice_get, slice_get-map}
 use Rattle.fab_select.specs.declared.pair.Pair.{Pair}
 use Rattle.fab_model.specs.Tiles.{PlainTile, IsTile, TileWire, tile_wires, wire_name, matrix_names, is_matrix_output, wire_passes}
-use Rattle.fab_matrix.specs.Matrix.{matrix, numbered, named}
+use Rattle.fab_matrix.specs.Matrix.{matrix, numbered_outputs, named}
 use Rattle.fab_matrix.proofs.Renamed.{matrix_renamed}
 use Rattle.fab_gen_tile.specs.Names.{matrix_module_name}
-use Rattle.fab_gen_tile.specs.TileModule.{is_on_side, matrix_inputs, matrix_outputs}
+use Rattle.fab_gen_tile.specs.TileModule.{is_on_side, matrix_input_names, matrix_output_names}
 use Rattle.fab_gen_tile.specs.MatrixModule.{numbered_outputs, named_pairs, matrix_module}
 use Rattle.fab_gen_tile.specs.inner.Places.{HasPlaces, placed_pair}
 use Rattle.fab_gen_tile.proofs.Placing.{count_first, nth_passing, same_places}
@@ -98,33 +98,33 @@ module _ (tile : PlainTile) (is : IsTile tile) (places : List ℕ) (has : HasPla
       (λ j. nat_eq (place_of_output a first j) (place_of_output b second j))
       ∙ same_places (is_on_side true) ws a b first.wire second.wire first.there first.passes second.there second.passes
 
-  pub inputs_within : All (λ pair. pair.input < length (matrix_inputs tile)) (map (placed_pair places) tile.pairs)
+  pub inputs_within : All (λ pair. pair.input < length (matrix_input_names tile)) (map (placed_pair places) tile.pairs)
   inputs_within =
-      All-map (λ (pair : Pair). pair.input < length (matrix_inputs tile)) (placed_pair places) tile.pairs
+      All-map (λ (pair : Pair). pair.input < length (matrix_input_names tile)) (placed_pair places) tile.pairs
       (λ k d less.
       let wire = wired (λ wire. not (is_matrix_output wire)) tile (get_or tile.pairs k d).input (is.pairs k d less).input in
       let stands = stands_at false (get_or tile.pairs k d).input wire.wire wire.there wire.passes in
       omega (arith, slice_get_within (filter (is_on_side false) ws) _ wire.wire stands, length-map (filter (is_on_side false) ws) wire_name, place_of_input (get_or tile.pairs k d).input wire))
 
-  pub outputs_within : All (λ pair. pair.output < length (matrix_outputs tile)) (map (placed_pair places) tile.pairs)
+  pub outputs_within : All (λ pair. pair.output < length (matrix_output_names tile)) (map (placed_pair places) tile.pairs)
   outputs_within =
-      All-map (λ (pair : Pair). pair.output < length (matrix_outputs tile)) (placed_pair places) tile.pairs
+      All-map (λ (pair : Pair). pair.output < length (matrix_output_names tile)) (placed_pair places) tile.pairs
       (λ k d less.
       let wire = wired is_matrix_output tile (get_or tile.pairs k d).output (is.pairs k d less).output in
       let stands = stands_at true (get_or tile.pairs k d).output wire.wire wire.there wire.passes in
       omega (arith, slice_get_within (filter (is_on_side true) ws) _ wire.wire stands, length-map (filter (is_on_side true) ws) wire_name, place_of_output (get_or tile.pairs k d).output wire))
 
   -- the name of an input by its place
-  input_named : (n : ℕ) → Wired ws (λ wire. not (is_matrix_output wire)) n → get_or (matrix_inputs tile) (place n) [] ≡ get_or (matrix_names tile) n []
+  input_named : (n : ℕ) → Wired ws (λ wire. not (is_matrix_output wire)) n → get_or (matrix_input_names tile) (place n) [] ≡ get_or (matrix_names tile) n []
   input_named n wire =
       let stands = stands_at false n wire.wire wire.there wire.passes in
-      ap (λ k. get_or (matrix_inputs tile) k []) (place_of_input n wire)
-      ∙ get_or_from_slice_get (matrix_inputs tile) (count_by (is_on_side false) (take n ws)) (wire_name wire.wire) []
+      ap (λ k. get_or (matrix_input_names tile) k []) (place_of_input n wire)
+      ∙ get_or_from_slice_get (matrix_input_names tile) (count_by (is_on_side false) (take n ws)) (wire_name wire.wire) []
       (slice_get-map wire_name (filter (is_on_side false) ws) (count_by (is_on_side false) (take n ws)) ∙ ap (option_map wire_name) stands)
       ∙ sym (get_or_from_slice_get (matrix_names tile) n (wire_name wire.wire) [] (slice_get-map wire_name ws n ∙ ap (option_map wire_name) wire.there))
 
   pairs_named : (pairs : List Pair) → All (λ (pair : Pair). Wired ws (λ wire. not (is_matrix_output wire)) pair.input) pairs →
-      map (λ (pair : ℕ × List ℕ). (place pair.0, pair.1)) (named (matrix_names tile) pairs) ≡ named (matrix_inputs tile) (map (placed_pair places) pairs)
+      map (λ (pair : ℕ × List ℕ). (place pair.0, pair.1)) (named (matrix_names tile) pairs) ≡ named (matrix_input_names tile) (map (placed_pair places) pairs)
   pairs_named [] all = refl
   pairs_named (pair ∷ pairs) all =
       let P : Pair → Type 0 = λ p. Wired ws (λ wire. not (is_matrix_output wire)) p.input in
@@ -132,7 +132,7 @@ module _ (tile : PlainTile) (is : IsTile tile) (places : List ℕ) (has : HasPla
       let rest = pairs_named pairs (All-tail P pair pairs all) in
       λ j. (place pair.output, sym here j) ∷ rest j
 
-  pub matrix_by_places : matrix nat_eq (matrix_module_name tile) (matrix_inputs tile) (numbered (matrix_outputs tile)) (named (matrix_inputs tile) (map (placed_pair places) tile.pairs))
+  pub matrix_by_places : matrix nat_eq (matrix_module_name tile) (matrix_input_names tile) (numbered_outputs (matrix_output_names tile)) (named (matrix_input_names tile) (map (placed_pair places) tile.pairs))
       ≡ matrix_module tile
   matrix_by_places =
       let P = Wired ws is_matrix_output in
@@ -142,5 +142,5 @@ module _ (tile : PlainTile) (is : IsTile tile) (places : List ℕ) (has : HasPla
       let keys : All (λ (pair : ℕ × List ℕ). P pair.0) (named_pairs tile) =
       All-map (λ (pair : ℕ × List ℕ). P pair.0) (λ (pair : Pair). (pair.output, get_or (matrix_names tile) pair.input [])) tile.pairs
       (λ k d less. wired is_matrix_output tile (get_or tile.pairs k d).output (is.pairs k d less).output) in
-      (λ j. matrix nat_eq (matrix_module_name tile) (matrix_inputs tile) (sym outputs j) (sym pairs j))
-      ∙ matrix_renamed P nat_eq nat_eq place agree (named_pairs tile) keys (matrix_module_name tile) (matrix_inputs tile) (numbered_outputs tile) (outputs_all P 0 ws (λ i wire. subst P (sym (first i)) wire))
+      (λ j. matrix nat_eq (matrix_module_name tile) (matrix_input_names tile) (sym outputs j) (sym pairs j))
+      ∙ matrix_renamed P nat_eq nat_eq place agree (named_pairs tile) keys (matrix_module_name tile) (matrix_input_names tile) (numbered_outputs tile) (outputs_all P 0 ws (λ i wire. subst P (sym (first i)) wire))

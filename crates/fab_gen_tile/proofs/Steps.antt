@@ -12,8 +12,8 @@ use Rattle.fab_syntax.specs.Plain.{PlainJoin, part, instance}
 use Rattle.fab_select.specs.Selection.{select_bits}
 use Rattle.fab_model.specs.Tiles.{PlainTile, bel_bits, tile_bits, numbered_pairs, bits_before}
 use Rattle.fab_matrix.specs.fab_meaning.specs.Ports.{config_name}
-use Rattle.fab_gen_tile.specs.Names.{joined, same_join, bits_name, matrix_module_name, matrix_instance_name}
-use Rattle.fab_gen_tile.specs.TileModule.{bits_join, matrix_inputs, matrix_outputs, matrix_joins, matrix_instances}
+use Rattle.fab_gen_tile.specs.Names.{port_join, same_join, bits_name, matrix_module_name, matrix_instance_name}
+use Rattle.fab_gen_tile.specs.TileModule.{bits_join, matrix_input_names, matrix_output_names, matrix_joins, matrix_instances}
 use Rattle.fab_matrix.proofs.Groups.{numbered_push}
 use Rattle.fab_prim.proofs.Pins.{range_more}
 
@@ -67,11 +67,11 @@ pins_more f names from pin name front low got =
     (sym (map-append f (slice_range names from pin) (name ∷ [])) ∙ ap (map f) (sym (range_more names from pin name low got)))
 
 -- the port of configuration bits, where there are some
-pub some_bits : (low bits : ℕ) → (bits ≡ 0 → ⊥) → bits_join low bits ≡ joined config_name (part bits_name (low + (bits - 1)) low) ∷ []
+pub some_bits : (low bits : ℕ) → (bits ≡ 0 → ⊥) → bits_join low bits ≡ port_join config_name (part bits_name (low + (bits - 1)) low) ∷ []
 some_bits low zero none = absurd (none refl)
 some_bits low (suc n) none =
     let less : n ≡ suc n - 1 = omega arith in
-    ap (λ k. joined config_name (part bits_name (low + k) low) ∷ []) less
+    ap (λ k. port_join config_name (part bits_name (low + k) low) ∷ []) less
 
 -- the bits of the BELs before one more
 pub bits_before_more : (bels : List Bel) (i : ℕ) (d : Bel) → i < length bels → bits_before bels (i + 1) ≡ bits_before bels i + bit_count (get_or bels i d).kind
@@ -87,10 +87,10 @@ some_matrix tile [] joins same none = let empty : (length joins == 0) ≡ true =
 some_matrix tile (output ∷ outputs) joins same none = refl
 
 -- the joins of the switch matrix, made one behind the other
-pub joins_made : (tile : PlainTile) (low bits : ℕ) (inputs with_bits outputs : List PlainJoin) → inputs ≡ map same_join (matrix_inputs tile) → low ≡ bel_bits tile →
-    bits ≡ tile_bits tile - low → with_bits ≡ inputs ++ bits_join low bits → outputs ≡ map same_join (matrix_outputs tile) → with_bits ++ outputs ≡ matrix_joins tile
+pub joins_made : (tile : PlainTile) (low bits : ℕ) (inputs with_bits outputs : List PlainJoin) → inputs ≡ map same_join (matrix_input_names tile) → low ≡ bel_bits tile →
+    bits ≡ tile_bits tile - low → with_bits ≡ inputs ++ bits_join low bits → outputs ≡ map same_join (matrix_output_names tile) → with_bits ++ outputs ≡ matrix_joins tile
 joins_made tile low bits inputs with_bits outputs are_inputs is_low is_bits are_bits are_outputs =
     let selects : bits ≡ select_bits nat_eq (numbered_pairs tile) = omega (arith, is_bits, is_low) in
     (λ j. are_bits j ++ are_outputs j)
-    ∙ (λ j. (are_inputs j ++ bits_join (is_low j) (selects j)) ++ map same_join (matrix_outputs tile))
-    ∙ append_assoc (map same_join (matrix_inputs tile)) (bits_join (bel_bits tile) (select_bits nat_eq (numbered_pairs tile))) (map same_join (matrix_outputs tile))
+    ∙ (λ j. (are_inputs j ++ bits_join (is_low j) (selects j)) ++ map same_join (matrix_output_names tile))
+    ∙ append_assoc (map same_join (matrix_input_names tile)) (bits_join (bel_bits tile) (select_bits nat_eq (numbered_pairs tile))) (map same_join (matrix_output_names tile))

@@ -5,7 +5,7 @@ use Rattle.fab_syntax.specs.Plain.{PlainModule}
 use Rattle.fab_matrix.specs.Matrix.{matrix, named}
 use Rattle.fab_model.specs.Tiles.{PlainTile, tile_wires, wire_name, matrix_names, is_matrix_output}
 use Rattle.fab_gen_tile.specs.Names.{matrix_module_name}
-use Rattle.fab_gen_tile.specs.TileModule.{matrix_inputs}
+use Rattle.fab_gen_tile.specs.TileModule.{matrix_input_names}
 
 -- the outputs of the matrix, each with the number and the name of its wire
 abbrev pub numbered_outputs : PlainTile → List (ℕ × List ℕ)
@@ -18,4 +18,4 @@ named_pairs tile = named (matrix_names tile) tile.pairs
 
 -- It is written where the tile has a matrix output.
 abbrev pub matrix_module : PlainTile → PlainModule
-matrix_module tile = matrix nat_eq (matrix_module_name tile) (matrix_inputs tile) (numbered_outputs tile) (named_pairs tile)
+matrix_module tile = matrix nat_eq (matrix_module_name tile) (matrix_input_names tile) (numbered_outputs tile) (named_pairs tile)

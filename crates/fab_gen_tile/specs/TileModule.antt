@@ -14,7 +14,7 @@ use Rattle.fab_model.specs.Tiles.{PlainTile, TileWire, tile_wires, wire_name, ma
 use Rattle.fab_matrix.specs.fab_meaning.specs.Ports.{scalar, config_name}
 use Rattle.fab_prim.specs.Ports.{clock_names, top_inputs, top_outputs}
 use Rattle.fab_prim.specs.Modules.{module_name}
-use Rattle.fab_gen_tile.specs.Names.{config_module_name, matrix_module_name, tile_module_name, config_instance_name, matrix_instance_name, bel_instance_name, frame_data_name, frame_strobe_name, bits_name, pad_name, joined, same_join}
+use Rattle.fab_gen_tile.specs.Names.{config_module_name, matrix_module_name, tile_module_name, config_instance_name, matrix_instance_name, bel_instance_name, frame_data_name, frame_strobe_name, bits_name, pad_name, port_join, same_join}
 use Rattle.fab_gen_tile.specs.Borders.{border_ports, row_assigns}
 use Rattle.fab_gen_tile.specs.ConfigModule.{frame_ports}
 
@@ -42,7 +42,7 @@ bits_wire zero = []
 bits_wire (suc n) = wire (Vector (suc n)) bits_name ∷ []
 
 abbrev pub config_joins : List PlainJoin
-config_joins = same_join frame_data_name ∷ same_join frame_strobe_name ∷ joined config_name (variable bits_name) ∷ []
+config_joins = same_join frame_data_name ∷ same_join frame_strobe_name ∷ port_join config_name (variable bits_name) ∷ []
 
 -- the configuration, where there are bits
 abbrev pub config_instances : PlainTile → (bits : ℕ) → List PlainItem
@@ -52,7 +52,7 @@ config_instances tile (suc n) = instance (config_module_name tile) config_instan
 -- so many configuration bits from the bit `low` on go to the port of an instance, where there are any
 abbrev pub bits_join : (low bits : ℕ) → List PlainJoin
 bits_join low zero = []
-bits_join low (suc n) = joined config_name (part bits_name (low + n) low) ∷ []
+bits_join low (suc n) = port_join config_name (part bits_name (low + n) low) ∷ []
 
 -- whether a wire is on a side of the switch matrix: an output of it, or an input
 abbrev pub is_on_side : (output : Bool) → TileWire → Bool
@@ -63,17 +63,17 @@ is_on_side false candidate = not (is_matrix_output candidate)
 abbrev pub side_names : (output : Bool) → List TileWire → List (List ℕ)
 side_names output wires = map wire_name (filter (is_on_side output) wires)
 
-abbrev pub matrix_inputs : PlainTile → List (List ℕ)
-matrix_inputs tile = side_names false (tile_wires tile)
+abbrev pub matrix_input_names : PlainTile → List (List ℕ)
+matrix_input_names tile = side_names false (tile_wires tile)
 
-abbrev pub matrix_outputs : PlainTile → List (List ℕ)
-matrix_outputs tile = side_names true (tile_wires tile)
+abbrev pub matrix_output_names : PlainTile → List (List ℕ)
+matrix_output_names tile = side_names true (tile_wires tile)
 
 -- its select bits stand behind those of the BELs
 abbrev pub matrix_joins : PlainTile → List PlainJoin
 matrix_joins tile =
-    map same_join (matrix_inputs tile)
-    ++ (bits_join (bel_bits tile) (select_bits nat_eq (numbered_pairs tile)) ++ map same_join (matrix_outputs tile))
+    map same_join (matrix_input_names tile)
+    ++ (bits_join (bel_bits tile) (select_bits nat_eq (numbered_pairs tile)) ++ map same_join (matrix_output_names tile))
 
 -- the switch matrix, where it has an output
 abbrev pub matrix_instances : PlainTile → (outputs : List (List ℕ)) → List PlainItem
@@ -84,10 +84,10 @@ matrix_instances tile (output ∷ outputs) = instance (matrix_module_name tile) 
 
 -- a pin is joined to its matrix name
 abbrev pub pin_join : Bel → (pin : List ℕ) → PlainJoin
-pin_join bel pin = joined pin (variable (bel.prefix ++ pin))
+pin_join bel pin = port_join pin (variable (bel.prefix ++ pin))
 
 abbrev pub pad_join : (place : ℕ) → (port : List ℕ) → PlainJoin
-pad_join place port = joined port (variable (pad_name place port))
+pad_join place port = port_join port (variable (pad_name place port))
 
 -- in the order of the ports of the kind's module, with the configuration bits from the bit `low` on
 abbrev pub bel_joins : (place low : ℕ) → Bel → List PlainJoin
@@ -113,7 +113,7 @@ tile_items tile =
     ++ (bits_wire (tile_bits tile)
     ++ (flat_map row_assigns tile.rows
     ++ (config_instances tile (tile_bits tile)
-    ++ (matrix_instances tile (matrix_outputs tile)
+    ++ (matrix_instances tile (matrix_output_names tile)
     ++ bel_instances tile.bels))))
 
 abbrev pub tile_module : PlainTile → PlainModule

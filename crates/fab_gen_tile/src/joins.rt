@@ -7,7 +7,7 @@ ghost use Rattle.fab_syntax.specs.Plain.{plain_expr, plain_join};
 ghost use Rattle.fab_model.specs.Rows.{bit_name};
 ghost use Rattle.fab_model.specs.Tiles.{tile_wires, counted, row_wires, bel_wires};
 ghost use Rattle.fab_prim.specs.Ports.{clock_names, top_inputs, top_outputs};
-ghost use Rattle.fab_gen_tile.specs.Names.{joined, same_join};
+ghost use Rattle.fab_gen_tile.specs.Names.{port_join, same_join};
 ghost use Rattle.fab_gen_tile.specs.TileModule.{side_names, bits_join, config_joins, pin_join, pad_join, bel_joins};
 
 use crate::borders::bit_name;
@@ -19,8 +19,8 @@ use fab_syntax::{Expr, Join};
 use std::alloc::Global;
 
 /// A port and what is joined to it.
-pub fn joined(alloc: Global, port: &[u8], value: Expr) -> Result<Join, Memory>
-    ensures { IfOk result (λ join. plain_join join ≡ joined port.now (plain_expr value)) }
+pub fn port_join(alloc: Global, port: &[u8], value: Expr) -> Result<Join, Memory>
+    ensures { IfOk result (λ join. plain_join join ≡ port_join port.now (plain_expr value)) }
 {
     let port = Name::of(alloc, port)?;
     Ok(Join {
@@ -34,7 +34,7 @@ pub fn same_join(alloc: Global, name: &[u8]) -> Result<Join, Memory>
     ensures { IfOk result (λ join. plain_join join ≡ same_join name.now) }
 {
     let value = variable(alloc, name)?;
-    joined(alloc, name, value)
+    port_join(alloc, name, value)
 }
 
 /// Adds the port of configuration bits, where there are any; want of memory where a number does not fit.
@@ -51,7 +51,7 @@ pub fn push_bits_join(
     }
     let high = sum(low, bits - 1)?;
     let value = part(alloc, b"fab_bits", high, low)?;
-    joins.push(joined(alloc, b"ConfigBits", value)?)?;
+    joins.push(port_join(alloc, b"ConfigBits", value)?)?;
     Ok(())
 }
 
@@ -63,7 +63,7 @@ pub fn config_joins(alloc: Global) -> Result<Vec<Join>, Memory>
     joins.push(same_join(alloc, b"FrameData")?)?;
     joins.push(same_join(alloc, b"FrameStrobe")?)?;
     let bits = variable(alloc, b"fab_bits")?;
-    joins.push(joined(alloc, b"ConfigBits", bits)?)?;
+    joins.push(port_join(alloc, b"ConfigBits", bits)?)?;
     Ok(joins)
 }
 
@@ -236,7 +236,7 @@ fn pin_join(alloc: Global, bel: &Bel, pin: &[u8]) -> Result<Join, Memory>
     ensures { IfOk result (λ join. plain_join join ≡ pin_join bel.now pin.now) }
 {
     let name = pin_wire(alloc, bel, pin)?;
-    joined(alloc, pin, Expr::Var(name))
+    port_join(alloc, pin, Expr::Var(name))
 }
 
 fn push_clock_join(alloc: Global, joins: &mut Vec<Join>, kind: Kind) -> Result<(), Memory>
@@ -258,7 +258,7 @@ fn push_pad_join(
     ensures { OnOk result (map plain_join joins.new.items ≡ map plain_join joins.old.items ++ pad_join place port.now ∷ []) }
 {
     let name = pad_name(alloc, place, port)?;
-    joins.push(joined(alloc, port, Expr::Var(name))?)?;
+    joins.push(port_join(alloc, port, Expr::Var(name))?)?;
     Ok(())
 }
 

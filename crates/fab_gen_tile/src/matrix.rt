@@ -4,7 +4,7 @@ ghost use Rattle.std.specs.Prelude.{◌≡◌, ◌++◌, ℕ, map, IfOk, OnOk, s
 ghost use Rattle.std.specs.List.{flat_map};
 ghost use Rattle.fab_syntax.specs.Plain.{plain_module};
 ghost use Rattle.fab_model.specs.Tiles.{counted, row_wires, bel_wires, tile_wires, is_matrix_output};
-ghost use Rattle.fab_gen_tile.specs.TileModule.{matrix_inputs, matrix_outputs};
+ghost use Rattle.fab_gen_tile.specs.TileModule.{matrix_input_names, matrix_output_names};
 ghost use Rattle.fab_gen_tile.specs.MatrixModule.{matrix_module};
 ghost use Rattle.fab_gen_tile.specs.inner.Places.{HasPlaces, placed_pair};
 
@@ -99,8 +99,8 @@ struct Sides {
 
 fn sides_of(alloc: Global, tile: &TileType, are_outputs: &[bool]) -> Result<Sides, Memory>
     requires { are_outputs.now ≡ map is_matrix_output (tile_wires tile.now) }
-    ensures inputs { IfOk result (λ sides. sides.inputs.items ≡ matrix_inputs tile.now) }
-    ensures outputs { IfOk result (λ sides. sides.outputs.items ≡ matrix_outputs tile.now) }
+    ensures inputs { IfOk result (λ sides. sides.inputs.items ≡ matrix_input_names tile.now) }
+    ensures outputs { IfOk result (λ sides. sides.outputs.items ≡ matrix_output_names tile.now) }
     ensures places { IfOk result (λ sides. HasPlaces (tile_wires tile.now) sides.places.items) }
 {
     let mut inputs = Vec::new(alloc);

@@ -10,7 +10,7 @@ ghost use Rattle.fab_prim.specs.Modules.{module_name};
 ghost use Rattle.fab_matrix.specs.fab_meaning.specs.Ports.{scalar};
 ghost use Rattle.fab_gen_tile.specs.Names.{pad_name};
 ghost use Rattle.fab_gen_tile.specs.Borders.{border_ports, row_assigns};
-ghost use Rattle.fab_gen_tile.specs.TileModule.{pad_ports, bels_ports, tile_ports, bits_wire, config_instances, matrix_outputs, matrix_instances, bel_instance, bel_instances, tile_items, tile_module};
+ghost use Rattle.fab_gen_tile.specs.TileModule.{pad_ports, bels_ports, tile_ports, bits_wire, config_instances, matrix_output_names, matrix_instances, bel_instance, bel_instances, tile_items, tile_module};
 
 use crate::borders::{push_border_ports, push_row_assigns, scalar};
 use crate::config::push_frame_ports;
@@ -164,7 +164,7 @@ fn push_config_instance(alloc: Global, items: &mut Vec<Item>, tile: &TileType) -
 // Adds the instance of the switch matrix, where it has an output.
 fn push_matrix_instance(alloc: Global, items: &mut Vec<Item>, tile: &TileType) -> Result<(), Memory>
     ensures { OnOk result (map plain_item items.new.items
-        ≡ map plain_item items.old.items ++ matrix_instances tile.now (matrix_outputs tile.now)) }
+        ≡ map plain_item items.old.items ++ matrix_instances tile.now (matrix_output_names tile.now)) }
 {
     let mut outputs = side_joins(alloc, tile, true)?;
     if outputs.is_empty() {

@@ -12,7 +12,7 @@ use Rattle.fab_model.proofs.Inserts.{counted_more}
 use Rattle.fab_model.proofs.Steps.{item_holds}
 use Rattle.fab_fabric.specs.Fabric.{IsFabric, IsPlace}
 use Rattle.fab_fabric.proofs.Placed.{tile_inside}
-use Rattle.fab_gen_tile.specs.TileModule.{is_on_side, matrix_outputs}
+use Rattle.fab_gen_tile.specs.TileModule.{is_on_side, matrix_output_names}
 use Rattle.fab_gen_tile.specs.MatrixModule.{numbered_outputs, matrix_module}
 use Rattle.fab_gen_tile.proofs.Counted.{counted_none}
 use Rattle.fab_gen_tile.proofs.Steps.{flat_last, placed_more}
@@ -129,7 +129,7 @@ outputs_named k (w ∷ ws) =
       | inr f ↦ rw f (outputs_named (k + 1) ws)
     ]
 
-as_many_items : (tile : PlainTile) (items : List PlainItem) → items ≡ (matrix_module tile).items → length items ≡ length (matrix_outputs tile)
+as_many_items : (tile : PlainTile) (items : List PlainItem) → items ≡ (matrix_module tile).items → length items ≡ length (matrix_output_names tile)
 as_many_items tile items are =
     ap length are
     ∙ length-map (numbered_outputs tile) _
@@ -148,13 +148,13 @@ no_modules tile (output ∷ outputs) none = absurd (decide none)
     decide is = let zero_is : length (output ∷ outputs) ≡ 0 = eqb-true (length (output ∷ outputs)) 0 is in omega (arith, zero_is)
 
 pub some_matrix : (tile : PlainTile) (m : Module) (empty : Bool) → plain_module m ≡ matrix_module tile → empty ≡ (length m.items.items == 0) → empty ≡ false →
-    matrix_modules tile (matrix_outputs tile) ≡ matrix_module tile ∷ []
+    matrix_modules tile (matrix_output_names tile) ≡ matrix_module tile ∷ []
 some_matrix tile m empty is tells none =
-    some_modules tile (matrix_outputs tile)
+    some_modules tile (matrix_output_names tile)
     (ap (λ n. n == 0) (sym (as_many_items tile (map plain_item m.items.items) (ap (λ m. m.items) is)) ∙ length-map m.items.items plain_item) ∙ sym tells ∙ none)
 
 pub no_matrix : (tile : PlainTile) (m : Module) (empty : Bool) → plain_module m ≡ matrix_module tile → empty ≡ (length m.items.items == 0) → empty ≡ true →
-    matrix_modules tile (matrix_outputs tile) ≡ []
+    matrix_modules tile (matrix_output_names tile) ≡ []
 no_matrix tile m empty is tells none =
-    no_modules tile (matrix_outputs tile)
+    no_modules tile (matrix_output_names tile)
     (ap (λ n. n == 0) (sym (as_many_items tile (map plain_item m.items.items) (ap (λ m. m.items) is)) ∙ length-map m.items.items plain_item) ∙ sym tells ∙ none)

@@ -7,7 +7,7 @@ ghost use Rattle.fab_model.specs.Tiles.{counted};
 ghost use Rattle.fab_model.specs.Cascade.{previous_row};
 ghost use Rattle.fab_prim.specs.Ports.{top_inputs, top_outputs};
 ghost use Rattle.fab_fabric.specs.Walks.{placed_at, HasRow};
-ghost use Rattle.fab_gen_tile.specs.Names.{begin_name, end_name, pad_name, joined};
+ghost use Rattle.fab_gen_tile.specs.Names.{begin_name, end_name, pad_name, port_join};
 ghost use Rattle.fab_gen_tile.specs.Borders.{side_border};
 ghost use Rattle.fab_text_loads.specs.fab_fabric_text.specs.Names.{begin_wire_name, pad_port_name};
 ghost use Rattle.fab_text_loads.specs.fab_fabric_text.specs.Top.{end_value, numbered_row, row_joins, pad_joins, tile_joins, tile_instance};
@@ -17,7 +17,7 @@ use crate::names::{begin_wire_name, column_strobe_name, pad_port_name, place_nam
 use crate::places::{Place, tile_of};
 use fab_base::{Memory, Name};
 use fab_fabric::{Fabric, RowAt};
-use fab_gen_tile::{begin_name, end_name, joined, pad_name, prefixed, same_join, side_border};
+use fab_gen_tile::{begin_name, end_name, port_join, pad_name, prefixed, same_join, side_border};
 use fab_kinds::Kind;
 use fab_model::{Bel, Dir, WireRow};
 use fab_syntax::{Expr, Item, Join, Word};
@@ -58,9 +58,9 @@ fn tile_joins(alloc: Global, fabric: &Fabric, place: Place) -> Result<Vec<Join>,
     let mut joins = Vec::new(alloc);
     joins.push(same_join(alloc, b"UserCLK")?)?;
     let data = Expr::Var(row_name(alloc, place.y)?);
-    joins.push(joined(alloc, b"FrameData", data)?)?;
+    joins.push(port_join(alloc, b"FrameData", data)?)?;
     let strobe = Expr::Var(column_strobe_name(alloc, place.x)?);
-    joins.push(joined(alloc, b"FrameStrobe", strobe)?)?;
+    joins.push(port_join(alloc, b"FrameStrobe", strobe)?)?;
     push_rows_joins(
         alloc,
         &mut joins,
@@ -123,8 +123,8 @@ fn push_border_joins(
     requires place { IsPlaceOf fabric.now place }
     requires row { slice_get (type_of fabric.now place.number).rows number ≡ Some row.now }
     ensures { OnOk result (map plain_join joins.new.items ≡ map plain_join joins.old.items
-        ++ (counted (side_border row.now row.now.source) (λ bit. joined (begin_name row.now bit) (variable (begin_wire_name place.x place.y row.now bit)))
-        ++ counted (side_border row.now row.now.dest) (λ bit. joined (end_name row.now bit)
+        ++ (counted (side_border row.now row.now.source) (λ bit. port_join (begin_name row.now bit) (variable (begin_wire_name place.x place.y row.now bit)))
+        ++ counted (side_border row.now row.now.dest) (λ bit. port_join (end_name row.now bit)
         (end_value (previous_row fabric.now (numbered_row (placed_of fabric.now place) number row.now)) bit)))) }
 {
     push_begin_joins(alloc, joins, place, row)?;
@@ -145,12 +145,12 @@ fn push_begin_joins(
     row: &WireRow,
 ) -> Result<(), Memory>
     ensures { OnOk result (map plain_join joins.new.items ≡ map plain_join joins.old.items
-        ++ counted (side_border row.now row.now.source) (λ bit. joined (begin_name row.now bit) (variable (begin_wire_name place.x place.y row.now bit)))) }
+        ++ counted (side_border row.now row.now.source) (λ bit. port_join (begin_name row.now bit) (variable (begin_wire_name place.x place.y row.now bit)))) }
 {
     for bit in 0..side_border(row, &row.source) {
         let wire = begin_wire_name(alloc, place.x, place.y, row, bit)?;
         let port = begin_name(alloc, row, bit)?;
-        joins.push(joined(alloc, port.bytes(), Expr::Var(wire))?)?;
+        joins.push(port_join(alloc, port.bytes(), Expr::Var(wire))?)?;
     }
     Ok(())
 }
@@ -165,12 +165,12 @@ fn push_end_joins(
 ) -> Result<(), Memory>
     requires { IfSome previous (HasRow fabric.now) }
     ensures { OnOk result (map plain_join joins.new.items ≡ map plain_join joins.old.items
-        ++ counted (side_border row.now row.now.dest) (λ bit. joined (end_name row.now bit) (end_value (placed_at fabric.now previous) bit))) }
+        ++ counted (side_border row.now row.now.dest) (λ bit. port_join (end_name row.now bit) (end_value (placed_at fabric.now previous) bit))) }
 {
     for bit in 0..side_border(row, &row.dest) {
         let value = end_value(alloc, fabric, previous, bit)?;
         let port = end_name(alloc, row, bit)?;
-        joins.push(joined(alloc, port.bytes(), value)?)?;
+        joins.push(port_join(alloc, port.bytes(), value)?)?;
     }
     Ok(())
 }
@@ -224,8 +224,8 @@ fn push_bel_joins(
     kind: Kind,
 ) -> Result<(), Memory>
     ensures { OnOk result (map plain_join joins.new.items ≡ map plain_join joins.old.items
-        ++ (map (λ port. joined (pad_name bel port) (variable (pad_port_name place.x place.y bel port))) (top_inputs kind)
-        ++ map (λ port. joined (pad_name bel port) (variable (pad_port_name place.x place.y bel port))) (top_outputs kind))) }
+        ++ (map (λ port. port_join (pad_name bel port) (variable (pad_port_name place.x place.y bel port))) (top_inputs kind)
+        ++ map (λ port. port_join (pad_name bel port) (variable (pad_port_name place.x place.y bel port))) (top_outputs kind))) }
 {
     match kind {
         Kind::Io => {
@@ -245,10 +245,10 @@ fn push_pad_join(
     port: &[u8],
 ) -> Result<(), Memory>
     ensures { OnOk result (map plain_join joins.new.items ≡ map plain_join joins.old.items
-        ++ joined (pad_name bel port.now) (variable (pad_port_name place.x place.y bel port.now)) ∷ []) }
+        ++ port_join (pad_name bel port.now) (variable (pad_port_name place.x place.y bel port.now)) ∷ []) }
 {
     let wire = Expr::Var(pad_port_name(alloc, place.x, place.y, bel, port)?);
     let name = pad_name(alloc, bel, port)?;
-    joins.push(joined(alloc, name.bytes(), wire)?)?;
+    joins.push(port_join(alloc, name.bytes(), wire)?)?;
     Ok(())
 }

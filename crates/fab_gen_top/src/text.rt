@@ -7,7 +7,7 @@ ghost use Rattle.fab_syntax.specs.Plain.{plain_module, plain_text};
 ghost use Rattle.fab_prim.specs.Modules.{module_of_kind};
 ghost use Rattle.fab_model.specs.Tiles.{tile_bits};
 ghost use Rattle.fab_fabric.specs.Fabric.{IsFabric, AreTiles};
-ghost use Rattle.fab_gen_tile.specs.TileModule.{matrix_outputs};
+ghost use Rattle.fab_gen_tile.specs.TileModule.{matrix_output_names};
 ghost use Rattle.fab_gen_tile.specs.Words.{IsNamed};
 ghost use Rattle.fab_gen_loader.specs.Expressions.{loader_module};
 ghost use Rattle.fab_fabric.specs.Sites.{same_kind};
@@ -203,7 +203,7 @@ fn push_type(alloc: Global, modules: &mut Vec<Module>, tile: &TileType) -> Resul
 // Adds the matrix, where the tile has an output of it: it has an item for each.
 fn push_matrix(alloc: Global, modules: &mut Vec<Module>, tile: &TileType) -> Result<(), Memory>
     ensures { OnOk result (map plain_module modules.new.items
-        ≡ map plain_module modules.old.items ++ matrix_modules tile.now (matrix_outputs tile.now)) }
+        ≡ map plain_module modules.old.items ++ matrix_modules tile.now (matrix_output_names tile.now)) }
 {
     let matrix = matrix_module(alloc, tile)?;
     if matrix.items.is_empty() {

@@ -5,7 +5,8 @@ use Rattle.fab_base.specs.declared.problem.Problem.TheVariants as problems
 use Rattle.fab_base.specs.Reading.{Refuses}
 use Rattle.fab_fabric.specs.declared.wire.Wire.{Wire}
 use Rattle.fab_implementation.specs.Plain.{PlainTree}
-use Rattle.fab_impl.specs.Lines.{Cell, Known, with_last, with_edge, edge_at, with_wires, set_cells, set_trees}
+use Rattle.fab_impl.specs.Lines.{Cell, Known, with_edge, edge_at, with_wires, set_cells, set_trees}
+use Rattle.fab_lines.specs.Items.{with_last}
 
 with_last-push : {X : Type 0} (change : X → X) (front : List X) (x : X) → with_last change (front ++ x ∷ []) ≡ front ++ change x ∷ []
 with_last-push change [] x = refl

@@ -13,7 +13,8 @@ use Rattle.fab_netlist.specs.declared.net_id.NetId.{NetId}
 use Rattle.fab_netlist.specs.declared.net_id.NetId.TheVariants as nets
 use Rattle.fab_implementation.specs.Plain.{Edge, Pad, PlainTree, PlainImplementation}
 use Rattle.fab_lines.specs.Order.{IsFine, IsWhole}
-use Rattle.fab_texts.specs.Rows.{Word, PlainRow, word_at, words_of}
+use Rattle.fab_texts.specs.Rows.{Word, PlainRow, words_of}
+use Rattle.fab_lines.specs.Items.{word_at, with_last}
 use Rattle.fab_texts.specs.declared.sections.Part.{Part}
 use Rattle.fab_texts.specs.declared.sections.Part.TheVariants as parts
 use Rattle.fab_texts.specs.Sections.{ending, is_header, may_follow, has_ended, cut_short}
@@ -24,7 +25,7 @@ use Rattle.fab_impl.specs.declared.kind.Kind.TheVariants as kinds
 use Rattle.fab_impl.specs.Names.{cell_of, cell_text, site_in, wire_of, wire_text, most_cell}
 use Rattle.fab_impl.specs.FirstPlaces.{ports, first_place}
 use Rattle.fab_impl.specs.Kinds.{kind_of, part_of}
-use Rattle.fab_impl.specs.Lines.{Cell, Known, nothing, known, take, take_kind, set_cells, set_ins, set_outs, set_trees, cell_at, pad_at, input_at, cell_net_at, with_net, with_last, with_edge, with_wires}
+use Rattle.fab_impl.specs.Lines.{Cell, Known, nothing, known, take, take_kind, set_cells, set_ins, set_outs, set_trees, cell_at, pad_at, input_at, cell_net_at, with_net, with_edge, with_wires}
 use Rattle.fab_impl.specs.Spelled.{header, cell_line, pad_line, net_line, edge_line, tree_lines, inner_lines, implementation_lines, IsNamed, Spells, implementation_of, implementation_format}
 use Rattle.fab_impl.proofs.Follows.{at_kind, keeps}
 use Rattle.fab_impl.proofs.LineForms.{IsForm, form_of, equal_words}

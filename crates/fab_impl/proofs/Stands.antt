@@ -19,7 +19,8 @@ use Rattle.fab_netlist.specs.declared.net_id.NetId.TheVariants as nets
 use Rattle.fab_implementation.specs.OnFabric.{kind_at, IsSite, HasSites, HasWires, IsOnFabric}
 use Rattle.fab_implementation.specs.Plain.{Edge, Pad, PlainTree}
 use Rattle.fab_lines.specs.Order.{IsFine}
-use Rattle.fab_texts.specs.Rows.{Word, PlainRow, word_at, words_of}
+use Rattle.fab_texts.specs.Rows.{Word, PlainRow, words_of}
+use Rattle.fab_lines.specs.Items.{word_at, with_last}
 use Rattle.fab_texts.specs.Places.{place_at, site_of, after_byte, ◌>>=◌}
 use Rattle.fab_texts.specs.Sections.{cut_short}
 use Rattle.fab_texts.proofs.Formats.{each_line}
@@ -29,7 +30,7 @@ use Rattle.fab_impl.specs.declared.kind.Kind.TheVariants as kinds
 use Rattle.fab_impl.specs.Names.{cell_of, on_fabric, site_in, wire_of, named_wire}
 use Rattle.fab_impl.specs.FirstPlaces.{ports, first_place}
 use Rattle.fab_impl.specs.Kinds.{kind_of, part_of}
-use Rattle.fab_impl.specs.Lines.{Cell, Known, nothing, known, take, take_kind, set_cells, set_ins, set_outs, set_trees, cell_at, pad_at, input_at, cell_net_at, with_net, with_last, with_edge, with_wires}
+use Rattle.fab_impl.specs.Lines.{Cell, Known, nothing, known, take, take_kind, set_cells, set_ins, set_outs, set_trees, cell_at, pad_at, input_at, cell_net_at, with_net, with_edge, with_wires}
 use Rattle.fab_implementation.specs.Inputs.{NamesInput}
 use Rattle.fab_impl.specs.Spelled.{implementation_of, implementation_format}
 use Rattle.fab_impl.proofs.Follows.{at_kind, keeps}

@@ -9,7 +9,8 @@ use Rattle.fab_model.specs.Grid.{PlainFabric}
 use Rattle.fab_netlist.specs.declared.net_id.NetId.{NetId}
 use Rattle.fab_netlist.specs.declared.net_id.NetId.TheVariants as nets
 use Rattle.fab_implementation.specs.Plain.{Edge, Pad, PlainTree}
-use Rattle.fab_texts.specs.Rows.{Word, word_at}
+use Rattle.fab_texts.specs.Rows.{Word}
+use Rattle.fab_lines.specs.Items.{word_at, with_last}
 use Rattle.fab_texts.specs.Formats.{refused}
 use Rattle.fab_texts.specs.declared.sections.Part.{Part}
 use Rattle.fab_texts.specs.Sections.{with_version, in_place}
@@ -65,12 +66,6 @@ input_at old (Some place) = Ok (with_net old (nets.In place))
 abbrev pub cell_net_at : List PlainTree → Option ℕ → Result (List PlainTree) Problem
 cell_net_at old None = refused reasons.Number
 cell_net_at old (Some cell) = Ok (with_net old (nets.Cell cell))
-
--- a list with its last item changed
-abbrev pub with_last : {X : Type 0} → (X → X) → List X → List X
-with_last change [] = []
-with_last change (x ∷ []) = change x ∷ []
-with_last change (x ∷ y ∷ more) = x ∷ with_last change (y ∷ more)
 
 abbrev pub with_edge : Edge → PlainTree → PlainTree
 with_edge edge tree = record { net = tree.net; edges = tree.edges ++ edge ∷ [] }

@@ -3,7 +3,8 @@
 ghost use Rattle.std.specs.Prelude.{◌≡◌, map};
 ghost use Rattle.fab_impl.specs.Kinds.{constant_kind, kind_of, kind_of_four, kind_of_three, kind_of_two, net_kind, pad_kind, part_of};
 
-use fab_texts::{Part, is_ending, word_at};
+use fab_lines::word_at;
+use fab_texts::{Part, is_ending};
 
 /// What a line is, by the number of its words and its first two words.
 #[derive(Clone, Copy, Debug, PartialEq, Eq)]

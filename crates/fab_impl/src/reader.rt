@@ -23,9 +23,9 @@ use crate::kind::{Kind, kind_of};
 use fab_base::{Fault, MAX_FILE_BYTES, Name, Problem, Reason};
 use fab_fabric::{Fabric, Site};
 use fab_implementation::{Implementation, Tree};
-use fab_lines::last_line;
+use fab_lines::{last_line, word_at};
 use fab_netlist::NetId;
-use fab_texts::{Part, WordReader, check_end, check_place, check_version, read_words, word_at};
+use fab_texts::{Part, WordReader, check_end, check_place, check_version, read_words};
 use std::alloc::Global;
 use std::marker::Model;
 

@@ -4,3 +4,4 @@ pub mod Order
 pub mod Joined
 pub mod Numbers
 pub mod Counts
+pub mod Items

@@ -3,6 +3,7 @@
 #![tactic(auto)]
 
 mod cut;
+mod items;
 mod joined;
 mod names;
 mod numbers;
@@ -10,6 +11,7 @@ mod order;
 mod parts;
 
 pub use cut::{first_line, last_line};
+pub use items::word_at;
 pub use joined::read_joined_lines;
 pub use names::{is_identifier, is_name, is_reserved, is_wire_name};
 pub use numbers::{capped_number, is_number};

@@ -12,7 +12,7 @@ use Rattle.fab_rows.specs.Rows.{PlainRow}
 use Rattle.fab_tables.specs.Lists.{Pair, PlainBody, PairsOf, IncludeOf, body_of}
 use Rattle.fab_files.specs.Files.{Event, asks, refuses, HasReadCause, MeetsFile}
 use Rattle.fab_list_files.specs.Lists.{Knowledge, adds, opens, opened_file, deed_of_body, deed_of, with_pairs, ReadsList, ends, adds_pairs, opens_file, MeetsList, bad_row, asks_for, no_file, inside, behind_pairs, behind_file, ReadsListFile, MeetsListFile, of_file, of_rows}
-use Rattle.fab_list_files.specs.inner.Following.{Leads, MeetsRow, LeadsOn}
+use Rattle.fab_list_files.specs.inner.Following.{RowLeads, MeetsRow, LeadsOn}
 
 -- what is left of items begins with the next
 pub drop_next : {X : Type 0} (items : List X) (place : ℕ) (item : X) → place < length items → item ≡ get_or items place item → drop place items ≡ item ∷ drop (place + 1) items
@@ -44,13 +44,13 @@ cause_at told rose meets file line problems.Memory fault given met refused (inr 
 -- ---- one row
 
 module _ (files : Map) (known : Knowledge) (left : ℕ) (file : List ℕ) (before : List Pair) (row : PlainRow) where
-  pub adds_lead : (new after : List Pair) → deed_of known left file before row.cells ≡ Ok (adds new) → after ≡ with_pairs before new → Leads files known left file before row after
+  pub adds_lead : (new after : List Pair) → deed_of known left file before row.cells ≡ Ok (adds new) → after ≡ with_pairs before new → RowLeads files known left file before row after
   adds_lead new after deed is = record {
     reads = λ rows last rest. adds_pairs deed (subst (λ (ps : List Pair). ReadsList files known left file ps rows last) is rest);
     meets = λ rows event rest. behind_pairs deed (subst (λ (ps : List Pair). MeetsList files known left file ps rows event) is rest);
   }
 
-  pub opens_lead : (other : List ℕ) (after : List Pair) → deed_of known left file before row.cells ≡ Ok (opens other) → ReadsListFile files known (left - 1) other before after → Leads files known left file before row after
+  pub opens_lead : (other : List ℕ) (after : List Pair) → deed_of known left file before row.cells ≡ Ok (opens other) → ReadsListFile files known (left - 1) other before after → RowLeads files known left file before row after
   opens_lead other after deed read = record {
     reads = λ rows last rest. opens_file deed read.found read.reads rest;
     meets = λ rows event rest. behind_file deed read.found read.reads rest;
@@ -74,7 +74,7 @@ module _ (files : Map) (known : Knowledge) (left : ℕ) (file : List ℕ) (befor
   leads_nowhere = record { reads = λ last rest. rest; meets = λ event rest. rest }
 
   pub leads_further : (here next : List Pair) (row : PlainRow) (left_over rest : List PlainRow) → left_over ≡ row ∷ rest →
-      LeadsOn files known left file before rows here left_over → Leads files known left file here row next → LeadsOn files known left file before rows next rest
+      LeadsOn files known left file before rows here left_over → RowLeads files known left file here row next → LeadsOn files known left file before rows next rest
   leads_further here next row left_over rest is on one = record {
     reads = λ last more. on.reads last (subst (λ (rs : List PlainRow). ReadsList files known left file here rs last) (sym is) (one.reads rest last more));
     meets = λ event more. on.meets event (subst (λ (rs : List PlainRow). MeetsList files known left file here rs event) (sym is) (one.meets rest event more));

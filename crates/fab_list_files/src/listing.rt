@@ -7,7 +7,7 @@ ghost use Rattle.fab_rows.specs.Rows.{rows_of};
 ghost use Rattle.fab_tables.specs.Lists.{Pair};
 ghost use Rattle.fab_files.specs.Files.{HasReadCause, IsSupported};
 ghost use Rattle.fab_list_files.specs.Lists.{Knowledge, with_pairs, opened, deed_of, ReadsList, MeetsList, ReadsListFile, MeetsListFile};
-ghost use Rattle.fab_list_files.specs.inner.Following.{plain_deed, MayOpen, Leads, MeetsRow};
+ghost use Rattle.fab_list_files.specs.inner.Following.{plain_deed, MayOpen, RowLeads, MeetsRow};
 
 use fab_base::{Fault, MAX_FILE_BYTES, Memory, Name, Problem, Quantity, Reason};
 use fab_desk::Desk;
@@ -107,7 +107,7 @@ fn take_row<D: Desk, S: ListState>(
     ensures writes { D.writes desk.new ≡ D.writes desk.old }
     ensures reads { D.reads desk.old ≤ D.reads desk.new }
     ensures known { S.known state.new ≡ S.known state.old }
-    ensures read { ForSome (D.told desk.old) (λ files. OnOk result (Leads files (S.known state.old) left file.now (S.pairs state.old) row.now (S.pairs state.new))) }
+    ensures read { ForSome (D.told desk.old) (λ files. OnOk result (RowLeads files (S.known state.old) left file.now (S.pairs state.old) row.now (S.pairs state.new))) }
     ensures cause { IfErr result (HasReadCause (D.told desk.old) (D.reads desk.old < D.reads desk.new) (λ files. MeetsRow files (S.known state.old) left file.now (S.pairs state.old) row.now)) }
     ensures supported { IfErr result IsSupported }
 {

@@ -13,7 +13,7 @@ use Rattle.fab_meaning.proofs.Dependence.{same_point_refl, same_point_is}
 use Rattle.fab_equations.specs.Equations.{IsPoint, IsDriven}
 use Rattle.fab_equations.specs.declared.driver.Driver.TheVariants.{Outside, Same}
 use Rattle.fab_equations.specs.Instances.{Instance, points}
-use Rattle.fab_equations.specs.Numbering.{IsNumbered}
+use Rattle.fab_equations.specs.Numbering.{IsInstanceOfNumber}
 use Rattle.fab_equations.proofs.Located.{found_within, points_next, points_rise}
 use Rattle.fab_equations.proofs.Numbering.{child_at, same_value}
 use Rattle.fab_equations.proofs.Paths.{paths_differ, top_path}
@@ -54,7 +54,7 @@ copied_below text p other (inl h) = let apart = h.is in cc
 copied_below text p other (inr h) = item_below text h.path h.item p other h.drives
 
 module _ (text : List PlainModule) (sound : IsSound text) where
-  not_top : (number : ℕ) (i : Instance) → IsNumbered text number i → (name : List ℕ) (above : Path) → i.path ≡ name ∷ above → 0 < number
+  not_top : (number : ℕ) (i : Instance) → IsInstanceOfNumber text number i → (name : List ℕ) (above : Path) → i.path ≡ name ∷ above → 0 < number
   not_top zero i is name above e = let top : i.path ≡ [] = top_path text i is in cc
   not_top (suc n) i is name above e = omega arith
 

@@ -10,7 +10,7 @@ use Rattle.fab_meaning.specs.Points.{Path, Point, point, module_at}
 use Rattle.fab_meaning.specs.Reads.{is_declared}
 use Rattle.fab_values.specs.Declarations.{declarations, found_in}
 use Rattle.fab_equations.specs.Instances.{Instance, instances, points}
-use Rattle.fab_equations.specs.Numbering.{IsNumbered, points_before}
+use Rattle.fab_equations.specs.Numbering.{IsInstanceOfNumber, points_before}
 use Rattle.fab_equations.specs.Equations.{IsPoint, declared_as, declared_in}
 use Rattle.fab_equations.specs.declared.driver.Declared.{Declared}
 use Rattle.fab_equations.proofs.Numbering.{same_value, instances_stand}
@@ -30,21 +30,21 @@ some_mapped f (Some x) y e = (x, refl, cc)
 module _ (text : List PlainModule) (sound : IsSound text) where
   -- ---- where names are declared
 
-  undeclared : (number : ℕ) (i : Instance) → IsNumbered text number i → (name : List ℕ) → width_in (Some i.here) name ≡ 0 → is_declared text (point i.path name 0) ≡ false
+  undeclared : (number : ℕ) (i : Instance) → IsInstanceOfNumber text number i → (name : List ℕ) → width_in (Some i.here) name ≡ 0 → is_declared text (point i.path name 0) ≡ false
   undeclared number i is name none = ap (λ o. nat_lt 0 (width_in o name)) (instances_stand text sound number i is).0 ∙ ap (nat_lt 0) none
 
-  pub not_found_first : (number : ℕ) (i : Instance) → IsNumbered text number i → (name : List ℕ) → None ≡ declared_in text number i name →
+  pub not_found_first : (number : ℕ) (i : Instance) → IsInstanceOfNumber text number i → (name : List ℕ) → None ≡ declared_in text number i name →
       is_declared text (point i.path name 0) ≡ false
   not_found_first number i is name none =
       undeclared number i is name (not_found_width i.here name (none_mapped (declared_as text number) (found_in (declarations i.here) name) none))
 
-  pub no_bits_first : (number : ℕ) (i : Instance) → IsNumbered text number i → (name : List ℕ) (d : Declared) → Some d ≡ declared_in text number i name →
+  pub no_bits_first : (number : ℕ) (i : Instance) → IsInstanceOfNumber text number i → (name : List ℕ) (d : Declared) → Some d ≡ declared_in text number i name →
       width d.shape ≡ 0 → is_declared text (point i.path name 0) ≡ false
   no_bits_first number i is name d some none =
       let f = some_mapped (declared_as text number) (found_in (declarations i.here) name) d some in
       undeclared number i is name (found_width i.here name f.0 f.1 ∙ ap (λ (x : Declared). width x.shape) (sym f.2) ∙ none)
 
-  pub found_first : (number : ℕ) (i : Instance) → IsNumbered text number i → (name : List ℕ) (d : Declared) → Some d ≡ declared_in text number i name →
+  pub found_first : (number : ℕ) (i : Instance) → IsInstanceOfNumber text number i → (name : List ℕ) (d : Declared) → Some d ≡ declared_in text number i name →
       0 < width d.shape → IsPoint text d.first (point i.path name 0)
   found_first number i is name d some bits =
       let f = some_mapped (declared_as text number) (found_in (declarations i.here) name) d some in
@@ -59,7 +59,7 @@ module _ (text : List PlainModule) (sound : IsSound text) where
       by None e = ap (λ o. nat_lt 0 (width_in o name)) e
       by (Some m) e = let at = paths_are_instances text sound [] m e in absurd (omega (arith, slice_get_within (instances text) at.0 at.1 at.2, none))
 
-  pub top_first : (i : Instance) → IsNumbered text 0 i → (name : List ℕ) (o : Option ℕ) → IsFirstOf text i.path name o → IsFirstOf text [] name o
+  pub top_first : (i : Instance) → IsInstanceOfNumber text 0 i → (name : List ℕ) (o : Option ℕ) → IsFirstOf text i.path name o → IsFirstOf text [] name o
   top_first i is name o first = subst (λ (path : Path). IsFirstOf text path name o) (top_path text i is) first
 
   -- ---- points and their names

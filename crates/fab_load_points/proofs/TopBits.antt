@@ -9,7 +9,7 @@ use Rattle.fab_meaning.specs.Loading.{IsStream, write_strobe_name, write_data_na
 use Rattle.fab_values.specs.Declarations.{declarations, found_in}
 use Rattle.fab_values.specs.declared.names.Local.{Local}
 use Rattle.fab_equations.specs.Instances.{Instance, instances, points}
-use Rattle.fab_equations.specs.Numbering.{IsNumbered, points_before}
+use Rattle.fab_equations.specs.Numbering.{IsInstanceOfNumber, points_before}
 use Rattle.fab_equations.specs.Equations.{IsPoint, declared_as, declared_in}
 use Rattle.fab_equations.specs.declared.driver.Declared.{Declared}
 use Rattle.fab_equations.proofs.Numbering.{same_value}
@@ -20,7 +20,7 @@ use Rattle.fab_load_points.specs.inner.Causes.{IsTopBit}
 use Rattle.fab_load_points.proofs.Names.{some_mapped, none_mapped, point_declared}
 use Rattle.fab_load_points.proofs.Streams.{driven_outside}
 
-module _ (text : List PlainModule) (sound : IsSound text) (i : Instance) (is : IsNumbered text 0 i) (name : List ℕ) where
+module _ (text : List PlainModule) (sound : IsSound text) (i : Instance) (is : IsInstanceOfNumber text 0 i) (name : List ℕ) where
   -- where the name of a bit is declared
   record IsBitAt (number : ℕ) : Type 0 where
     local : Local

@@ -7,7 +7,7 @@ ghost use Rattle.fab_syntax.specs.Sound.{IsSound};
 ghost use Rattle.fab_meaning.specs.Points.{Path, Point, Driver as MeantDriver, Drives};
 ghost use Rattle.fab_meaning.specs.Reads.{expression_reads, mentions, some_mentions};
 ghost use Rattle.fab_equations.specs.Instances.{Instance, instances, points};
-ghost use Rattle.fab_equations.specs.Numbering.{IsNumbered};
+ghost use Rattle.fab_equations.specs.Numbering.{IsInstanceOfNumber};
 ghost use Rattle.fab_equations.specs.Equations.{IsSource};
 ghost use Rattle.fab_load_points.specs.inner.Causes.{AddsNames, AreReads, IsCause, IsWithin, StandsFor};
 
@@ -93,7 +93,7 @@ fn add_names(
 ) -> Result<(), Memory>
     requires sound { IsSound (plain_text equations.now) }
     requires instance { instance < length (instances (plain_text equations.now)) }
-    ensures { OnOk result ((i : Instance) → IsNumbered (plain_text equations.now) instance i →
+    ensures { OnOk result ((i : Instance) → IsInstanceOfNumber (plain_text equations.now) instance i →
         AddsNames (plain_text equations.now) i.path (mentions (plain_expr expr.now)) reads.old.items reads.new.items) }
 {
     match expr {
@@ -128,7 +128,7 @@ fn add_parts(
 ) -> Result<(), Memory>
     requires sound { IsSound (plain_text equations.now) }
     requires instance { instance < length (instances (plain_text equations.now)) }
-    ensures { OnOk result ((i : Instance) → IsNumbered (plain_text equations.now) instance i →
+    ensures { OnOk result ((i : Instance) → IsInstanceOfNumber (plain_text equations.now) instance i →
         AddsNames (plain_text equations.now) i.path (some_mentions (plain_exprs (map plain_expr parts.now))) reads.old.items reads.new.items) }
 {
     for part in parts {
@@ -146,7 +146,7 @@ fn add_name(
 ) -> Result<(), Memory>
     requires sound { IsSound (plain_text equations.now) }
     requires instance { instance < length (instances (plain_text equations.now)) }
-    ensures { OnOk result ((i : Instance) → IsNumbered (plain_text equations.now) instance i →
+    ensures { OnOk result ((i : Instance) → IsInstanceOfNumber (plain_text equations.now) instance i →
         AddsNames (plain_text equations.now) i.path (bytes_eq name.now) reads.old.items reads.new.items) }
 {
     if let Some(first) = first_point(equations, instance, name.bytes()) {

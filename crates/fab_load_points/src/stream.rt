@@ -7,7 +7,7 @@ ghost use Rattle.fab_syntax.specs.Sound.{IsSound};
 ghost use Rattle.fab_meaning.specs.Loading.{write_data_name, write_strobe_name};
 ghost use Rattle.fab_meaning.specs.Runs.{clock_name};
 ghost use Rattle.fab_equations.specs.Instances.{Instance, instances};
-ghost use Rattle.fab_equations.specs.Numbering.{IsNumbered};
+ghost use Rattle.fab_equations.specs.Numbering.{IsInstanceOfNumber};
 ghost use Rattle.fab_load_points.specs.inner.Causes.{IsFirstOf, IsStreamOf, IsTopBit};
 
 use fab_equations::{Declared, Equations};
@@ -90,7 +90,7 @@ fn top_point(equations: &Equations, name: &[u8]) -> Option<u32>
 pub fn first_point(equations: &Equations, instance: u32, name: &[u8]) -> Option<u32>
     requires sound { IsSound (plain_text equations.now) }
     requires instance { instance < length (instances (plain_text equations.now)) }
-    ensures { (i : Instance) → IsNumbered (plain_text equations.now) instance i → IsFirstOf (plain_text equations.now) i.path name.now result }
+    ensures { (i : Instance) → IsInstanceOfNumber (plain_text equations.now) instance i → IsFirstOf (plain_text equations.now) i.path name.now result }
 {
     let declared = equations.local(instance, name)?;
     if bits_of_shape(declared.shape) == 0 {

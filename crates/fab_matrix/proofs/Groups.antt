@@ -11,7 +11,7 @@ use Rattle.fab_syntax.specs.Plain.{assign}
 use Rattle.fab_select.specs.declared.pair.Pair.{Pair}
 use Rattle.fab_select.specs.Selection.{inputs_of, firsts, in_order, field_width, field_low, select_bits}
 use Rattle.fab_matrix.specs.Names.{Name}
-use Rattle.fab_matrix.specs.Matrix.{selection, output_value, numbered, named}
+use Rattle.fab_matrix.specs.Matrix.{selection, output_value, numbered_outputs, named}
 use Rattle.fab_bits.specs.Keys.{group_at}
 use Rattle.fab_matrix.specs.inner.Grouped.{numbers_of, width_at, low_at, name_at, item_of}
 
@@ -68,17 +68,17 @@ numbered_push n (y ∷ ys) x =
 
 -- one item more, for the output of the next number
 pub items_more : {X : Type 0} (item_for : ℕ → Name → X) (names : List Name) (i : ℕ) (d : Name) (items : List X) (item : X) → i < length names →
-    items ≡ map (λ (output : ℕ × Name). item_for output.0 output.1) (numbered (take i names)) → item ≡ item_for i (get_or names i d) →
-    items ++ item ∷ [] ≡ map (λ (output : ℕ × Name). item_for output.0 output.1) (numbered (take (i + 1) names))
+    items ≡ map (λ (output : ℕ × Name). item_for output.0 output.1) (numbered_outputs (take i names)) → item ≡ item_for i (get_or names i d) →
+    items ++ item ∷ [] ≡ map (λ (output : ℕ × Name). item_for output.0 output.1) (numbered_outputs (take (i + 1) names))
 items_more {X} item_for names i d items item within so_far is =
     let f : ℕ × Name → X = λ output. item_for output.0 output.1 in
     let name : Name = get_or names i d in
     let number : 0 + length (take i names) ≡ i = omega (arith, length-take-le i names (omega arith)) in
     (λ j. so_far j ++ is j ∷ [])
-    ∙ sym (map_push f (numbered (take i names)) (i, name))
-    ∙ ap (λ n. map f (numbered (take i names) ++ (n, name) ∷ [])) (sym number)
+    ∙ sym (map_push f (numbered_outputs (take i names)) (i, name))
+    ∙ ap (λ n. map f (numbered_outputs (take i names) ++ (n, name) ∷ [])) (sym number)
     ∙ sym (ap (map f) (numbered_push 0 (take i names) name))
-    ∙ sym (ap (λ ns. map f (numbered ns)) (take_more names i d within))
+    ∙ sym (ap (λ ns. map f (numbered_outputs ns)) (take_more names i d within))
 
 -- the names without their numbers
 pub names_of_numbered : {X : Type 0} (f : Name → X) (n : ℕ) (names : List Name) → map (λ (output : ℕ × Name). f output.1) (enumerate_from n names) ≡ map f names
@@ -134,6 +134,6 @@ module _ {A : Type 0} (groups : List (Vec ℕ A)) (order : List ℕ) (inputs : L
   item_named output name = λ j. assign name (selection (low_named output j) (width_named output j) (group_named output j))
 
   -- the items are those of the matrix
-  pub items_named : (outputs : List Name) → map (λ (output : ℕ × Name). item_of inputs groups order output.0 output.1) (numbered outputs)
-      ≡ map (λ (output : ℕ × Name). assign output.1 (output_value nat_eq (named inputs pairs) output.0)) (numbered outputs)
-  items_named outputs = λ j. map (λ (output : ℕ × Name). item_named output.0 output.1 j) (numbered outputs)
+  pub items_named : (outputs : List Name) → map (λ (output : ℕ × Name). item_of inputs groups order output.0 output.1) (numbered_outputs outputs)
+      ≡ map (λ (output : ℕ × Name). assign output.1 (output_value nat_eq (named inputs pairs) output.0)) (numbered_outputs outputs)
+  items_named outputs = λ j. map (λ (output : ℕ × Name). item_named output.0 output.1 j) (numbered_outputs outputs)

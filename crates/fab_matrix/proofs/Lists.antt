@@ -13,10 +13,10 @@ use Rattle.indexmap.proofs.CallerLemmas.{Contains-list_any}
 use Rattle.fab_select.specs.declared.pair.Pair.{Pair}
 use Rattle.fab_matrix.specs.Names.{Name}
 use Rattle.fab_meaning.specs.Ports.{config_name}
-use Rattle.fab_matrix.specs.Matrix.{matrix, numbered, named, list_inputs, list_outputs, list_matrix}
+use Rattle.fab_matrix.specs.Matrix.{matrix, numbered_outputs, named, list_inputs, list_outputs, list_matrix}
 use Rattle.fab_matrix.specs.Selects.{Selects}
 use Rattle.fab_matrix.specs.inner.Grouped.{name_at}
-use Rattle.fab_matrix.specs.inner.Numbering.{IsNumbered}
+use Rattle.fab_matrix.specs.inner.Numbering.{AreNumbersOf}
 use Rattle.fab_select.proofs.Firsts.{told, same_itself, firsts_all, firsts_hold, firsts_distinct}
 use Rattle.fab_matrix.proofs.Renamed.{matrix_renamed}
 use Rattle.fab_matrix.proofs.Selecting.{matrix_selects}
@@ -82,20 +82,20 @@ numbers_below n names k d l =
 
 -- the module by numbers is that by names
 pub list_by_numbers : (name : Name) (pairs : List (Name × Name)) (outputs inputs : List Name) (numbers : List Pair) →
-    IsNumbered (map (λ pair. pair.0) pairs) outputs (map (λ pair. pair.output) numbers) → IsNumbered (map (λ pair. pair.1) pairs) inputs (map (λ pair. pair.input) numbers) →
-    matrix nat_eq name inputs (numbered outputs) (named inputs numbers) ≡ list_matrix name pairs
+    AreNumbersOf (map (λ pair. pair.0) pairs) outputs (map (λ pair. pair.output) numbers) → AreNumbersOf (map (λ pair. pair.1) pairs) inputs (map (λ pair. pair.input) numbers) →
+    matrix nat_eq name inputs (numbered_outputs outputs) (named inputs numbers) ≡ list_matrix name pairs
 list_by_numbers name pairs outputs inputs numbers by_output by_input =
     let P : ℕ → Type 0 = λ k. k < length outputs in
     let once : IsDistinct bytes_eq outputs = subst (IsDistinct bytes_eq) (sym by_output.order) (firsts_distinct bytes_eq bytes_eq-Decides (map (λ (pair : Name × Name). pair.0) pairs)) in
     let keys : All (λ (pair : ℕ × Name). P pair.0) (named inputs numbers) =
     All-map (λ (pair : ℕ × Name). P pair.0) (λ (pair : Pair). (pair.output, name_at inputs pair.input)) numbers
     (All-of_map P (λ (pair : Pair). pair.output) numbers by_output.within) in
-    let each : All (λ (output : ℕ × Name). P output.0) (numbered outputs) =
-    subst (λ (n : ℕ). All (λ (output : ℕ × Name). output.0 < n) (numbered outputs)) (zero-add (length outputs)) (numbers_below 0 outputs) in
-    let all_outputs : map (by_name outputs) (numbered outputs) ≡ list_outputs pairs =
+    let each : All (λ (output : ℕ × Name). P output.0) (numbered_outputs outputs) =
+    subst (λ (n : ℕ). All (λ (output : ℕ × Name). output.0 < n) (numbered_outputs outputs)) (zero-add (length outputs)) (numbers_below 0 outputs) in
+    let all_outputs : map (by_name outputs) (numbered_outputs outputs) ≡ list_outputs pairs =
     names_as_keys outputs outputs 0 (λ k l. ap (name_at outputs) (zero-add k)) ∙ ap (map (λ (output : Name). (output, output))) by_output.order in
     let all_pairs : map (by_name outputs) (named inputs numbers) ≡ pairs = pairs_joined outputs inputs numbers pairs by_output.same by_input.same in
-    sym (matrix_renamed P nat_eq bytes_eq (name_at outputs) (same_names outputs once) (named inputs numbers) keys name inputs (numbered outputs) each)
+    sym (matrix_renamed P nat_eq bytes_eq (name_at outputs) (same_names outputs once) (named inputs numbers) keys name inputs (numbered_outputs outputs) each)
     ∙ (λ j. matrix bytes_eq name (by_input.order j) (all_outputs j) (all_pairs j))
 
 -- the module of a list selects
@@ -113,6 +113,6 @@ list_selects name pairs apart =
 
 -- the same numbering of equal keys and numbers
 pub numbered_at : (names keys other_keys : List Name) (f : Pair → ℕ) (numbers other_numbers : List Pair) → other_keys ≡ keys → other_numbers ≡ numbers →
-    IsNumbered names keys (map f numbers) → IsNumbered names other_keys (map f other_numbers)
+    AreNumbersOf names keys (map f numbers) → AreNumbersOf names other_keys (map f other_numbers)
 numbered_at names keys other_keys f numbers other_numbers same_keys same_numbers h =
-    subst₂ (λ ks ns. IsNumbered names ks (map f ns)) (sym same_keys) (sym same_numbers) h
+    subst₂ (λ ks ns. AreNumbersOf names ks (map f ns)) (sym same_keys) (sym same_numbers) h

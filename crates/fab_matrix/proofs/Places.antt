@@ -12,7 +12,7 @@ use Rattle.fab_select.specs.declared.pair.Pair.{Pair}
 use Rattle.fab_matrix.specs.Names.{Name}
 use Rattle.fab_matrix.specs.inner.Grouped.{name_at}
 use Rattle.fab_bits.specs.Keys.{key_names}
-use Rattle.fab_matrix.specs.inner.Numbering.{IsNumbered}
+use Rattle.fab_matrix.specs.inner.Numbering.{AreNumbersOf}
 use Rattle.fab_select.proofs.Firsts.{firsts_push}
 
 -- the names of keys after an insert
@@ -82,8 +82,8 @@ names_kept keys x (number ∷ numbers) within =
     λ j. here j ∷ rest j
 
 -- one name more
-pub numbered_more : (names keys : List Name) (numbers : List ℕ) (x : Name) → IsNumbered names keys numbers →
-    IsNumbered (names ++ x ∷ []) (insert_key bytes_eq keys x) (numbers ++ position_or_len (bytes_eq x) keys ∷ [])
+pub numbered_more : (names keys : List Name) (numbers : List ℕ) (x : Name) → AreNumbersOf names keys numbers →
+    AreNumbersOf (names ++ x ∷ []) (insert_key bytes_eq keys x) (numbers ++ position_or_len (bytes_eq x) keys ∷ [])
 numbered_more names keys numbers x so_far =
     let more = insert_key bytes_eq keys x in
     let place = position_or_len (bytes_eq x) keys in
@@ -102,12 +102,12 @@ numbered_more names keys numbers x so_far =
 pub pair_numbered : (name_of : Name × Name → Name) (number_of : Pair → ℕ) (pairs : List (Name × Name)) (i : ℕ) (pair : Name × Name) (numbers more_numbers : List Pair) (new : Pair) (keys more_keys : List Name) →
     i < length pairs → pair ≡ get_or pairs i pair → more_numbers ≡ numbers ++ new ∷ [] →
     number_of new ≡ position_or_len (bytes_eq (name_of pair)) keys → more_keys ≡ insert_key bytes_eq keys (name_of pair) →
-    IsNumbered (map name_of (take i pairs)) keys (map number_of numbers) → IsNumbered (map name_of (take (i + 1) pairs)) more_keys (map number_of more_numbers)
+    AreNumbersOf (map name_of (take i pairs)) keys (map number_of numbers) → AreNumbersOf (map name_of (take (i + 1) pairs)) more_keys (map number_of more_numbers)
 pair_numbered name_of number_of pairs i pair numbers more_numbers new keys more_keys within is pushed place inserted so_far =
     let names_are : map name_of (take (i + 1) pairs) ≡ map name_of (take i pairs) ++ name_of pair ∷ [] =
     map_more name_of pairs i pair within ∙ ap (λ p. map name_of (take i pairs) ++ name_of p ∷ []) (sym is) in
     let numbers_are : map number_of more_numbers ≡ map number_of numbers ++ position_or_len (bytes_eq (name_of pair)) keys ∷ [] =
     ap (map number_of) pushed ∙ map_push number_of numbers new ∙ ap (λ n. map number_of numbers ++ n ∷ []) place in
-    subst (λ names. IsNumbered names more_keys (map number_of more_numbers)) (sym names_are)
-    (subst₂ (IsNumbered (map name_of (take i pairs) ++ name_of pair ∷ [])) (sym inserted) (sym numbers_are)
+    subst (λ names. AreNumbersOf names more_keys (map number_of more_numbers)) (sym names_are)
+    (subst₂ (AreNumbersOf (map name_of (take i pairs) ++ name_of pair ∷ [])) (sym inserted) (sym numbers_are)
     (numbered_more (map name_of (take i pairs)) keys (map number_of numbers) (name_of pair) so_far))

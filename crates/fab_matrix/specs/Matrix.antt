@@ -39,8 +39,8 @@ matrix same name inputs outputs pairs = record {
 }
 
 -- outputs with their numbers as keys
-abbrev pub numbered : List Name → List (ℕ × Name)
-numbered names = enumerate_from 0 names
+abbrev pub numbered_outputs : List Name → List (ℕ × Name)
+numbered_outputs names = enumerate_from 0 names
 
 -- pairs of numbers, each with the name of its input
 abbrev pub named : (inputs : List Name) → List Pair → List (ℕ × Name)

@@ -9,7 +9,7 @@ ghost use Rattle.fab_meaning.specs.Ports.{config_name};
 ghost use Rattle.fab_matrix.specs.Matrix.{list_outputs, list_matrix};
 ghost use Rattle.fab_matrix.specs.Selects.{Selects};
 ghost use Rattle.fab_bits.specs.Keys.{key_names};
-ghost use Rattle.fab_matrix.specs.inner.Numbering.{IsNumbered};
+ghost use Rattle.fab_matrix.specs.inner.Numbering.{AreNumbersOf};
 
 use crate::numbers::matrix_module;
 use fab_base::{Memory, Name};
@@ -48,8 +48,8 @@ struct Numbered {
 
 // The names and the numbers of pairs.
 fn number_names(alloc: Global, pairs: &[(Name, Name)]) -> Result<Numbered, Memory>
-    ensures outputs { IfOk result (λ n. IsNumbered (map (λ pair. pair.0) pairs.now) n.outputs.items (map (λ pair. pair.output) n.pairs.items)) }
-    ensures inputs { IfOk result (λ n. IsNumbered (map (λ pair. pair.1) pairs.now) n.inputs.items (map (λ pair. pair.input) n.pairs.items)) }
+    ensures outputs { IfOk result (λ n. AreNumbersOf (map (λ pair. pair.0) pairs.now) n.outputs.items (map (λ pair. pair.output) n.pairs.items)) }
+    ensures inputs { IfOk result (λ n. AreNumbersOf (map (λ pair. pair.1) pairs.now) n.inputs.items (map (λ pair. pair.input) n.pairs.items)) }
 {
     let mut inputs = IndexSet::new(alloc);
     let mut outputs = IndexSet::new(alloc);

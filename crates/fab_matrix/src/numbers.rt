@@ -3,7 +3,7 @@
 ghost use Rattle.std.specs.Prelude.{◌≡◌, ◌≢◌, ◌+◌, ◌<◌, ◌≤◌, ◌++◌, ℕ, length, map, IfOk, OnOk, All, sum_by, take, nat_eq, slice_index_or, true, false};
 ghost use Rattle.fab_syntax.specs.Plain.{plain_module, plain_item};
 ghost use Rattle.fab_meaning.specs.Ports.{scalar, config_port, config_name};
-ghost use Rattle.fab_matrix.specs.Matrix.{matrix, numbered, named};
+ghost use Rattle.fab_matrix.specs.Matrix.{matrix, numbered_outputs, named};
 ghost use Rattle.fab_matrix.specs.Selects.{Selects};
 ghost use Rattle.fab_bits.specs.Keys.{group_at};
 ghost use Rattle.fab_matrix.specs.inner.Grouped.{width_at, item_of};
@@ -29,9 +29,9 @@ pub fn matrix_module(
 ) -> Result<Module, Memory>
     requires inputs { All (λ pair. pair.input < length inputs.now) pairs.now }
     requires outputs { All (λ pair. pair.output < length outputs.now) pairs.now }
-    ensures module { IfOk result (λ m. plain_module m ≡ matrix nat_eq name.now inputs.now (numbered outputs.now) (named inputs.now pairs.now)) }
+    ensures module { IfOk result (λ m. plain_module m ≡ matrix nat_eq name.now inputs.now (numbered_outputs outputs.now) (named inputs.now pairs.now)) }
     ensures selects { IfOk result (λ m. All (λ input. input ≢ config_name) inputs.now →
-        Selects nat_eq (plain_module m) (numbered outputs.now) (named inputs.now pairs.now)) }
+        Selects nat_eq (plain_module m) (numbered_outputs outputs.now) (named inputs.now pairs.now)) }
 {
     let module = build(alloc, name, inputs, outputs, pairs)?;
     Ok(module)
@@ -47,7 +47,7 @@ fn build(
 ) -> Result<Module, Memory>
     requires inputs { All (λ pair. pair.input < length inputs.now) pairs.now }
     requires outputs { All (λ pair. pair.output < length outputs.now) pairs.now }
-    ensures { IfOk result (λ m. plain_module m ≡ matrix nat_eq name.now inputs.now (numbered outputs.now) (named inputs.now pairs.now)) }
+    ensures { IfOk result (λ m. plain_module m ≡ matrix nat_eq name.now inputs.now (numbered_outputs outputs.now) (named inputs.now pairs.now)) }
 {
     let groups = inputs_by_output(alloc, outputs.len(), pairs)?;
     let order = order_of(alloc, pairs)?;
@@ -132,7 +132,7 @@ fn items_of(
     requires lows { (place : ℕ) → place ≤ length order.now.keys →
         slice_index_or lows.now place 0 ≡ sum_by (width_at groups.now) (take place order.now.keys) }
     ensures { IfOk result (λ items. map plain_item items.items
-        ≡ map (λ output. item_of inputs.now groups.now order.now.keys output.0 output.1) (numbered outputs.now)) }
+        ≡ map (λ output. item_of inputs.now groups.now order.now.keys output.0 output.1) (numbered_outputs outputs.now)) }
 {
     let mut items = Vec::new(alloc);
     for (place, name) in outputs.iter().enumerate() {

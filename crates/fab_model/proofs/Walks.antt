@@ -5,7 +5,7 @@ use Rattle.std.proofs.lemmas.Option.{same_Some}
 use Rattle.fab_model.specs.declared.tiles.WireRow.{WireRow}
 use Rattle.fab_model.specs.Rows.{IsWireRow, is_jump, is_named, border_bits, side_bits, source_bits}
 use Rattle.fab_model.specs.Grid.{PlainFabric, AreRows}
-use Rattle.fab_model.specs.Joins.{RowPlace, Crosses, StandsAt, Ends, Leads, arrives, goes_on, Joins, cascade}
+use Rattle.fab_model.specs.Joins.{RowPlace, Crosses, StandsAt, Ends, LeadsOn, arrives, goes_on, Joins, cascade}
 use Rattle.fab_model.specs.Cascade.{PlacedRow, next_row, previous_row, passing_bits, ends_there, walk_to, walk_from}
 use Rattle.fab_model.proofs.Crossings.{IsPlaced, one_row_stands, standing_is_wire_row, crossing_from, crossing_to, crossed, crosses_next, crosses_previous, next_crosses, previous_crosses}
 
@@ -85,7 +85,7 @@ sum_is bit count other same = omega (arith, same)
 -- ---- from a source bit
 
 -- a walk finds where a border bit leads to
-pub leads_walk : (fabric : PlainFabric) → AreRows fabric → {here there : RowPlace} {bit dest : ℕ} → Leads fabric here bit there dest → (from : PlacedRow) → IsPlaced fabric from → from.place ≡ here → (fuel : ℕ) → bit < fuel → walk_to fabric fuel (next_row fabric from) bit ≡ Some (there, dest)
+pub leads_walk : (fabric : PlainFabric) → AreRows fabric → {here there : RowPlace} {bit dest : ℕ} → LeadsOn fabric here bit there dest → (from : PlacedRow) → IsPlaced fabric from → from.place ≡ here → (fuel : ℕ) → bit < fuel → walk_to fabric fuel (next_row fabric from) bit ≡ Some (there, dest)
 leads_walk fabric are (arrives crossing ends) from stands at zero enough = absurd (omega (arith, enough))
 leads_walk fabric are (arrives {bit = bit} crossing ends) from stands at (suc fuel) enough =
     let same : from ≡ crossing_from crossing = one_row_stands fabric from (crossing_from crossing) stands crossing.stands at in
@@ -103,7 +103,7 @@ leads_walk fabric are (goes_on {there = there} {bit = bit} {rest = rest} {dest =
     ∙ rw (ends_not, rest_is) (leads_walk fabric are leads next crossing.next_stands refl fuel (omega (arith, passes, many, enough)))
 
 -- a border bit leads to what a walk finds
-pub walk_leads : (fabric : PlainFabric) (fuel : ℕ) (from : PlacedRow) (next : Option PlacedRow) (bit : ℕ) (found : RowPlace × ℕ) → IsPlaced fabric from → is_named from.row.source ≡ true → next_row fabric from ≡ next → walk_to fabric fuel next bit ≡ Some found → Leads fabric from.place bit found.0 found.1
+pub walk_leads : (fabric : PlainFabric) (fuel : ℕ) (from : PlacedRow) (next : Option PlacedRow) (bit : ℕ) (found : RowPlace × ℕ) → IsPlaced fabric from → is_named from.row.source ≡ true → next_row fabric from ≡ next → walk_to fabric fuel next bit ≡ Some found → LeadsOn fabric from.place bit found.0 found.1
 walk_leads fabric fuel from None bit found stands named is h = cc
 walk_leads fabric zero from (Some next) bit found stands named is h = cc
 walk_leads fabric (suc fuel) from (Some next) bit found stands named is h =
@@ -111,7 +111,7 @@ walk_leads fabric (suc fuel) from (Some next) bit found stands named is h =
     elim (cases_Bool (ends_there next.row bit)) [
       | inl ends ↦ (
           let q : Some (next.place, bit) ≡ Some found = rw ends at h in
-          subst (λ found. Leads fabric from.place bit found.0 found.1) (same_Some (next.place, bit) found q) (arrives crossing (is_ends next.row bit ends)))
+          subst (λ found. LeadsOn fabric from.place bit found.0 found.1) (same_Some (next.place, bit) found q) (arrives crossing (is_ends next.row bit ends)))
       | inr ends_not ↦ (
           let q : walk_to fabric fuel (next_row fabric next) (bit - next.row.count) ≡ Some found = rw ends_not at h in
           let parts = or_parts (not (is_named next.row.source)) (nat_lt bit next.row.count) ends_not in
@@ -143,7 +143,7 @@ pub record ComesBack (fabric : PlainFabric) (here : PlacedRow) (bit : ℕ) (ther
   pub back : (fuel : ℕ) → walk_from fabric (steps + suc fuel) (previous_row fabric target) dest ≡ back_at fabric fuel here bit
 
 -- each border bit that leads somewhere comes back from there
-pub leads_back : (fabric : PlainFabric) → AreRows fabric → {here there : RowPlace} {bit dest : ℕ} → Leads fabric here bit there dest → (from : PlacedRow) → IsPlaced fabric from → from.place ≡ here → bit < border_bits from.row → ComesBack fabric from bit there dest
+pub leads_back : (fabric : PlainFabric) → AreRows fabric → {here there : RowPlace} {bit dest : ℕ} → LeadsOn fabric here bit there dest → (from : PlacedRow) → IsPlaced fabric from → from.place ≡ here → bit < border_bits from.row → ComesBack fabric from bit there dest
 leads_back fabric are (arrives {bit = bit} crossing ends) from stands at few =
     let same : crossing_from crossing ≡ from = one_row_stands fabric (crossing_from crossing) from crossing.stands stands (sym at) in
     let both = crossed crossing in
@@ -192,10 +192,10 @@ leads_back fabric are (goes_on {there = there} {bit = bit} {rest = rest} {dest =
 
 -- all rows that cross to a row lead to a destination bit
 abbrev pub AllLead : PlainFabric → PlacedRow → ℕ → RowPlace → ℕ → Type 0
-AllLead fabric next bit there dest = (here : RowPlace) → Crosses fabric here next.place → Leads fabric here bit there dest
+AllLead fabric next bit there dest = (here : RowPlace) → Crosses fabric here next.place → LeadsOn fabric here bit there dest
 
 -- a row at whose border a bit begins is joined to where the bit leads
-begins_there : (fabric : PlainFabric) → AreRows fabric → (here : PlacedRow) (bit : ℕ) (there : RowPlace) (dest : ℕ) → IsPlaced fabric here → is_jump here.row.dir ≡ false → is_named here.row.source ≡ true → bit < border_bits here.row → nat_lt bit (passing_bits here.row) ≡ false → Leads fabric here.place bit there dest → Joins fabric here.place (bit - passing_bits here.row) there dest
+begins_there : (fabric : PlainFabric) → AreRows fabric → (here : PlacedRow) (bit : ℕ) (there : RowPlace) (dest : ℕ) → IsPlaced fabric here → is_jump here.row.dir ≡ false → is_named here.row.source ≡ true → bit < border_bits here.row → nat_lt bit (passing_bits here.row) ≡ false → LeadsOn fabric here.place bit there dest → Joins fabric here.place (bit - passing_bits here.row) there dest
 begins_there fabric are here bit there dest stands no_jump named few begins leads =
     let is = standing_is_wire_row fabric here are stands in
     let behind : passing_bits here.row ≤ bit = ltb-false bit (passing_bits here.row) begins in

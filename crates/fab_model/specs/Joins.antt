@@ -63,14 +63,14 @@ abbrev pub Ends : WireRow → (bit : ℕ) → Type 0
 Ends row bit = (is_named row.source ≡ false) ⊎ (bit < row.count)
 
 -- a border bit that goes out of the row at one place leads to a destination bit of the row at another
-pub data Leads (fabric : PlainFabric) : (here : RowPlace) → (bit : ℕ) → (there : RowPlace) → (dest : ℕ) → Type 0 where
-  arrives : {here there : RowPlace} {bit : ℕ} → (crossing : Crosses fabric here there) → Ends crossing.next_row bit → Leads fabric here bit there bit
+pub data LeadsOn (fabric : PlainFabric) : (here : RowPlace) → (bit : ℕ) → (there : RowPlace) → (dest : ℕ) → Type 0 where
+  arrives : {here there : RowPlace} {bit : ℕ} → (crossing : Crosses fabric here there) → Ends crossing.next_row bit → LeadsOn fabric here bit there bit
   goes_on : {here next there : RowPlace} {bit rest dest : ℕ} → (crossing : Crosses fabric here next) → is_named crossing.next_row.source ≡ true
-      → bit ≡ crossing.next_row.count + rest → Leads fabric next rest there dest → Leads fabric here bit there dest
+      → bit ≡ crossing.next_row.count + rest → LeadsOn fabric next rest there dest → LeadsOn fabric here bit there dest
 
 -- a source bit of the row at one place is joined to a destination bit of the row at another
 pub data Joins (fabric : PlainFabric) : (here : RowPlace) → (source : ℕ) → (there : RowPlace) → (dest : ℕ) → Type 0 where
   jump : {here : RowPlace} {bit : ℕ} {tile : PlainTile} {row : WireRow} → Stands fabric here tile row → is_jump row.dir ≡ true
       → bit < source_bits row → is_named row.dest ≡ true → Joins fabric here bit here bit
   cascade : {here there : RowPlace} {source bit dest : ℕ} {tile : PlainTile} {row : WireRow} → Stands fabric here tile row → is_jump row.dir ≡ false
-      → source < source_bits row → StandsAt row source bit → Leads fabric here bit there dest → Joins fabric here source there dest
+      → source < source_bits row → StandsAt row source bit → LeadsOn fabric here bit there dest → Joins fabric here source there dest

@@ -130,13 +130,13 @@ pub struct TileType {
 impl Model for TileType {
     ghost use Rattle.fab_model.specs.Tiles.{PlainTile};
     ghost use Rattle.fab_kinds.specs.fab_bits.specs.Keys.{key_names};
-    ghost use Rattle.fab_model.specs.inner.Numbering.{IsNumbered};
+    ghost use Rattle.fab_model.specs.inner.Numbering.{HasTables};
 
     ghost Value = { PlainTile };
 
     ghost view = { λ tile. record { name = tile.name; rows = tile.rows.items; bels = tile.bels.items; pairs = tile.pairs.items; table = tile.table } };
 
-    ghost invariant = { λ tile. IsNumbered
+    ghost invariant = { λ tile. HasTables
         (record { name = tile.name; rows = tile.rows.items; bels = tile.bels.items; pairs = tile.pairs.items; table = tile.table })
         (key_names tile.places.keys) tile.bel_fields.items tile.fields.order.keys tile.fields.fields.items tile.fields.bits };
 }

@@ -1,7 +1,7 @@
 -- What holds of all items of a list, and of its last one, when that one is changed or one more follows.
 use Rattle.std.proofs.Common.{List, [], ◌∷◌, ◌++◌}
 use Rattle.std.specs.List.{AllByRecursion}
-use Rattle.fab_models.specs.inner.Following.{with_last}
+use Rattle.fab_lines.specs.Items.{with_last}
 
 -- of the last item, if there is one
 abbrev pub AtLast : {X : Type 0} → (X → Type 0) → List X → Type 0

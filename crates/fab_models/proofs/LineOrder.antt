@@ -13,10 +13,11 @@ use Rattle.fab_lines.specs.Order.{IsFine}
 use Rattle.fab_models.specs.declared.words.Kind.{Kind}
 use Rattle.fab_models.specs.declared.words.Kind.TheVariants as kinds
 use Rattle.fab_models.specs.Plain.{PlainBody, PlainStatement, PlainModel}
-use Rattle.fab_models.specs.Words.{Word, words, word_at, kind_of}
+use Rattle.fab_models.specs.Words.{Word, words, kind_of}
+use Rattle.fab_lines.specs.Items.{word_at, with_last}
 use Rattle.fab_models.specs.Judge.{judge}
 use Rattle.fab_models.specs.Spelled.{body_of, spelled}
-use Rattle.fab_models.specs.inner.Following.{State, with_last, with_body, pushed, with_table, retabled, table_by, context_after, covered_after, models_after}
+use Rattle.fab_models.specs.inner.Following.{State, with_body, pushed, with_table, retabled, table_by, context_after, covered_after, models_after}
 use Rattle.fab_models.specs.Rules.{line_numbers, LinesAscend}
 use Rattle.fab_models.proofs.FollowsLines.{summary, state_more, each_line}
 

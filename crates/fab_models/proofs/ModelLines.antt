@@ -6,10 +6,11 @@ use Rattle.std.proofs.lemmas.List.{map-append}
 use Rattle.fab_models.specs.declared.words.Kind.{Kind}
 use Rattle.fab_models.specs.declared.words.Kind.TheVariants as kinds
 use Rattle.fab_models.specs.Plain.{PlainBody, PlainStatement, PlainModel}
-use Rattle.fab_models.specs.Words.{Word, word_at, kind_of, begins_model, ends_cover, is_row_kind, is_model, is_row, is_statement}
+use Rattle.fab_models.specs.Words.{Word, kind_of, begins_model, ends_cover, is_row_kind, is_model, is_row, is_statement}
+use Rattle.fab_lines.specs.Items.{word_at, with_last}
 use Rattle.fab_models.specs.Covers.{table_of}
 use Rattle.fab_models.specs.Spelled.{Line, cover_of, body_of, at_line, rows_in, statements, models_of}
-use Rattle.fab_models.specs.inner.Following.{with_last, with_statements, with_body, with_table}
+use Rattle.fab_models.specs.inner.Following.{with_statements, with_body, with_table}
 use Rattle.fab_models.proofs.Models.{with_last-push}
 use Rattle.fab_models.proofs.Parts.{before_within, before_none, before_found, since, since_found, since_first, since_append, filter_push, filter_kept, with_last-behind}
 

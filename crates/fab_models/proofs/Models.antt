@@ -4,7 +4,8 @@ use Rattle.std.proofs.lemmas.List.{map_push}
 use Rattle.fab_models.specs.declared.model.Model.{Model}
 use Rattle.fab_models.specs.declared.model.Statement.{Statement}
 use Rattle.fab_models.specs.Plain.{PlainStatement, plain_model, plain_statement}
-use Rattle.fab_models.specs.inner.Following.{with_last, with_statements}
+use Rattle.fab_models.specs.inner.Following.{with_statements}
+use Rattle.fab_lines.specs.Items.{with_last}
 
 pub with_last-push : {X : Type 0} (change : X → X) (xs : List X) (x : X) → with_last change (xs ++ x ∷ []) ≡ xs ++ change x ∷ []
 with_last-push change [] x = refl

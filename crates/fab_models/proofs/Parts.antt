@@ -6,7 +6,7 @@ use Rattle.std.proofs.lemmas.List.{reverse-append, length-reverse}
 use Rattle.std.proofs.lemmas.Bool.Decides.{eqb_tells}
 use Rattle.std.proofs.lemmas.List.Folds.{list_any-append, prefix_len-append}
 use Rattle.std.proofs.lemmas.List.Elements.{filter-append}
-use Rattle.fab_models.specs.inner.Following.{with_last}
+use Rattle.fab_lines.specs.Items.{with_last}
 
 module _ {X : Type 0} (p : X → Bool) where
   -- ---- any

@@ -3,7 +3,8 @@ use Rattle.std.specs.Prelude.{ℕ, Bool, true, false, List, [], ◌∷◌, ◌-�
 use Rattle.std.specs.List.{list_any}
 use Rattle.std.specs.Str.{bytes_eq}
 use Rattle.fab_bits.specs.Bits.{number, first_bits}
-use Rattle.fab_models.specs.Words.{Word, word_at}
+use Rattle.fab_models.specs.Words.{Word}
+use Rattle.fab_lines.specs.Items.{word_at}
 
 -- the pattern of a row: its first word, where the row has two
 abbrev pub pattern_of : (row : List Word) → Word

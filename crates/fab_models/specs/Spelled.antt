@@ -5,7 +5,8 @@ use Rattle.std.specs.Str.{bytes_eq}
 use Rattle.fab_models.specs.declared.words.Kind.{Kind}
 use Rattle.fab_models.specs.declared.words.Kind.TheVariants as kinds
 use Rattle.fab_models.specs.Plain.{PlainBody, inputs, outputs, clock, cover, latch, instance, PlainStatement, PlainModel}
-use Rattle.fab_models.specs.Words.{Word, words, word_at, arguments, kind_of, is_model, is_row, is_statement}
+use Rattle.fab_models.specs.Words.{Word, words, arguments, kind_of, is_model, is_row, is_statement}
+use Rattle.fab_lines.specs.Items.{word_at}
 use Rattle.fab_models.specs.Covers.{table_of}
 use Rattle.fab_models.specs.Judge.{has_initial, has_type}
 

@@ -1,5 +1,5 @@
 -- The words of a line, and what kind of line they make.
-use Rattle.std.specs.Prelude.{ℕ, Bool, true, false, List, [], ◌∷◌, ◌||◌, ◌==◌, not, length, filter, codes, slice_index, slice_index_or, drop, if◌then◌else◌}
+use Rattle.std.specs.Prelude.{ℕ, Bool, true, false, List, [], ◌∷◌, ◌||◌, ◌==◌, not, length, filter, codes, slice_index, drop, if◌then◌else◌}
 use Rattle.std.specs.List.{slice_split}
 use Rattle.std.specs.Str.{bytes_eq}
 use Rattle.fab_lines.specs.Names.{is_between}
@@ -24,10 +24,6 @@ is_filled word = not (length word == 0)
 -- the words of a line: what stands between bytes that are of no word
 abbrev pub words : (line : List ℕ) → List Word
 words line = filter is_filled (slice_split (λ byte. not (is_of_word byte)) line)
-
--- the word at a place, which is empty past the end
-abbrev pub word_at : List Word → ℕ → Word
-word_at words place = slice_index_or words place []
 
 -- the words after the first
 abbrev pub arguments : List Word → List Word

@@ -1,15 +1,17 @@
 //! What the lines of a model say, and the models so far.
 
 ghost use Rattle.std.specs.Prelude.{◌≡◌, ◌++◌, ◌∷◌, [], map, option_map, IfOk, OnOk};
-ghost use Rattle.fab_models.specs.inner.Following.{pushed, retabled, with_body, with_statements, with_last, with_table, models_after};
+ghost use Rattle.fab_models.specs.inner.Following.{pushed, retabled, with_body, with_statements, with_table, models_after};
+ghost use Rattle.fab_lines.specs.Items.{with_last};
 ghost use Rattle.fab_models.specs.Plain.{plain_body, plain_model, plain_models, plain_statement};
 ghost use Rattle.fab_models.specs.Spelled.{body_of, buffer_of, control_of, cover_of, initial_of, inner_words, instance_of, latch_of};
 
 use crate::cover::table_by;
 use crate::judging::{has_initial, has_type};
 use crate::model::{Body, Model, Statement};
-use crate::words::{Kind, names_of, word_at, words_from, words_up_to};
+use crate::words::{Kind, names_of, words_from, words_up_to};
 use fab_base::{Memory, Name};
+use fab_lines::word_at;
 use std::alloc::Global;
 
 /// The table of a buffer: 1 where its input is 1.

@@ -7,7 +7,8 @@ ghost use Rattle.fab_models.specs.Covers.{is_off, is_on, matches, output_of, pat
 ghost use Rattle.fab_models.specs.inner.Following.{covered_after, mask_of, table_by};
 ghost use Rattle.fab_models.specs.Judge.{has_output, is_fine_row, is_sign, same_output};
 
-use crate::words::{Kind, word_at};
+use crate::words::Kind;
+use fab_lines::word_at;
 
 /// The pattern of a row: its first word, where the row has two.
 pub fn pattern_of<'a>(row: &[&'a [u8]]) -> &'a [u8]

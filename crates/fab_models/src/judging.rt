@@ -8,8 +8,9 @@ ghost use Rattle.fab_bits.specs.Keys.{key_names};
 
 use crate::context::Context;
 use crate::cover::is_fine_row;
-use crate::words::{Kind, has_foreign, word_at, words_from};
+use crate::words::{Kind, has_foreign, words_from};
 use fab_base::{Memory, Name, Problem, Reason};
+use fab_lines::word_at;
 use indexmap::IndexSet;
 use std::alloc::Global;
 

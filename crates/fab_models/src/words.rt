@@ -3,7 +3,7 @@
 ghost use Rattle.std.specs.Prelude.{◌≡◌, ◌==◌, IfOk, drop, map, slice_index, take};
 ghost use Rattle.std.specs.List.{list_any};
 ghost use Rattle.fab_lines.specs.Parts.{is_blank};
-ghost use Rattle.fab_models.specs.Words.{arguments, is_foreign, is_of_word, is_passed, kind_of, kind_of_word, word_at, words};
+ghost use Rattle.fab_models.specs.Words.{arguments, is_foreign, is_of_word, is_passed, kind_of, kind_of_word, words};
 
 use fab_base::{Memory, Name};
 use std::alloc::Global;
@@ -75,17 +75,6 @@ pub fn words_of(alloc: Global, line: &[u8]) -> Result<Vec<&[u8]>, Memory>
         }
     }
     Ok(words)
-}
-
-/// The word at a place; it is empty past the end.
-pub fn word_at<'a>(words: &[&'a [u8]], place: usize) -> &'a [u8]
-    ensures { result.now ≡ word_at (map (λ w. w.now) words.now) place }
-{
-    if place < words.len() {
-        words[place]
-    } else {
-        b""
-    }
 }
 
 /// The words from a place on.

@@ -11,7 +11,7 @@ use Rattle.std.proofs.lemmas.Slice.Eq.{starts_is, bytes_eq-Decides}
 use Rattle.std.proofs.lemmas.Int.Digits.{digits_value_push}
 use Rattle.fab_lines.specs.Numbers.{is_digit, is_number, number_of}
 use Rattle.fab_model.specs.Tiles.{counted}
-use Rattle.fab_names.specs.Names.{PlainFamily, text_of, numbered, has_bit, first_name, meet}
+use Rattle.fab_names.specs.Names.{PlainFamily, text_of, numbered_names, has_bit, first_name, meet}
 use Rattle.fab_names.proofs.Texts.{text_is_number, number_of_text, text_of_number}
 
 pub both_first : (a b : Bool) → (a && b) ≡ true → a ≡ true
@@ -98,7 +98,7 @@ counted_any test zero f i within h = absurd (omega arith)
 counted_any test (suc n) f zero within h = either_first (test (f 0)) _ h
 counted_any test (suc n) f (suc i) within h = either_second (test (f 0)) _ (counted_any test n (λ (i : ℕ). f (suc i)) i (omega arith) h)
 
-pub bit_among : (family : PlainFamily) (name : List ℕ) → list_any (bytes_eq name) (numbered family) ≡ true → IsBit family name
+pub bit_among : (family : PlainFamily) (name : List ℕ) → list_any (bytes_eq name) (numbered_names family) ≡ true → IsBit family name
 bit_among family name among =
     let found = any_counted (bytes_eq name) family.bits (λ (bit : ℕ). family.base ++ text_of bit) among in
     record {
@@ -108,7 +108,7 @@ bit_among family name among =
       below = subst (λ (n : ℕ). n < family.bits) (sym (number_of_text found.0)) found.1.0;
     }
 
-pub among_bit : (family : PlainFamily) (name : List ℕ) → IsBit family name → list_any (bytes_eq name) (numbered family) ≡ true
+pub among_bit : (family : PlainFamily) (name : List ℕ) → IsBit family name → list_any (bytes_eq name) (numbered_names family) ≡ true
 among_bit family name bit =
     counted_any (bytes_eq name) family.bits (λ (bit : ℕ). family.base ++ text_of bit) (number_of bit.digits) bit.below
     ((bytes_eq-Decides name (family.base ++ text_of (number_of bit.digits))).1 (bit.is ∙ ap (λ (d : List ℕ). family.base ++ d) (sym (text_of_number bit.digits bit.number))))

@@ -10,7 +10,7 @@ use Rattle.std.proofs.lemmas.List.Folds.{list_any-append}
 use Rattle.std.proofs.lemmas.Slice.Eq.{bytes_eq-Decides}
 use Rattle.fab_lines.specs.Numbers.{number_of}
 use Rattle.fab_model.specs.Tiles.{counted}
-use Rattle.fab_names.specs.Names.{PlainFamily, PlainNames, text_of, numbered, has_bit, meet, is_among, come_twice, names_of, all_names, sides_of, with_sides, with_pins}
+use Rattle.fab_names.specs.Names.{PlainFamily, PlainNames, text_of, numbered_names, has_bit, meet, is_among, come_twice, names_of, all_names, sides_of, with_sides, with_pins}
 use Rattle.fab_names.specs.inner.Sides.{opt_meets, sides_meet}
 use Rattle.fab_names.proofs.Texts.{number_of_text, text_of_number}
 use Rattle.fab_names.proofs.Families.{either_first, either_second, either_is, bit_of, has_of_bit, bit_among, among_bit, counted_any, drop_front, shared_meet, meet_shared}
@@ -93,7 +93,7 @@ twice_counted (suc n) f before (suc i) within among =
     either_second (is_among before (f 0)) _ (twice_counted n (λ (i : ℕ). f (suc i)) (before ++ f 0 ∷ []) i (omega arith)
     (list_any-append (bytes_eq (f (suc i))) before (f 0 ∷ []) ∙ either_first _ _ among))
 
-pub twice_family : (before : List (List ℕ)) (family : PlainFamily) → come_twice before (numbered family) ≡ list_any (has_bit family) before
+pub twice_family : (before : List (List ℕ)) (family : PlainFamily) → come_twice before (numbered_names family) ≡ list_any (has_bit family) before
 twice_family before family =
     let f : ℕ → List ℕ = λ bit. family.base ++ text_of bit in
     same_test _ _
@@ -109,28 +109,28 @@ twice_family before family =
 
 -- ---- families
 
-pub any_numbered : (family other : PlainFamily) → list_any (has_bit family) (numbered other) ≡ meet other family
+pub any_numbered : (family other : PlainFamily) → list_any (has_bit family) (numbered_names other) ≡ meet other family
 any_numbered family other =
     let f : ℕ → List ℕ = λ bit. other.base ++ text_of bit in
     same_test _ _
-    (λ has. let item = any_found (has_bit family) (numbered other) has in
+    (λ has. let item = any_found (has_bit family) (numbered_names other) has in
     shared_meet other family item.item (bit_among other item.item (item.others (bytes_eq item.item) ((bytes_eq-Decides item.item item.item).1 refl))) (bit_of family item.item item.passes))
     (λ meets. let shared = meet_shared other family meets in
-    let item = any_found (bytes_eq shared.name) (numbered other) (among_bit other shared.name shared.here) in
+    let item = any_found (bytes_eq shared.name) (numbered_names other) (among_bit other shared.name shared.here) in
     let same = (bytes_eq-Decides shared.name item.item).0 item.passes in
     item.others (has_bit family) (sym (ap (has_bit family) same) ∙ has_of_bit family shared.name shared.there))
 
 pub any_families : (family : PlainFamily) (others : List PlainFamily) → list_any (has_bit family) (names_of others) ≡ list_any (λ (other : PlainFamily). meet other family) others
 any_families family [] = refl
 any_families family (other ∷ others) =
-    list_any-append (has_bit family) (numbered other) (names_of others)
+    list_any-append (has_bit family) (numbered_names other) (names_of others)
     ∙ ap (λ (b : Bool). b || list_any (has_bit family) (names_of others)) (any_numbered family other)
     ∙ ap (λ (b : Bool). meet other family || b) (any_families family others)
 
 pub among_families : (name : List ℕ) (families : List PlainFamily) → is_among (names_of families) name ≡ list_any (λ (family : PlainFamily). has_bit family name) families
 among_families name [] = refl
 among_families name (family ∷ families) =
-    list_any-append (bytes_eq name) (numbered family) (names_of families)
+    list_any-append (bytes_eq name) (numbered_names family) (names_of families)
     ∙ ap (λ (b : Bool). b || is_among (names_of families) name) (same_test _ _ (λ among. has_of_bit family name (bit_among family name among)) (λ has. among_bit family name (bit_of family name has)))
     ∙ ap (λ (b : Bool). has_bit family name || b) (among_families name families)
 
@@ -144,16 +144,16 @@ pub twice_sides : (names : PlainNames) (source dest : Option PlainFamily)
     → (opt_meets names source || (opt_meets names dest || sides_meet source dest)) ≡ come_twice (all_names names) (names_of (sides_of source dest))
 twice_sides names None None = sym (twice_none (all_names names))
 twice_sides names None (Some dest) =
-    either_false (list_any (has_bit dest) (all_names names)) ∙ sym (twice_family (all_names names) dest) ∙ ap (come_twice (all_names names)) (sym (append_nil (numbered dest)))
+    either_false (list_any (has_bit dest) (all_names names)) ∙ sym (twice_family (all_names names) dest) ∙ ap (come_twice (all_names names)) (sym (append_nil (numbered_names dest)))
 twice_sides names (Some source) None =
-    either_false (list_any (has_bit source) (all_names names)) ∙ sym (twice_family (all_names names) source) ∙ ap (come_twice (all_names names)) (sym (append_nil (numbered source)))
+    either_false (list_any (has_bit source) (all_names names)) ∙ sym (twice_family (all_names names) source) ∙ ap (come_twice (all_names names)) (sym (append_nil (numbered_names source)))
 twice_sides names (Some source) (Some dest) =
     let all = all_names names in
-    let behind = list_any-append (has_bit dest) all (numbered source) ∙ ap (λ (b : Bool). list_any (has_bit dest) all || b) (any_numbered dest source) in
-    ap (λ (b : Bool). list_any (has_bit source) all || b) (sym behind ∙ sym (twice_family (all ++ numbered source) dest))
-    ∙ ap (λ (b : Bool). b || come_twice (all ++ numbered source) (numbered dest)) (sym (twice_family all source))
-    ∙ sym (twice_append all (numbered source) (numbered dest))
-    ∙ ap (λ (l : List (List ℕ)). come_twice all (numbered source ++ l)) (sym (append_nil (numbered dest)))
+    let behind = list_any-append (has_bit dest) all (numbered_names source) ∙ ap (λ (b : Bool). list_any (has_bit dest) all || b) (any_numbered dest source) in
+    ap (λ (b : Bool). list_any (has_bit source) all || b) (sym behind ∙ sym (twice_family (all ++ numbered_names source) dest))
+    ∙ ap (λ (b : Bool). b || come_twice (all ++ numbered_names source) (numbered_names dest)) (sym (twice_family all source))
+    ∙ sym (twice_append all (numbered_names source) (numbered_names dest))
+    ∙ ap (λ (l : List (List ℕ)). come_twice all (numbered_names source ++ l)) (sym (append_nil (numbered_names dest)))
 
 -- ---- pins, one after the other
 
@@ -194,7 +194,7 @@ distinct_more before (x ∷ xs) apart fine =
 
 pub names_of_append : (xs ys : List PlainFamily) → names_of (xs ++ ys) ≡ names_of xs ++ names_of ys
 names_of_append [] ys = refl
-names_of_append (x ∷ xs) ys = ap (λ (l : List (List ℕ)). numbered x ++ l) (names_of_append xs ys) ∙ sym (append_assoc (numbered x) (names_of xs) (names_of ys))
+names_of_append (x ∷ xs) ys = ap (λ (l : List (List ℕ)). numbered_names x ++ l) (names_of_append xs ys) ∙ sym (append_assoc (numbered_names x) (names_of xs) (names_of ys))
 
 bytes_flip : (x y : List ℕ) → bytes_eq x y ≡ bytes_eq y x
 bytes_flip x y = same_test _ _
@@ -225,7 +225,7 @@ unfolding counted
 length_counted zero f = refl
 length_counted (suc n) f = omega (arith, length_counted n (λ (i : ℕ). f (suc i)))
 
-pub length_numbered : (family : PlainFamily) → length (numbered family) ≡ family.bits
+pub length_numbered : (family : PlainFamily) → length (numbered_names family) ≡ family.bits
 length_numbered family = length_counted family.bits (λ (bit : ℕ). family.base ++ text_of bit)
 
 pub length_sides : (names : PlainNames) (source dest : Option PlainFamily) → length (all_names (with_sides names source dest)) ≡ length (all_names names) + length (names_of (sides_of source dest))

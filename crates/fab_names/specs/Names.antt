@@ -15,8 +15,8 @@ pub record PlainFamily : Type 0 where
   pub base : List ℕ
   pub bits : ℕ
 
-abbrev pub numbered : PlainFamily → List (List ℕ)
-numbered family = counted family.bits (λ bit. family.base ++ text_of bit)
+abbrev pub numbered_names : PlainFamily → List (List ℕ)
+numbered_names family = counted family.bits (λ bit. family.base ++ text_of bit)
 
 -- ---- the same as tests, for counts that nobody writes out
 
@@ -49,7 +49,7 @@ side_families None = []
 side_families (Some family) = family ∷ []
 
 abbrev pub names_of : List PlainFamily → List (List ℕ)
-names_of families = flat_map numbered families
+names_of families = flat_map numbered_names families
 
 -- names so far: families, and names that stand alone
 pub record PlainNames : Type 0 where

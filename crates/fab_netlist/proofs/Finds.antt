@@ -8,7 +8,7 @@ use Rattle.fab_netlist.specs.declared.walk.Mark.{Mark}
 use Rattle.fab_netlist.specs.declared.walk.Mark.TheVariants as marks
 use Rattle.fab_netlist.specs.Plain.{PlainCover, PlainNetlist, no_cover, cover_at, IsAt}
 use Rattle.fab_netlist.specs.WellMade.{IsWellMade, times, cover_outputs}
-use Rattle.fab_netlist.specs.Cycles.{Reads, Leads, IsCycle, IsOneCycle, HasNoCycle}
+use Rattle.fab_netlist.specs.Cycles.{Reads, ReadsOn, IsCycle, IsOneCycle, HasNoCycle}
 use Rattle.fab_netlist.specs.inner.Order.{IsOrder}
 use Rattle.fab_netlist.specs.inner.Search.{driver_at, HasDrivers, IsDriverTable, mark_at, is_new, IsSearch, IsRound, HasEnded, IsListed}
 use Rattle.fab_netlist.proofs.Members.{in_none, first_in}
@@ -134,7 +134,7 @@ done_same list reader small was_open =
 
 -- a list of covers that read one another in turn, of which the last reads the end
 leads_from : (netlist : PlainNetlist) (first : ℕ) (rest : List ℕ) (end : ℕ) → ((turn : ℕ) → suc turn < length (first ∷ rest) → Reads netlist (get_or (first ∷ rest) turn 0) (get_or (first ∷ rest) (suc turn) 0)) →
-    ((last : ℕ) → suc last ≡ length (first ∷ rest) → Reads netlist (get_or (first ∷ rest) last 0) end) → Leads netlist first rest end
+    ((last : ℕ) → suc last ≡ length (first ∷ rest) → Reads netlist (get_or (first ∷ rest) last 0) end) → ReadsOn netlist first rest end
 leads_from netlist first [] end linked closes = closes 0 refl
 leads_from netlist first (second ∷ rest) end linked closes =
     (linked 0 (omega arith), leads_from netlist second rest end (λ turn small. linked (suc turn) (omega (arith, small))) (λ last ends. closes (suc last) (omega (arith, ends))))
@@ -151,7 +151,7 @@ cycle_from : (netlist : PlainNetlist) (source : ℕ) (places : List ℕ) (index 
     ((last : ℕ) → suc last ≡ length places → Reads netlist (get_or places last 0) source) → IsCycle netlist (drop index places)
 cycle_from netlist source [] index small here linked closes = absurd (omega (arith, small))
 cycle_from netlist source (first ∷ rest) zero small here linked closes =
-    subst (λ (end : ℕ). Leads netlist first rest end) (sym here) (leads_from netlist first rest source linked closes)
+    subst (λ (end : ℕ). ReadsOn netlist first rest end) (sym here) (leads_from netlist first rest source linked closes)
 cycle_from netlist source (first ∷ rest) (suc index) small here linked closes =
     cycle_from netlist source rest index (omega (arith, small)) here (λ turn less. linked (suc turn) (omega (arith, less))) (λ last ends. closes (suc last) (omega (arith, ends)))
 

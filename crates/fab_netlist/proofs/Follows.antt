@@ -6,25 +6,25 @@ use Rattle.fab_netlist.specs.declared.walk.Mark.{Mark}
 use Rattle.fab_netlist.specs.declared.walk.Mark.TheVariants as marks
 use Rattle.fab_netlist.specs.Plain.{PlainNetlist, cover_at}
 use Rattle.fab_netlist.specs.WellMade.{times}
-use Rattle.fab_netlist.specs.Cycles.{Reads, Leads, HasNoCycle}
+use Rattle.fab_netlist.specs.Cycles.{Reads, ReadsOn, HasNoCycle}
 use Rattle.fab_netlist.specs.inner.Search.{Fine, fine, driver_at, IsDriverTable, mark_at, is_new, is_open, is_done, if_unfinished, first_of, unfinished, IsSearch, IsRound, StaysDone, HasEnded, IsGoing, IsListed}
 use Rattle.fab_netlist.proofs.Members.{in_none, first_or_later, first_in, later_in, in_left, in_right}
 use Rattle.fab_netlist.proofs.Counts.{times_joined, member_counts, nowhere_or_at}
 use Rattle.fab_netlist.proofs.Orders.{behind_more}
 
 -- chains of covers, one behind the other
-pub leads_joined : (netlist : PlainNetlist) (first : ℕ) (xs : List ℕ) (middle : ℕ) (ys : List ℕ) (end : ℕ) → Leads netlist first xs middle → Leads netlist middle ys end → Leads netlist first (xs ++ middle ∷ ys) end
+pub leads_joined : (netlist : PlainNetlist) (first : ℕ) (xs : List ℕ) (middle : ℕ) (ys : List ℕ) (end : ℕ) → ReadsOn netlist first xs middle → ReadsOn netlist middle ys end → ReadsOn netlist first (xs ++ middle ∷ ys) end
 leads_joined netlist first [] middle ys end before after = (before, after)
 leads_joined netlist first (x ∷ xs) middle ys end before after = (before.0, leads_joined netlist x xs middle ys end before.1 after)
 
 -- a cover that is fine stands on no cycle
-pub fine_no_cycle : (netlist : PlainNetlist) (first : ℕ) → Fine netlist first → (rest : List ℕ) → Leads netlist first rest first → ⊥
+pub fine_no_cycle : (netlist : PlainNetlist) (first : ℕ) → Fine netlist first → (rest : List ℕ) → ReadsOn netlist first rest first → ⊥
 fine_no_cycle netlist first (fine below) [] leads = fine_no_cycle netlist first (below first leads) [] leads
 fine_no_cycle netlist first (fine below) (second ∷ rest) leads =
     fine_no_cycle netlist second (below second leads.0) (rest ++ first ∷ []) (leads_joined netlist second rest first [] second leads.1 leads.0)
 
 -- what leads on is a cover
-leads_small : (netlist : PlainNetlist) (first : ℕ) (rest : List ℕ) (end : ℕ) → Leads netlist first rest end → first < length netlist.covers
+leads_small : (netlist : PlainNetlist) (first : ℕ) (rest : List ℕ) (end : ℕ) → ReadsOn netlist first rest end → first < length netlist.covers
 leads_small netlist first [] end leads = leads.0
 leads_small netlist first (second ∷ rest) end leads = leads.0.0
 

@@ -3,11 +3,11 @@ use Rattle.std.proofs.Common.{◌≡◌, ℕ, zero, suc, ◌+◌, ◌<◌, ◌�
 use Rattle.std.specs.List.{list_any}
 use Rattle.std.proofs.lemmas.Bool.{cases_Bool, eqb-false, false≢true, or_cases}
 use Rattle.fab_netlist.specs.Plain.{PlainNetlist, cover_at}
-use Rattle.fab_netlist.specs.Cycles.{Leads, HasNoCycle, IsRank, HasRank}
+use Rattle.fab_netlist.specs.Cycles.{ReadsOn, HasNoCycle, IsRank, HasRank}
 use Rattle.fab_netlist.proofs.Members.{in_none, first_or_later, first_in, later_in, either_true, both_true, parts_true, any_by, any_gives, number_any, any_number}
 
 -- ranks fall along a chain of covers
-ranks_fall : (netlist : PlainNetlist) (rank : ℕ → ℕ) → IsRank netlist rank → (first : ℕ) (rest : List ℕ) (end : ℕ) → Leads netlist first rest end → rank end < rank first
+ranks_fall : (netlist : PlainNetlist) (rank : ℕ → ℕ) → IsRank netlist rank → (first : ℕ) (rest : List ℕ) (end : ℕ) → ReadsOn netlist first rest end → rank end < rank first
 ranks_fall netlist rank ranks first [] end leads = ranks first end leads
 ranks_fall netlist rank ranks first (second ∷ rest) end leads = omega (arith, ranks first second leads.0, ranks_fall netlist rank ranks second rest end leads.1)
 
@@ -221,7 +221,7 @@ module _ (netlist : PlainNetlist) where
   below_all place here = in_below (length netlist.covers) place here
 
   -- a walk along reads is a chain of covers
-  walk_leads : (first : ℕ) (inner : List ℕ) (end : ℕ) → first < length netlist.covers → end < length netlist.covers → Walks (reads_test netlist) (places_below (length netlist.covers)) first inner end → Leads netlist first inner end
+  walk_leads : (first : ℕ) (inner : List ℕ) (end : ℕ) → first < length netlist.covers → end < length netlist.covers → Walks (reads_test netlist) (places_below (length netlist.covers)) first inner end → ReadsOn netlist first inner end
   walk_leads first [] end small_first small_end walk = (small_first, small_end, any_number (cover_at netlist first).inputs (cover_at netlist end).output walk)
   walk_leads first (second ∷ inner) end small_first small_end walk =
       let small : second < length netlist.covers = below_all second walk.1 in

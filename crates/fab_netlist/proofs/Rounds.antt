@@ -4,13 +4,13 @@ use Rattle.std.specs.List.{All}
 use Rattle.std.proofs.lemmas.List.{append-nil, drop_more, get_or_default, take-append-drop}
 use Rattle.fab_netlist.specs.Plain.{PlainNetlist}
 use Rattle.fab_netlist.specs.WellMade.{times}
-use Rattle.fab_netlist.specs.Cycles.{Leads, IsCycle, IsOneCycle, ComesFirst, IsNamed, cycle_words}
+use Rattle.fab_netlist.specs.Cycles.{ReadsOn, IsCycle, IsOneCycle, ComesFirst, IsNamed, cycle_words}
 use Rattle.fab_netlist.proofs.Members.{first_or_later, first_in, later_in, in_left, in_right}
 use Rattle.fab_netlist.proofs.Counts.{times_joined}
 use Rattle.fab_netlist.proofs.Follows.{leads_joined}
 
 -- the covers of a chain are covers of the netlist
-leads_small : (netlist : PlainNetlist) (first : ℕ) (rest : List ℕ) (end : ℕ) → Leads netlist first rest end → (index d : ℕ) → index < length (first ∷ rest) → get_or (first ∷ rest) index d < length netlist.covers
+leads_small : (netlist : PlainNetlist) (first : ℕ) (rest : List ℕ) (end : ℕ) → ReadsOn netlist first rest end → (index d : ℕ) → index < length (first ∷ rest) → get_or (first ∷ rest) index d < length netlist.covers
 leads_small netlist first [] end leads zero d small = leads.0
 leads_small netlist first [] end leads (suc index) d small = absurd (omega arith)
 leads_small netlist first (second ∷ rest) end leads zero d small = leads.0.0
@@ -27,7 +27,7 @@ cycle_some netlist [] cycle = absurd cycle.0
 cycle_some netlist (first ∷ rest) cycle = omega arith
 
 -- the two parts of a chain
-leads_parted : (netlist : PlainNetlist) (first : ℕ) (xs : List ℕ) (middle : ℕ) (ys : List ℕ) (end : ℕ) → Leads netlist first (xs ++ middle ∷ ys) end → Leads netlist first xs middle × Leads netlist middle ys end
+leads_parted : (netlist : PlainNetlist) (first : ℕ) (xs : List ℕ) (middle : ℕ) (ys : List ℕ) (end : ℕ) → ReadsOn netlist first (xs ++ middle ∷ ys) end → ReadsOn netlist first xs middle × ReadsOn netlist middle ys end
 leads_parted netlist first [] middle ys end leads = leads
 leads_parted netlist first (x ∷ xs) middle ys end leads =
     let rest = leads_parted netlist x xs middle ys end leads.1 in
@@ -35,7 +35,7 @@ leads_parted netlist first (x ∷ xs) middle ys end leads =
 
 -- a cycle from another cover on
 cycle_turned : (netlist : PlainNetlist) (xs : List ℕ) (y : ℕ) (ys : List ℕ) → IsCycle netlist (xs ++ y ∷ ys) → IsCycle netlist (y ∷ (ys ++ xs))
-cycle_turned netlist [] y ys cycle = subst (λ (rest : List ℕ). Leads netlist y rest y) (sym (append-nil ys)) cycle
+cycle_turned netlist [] y ys cycle = subst (λ (rest : List ℕ). ReadsOn netlist y rest y) (sym (append-nil ys)) cycle
 cycle_turned netlist (x ∷ xs) y ys cycle =
     let parts = leads_parted netlist x xs y ys x cycle in
     leads_joined netlist y ys x xs y parts.1 parts.0

@@ -13,14 +13,14 @@ Reads netlist reader source =
     (reader < length netlist.covers) × (source < length netlist.covers) × Contains (cover_at netlist reader).inputs (cover_at netlist source).output
 
 -- each cover from the first on reads the next, and the last of them reads the end
-abbrev pub Leads : PlainNetlist → (first : ℕ) → List ℕ → (end : ℕ) → Type 0
-Leads netlist first [] end = Reads netlist first end
-Leads netlist first (second ∷ rest) end = Reads netlist first second × Leads netlist second rest end
+abbrev pub ReadsOn : PlainNetlist → (first : ℕ) → List ℕ → (end : ℕ) → Type 0
+ReadsOn netlist first [] end = Reads netlist first end
+ReadsOn netlist first (second ∷ rest) end = Reads netlist first second × ReadsOn netlist second rest end
 
 -- each cover reads the next, and the last one the first
 abbrev pub IsCycle : PlainNetlist → List ℕ → Type 0
 IsCycle netlist [] = ⊥
-IsCycle netlist (first ∷ rest) = Leads netlist first rest first
+IsCycle netlist (first ∷ rest) = ReadsOn netlist first rest first
 
 -- a cycle in which no cover stands twice
 abbrev pub IsOneCycle : PlainNetlist → List ℕ → Type 0

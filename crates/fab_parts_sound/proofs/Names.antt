@@ -9,7 +9,7 @@ use Rattle.std.proofs.lemmas.List.Elements.{All-nil, All-cons, All-head, All-tai
 use Rattle.std.proofs.lemmas.Slice.Eq.{bytes_eq-Decides}
 use Rattle.fab_syntax.specs.declared.tree.Port.{Port}
 use Rattle.fab_syntax.specs.Plain.{PlainExpr, PlainJoin, PlainItem, PlainModule, constant, variable, pick, part, concatenation, complement, operation, conditional, wire, reg, assign, latch, clocked, instance}
-use Rattle.fab_syntax.specs.Sound.{Mention, net, instance_name, use_of, joined, subexpressions, own_names, uses, item_mentions, mentions_in, is_net, is_declaration, refusals}
+use Rattle.fab_syntax.specs.Sound.{Mention, net, instance_name, use_of, joined_expressions, subexpressions, own_names, uses, item_mentions, mentions_in, is_net, is_declaration, refusals}
 use Rattle.fab_tile_drives.specs.fab_meaning.proofs.Declared.{bytes_apart}
 use Rattle.fab_parts_sound.proofs.Lists.{all_flat_map, pairs_head, pairs_tail, pairs_left, pairs_right, pairs_across}
 
@@ -164,13 +164,13 @@ skipped xs ys none = instances-append xs ys ∙ ap (λ front. front ++ instance_
 no_instance_used : (e : PlainExpr) → instance_mentions (uses e) ≡ []
 no_instance_used e = no_instances (flat_map own_names (subexpressions e))
 
-no_instance_joined : (to : Option PlainExpr) → instance_mentions (flat_map uses (joined to)) ≡ []
+no_instance_joined : (to : Option PlainExpr) → instance_mentions (flat_map uses (joined_expressions to)) ≡ []
 no_instance_joined None = refl
 no_instance_joined (Some e) = instances-append (uses e) [] ∙ ap (λ front. front ++ []) (no_instance_used e)
 
-no_instance_in_joins : (joins : List PlainJoin) → instance_mentions (flat_map (λ (join : PlainJoin). flat_map uses (joined join.to)) joins) ≡ []
+no_instance_in_joins : (joins : List PlainJoin) → instance_mentions (flat_map (λ (join : PlainJoin). flat_map uses (joined_expressions join.to)) joins) ≡ []
 no_instance_in_joins [] = refl
-no_instance_in_joins (join ∷ joins) = skipped (flat_map uses (joined join.to)) _ (no_instance_joined join.to) ∙ no_instance_in_joins joins
+no_instance_in_joins (join ∷ joins) = skipped (flat_map uses (joined_expressions join.to)) _ (no_instance_joined join.to) ∙ no_instance_in_joins joins
 
 items_instances : (items : List PlainItem) → instance_mentions (flat_map item_mentions items) ≡ instance_names items
 items_instances [] = refl
@@ -182,7 +182,7 @@ items_instances (latch target gate e ∷ items) =
     ∙ items_instances items
 items_instances (clocked clock target e ∷ items) = skipped (item_mentions (clocked clock target e)) (flat_map item_mentions items) (no_instance_used e) ∙ items_instances items
 items_instances (instance module_name i joins ∷ items) =
-    ap (λ rest. i ∷ rest) (skipped (flat_map (λ (join : PlainJoin). flat_map uses (joined join.to)) joins) (flat_map item_mentions items) (no_instance_in_joins joins) ∙ items_instances items)
+    ap (λ rest. i ∷ rest) (skipped (flat_map (λ (join : PlainJoin). flat_map uses (joined_expressions join.to)) joins) (flat_map item_mentions items) (no_instance_in_joins joins) ∙ items_instances items)
 
 -- ---- together
 

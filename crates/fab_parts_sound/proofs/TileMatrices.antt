@@ -15,7 +15,7 @@ use Rattle.fab_tile_drives.specs.fab_meaning.specs.Ports.{config_name}
 use Rattle.fab_tile_drives.specs.fab_matrix.specs.Matrix.{output_value}
 use Rattle.fab_tile_drives.specs.fab_model.specs.Tiles.{PlainTile, TileWire, tile_wires, wire_name, matrix_names, is_matrix_output, wire_passes, IsPair, IsTile}
 use Rattle.fab_tile_drives.specs.fab_gen_tile.specs.Names.{matrix_module_name}
-use Rattle.fab_tile_drives.specs.fab_gen_tile.specs.TileModule.{is_on_side, side_names, matrix_inputs, matrix_outputs}
+use Rattle.fab_tile_drives.specs.fab_gen_tile.specs.TileModule.{is_on_side, side_names, matrix_input_names, matrix_output_names}
 use Rattle.fab_tile_drives.specs.fab_gen_tile.specs.MatrixModule.{numbered_outputs, named_pairs, matrix_module}
 use Rattle.fab_tile_drives.proofs.Endings.{EndsLow, low_apart, low_wires}
 use Rattle.fab_tile_drives.proofs.MatrixPorts.{side_there}
@@ -64,9 +64,9 @@ sides_differ (wire ∷ wires) apart =
       | inr input ↦ rw input (All-cons (λ w. All (NamesDiffer w) outputs) wire inputs (All-filter (is_on_side true) (NamesDiffer wire) wires from_here) rest)
     ]
 
-sides_across : (tile : PlainTile) → IsTile tile → Across (matrix_inputs tile) (matrix_outputs tile)
+sides_across : (tile : PlainTile) → IsTile tile → Across (matrix_input_names tile) (matrix_output_names tile)
 sides_across tile is_tile =
-    All-map (λ name. All (Differ name) (matrix_outputs tile)) wire_name (filter (is_on_side false) (tile_wires tile))
+    All-map (λ name. All (Differ name) (matrix_output_names tile)) wire_name (filter (is_on_side false) (tile_wires tile))
     (λ k d within. All-map (Differ (wire_name (get_or (filter (is_on_side false) (tile_wires tile)) k d))) wire_name (filter (is_on_side true) (tile_wires tile))
     (sides_differ (tile_wires tile) (wires_apart (tile_wires tile) is_tile.apart) k d within))
 
@@ -83,7 +83,7 @@ outputs_from n (wire ∷ wires) =
       | inr input ↦ rw input (outputs_from (n + 1) wires)
     ]
 
-pub outputs_named : (tile : PlainTile) → map (λ (output : ℕ × List ℕ). output.1) (numbered_outputs tile) ≡ matrix_outputs tile
+pub outputs_named : (tile : PlainTile) → map (λ (output : ℕ × List ℕ). output.1) (numbered_outputs tile) ≡ matrix_output_names tile
 outputs_named tile = outputs_from 0 (tile_wires tile)
 
 -- ---- no name is that of the select bits
@@ -101,11 +101,11 @@ config_apart zero = pairs_none Differ
 config_apart (suc n) = AllPairs-cons Differ config_name [] (All-nil (Differ config_name)) (pairs_none Differ)
 
 -- the names of all ports are apart
-pub matrix_apart : (tile : PlainTile) → IsTile tile → AreApart (matrix_nets nat_eq (matrix_inputs tile) (numbered_outputs tile) (named_pairs tile))
+pub matrix_apart : (tile : PlainTile) → IsTile tile → AreApart (matrix_nets nat_eq (matrix_input_names tile) (numbered_outputs tile) (named_pairs tile))
 matrix_apart tile is_tile =
     let bits = select_bits nat_eq (named_pairs tile) in
-    let inputs = matrix_inputs tile in
-    let outputs = matrix_outputs tile in
+    let inputs = matrix_input_names tile in
+    let outputs = matrix_output_names tile in
     let config : List (List ℕ) = config_names bits in
     let inputs_config : Across inputs config =
     λ k d within. all_config_names (Differ (get_or inputs k d)) bits (low_apart (get_or inputs k d) config_name (side_low false tile k d within) refl) in
@@ -130,22 +130,22 @@ passes_there test tile number passes =
       | inr none ↦ (let fails : false ≡ true = rw none at passes in absurd (false≢true fails))
     ]
 
-input_named : (tile : PlainTile) (pair : Pair) → IsPair tile pair → Contains (matrix_inputs tile) (get_or (matrix_names tile) pair.input [])
+input_named : (tile : PlainTile) (pair : Pair) → IsPair tile pair → Contains (matrix_input_names tile) (get_or (matrix_names tile) pair.input [])
 input_named tile pair is_pair =
     let found = passes_there (λ wire. not (is_matrix_output wire)) tile pair.input is_pair.input in
     let at : slice_get (matrix_names tile) pair.input ≡ Some (wire_name found.0) = slice_get-map wire_name (tile_wires tile) pair.input ∙ ap (option_map wire_name) found.1 in
-    subst (Contains (matrix_inputs tile)) (sym (get_or_from_slice_get (matrix_names tile) pair.input (wire_name found.0) [] at)) (side_there false tile pair.input found.0 found.1 found.2)
+    subst (Contains (matrix_input_names tile)) (sym (get_or_from_slice_get (matrix_names tile) pair.input (wire_name found.0) [] at)) (side_there false tile pair.input found.0 found.1 found.2)
 
-pairs_known : (tile : PlainTile) → IsTile tile → All (λ pair. Contains (matrix_inputs tile) pair.1) (named_pairs tile)
+pairs_known : (tile : PlainTile) → IsTile tile → All (λ pair. Contains (matrix_input_names tile) pair.1) (named_pairs tile)
 pairs_known tile is_tile =
-    All-map (λ (pair : ℕ × List ℕ). Contains (matrix_inputs tile) pair.1) (λ (pair : Pair). (pair.output, get_or (matrix_names tile) pair.input [])) tile.pairs
-    (All-weaker (IsPair tile) (λ pair. Contains (matrix_inputs tile) (get_or (matrix_names tile) pair.input [])) (input_named tile) tile.pairs is_tile.pairs)
+    All-map (λ (pair : ℕ × List ℕ). Contains (matrix_input_names tile) pair.1) (λ (pair : Pair). (pair.output, get_or (matrix_names tile) pair.input [])) tile.pairs
+    (All-weaker (IsPair tile) (λ pair. Contains (matrix_input_names tile) (get_or (matrix_names tile) pair.input [])) (input_named tile) tile.pairs is_tile.pairs)
 
 -- ---- together
 
 pub tile_matrix_fits : (text before : List PlainModule) (tile : PlainTile) → IsTile tile → FitsIn text before (matrix_module tile)
 tile_matrix_fits text before tile is_tile =
-    matrix_fits nat_eq Decides-eqb (matrix_module_name tile) (matrix_inputs tile) (numbered_outputs tile) (named_pairs tile) (matrix_apart tile is_tile) (pairs_known tile is_tile) text before
+    matrix_fits nat_eq Decides-eqb (matrix_module_name tile) (matrix_input_names tile) (numbered_outputs tile) (named_pairs tile) (matrix_apart tile is_tile) (pairs_known tile is_tile) text before
 
 -- it has no clocks
 pub tile_matrix_clocks : (text : List PlainModule) (tile : PlainTile) (port : List ℕ) → ServesAsClock text (matrix_module tile) port → ⊥

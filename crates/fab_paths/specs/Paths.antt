@@ -60,13 +60,13 @@ abbrev pub behind_slash : List ℕ → List ℕ
 behind_slash segment = 47 ∷ segment
 
 -- with a slash between each two
-abbrev pub joined : List (List ℕ) → List ℕ
-joined [] = []
-joined (first ∷ more) = first ++ flat_map behind_slash more
+abbrev pub slashed : List (List ℕ) → List ℕ
+slashed [] = []
+slashed (first ∷ more) = first ++ flat_map behind_slash more
 
 -- A path from the root is used as it is; any other leads on from the directory of the file that holds it.
 unfoldable pub resolved : (holder path : List ℕ) → List ℕ
-resolved holder path = if begins_at_root path then path else joined (tidied (tidied [] (directory holder)) (segments path))
+resolved holder path = if begins_at_root path then path else slashed (tidied (tidied [] (directory holder)) (segments path))
 
 -- the name of a file is text, and not empty
 unfoldable pub is_file_name : List ℕ → Bool

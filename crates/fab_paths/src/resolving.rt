@@ -2,7 +2,7 @@
 
 ghost use Rattle.std.specs.Prelude.{◌≡◌, ◌&&◌, codes, IfOk, IfSome, OnOk, map};
 ghost use Rattle.std.specs.Str.{bytes_eq, IsUtf8, is_utf8};
-ghost use Rattle.fab_paths.specs.Paths.{ends_upward, file_of, has_removable, is_file_name, is_root, joined, resolved, segments, tidied};
+ghost use Rattle.fab_paths.specs.Paths.{ends_upward, file_of, has_removable, is_file_name, is_root, slashed, resolved, segments, tidied};
 
 use fab_base::{Memory, Name};
 use std::alloc::Global;
@@ -65,8 +65,8 @@ fn tidy<'a>(kept: &mut Vec<&'a [u8]>, more: &[&'a [u8]]) -> Result<(), Memory>
     Ok(())
 }
 
-fn joined(alloc: Global, segments: &[&[u8]]) -> Result<Vec<u8>, Memory>
-    ensures { IfOk result (λ path. path.items ≡ joined (map (λ s. s.now) segments.now)) }
+fn slashed(alloc: Global, segments: &[&[u8]]) -> Result<Vec<u8>, Memory>
+    ensures { IfOk result (λ path. path.items ≡ slashed (map (λ s. s.now) segments.now)) }
 {
     let mut path = Vec::new(alloc);
     let [first, more @ ..] = segments else {
@@ -92,7 +92,7 @@ fn resolved(alloc: Global, holder: &[u8], path: &[u8]) -> Result<Vec<u8>, Memory
     let mut kept = Vec::new(alloc);
     tidy(&mut kept, directory)?;
     tidy(&mut kept, &segments(alloc, path)?)?;
-    joined(alloc, &kept)
+    slashed(alloc, &kept)
 }
 
 fn is_text(name: &[u8]) -> bool

@@ -30,7 +30,7 @@ use Rattle.fab_fabric.specs.Fabric.{IsFabric, AreTiles}
 use Rattle.fab_prim.specs.Modules.{module_name, module_of_kind}
 use Rattle.fab_use.specs.fab_gen_tile.specs.Names.{config_instance_name, matrix_module_name, matrix_instance_name, bel_instance_name, bits_name, frame_data_name, frame_strobe_name, latch_name, same_join}
 use Rattle.fab_use.specs.fab_gen_tile.specs.ConfigModule.{config_module}
-use Rattle.fab_use.specs.fab_gen_tile.specs.TileModule.{bits_join, bel_joins, matrix_inputs, matrix_outputs, matrix_joins, tile_module}
+use Rattle.fab_use.specs.fab_gen_tile.specs.TileModule.{bits_join, bel_joins, matrix_input_names, matrix_output_names, matrix_joins, tile_module}
 use Rattle.fab_use.specs.fab_gen_tile.specs.MatrixModule.{named_pairs, matrix_module}
 use Rattle.fab_use.specs.fab_gen_loader.specs.Loader as loaders
 use Rattle.fab_use.specs.fab_gen_loader.specs.Loader.{NextValues, loader_of, registers, processes, outputs, loader_ports, strobe_register_name}
@@ -107,7 +107,7 @@ some_pairs : (pairs : List Pair) → 0 < select_bits nat_eq (map pair_numbers pa
 some_pairs [] some = absurd (omega arith)
 some_pairs (pair ∷ pairs) some = omega arith
 
-pub selects_outputs : (tile : PlainTile) → IsTile tile → 0 < select_bits nat_eq (numbered_pairs tile) → 0 < length (matrix_outputs tile)
+pub selects_outputs : (tile : PlainTile) → IsTile tile → 0 < select_bits nat_eq (numbered_pairs tile) → 0 < length (matrix_output_names tile)
 selects_outputs tile is some =
     let few = some_pairs tile.pairs some in
     let first = get_or tile.pairs 0 (record { output = 0; input = 0 }) in
@@ -248,8 +248,8 @@ module _ (fabric : PlainFabric) (text : List PlainModule) (is : IsFabric fabric)
             loads fabric next text has x y tile there (matrix_path path) config_name bit
             (instance_loads fabric next text has x y tile there (omega arith) inner (matrix_module_name tile) matrix_instance_name (matrix_joins tile) here (stands.matrix_is outputs)
             (matrix_there tile outputs) (bits_input tile (omega arith)) (bel_bits tile) count
-            (λ join among. Contains-append_right (map same_join (matrix_inputs tile)) (bits_join (bel_bits tile) count ++ map same_join (matrix_outputs tile)) join
-            (Contains-append_left (bits_join (bel_bits tile) count) (map same_join (matrix_outputs tile)) join among)) some)
+            (λ join among. Contains-append_right (map same_join (matrix_input_names tile)) (bits_join (bel_bits tile) count ++ map same_join (matrix_output_names tile)) join
+            (Contains-append_left (bits_join (bel_bits tile) count) (map same_join (matrix_output_names tile)) join among)) some)
             (declared_at text (matrix_path path) inner config_name bit here (omega arith))
 
     module _ (number : ℕ) (bel : Bel) (at : slice_get tile.bels number ≡ Some bel) where

@@ -27,7 +27,7 @@ use Rattle.fab_use.specs.fab_legal.specs.Nets.{Net, zero_net, one_net}
 use Rattle.fab_use.specs.fab_legal.specs.Sinks.{Required, input_released, output_driven}
 use Rattle.fab_use.specs.fab_legal.specs.Steps.{pin_wire}
 use Rattle.fab_use.specs.fab_legal.specs.Legal.{IsLegal}
-use Rattle.fab_use.specs.fab_gen_tile.specs.TileModule.{matrix_outputs}
+use Rattle.fab_use.specs.fab_gen_tile.specs.TileModule.{matrix_output_names}
 use Rattle.fab_use.specs.fab_tile_drives.specs.Stands.{matrix_path, name_of, wire_point}
 use Rattle.fab_use.specs.fab_drives.specs.Points.{place_path, IsOnWay, end_bit, wire_between, begin_bit, before}
 use Rattle.fab_use.specs.Design as design
@@ -128,7 +128,7 @@ module _ (fabric : PlainFabric) (packed : PlainPacked) (fixed : List Pad) (imple
       let bel = site_bel fabric c.site kinds.Io tile (in_kind fabric packed fixed implementation legal c.port c.site c.listed) (at_site x y c.site tile c.x_is c.y_is there) in
       absurd (pin_no_output tile c.site.bel 2 bel.found bel.there (ap (λ kind. nat_lt 2 (input_count kind)) bel.kind_is) (subst (IsMatrixOutput tile) c.plain_is output))
 
-  port_sourced : (x y : ℕ) (tile : PlainTile) (plain : PlainWire) → Tree x y tile plain → 0 < length (matrix_outputs tile) → Sourced (point (matrix_path (place_path x y)) (name_of tile plain) 0)
+  port_sourced : (x y : ℕ) (tile : PlainTile) (plain : PlainWire) → Tree x y tile plain → 0 < length (matrix_output_names tile) → Sourced (point (matrix_path (place_path x y)) (name_of tile plain) 0)
   port_sourced x y tile plain tree some =
       elim (cases_Bool (option_map_or is_matrix_output (wire_of tile plain) false)) [
         | inl output ↦ (

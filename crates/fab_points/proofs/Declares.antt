@@ -32,7 +32,7 @@ use Rattle.fab_prim.specs.Modules.{flip_flop_name, module_of_kind}
 use Rattle.fab_use.specs.fab_gen_tile.specs.Names.{begin_name, end_name, pad_name, vector, matrix_instance_name}
 use Rattle.fab_use.specs.fab_gen_tile.specs.Borders.{border_ports}
 use Rattle.fab_use.specs.fab_gen_tile.specs.ConfigModule.{frame_ports}
-use Rattle.fab_use.specs.fab_gen_tile.specs.TileModule.{is_on_side, pad_ports, bels_ports, tile_ports, tile_items, tile_module, matrix_inputs, matrix_outputs}
+use Rattle.fab_use.specs.fab_gen_tile.specs.TileModule.{is_on_side, pad_ports, bels_ports, tile_ports, tile_items, tile_module, matrix_input_names, matrix_output_names}
 use Rattle.fab_use.specs.fab_gen_tile.specs.MatrixModule.{matrix_module, numbered_outputs}
 use Rattle.fab_meaning.specs.Loading.{write_strobe_name, write_data_name}
 use Rattle.fab_use.specs.fab_fabric_text.specs.Names.{pad_port_name, begin_wire_name, loader_clock_name}
@@ -143,7 +143,7 @@ module _ (fabric : PlainFabric) (text : List PlainModule) (packed : PlainPacked)
   wire_declared x y tile plain there exists =
       declared_at text (place_path x y) (tile_module tile) (name_of tile plain) 0 (has.stands x y tile there).tile_is (name_wide tile (name_of tile plain) (name_there tile plain exists))
 
-  port_declared : (x y : ℕ) (tile : PlainTile) (plain : PlainWire) → tile_at fabric x y ≡ Some tile → IsWire tile plain → 0 < length (matrix_outputs tile) →
+  port_declared : (x y : ℕ) (tile : PlainTile) (plain : PlainWire) → tile_at fabric x y ≡ Some tile → IsWire tile plain → 0 < length (matrix_output_names tile) →
       Is (point (matrix_path (place_path x y)) (name_of tile plain) 0)
   port_declared x y tile plain there exists some =
       let stands = has.stands x y tile there in
@@ -157,7 +157,7 @@ module _ (fabric : PlainFabric) (text : List PlainModule) (packed : PlainPacked)
         | inr input ↦ (
             let side : is_on_side false at.found ≡ true = rw input refl in
             let one : width_of inner (name_of tile plain) ≡ 1 =
-            first_width (matrix_inputs tile) _ inner.items (name_of tile plain) (subst (Contains (matrix_inputs tile)) (sym name_is) (side_there false tile place at.found at.there side)) in
+            first_width (matrix_input_names tile) _ inner.items (name_of tile plain) (subst (Contains (matrix_input_names tile)) (sym name_is) (side_there false tile place at.found at.there side)) in
             omega arith)
       ])
 

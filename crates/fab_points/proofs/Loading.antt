@@ -16,9 +16,9 @@ use Rattle.fab_model.specs.declared.tiles.Bel.{Bel}
 use Rattle.fab_model.specs.Tiles.{PlainTile, matrix_names, numbered_pairs, bel_bits, tile_bits, bits_before}
 use Rattle.fab_model.specs.Grid.{PlainFabric, tile_at}
 use Rattle.fab_prim.specs.Modules.{module_name, module_of_kind}
-use Rattle.fab_use.specs.fab_gen_tile.specs.Names.{config_module_name, config_instance_name, matrix_module_name, matrix_instance_name, bel_instance_name, bits_name, joined, same_join}
+use Rattle.fab_use.specs.fab_gen_tile.specs.Names.{config_module_name, config_instance_name, matrix_module_name, matrix_instance_name, bel_instance_name, bits_name, port_join, same_join}
 use Rattle.fab_use.specs.fab_gen_tile.specs.ConfigModule.{all_latches, config_module}
-use Rattle.fab_use.specs.fab_gen_tile.specs.TileModule.{config_joins, bits_join, bel_joins, matrix_inputs, matrix_outputs, matrix_joins, tile_items, tile_module}
+use Rattle.fab_use.specs.fab_gen_tile.specs.TileModule.{config_joins, bits_join, bel_joins, matrix_input_names, matrix_output_names, matrix_joins, tile_items, tile_module}
 use Rattle.fab_use.specs.fab_gen_tile.specs.MatrixModule.{named_pairs, matrix_module}
 use Rattle.fab_use.specs.fab_gen_loader.specs.Loader.{NextValues, loader_of, StepsAsTheMachine}
 use Rattle.fab_fabric.specs.Fabric.{IsFabric}
@@ -75,7 +75,7 @@ module _ (fabric : PlainFabric) (next : NextValues) (text : List PlainModule) (h
 
     -- an instance that has some of the bits
     module _ (inner : PlainModule) (module_name name : List ℕ) (joins : List PlainJoin) (here : module_at text (name ∷ path) ≡ Some inner) (named : module_named text module_name ≡ Some inner)
-        (item : Contains (tile_items tile) (instance module_name name joins)) (low last : ℕ) (among : Contains joins (joined config_name (part bits_name (low + last) low)))
+        (item : Contains (tile_items tile) (instance module_name name joins)) (low last : ℕ) (among : Contains joins (port_join config_name (part bits_name (low + last) low)))
         (input : is_input inner.ports config_name ≡ true) where
       port_drives : (bit : ℕ) → Drives text (point (name ∷ path) config_name bit) (bit_of path (part bits_name (low + last) low) bit)
       port_drives bit =
@@ -92,7 +92,7 @@ module _ (fabric : PlainFabric) (next : NextValues) (text : List PlainModule) (h
         ((join : PlainJoin) → Contains (bits_join low count) join → Contains joins join) → 0 < count → Are (name ∷ path) config_name
     instance_loads inner module_name name joins here named item input low zero among more = absurd (omega arith)
     instance_loads inner module_name name joins here named item input low (suc last) among more =
-        let join = joined config_name (part bits_name (low + last) low) in
+        let join = port_join config_name (part bits_name (low + last) low) in
         instance_within inner module_name name joins here named item low last (among join (contains_first join [])) input
 
     -- ---- values
@@ -123,7 +123,7 @@ module _ (fabric : PlainFabric) (next : NextValues) (text : List PlainModule) (h
             low + count ≤ tile_bits tile → bit < count → Are (name ∷ path) config_name × (now (point (name ∷ path) config_name bit) ≡ bits (low + bit))
         instance_value low zero bit among wide within few = absurd (omega arith)
         instance_value low (suc last) bit among wide within few =
-            let join = joined config_name (part bits_name (low + last) low) in
+            let join = port_join config_name (part bits_name (low + last) low) in
             let there_is = among join (contains_first join []) in
             let all : tile_width tile bits_name ≡ tile_bits tile = bits_wide tile some in
             let are = instance_within inner module_name name joins here named item low last there_is input in (
@@ -138,7 +138,7 @@ module _ (fabric : PlainFabric) (next : NextValues) (text : List PlainModule) (h
   -- ---- where they are used
 
   module _ (bits : ℕ → Bool) (inputs held now : Assignment) (shows : ShowsTileBits path tile bits now) (settled : IsSettledOn (IsLoading text) text inputs held now) where
-    matrix_value : (bit : ℕ) → 0 < length (matrix_outputs tile) → bit < select_bits nat_eq (numbered_pairs tile) →
+    matrix_value : (bit : ℕ) → 0 < length (matrix_output_names tile) → bit < select_bits nat_eq (numbered_pairs tile) →
         IsLoading text (point (matrix_path path) config_name bit) × (now (point (matrix_path path) config_name bit) ≡ bits (bel_bits tile + bit))
     matrix_value bit outputs few =
         let inner = matrix_module tile in
@@ -148,8 +148,8 @@ module _ (fabric : PlainFabric) (next : NextValues) (text : List PlainModule) (h
         let wide : width_of inner config_name ≡ select_bits nat_eq (named_pairs tile) = bits_width tile (omega arith) in
         let got = instance_value (omega arith) bits inputs held now shows settled inner (matrix_module_name tile) matrix_instance_name (matrix_joins tile) here (stands.matrix_is outputs)
         (matrix_there tile outputs) (bits_input tile (omega arith)) (bel_bits tile) count bit
-        (λ join among. Contains-append_right (map same_join (matrix_inputs tile)) (bits_join (bel_bits tile) count ++ map same_join (matrix_outputs tile)) join
-        (Contains-append_left (bits_join (bel_bits tile) count) (map same_join (matrix_outputs tile)) join among))
+        (λ join among. Contains-append_right (map same_join (matrix_input_names tile)) (bits_join (bel_bits tile) count ++ map same_join (matrix_output_names tile)) join
+        (Contains-append_left (bits_join (bel_bits tile) count) (map same_join (matrix_output_names tile)) join among))
         (omega arith) (omega arith) few in
         (loads (matrix_path path) config_name bit got.0 (declared_at text (matrix_path path) inner config_name bit here (omega arith)), got.1)
 

@@ -27,7 +27,7 @@ use Rattle.fab_model.specs.Drive as drive
 use Rattle.fab_model.specs.Drive.{input_at}
 use Rattle.fab_model.proofs.Wires.{wire_at_number}
 use Rattle.fab_use.specs.fab_gen_tile.specs.Names.{matrix_module_name, matrix_instance_name, same_join}
-use Rattle.fab_use.specs.fab_gen_tile.specs.TileModule.{is_on_side, matrix_inputs, matrix_outputs, bits_join, matrix_joins, tile_module}
+use Rattle.fab_use.specs.fab_gen_tile.specs.TileModule.{is_on_side, matrix_input_names, matrix_output_names, bits_join, matrix_joins, tile_module}
 use Rattle.fab_use.specs.fab_gen_tile.specs.MatrixModule.{numbered_outputs, named_pairs, matrix_module}
 use Rattle.fab_use.specs.fab_tile_drives.specs.Stands.{TileStands, matrix_path, name_of, wire_point}
 use Rattle.fab_use.specs.fab_tile_drives.specs.Tiles.{picked}
@@ -81,17 +81,17 @@ input_stands tile input passes =
     }
 
 -- the names of the inputs of all pairs are among the matrix's
-pairs_known : (tile : PlainTile) → IsTile tile → All (λ pair. Contains (matrix_inputs tile) pair.1) (named_pairs tile)
+pairs_known : (tile : PlainTile) → IsTile tile → All (λ pair. Contains (matrix_input_names tile) pair.1) (named_pairs tile)
 pairs_known tile is_tile =
-    All-map (λ (pair : ℕ × List ℕ). Contains (matrix_inputs tile) pair.1) (λ (pair : Pair). (pair.output, get_or (matrix_names tile) pair.input [])) tile.pairs
-    (All-weaker (IsPair tile) (λ (pair : Pair). Contains (matrix_inputs tile) (get_or (matrix_names tile) pair.input [])) known_pair tile.pairs is_tile.pairs)
+    All-map (λ (pair : ℕ × List ℕ). Contains (matrix_input_names tile) pair.1) (λ (pair : Pair). (pair.output, get_or (matrix_names tile) pair.input [])) tile.pairs
+    (All-weaker (IsPair tile) (λ (pair : Pair). Contains (matrix_input_names tile) (get_or (matrix_names tile) pair.input [])) known_pair tile.pairs is_tile.pairs)
   where
-    known_pair : (pair : Pair) → IsPair tile pair → Contains (matrix_inputs tile) (get_or (matrix_names tile) pair.input [])
+    known_pair : (pair : Pair) → IsPair tile pair → Contains (matrix_input_names tile) (get_or (matrix_names tile) pair.input [])
     known_pair pair is =
         let at = input_stands tile pair.input is.input in
         let name : get_or (matrix_names tile) pair.input [] ≡ wire_name at.found =
         get_or_from_slice_get (matrix_names tile) pair.input (name_of tile at.wire) [] (name_at_number tile at.wire pair.input at.stands) ∙ at.named in
-        subst (Contains (matrix_inputs tile)) (sym name) (side_there false tile pair.input at.found at.there at.side)
+        subst (Contains (matrix_input_names tile)) (sym name) (side_there false tile pair.input at.found at.there at.side)
 
 inputs_within : (P : Name → Type 0) (pairs : List (ℕ × Name)) (output : ℕ) → All (λ pair. P pair.1) pairs → All P (inputs_of nat_eq pairs output)
 inputs_within P pairs output all =
@@ -193,14 +193,14 @@ module _ (text : List PlainModule) (path : Path) (tile : PlainTile) (is_tile : I
   abbrev here : Path
   here = matrix_path path
 
-  of_module : 0 < length (matrix_outputs tile) → module_at text here ≡ Some inner
+  of_module : 0 < length (matrix_output_names tile) → module_at text here ≡ Some inner
   of_module some = inside text path tile matrix_instance_name _ inner stands.tile_is (matrix_found tile some) (stands.matrix_is some)
 
   abbrev bit_joins : List PlainJoin
   bit_joins = bits_join (bel_bits tile) (select_bits nat_eq (numbered_pairs tile))
 
   abbrev output_joins : List PlainJoin
-  output_joins = map same_join (matrix_outputs tile)
+  output_joins = map same_join (matrix_output_names tile)
 
   module _ (wire : PlainWire) (exists : IsWire tile wire) where
     abbrev place : ℕ
@@ -216,49 +216,49 @@ module _ (text : List PlainModule) (path : Path) (tile : PlainTile) (is_tile : I
     name_is = ap (λ found. option_map_or wire_name found []) at.is
 
     -- a wire that is no output shows itself at its port
-    pub input_port_shown : (IsMatrixOutput tile wire → ⊥) → 0 < length (matrix_outputs tile) → Shown text inputs held t (point here name 0) (shows (wire_point path tile wire))
+    pub input_port_shown : (IsMatrixOutput tile wire → ⊥) → 0 < length (matrix_output_names tile) → Shown text inputs held t (point here name 0) (shows (wire_point path tile wire))
     input_port_shown no_output some =
         let side : is_on_side false at.found ≡ true = elim (cases_Bool (is_matrix_output at.found)) [
           | inl is ↦ absurd (no_output (ap (λ found. option_map_or is_matrix_output found false) at.is ∙ is))
           | inr is_none ↦ rw is_none refl
         ] in
-        let there : Contains (matrix_inputs tile) name = subst (Contains (matrix_inputs tile)) (sym name_is) (side_there false tile place at.found at.there side) in
+        let there : Contains (matrix_input_names tile) name = subst (Contains (matrix_input_names tile)) (sym name_is) (side_there false tile place at.found at.there side) in
         shown_in text inputs held t path (tile_module tile) stands.tile_is inner (matrix_module_name tile) matrix_instance_name (matrix_joins tile)
         (stands.matrix_is some) (matrix_there tile some) name name
-        (Contains-append_left (map same_join (matrix_inputs tile)) (bit_joins ++ output_joins) (same_join name) (contains_map same_join (matrix_inputs tile) name there))
-        (first_input (matrix_inputs tile) _ name there) (name_wide tile name (name_there tile wire exists))
+        (Contains-append_left (map same_join (matrix_input_names tile)) (bit_joins ++ output_joins) (same_join name) (contains_map same_join (matrix_input_names tile) name there))
+        (first_input (matrix_input_names tile) _ name there) (name_wide tile name (name_there tile wire exists))
 
     module _ (output : IsMatrixOutput tile wire) where
       is_output : is_matrix_output at.found ≡ true
       is_output = sym (ap (λ found. option_map_or is_matrix_output found false) at.is) ∙ output
 
-      named_output : Contains (matrix_outputs tile) name
-      named_output = subst (Contains (matrix_outputs tile)) (sym name_is) (side_there true tile place at.found at.there is_output)
+      named_output : Contains (matrix_output_names tile) name
+      named_output = subst (Contains (matrix_output_names tile)) (sym name_is) (side_there true tile place at.found at.there is_output)
 
       numbered_output : Contains (numbered_outputs tile) (place, name)
       numbered_output = subst (λ n. Contains (numbered_outputs tile) (place, n)) (sym name_is) (output_there tile place at.found at.there is_output)
 
-      pub some : 0 < length (matrix_outputs tile)
-      some = (let within : named_output.0 < length (matrix_outputs tile) = named_output.1 in omega arith)
+      pub some : 0 < length (matrix_output_names tile)
+      some = (let within : named_output.0 < length (matrix_output_names tile) = named_output.1 in omega arith)
 
       -- the wire shows the port
       pub output_wire_shown : Shown text inputs held t (wire_point path tile wire) (shows (point here name 0))
       output_wire_shown =
-          let apart = subst (λ n. All (λ input. input ≢ n) (matrix_inputs tile)) (sym name_is) (sides_apart tile is_tile place at.found at.there is_output) in
+          let apart = subst (λ n. All (λ input. input ≢ n) (matrix_input_names tile)) (sym name_is) (sides_apart tile is_tile place at.found at.there is_output) in
           let wire_low : EndsLow (wire_name at.found) =
           All-contains (λ w. EndsLow (wire_name w)) (tile_wires tile) at.found (low_wires tile) (contains_at (tile_wires tile) place at.found at.there) in
           let low : EndsLow name = subst EndsLow (sym name_is) wire_low in
           shown_out text inputs held t path (tile_module tile) stands.tile_is inner (matrix_module_name tile) matrix_instance_name (matrix_joins tile)
           (stands.matrix_is some) (matrix_there tile some) name name
-          (Contains-append_right (map same_join (matrix_inputs tile)) (bit_joins ++ output_joins) (same_join name)
-          (Contains-append_right bit_joins output_joins (same_join name) (contains_map same_join (matrix_outputs tile) name named_output)))
+          (Contains-append_right (map same_join (matrix_input_names tile)) (bit_joins ++ output_joins) (same_join name)
+          (Contains-append_right bit_joins output_joins (same_join name) (contains_map same_join (matrix_output_names tile) name named_output)))
           (output_is_output tile name low apart)
 
       -- ---- the port
 
-      input_tern : (input : Name) → Contains (matrix_inputs tile) input → tern_at (tern_names text t here input) 0 ≡ t (point here input 0)
+      input_tern : (input : Name) → Contains (matrix_input_names tile) input → tern_at (tern_names text t here input) 0 ≡ t (point here input 0)
       input_tern input there =
-          let one : width_of inner input ≡ 1 = first_width (matrix_inputs tile) _ inner.items input there in
+          let one : width_of inner input ≡ 1 = first_width (matrix_input_names tile) _ inner.items input there in
           variable_tern text t here inner (of_module some) input 0 (omega arith)
 
       module _ (bits : ℕ → Bool) (knows : KnowsTile path tile bits t) where
@@ -286,7 +286,7 @@ module _ (text : List PlainModule) (path : Path) (tile : PlainTile) (is_tile : I
             ∙ ap (λ n. first_terns n (λ bit. t (point here config_name bit))) wide_is
             ∙ first_terns_known (select_bits nat_eq pairs) (λ bit. t (point here config_name bit)) (λ bit. bits (bel_bits tile + bit)) (λ bit few. knows.selects bit some (omega arith))
 
-        picks : (among : List Name) → inputs_of nat_eq pairs place ≡ among → All (Contains (matrix_inputs tile)) among →
+        picks : (among : List Name) → inputs_of nat_eq pairs place ≡ among → All (Contains (matrix_input_names tile)) among →
             tern_at (tern_value (tern_names text t here) (selection low width among)) 0 ≡ chosen_tern (λ input. t (point here input 0)) among select
         picks [] are all = refl
         picks (first ∷ []) are all = input_tern first (all 0 first (omega arith)) ∙ ap (λ input. t (point here input 0)) (one_only first select)
@@ -301,7 +301,7 @@ module _ (text : List PlainModule) (path : Path) (tile : PlainTile) (is_tile : I
             (chain_picks chosen_bits (tern_names text t here) (configured (omega arith)) low width 1 first (second ∷ more) (ap length shown ∙ length_first_bits width _) (omega arith)
             ∙ ap (λ bs. tern_names text t here (at_from 1 (number bs) first (second ∷ more))) shown
             ∙ ap (tern_names text t here) (from_one select first (second ∷ more)))
-            ∙ input_tern (get_or (first ∷ second ∷ more) select first) (got (Contains (matrix_inputs tile)) first (second ∷ more) select all)
+            ∙ input_tern (get_or (first ∷ second ∷ more) select first) (got (Contains (matrix_input_names tile)) first (second ∷ more) select all)
 
         select_is : select ≡ drive.select_value tile bits place
         select_is =
@@ -320,7 +320,7 @@ module _ (text : List PlainModule) (path : Path) (tile : PlainTile) (is_tile : I
             get_or_from_slice_get (matrix_names tile) found.0 (name_of tile input) [] (name_at_number tile input found.0 found.2) in
             shown_assigned text inputs held t here inner (of_module some) name (output_value nat_eq pairs place) 0 (shows (point here (name_of tile input) 0))
             (contains_map item_for (numbered_outputs tile) (place, name) numbered_output)
-            (picks (inputs_of nat_eq pairs place) refl (inputs_within (Contains (matrix_inputs tile)) pairs place (pairs_known tile is_tile))
+            (picks (inputs_of nat_eq pairs place) refl (inputs_within (Contains (matrix_input_names tile)) pairs place (pairs_known tile is_tile))
             ∙ (λ j. chosen_tern (λ input. t (point here input 0)) (inputs_same (matrix_names tile) tile.pairs place j) (select_is j))
             ∙ chosen_named name_input (λ input. t (point here input 0)) (drive.matrix_inputs tile place) (drive.select_value tile bits place)
             ∙ ap (λ o. option_map_or (λ k. t (point here (name_input k) 0)) o no) found.1

@@ -20,7 +20,7 @@ use Rattle.fab_model.specs.Tiles.{PlainTile, counted}
 use Rattle.fab_model.specs.Grid.{PlainFabric, tile_at}
 use Rattle.fab_fabric.specs.Names.{place_name}
 use Rattle.fab_fabric.specs.Fabric.{IsFabric, AreTiles}
-use Rattle.fab_use.specs.fab_gen_tile.specs.Names.{tile_module_name, frame_data_name, frame_strobe_name, vector, begin_name, end_name, pad_name, joined, same_join}
+use Rattle.fab_use.specs.fab_gen_tile.specs.Names.{tile_module_name, frame_data_name, frame_strobe_name, vector, begin_name, end_name, pad_name, port_join, same_join}
 use Rattle.fab_use.specs.fab_gen_tile.specs.Borders.{side_border, border_ports}
 use Rattle.fab_use.specs.fab_gen_tile.specs.ConfigModule.{frame_ports}
 use Rattle.fab_use.specs.fab_gen_tile.specs.TileModule.{pad_ports, bels_ports, tile_ports, tile_module}
@@ -121,12 +121,12 @@ which_outside kinds.Mux8 port there = absurd (let few = there.1 in omega (arith,
 -- ---- the top
 
 pub outside_is_joined : (fabric : PlainFabric) (placed : PlacedTile) (number : ℕ) (bel : Bel) (port : List ℕ) → slice_get placed.tile.bels number ≡ Some bel → Contains (top_outputs bel.kind) port →
-    Contains (tile_joins fabric placed) (joined (pad_name number port) (variable (pad_port_name placed.x placed.y number port)))
+    Contains (tile_joins fabric placed) (port_join (pad_name number port) (variable (pad_port_name placed.x placed.y number port)))
 outside_is_joined fabric placed number bel port stands is_pad =
-    let front = same_join user_clock_name ∷ joined frame_data_name (variable (row_name placed.y)) ∷ joined frame_strobe_name (variable (column_strobe_name placed.x)) ∷ [] in
+    let front = same_join user_clock_name ∷ port_join frame_data_name (variable (row_name placed.y)) ∷ port_join frame_strobe_name (variable (column_strobe_name placed.x)) ∷ [] in
     let borders = flat_map (row_joins fabric placed) (enumerate_from 0 placed.tile.rows) in
     let pads = flat_map (pad_joins placed.x placed.y) (enumerate_from 0 placed.tile.bels) in
-    let pad_join = λ (port : List ℕ). joined (pad_name number port) (variable (pad_port_name placed.x placed.y number port)) in
+    let pad_join = λ (port : List ℕ). port_join (pad_name number port) (variable (pad_port_name placed.x placed.y number port)) in
     let join = pad_join port in
     let numbered : ℕ × Bel = (number, bel) in
     Contains-append_right front (borders ++ pads) join

@@ -25,7 +25,7 @@ use Rattle.fab_use.specs.fab_legal.specs.Turns.{AreRight}
 use Rattle.fab_use.specs.fab_legal.specs.Lines.{IsRightLine, IsCell, IsInput, IsOutput}
 use Rattle.fab_use.specs.fab_legal.specs.Nets.{net_of, left_wires, entered_wires}
 use Rattle.fab_use.specs.fab_legal.specs.Legal.{IsLegal}
-use Rattle.fab_use.specs.fab_gen_tile.specs.TileModule.{matrix_outputs}
+use Rattle.fab_use.specs.fab_gen_tile.specs.TileModule.{matrix_output_names}
 use Rattle.fab_use.specs.fab_tile_drives.proofs.Members.{contains_map}
 use Rattle.fab_use.specs.fab_tile_drives.proofs.WireNames.{at_number}
 use Rattle.fab_use.specs.fab_tile_drives.proofs.MatrixPorts.{side_there}
@@ -47,11 +47,11 @@ pub dest_few : (tile : PlainTile) (row bit : ℕ) (found : WireRow) → IsWire t
 dest_few tile row bit found exists there = subst (λ o. bit < option_map_or dest_bits o 0) there exists
 
 -- a matrix output is among its tile's
-pub outputs_there : (tile : PlainTile) (plain : PlainWire) → IsWire tile plain → IsMatrixOutput tile plain → 0 < length (matrix_outputs tile)
+pub outputs_there : (tile : PlainTile) (plain : PlainWire) → IsWire tile plain → IsMatrixOutput tile plain → 0 < length (matrix_output_names tile)
 outputs_there tile plain exists output =
     let at = at_number tile plain (wire_number tile plain) (wire_at_number tile plain exists) in
     let is_output : is_matrix_output at.found ≡ true = sym (ap (λ found. option_map_or is_matrix_output found false) at.is) ∙ output in
-    let there : Contains (matrix_outputs tile) (wire_name at.found) = side_there true tile (wire_number tile plain) at.found at.there is_output in
+    let there : Contains (matrix_output_names tile) (wire_name at.found) = side_there true tile (wire_number tile plain) at.found at.there is_output in
     let few = there.1 in
     omega (arith, few)
 

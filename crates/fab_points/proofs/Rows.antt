@@ -30,7 +30,7 @@ use Rattle.fab_use.specs.fab_legal.proofs.Lists.{same_at}
 use Rattle.fab_use.specs.fab_legal.proofs.Members.{from_mapped}
 use Rattle.fab_use.specs.fab_legal.proofs.Once.{known_thing}
 use Rattle.fab_prim.specs.Modules.{flip_flop_name}
-use Rattle.fab_use.specs.fab_gen_tile.specs.TileModule.{matrix_outputs}
+use Rattle.fab_use.specs.fab_gen_tile.specs.TileModule.{matrix_output_names}
 use Rattle.fab_use.specs.fab_tile_drives.specs.Stands.{matrix_path, name_of, wire_point}
 use Rattle.fab_use.specs.fab_tile_drives.proofs.BorderBits.{passing_within}
 use Rattle.fab_use.specs.fab_drives.specs.Points.{place_path, IsOnWay, end_bit, wire_between, begin_bit, before}
@@ -204,7 +204,7 @@ module _ (fabric : PlainFabric) (packed : PlainPacked) (implementation : PlainIm
     AtTile w p = (a : At w) × (p ≡ wire_point (place_path a.x a.y) a.tile a.plain)
 
     abbrev AtMatrix : Wire → Point → Type 0
-    AtMatrix w p = (a : At w) × (0 < length (matrix_outputs a.tile)) × (p ≡ point (matrix_path (place_path a.x a.y)) (name_of a.tile a.plain) 0)
+    AtMatrix w p = (a : At w) × (0 < length (matrix_output_names a.tile)) × (p ≡ point (matrix_path (place_path a.x a.y)) (name_of a.tile a.plain) 0)
 
     abbrev AtWay : Wire → Point → Type 0
     AtWay w p =
@@ -224,10 +224,10 @@ module _ (fabric : PlainFabric) (packed : PlainPacked) (implementation : PlainIm
     matrix_rows : (w : Wire) → At w → Tabled (AtMatrix w)
     matrix_rows w b =
         let q = point (matrix_path (place_path b.x b.y)) (name_of b.tile b.plain) 0 in
-        elim (cases_lt 0 (length (matrix_outputs b.tile))) [
+        elim (cases_lt 0 (length (matrix_output_names b.tile))) [
           | inl some ↦ one_row (AtMatrix w) q (routed q (design.in_matrix b.tree some))
               (λ p is. (let g = one_at w is.0 b in is.2 ∙ (λ j. point (matrix_path (place_path (g.0 j) (g.1 j))) (name_of (g.3 j) (g.2 j)) 0)))
-          | inr none ↦ no_rows (AtMatrix w) (λ p is. (let g = one_at w is.0 b in let some : 0 < length (matrix_outputs b.tile) = subst (λ tile. 0 < length (matrix_outputs tile)) g.3 is.1 in omega arith))
+          | inr none ↦ no_rows (AtMatrix w) (λ p is. (let g = one_at w is.0 b in let some : 0 < length (matrix_output_names b.tile) = subst (λ tile. 0 < length (matrix_output_names tile)) g.3 is.1 in omega arith))
         ]
 
     dest_same : {a c n m : ℕ} → dest_of a n ≡ dest_of c m → (a ≡ c) × (n ≡ m)

@@ -4,7 +4,7 @@ use Rattle.fab_syntax.specs.Plain.{PlainExpr, variable, PlainJoin, assign, insta
 use Rattle.fab_syntax.specs.Declarations.{module_named, width_in, is_input}
 use Rattle.fab_meaning.specs.Points.{Path, point, bit_of, copy, module_at}
 use Rattle.fab_meaning.specs.Settled.{Assignment}
-use Rattle.fab_use.specs.fab_gen_tile.specs.Names.{joined}
+use Rattle.fab_use.specs.fab_gen_tile.specs.Names.{port_join}
 use Rattle.fab_use.specs.fab_tile_drives.proofs.Driven.{width_of}
 use Rattle.fab_use.specs.fab_text_loads.proofs.Drivers.{assigned_by, joined_to, joined_from}
 use Rattle.fab_tern.specs.Operators.{tern_at}
@@ -37,7 +37,7 @@ module _ (text : List PlainModule) (inputs held : Assignment) (t : Terns) (path 
   module _ (inner : PlainModule) (module_name i : List ℕ) (joins : List PlainJoin) (named : module_named text module_name ≡ Some inner)
       (there : Contains m.items (instance module_name i joins)) where
     -- an input port, from the name that is joined to it
-    pub shown_in : (port name : List ℕ) → Contains joins (joined port (variable name)) → is_input inner.ports port ≡ true → 0 < width_of m name →
+    pub shown_in : (port name : List ℕ) → Contains joins (port_join port (variable name)) → is_input inner.ports port ≡ true → 0 < width_of m name →
         Shown text inputs held t (point (i ∷ path) port 0) (shows (point path name 0))
     shown_in port name among input wide = record {
       driver = bit_of path (variable name) 0;
@@ -46,7 +46,7 @@ module _ (text : List PlainModule) (inputs held : Assignment) (t : Terns) (path 
     }
 
     -- a name, from the output port to which it is joined
-    pub shown_out : (port name : List ℕ) → Contains joins (joined port (variable name)) → is_input inner.ports port ≡ false →
+    pub shown_out : (port name : List ℕ) → Contains joins (port_join port (variable name)) → is_input inner.ports port ≡ false →
         Shown text inputs held t (point path name 0) (shows (point (i ∷ path) port 0))
     shown_out port name among output = record {
       driver = copy (point (i ∷ path) port 0);

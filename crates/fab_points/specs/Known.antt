@@ -10,14 +10,14 @@ use Rattle.fab_model.specs.Tiles.{PlainTile, numbered_pairs, bel_bits, bits_befo
 use Rattle.fab_model.specs.Grid.{PlainFabric, tile_at}
 use Rattle.fab_model.specs.Drive.{PlainBits}
 use Rattle.fab_meaning.specs.Ports.{config_name}
-use Rattle.fab_use.specs.fab_gen_tile.specs.TileModule.{matrix_outputs}
+use Rattle.fab_use.specs.fab_gen_tile.specs.TileModule.{matrix_output_names}
 use Rattle.fab_use.specs.fab_tile_drives.specs.Stands.{matrix_path, bel_path}
 use Rattle.fab_use.specs.fab_drives.specs.Points.{place_path}
 use Rattle.fab_tern.specs.Shown.{Terns}
 
 -- In a tile: the select bits of the switch matrix, the configuration bits of BELs, and the tables of LUTs.
 pub record KnowsTile (path : Path) (tile : PlainTile) (bits : ℕ → Bool) (t : Terns) : Type 0 where
-  pub selects : (bit : ℕ) → 0 < length (matrix_outputs tile) → bit < select_bits nat_eq (numbered_pairs tile) → t (point (matrix_path path) config_name bit) ≡ known (bits (bel_bits tile + bit))
+  pub selects : (bit : ℕ) → 0 < length (matrix_output_names tile) → bit < select_bits nat_eq (numbered_pairs tile) → t (point (matrix_path path) config_name bit) ≡ known (bits (bel_bits tile + bit))
   pub bels : (bel bit : ℕ) (found : Bel) → slice_get tile.bels bel ≡ Some found → bit < bit_count found.kind →
       t (point (bel_path path bel) config_name bit) ≡ known (bits (bits_before tile.bels bel + bit))
   pub tables : (bel bit : ℕ) (found : Bel) → slice_get tile.bels bel ≡ Some found → found.kind ≡ kinds.Lut4c → bit < 16 →

@@ -9,7 +9,7 @@ use Rattle.fab_meaning.specs.Settled.{Assignment, names_at, IsSettledOn}
 use Rattle.fab_meaning.specs.Runs.{user_clock_name}
 use Rattle.fab_meaning.proofs.Declared.{bits_of_name}
 use Rattle.fab_prim.specs.Modules.{flip_flop_name, flip_flop}
-use Rattle.fab_prim.specs.Works.{IsOwnPoint, Takes}
+use Rattle.fab_prim.specs.Works.{IsOwnPoint, FlipFlopTakes}
 
 -- a bit of one of two names
 pub one_if : (test first second : Bool) → bit_at (if test then first ∷ [] else second ∷ []) 0 ≡ (if test then first else second)
@@ -53,7 +53,7 @@ module _ (m : PlainModule) (text : List PlainModule) (path : Path) (inputs held 
 
   -- and takes the value of its expression
   pub takes : (next : PlainExpr) (place : ℕ) (next_value : Bool) → place < length m.items → get_or m.items place (flip_flop next) ≡ flip_flop next →
-      bit_at (value (seen m path now) next) 0 ≡ next_value → Takes text path now next_value
+      bit_at (value (seen m path now) next) 0 ≡ next_value → FlipFlopTakes text path now next_value
   takes next place next_value within there is = record {
     next = next;
     drives = inr (record { path = path; module_here = m; item = flip_flop next; stands = stands; holds = (place, within, there); drives = (refl, refl) });

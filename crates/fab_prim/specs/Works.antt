@@ -50,7 +50,7 @@ top_output_values kinds.Io pins = i_top pins ∷ t_top pins ∷ []
 top_output_values kinds.Mux8 pins = []
 
 -- the flip-flop of an instance takes a value at a tick of UserCLK
-pub record Takes (text : List PlainModule) (path : Path) (now : Assignment) (next_value : Bool) : Type 0 where
+pub record FlipFlopTakes (text : List PlainModule) (path : Path) (now : Assignment) (next_value : Bool) : Type 0 where
   pub next : PlainExpr
   pub drives : Drives text (point path flip_flop_name 0) (flop path user_clock_name next 0)
   pub gives : bit_at (value (names_at text now path) next) 0 ≡ next_value
@@ -61,7 +61,7 @@ pub record BehavesAs (kind : Kind) (text : List PlainModule) (path : Path) (held
       now (point path name 0)
       ≡ output_of kind pin (pin_values kind now path) (config_values kind now path) (held_value held path) (top_value now path)
   pub next : has_flip_flop kind ≡ true →
-      Takes text path now (next_of kind (pin_values kind now path) (config_values kind now path) (held_value held path) (top_value now path))
+      FlipFlopTakes text path now (next_of kind (pin_values kind now path) (config_values kind now path) (held_value held path) (top_value now path))
   pub to_outside : values_at now path (top_outputs kind) ≡ top_output_values kind (pin_values kind now path)
 
 -- Wherever the module stands in a text, in each assignment that is settled on the points of its instance that are no inputs, the

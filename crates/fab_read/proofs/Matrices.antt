@@ -8,7 +8,7 @@ use Rattle.fab_model.specs.Tiles.{PlainTile, TileWire, IsPair, is_matrix_output,
 use Rattle.fab_tables.specs.Lists.{Pair}
 use Rattle.fab_tables.specs.Matrix.{number_with, output_number, input_number, pair_with}
 use Rattle.fab_tables.proofs.Wired.{number_passes}
-use Rattle.fab_read.specs.Tiles.{pair_of, number_pair, numbered}
+use Rattle.fab_read.specs.Tiles.{pair_of, number_pair, pairs_by_number}
 
 number_is : (test : TileWire → Bool) (tile : PlainTile) (name : List ℕ) (number : ℕ) → number_with test tile name ≡ Some number → wire_passes test tile number ≡ true
 number_is test tile name number is =
@@ -35,7 +35,7 @@ with_number tile None rest one all = all
 with_number tile (Some number) rest one all = All-cons (IsPair tile) number rest (one number refl) all
 
 -- all pairs by number are pairs of the tile
-pub numbered_paired : (tile : PlainTile) (pairs : List Pair) → All (IsPair tile) (numbered tile pairs)
+pub numbered_paired : (tile : PlainTile) (pairs : List Pair) → All (IsPair tile) (pairs_by_number tile pairs)
 numbered_paired tile [] = All-nil (IsPair tile)
 numbered_paired tile (pair ∷ pairs) =
-    with_number tile (number_pair tile pair) (numbered tile pairs) (λ number is. pair_is tile pair (output_number tile pair.0) (input_number tile pair.1) number refl refl is) (numbered_paired tile pairs)
+    with_number tile (number_pair tile pair) (pairs_by_number tile pairs) (λ number is. pair_is tile pair (output_number tile pair.0) (input_number tile pair.1) number refl refl is) (numbered_paired tile pairs)

@@ -12,7 +12,7 @@ use Rattle.fab_blocks.specs.declared.mode.Said.{Said}
 use Rattle.fab_blocks.specs.declared.mode.Said.TheVariants as said
 use Rattle.fab_read.specs.Tiles.{MeetsTile}
 use Rattle.fab_read.specs.Rows.{opened_by, end_at, ReadsRows, ends, takes_row, opens_file, ends_tile, MeetsRows, bad_row, at_file, inside, left_open, in_tile, behind_row, behind_file, behind_tile, MeetsRowsFile, of_file, of_rows, of_end}
-use Rattle.fab_read.specs.inner.Following.{Leads, MeetsRow, LeadsOn, ReadsFileTo, EndsTile}
+use Rattle.fab_read.specs.inner.Following.{RowLeads, MeetsRow, LeadsOn, ReadsFileTo, EndsTile}
 
 -- how deep files may still be opened from a file
 abbrev pub depth : PlainHolder → ℕ
@@ -21,17 +21,17 @@ depth holder = holder.left + (if holder.is_fabric then 1 else 0)
 -- ---- one row
 
 module _ (files : Map) (holder : PlainHolder) (before : PlainReading) (row : PlainRow) where
-  pub taken_leads : (next : PlainReading) → said_of before holder row ≡ Ok (next, said.Taken) → Leads files holder before row next
+  pub taken_leads : (next : PlainReading) → said_of before holder row ≡ Ok (next, said.Taken) → RowLeads files holder before row next
   taken_leads next says = record { reads = λ rows last rest. takes_row says rest; meets = λ rows event rest. behind_row says rest }
 
   pub file_leads : (next after : PlainReading) (says : Said) (other : PlainHolder) (last_line : ℕ) → said_of before holder row ≡ Ok (next, says) → opened_by holder next says ≡ Some other →
-      ReadsFileTo files other next after last_line → Leads files holder before row after
+      ReadsFileTo files other next after last_line → RowLeads files holder before row after
   file_leads next after says other last_line is opened read = record {
     reads = λ rows last rest. opens_file is opened read.1.found read.1.reads read.1.closed rest;
     meets = λ rows event rest. behind_file is opened read.1.found read.1.reads read.1.closed rest;
   }
 
-  pub tile_leads : (next after : PlainReading) (block : PlainBlock) → said_of before holder row ≡ Ok (next, said.EndsTile block) → EndsTile files (end_at holder row) block next after → Leads files holder before row after
+  pub tile_leads : (next after : PlainReading) (block : PlainBlock) → said_of before holder row ≡ Ok (next, said.EndsTile block) → EndsTile files (end_at holder row) block next after → RowLeads files holder before row after
   tile_leads next after block is ended = record {
     reads = λ rows last rest. ends_tile is ended.1 (subst (λ (r : PlainReading). ReadsRows files holder r rows last) ended.2 rest);
     meets = λ rows event rest. behind_tile is ended.1 (subst (λ (r : PlainReading). MeetsRows files holder r rows event) ended.2 rest);
@@ -53,7 +53,7 @@ module _ (files : Map) (holder : PlainHolder) (before : PlainReading) (row : Pla
 
 module _ (files : Map) (holder : PlainHolder) (before : PlainReading) (rows : List PlainRow) where
   pub leads_further : (here next : PlainReading) (row : PlainRow) (left_over rest : List PlainRow) → left_over ≡ row ∷ rest →
-      LeadsOn files holder before rows here left_over → Leads files holder here row next → LeadsOn files holder before rows next rest
+      LeadsOn files holder before rows here left_over → RowLeads files holder here row next → LeadsOn files holder before rows next rest
   leads_further here next row left_over rest is on one = record {
     reads = λ last more. on.reads last (subst (λ (rs : List PlainRow). ReadsRows files holder here rs last) (sym is) (one.reads rest last more));
     meets = λ event more. on.meets event (subst (λ (rs : List PlainRow). MeetsRows files holder here rs event) (sym is) (one.meets rest event more));

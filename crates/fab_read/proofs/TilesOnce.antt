@@ -18,7 +18,7 @@ use Rattle.fab_lines.specs.Counts.{last_line}
 use Rattle.fab_files.specs.Files.{handed_out, refuses}
 use Rattle.fab_list_files.proofs.Once.{file_once, file_refused_once, file_not_both}
 use Rattle.fab_blocks.specs.Blocks.{PlainBlock, bare}
-use Rattle.fab_read.specs.Tiles.{End, known_in, numbered, is_table, ReadsMatrix, no_matrix, of_list, of_table, MeetsMatrix, in_list, at_table, in_table, table_bytes, ReadsTable, by_default, by_table, MeetsTable, long_table, bad_table, block_problem, pairs_problem, paired, table_file, ReadsPairs, ReadsTile, MeetsTile, bad_block, in_matrix, bad_pairs, in_places}
+use Rattle.fab_read.specs.Tiles.{End, known_in, pairs_by_number, is_table, ReadsMatrix, no_matrix, of_list, of_table, MeetsMatrix, in_list, at_table, in_table, table_bytes, ReadsTable, by_default, by_table, MeetsTable, long_table, bad_table, block_problem, pairs_problem, paired, table_file, ReadsPairs, ReadsTile, MeetsTile, bad_block, in_matrix, bad_pairs, in_places}
 use Rattle.fab_read.proofs.Places.{default_once}
 
 ok_is : {X : Type 0} {a b : X} → (let value : X → Result X Fault = λ x. Ok x in value a ≡ value b) → a ≡ b
@@ -66,7 +66,7 @@ module _ (files : Map) (left : ℕ) (tile : PlainTile) where
 
   pairs_once : (file : Option (List ℕ)) (first second : List NumberPair) → ReadsMatrix files left tile file first → ReadsMatrix files left tile file second → first ≡ second
   pairs_once None _ _ no_matrix no_matrix = refl
-  pairs_once (Some file) _ _ (of_list {pairs = a} t one) (of_list {pairs = b} u two) = ap (numbered tile) (file_once files (known_in tile) left file [] a b one two)
+  pairs_once (Some file) _ _ (of_list {pairs = a} t one) (of_list {pairs = b} u two) = ap (pairs_by_number tile) (file_once files (known_in tile) left file [] a b one two)
   pairs_once (Some file) _ second (of_list t one) (of_table u found two) = absurd (other_test (is_table file) u t)
   pairs_once (Some file) first _ (of_table t found one) (of_list u two) = absurd (other_test (is_table file) t u)
   pairs_once (Some file) first second (of_table {bytes = bytes} t found one) (of_table {bytes = others} u there two) =

@@ -46,8 +46,8 @@ is_known tile pair = is_some (number_pair tile pair)
 abbrev pub known_in : PlainTile → Knowledge
 known_in tile before new = if list_all (is_known tile) new then None else Some reasons.UnknownName
 
-abbrev pub numbered : PlainTile → List Pair → List NumberPair
-numbered tile pairs = filter_map (number_pair tile) pairs
+abbrev pub pairs_by_number : PlainTile → List Pair → List NumberPair
+pairs_by_number tile pairs = filter_map (number_pair tile) pairs
 
 -- a matrix file is a table where its name ends so, and else a switch list
 abbrev pub is_table : (file : List ℕ) → Bool
@@ -56,7 +56,7 @@ is_table file = ends_with nat_eq file (codes ".csv")
 -- The pairs that the matrix file of a block says, where it has one.
 pub data ReadsMatrix (files : Map) (left : ℕ) (tile : PlainTile) : (file : Option (List ℕ)) → List NumberPair → Type 0 where
   no_matrix : ReadsMatrix files left tile None []
-  of_list : {file : List ℕ} {pairs : List Pair} → is_table file ≡ false → ReadsListFile files (known_in tile) left file [] pairs → ReadsMatrix files left tile (Some file) (numbered tile pairs)
+  of_list : {file : List ℕ} {pairs : List Pair} → is_table file ≡ false → ReadsListFile files (known_in tile) left file [] pairs → ReadsMatrix files left tile (Some file) (pairs_by_number tile pairs)
   of_table : {file bytes : List ℕ} {pairs : List NumberPair} → is_table file ≡ true → handed_out files file ≡ Ok bytes → SpellsMatrix tile (rows_of bytes) pairs → ReadsMatrix files left tile (Some file) pairs
 
 -- what a reader of the matrix file comes upon

@@ -6,7 +6,7 @@ ghost use Rattle.fab_files.specs.Files.{HasReadCause};
 ghost use Rattle.fab_model.specs.Tiles.{IsPair};
 ghost use Rattle.fab_read.specs.Tiles.{is_table, ReadsMatrix, MeetsMatrix};
 
-use crate::tile_pairs::{TilePairs, numbered};
+use crate::tile_pairs::{TilePairs, pairs_by_number};
 use fab_base::{Fault, Name};
 use fab_desk::Desk;
 use fab_files::fetch;
@@ -40,7 +40,7 @@ fn read_list<D: Desk>(
     let mut listed = TilePairs::new(alloc, &names);
     read_list_file(alloc, desk, &mut listed, left, file)?;
     let pairs = listed.into_pairs(alloc)?;
-    Ok(numbered(alloc, &names, &pairs)?)
+    Ok(pairs_by_number(alloc, &names, &pairs)?)
 }
 
 fn read_table<D: Desk>(

@@ -11,7 +11,7 @@ ghost use Rattle.fab_model.specs.Tables.{HasTable};
 ghost use Rattle.fab_rows.specs.Rows.{rows_of};
 ghost use Rattle.fab_read.specs.Rows.{is_left_open, ReadsRows, MeetsRows, MeetsRowsFile};
 ghost use Rattle.fab_read.specs.Tiles.{MeetsTile};
-ghost use Rattle.fab_read.specs.inner.Following.{EndsTile, IsSaid, Leads, MeetsRow, ReadsFileTo};
+ghost use Rattle.fab_read.specs.inner.Following.{EndsTile, IsSaid, RowLeads, MeetsRow, ReadsFileTo};
 
 use crate::tile::{End, read_tile};
 use fab_base::{Fault, MAX_FILE_BYTES, Problem, Reason};
@@ -72,7 +72,7 @@ fn take_row<D: Desk>(
     ensures writes { D.writes desk.new ≡ D.writes desk.old }
     ensures reads { D.reads desk.old ≤ D.reads desk.new }
     ensures tables { OnOk result (All HasTable reading.old.types → All HasTable reading.new.types) }
-    ensures read { ForSome (D.told desk.old) (λ files. OnOk result (Leads files holder.now reading.old row.now reading.new)) }
+    ensures read { ForSome (D.told desk.old) (λ files. OnOk result (RowLeads files holder.now reading.old row.now reading.new)) }
     ensures cause { IfErr result (HasReadCause (D.told desk.old) (D.reads desk.old < D.reads desk.new) (λ files. MeetsRow files holder.now reading.old row.now)) }
 {
     match take(alloc, reading, holder, row) {

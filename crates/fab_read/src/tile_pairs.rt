@@ -2,7 +2,7 @@
 
 ghost use Rattle.std.specs.Prelude.{◌≡◌, [], IfOk};
 ghost use Rattle.std.specs.List.{list_all};
-ghost use Rattle.fab_read.specs.Tiles.{is_known, number_pair, numbered};
+ghost use Rattle.fab_read.specs.Tiles.{is_known, number_pair, pairs_by_number};
 
 use fab_base::{Memory, Name, Reason};
 use fab_list_files::{ListState, PairSet};
@@ -33,12 +33,12 @@ fn are_known(names: &MatrixNames, pairs: &[(Name, Name)]) -> bool
 }
 
 /// Pairs by number.
-pub fn numbered(
+pub fn pairs_by_number(
     alloc: Global,
     names: &MatrixNames,
     pairs: &[(Name, Name)],
 ) -> Result<Vec<Pair>, Memory>
-    ensures { IfOk result (λ found. found.items ≡ numbered names.now pairs.now) }
+    ensures { IfOk result (λ found. found.items ≡ pairs_by_number names.now pairs.now) }
 {
     Ok(
         pairs

@@ -21,13 +21,13 @@ abbrev pub cells_of_line : (line : List ℕ) → List (List ℕ)
 cells_of_line line = without_back is_empty_cell (map trimmed (fields_of_line (uncommented line)))
 
 -- lines as rows, of which the first has this number
-abbrev pub numbered : (number : ℕ) → List (List ℕ) → List PlainRow
-numbered number [] = []
-numbered number (line ∷ rest) = record { line = number; cells = cells_of_line line } ∷ numbered (number + 1) rest
+abbrev pub rows_from : (number : ℕ) → List (List ℕ) → List PlainRow
+rows_from number [] = []
+rows_from number (line ∷ rest) = record { line = number; cells = cells_of_line line } ∷ rows_from (number + 1) rest
 
 abbrev pub has_cells : PlainRow → Bool
 has_cells row = not (length row.cells == 0)
 
 -- the rows of a text
 abbrev pub rows_of : (bytes : List ℕ) → List PlainRow
-rows_of bytes = filter has_cells (numbered 1 (lines bytes))
+rows_of bytes = filter has_cells (rows_from 1 (lines bytes))

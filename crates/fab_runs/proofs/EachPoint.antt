@@ -37,7 +37,7 @@ use Rattle.fab_points.specs.fab_legal.proofs.PackedMade.{packed_made}
 use Rattle.fab_prim.specs.Ports.{top_name}
 use Rattle.fab_prim.specs.Modules.{flip_flop_name}
 use Rattle.fab_points.specs.fab_drives.specs.Points.{place_path, IsOnWay}
-use Rattle.fab_points.specs.fab_gen_tile.specs.TileModule.{matrix_outputs}
+use Rattle.fab_points.specs.fab_gen_tile.specs.TileModule.{matrix_output_names}
 use Rattle.fab_points.specs.fab_tile_drives.specs.Stands.{matrix_path, name_of, wire_point}
 use Rattle.fab_points.specs.fab_use.specs.Design as design
 use Rattle.fab_points.specs.fab_use.specs.Sites.{bel_point, port_point, top_point, pin_point}
@@ -183,7 +183,7 @@ module _ (fabric : PlainFabric) (netlist : PlainNetlist) (fixed_pads : List Pad)
   edge_has tree edge listed among = λ x y tile plain index there. tree_has x y tile plain (left_tree fabric implementation tree edge x y tile plain listed among there index)
 
   -- a matrix output is entered by an edge
-  port_has : (x y : ℕ) (tile : PlainTile) (plain : PlainWire) → IsTreeWire fabric implementation x y tile plain → 0 < length (matrix_outputs tile) → Q (point (matrix_path (place_path x y)) (name_of tile plain) 0)
+  port_has : (x y : ℕ) (tile : PlainTile) (plain : PlainWire) → IsTreeWire fabric implementation x y tile plain → 0 < length (matrix_output_names tile) → Q (point (matrix_path (place_path x y)) (name_of tile plain) 0)
   port_has x y tile plain tree some =
       elim (cases_Bool (option_map_or is_matrix_output (wire_of tile plain) false)) [
         | inl output ↦ (

@@ -17,7 +17,7 @@ use Rattle.fab_netlist.specs.Packed.{PlainPacked}
 use Rattle.fab_implementation.specs.Plain.{Edge, Pad, PlainTree, PlainImplementation}
 use Rattle.fab_points.specs.fab_legal.specs.Legal.{IsLegal}
 use Rattle.fab_points.specs.fab_drives.specs.Points.{place_path, IsOnWay, end_bit, wire_between, begin_bit, before}
-use Rattle.fab_points.specs.fab_gen_tile.specs.TileModule.{matrix_outputs}
+use Rattle.fab_points.specs.fab_gen_tile.specs.TileModule.{matrix_output_names}
 use Rattle.fab_points.specs.fab_tile_drives.specs.Stands.{matrix_path, name_of, wire_point}
 use Rattle.fab_points.specs.fab_use.specs.Design.{IsTreeWire}
 use Rattle.fab_points.specs.fab_use.specs.Ways as ways
@@ -44,7 +44,7 @@ module _ (fabric : PlainFabric) (packed : PlainPacked) (fixed : List Pad) (imple
           Q (point (matrix_path (place_path x y)) (name_of tile plain) 0)
       port_of_pair x y tile plain index there b =
           let from : Tree x y tile b.input = left_tree fabric implementation tree edge x y tile b.input listed among there b.from in
-          let some : 0 < length (matrix_outputs tile) = outputs_there tile plain (index_wire fabric edge.1.0 x y plain tile index there) b.output in
+          let some : 0 < length (matrix_output_names tile) = outputs_there tile plain (index_wire fabric edge.1.0 x y plain tile index there) b.output in
           along _ _ (sources.of_edge listed among there index b.output b.from)
           (along _ _ (sources.of_input from b.no_output some) (has x y tile b.input b.from there))
 

@@ -25,7 +25,7 @@ MeetsSources fabric packed implementation inputs held now =
     (p : Point) (s : Source) → IsOfDesign fabric packed implementation p → HasSource fabric packed implementation p s → now p ≡ source_value inputs held now p s
 
 -- The flip-flop of a latch is enabled and not reset, and its table shows what the latch takes next.
-pub record Takes (netlist : PlainNetlist) (now : Assignment) (nets : ℕ → Bool) (site : Site) (latch : ℕ) : Type 0 where
+pub record LatchTakes (netlist : PlainNetlist) (now : Assignment) (nets : ℕ → Bool) (site : Site) (latch : ℕ) : Type 0 where
   pub enabled : now (bel_point site (codes "EN")) ≡ true
   pub free : now (bel_point site (codes "SR")) ≡ false
   pub next : bit_at (next_held netlist nets) latch ≡ now (bel_point site (codes "t"))
@@ -34,7 +34,7 @@ pub record Takes (netlist : PlainNetlist) (now : Assignment) (nets : ℕ → Boo
 abbrev pub TakesNext : PlainNetlist → PlainImplementation → Assignment → (nets : ℕ → Bool) → Type 0
 TakesNext netlist implementation now nets =
     (cell_number latch : ℕ) (work : Work) (site : Site) → IsAt (works netlist) cell_number work → latch_of work ≡ Some latch →
-    Contains implementation.cells (cell_number, site) → Takes netlist now nets site latch
+    Contains implementation.cells (cell_number, site) → LatchTakes netlist now nets site latch
 
 -- Where each named point has the value of its sources, the pads show the values of the netlist's nets, and flip-flops take those of the latches.
 abbrev pub SourcesCarry : Type 0

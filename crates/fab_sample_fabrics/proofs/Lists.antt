@@ -12,7 +12,7 @@ use Rattle.fab_model.specs.Tiles.{counted}
 use Rattle.fab_names.specs.Names.{all_names, text_of}
 use Rattle.fab_blocks.specs.Blocks.{PlainBlock, bare, names, row_names}
 use Rattle.fab_list_files.specs.Lists.{most_open}
-use Rattle.fab_read.specs.Tiles.{known_in, numbered, block_problem, pairs_problem, is_table}
+use Rattle.fab_read.specs.Tiles.{known_in, pairs_by_number, block_problem, pairs_problem, is_table}
 use Rattle.fab_sample.specs.declared.side.Side.TheVariants.{East, West}
 use Rattle.fab_sample.specs.Lines.{Line, text}
 use Rattle.fab_sample.specs.Lists.{bits, table_inputs, table_lines, begin_lines, logic_lines, pad_lines, edge_lines}
@@ -24,7 +24,7 @@ abbrev pub listed : PlainBlock → (file : Line) → (lines : List Line) → Lis
 listed block file lines = listing (known_in (bare block)) most_open file [] (rows_of (text lines))
 
 abbrev pub pairs_in : PlainBlock → (file : Line) → (lines : List Line) → List NumberPair
-pairs_in block file lines = numbered (bare block) (listed block file lines).pairs
+pairs_in block file lines = pairs_by_number (bare block) (listed block file lines).pairs
 
 -- the list of a block is read, and its pairs fit
 pub record IsListed (block : PlainBlock) (file : Line) (lines : List Line) : Type 0 where

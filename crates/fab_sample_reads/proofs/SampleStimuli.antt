@@ -32,7 +32,7 @@ use Rattle.fab_sample_reads.proofs.ShortTexts.{line_length, short_run, length-ma
 
 -- ---- rows of words, as other texts have them
 
-joined_is : (row : List Word) → printed.joined row ≡ words row
+joined_is : (row : List Word) → printed.spaced row ≡ words row
 joined_is [] = refl
 joined_is (word ∷ []) = refl
 joined_is (word ∷ next ∷ row) = ap (λ (l : List ℕ). word ++ 32 ∷ l) (joined_is (next ∷ row))

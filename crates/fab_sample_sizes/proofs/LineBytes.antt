@@ -12,7 +12,7 @@ use Rattle.fab_syntax.specs.declared.tree.Op.TheVariants.{And}
 use Rattle.fab_syntax.specs.Plain.{PlainExpr, PlainJoin, constant, variable, part, operation, conditional, wire, assign, instance}
 use Rattle.fab_syntax.specs.Spelling.{expr_text, shape_text, joins_text}
 use Rattle.fab_model.specs.Tiles.{counted}
-use Rattle.fab_gen_tile.specs.Names.{joined, same_join}
+use Rattle.fab_gen_tile.specs.Names.{port_join, same_join}
 use Rattle.fab_meaning.specs.Loading.{write_data_name, write_strobe_name}
 use Rattle.fab_gen_loader.specs.Loader.{loader_module_name}
 use Rattle.fab_fabric_text.specs.Names.{address_name, column_strobe_name, loader_clock_name, loader_instance_name, row_name, strobe_name}
@@ -23,7 +23,7 @@ use Rattle.fab_sample_sizes.proofs.Words.{decimal_bytes, row_bytes, column_bytes
 
 -- ---- single items
 
-pub joined_is : (port : List ℕ) (e : PlainExpr) → join_bytes (joined port e) ≡ 5 + length port + length (expr_text false e)
+pub joined_is : (port : List ℕ) (e : PlainExpr) → join_bytes (port_join port e) ≡ 5 + length port + length (expr_text false e)
 joined_is port e = omega (arith, length-append port (codes "(" ++ (expr_text false e ++ codes ")")), length-append (expr_text false e) (codes ")"))
 
 pub wire_is : (shape : Shape) (name : List ℕ) → item_bytes (wire shape name) ≡ 9 + length (shape_text shape) + length name

@@ -22,7 +22,7 @@ use Rattle.fab_model.specs.Joins.{comes, goes}
 use Rattle.fab_model.specs.Cascade.{PlacedRow, opposite, previous_row}
 use Rattle.fab_model.proofs.Crossings.{partner_is, tile_is_type}
 use Rattle.fab_fabric.specs.Names.{place_name}
-use Rattle.fab_gen_tile.specs.Names.{begin_name, end_name, frame_data_name, frame_strobe_name, pad_name, joined, same_join, tile_module_name}
+use Rattle.fab_gen_tile.specs.Names.{begin_name, end_name, frame_data_name, frame_strobe_name, pad_name, port_join, same_join, tile_module_name}
 use Rattle.fab_gen_tile.specs.Borders.{side_border}
 use Rattle.fab_tile_drives.proofs.Members.{contains_at}
 use Rattle.fab_meaning.specs.Loading.{write_data_name, write_strobe_name}
@@ -54,7 +54,7 @@ begin_line x y row bit short = omega (arith, wire_is Scalar (begin_wire_name x y
 -- ---- joins
 
 abbrev pad_join : (x y place : ℕ) → (port : List ℕ) → PlainJoin
-pad_join x y place port = joined (pad_name place port) (variable (pad_port_name x y place port))
+pad_join x y place port = port_join (pad_name place port) (variable (pad_port_name x y place port))
 
 pad_line : (x y place : ℕ) (port : List ℕ) → length port ≤ 5 → join_bytes (pad_join x y place port) ≤ 300
 pad_line x y place port short =
@@ -71,7 +71,7 @@ pads_joined x y place Io =
     omega (arith, into, out, released)
 
 begin_joined : (placed : PlacedTile) (row : WireRow) (bit : ℕ) → IsShortRow row →
-    join_bytes (joined (begin_name row bit) (variable (begin_wire_name placed.x placed.y row bit))) ≤ 300
+    join_bytes (port_join (begin_name row bit) (variable (begin_wire_name placed.x placed.y row bit))) ≤ 300
 begin_joined placed row bit short =
     let name : List ℕ = begin_wire_name placed.x placed.y row bit in
     omega (arith, joined_is (begin_name row bit) (variable name), begin_bytes row bit, wire_bytes placed.x placed.y row bit, short.source)
@@ -94,7 +94,7 @@ module _ (fabric : PlainFabric) (small : All IsSmallTile fabric.types) where
   end_within here (Some previous) bit is = omega (arith, wire_bytes previous.place.x previous.place.y previous.row bit, previous_short here previous is)
 
   end_joined : (here : PlacedRow) (bit : ℕ) → IsShortRow here.row →
-      join_bytes (joined (end_name here.row bit) (end_value (previous_row fabric here) bit)) ≤ 300
+      join_bytes (port_join (end_name here.row bit) (end_value (previous_row fabric here) bit)) ≤ 300
   end_joined here bit short =
       let found = previous_row fabric here in
       omega (arith, joined_is (end_name here.row bit) (end_value found bit), end_bytes here.row bit, end_within here found bit refl, short.dest)
@@ -102,8 +102,8 @@ module _ (fabric : PlainFabric) (small : All IsSmallTile fabric.types) where
   row_joined : (placed : PlacedTile) (number : ℕ) (row : WireRow) → IsShortRow row → sum_by join_bytes (row_joins fabric placed (number, row)) ≤ 3600
   row_joined placed number row short =
       let here : PlacedRow = numbered_row placed number row in
-      let begin : ℕ → PlainJoin = λ bit. joined (begin_name row bit) (variable (begin_wire_name placed.x placed.y row bit)) in
-      let end : ℕ → PlainJoin = λ bit. joined (end_name row bit) (end_value (previous_row fabric here) bit) in
+      let begin : ℕ → PlainJoin = λ bit. port_join (begin_name row bit) (variable (begin_wire_name placed.x placed.y row bit)) in
+      let end : ℕ → PlainJoin = λ bit. port_join (end_name row bit) (end_value (previous_row fabric here) bit) in
       let begins : List PlainJoin = counted (side_border row row.source) begin in
       let ends : List PlainJoin = counted (side_border row row.dest) end in
       let of_begins = of_counted join_bytes 300 (side_border row row.source) begin (λ bit. begin_joined placed row bit short) in
@@ -133,8 +133,8 @@ module _ (fabric : PlainFabric) (small : All IsSmallTile fabric.types) where
   tile_joined placed tile =
       let rows : List PlainJoin = flat_map (row_joins fabric placed) (enumerate_from 0 placed.tile.rows) in
       let bels : List PlainJoin = flat_map (pad_joins placed.x placed.y) (enumerate_from 0 placed.tile.bels) in
-      let word : PlainJoin = joined frame_data_name (variable (row_name placed.y)) in
-      let strobe : PlainJoin = joined frame_strobe_name (variable (column_strobe_name placed.x)) in
+      let word : PlainJoin = port_join frame_data_name (variable (row_name placed.y)) in
+      let strobe : PlainJoin = port_join frame_strobe_name (variable (column_strobe_name placed.x)) in
       let first = sum_by-cons join_bytes (same_join user_clock_name) (word ∷ strobe ∷ (rows ++ bels)) in
       let second = sum_by-cons join_bytes word (strobe ∷ (rows ++ bels)) in
       let third = sum_by-cons join_bytes strobe (rows ++ bels) in

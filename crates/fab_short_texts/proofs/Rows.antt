@@ -11,7 +11,7 @@ use Rattle.std.proofs.lemmas.Grind.{flat_map-append}
 use Rattle.fab_fabric.specs.Names.{place_name, site_text}
 use Rattle.fab_fabric.specs.declared.wire.Site.{Site}
 use Rattle.fab_texts.specs.Rows.{Word}
-use Rattle.fab_texts.specs.Printed.{joined, row_text, rows_text}
+use Rattle.fab_texts.specs.Printed.{spaced, row_text, rows_text}
 use Rattle.fab_short_texts.specs.Laws.{IsShortName}
 
 -- ---- one row
@@ -21,12 +21,12 @@ abbrev pub words_length : List Word → ℕ
 words_length [] = 0
 words_length (word ∷ words) = length word + (1 + words_length words)
 
-joined_length : (word : Word) (more : List Word) → length (joined (word ∷ more)) + 1 ≡ words_length (word ∷ more)
+joined_length : (word : Word) (more : List Word) → length (spaced (word ∷ more)) + 1 ≡ words_length (word ∷ more)
 joined_length word [] = omega arith
-joined_length word (next ∷ more) = omega (arith, length-append word (32 ∷ joined (next ∷ more)), joined_length next more)
+joined_length word (next ∷ more) = omega (arith, length-append word (32 ∷ spaced (next ∷ more)), joined_length next more)
 
 pub row_length : (word : Word) (more : List Word) → length (row_text (word ∷ more)) ≡ words_length (word ∷ more)
-row_length word more = omega (arith, length-append (joined (word ∷ more)) (10 ∷ []), joined_length word more)
+row_length word more = omega (arith, length-append (spaced (word ∷ more)) (10 ∷ []), joined_length word more)
 
 -- ---- many rows
 

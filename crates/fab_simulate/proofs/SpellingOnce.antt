@@ -15,7 +15,7 @@ use Rattle.fab_tokens.specs.Scanning.{Lexeme}
 use Rattle.fab_tokens.proofs.Cut.{spelled_told}
 use Rattle.fab_grammar.specs.Grammar.{Modules, SpellsText}
 use Rattle.fab_grammar.proofs.Once.{text_once}
-use Rattle.fab_vread.specs.Refusals.{FirstRefusal, IsRefusal, by_end, by_limit, by_token, lexemes_of, tokens_in}
+use Rattle.fab_vread.specs.Refusals.{FirstRefusal, IsVerilogRefusal, by_end, by_limit, by_token, lexemes_of, tokens_in}
 use Rattle.fab_vread.proofs.Determined.{refusal_is_one}
 use Rattle.fab_vread.proofs.Lexemes.{same_tokens}
 use Rattle.fab_equations.specs.Equations.{IsRefused}
@@ -34,12 +34,12 @@ first_not text lexemes last line problem made (by_limit at front back parted lat
     let tokens_are : tokens_in lexemes ≡ tokens_in front ++ tokens_in back = ap tokens_in parted ∙ map-append (λ y. y.token) front back in
     not (record { more = tokens_in back; modules = text; made = subst (λ (ts : List Token). Modules 300 128 ts text) tokens_are made })
 
-spelled_not_refused : (file bytes : List ℕ) (text : List PlainModule) (fault : Fault) → SpellsText 300 128 bytes text → IsRefusal file bytes fault → ⊥
+spelled_not_refused : (file bytes : List ℕ) (text : List PlainModule) (fault : Fault) → SpellsText 300 128 bytes text → IsVerilogRefusal file bytes fault → ⊥
 spelled_not_refused file bytes text fault spells refused =
     let tokens_are : tokens_in (lexemes_of bytes) ≡ spells.tokens = same_tokens bytes ∙ spelled_told bytes spells.tokens spells.spelled in
     first_not text (lexemes_of bytes) (last_line bytes) refused.line refused.problem (subst (λ (ts : List Token). Modules 300 128 ts text) (sym tokens_are) spells.made) refused.first
 
-bytes_refused_once : (file bytes : List ℕ) (a b : Fault) → IsRefusal file bytes a → IsRefusal file bytes b → a ≡ b
+bytes_refused_once : (file bytes : List ℕ) (a b : Fault) → IsVerilogRefusal file bytes a → IsVerilogRefusal file bytes b → a ≡ b
 bytes_refused_once file bytes a b x y =
     let same = refusal_is_one (lexemes_of bytes) (last_line bytes) x.line y.line x.problem y.problem x.first y.first in
     x.told ∙ (λ j. fault_at file (same.0 j) (same.1 j)) ∙ sym y.told

@@ -11,7 +11,7 @@ use Rattle.fab_draws.specs.Draws.{draws_of}
 use Rattle.fab_syntax.specs.Plain.{PlainModule}
 use Rattle.fab_syntax.specs.Sound.{IsSound}
 use Rattle.fab_grammar.specs.Grammar.{SpellsText}
-use Rattle.fab_vread.specs.Refusals.{IsRefusal}
+use Rattle.fab_vread.specs.Refusals.{IsVerilogRefusal}
 use Rattle.fab_equations.specs.Instances.{whole_count, most_points}
 use Rattle.fab_equations.specs.Equations.{IsRefused}
 use Rattle.fab_lines.specs.Order.{IsTextFault}
@@ -58,7 +58,7 @@ ReadsDevice files file text = ReadsFrom files file SpellsDevice text
 
 -- The bytes spell no text, or one that is not sound or too large.
 pub data RefusesDevice (file bytes : List ℕ) : Fault → Type 0 where
-  misspelled : {fault : Fault} → IsRefusal file bytes fault → RefusesDevice file bytes fault
+  misspelled : {fault : Fault} → IsVerilogRefusal file bytes fault → RefusesDevice file bytes fault
   unfit : {fault : Fault} (text : List PlainModule) → SpellsText 300 128 bytes text → fault ≢ faults.Memory → IsRefused file text fault →
       RefusesDevice file bytes fault
 

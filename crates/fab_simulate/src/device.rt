@@ -10,7 +10,7 @@ ghost use Rattle.fab_frames.specs.Refusals.{IsCut};
 ghost use Rattle.fab_grammar.specs.Grammar.{SpellsText};
 ghost use Rattle.fab_syntax.specs.Plain.{plain_text};
 ghost use Rattle.fab_vread.specs.Pieces.{HasRead, IsSpent, fed_len};
-ghost use Rattle.fab_vread.specs.Refusals.{IsRefusal};
+ghost use Rattle.fab_vread.specs.Refusals.{IsVerilogRefusal};
 ghost use Rattle.fab_simulate.specs.Simulating.{MeetsDevice, MeetsWords, ReadsWords, SpellsWords};
 
 use fab_base::{Fault, MAX_FILE_BYTES, Memory, Name};
@@ -40,7 +40,7 @@ fn feed_pieces(reader: &mut Reader, bytes: &[u8]) -> Result<(), Memory>
 fn text_of_bytes(alloc: Global, file: &Name, bytes: &[u8]) -> Result<Text, Fault>
     requires { length bytes.now ≤ MAX_FILE_BYTES }
     ensures spelled { IfOk result (λ text. SpellsText 300 128 bytes.now (plain_text text)) }
-    ensures refused { IfErr result (λ fault. (fault ≡ faults.Memory) ⊎ IsRefusal file.now bytes.now fault) }
+    ensures refused { IfErr result (λ fault. (fault ≡ faults.Memory) ⊎ IsVerilogRefusal file.now bytes.now fault) }
 {
     let mut reader = Reader::new(alloc, file)?;
     // where memory is refused, `finish` says so again

@@ -12,7 +12,7 @@ use Rattle.fab_syntax.specs.declared.tree.Shape.TheVariants.{Scalar, Vector}
 use Rattle.fab_syntax.specs.declared.tree.Port.{Port}
 use Rattle.fab_syntax.specs.Plain.{PlainExpr, PlainExprs, PlainJoin, PlainItem, PlainModule, constant, variable, pick, part, concatenation, complement, operation, conditional, none, more, wire, reg, assign, latch, clocked, instance}
 use Rattle.fab_syntax.specs.Declarations.{width, item_shape, width_if_any, declared_width}
-use Rattle.fab_syntax.specs.Sound.{expression_width, parts_width, subexpressions, parts_subexpressions, joined, item_expressions, width_of_name, Every}
+use Rattle.fab_syntax.specs.Sound.{expression_width, parts_width, subexpressions, parts_subexpressions, joined_expressions, item_expressions, width_of_name, Every}
 use Rattle.fab_syntax.specs.Spelling.{digit, constant_text, op_text, select_text, opening, closing, comma, expr_text, exprs_text, joined_text, join_text, joins_text, latch_head, clocked_head, update_text, ports_text, item_text, items_text, module_text, text_bytes}
 use Rattle.fab_sound.specs.Narrow.{AreNarrow, IsNarrow}
 use Rattle.fab_grammar.specs.Printable.{IsWritten, AreWritten, IsShape, ArePorts, IsJoined, AreJoins, IsItem, AreItems, AreModules}
@@ -162,17 +162,17 @@ module _ (names : List ℕ → ℕ) (few : (name : List ℕ) → names name ≤ 
 
     -- ---- items
 
-    of_option : (to : Option PlainExpr) → IsJoined to → length (joined_text to) ≤ n → All (Every Small) (joined to)
+    of_option : (to : Option PlainExpr) → IsJoined to → length (joined_text to) ≤ n → All (Every Small) (joined_expressions to)
     of_option None is fits = All-nil (Every Small)
     of_option (Some e) is fits = All-cons (Every Small) e [] (every false e is.0 fits) (All-nil (Every Small))
 
-    of_joins : (first : Bool) (joins : List PlainJoin) → AreJoins joins → length (joins_text first joins) ≤ n → All (Every Small) (flat_map (λ join. joined join.to) joins)
+    of_joins : (first : Bool) (joins : List PlainJoin) → AreJoins joins → length (joins_text first joins) ≤ n → All (Every Small) (flat_map (λ join. joined_expressions join.to) joins)
     of_joins first [] are fits = All-nil (Every Small)
     of_joins first (join ∷ joins) are fits =
         let inside = behind (comma first) (join_text join ++ joins_text false joins) n fits in
         let own = behind (codes ".") (join.port ++ (codes "(" ++ (joined_text join.to ++ codes ")"))) n (before (join_text join) (joins_text false joins) n inside) in
         let bracketed = behind (codes "(") (joined_text join.to ++ codes ")") n (behind join.port (codes "(" ++ (joined_text join.to ++ codes ")")) n own) in
-        All-append (Every Small) (joined join.to) (flat_map (λ join. joined join.to) joins) (of_option join.to are.0.1 (before (joined_text join.to) (codes ")") n bracketed))
+        All-append (Every Small) (joined_expressions join.to) (flat_map (λ join. joined_expressions join.to) joins) (of_option join.to are.0.1 (before (joined_text join.to) (codes ")") n bracketed))
         (of_joins false joins are.1 (behind (join_text join) (joins_text false joins) n inside))
 
     -- the value of an update

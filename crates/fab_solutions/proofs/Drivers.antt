@@ -2,7 +2,7 @@
 use Rattle.std.proofs.Common.{◌≡◌, ℕ, Bool, true, false, List, [], ◌∷◌, length, Contains, Option, Some, None, refl, sym, ap, ◌∙◌, subst, inl, inr}
 use Rattle.fab_syntax.specs.Plain.{PlainExpr, PlainJoin, PlainItem, variable, wire, reg, assign, latch, clocked, instance, PlainModule}
 use Rattle.fab_syntax.specs.Declarations.{module_named, is_input_of, width_in}
-use Rattle.fab_syntax.specs.Sound.{IsSound, item_expressions, joined}
+use Rattle.fab_syntax.specs.Sound.{IsSound, item_expressions, joined_expressions}
 use Rattle.fab_load_runs.specs.fab_sound.specs.Narrow.{AreNarrow}
 use Rattle.fab_load_runs.specs.fab_meaning.specs.Points.{Path, Point, point, Driver, outside, copy, bit_of, flop, hold, Drives, JoinDrives, ItemDrives, module_at}
 use Rattle.fab_load_runs.specs.fab_meaning.specs.Settled.{Assignment}
@@ -73,7 +73,7 @@ module _ (text : List PlainModule) (sound : IsSound text) (narrow : AreNarrow te
   join_fit module_name i joins holds join among true (Some e) is p d drives =
       subst (HasFit text) (sym drives.1)
       (fit_of (instance module_name i joins) holds e
-      (in_flat (λ (j : PlainJoin). joined j.to) joins join e among (subst (λ (o : Option PlainExpr). Contains (joined o) e) (sym is) (contains_first e e [] refl))))
+      (in_flat (λ (j : PlainJoin). joined_expressions j.to) joins join e among (subst (λ (o : Option PlainExpr). Contains (joined_expressions o) e) (sym is) (contains_first e e [] refl))))
   join_fit module_name i joins holds join among false (Some e) is p d drives = subst (HasFit text) (sym drives.3) tt
 
   item_fit : (item : PlainItem) → Contains m.items item → (p : Point) (d : Driver) → ItemDrives text path item p d → HasFit text d

@@ -21,7 +21,7 @@ use Rattle.fab_syntax.specs.Declarations.{item_shape, declared_shape}
 use Rattle.fab_sound.specs.declared.tables.Declared.{Declared}
 use Rattle.fab_sound.specs.declared.tables.Declared.TheVariants.{Input, Output, Inner, Instance}
 use Rattle.fab_sound.specs.declared.tables.Known.{Known}
-use Rattle.fab_sound.specs.inner.Checks.{found, Gives, shape_declared, item_declares, IsNew, Takes, port_declares, net_declared, inner_net, net_of, TakesNets, HasNets, known_module, place_named}
+use Rattle.fab_sound.specs.inner.Checks.{found, Gives, shape_declared, item_declares, IsNew, TakesDeclaration, port_declares, net_declared, inner_net, net_of, TakesNets, HasNets, known_module, place_named}
 use Rattle.fab_sound.proofs.Noting.{Names, bytes_sym, not_true, drop_item}
 
 pub of_fine : {X E : Type 0} (r : Result X E) (A : X → Type 0) (x : X) → r ≡ Ok x → IfOk r A → A x
@@ -125,7 +125,7 @@ module _ (S : Type 0) (old new : Names S) (n : List ℕ) (rest : List PlainItem)
   same_item : found new n ≡ found old n → option_or (net_declared (found new n)) (inner_net (item_shape rest n)) ≡ option_or (net_declared (found old n)) (inner_net (item_shape rest n))
   same_item same = ap (λ o. option_or (net_declared o) (inner_net (item_shape rest n))) same
 
-  item_step : (item : PlainItem) → IsNew old (item_declares item) ≡ true → Takes old new (item_declares item) →
+  item_step : (item : PlainItem) → IsNew old (item_declares item) ≡ true → TakesDeclaration old new (item_declares item) →
       option_or (net_declared (found new n)) (net_of [] rest n) ≡ option_or (net_declared (found old n)) (net_of [] (item ∷ rest) n)
   item_step (wire shape name) fresh takes = net_item shape name (not_true _ fresh) takes
   item_step (reg shape name) fresh takes = net_item shape name (not_true _ fresh) takes
@@ -136,7 +136,7 @@ module _ (S : Type 0) (old new : Names S) (n : List ℕ) (rest : List PlainItem)
 
 -- a loop over items
 module _ (S : Type 0) (old new : Names S) (items : List Item) (k : ℕ) (item : Item) (inside : k < length items) (is : item ≡ get_or items k item) where
-  pub items_step : IsNew old (item_declares (plain_item item)) ≡ true → Takes old new (item_declares (plain_item item)) → (n : List ℕ) →
+  pub items_step : IsNew old (item_declares (plain_item item)) ≡ true → TakesDeclaration old new (item_declares (plain_item item)) → (n : List ℕ) →
       option_or (net_declared (found new n)) (net_of [] (map plain_item (drop (k + 1) items)) n)
       ≡ option_or (net_declared (found old n)) (net_of [] (map plain_item (drop k items)) n)
   items_step fresh takes n =

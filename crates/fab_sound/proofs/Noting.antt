@@ -17,10 +17,10 @@ use Rattle.fab_base.specs.declared.words.Reason.{Reason}
 use Rattle.fab_base.specs.declared.words.Reason.TheVariants.{NameTwice, UnknownName}
 use Rattle.fab_syntax.specs.Plain.{PlainExpr, PlainJoin, PlainItem, wire, reg, assign, latch, clocked, instance, PlainModule, plain_item, plain_module}
 use Rattle.fab_syntax.specs.Declarations.{module_named}
-use Rattle.fab_syntax.specs.Sound.{Mention, net, instance_name, use_of, joined, uses, item_mentions, item_expressions, is_net, is_declaration, refusals, mentions_in, text_refusals, IsFirstBroken, breaks_names}
+use Rattle.fab_syntax.specs.Sound.{Mention, net, instance_name, use_of, joined_expressions, uses, item_mentions, item_expressions, is_net, is_declaration, refusals, mentions_in, text_refusals, IsFirstBroken, breaks_names}
 use Rattle.fab_sound.specs.declared.tables.Declared.{Declared}
 use Rattle.fab_sound.specs.declared.tables.Declared.TheVariants.{Inner, Instance}
-use Rattle.fab_sound.specs.inner.Checks.{found, Gives, shape_declared, has_net, expression_names, item_targets, item_declares, IsNew, Takes, Notes, Advances, StartsWith, port_declares, Numbers}
+use Rattle.fab_sound.specs.inner.Checks.{found, Gives, shape_declared, has_net, expression_names, item_targets, item_declares, IsNew, TakesDeclaration, Notes, Advances, StartsWith, port_declares, Numbers}
 
 abbrev pub Names : Type 0 → Type 0
 Names S = IndexMap (Bor (List ℕ)) Declared S
@@ -153,29 +153,29 @@ item_uses (reg shape name) = []
 item_uses (assign target e) = target ∷ expression_names e
 item_uses (latch target gate e) = expression_names gate ++ (target ∷ expression_names e)
 item_uses (clocked clock target e) = clock ∷ target ∷ expression_names e
-item_uses (instance module_name i joins) = flat_map (λ join. flat_map expression_names (joined join.to)) joins
+item_uses (instance module_name i joins) = flat_map (λ join. flat_map expression_names (joined_expressions join.to)) joins
 
 map_append : (xs ys : List (List ℕ)) → map use_of (xs ++ ys) ≡ map use_of xs ++ map use_of ys
 map_append [] ys = refl
 map_append (x ∷ xs) ys = ap (λ rest. use_of x ∷ rest) (map_append xs ys)
 
-joined_uses : (to : Option PlainExpr) → flat_map uses (joined to) ≡ map use_of (flat_map expression_names (joined to))
+joined_uses : (to : Option PlainExpr) → flat_map uses (joined_expressions to) ≡ map use_of (flat_map expression_names (joined_expressions to))
 joined_uses None = refl
 joined_uses (Some e) = sym (map_append (expression_names e) [])
 
 joins_uses : (joins : List PlainJoin) →
-    flat_map (λ (join : PlainJoin). flat_map uses (joined join.to)) joins ≡ map use_of (flat_map (λ (join : PlainJoin). flat_map expression_names (joined join.to)) joins)
+    flat_map (λ (join : PlainJoin). flat_map uses (joined_expressions join.to)) joins ≡ map use_of (flat_map (λ (join : PlainJoin). flat_map expression_names (joined_expressions join.to)) joins)
 joins_uses [] = refl
 joins_uses (join ∷ joins) =
-    ap (λ xs. xs ++ flat_map (λ (j : PlainJoin). flat_map uses (joined j.to)) joins) (joined_uses join.to)
-    ∙ ap (λ xs. map use_of (flat_map expression_names (joined join.to)) ++ xs) (joins_uses joins)
-    ∙ sym (map_append (flat_map expression_names (joined join.to)) (flat_map (λ (j : PlainJoin). flat_map expression_names (joined j.to)) joins))
+    ap (λ xs. xs ++ flat_map (λ (j : PlainJoin). flat_map uses (joined_expressions j.to)) joins) (joined_uses join.to)
+    ∙ ap (λ xs. map use_of (flat_map expression_names (joined_expressions join.to)) ++ xs) (joins_uses joins)
+    ∙ sym (map_append (flat_map expression_names (joined_expressions join.to)) (flat_map (λ (j : PlainJoin). flat_map expression_names (joined_expressions j.to)) joins))
 
 joined_apart : (joins : List PlainJoin) →
-    flat_map (λ (join : PlainJoin). flat_map expression_names (joined join.to)) joins ≡ flat_map expression_names (flat_map (λ (join : PlainJoin). joined join.to) joins)
+    flat_map (λ (join : PlainJoin). flat_map expression_names (joined_expressions join.to)) joins ≡ flat_map expression_names (flat_map (λ (join : PlainJoin). joined_expressions join.to) joins)
 joined_apart [] = refl
 joined_apart (join ∷ joins) =
-    ap (λ xs. flat_map expression_names (joined join.to) ++ xs) (joined_apart joins) ∙ first (joined join.to) (flat_map (λ (j : PlainJoin). joined j.to) joins)
+    ap (λ xs. flat_map expression_names (joined_expressions join.to) ++ xs) (joined_apart joins) ∙ first (joined_expressions join.to) (flat_map (λ (j : PlainJoin). joined_expressions j.to) joins)
   where
     first : (es fs : List PlainExpr) → flat_map expression_names es ++ flat_map expression_names fs ≡ flat_map expression_names (es ++ fs)
     first [] fs = refl
@@ -222,7 +222,7 @@ module _ (S : Type 0) (old new : Names S) (before : List Mention) (notes : Notes
   refused_along : (mentions others : List Mention) → mentions ≡ others → Refused UnknownName before others → Refused UnknownName before mentions
   refused_along mentions others e h = subst (λ (ms : List Mention). Refused UnknownName before ms) (sym e) h
 
-  pub item_passes : (item : PlainItem) → IsNew old (item_declares item) ≡ true → Takes old new (item_declares item) → list_all (has_net new) (item_uses item) ≡ true →
+  pub item_passes : (item : PlainItem) → IsNew old (item_declares item) ≡ true → TakesDeclaration old new (item_declares item) → list_all (has_net new) (item_uses item) ≡ true →
       Passed S new before (item_mentions item)
   item_passes (wire shape name) fresh takes all rest =
       (net name ∷ before, notes_net S old new before notes name (Inner shape) refl takes, net_passes S old new before notes name rest (not_true _ fresh))
@@ -244,7 +244,7 @@ module _ (S : Type 0) (old new : Names S) (before : List Mention) (notes : Notes
             ∙ instance_passes S old new before notes i (map use_of used ++ rest) (not_true _ fresh) ∙ later.2,
       )
 
-  pub item_unknown : (item : PlainItem) → IsNew old (item_declares item) ≡ true → Takes old new (item_declares item) → list_all (has_net new) (item_uses item) ≡ false →
+  pub item_unknown : (item : PlainItem) → IsNew old (item_declares item) ≡ true → TakesDeclaration old new (item_declares item) → list_all (has_net new) (item_uses item) ≡ false →
       Refused UnknownName before (item_mentions item)
   item_unknown (wire shape name) fresh takes all rest = cc
   item_unknown (reg shape name) fresh takes all rest = cc
@@ -270,7 +270,7 @@ module _ (S : Type 0) (old new : Names S) (before : List Mention) (notes : Notes
   item_twice (latch target gate e) fresh rest = cc
   item_twice (clocked clock target e) fresh rest = cc
   item_twice (instance module_name i joins) fresh rest =
-      (_, instance_twice S old new before notes i (flat_map (λ (join : PlainJoin). flat_map uses (joined join.to)) joins ++ rest) (not_false _ fresh))
+      (_, instance_twice S old new before notes i (flat_map (λ (join : PlainJoin). flat_map uses (joined_expressions join.to)) joins ++ rest) (not_false _ fresh))
 
 -- ---- what holds of one variant
 
@@ -339,13 +339,13 @@ module _ (S : Type 0) (old new : Names S) (items : List Item) (k : ℕ) (item : 
   pub items_twice : IsNew old (item_declares (plain_item item)) ≡ false → StartsWith (refusals before (items_mentions (drop k items))) NameTwice
   items_twice fresh = let h = item_twice S old new before notes (plain_item item) fresh (items_mentions (drop (k + 1) items)) in (h.0, onward ∙ h.1)
 
-  pub items_unknown : IsNew old (item_declares (plain_item item)) ≡ true → Takes old new (item_declares (plain_item item)) →
+  pub items_unknown : IsNew old (item_declares (plain_item item)) ≡ true → TakesDeclaration old new (item_declares (plain_item item)) →
       (list_all (has_net new) (item_targets (plain_item item)) && list_all (has_net new) (flat_map expression_names (item_expressions (plain_item item)))) ≡ false →
       StartsWith (refusals before (items_mentions (drop k items))) UnknownName
   items_unknown fresh takes all =
       let h = item_unknown S old new before notes (plain_item item) fresh takes (all_uses (has_net new) (plain_item item) ∙ all) (items_mentions (drop (k + 1) items)) in (h.0, onward ∙ h.1)
 
-  pub items_pass : IsNew old (item_declares (plain_item item)) ≡ true → Takes old new (item_declares (plain_item item)) →
+  pub items_pass : IsNew old (item_declares (plain_item item)) ≡ true → TakesDeclaration old new (item_declares (plain_item item)) →
       (list_all (has_net new) (item_targets (plain_item item)) && list_all (has_net new) (flat_map expression_names (item_expressions (plain_item item)))) ≡ true →
       (after : List Mention) × Notes new after × (refusals before (items_mentions (drop k items)) ≡ refusals after (items_mentions (drop (k + 1) items)))
   items_pass fresh takes all =

@@ -3,7 +3,7 @@
 ghost use Rattle.std.specs.Prelude.{◌≡◌, ◌++◌, map, IfOk, OnOk};
 ghost use Rattle.std.specs.List.{flat_map};
 ghost use Rattle.fab_syntax.specs.Plain.{plain_expr, plain_exprs, plain_item, plain_join};
-ghost use Rattle.fab_syntax.specs.Sound.{subexpressions, parts_subexpressions, item_expressions, joined};
+ghost use Rattle.fab_syntax.specs.Sound.{subexpressions, parts_subexpressions, item_expressions, joined_expressions};
 ghost use Rattle.fab_sound.specs.inner.Checks.{plain_all, waiting_parts, inner_parts};
 
 use fab_base::Memory;
@@ -30,7 +30,7 @@ pub fn expressions(alloc: Global, item: &Item) -> Result<Vec<&Expr>, Memory>
 }
 
 fn put_joined<'a>(found: &mut Vec<&'a Expr>, joins: &'a [Join]) -> Result<(), Memory>
-    ensures { OnOk result (plain_all found.new.items ≡ plain_all found.old.items ++ flat_map (λ join. joined join.to) (map plain_join joins.now)) }
+    ensures { OnOk result (plain_all found.new.items ≡ plain_all found.old.items ++ flat_map (λ join. joined_expressions join.to) (map plain_join joins.now)) }
 {
     for join in joins {
         if let Some(value) = &join.to {

@@ -5,7 +5,7 @@ ghost use Rattle.std.specs.List.{flat_map, list_all};
 ghost use Rattle.fab_base.specs.declared.words.Reason.TheVariants.{NameTwice, UnknownName};
 ghost use Rattle.fab_syntax.specs.Plain.{plain_expr, plain_item, plain_module};
 ghost use Rattle.fab_syntax.specs.Sound.{Mention, net, own_names, item_expressions, item_mentions, mentions_in, refusals, text_refusals};
-ghost use Rattle.fab_sound.specs.inner.Checks.{has_net, expression_names, item_targets, item_declares, IsNew, Takes, Notes, Advances, StartsWith, TakesNets, HasNets, library_text, IsLibrary};
+ghost use Rattle.fab_sound.specs.inner.Checks.{has_net, expression_names, item_targets, item_declares, IsNew, TakesDeclaration, Notes, Advances, StartsWith, TakesNets, HasNets, library_text, IsLibrary};
 
 use crate::expressions::{expressions, subexpressions};
 use crate::tables::{Declared, Known, Library, declare, enter, port_declaration, shape_of};
@@ -104,7 +104,7 @@ fn name_ports<'a>(
 // Takes in what an item declares, if that is new.
 fn name_item<'a>(names: &mut IndexMap<&'a [u8], Declared>, item: &'a Item) -> Result<bool, Memory>
     ensures new { IfOk result (λ fits. fits ≡ IsNew names.old (item_declares (plain_item item.now))) }
-    ensures takes { IfOk result (λ fits. fits ≡ true → Takes names.old names.new (item_declares (plain_item item.now))) }
+    ensures takes { IfOk result (λ fits. fits ≡ true → TakesDeclaration names.old names.new (item_declares (plain_item item.now))) }
 {
     match item {
         Item::Wire(shape, name) => declare(names, name, Declared::Inner(*shape)),

@@ -27,7 +27,7 @@ use Rattle.fab_blocks.specs.Blocks.{IsBlock, PlainBlock, bare, names, new_block,
 use Rattle.fab_blocks.specs.Rows.{WireCells, bel_problem_of, row_of, wire_problem, with_bel_of}
 use Rattle.fab_blocks.proofs.Bridge.{is_tile}
 use Rattle.fab_blocks.proofs.Fine.{block_with_bel, block_with_row, known_kind}
-use Rattle.fab_fabric_names.specs.fab_read.specs.Tiles.{End, ReadsMatrix, ReadsTable, ReadsTile, block_problem, by_default, by_table, most_names, no_matrix, number_pair, numbered, of_list, of_table, pair_of, paired}
+use Rattle.fab_fabric_names.specs.fab_read.specs.Tiles.{End, ReadsMatrix, ReadsTable, ReadsTile, block_problem, by_default, by_table, most_names, no_matrix, number_pair, pairs_by_number, of_list, of_table, pair_of, paired}
 use Rattle.fab_fabric_names.specs.fab_read.proofs.Places.{default_table}
 use Rattle.fab_fabric_names.proofs.Keeping.{Keeps}
 use Rattle.fab_fabric_names.proofs.Sizes.{HasName, sizes_kept}
@@ -95,9 +95,9 @@ pushed_pair : (tile : PlainTile) (found : Option NumberPair) (rest : List Number
 pushed_pair tile None rest is all = all
 pushed_pair tile (Some pair) rest is all = All-cons (IsPair tile) pair rest (is pair refl) all
 
-pairs_of_list : (tile : PlainTile) (pairs : List Pair) → All (IsPair tile) (numbered tile pairs)
+pairs_of_list : (tile : PlainTile) (pairs : List Pair) → All (IsPair tile) (pairs_by_number tile pairs)
 pairs_of_list tile [] = All-nil (IsPair tile)
-pairs_of_list tile (named ∷ pairs) = pushed_pair tile (number_pair tile named) (numbered tile pairs) (λ pair is. pair_of_tile tile named pair is) (pairs_of_list tile pairs)
+pairs_of_list tile (named ∷ pairs) = pushed_pair tile (number_pair tile named) (pairs_by_number tile pairs) (λ pair is. pair_of_tile tile named pair is) (pairs_of_list tile pairs)
 
 pairs_read : (files : Map) (left : ℕ) (tile : PlainTile) (file : Option (List ℕ)) (pairs : List NumberPair) → ReadsMatrix files left tile file pairs → All (IsPair tile) pairs
 pairs_read files left tile _ _ no_matrix = All-nil (IsPair tile)

@@ -8,7 +8,8 @@ use Rattle.std.proofs.lemmas.Grind.{flat_map-append}
 use Rattle.fab_base.specs.declared.words.Reason.TheVariants as reasons
 use Rattle.fab_base.specs.declared.problem.Problem.{Problem}
 use Rattle.fab_fabric.specs.declared.wire.Site.{Site}
-use Rattle.fab_texts.specs.Rows.{Word, word_at}
+use Rattle.fab_texts.specs.Rows.{Word}
+use Rattle.fab_lines.specs.Items.{word_at}
 use Rattle.fab_texts.specs.Keys.{is_among}
 use Rattle.fab_texts.specs.Places.{site_of}
 use Rattle.fab_texts.specs.Formats.{refused}

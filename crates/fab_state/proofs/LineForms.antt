@@ -4,7 +4,8 @@ use Rattle.std.specs.Prelude.{◌==◌, ◌&&◌}
 use Rattle.std.specs.Str.{bytes_eq}
 use Rattle.std.proofs.lemmas.Bool.{eqb-true}
 use Rattle.std.proofs.lemmas.Slice.Eq.{bytes_eq-Decides}
-use Rattle.fab_texts.specs.Rows.{Word, word_at}
+use Rattle.fab_texts.specs.Rows.{Word}
+use Rattle.fab_lines.specs.Items.{word_at}
 use Rattle.fab_state.specs.declared.kind.Kind.{Kind}
 use Rattle.fab_state.specs.declared.kind.Kind.TheVariants as kinds
 use Rattle.fab_state.specs.Kinds.{kind_of}

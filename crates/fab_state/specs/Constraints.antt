@@ -12,7 +12,8 @@ use Rattle.fab_netlist.specs.Plain.{PlainNetlist, name_of}
 use Rattle.fab_implementation.specs.Plain.{Pad}
 use Rattle.fab_implementation.specs.OnFabric.{kind_at}
 use Rattle.fab_lines.specs.Order.{Format, IsWhole}
-use Rattle.fab_texts.specs.Rows.{Word, PlainRow, word_at, words_of}
+use Rattle.fab_texts.specs.Rows.{Word, PlainRow, words_of}
+use Rattle.fab_lines.specs.Items.{word_at}
 use Rattle.fab_texts.specs.Keys.{is_among}
 use Rattle.fab_fabric.specs.Names.{site_text}
 use Rattle.fab_texts.specs.Places.{site_of, IsWritable}

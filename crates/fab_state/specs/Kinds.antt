@@ -3,7 +3,8 @@ use Rattle.std.specs.Prelude.{List, ◌==◌, length, codes, if◌then◌else◌
 use Rattle.std.specs.Str.{bytes_eq}
 use Rattle.fab_texts.specs.declared.sections.Part.{Part}
 use Rattle.fab_texts.specs.declared.sections.Part.TheVariants as parts
-use Rattle.fab_texts.specs.Rows.{Word, word_at}
+use Rattle.fab_texts.specs.Rows.{Word}
+use Rattle.fab_lines.specs.Items.{word_at}
 use Rattle.fab_texts.specs.Sections.{is_ending}
 use Rattle.fab_state.specs.declared.kind.Kind.{Kind}
 use Rattle.fab_state.specs.declared.kind.Kind.TheVariants as kinds

@@ -15,8 +15,9 @@ use fab_base::{Fault, MAX_FILE_BYTES, Memory, Name, Problem, Reason};
 use fab_fabric::{Fabric, Site};
 use fab_implementation::Fixed;
 use fab_kinds::Kind;
+use fab_lines::word_at;
 use fab_netlist::Netlist;
-use fab_texts::{WordReader, WordSet, read_words, site_of, word_at};
+use fab_texts::{WordReader, WordSet, read_words, site_of};
 use std::alloc::Global;
 use std::marker::Model;
 

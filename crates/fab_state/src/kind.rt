@@ -3,7 +3,8 @@
 ghost use Rattle.std.specs.Prelude.{◌≡◌, map};
 ghost use Rattle.fab_state.specs.Kinds.{kind_of, kind_of_three, kind_of_two, part_of};
 
-use fab_texts::{Part, is_ending, word_at};
+use fab_lines::word_at;
+use fab_texts::{Part, is_ending};
 
 /// What a line is, by its first word and the number of its words.
 #[derive(Clone, Copy, Debug, PartialEq, Eq)]

@@ -15,10 +15,8 @@ use crate::lines::{take_pad, take_register};
 use crate::state::State;
 use fab_base::{Fault, MAX_FILE_BYTES, Name, Problem, Reason};
 use fab_fabric::Site;
-use fab_lines::last_line;
-use fab_texts::{
-    Part, WordReader, WordSet, check_end, check_place, check_version, read_words, word_at,
-};
+use fab_lines::{last_line, word_at};
+use fab_texts::{Part, WordReader, WordSet, check_end, check_place, check_version, read_words};
 use std::alloc::Global;
 use std::marker::Model;
 

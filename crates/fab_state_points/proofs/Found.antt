@@ -15,7 +15,7 @@ use Rattle.fab_values.specs.Declarations.{declarations, declared_at, found_in, w
 use Rattle.fab_values.specs.declared.names.Role.{Role}
 use Rattle.fab_values.specs.declared.names.Role.TheVariants as roles
 use Rattle.fab_equations.specs.Instances.{Instance, instances, points}
-use Rattle.fab_equations.specs.Numbering.{IsNumbered, InstancesStand, NamesHavePoints, PathsAreInstances, PointsAreDeclared, points_before}
+use Rattle.fab_equations.specs.Numbering.{IsInstanceOfNumber, InstancesStand, NamesHavePoints, PathsAreInstances, PointsAreDeclared, points_before}
 use Rattle.fab_equations.specs.Equations.{IsDriven, IsPoint, Means, declared_as, declared_in}
 use Rattle.fab_equations.specs.declared.driver.Declared.{Declared}
 use Rattle.fab_equations.specs.declared.driver.Driver.{Driver}
@@ -54,7 +54,7 @@ mapped f None y e = cc
 mapped f (Some x) y e = let same : f x ≡ y = cc in (x, refl, same)
 
 pub name_found : InstancesStand → NamesHavePoints → (text : List PlainModule) → IsSound text → (number : ℕ) (i : Instance) (path : Path) (name : List ℕ) (found : Declared) (shape : Shape)
-    (role : Role) → IsNumbered text number i → i.path ≡ path → declared_in text number i name ≡ Some found → found.shape ≡ shape → found.role ≡ role →
+    (role : Role) → IsInstanceOfNumber text number i → i.path ≡ path → declared_in text number i name ≡ Some found → found.shape ≡ shape → found.role ≡ role →
     IsDeclared text path name shape role × AreBits text path name shape found.first
 name_found stand have text sound number i path name found shape role numbered path_is e shape_is role_is =
     let local = mapped (declared_as text number) (found_in (declarations i.here) name) found e in

@@ -7,7 +7,7 @@ use Rattle.fab_values.specs.Declarations.{declared_at, found_in, width}
 use Rattle.fab_values.specs.declared.names.Local.{Local}
 use Rattle.fab_values.specs.declared.names.Role.{Role}
 use Rattle.fab_equations.specs.Instances.{Instance}
-use Rattle.fab_equations.specs.Numbering.{IsNumbered}
+use Rattle.fab_equations.specs.Numbering.{IsInstanceOfNumber}
 use Rattle.fab_equations.specs.Equations.{IsPoint}
 
 -- the instance at a path declares the name with this shape and in this role
@@ -34,7 +34,7 @@ AreBits text path name shape first = (bit : ℕ) → bit < width shape → IsPoi
 -- the instance at a path by its number, or that there is none
 abbrev pub IsInstanceAt : List PlainModule → Path → Option ℕ → Type 0
 IsInstanceAt text path None = module_at text path ≡ None
-IsInstanceAt text path (Some number) = (i : Instance) × IsNumbered text number i × (i.path ≡ path)
+IsInstanceAt text path (Some number) = (i : Instance) × IsInstanceOfNumber text number i × (i.path ≡ path)
 
 -- the first point of a name that is declared so, or that there is none
 abbrev pub IsFoundName : List PlainModule → Path → (name : List ℕ) → Shape → Role → Option ℕ → Type 0

@@ -7,7 +7,8 @@ use Rattle.fab_base.specs.declared.problem.Problem.{Problem}
 use Rattle.fab_base.specs.declared.problem.Problem.TheVariants as problems
 use Rattle.fab_lines.specs.Order.{Format}
 use Rattle.fab_implementation.specs.Plain.{Pad}
-use Rattle.fab_texts.specs.Rows.{Word, PlainRow, word_at}
+use Rattle.fab_texts.specs.Rows.{Word, PlainRow}
+use Rattle.fab_lines.specs.Items.{word_at}
 use Rattle.fab_texts.specs.Keys.{is_among}
 use Rattle.fab_texts.specs.Formats.{refused, text_format}
 use Rattle.fab_state.specs.Constraints.{with_word}

@@ -8,7 +8,8 @@ ghost use Rattle.fab_stimulus.specs.Stimuli.{columns_of, digits_of, is_digit, is
 
 use fab_base::{Memory, Name};
 use fab_fabric::Site;
-use fab_texts::{WordSet, word_at};
+use fab_lines::word_at;
+use fab_texts::WordSet;
 use std::alloc::Global;
 
 /// The names of ports, which differ.

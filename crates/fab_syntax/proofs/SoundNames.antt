@@ -12,7 +12,7 @@ use Rattle.fab_syntax.specs.declared.tree.Shape.{Shape}
 use Rattle.fab_syntax.specs.declared.tree.Port.{Port}
 use Rattle.fab_syntax.specs.Plain.{PlainExpr, PlainJoin, PlainItem, PlainModule, variable, wire, reg, assign, latch, clocked, instance}
 use Rattle.fab_syntax.specs.Declarations.{module_named, is_input_of, one_if_same, one_if_variable, times_joined_out, times_driven_by, times_driven, times_instance, item_shape, declared_shape}
-use Rattle.fab_syntax.specs.Sound.{Mention, net, instance_name, use_of, joined, subexpressions, own_names, uses, item_mentions, mentions_in, is_net, is_declaration, refusal, refusals, text_refusals}
+use Rattle.fab_syntax.specs.Sound.{Mention, net, instance_name, use_of, joined_expressions, subexpressions, own_names, uses, item_mentions, mentions_in, is_net, is_declaration, refusal, refusals, text_refusals}
 
 -- an empty list has empty parts
 front_empty : {X : Type 0} (xs ys : List X) → xs ++ ys ≡ [] → xs ≡ []
@@ -148,19 +148,19 @@ module _ (name : List ℕ) where
   pub one_same : (other : List ℕ) → 1 ≤ one_if_same other name → bytes_eq other name ≡ true
   one_same other h = elim (cases_Bool (bytes_eq other name)) [ inl y ↦ y | inr n ↦ (let z : one_if_same other name ≡ 0 = rw n refl in absurd (omega arith)) ]
 
-  join_uses : (input : Bool) (to : Option PlainExpr) → 1 ≤ (if input then 0 else one_if_variable to name) → list_any (is_use name) (flat_map uses (joined to)) ≡ true
+  join_uses : (input : Bool) (to : Option PlainExpr) → 1 ≤ (if input then 0 else one_if_variable to name) → list_any (is_use name) (flat_map uses (joined_expressions to)) ≡ true
   join_uses true to h = absurd (omega arith)
   join_uses false None h = absurd (omega arith)
   join_uses false (Some (variable other)) h = rw (one_same other h) refl
   join_uses false (Some _) h = absurd (omega arith)
 
   joins_use : (of : Option PlainModule) (joins : List PlainJoin) → 1 ≤ times_joined_out of joins name →
-      list_any (is_use name) (flat_map (λ (join : PlainJoin). flat_map uses (joined join.to)) joins) ≡ true
+      list_any (is_use name) (flat_map (λ (join : PlainJoin). flat_map uses (joined_expressions join.to)) joins) ≡ true
   joins_use of [] h = absurd (omega arith)
   joins_use of (join ∷ joins) h =
       elim (cases_lt 0 (if is_input_of of join.port then 0 else one_if_variable join.to name)) [
-        | inl y ↦ any_left (is_use name) (flat_map uses (joined join.to)) _ (join_uses (is_input_of of join.port) join.to (omega arith))
-        | inr n ↦ any_right (is_use name) (flat_map uses (joined join.to)) _ (joins_use of joins (omega arith))
+        | inl y ↦ any_left (is_use name) (flat_map uses (joined_expressions join.to)) _ (join_uses (is_input_of of join.port) join.to (omega arith))
+        | inr n ↦ any_right (is_use name) (flat_map uses (joined_expressions join.to)) _ (joins_use of joins (omega arith))
       ]
 
   item_uses : (text : List PlainModule) (item : PlainItem) → 1 ≤ times_driven_by text item name → list_any (is_use name) (item_mentions item) ≡ true
@@ -191,13 +191,13 @@ module _ (name : List ℕ) where
   skipped : (xs ys : List Mention) → list_any (is_net name) xs ≡ false → list_any (is_net name) (xs ++ ys) ≡ list_any (is_net name) ys
   skipped xs ys none = list_any-append (is_net name) xs ys ∙ ap (λ b. b || list_any (is_net name) ys) none
 
-  no_net_joined : (to : Option PlainExpr) → list_any (is_net name) (flat_map uses (joined to)) ≡ false
+  no_net_joined : (to : Option PlainExpr) → list_any (is_net name) (flat_map uses (joined_expressions to)) ≡ false
   no_net_joined None = refl
   no_net_joined (Some e) = list_any-append (is_net name) (uses e) [] ∙ ap (λ b. b || false) (no_uses e)
 
-  no_net_joins : (joins : List PlainJoin) → list_any (is_net name) (flat_map (λ (join : PlainJoin). flat_map uses (joined join.to)) joins) ≡ false
+  no_net_joins : (joins : List PlainJoin) → list_any (is_net name) (flat_map (λ (join : PlainJoin). flat_map uses (joined_expressions join.to)) joins) ≡ false
   no_net_joins [] = refl
-  no_net_joins (join ∷ joins) = skipped (flat_map uses (joined join.to)) _ (no_net_joined join.to) ∙ no_net_joins joins
+  no_net_joins (join ∷ joins) = skipped (flat_map uses (joined_expressions join.to)) _ (no_net_joined join.to) ∙ no_net_joins joins
 
   -- the mentions of an item that declares no net
   pub net_skipped : (item : PlainItem) → is_net_item item ≡ false → (rest : List Mention) →

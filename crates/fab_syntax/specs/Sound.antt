@@ -32,9 +32,9 @@ abbrev mutual
   parts_subexpressions (more e es) = subexpressions e ++ parts_subexpressions es
 
 -- what is joined, if anything is
-abbrev pub joined : Option PlainExpr → List PlainExpr
-joined None = []
-joined (Some e) = e ∷ []
+abbrev pub joined_expressions : Option PlainExpr → List PlainExpr
+joined_expressions None = []
+joined_expressions (Some e) = e ∷ []
 
 -- the expressions of an item, in the order of the text
 abbrev pub item_expressions : PlainItem → List PlainExpr
@@ -43,7 +43,7 @@ item_expressions (reg shape name) = []
 item_expressions (assign target e) = e ∷ []
 item_expressions (latch target gate e) = gate ∷ e ∷ []
 item_expressions (clocked clock target e) = e ∷ []
-item_expressions (instance module_name i joins) = flat_map (λ join. joined join.to) joins
+item_expressions (instance module_name i joins) = flat_map (λ join. joined_expressions join.to) joins
 
 -- ---- names: each is declared once, and before its use (3.12, 4.2)
 
@@ -69,7 +69,7 @@ item_mentions (reg shape name) = net name ∷ []
 item_mentions (assign target e) = use_of target ∷ uses e
 item_mentions (latch target gate e) = uses gate ++ (use_of target ∷ uses e)
 item_mentions (clocked clock target e) = use_of clock ∷ use_of target ∷ uses e
-item_mentions (instance module_name i joins) = instance_name i ∷ flat_map (λ join. flat_map uses (joined join.to)) joins
+item_mentions (instance module_name i joins) = instance_name i ∷ flat_map (λ join. flat_map uses (joined_expressions join.to)) joins
 
 -- all names in a module, in the order of its text
 abbrev pub mentions_in : PlainModule → List Mention

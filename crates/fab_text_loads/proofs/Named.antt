@@ -15,7 +15,7 @@ use Rattle.fab_meaning.specs.Ports.{config_name}
 use Rattle.fab_drives.specs.fab_model.specs.Tiles.{PlainTile, counted, tile_bits}
 use Rattle.fab_drives.specs.fab_model.specs.Grid.{PlainFabric, tile_at}
 use Rattle.fab_drives.specs.fab_fabric.specs.Names.{place_name}
-use Rattle.fab_drives.specs.fab_gen_tile.specs.Names.{tile_module_name, config_module_name, config_instance_name, frame_data_name, frame_strobe_name, bits_name, latch_name, vector, joined}
+use Rattle.fab_drives.specs.fab_gen_tile.specs.Names.{tile_module_name, config_module_name, config_instance_name, frame_data_name, frame_strobe_name, bits_name, latch_name, vector, port_join}
 use Rattle.fab_drives.specs.fab_gen_tile.specs.ConfigModule.{bit_latch, all_latches, config_items, config_module}
 use Rattle.fab_drives.specs.fab_gen_tile.specs.TileModule.{config_joins, tile_module}
 use Rattle.fab_drives.specs.fab_gen_loader.specs.Loader.{NextValues, loader_of, loader_module_name}
@@ -56,12 +56,12 @@ latch_there tile bit few =
     Contains-append_right (counted (tile_bits tile) (λ bit. reg Scalar (latch_name bit))) _ (bit_latch tile bit)
     (Contains-append_left (counted (tile_bits tile) (bit_latch tile)) _ (bit_latch tile bit) (contains_counted (tile_bits tile) (bit_latch tile) bit few))
 
-pub row_joined : (rows row : ℕ) → row < rows → Contains (loader_joins rows) (joined (row_name row) (variable (row_name row)))
+pub row_joined : (rows row : ℕ) → row < rows → Contains (loader_joins rows) (port_join (row_name row) (variable (row_name row)))
 row_joined rows row within =
-    Contains-append_right (joined loader_clock_name (variable loader_clock_name) ∷ joined write_strobe_name (variable write_strobe_name) ∷ joined write_data_name (variable write_data_name)
-    ∷ joined address_name (variable address_name) ∷ joined strobe_name (variable strobe_name) ∷ [])
-    (counted rows (λ y. joined (row_name y) (variable (row_name y)))) (joined (row_name row) (variable (row_name row)))
-    (contains_counted rows (λ y. joined (row_name y) (variable (row_name y))) row within)
+    Contains-append_right (port_join loader_clock_name (variable loader_clock_name) ∷ port_join write_strobe_name (variable write_strobe_name) ∷ port_join write_data_name (variable write_data_name)
+    ∷ port_join address_name (variable address_name) ∷ port_join strobe_name (variable strobe_name) ∷ [])
+    (counted rows (λ y. port_join (row_name y) (variable (row_name y)))) (port_join (row_name row) (variable (row_name row)))
+    (contains_counted rows (λ y. port_join (row_name y) (variable (row_name y))) row within)
 
 -- what holds of the names of all parts holds of each name that is mentioned
 parts_mention : (P : List ℕ → Type 0) (es : List PlainExpr) → All (λ e. (name : List ℕ) → mentions e name ≡ true → P name) es →
@@ -86,7 +86,7 @@ module _ (fabric : PlainFabric) (next : NextValues) (text : List PlainModule) (h
   loader = loader_of fabric.rows next
 
   -- what the loader drives
-  from_loader : (name : List ℕ) (width : ℕ) → Contains (loader_joins fabric.rows) (joined name (variable name)) → is_input loader.ports name ≡ false →
+  from_loader : (name : List ℕ) (width : ℕ) → Contains (loader_joins fabric.rows) (port_join name (variable name)) → is_input loader.ports name ≡ false →
       width_of (top_module fabric) name ≡ width → width_of loader name ≡ width → Are [] name
   from_loader name width among output here there bit declared =
       let below : bit < width_of (top_module fabric) name = bit_below text [] (top_module fabric) name bit has.tiles.top_is declared in
@@ -139,7 +139,7 @@ module _ (fabric : PlainFabric) (next : NextValues) (text : List PlainModule) (h
     abbrev stands_here : module_at text (place_path x y) ≡ Some (tile_module tile)
     stands_here = (has.tiles.stands x y tile there).tile_is
 
-    tile_input_within : (port name : List ℕ) → Contains (tile_joins fabric (placed_tile x y tile)) (joined port (variable name)) → is_input (tile_module tile).ports port ≡ true →
+    tile_input_within : (port name : List ℕ) → Contains (tile_joins fabric (placed_tile x y tile)) (port_join port (variable name)) → is_input (tile_module tile).ports port ≡ true →
         Are [] name → Are (place_path x y) port
     tile_input_within port name among input is bit declared =
         variable_within text (flops fabric next text has) (point (place_path x y) port bit) [] name bit declared
@@ -159,7 +159,7 @@ module _ (fabric : PlainFabric) (next : NextValues) (text : List PlainModule) (h
       pub config_stands : module_at text (config_path x y) ≡ Some (config_module tile)
       config_stands = inside text (place_path x y) tile config_instance_name _ (config_module tile) stands_here (config_found tile some) ((has.tiles.stands x y tile there).config_is some)
 
-      config_input_within : (port : List ℕ) → Contains config_joins (joined port (variable port)) → is_input (config_module tile).ports port ≡ true →
+      config_input_within : (port : List ℕ) → Contains config_joins (port_join port (variable port)) → is_input (config_module tile).ports port ≡ true →
           Are (place_path x y) port → Are (config_path x y) port
       config_input_within port among input is bit declared =
           variable_within text (flops fabric next text has) (point (config_path x y) port bit) (place_path x y) port bit declared

@@ -21,10 +21,10 @@ use Rattle.fab_drives.specs.fab_model.specs.declared.tiles.Bel.{Bel}
 use Rattle.fab_drives.specs.fab_model.specs.Tiles.{PlainTile, counted, matrix_names, tile_bits}
 use Rattle.fab_drives.specs.fab_model.specs.Grid.{PlainFabric, tile_at}
 use Rattle.fab_drives.specs.fab_fabric.specs.Names.{place_name}
-use Rattle.fab_drives.specs.fab_gen_tile.specs.Names.{config_module_name, matrix_module_name, tile_module_name, config_instance_name, bits_name, latch_name, pad_name, joined, same_join}
+use Rattle.fab_drives.specs.fab_gen_tile.specs.Names.{config_module_name, matrix_module_name, tile_module_name, config_instance_name, bits_name, latch_name, pad_name, port_join, same_join}
 use Rattle.fab_drives.specs.fab_gen_tile.specs.ConfigModule.{bit_latch, all_latches, config_items, config_module}
 use Rattle.fab_drives.specs.fab_gen_tile.specs.MatrixModule.{matrix_module, numbered_outputs}
-use Rattle.fab_drives.specs.fab_gen_tile.specs.TileModule.{bits_join, matrix_outputs, pin_join, pad_join, bel_joins, tile_items, tile_module}
+use Rattle.fab_drives.specs.fab_gen_tile.specs.TileModule.{bits_join, matrix_output_names, pin_join, pad_join, bel_joins, tile_items, tile_module}
 use Rattle.fab_drives.specs.fab_gen_loader.specs.Loader.{NextValues, address_port, strobe_port, registers, processes, outputs, loader_of, state_name, count_name, strobe_register_name, row_port, address_register_name, row_register_name, loader_module_name}
 use Rattle.fab_drives.specs.fab_fabric_text.specs.Names.{loader_instance_name}
 use Rattle.fab_drives.specs.fab_fabric_text.specs.Places.{PlacedTile}
@@ -187,10 +187,10 @@ no_clock_to_top kinds.Io = refl
 no_clock_to_top kinds.Mux8 = refl
 
 -- joins of ports of other names
-others_keep : (names : List (List ℕ)) (to : List ℕ → PlainExpr) → list_any (bytes_eq user_clock_name) names ≡ false → All KeepsClock (map (λ name. joined name (to name)) names)
+others_keep : (names : List (List ℕ)) (to : List ℕ → PlainExpr) → list_any (bytes_eq user_clock_name) names ≡ false → All KeepsClock (map (λ name. port_join name (to name)) names)
 others_keep names to none =
-    All-map KeepsClock (λ name. joined name (to name)) names
-    (All-weaker (Differ user_clock_name) (λ name. KeepsClock (joined name (to name))) (λ name differ same. absurd (differ (sym same))) names
+    All-map KeepsClock (λ name. port_join name (to name)) names
+    (All-weaker (Differ user_clock_name) (λ name. KeepsClock (port_join name (to name))) (λ name differ same. absurd (differ (sym same))) names
     (differs_from user_clock_name names none))
 
 clocks_keep : (kind : Kind) → All KeepsClock (map same_join (clock_names kind))
@@ -201,7 +201,7 @@ clocks_keep kinds.Mux8 = All-nil KeepsClock
 bits_keep : (low bits : ℕ) → All KeepsClock (bits_join low bits)
 bits_keep low zero = All-nil KeepsClock
 bits_keep low (suc bits) =
-    All-cons KeepsClock (joined config_name (part bits_name (low + bits) low)) [] (λ same. absurd (told_apart 0 config_name user_clock_name refl same)) (All-nil KeepsClock)
+    All-cons KeepsClock (port_join config_name (part bits_name (low + bits) low)) [] (λ same. absurd (told_apart 0 config_name user_clock_name refl same)) (All-nil KeepsClock)
 
 pub bel_keeps : (place low : ℕ) (bel : Bel) → All KeepsClock (bel_joins place low bel)
 bel_keeps place low bel =
@@ -219,7 +219,7 @@ bel_keeps place low bel =
 -- the configuration, the switch matrix, or a BEL
 pub data IsTilePart (tile : PlainTile) (name_of_module i : List ℕ) (joins : List PlainJoin) : Type 0 where
   a_configuration : 0 < tile_bits tile → name_of_module ≡ config_module_name tile → i ≡ config_instance_name → IsTilePart tile name_of_module i joins
-  a_switch_matrix : 0 < length (matrix_outputs tile) → name_of_module ≡ matrix_module_name tile → IsTilePart tile name_of_module i joins
+  a_switch_matrix : 0 < length (matrix_output_names tile) → name_of_module ≡ matrix_module_name tile → IsTilePart tile name_of_module i joins
   a_site : (bel : Bel) → Contains tile.bels bel → name_of_module ≡ module_name bel.kind → All KeepsClock joins → IsTilePart tile name_of_module i joins
 
 pub tile_is : (tile : PlainTile) → All (ItemIs (IsTilePart tile) NoLatch NoFlop) (tile_items tile)

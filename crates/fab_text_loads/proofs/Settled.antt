@@ -15,7 +15,7 @@ use Rattle.fab_drives.specs.fab_model.specs.Tiles.{PlainTile, counted, tile_bits
 use Rattle.fab_drives.specs.fab_model.specs.Grid.{PlainFabric, tile_at}
 use Rattle.fab_drives.specs.fab_fabric.specs.Names.{place_name}
 use Rattle.fab_drives.specs.fab_fabric.specs.Fabric.{IsFabric}
-use Rattle.fab_drives.specs.fab_gen_tile.specs.Names.{tile_module_name, config_module_name, config_instance_name, frame_data_name, frame_strobe_name, latch_name, joined}
+use Rattle.fab_drives.specs.fab_gen_tile.specs.Names.{tile_module_name, config_module_name, config_instance_name, frame_data_name, frame_strobe_name, latch_name, port_join}
 use Rattle.fab_drives.specs.fab_gen_tile.specs.ConfigModule.{config_module}
 use Rattle.fab_drives.specs.fab_gen_tile.specs.TileModule.{config_joins, tile_module}
 use Rattle.fab_drives.specs.fab_gen_loader.specs.Machine.{Machine}
@@ -77,7 +77,7 @@ module _ (fabric : PlainFabric) (next : NextValues) (text : List PlainModule) (h
       on_named (point loader_path name bit) (flop loader_path clock_name found.0 bit) (in_loader refl, declared_at text loader_path loader name bit has.stands few) (found.1 bit)
 
   -- an input of the top that carries words comes to the loader
-  pub input_shows : (name : List ℕ) (bit : ℕ) → Contains (top_names fabric) name → Contains (loader_joins fabric.rows) (joined name (variable name)) →
+  pub input_shows : (name : List ℕ) (bit : ℕ) → Contains (top_names fabric) name → Contains (loader_joins fabric.rows) (port_join name (variable name)) →
       is_input loader.ports name ≡ true → is_input top.ports name ≡ true → bit < width_of loader name → bit < width_of top name →
       now (point loader_path name bit) ≡ inputs (point [] name bit)
   input_shows name bit listed among inner outer few few_outside =
@@ -89,7 +89,7 @@ module _ (fabric : PlainFabric) (next : NextValues) (text : List PlainModule) (h
       (inl (record { top = refl; input = input; is = refl }))
 
   -- what the loader drives in the top
-  driven_shows : (name register : List ℕ) (width bit : ℕ) → Contains (top_names fabric) name → Contains (loader_joins fabric.rows) (joined name (variable name)) →
+  driven_shows : (name register : List ℕ) (width bit : ℕ) → Contains (top_names fabric) name → Contains (loader_joins fabric.rows) (port_join name (variable name)) →
       is_input loader.ports name ≡ false → Contains (outputs fabric.rows) (assign name (variable register)) → Contains (register_names fabric.rows) register →
       width_of top name ≡ width → width_of loader name ≡ width → width_of loader register ≡ width → bit < width →
       now (point [] name bit) ≡ held (point loader_path register bit)
@@ -155,7 +155,7 @@ module _ (fabric : PlainFabric) (next : NextValues) (text : List PlainModule) (h
     stands_here = (has.tiles.stands x y tile there).tile_is
 
     -- what comes to the tile from the top
-    tile_input_shows : (port name : List ℕ) (bit : ℕ) → Contains (tile_joins fabric (placed_tile x y tile)) (joined port (variable name)) → is_input (tile_module tile).ports port ≡ true →
+    tile_input_shows : (port name : List ℕ) (bit : ℕ) → Contains (tile_joins fabric (placed_tile x y tile)) (port_join port (variable name)) → is_input (tile_module tile).ports port ≡ true →
         bit < width_of (tile_module tile) port → bit < width_of top name → IsLoadingPoint fabric (point (place_path x y) port bit) →
         now (point (place_path x y) port bit) ≡ now (point [] name bit)
     tile_input_shows port name bit among input few few_outside named =
@@ -168,7 +168,7 @@ module _ (fabric : PlainFabric) (next : NextValues) (text : List PlainModule) (h
       config_here = config_stands fabric next text has x y tile there some
 
       -- and on to its configuration
-      config_input_shows : (port : List ℕ) (bit : ℕ) → Contains config_joins (joined port (variable port)) → is_input (config_module tile).ports port ≡ true →
+      config_input_shows : (port : List ℕ) (bit : ℕ) → Contains config_joins (port_join port (variable port)) → is_input (config_module tile).ports port ≡ true →
           bit < width_of (config_module tile) port → bit < width_of (tile_module tile) port →
           now (point (config_path x y) port bit) ≡ now (point (place_path x y) port bit)
       config_input_shows port bit among input few few_outside =

@@ -17,7 +17,7 @@ use Rattle.fab_drives.specs.fab_model.specs.Tiles.{counted}
 use Rattle.fab_drives.specs.fab_model.specs.Grid.{PlainFabric}
 use Rattle.fab_drives.specs.fab_fabric.specs.Fabric.{IsFabric}
 use Rattle.fab_drives.specs.fab_gen_loader.specs.Machine.{Machine, Word, tick}
-use Rattle.fab_drives.specs.fab_gen_loader.specs.Loader.{NextValues, loader_of, state_name, count_name, strobe_register_name, bits_at, machine_at, machine_next, Takes, TakesNext, address_register_name, row_register_name}
+use Rattle.fab_drives.specs.fab_gen_loader.specs.Loader.{NextValues, loader_of, state_name, count_name, strobe_register_name, bits_at, machine_at, machine_next, RegisterTakes, TakesNext, address_register_name, row_register_name}
 use Rattle.fab_drives.specs.fab_gen_loader.proofs.Counted.{length-counted, get_counted}
 use Rattle.fab_drives.specs.fab_gen_loader.proofs.Widths.{state_width, count_width, address_width, row_width}
 use Rattle.fab_drives.specs.fab_tile_drives.proofs.Driven.{width_of, declared_at}
@@ -97,7 +97,7 @@ module _ (fabric : PlainFabric) (next : NextValues) (text : List PlainModule) (h
   takes_here : TakesNext rows text loader_path now
   takes_here = has.steps text loader_path now has.stands
 
-  after_takes : (name : List ℕ) (bits : List Bool) (bit : ℕ) → Takes text loader_path now name bits → bit < width_of (loader_of rows next) name →
+  after_takes : (name : List ℕ) (bits : List Bool) (bit : ℕ) → RegisterTakes text loader_path now name bits → bit < width_of (loader_of rows next) name →
       after (point loader_path name bit) ≡ bit_at bits bit
   after_takes name bits bit takes few =
       let p = point loader_path name bit in
@@ -106,7 +106,7 @@ module _ (fabric : PlainFabric) (next : NextValues) (text : List PlainModule) (h
       ∙ ap (λ found. cond (is_clock clock_name found) (bit_at (value (names_at text now loader_path) takes.next) bit) (held p)) (loader_clock fabric next text has)
       ∙ ap (λ bits. bit_at bits bit) takes.gives
 
-  bits_after : (name : List ℕ) (bits : List Bool) (width : ℕ) → Takes text loader_path now name bits → length bits ≡ width → width_of (loader_of rows next) name ≡ width →
+  bits_after : (name : List ℕ) (bits : List Bool) (width : ℕ) → RegisterTakes text loader_path now name bits → length bits ≡ width → width_of (loader_of rows next) name ≡ width →
       bits_at after loader_path name width ≡ bits
   bits_after name bits width takes long wide =
       first_bits_same width (λ bit. after (point loader_path name bit)) (λ bit. bit_at bits bit) (λ bit few. after_takes name bits bit takes (omega (arith, few, wide)))

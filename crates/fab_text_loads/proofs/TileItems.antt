@@ -23,7 +23,7 @@ use Rattle.fab_drives.specs.fab_model.specs.Tiles.{PlainTile, counted, matrix_na
 use Rattle.fab_drives.specs.fab_gen_tile.specs.Names.{config_module_name, matrix_module_name, config_instance_name, matrix_instance_name, bel_instance_name, frame_data_name, frame_strobe_name, bits_name, begin_name, end_name, pad_name}
 use Rattle.fab_drives.specs.fab_gen_tile.specs.Borders.{border, side_border, border_ports, passing_assign, beginning_assign, begin_assigns, dest_assign, row_assigns}
 use Rattle.fab_drives.specs.fab_gen_tile.specs.ConfigModule.{frame_ports}
-use Rattle.fab_drives.specs.fab_gen_tile.specs.TileModule.{pad_ports, bels_ports, tile_ports, bits_wire, config_joins, config_instances, matrix_joins, matrix_outputs, matrix_instances, bel_instance, bel_instances, tile_items, tile_module}
+use Rattle.fab_drives.specs.fab_gen_tile.specs.TileModule.{pad_ports, bels_ports, tile_ports, bits_wire, config_joins, config_instances, matrix_joins, matrix_output_names, matrix_instances, bel_instance, bel_instances, tile_items, tile_module}
 use Rattle.fab_drives.specs.fab_tile_drives.proofs.Endings.{EndsLow, low_apart, low_names, all_counted, all_flat_map}
 use Rattle.fab_drives.specs.fab_tile_drives.proofs.TileNames.{tile_width}
 use Rattle.fab_drives.proofs.Apart.{told_apart}
@@ -65,7 +65,7 @@ module _ (tile : PlainTile) (P : PlainItem → Type 0) (assigns : (target : List
 
   -- what holds of wires, assigns and instances holds of all items of a tile
   pub all_of_items : All (λ name. P (wire Scalar name)) (matrix_names tile) → (0 < tile_bits tile → P (wire (Vector (tile_bits tile)) bits_name)) →
-      (0 < tile_bits tile → P config_instance) → (0 < length (matrix_outputs tile) → P matrix_instance) →
+      (0 < tile_bits tile → P config_instance) → (0 < length (matrix_output_names tile) → P matrix_instance) →
       ((place low : ℕ) (bel : Bel) → Contains tile.bels bel → P (bel_instance place low bel)) → All P (tile_items tile)
   all_of_items wires bits_are configs matrix bels =
       let placed_bel = λ (placed : ℕ × Bel). bel_instance placed.0 (bits_before tile.bels placed.0) placed.1 in
@@ -73,7 +73,7 @@ module _ (tile : PlainTile) (P : PlainItem → Type 0) (assigns : (target : List
       (All-append P (bits_wire (tile_bits tile)) _ (all_bits_wires (tile_bits tile) bits_are)
       (All-append P (flat_map row_assigns tile.rows) _ (all_flat_map P row_assigns tile.rows (all_of (λ (row : WireRow). All P (row_assigns row)) tile.rows all_row_assigns))
       (All-append P (config_instances tile (tile_bits tile)) _ (all_configs (tile_bits tile) configs)
-      (All-append P (matrix_instances tile (matrix_outputs tile)) (bel_instances tile.bels) (all_matrices (matrix_outputs tile) matrix)
+      (All-append P (matrix_instances tile (matrix_output_names tile)) (bel_instances tile.bels) (all_matrices (matrix_output_names tile) matrix)
       (All-map P placed_bel (enumerate_from 0 tile.bels)
       (All-weaker (λ (placed : ℕ × Bel). Contains tile.bels placed.1) (λ (placed : ℕ × Bel). P (placed_bel placed)) (λ placed listed. bels _ _ _ listed) (enumerate_from 0 tile.bels)
       (all_numbered (Contains tile.bels) 0 tile.bels (All-contains_itself tile.bels))))))))

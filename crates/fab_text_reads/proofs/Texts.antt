@@ -12,7 +12,7 @@ use Rattle.fab_model.specs.Grid.{PlainFabric}
 use Rattle.fab_fabric.specs.Fabric.{AreTiles, IsFabric}
 use Rattle.fab_gen_tile.specs.ConfigModule.{config_module}
 use Rattle.fab_gen_tile.specs.MatrixModule.{matrix_module}
-use Rattle.fab_gen_tile.specs.TileModule.{matrix_outputs, tile_module}
+use Rattle.fab_gen_tile.specs.TileModule.{matrix_output_names, tile_module}
 use Rattle.fab_drives.specs.fab_fabric_text.specs.Text.{config_modules, fabric_text, matrix_modules, standing_types, tile_modules, used_kinds}
 use Rattle.fab_drives.specs.fab_fabric_text.specs.Top.{top_module}
 use Rattle.fab_tile_drives.proofs.Endings.{all_flat_map}
@@ -49,7 +49,7 @@ configurations tile stands (suc n) is = All-cons IsModule (config_module tile) [
 
 modules_printable : (tile : PlainTile) → Stands tile → All IsModule (tile_modules tile)
 modules_printable tile stands =
-    All-append IsModule (matrix_modules tile (matrix_outputs tile)) _ (matrices tile stands (matrix_outputs tile))
+    All-append IsModule (matrix_modules tile (matrix_output_names tile)) _ (matrices tile stands (matrix_output_names tile))
     (All-append IsModule (config_modules tile (tile_bits tile)) _ (configurations tile stands (tile_bits tile) refl)
     (All-cons IsModule (tile_module tile) [] (tile_printable tile stands.is_tile stands.few_bels stands.written) (All-nil IsModule)))
 

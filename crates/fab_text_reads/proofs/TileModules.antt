@@ -23,9 +23,9 @@ use Rattle.fab_model.specs.declared.tiles.Bel.{Bel}
 use Rattle.fab_model.specs.Rows.{dest_bits, side_bits, is_jump, is_named, bit_name}
 use Rattle.fab_model.specs.Tiles.{PlainTile, IsTile, bel_bits, counted, matrix_names, numbered_pairs, tile_bits, tile_wires, bits_before}
 use Rattle.fab_gen_tile.specs.Words.{IsFreeName}
-use Rattle.fab_gen_tile.specs.Names.{bits_name, config_instance_name, frame_data_name, frame_strobe_name, begin_name, end_name, joined, matrix_instance_name, pad_name, same_join}
+use Rattle.fab_gen_tile.specs.Names.{bits_name, config_instance_name, frame_data_name, frame_strobe_name, begin_name, end_name, port_join, matrix_instance_name, pad_name, same_join}
 use Rattle.fab_gen_tile.specs.Borders.{begin_assigns, beginning_assign, border, border_ports, dest_assign, fixed_bit, passing_assign, row_assigns, side_border}
-use Rattle.fab_gen_tile.specs.TileModule.{bel_instance, bel_instances, bel_joins, bels_ports, bits_join, bits_wire, config_instances, config_joins, matrix_instances, matrix_joins, matrix_inputs, matrix_outputs, side_names, pad_join, pad_ports, pin_join, tile_items, tile_module, tile_ports}
+use Rattle.fab_gen_tile.specs.TileModule.{bel_instance, bel_instances, bel_joins, bels_ports, bits_join, bits_wire, config_instances, config_joins, matrix_instances, matrix_joins, matrix_input_names, matrix_output_names, side_names, pad_join, pad_ports, pin_join, tile_items, tile_module, tile_ports}
 use Rattle.fab_tile_drives.proofs.Endings.{all_counted, all_flat_map}
 use Rattle.fab_tile_drives.proofs.PinPorts.{bits_within}
 use Rattle.fab_tiles_sound.proofs.Standing.{each_placed}
@@ -43,7 +43,7 @@ use Rattle.fab_text_reads.proofs.TileTexts.{config_is, side_identifiers}
 pub variable_printable : (name : List ℕ) → IsIdentifier name → IsPrintable (variable name)
 variable_printable name named = (named, lit≤ tt)
 
-pub join_is : (port name : List ℕ) → IsIdentifier port → IsIdentifier name → IsJoin (joined port (variable name))
+pub join_is : (port name : List ℕ) → IsIdentifier port → IsIdentifier name → IsJoin (port_join port (variable name))
 join_is port name port_named named = (port_named, variable_printable name named)
 
 pub same_is : (name : List ℕ) → IsIdentifier name → IsJoin (same_join name)
@@ -295,7 +295,7 @@ module _ (tile : PlainTile) (is : IsTile tile) (few_bels : length tile.bels ≤ 
   matrix_joined : All IsJoin (matrix_joins tile)
   matrix_joined =
       let few = written.few_bits in
-      All-append IsJoin (map same_join (matrix_inputs tile)) _ (sides_joined false)
+      All-append IsJoin (map same_join (matrix_input_names tile)) _ (sides_joined false)
       (All-append IsJoin (bits_join (bel_bits tile) (select_bits nat_eq (numbered_pairs tile))) _ (bits_joined (bel_bits tile) (select_bits nat_eq (numbered_pairs tile)) (omega (arith, few)))
       (sides_joined true))
 
@@ -315,5 +315,5 @@ module _ (tile : PlainTile) (is : IsTile tile) (few_bels : length tile.bels ≤ 
         (All-append IsItem (bits_wire (tile_bits tile)) _ (bits_wired (tile_bits tile) written.few_bits)
         (All-append IsItem (flat_map row_assigns tile.rows) _ rows_printable
         (All-append IsItem (config_instances tile (tile_bits tile)) _ (configured (tile_bits tile))
-        (All-append IsItem (matrix_instances tile (matrix_outputs tile)) (bel_instances tile.bels) (switched (matrix_outputs tile)) bels_printable))))),
+        (All-append IsItem (matrix_instances tile (matrix_output_names tile)) (bel_instances tile.bels) (switched (matrix_output_names tile)) bels_printable))))),
   )

@@ -18,7 +18,7 @@ use Rattle.fab_matrix.specs.Matrix.{chain, field, output_value, selection}
 use Rattle.fab_matrix.proofs.Fields.{field_within}
 use Rattle.fab_model.specs.Tables.{HasTable}
 use Rattle.fab_model.specs.Tiles.{PlainTile, TileWire, IsPair, IsTile, counted, is_matrix_output, matrix_names, numbered_pairs, tile_bits, tile_wires, wire_name, wire_passes}
-use Rattle.fab_gen_tile.specs.TileModule.{is_on_side, matrix_inputs, side_names}
+use Rattle.fab_gen_tile.specs.TileModule.{is_on_side, matrix_input_names, side_names}
 use Rattle.fab_gen_tile.specs.Names.{frame_data_name, frame_strobe_name, latch_name}
 use Rattle.fab_gen_tile.specs.ConfigModule.{all_latches, bit_latch, config_module}
 use Rattle.fab_gen_tile.specs.MatrixModule.{matrix_module, named_pairs, numbered_outputs}
@@ -159,11 +159,11 @@ module _ (tile : PlainTile) (is : IsTile tile) (written : IsWritten tile) where
   pub matrix_printable : IsModule (matrix_module tile)
   matrix_printable =
       let value : ℕ × List ℕ → PlainItem = λ (output : ℕ × List ℕ). assign output.1 (output_value nat_eq (named_pairs tile) output.0) in
-      let inputs = All-map IsPort (scalar true) (matrix_inputs tile) (All-weaker IsIdentifier (λ name. IsPort (scalar true name)) (λ name named. (tt, named)) (matrix_inputs tile) (side_identifiers false)) in
+      let inputs = All-map IsPort (scalar true) (matrix_input_names tile) (All-weaker IsIdentifier (λ name. IsPort (scalar true name)) (λ name named. (tt, named)) (matrix_input_names tile) (side_identifiers false)) in
       let outputs = All-map IsPort (λ (output : ℕ × List ℕ). scalar false output.1) (numbered_outputs tile)
       (All-weaker (λ (output : ℕ × List ℕ). IsIdentifier output.1) (λ (output : ℕ × List ℕ). IsPort (scalar false output.1)) (λ output named. (tt, named)) (numbered_outputs tile) outputs_identifiers) in (
         module_named (codes "matrix_") tile.name refl refl refl written.name,
-        ports_of _ (All-append IsPort (map (scalar true) (matrix_inputs tile)) _ inputs (All-append IsPort (config_port (select_bits nat_eq (named_pairs tile))) _ (config_ports (select_bits nat_eq (named_pairs tile)) bits_few) outputs)),
+        ports_of _ (All-append IsPort (map (scalar true) (matrix_input_names tile)) _ inputs (All-append IsPort (config_port (select_bits nat_eq (named_pairs tile))) _ (config_ports (select_bits nat_eq (named_pairs tile)) bits_few) outputs)),
         items_of _ (All-map IsItem value (numbered_outputs tile)
             (All-weaker (λ (output : ℕ × List ℕ). IsIdentifier output.1) (λ (output : ℕ × List ℕ). IsItem (value output)) (λ output named. (named, output_printable output.0)) (numbered_outputs tile) outputs_identifiers)),
       )

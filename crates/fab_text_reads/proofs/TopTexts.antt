@@ -22,7 +22,7 @@ use Rattle.fab_model.specs.Cascade.{PlacedRow, fitting, nth_row, opposite, partn
 use Rattle.fab_fabric.specs.Fabric.{IsFabric}
 use Rattle.fab_fabric.specs.Names.{place_name}
 use Rattle.fab_gen_tile.specs.Words.{IsFreeName}
-use Rattle.fab_gen_tile.specs.Names.{begin_name, border_name, end_name, frame_data_name, frame_strobe_name, joined, letter, pad_name, same_join}
+use Rattle.fab_gen_tile.specs.Names.{begin_name, border_name, end_name, frame_data_name, frame_strobe_name, port_join, letter, pad_name, same_join}
 use Rattle.fab_gen_tile.specs.Borders.{side_border}
 use Rattle.fab_meaning.specs.Loading.{write_data_name, write_strobe_name}
 use Rattle.fab_gen_loader.specs.Loader.{loader_module_name}
@@ -172,7 +172,7 @@ and_gives f (Some x) y so = (x, refl, so)
 
 -- a port of a pad of the tile at a place, joined to the port of the top
 abbrev pad_join : (x y place : ℕ) → (port : List ℕ) → PlainJoin
-pad_join x y place port = joined (pad_name place port) (variable (pad_port_name x y place port))
+pad_join x y place port = port_join (pad_name place port) (variable (pad_port_name x y place port))
 
 module _ (fabric : PlainFabric) (is : IsFabric fabric) (written : All IsWritten fabric.types) where
   source_free : (tile : PlainTile) (row : WireRow) → IsWritten tile → Contains tile.rows row → ForSome row.source IsFreeName
@@ -219,8 +219,8 @@ module _ (fabric : PlainFabric) (is : IsFabric fabric) (written : All IsWritten 
       let sources : ForSome row.source IsFreeName = subst (λ (r : WireRow). ForSome r.source IsFreeName) same (fits.written.named.sources number row there) in
       let dests : ForSome row.dest IsFreeName = subst (λ (r : WireRow). ForSome r.dest IsFreeName) same (fits.written.named.dests number row there) in
       let here = numbered_row placed number row in
-      let begins : ℕ → PlainJoin = λ (bit : ℕ). joined (begin_name row bit) (variable (begin_wire_name placed.x placed.y row bit)) in
-      let ends : ℕ → PlainJoin = λ (bit : ℕ). joined (end_name row bit) (end_value (previous_row fabric here) bit) in
+      let begins : ℕ → PlainJoin = λ (bit : ℕ). port_join (begin_name row bit) (variable (begin_wire_name placed.x placed.y row bit)) in
+      let ends : ℕ → PlainJoin = λ (bit : ℕ). port_join (end_name row bit) (end_value (previous_row fabric here) bit) in
       either (All IsJoin) (is_jump row.dir) [] (counted (side_border row row.source) begins ++ counted (side_border row row.dest) ends) (All-nil IsJoin)
       (All-append IsJoin (counted (side_border row row.source) begins) (counted (side_border row row.dest) ends)
       (all_counted IsJoin (side_border row row.source) begins (λ bit few. join_is (begin_name row bit) (begin_wire_name placed.x placed.y row bit) (begin_is row sources dests bit) (wire_is placed.x placed.y row bit sources)))

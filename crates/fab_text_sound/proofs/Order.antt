@@ -8,7 +8,7 @@ use Rattle.std.proofs.lemmas.Slice.Eq.{bytes_eq-Decides}
 use Rattle.fab_syntax.specs.declared.tree.Shape.{Shape}
 use Rattle.fab_syntax.specs.declared.tree.Port.{Port}
 use Rattle.fab_syntax.specs.Plain.{PlainExpr, PlainJoin, PlainItem, PlainModule, constant, variable, wire, reg, assign, latch, clocked, instance}
-use Rattle.fab_syntax.specs.Sound.{Mention, net, instance_name, use_of, joined, subexpressions, own_names, uses, item_mentions, mentions_in, is_net, is_declaration, refusals}
+use Rattle.fab_syntax.specs.Sound.{Mention, net, instance_name, use_of, joined_expressions, subexpressions, own_names, uses, item_mentions, mentions_in, is_net, is_declaration, refusals}
 use Rattle.fab_meaning.proofs.Declared.{bytes_apart}
 use Rattle.fab_drives.proofs.Lists.{none_there, first_or_later}
 use Rattle.fab_tiles_sound.specs.fab_parts_sound.proofs.Declared.{port_names}
@@ -180,13 +180,13 @@ in_expression e = none_declared (flat_map own_names (subexpressions e))
 skipped : (xs ys : List Mention) → declared_in xs ≡ [] → declared_in (xs ++ ys) ≡ declared_in ys
 skipped xs ys none = flat_map-append declared_by xs ys ∙ ap (λ front. front ++ declared_in ys) none
 
-in_join : (to : Option PlainExpr) → declared_in (flat_map uses (joined to)) ≡ []
+in_join : (to : Option PlainExpr) → declared_in (flat_map uses (joined_expressions to)) ≡ []
 in_join None = refl
 in_join (Some e) = skipped (uses e) [] (in_expression e)
 
-in_joins : (joins : List PlainJoin) → declared_in (flat_map (λ (join : PlainJoin). flat_map uses (joined join.to)) joins) ≡ []
+in_joins : (joins : List PlainJoin) → declared_in (flat_map (λ (join : PlainJoin). flat_map uses (joined_expressions join.to)) joins) ≡ []
 in_joins [] = refl
-in_joins (join ∷ joins) = skipped (flat_map uses (joined join.to)) (flat_map (λ (join : PlainJoin). flat_map uses (joined join.to)) joins) (in_join join.to) ∙ in_joins joins
+in_joins (join ∷ joins) = skipped (flat_map uses (joined_expressions join.to)) (flat_map (λ (join : PlainJoin). flat_map uses (joined_expressions join.to)) joins) (in_join join.to) ∙ in_joins joins
 
 in_item : (item : PlainItem) → declared_in (item_mentions item) ≡ item_names item
 in_item (wire shape name) = refl
@@ -262,7 +262,7 @@ IsJoinedTo names (Some _) = ⊥
 abbrev pub Joins : (names : List (List ℕ)) → PlainJoin → Type 0
 Joins names join = IsJoinedTo names join.to
 
-join_known : (names : List (List ℕ)) (to : Option PlainExpr) → IsJoinedTo names to → All (IsKnown names) (flat_map uses (joined to))
+join_known : (names : List (List ℕ)) (to : Option PlainExpr) → IsJoinedTo names to → All (IsKnown names) (flat_map uses (joined_expressions to))
 join_known names None known = All-nil (IsKnown names)
 join_known names (Some (variable name)) known = All-cons (IsKnown names) (use_of name) [] known (All-nil (IsKnown names))
 join_known names (Some (constant bits)) known = All-nil (IsKnown names)
@@ -270,6 +270,6 @@ join_known names (Some _) known = absurd known
 
 pub instance_uses : (names : List (List ℕ)) (of i : List ℕ) (joins : List PlainJoin) → All (Joins names) joins → UsesKnown names (instance of i joins)
 instance_uses names of i joins all =
-    All-cons (IsKnown names) (instance_name i) (flat_map (λ (join : PlainJoin). flat_map uses (joined join.to)) joins) tt
-    (all_flat_map (IsKnown names) (λ (join : PlainJoin). flat_map uses (joined join.to)) joins
-    (All-weaker (Joins names) (λ (join : PlainJoin). All (IsKnown names) (flat_map uses (joined join.to))) (λ join known. join_known names join.to known) joins all))
+    All-cons (IsKnown names) (instance_name i) (flat_map (λ (join : PlainJoin). flat_map uses (joined_expressions join.to)) joins) tt
+    (all_flat_map (IsKnown names) (λ (join : PlainJoin). flat_map uses (joined_expressions join.to)) joins
+    (All-weaker (Joins names) (λ (join : PlainJoin). All (IsKnown names) (flat_map uses (joined_expressions join.to))) (λ join known. join_known names join.to known) joins all))

@@ -14,7 +14,7 @@ use Rattle.fab_model.specs.Tiles.{PlainTile, tile_bits}
 use Rattle.fab_model.specs.Grid.{PlainFabric}
 use Rattle.fab_fabric.specs.Fabric.{IsFabric}
 use Rattle.fab_drives.specs.fab_gen_tile.specs.Names.{config_module_name, matrix_module_name, tile_module_name}
-use Rattle.fab_drives.specs.fab_gen_tile.specs.TileModule.{tile_module, matrix_outputs}
+use Rattle.fab_drives.specs.fab_gen_tile.specs.TileModule.{tile_module, matrix_output_names}
 use Rattle.fab_drives.specs.fab_gen_tile.specs.ConfigModule.{config_module}
 use Rattle.fab_drives.specs.fab_gen_tile.specs.MatrixModule.{matrix_module}
 use Rattle.fab_drives.specs.fab_gen_loader.specs.Expressions.{loader_module}
@@ -93,23 +93,23 @@ configs_apart tile (suc n) = one_alone NamesDiffer (config_module tile)
 
 all_of_one : (tile : PlainTile) → All (Owned tile) (tile_modules tile)
 all_of_one tile =
-    All-append (Owned tile) (matrix_modules tile (matrix_outputs tile)) (config_modules tile (tile_bits tile) ++ tile_module tile ∷ [])
-    (all_matrices (Owned tile) tile (matrix_outputs tile) of_matrix)
+    All-append (Owned tile) (matrix_modules tile (matrix_output_names tile)) (config_modules tile (tile_bits tile) ++ tile_module tile ∷ [])
+    (all_matrices (Owned tile) tile (matrix_output_names tile) of_matrix)
     (All-append (Owned tile) (config_modules tile (tile_bits tile)) (tile_module tile ∷ []) (all_configs (Owned tile) tile (tile_bits tile) of_config)
     (All-cons (Owned tile) (tile_module tile) [] of_whole (All-nil (Owned tile))))
 
 parts_apart : (tile : PlainTile) → AllPairs NamesDiffer (tile_modules tile)
 parts_apart tile =
-    let matrices = matrix_modules tile (matrix_outputs tile) in
+    let matrices = matrix_modules tile (matrix_output_names tile) in
     let configs = config_modules tile (tile_bits tile) in
     let whole = tile_module tile in
     let matrix = matrix_module tile in
     let config = config_module tile in
-    pairs_append NamesDiffer matrices (configs ++ whole ∷ []) (matrices_apart tile (matrix_outputs tile))
+    pairs_append NamesDiffer matrices (configs ++ whole ∷ []) (matrices_apart tile (matrix_output_names tile))
     (pairs_append NamesDiffer configs (whole ∷ []) (configs_apart tile (tile_bits tile)) (one_alone NamesDiffer whole)
     (all_configs (λ m. All (NamesDiffer m) (whole ∷ [])) tile (tile_bits tile)
     (All-cons (NamesDiffer config) whole [] (told_apart 0 (config_module_name tile) (tile_module_name tile) refl) (All-nil (NamesDiffer config)))))
-    (all_matrices (λ m. All (NamesDiffer m) (configs ++ whole ∷ [])) tile (matrix_outputs tile)
+    (all_matrices (λ m. All (NamesDiffer m) (configs ++ whole ∷ [])) tile (matrix_output_names tile)
     (All-append (NamesDiffer matrix) configs (whole ∷ [])
     (all_configs (NamesDiffer matrix) tile (tile_bits tile) (told_apart 0 (matrix_module_name tile) (config_module_name tile) refl))
     (All-cons (NamesDiffer matrix) whole [] (told_apart 0 (matrix_module_name tile) (tile_module_name tile) refl) (All-nil (NamesDiffer matrix)))))

@@ -13,7 +13,7 @@ use Rattle.fab_model.specs.Tables.{HasTable}
 use Rattle.fab_model.specs.Grid.{PlainFabric, tile_at}
 use Rattle.fab_fabric.specs.Fabric.{IsFabric, AreTiles}
 use Rattle.fab_drives.specs.fab_gen_tile.specs.Words.{IsNamed}
-use Rattle.fab_drives.specs.fab_gen_tile.specs.TileModule.{tile_module, matrix_outputs}
+use Rattle.fab_drives.specs.fab_gen_tile.specs.TileModule.{tile_module, matrix_output_names}
 use Rattle.fab_drives.specs.fab_gen_tile.specs.ConfigModule.{config_module}
 use Rattle.fab_drives.specs.fab_gen_tile.specs.MatrixModule.{matrix_module}
 use Rattle.fab_drives.specs.fab_gen_loader.specs.Expressions.{loader_module}
@@ -56,7 +56,7 @@ all_both text before (m ∷ xs) ys first second =
 
 module _ (modules : List PlainModule) (apart : AllPairs NamesDiffer modules) (tile : PlainTile) where
   -- they are found where they stand among modules with names of their own
-  has_modules : (0 < tile_bits tile → Contains modules (config_module tile)) → (0 < length (matrix_outputs tile) → Contains modules (matrix_module tile)) →
+  has_modules : (0 < tile_bits tile → Contains modules (config_module tile)) → (0 < length (matrix_output_names tile) → Contains modules (matrix_module tile)) →
       All (λ bel. Contains modules (module_of_kind bel.kind)) tile.bels → HasModules modules tile
   has_modules configs matrices bels = record {
     config_is = λ some. found_by_name modules (config_module tile) apart (configs some);
@@ -118,18 +118,18 @@ module _ (fabric : PlainFabric) (is : IsFabric fabric) (are : AreTiles fabric) (
       Contains-append_right kinds_text (tiles_text ++ loader ∷ top_module fabric ∷ []) m
       (Contains-append_left tiles_text (loader ∷ top_module fabric ∷ []) m (contains_flat tile_modules (standing_types fabric) tile m there among))
 
-  matrix_part : (tile : PlainTile) → 0 < length (matrix_outputs tile) → Contains (tile_modules tile) (matrix_module tile)
+  matrix_part : (tile : PlainTile) → 0 < length (matrix_output_names tile) → Contains (tile_modules tile) (matrix_module tile)
   matrix_part tile some =
-      Contains-append_left (matrix_modules tile (matrix_outputs tile)) (config_modules tile (tile_bits tile) ++ tile_module tile ∷ []) (matrix_module tile) (contains_matrix tile (matrix_outputs tile) some)
+      Contains-append_left (matrix_modules tile (matrix_output_names tile)) (config_modules tile (tile_bits tile) ++ tile_module tile ∷ []) (matrix_module tile) (contains_matrix tile (matrix_output_names tile) some)
 
   config_part : (tile : PlainTile) → 0 < tile_bits tile → Contains (tile_modules tile) (config_module tile)
   config_part tile some =
-      Contains-append_right (matrix_modules tile (matrix_outputs tile)) (config_modules tile (tile_bits tile) ++ tile_module tile ∷ []) (config_module tile)
+      Contains-append_right (matrix_modules tile (matrix_output_names tile)) (config_modules tile (tile_bits tile) ++ tile_module tile ∷ []) (config_module tile)
       (Contains-append_left (config_modules tile (tile_bits tile)) (tile_module tile ∷ []) (config_module tile) (contains_config tile (tile_bits tile) some))
 
   whole_part : (tile : PlainTile) → Contains (tile_modules tile) (tile_module tile)
   whole_part tile =
-      Contains-append_right (matrix_modules tile (matrix_outputs tile)) (config_modules tile (tile_bits tile) ++ tile_module tile ∷ []) (tile_module tile)
+      Contains-append_right (matrix_modules tile (matrix_output_names tile)) (config_modules tile (tile_bits tile) ++ tile_module tile ∷ []) (tile_module tile)
       (Contains-append_right (config_modules tile (tile_bits tile)) (tile_module tile ∷ []) (tile_module tile) (contains_first (tile_module tile) []))
 
   text_has : (tile : PlainTile) → IsReady tile → HasModules text tile
@@ -142,7 +142,7 @@ module _ (fabric : PlainFabric) (is : IsFabric fabric) (are : AreTiles fabric) (
 
   module _ (tile : PlainTile) (ready : IsReady tile) where
     abbrev matrices : List PlainModule
-    matrices = matrix_modules tile (matrix_outputs tile)
+    matrices = matrix_modules tile (matrix_output_names tile)
 
     abbrev configs : List PlainModule
     configs = config_modules tile (tile_bits tile)
@@ -153,7 +153,7 @@ module _ (fabric : PlainFabric) (is : IsFabric fabric) (are : AreTiles fabric) (
         let front = (before ++ matrices) ++ configs in
         has_modules front names_apart tile
         (λ some. Contains-append_right (before ++ matrices) configs (config_module tile) (contains_config tile (tile_bits tile) some))
-        (λ some. Contains-append_left (before ++ matrices) configs (matrix_module tile) (Contains-append_right before matrices (matrix_module tile) (contains_matrix tile (matrix_outputs tile) some)))
+        (λ some. Contains-append_left (before ++ matrices) configs (matrix_module tile) (Contains-append_right before matrices (matrix_module tile) (contains_matrix tile (matrix_output_names tile) some)))
         (All-weaker (λ (bel : Bel). Contains before (module_of_kind bel.kind)) (λ (bel : Bel). Contains front (module_of_kind bel.kind))
         (λ bel there. Contains-append_left (before ++ matrices) configs (module_of_kind bel.kind) (Contains-append_left before matrices (module_of_kind bel.kind) there)) tile.bels bels)
 
@@ -161,7 +161,7 @@ module _ (fabric : PlainFabric) (is : IsFabric fabric) (are : AreTiles fabric) (
         AllFit text before (tile_modules tile)
     tile_modules_fit before names_apart bels =
         all_both text before matrices (configs ++ tile_module tile ∷ [])
-        (all_anywhere text before matrices (all_matrices (FitsAnywhere text) tile (matrix_outputs tile) (λ front. tile_matrix_fits text front tile ready.is_tile)))
+        (all_anywhere text before matrices (all_matrices (FitsAnywhere text) tile (matrix_output_names tile) (λ front. tile_matrix_fits text front tile ready.is_tile)))
         (all_both text (before ++ matrices) configs (tile_module tile ∷ [])
         (all_anywhere text (before ++ matrices) configs (all_configs (FitsAnywhere text) tile (tile_bits tile) (λ front. config_fits tile ready.table text front)))
         (tile_fits text ((before ++ matrices) ++ configs) tile ready.is_tile ready.is_named (front_has before names_apart bels) (text_has tile ready), tt))
@@ -174,7 +174,7 @@ module _ (fabric : PlainFabric) (is : IsFabric fabric) (are : AreTiles fabric) (
   tiles_fit_from before [] has names_apart ready = tt
   tiles_fit_from before (tile ∷ tiles) has names_apart ready =
       let here = All-head IsReady tile tiles ready in
-      let own_matrices = matrix_modules tile (matrix_outputs tile) in
+      let own_matrices = matrix_modules tile (matrix_output_names tile) in
       let own_configs = config_modules tile (tile_bits tile) in
       let rest = flat_map tile_modules tiles in
       let front = (before ++ own_matrices) ++ own_configs in

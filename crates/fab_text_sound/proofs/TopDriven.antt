@@ -22,7 +22,7 @@ use Rattle.fab_model.specs.Tiles.{PlainTile, counted, IsTile}
 use Rattle.fab_model.specs.Grid.{PlainFabric}
 use Rattle.fab_model.specs.Cascade.{previous_row}
 use Rattle.fab_fabric.specs.Fabric.{IsFabric, AreTiles}
-use Rattle.fab_drives.specs.fab_gen_tile.specs.Names.{begin_name, end_name, joined, same_join}
+use Rattle.fab_drives.specs.fab_gen_tile.specs.Names.{begin_name, end_name, port_join, same_join}
 use Rattle.fab_drives.specs.fab_gen_tile.specs.Words.{IsNamed}
 use Rattle.fab_drives.specs.fab_gen_tile.specs.Borders.{side_border, border_ports}
 use Rattle.fab_drives.specs.fab_gen_tile.specs.TileModule.{tile_ports, tile_module, bels_ports}
@@ -101,10 +101,10 @@ module _ (fabric : PlainFabric) where
 
   module _ (p : PlacedTile) where
     abbrev begin_join : WireRow → (bit : ℕ) → PlainJoin
-    begin_join row bit = joined (begin_name row bit) (variable (begin_wire_name p.x p.y row bit))
+    begin_join row bit = port_join (begin_name row bit) (variable (begin_wire_name p.x p.y row bit))
 
     abbrev end_join : (number : ℕ) → WireRow → (bit : ℕ) → PlainJoin
-    end_join number row bit = joined (end_name row bit) (end_value (previous_row fabric (numbered_row p number row)) bit)
+    end_join number row bit = port_join (end_name row bit) (end_value (previous_row fabric (numbered_row p number row)) bit)
 
     same_bits : (number : ℕ) (row : WireRow) →
         AllZip SameName (counted (side_border row row.source) (begin_join row)) (counted (side_border row row.source) (λ bit. scalar false (begin_name row bit)))

@@ -8,7 +8,7 @@ use Rattle.fab_model.specs.Tiles.{counted}
 use Rattle.fab_model.specs.Grid.{PlainFabric}
 use Rattle.fab_fabric.specs.Names.{place_name}
 use Rattle.fab_fabric.specs.Fabric.{IsFabric, AreTiles}
-use Rattle.fab_drives.specs.fab_gen_tile.specs.Names.{tile_module_name, same_join, joined, frame_data_name, frame_strobe_name}
+use Rattle.fab_drives.specs.fab_gen_tile.specs.Names.{tile_module_name, same_join, port_join, frame_data_name, frame_strobe_name}
 use Rattle.fab_drives.specs.fab_gen_tile.specs.Words.{IsNamed}
 use Rattle.fab_drives.specs.fab_gen_tile.specs.TileModule.{tile_ports, tile_module}
 use Rattle.fab_drives.specs.fab_gen_loader.specs.Loader.{loader_ports, loader_module_name}
@@ -31,7 +31,7 @@ module _ (fabric : PlainFabric) (text before : List PlainModule) (is : IsFabric 
 
   abbrev later_tile_joins : PlacedTile → List PlainJoin
   later_tile_joins p =
-      joined frame_data_name (variable (row_name p.y)) ∷ joined frame_strobe_name (variable (column_strobe_name p.x))
+      port_join frame_data_name (variable (row_name p.y)) ∷ port_join frame_strobe_name (variable (column_strobe_name p.x))
       ∷ (flat_map (row_joins fabric p) (enumerate_from 0 p.tile.rows) ++ flat_map (pad_joins p.x p.y) (enumerate_from 0 p.tile.bels))
 
   pub top_fits : FitsIn text before (top_module fabric)

@@ -10,7 +10,7 @@ use Rattle.fab_syntax.specs.declared.tree.Op.TheVariants.{And}
 use Rattle.fab_syntax.specs.declared.tree.Port.{Port}
 use Rattle.fab_syntax.specs.Plain.{PlainExpr, PlainJoin, PlainItem, PlainModule, constant, variable, part, operation, conditional, wire, instance}
 use Rattle.fab_syntax.specs.Declarations.{module_named, width, width_if_any}
-use Rattle.fab_syntax.specs.Sound.{item_expressions, joined, Every, width_of_name, IsVectorAnd, SelectFits, OperandsFit, SidesFit, FitsPort, JoinFits, IsJoinedOnce, InstanceFits, ServesAsClock, IsScalarInput, IsJoinedToClock, ClockFits}
+use Rattle.fab_syntax.specs.Sound.{item_expressions, joined_expressions, Every, width_of_name, IsVectorAnd, SelectFits, OperandsFit, SidesFit, FitsPort, JoinFits, IsJoinedOnce, InstanceFits, ServesAsClock, IsScalarInput, IsJoinedToClock, ClockFits}
 use Rattle.fab_meaning.specs.Runs.{user_clock_name}
 use Rattle.fab_model.specs.declared.tiles.WireRow.{WireRow}
 use Rattle.fab_model.specs.Rows.{is_jump}
@@ -59,7 +59,7 @@ only_first join joins apart =
 
 -- what holds of names and constants holds of what is joined
 plain_join : (P : PlainExpr → Type 0) → ((name : List ℕ) → P (variable name)) → ((bits : List Bool) → P (constant bits)) → (fabric : PlainFabric) (input : Bool) (shape : Shape) (to : Option PlainExpr) →
-    IsJoinedRight fabric input shape to → All (Every P) (joined to)
+    IsJoinedRight fabric input shape to → All (Every P) (joined_expressions to)
 plain_join P names bits_are fabric input shape None right = absurd right
 plain_join P names bits_are fabric input shape (Some (variable name)) right = All-cons (Every P) (variable name) [] (All-cons P (variable name) [] (names name) (All-nil P)) (All-nil (Every P))
 plain_join P names bits_are fabric input shape (Some (constant bits)) right = All-cons (Every P) (constant bits) [] (All-cons P (constant bits) [] (bits_are bits) (All-nil P)) (All-nil (Every P))
@@ -126,8 +126,8 @@ module _ (fabric : PlainFabric) (is : IsFabric fabric) (are : AreTiles fabric) w
   joined_each : (P : PlainExpr → Type 0) → ((name : List ℕ) → P (variable name)) → ((bits : List Bool) → P (constant bits)) → (module_name i : List ℕ) (joins : List PlainJoin) (ports : List Port) →
       AllZip (Joining fabric) joins ports → All (Every P) (item_expressions (instance module_name i joins))
   joined_each P names bits_are module_name i joins ports matched =
-      all_flat_map (Every P) (λ (join : PlainJoin). joined join.to) joins
-      (matched_all (Joining fabric) (λ (join : PlainJoin). All (Every P) (joined join.to))
+      all_flat_map (Every P) (λ (join : PlainJoin). joined_expressions join.to) joins
+      (matched_all (Joining fabric) (λ (join : PlainJoin). All (Every P) (joined_expressions join.to))
       (λ join port right. plain_join P names bits_are fabric port.input port.shape join.to right.1) joins ports matched)
 
   pub top_selects_fit : All (λ item. All (Every (SelectFits top)) (item_expressions item)) (top_items fabric)

@@ -19,7 +19,7 @@ use Rattle.fab_model.specs.Joins.{goes, comes}
 use Rattle.fab_model.specs.Cascade.{PlacedRow, previous_row, opposite}
 use Rattle.fab_model.proofs.Crossings.{partner_is, goes_from, standing_is_wire_row}
 use Rattle.fab_fabric.specs.Fabric.{AreTiles}
-use Rattle.fab_drives.specs.fab_gen_tile.specs.Names.{begin_name, end_name, pad_name, vector, joined, same_join}
+use Rattle.fab_drives.specs.fab_gen_tile.specs.Names.{begin_name, end_name, pad_name, vector, port_join, same_join}
 use Rattle.fab_drives.specs.fab_gen_tile.specs.Borders.{side_border, border_ports}
 use Rattle.fab_drives.specs.fab_gen_tile.specs.TileModule.{bels_ports, tile_ports}
 use Rattle.fab_drives.specs.fab_gen_tile.specs.TileModule as tiles
@@ -148,8 +148,8 @@ module _ (fabric : PlainFabric) where
         elim (cases_Bool (is_jump row.dir)) [
           | inl jumps ↦ rw jumps tt
           | inr no_jump ↦ (
-              let begin_join = λ (bit : ℕ). joined (begin_name row bit) (variable (begin_wire_name p.x p.y row bit)) in
-              let end_join = λ (bit : ℕ). joined (end_name row bit) (end_value (previous_row fabric (numbered_row p number row)) bit) in
+              let begin_join = λ (bit : ℕ). port_join (begin_name row bit) (variable (begin_wire_name p.x p.y row bit)) in
+              let end_join = λ (bit : ℕ). port_join (end_name row bit) (end_value (previous_row fabric (numbered_row p number row)) bit) in
               rw no_jump
               (zip_append (Joining fabric) (counted (side_border row row.source) begin_join) (counted (side_border row row.dest) end_join)
               (counted (side_border row row.source) (λ bit. scalar false (begin_name row bit))) (counted (side_border row row.dest) (λ bit. scalar true (end_name row bit)))
@@ -171,7 +171,7 @@ module _ (fabric : PlainFabric) where
     bel_matched : (placed : ℕ × Bel) → Contains (enumerate_from 0 p.tile.bels) placed → AllZip (Joining fabric) (pad_joins p.x p.y placed) (tiles.pad_ports placed.0 placed.1.kind)
     bel_matched placed there =
         let kind = placed.1.kind in
-        let join = λ (port : List ℕ). joined (pad_name placed.0 port) (variable (pad_port_name p.x p.y placed.0 port)) in
+        let join = λ (port : List ℕ). port_join (pad_name placed.0 port) (variable (pad_port_name p.x p.y placed.0 port)) in
         let in_port = λ (port : List ℕ). scalar true (pad_port_name p.x p.y placed.0 port) in
         let out_port = λ (port : List ℕ). scalar false (pad_port_name p.x p.y placed.0 port) in
         zip_append (Joining fabric) (map join (top_inputs kind)) (map join (top_outputs kind)) (map (λ port. scalar true (pad_name placed.0 port)) (top_inputs kind))

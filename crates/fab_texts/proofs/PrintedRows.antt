@@ -9,8 +9,8 @@ use Rattle.std.proofs.lemmas.List.Splits.{slice_split_at, slice_split_none, leng
 use Rattle.std.proofs.lemmas.List.Elements.{All-cons, All-nil}
 use Rattle.std.proofs.lemmas.List.Concat.{flat_map-cons}
 use Rattle.fab_lines.specs.Parts.{is_blank}
-use Rattle.fab_texts.specs.Rows.{words, is_filled, holds_word, numbered, words_of, rows_of}
-use Rattle.fab_texts.specs.Printed.{joined, row_text, rows_text, is_word_byte, is_word, ends_line, is_row}
+use Rattle.fab_texts.specs.Rows.{words, is_filled, holds_word, rows_from, words_of, rows_of}
+use Rattle.fab_texts.specs.Printed.{spaced, row_text, rows_text, is_word_byte, is_word, ends_line, is_row}
 
 pub both_true : (a b : Bool) → (a && b) ≡ true → (a ≡ true) × (b ≡ true)
 both_true true b h = (refl, h)
@@ -79,16 +79,16 @@ row_words [] h = refl
 row_words (w ∷ []) h = rw (both_true (is_word w) (ends_line w) h).0 refl
 row_words (w ∷ v ∷ ws) h = let b = both_true (is_word w) (is_row (v ∷ ws)) h in rw b.0 (row_words (v ∷ ws) b.1)
 
-joined_on_line : (row : List (List ℕ)) → list_all is_word row ≡ true → list_all is_line_byte (joined row) ≡ true
+joined_on_line : (row : List (List ℕ)) → list_all is_word row ≡ true → list_all is_line_byte (spaced row) ≡ true
 joined_on_line [] h = refl
 joined_on_line (w ∷ []) h =
     let b = both_true (is_word w) true h in
     all_weaker is_word_byte is_line_byte word_on_line w (both_true (is_filled w) (list_all is_word_byte w) b.0).1
 joined_on_line (w ∷ v ∷ ws) h =
     let b = both_true (is_word w) (list_all is_word (v ∷ ws)) h in
-    all_append is_line_byte w (32 ∷ joined (v ∷ ws)) (all_weaker is_word_byte is_line_byte word_on_line w (both_true (is_filled w) (list_all is_word_byte w) b.0).1) (joined_on_line (v ∷ ws) b.1)
+    all_append is_line_byte w (32 ∷ spaced (v ∷ ws)) (all_weaker is_word_byte is_line_byte word_on_line w (both_true (is_filled w) (list_all is_word_byte w) b.0).1) (joined_on_line (v ∷ ws) b.1)
 
-words_joined : (row : List (List ℕ)) → list_all is_word row ≡ true → filter is_filled (slice_split is_blank (joined row)) ≡ row
+words_joined : (row : List (List ℕ)) → list_all is_word row ≡ true → filter is_filled (slice_split is_blank (spaced row)) ≡ row
 words_joined [] h = refl
 words_joined (w ∷ []) h =
     let b = both_true (is_word w) true h in
@@ -97,21 +97,21 @@ words_joined (w ∷ []) h =
 words_joined (w ∷ v ∷ ws) h =
     let b = both_true (is_word w) (list_all is_word (v ∷ ws)) h in
     let f = both_true (is_filled w) (list_all is_word_byte w) b.0 in
-    ap (filter is_filled) (slice_split_at is_blank w 32 (joined (v ∷ ws)) (none_passes is_word_byte is_blank word_no_blank w f.1) refl) ∙ rw f.0 (ap (λ xs. w ∷ xs) (words_joined (v ∷ ws) b.1))
+    ap (filter is_filled) (slice_split_at is_blank w 32 (spaced (v ∷ ws)) (none_passes is_word_byte is_blank word_no_blank w f.1) refl) ∙ rw f.0 (ap (λ xs. w ∷ xs) (words_joined (v ∷ ws) b.1))
 
-pub row_again : (row : List (List ℕ)) → is_row row ≡ true → words (joined row) ≡ row
+pub row_again : (row : List (List ℕ)) → is_row row ≡ true → words (spaced row) ≡ row
 row_again row h =
     let all = row_words row h in
-    ap (λ (l : List ℕ). filter is_filled (slice_split is_blank l)) (none_first is_line_byte (λ b. eqb b 35) line_no_comment (joined row) (joined_on_line row all)) ∙ words_joined row all
+    ap (λ (l : List ℕ). filter is_filled (slice_split is_blank l)) (none_first is_line_byte (λ b. eqb b 35) line_no_comment (spaced row) (joined_on_line row all)) ∙ words_joined row all
 
 filled_some : (word : List ℕ) → is_filled word ≡ true → 0 < length word
 filled_some [] h = absurd cc
 filled_some (b ∷ bs) h = omega arith
 
-joined_some : (row : List (List ℕ)) → is_row row ≡ true → 0 < length (joined row)
+joined_some : (row : List (List ℕ)) → is_row row ≡ true → 0 < length (spaced row)
 joined_some [] h = absurd cc
 joined_some (w ∷ []) h = filled_some w (both_true (is_filled w) (list_all is_word_byte w) (both_true (is_word w) (ends_line w) h).0).0
-joined_some (w ∷ v ∷ ws) h = let whole = length-append w (32 ∷ joined (v ∷ ws)) in omega (arith, whole)
+joined_some (w ∷ v ∷ ws) h = let whole = length-append w (32 ∷ spaced (v ∷ ws)) in omega (arith, whole)
 
 ends_append : (front text : List ℕ) → 0 < length text → ends_line text ≡ true → ends_line (front ++ text) ≡ true
 ends_append front text some ends =
@@ -120,12 +120,12 @@ ends_append front text some ends =
     let last : get_or (front ++ text) (length (front ++ text) - 1) 0 ≡ get_or text (length text - 1) 0 = ap (λ n. get_or (front ++ text) n 0) place ∙ get_or-append-add front text (length text - 1) 0 in
     ap (λ b. not (b == 13)) last ∙ ends
 
-pub joined_ends : (row : List (List ℕ)) → is_row row ≡ true → ends_line (joined row) ≡ true
+pub joined_ends : (row : List (List ℕ)) → is_row row ≡ true → ends_line (spaced row) ≡ true
 joined_ends [] h = absurd cc
 joined_ends (w ∷ []) h = (both_true (is_word w) (ends_line w) h).1
 joined_ends (w ∷ v ∷ ws) h =
     let b = both_true (is_word w) (is_row (v ∷ ws)) h in
-    ap ends_line (sym (append_assoc w (32 ∷ []) (joined (v ∷ ws)))) ∙ ends_append (w ++ 32 ∷ []) (joined (v ∷ ws)) (joined_some (v ∷ ws) b.1) (joined_ends (v ∷ ws) b.1)
+    ap ends_line (sym (append_assoc w (32 ∷ []) (spaced (v ∷ ws)))) ∙ ends_append (w ++ 32 ∷ []) (spaced (v ∷ ws)) (joined_some (v ∷ ws) b.1) (joined_ends (v ∷ ws) b.1)
 
 -- ---- all lines
 
@@ -150,16 +150,16 @@ row_holds line [] h = absurd cc
 row_holds line (w ∷ ws) h = grind (arith, nat_tests)
 
 -- the rows that are printed are read back
-rows_from : (number : ℕ) (rows : List (List (List ℕ))) → are_rows rows ≡ true → words_of (filter holds_word (numbered number (lines (rows_text rows)))) ≡ rows
+rows_from : (number : ℕ) (rows : List (List (List ℕ))) → are_rows rows ≡ true → words_of (filter holds_word (rows_from number (lines (rows_text rows)))) ≡ rows
 rows_from number [] h = refl
 rows_from number (row ∷ rows) h =
     let b = both_true (is_row row) (are_rows rows) h in
-    let cut : rows_text (row ∷ rows) ≡ joined row ++ 10 ∷ rows_text rows = flat_map-cons row_text row rows ∙ append_assoc (joined row) (10 ∷ []) (rows_text rows) in
+    let cut : rows_text (row ∷ rows) ≡ spaced row ++ 10 ∷ rows_text rows = flat_map-cons row_text row rows ∙ append_assoc (spaced row) (10 ∷ []) (rows_text rows) in
     let on_line = joined_on_line row (row_words row b.0) in
-    let first : lines (rows_text (row ∷ rows)) ≡ joined row ∷ lines (rows_text rows) =
-    ap lines cut ∙ lines_before (joined row) (rows_text rows) (none_passes is_line_byte (λ x. eqb x 10) line_no_feed (joined row) on_line) (line_whole (joined row) (joined_ends row b.0)) in
+    let first : lines (rows_text (row ∷ rows)) ≡ spaced row ∷ lines (rows_text rows) =
+    ap lines cut ∙ lines_before (spaced row) (rows_text rows) (none_passes is_line_byte (λ x. eqb x 10) line_no_feed (spaced row) on_line) (line_whole (spaced row) (joined_ends row b.0)) in
     let again = row_again row b.0 in
-    ap (λ (ls : List (List ℕ)). words_of (filter holds_word (numbered number ls))) first
+    ap (λ (ls : List (List ℕ)). words_of (filter holds_word (rows_from number ls))) first
     ∙ rw (again, row_holds number row b.0) (ap (λ rs. row ∷ rs) (rows_from (number + 1) rows b.1))
 
 pub rows_again : (rows : List (List (List ℕ))) → are_rows rows ≡ true → words_of (rows_of (rows_text rows)) ≡ rows

@@ -5,14 +5,14 @@ use Rattle.fab_lines.specs.Parts.{is_blank}
 use Rattle.fab_texts.specs.Rows.{Word, is_filled}
 
 -- the words with a blank between two
-abbrev pub joined : List Word → List ℕ
-joined [] = []
-joined (word ∷ []) = word
-joined (word ∷ next ∷ more) = word ++ 32 ∷ joined (next ∷ more)
+abbrev pub spaced : List Word → List ℕ
+spaced [] = []
+spaced (word ∷ []) = word
+spaced (word ∷ next ∷ more) = word ++ 32 ∷ spaced (next ∷ more)
 
 -- a line of words, which LF ends
 abbrev pub row_text : List Word → List ℕ
-row_text row = joined row ++ 10 ∷ []
+row_text row = spaced row ++ 10 ∷ []
 
 abbrev pub rows_text : List (List Word) → List ℕ
 rows_text rows = flat_map row_text rows

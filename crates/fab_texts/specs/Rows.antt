@@ -1,5 +1,5 @@
 -- Texts of lines of words.
-use Rattle.std.specs.Prelude.{ℕ, zero, suc, ◌+◌, ◌==◌, Bool, List, [], ◌∷◌, map, filter, not, length, slice_get, slice_index_or, Result, Ok}
+use Rattle.std.specs.Prelude.{ℕ, zero, suc, ◌+◌, ◌==◌, Bool, List, [], ◌∷◌, map, filter, not, length, slice_get, Result, Ok}
 use Rattle.std.specs.List.{slice_split}
 use Rattle.std.specs.Option.{option_map_or}
 use Rattle.std.specs.Str.Lines.{lines}
@@ -25,16 +25,16 @@ abbrev pub row_at : (number : ℕ) → (line : List ℕ) → PlainRow
 row_at number line = record { line = number; words = words line }
 
 -- lines as rows, of which the first has this number
-abbrev pub numbered : (number : ℕ) → List (List ℕ) → List PlainRow
-numbered number [] = []
-numbered number (line ∷ rest) = row_at number line ∷ numbered (number + 1) rest
+abbrev pub rows_from : (number : ℕ) → List (List ℕ) → List PlainRow
+rows_from number [] = []
+rows_from number (line ∷ rest) = row_at number line ∷ rows_from (number + 1) rest
 
 abbrev pub holds_word : PlainRow → Bool
 holds_word row = not (length row.words == 0)
 
 -- the lines of a text that hold a word
 abbrev pub rows_of : (bytes : List ℕ) → List PlainRow
-rows_of bytes = filter holds_word (numbered 1 (lines bytes))
+rows_of bytes = filter holds_word (rows_from 1 (lines bytes))
 
 abbrev pub words_of : List PlainRow → List (List Word)
 words_of rows = map (λ row. row.words) rows
@@ -43,10 +43,6 @@ words_of rows = map (λ row. row.words) rows
 abbrev pub entry_line : List PlainRow → (entry : ℕ) → ℕ
 entry_line rows zero = 0
 entry_line rows (suc before) = option_map_or (λ row. row.line) (slice_get rows before) 0
-
--- the word at a place, which is empty past the end
-abbrev pub word_at : List Word → ℕ → Word
-word_at words place = slice_index_or words place []
 
 -- ---- how a reader takes rows
 

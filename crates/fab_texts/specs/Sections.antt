@@ -7,7 +7,8 @@ use Rattle.fab_base.specs.declared.problem.Problem.{Problem}
 use Rattle.fab_base.specs.declared.problem.Problem.TheVariants as problems
 use Rattle.fab_texts.specs.declared.sections.Part.{Part}
 use Rattle.fab_texts.specs.declared.sections.Part.TheVariants as parts
-use Rattle.fab_texts.specs.Rows.{Word, word_at}
+use Rattle.fab_texts.specs.Rows.{Word}
+use Rattle.fab_lines.specs.Items.{word_at}
 use Rattle.fab_texts.specs.Formats.{refused}
 
 -- ---- the first line and the last

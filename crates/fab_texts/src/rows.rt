@@ -3,7 +3,7 @@
 ghost use Rattle.std.specs.Prelude.{◌≡◌, ◌≤◌, IfOk, length, map, not, ◌==◌};
 ghost use Rattle.std.specs.List.{list_any};
 ghost use Rattle.fab_lines.specs.Parts.{is_blank};
-ghost use Rattle.fab_texts.specs.Rows.{entry_line, rows_of, word_at, words};
+ghost use Rattle.fab_texts.specs.Rows.{entry_line, rows_of, words};
 
 use fab_base::{MAX_FILE_BYTES, Memory};
 use fab_lines::{first_line, uncommented};
@@ -26,17 +26,6 @@ pub fn words_of(alloc: Global, line: &[u8]) -> Result<Vec<&[u8]>, Memory>
         }
     }
     Ok(words)
-}
-
-/// The word at a place; it is empty past the end.
-pub fn word_at<'a>(words: &[&'a [u8]], place: usize) -> &'a [u8]
-    ensures { result.now ≡ word_at (map (λ w. w.now) words.now) place }
-{
-    if place < words.len() {
-        words[place]
-    } else {
-        b""
-    }
 }
 
 fn has_filled(text: &[u8]) -> bool

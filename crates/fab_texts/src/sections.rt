@@ -5,8 +5,8 @@ ghost use Rattle.fab_base.specs.Reading.{Answers};
 ghost use Rattle.fab_lines.specs.Order.{judged};
 ghost use Rattle.fab_texts.specs.Sections.{cut_short, has_ended, in_place, is_ending, is_header, is_open, may_follow, with_version};
 
-use crate::rows::word_at;
 use fab_base::{Problem, Reason};
+use fab_lines::word_at;
 
 /// Where a line may stand in a text with sections.
 #[derive(Clone, Copy, Debug)]

@@ -6,7 +6,7 @@ use Rattle.fab_gen_tile.specs.fab_meaning.specs.Points.{Path, Point, point, Foun
 use Rattle.fab_gen_tile.specs.fab_meaning.specs.Settled.{Assignment}
 use Rattle.fab_gen_tile.specs.fab_meaning.specs.Ports.{config_name}
 use Rattle.fab_gen_tile.specs.fab_model.specs.Tiles.{PlainTile, tile_bits}
-use Rattle.fab_gen_tile.specs.Names.{config_module_name, config_instance_name, bits_name, joined}
+use Rattle.fab_gen_tile.specs.Names.{config_module_name, config_instance_name, bits_name, port_join}
 use Rattle.fab_gen_tile.specs.ConfigModule.{all_latches, config_module}
 use Rattle.fab_gen_tile.specs.TileModule.{config_joins, bits_join, tile_items, tile_module}
 use Rattle.fab_tile_drives.specs.Stands.{TileStands, IsSettledOnDeclared}
@@ -46,7 +46,7 @@ module _ (text : List PlainModule) (path : Path) (tile : PlainTile) (stands : Ti
   wire_shows bit few =
       let some : 0 < tile_bits tile = omega arith in
       let wide : tile_width tile bits_name ≡ tile_bits tile = bits_wide tile some in
-      let third : Contains config_joins (joined config_name (variable bits_name)) = (2, omega arith, refl) in
+      let third : Contains config_joins (port_join config_name (variable bits_name)) = (2, omega arith, refl) in
       joined_out Has text inputs held now settled path (tile_module tile) (config_module tile) (config_module_name tile) config_instance_name config_joins stands.tile_is
       (stands.config_is some) (config_there tile some) config_name bits_name bit third refl (omega arith) (covers (point path bits_name bit) (in_tile refl refl))
       ∙ port_shows bit few
@@ -59,7 +59,7 @@ module _ (text : List PlainModule) (path : Path) (tile : PlainTile) (stands : Ti
         now (point (name ∷ path) config_name bit) ≡ bits (low + bit)
     instance_shows low zero bit among input wide within few = absurd (omega arith)
     instance_shows low (suc last) bit among input wide within few =
-        let join = joined config_name (part bits_name (low + last) low) in
+        let join = port_join config_name (part bits_name (low + last) low) in
         let all : tile_width tile bits_name ≡ tile_bits tile = bits_wide tile (omega arith) in
         joined_in Has text inputs held now settled path (tile_module tile) inner module_name name joins stands.tile_is named there
         config_name (part bits_name (low + last) low) bit (among join (contains_first join [])) here input (omega arith)

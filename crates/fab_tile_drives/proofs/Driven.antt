@@ -10,7 +10,7 @@ use Rattle.fab_gen_tile.specs.fab_meaning.specs.Points.{Path, Point, point, bit_
 use Rattle.fab_gen_tile.specs.fab_meaning.specs.Settled.{Assignment, names_at}
 use Rattle.fab_gen_tile.specs.fab_meaning.specs.Reads.{is_declared}
 use Rattle.fab_gen_tile.specs.fab_meaning.proofs.Declared.{bits_of_name}
-use Rattle.fab_gen_tile.specs.Names.{joined}
+use Rattle.fab_gen_tile.specs.Names.{port_join}
 use Rattle.fab_tile_drives.specs.Stands.{IsSettledOnDeclared}
 
 abbrev pub width_of : PlainModule → List ℕ → ℕ
@@ -50,7 +50,7 @@ module _ (Has : Point → Type 0) (text : List PlainModule) (inputs held now : A
   module _ (path : Path) (m inner : PlainModule) (module_name name_of_instance : List ℕ) (joins : List PlainJoin) (stands : module_at text path ≡ Some m)
       (named : module_named text module_name ≡ Some inner) (there : Contains m.items (instance module_name name_of_instance joins)) where
     -- an input port has the value of what is joined to it
-    pub joined_in : (port : List ℕ) (e : PlainExpr) (bit : ℕ) → Contains joins (joined port e) → module_at text (name_of_instance ∷ path) ≡ Some inner →
+    pub joined_in : (port : List ℕ) (e : PlainExpr) (bit : ℕ) → Contains joins (port_join port e) → module_at text (name_of_instance ∷ path) ≡ Some inner →
         is_input inner.ports port ≡ true → bit < width_of inner port → Has (point (name_of_instance ∷ path) port bit) →
         now (point (name_of_instance ∷ path) port bit) ≡ bit_at (value (names_at text now path) e) bit
     joined_in port e bit among inside input few has =
@@ -63,11 +63,11 @@ module _ (Has : Point → Type 0) (text : List PlainModule) (inputs held now : A
           item = instance module_name name_of_instance joins;
           stands = stands;
           holds = there;
-          drives = (joined port e, among, subst (λ b. JoinDrives path name_of_instance b port (Some e) p (bit_of path e bit)) (sym is) (refl, refl));
+          drives = (port_join port e, among, subst (λ b. JoinDrives path name_of_instance b port (Some e) p (bit_of path e bit)) (sym is) (refl, refl));
         }))
 
     -- a name has the value of the output port to which it is joined
-    pub joined_out : (port name : List ℕ) (bit : ℕ) → Contains joins (joined port (variable name)) →
+    pub joined_out : (port name : List ℕ) (bit : ℕ) → Contains joins (port_join port (variable name)) →
         is_input inner.ports port ≡ false → bit < width_of m name → Has (point path name bit) →
         now (point path name bit) ≡ now (point (name_of_instance ∷ path) port bit)
     joined_out port name bit among output few has =
@@ -81,5 +81,5 @@ module _ (Has : Point → Type 0) (text : List PlainModule) (inputs held now : A
           item = instance module_name name_of_instance joins;
           stands = stands;
           holds = there;
-          drives = (joined port (variable name), among, subst (λ b. JoinDrives path name_of_instance b port (Some (variable name)) p from) (sym is) (name, refl, refl, refl));
+          drives = (port_join port (variable name), among, subst (λ b. JoinDrives path name_of_instance b port (Some (variable name)) p from) (sym is) (name, refl, refl, refl));
         }))

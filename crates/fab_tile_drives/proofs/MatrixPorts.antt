@@ -14,7 +14,7 @@ use Rattle.fab_gen_tile.specs.fab_syntax.specs.Declarations.{declared_width, is_
 use Rattle.fab_gen_tile.specs.fab_meaning.proofs.Declared.{bytes_apart, width_passed}
 use Rattle.fab_gen_tile.specs.fab_meaning.specs.Ports.{config_name, scalar, config_port}
 use Rattle.fab_gen_tile.specs.fab_model.specs.Tiles.{PlainTile, TileWire, tile_wires, wire_name, matrix_names, is_matrix_output, IsTile}
-use Rattle.fab_gen_tile.specs.TileModule.{is_on_side, side_names, matrix_inputs}
+use Rattle.fab_gen_tile.specs.TileModule.{is_on_side, side_names, matrix_input_names}
 use Rattle.fab_gen_tile.specs.MatrixModule.{numbered_outputs, named_pairs, matrix_module}
 use Rattle.fab_tile_drives.proofs.Endings.{EndsLow, low_apart, low_wires}
 use Rattle.fab_tile_drives.proofs.Members.{contains_first, contains_later, contains_at, contains_map, get_enumerated}
@@ -69,12 +69,12 @@ output_there tile number found there output =
     (contains_at (enumerate_from 0 (tile_wires tile)) number (number, found) placed))
 
 -- the names of the inputs end low
-pub low_inputs : (tile : PlainTile) → All EndsLow (matrix_inputs tile)
+pub low_inputs : (tile : PlainTile) → All EndsLow (matrix_input_names tile)
 low_inputs tile =
     All-map EndsLow wire_name (filter (is_on_side false) (tile_wires tile)) (All-filter (is_on_side false) (λ wire. EndsLow (wire_name wire)) (tile_wires tile) (low_wires tile))
 
-pub inputs_apart : (tile : PlainTile) → All (λ input. input ≢ config_name) (matrix_inputs tile)
-inputs_apart tile = All-weaker EndsLow (λ input. input ≢ config_name) (λ name low. low_apart name config_name low refl) (matrix_inputs tile) (low_inputs tile)
+pub inputs_apart : (tile : PlainTile) → All (λ input. input ≢ config_name) (matrix_input_names tile)
+inputs_apart tile = All-weaker EndsLow (λ input. input ≢ config_name) (λ name low. low_apart name config_name low refl) (matrix_input_names tile) (low_inputs tile)
 
 module _ (tile : PlainTile) (is_tile : IsTile tile) (number : ℕ) (found : TileWire) (there : slice_get (tile_wires tile) number ≡ Some found) (output : is_matrix_output found ≡ true) where
   name_at : (k : ℕ) (d : TileWire) → k < length (tile_wires tile) → get_or (matrix_names tile) k [] ≡ wire_name (get_or (tile_wires tile) k d)
@@ -103,7 +103,7 @@ module _ (tile : PlainTile) (is_tile : IsTile tile) (number : ℕ) (found : Tile
       ]
 
   -- no input has the name of an output
-  pub sides_apart : All (λ name. name ≢ wire_name found) (matrix_inputs tile)
+  pub sides_apart : All (λ name. name ≢ wire_name found) (matrix_input_names tile)
   sides_apart =
       All-map (λ name. name ≢ wire_name found) wire_name (filter (is_on_side false) (tile_wires tile))
       (all_filter_if (λ wire. wire_name wire ≢ wire_name found) (is_on_side false) (tile_wires tile) input_apart)
@@ -148,27 +148,27 @@ module _ (tile : PlainTile) where
   output_ports = map (λ (output : ℕ × List ℕ). scalar false output.1) (numbered_outputs tile)
 
   pub bits_input : 0 < bits → is_input (matrix_module tile).ports config_name ≡ true
-  bits_input some = passed_inputs (matrix_inputs tile) (config_port bits ++ output_ports) config_name (inputs_apart tile) ∙ config_first bits output_ports some
+  bits_input some = passed_inputs (matrix_input_names tile) (config_port bits ++ output_ports) config_name (inputs_apart tile) ∙ config_first bits output_ports some
 
   pub bits_width : 0 < bits → width_of (matrix_module tile) config_name ≡ bits
   bits_width some =
-      let apart : All (λ (port : Port). port.name ≢ config_name) (map (scalar true) (matrix_inputs tile)) =
-      All-map (λ (port : Port). port.name ≢ config_name) (scalar true) (matrix_inputs tile) (inputs_apart tile) in
-      width_passed (map (scalar true) (matrix_inputs tile)) (config_port bits ++ output_ports) (matrix_module tile).items config_name apart
+      let apart : All (λ (port : Port). port.name ≢ config_name) (map (scalar true) (matrix_input_names tile)) =
+      All-map (λ (port : Port). port.name ≢ config_name) (scalar true) (matrix_input_names tile) (inputs_apart tile) in
+      width_passed (map (scalar true) (matrix_input_names tile)) (config_port bits ++ output_ports) (matrix_module tile).items config_name apart
       ∙ config_found bits output_ports (matrix_module tile).items some
 
   -- an output of the module
-  pub output_is_output : (name : List ℕ) → EndsLow name → All (λ input. input ≢ name) (matrix_inputs tile) → is_input (matrix_module tile).ports name ≡ false
+  pub output_is_output : (name : List ℕ) → EndsLow name → All (λ input. input ≢ name) (matrix_input_names tile) → is_input (matrix_module tile).ports name ≡ false
   output_is_output name low apart =
       let other : config_name ≢ name = λ same. low_apart name config_name low refl (sym same) in
-      passed_inputs (matrix_inputs tile) (config_port bits ++ output_ports) name apart
+      passed_inputs (matrix_input_names tile) (config_port bits ++ output_ports) name apart
       ∙ passed_config bits output_ports name (bytes_apart config_name name other)
       ∙ outputs_only (numbered_outputs tile) name
 
   -- has a bit
   pub output_wide : (output : ℕ × List ℕ) → Contains (numbered_outputs tile) output → 0 < width_of (matrix_module tile) output.1
   output_wide output there =
-      let inputs = map (scalar true) (matrix_inputs tile) in
+      let inputs = map (scalar true) (matrix_input_names tile) in
       let port = scalar false output.1 in
       let ports = (matrix_module tile).ports in
       let among : Contains ports port =
@@ -176,7 +176,7 @@ module _ (tile : PlainTile) where
       (Contains-append_right (config_port bits) output_ports port
       (contains_map (λ (output : ℕ × List ℕ). scalar false output.1) (numbered_outputs tile) output there)) in
       let wide : All IsWide ports =
-      All-append IsWide inputs (config_port bits ++ output_ports) (All-map IsWide (scalar true) (matrix_inputs tile) (λ k d few. omega arith))
+      All-append IsWide inputs (config_port bits ++ output_ports) (All-map IsWide (scalar true) (matrix_input_names tile) (λ k d few. omega arith))
       (All-append IsWide (config_port bits) output_ports (wide_config bits)
       (All-map IsWide (λ (output : ℕ × List ℕ). scalar false output.1) (numbered_outputs tile) (λ k d few. omega arith))) in
       wide_port ports (matrix_module tile).items port wide among

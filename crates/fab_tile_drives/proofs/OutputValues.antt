@@ -26,7 +26,7 @@ use Rattle.fab_gen_tile.specs.fab_model.specs.Drive as drive
 use Rattle.fab_gen_tile.specs.fab_model.specs.Drive.{input_at}
 use Rattle.fab_gen_tile.specs.fab_model.proofs.Wires.{wire_at_number, number_has_wire, plain_wires_are_wires}
 use Rattle.fab_gen_tile.specs.Names.{matrix_module_name, matrix_instance_name, same_join}
-use Rattle.fab_gen_tile.specs.TileModule.{is_on_side, matrix_inputs, matrix_outputs, bits_join, matrix_joins, tile_module}
+use Rattle.fab_gen_tile.specs.TileModule.{is_on_side, matrix_input_names, matrix_output_names, bits_join, matrix_joins, tile_module}
 use Rattle.fab_gen_tile.specs.MatrixModule.{numbered_outputs, named_pairs, matrix_module}
 use Rattle.fab_tile_drives.specs.Stands.{TileStands, matrix_path, name_of, wire_point, IsSettledOnDeclared}
 use Rattle.fab_tile_drives.specs.Tiles.{ShowsTileBits, picked, picked_value, IsOwnOfOutput, itself, configuration, output_port, input_port, ShowsMatrixOutputs}
@@ -98,17 +98,17 @@ all_are_inputs tile output is_tile =
     (All-map (λ (pair : ℕ × ℕ). IsInput tile pair.1) _ tile.pairs (All-weaker (IsPair tile) (λ (pair : Pair). IsInput tile pair.input) (λ pair is. is.input) tile.pairs is_tile.pairs))
 
 -- the names of the inputs of all pairs are among the matrix's
-pairs_known : (tile : PlainTile) → IsTile tile → All (λ pair. Contains (matrix_inputs tile) pair.1) (named_pairs tile)
+pairs_known : (tile : PlainTile) → IsTile tile → All (λ pair. Contains (matrix_input_names tile) pair.1) (named_pairs tile)
 pairs_known tile is_tile =
-    All-map (λ (pair : ℕ × List ℕ). Contains (matrix_inputs tile) pair.1) (λ (pair : Pair). (pair.output, get_or (matrix_names tile) pair.input [])) tile.pairs
-    (All-weaker (IsPair tile) (λ (pair : Pair). Contains (matrix_inputs tile) (get_or (matrix_names tile) pair.input [])) known tile.pairs is_tile.pairs)
+    All-map (λ (pair : ℕ × List ℕ). Contains (matrix_input_names tile) pair.1) (λ (pair : Pair). (pair.output, get_or (matrix_names tile) pair.input [])) tile.pairs
+    (All-weaker (IsPair tile) (λ (pair : Pair). Contains (matrix_input_names tile) (get_or (matrix_names tile) pair.input [])) known tile.pairs is_tile.pairs)
   where
-    known : (pair : Pair) → IsPair tile pair → Contains (matrix_inputs tile) (get_or (matrix_names tile) pair.input [])
+    known : (pair : Pair) → IsPair tile pair → Contains (matrix_input_names tile) (get_or (matrix_names tile) pair.input [])
     known pair is =
         let at = input_stands tile pair.input is.input in
         let name : get_or (matrix_names tile) pair.input [] ≡ wire_name at.found =
         get_or_from_slice_get (matrix_names tile) pair.input (name_of tile at.wire) [] (name_at_number tile at.wire pair.input at.stands) ∙ at.named in
-        subst (Contains (matrix_inputs tile)) (sym name) (side_there false tile pair.input at.found at.there at.side)
+        subst (Contains (matrix_input_names tile)) (sym name) (side_there false tile pair.input at.found at.there at.side)
 
 -- ---- select values
 
@@ -195,14 +195,14 @@ module _ (text : List PlainModule) (path : Path) (tile : PlainTile) (is_tile : I
   is_output : is_matrix_output at.found ≡ true
   is_output = sym (ap (λ found. option_map_or is_matrix_output found false) at.is) ∙ output
 
-  named_output : Contains (matrix_outputs tile) name
-  named_output = subst (Contains (matrix_outputs tile)) (sym name_is) (side_there true tile place at.found at.there is_output)
+  named_output : Contains (matrix_output_names tile) name
+  named_output = subst (Contains (matrix_output_names tile)) (sym name_is) (side_there true tile place at.found at.there is_output)
 
   numbered_output : Contains (numbered_outputs tile) (place, name)
   numbered_output = subst (λ n. Contains (numbered_outputs tile) (place, n)) (sym name_is) (output_there tile place at.found at.there is_output)
 
-  some : 0 < length (matrix_outputs tile)
-  some = (let within : named_output.0 < length (matrix_outputs tile) = named_output.1 in omega arith)
+  some : 0 < length (matrix_output_names tile)
+  some = (let within : named_output.0 < length (matrix_output_names tile) = named_output.1 in omega arith)
 
   of_module : module_at text here ≡ Some inner
   of_module = inside text path tile matrix_instance_name _ inner stands.tile_is (matrix_found tile some) (stands.matrix_is some)
@@ -211,17 +211,17 @@ module _ (text : List PlainModule) (path : Path) (tile : PlainTile) (is_tile : I
   bit_joins = bits_join (bel_bits tile) (select_bits nat_eq (numbered_pairs tile))
 
   abbrev output_joins : List PlainJoin
-  output_joins = map same_join (matrix_outputs tile)
+  output_joins = map same_join (matrix_output_names tile)
 
   -- the wire copies the port of the matrix
   copies : now (point path name 0) ≡ now (point here name 0)
   copies =
-      let apart = subst (λ n. All (λ input. input ≢ n) (matrix_inputs tile)) (sym name_is) (sides_apart tile is_tile place at.found at.there is_output) in
+      let apart = subst (λ n. All (λ input. input ≢ n) (matrix_input_names tile)) (sym name_is) (sides_apart tile is_tile place at.found at.there is_output) in
       let low : EndsLow name = subst EndsLow (sym name_is) (wire_low) in
       joined_out Has text inputs held now settled path (tile_module tile) inner (matrix_module_name tile) matrix_instance_name (matrix_joins tile)
       stands.tile_is (stands.matrix_is some) (matrix_there tile some) name name 0
-      (Contains-append_right (map same_join (matrix_inputs tile)) (bit_joins ++ output_joins) (same_join name)
-      (Contains-append_right bit_joins output_joins (same_join name) (contains_map same_join (matrix_outputs tile) name named_output)))
+      (Contains-append_right (map same_join (matrix_input_names tile)) (bit_joins ++ output_joins) (same_join name)
+      (Contains-append_right bit_joins output_joins (same_join name) (contains_map same_join (matrix_output_names tile) name named_output)))
       (output_is_output tile name low apart) (name_wide tile name (name_there tile wire exists)) itself
     where
       wire_low : EndsLow (wire_name at.found)
@@ -235,13 +235,13 @@ module _ (text : List PlainModule) (path : Path) (tile : PlainTile) (is_tile : I
       instance_shows text path tile stands bits Has (λ p own. configuration own) inputs held now shows settled
       inner (matrix_module_name tile) matrix_instance_name (matrix_joins tile) of_module (stands.matrix_is some) (matrix_there tile some)
       (bel_bits tile) (select_bits nat_eq (numbered_pairs tile)) bit
-      (λ join among. Contains-append_right (map same_join (matrix_inputs tile)) (bit_joins ++ output_joins) join (Contains-append_left bit_joins output_joins join among))
+      (λ join among. Contains-append_right (map same_join (matrix_input_names tile)) (bit_joins ++ output_joins) join (Contains-append_left bit_joins output_joins join among))
       (bits_input tile (omega arith)) (omega arith) (omega arith) few
 
   -- the port selects
   selects : now (point here name 0) ≡ chosen (λ input. now (point here input 0)) (inputs_of nat_eq (named_pairs tile) place) (law.select_value nat_eq (named_pairs tile) now here place)
   selects =
-      matrix_selects nat_eq Decides-eqb (matrix_module_name tile) (matrix_inputs tile) (numbered_outputs tile) (named_pairs tile) (inputs_apart tile) (pairs_known tile is_tile)
+      matrix_selects nat_eq Decides-eqb (matrix_module_name tile) (matrix_input_names tile) (numbered_outputs tile) (named_pairs tile) (inputs_apart tile) (pairs_known tile is_tile)
       text here inputs held now (place, name) of_module numbered_output
       (λ p d is drives. settled p d (subst Has (sym is) output_port, subst (λ q. is_declared text q ≡ true) (sym is) declared) drives)
     where
@@ -265,15 +265,15 @@ module _ (text : List PlainModule) (path : Path) (tile : PlainTile) (is_tile : I
       let found = input_stands tile input (picked_input (IsInput tile) (drive.matrix_inputs tile place) (drive.select_value tile bits place) input (all_are_inputs tile place is_tile) picked_is) in
       let from = found.wire in
       let is : picked tile bits wire ≡ Some from = ap (option_and_then (slice_get (plain_wires tile))) picked_is ∙ found.stands in
-      let there : Contains (matrix_inputs tile) (name_of tile from) = subst (Contains (matrix_inputs tile)) (sym found.named) (side_there false tile input found.found found.there found.side) in
-      let one : width_of inner (name_of tile from) ≡ 1 = first_width (matrix_inputs tile) _ inner.items (name_of tile from) there in
+      let there : Contains (matrix_input_names tile) (name_of tile from) = subst (Contains (matrix_input_names tile)) (sym found.named) (side_there false tile input found.found found.there found.side) in
+      let one : width_of inner (name_of tile from) ≡ 1 = first_width (matrix_input_names tile) _ inner.items (name_of tile from) there in
       let same : get_or (matrix_names tile) input [] ≡ name_of tile from =
       get_or_from_slice_get (matrix_names tile) input (name_of tile from) [] (name_at_number tile from input found.stands) in
       let shown : now (point here (name_of tile from) 0) ≡ now (wire_point path tile from) =
       joined_in Has text inputs held now settled path (tile_module tile) inner (matrix_module_name tile) matrix_instance_name (matrix_joins tile)
       stands.tile_is (stands.matrix_is some) (matrix_there tile some) (name_of tile from) (variable (name_of tile from)) 0
-      (Contains-append_left (map same_join (matrix_inputs tile)) (bit_joins ++ output_joins) (same_join (name_of tile from)) (contains_map same_join (matrix_inputs tile) (name_of tile from) there))
-      of_module (first_input (matrix_inputs tile) _ (name_of tile from) there) (omega arith) (input_port is)
+      (Contains-append_left (map same_join (matrix_input_names tile)) (bit_joins ++ output_joins) (same_join (name_of tile from)) (contains_map same_join (matrix_input_names tile) (name_of tile from) there))
+      of_module (first_input (matrix_input_names tile) _ (name_of tile from) there) (omega arith) (input_port is)
       ∙ wire_seen text path tile is_tile stands now from (number_has_wire tile input from found.stands).0 in
       (from, found.stands, ap (λ n. now (point here n 0)) same ∙ shown)
 

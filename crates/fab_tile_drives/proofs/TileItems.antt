@@ -16,7 +16,7 @@ use Rattle.fab_gen_tile.specs.fab_model.specs.Tiles.{PlainTile, counted, matrix_
 use Rattle.fab_gen_tile.specs.fab_prim.specs.Modules.{module_name}
 use Rattle.fab_gen_tile.specs.Names.{config_module_name, matrix_module_name, config_instance_name, matrix_instance_name, bel_instance_name}
 use Rattle.fab_gen_tile.specs.Borders.{border, passing_assign, beginning_assign, begin_assigns, dest_assign, row_assigns}
-use Rattle.fab_gen_tile.specs.TileModule.{bits_wire, config_joins, config_instances, matrix_joins, matrix_outputs, matrix_instances, bel_joins, bel_instance, bel_instances, tile_items}
+use Rattle.fab_gen_tile.specs.TileModule.{bits_wire, config_joins, config_instances, matrix_joins, matrix_output_names, matrix_instances, bel_joins, bel_instance, bel_instances, tile_items}
 use Rattle.fab_tile_drives.proofs.Endings.{last_byte, all_counted, all_flat_map}
 use Rattle.fab_tile_drives.proofs.Members.{contains_first, contains_at, contains_map, contains_flat_map, get_enumerated}
 
@@ -59,7 +59,7 @@ row_passes row name =
     ]
 
 abbrev instances : PlainTile → List PlainItem
-instances tile = config_instances tile (tile_bits tile) ++ (matrix_instances tile (matrix_outputs tile) ++ bel_instances tile.bels)
+instances tile = config_instances tile (tile_bits tile) ++ (matrix_instances tile (matrix_output_names tile) ++ bel_instances tile.bels)
 
 -- the instances stand behind all else
 behind_wires : (tile : PlainTile) (name : List ℕ) → instance_named (tile_items tile) name ≡ instance_named (instances tile) name
@@ -93,9 +93,9 @@ matrix_first : (tile : PlainTile) (outputs : List (List ℕ)) (items : List Plai
 matrix_first tile [] items some = absurd (omega arith)
 matrix_first tile (output ∷ outputs) items some = refl
 
-pub matrix_found : (tile : PlainTile) → 0 < length (matrix_outputs tile) → instance_named (tile_items tile) matrix_instance_name ≡ Some (of_module (matrix_module_name tile) (matrix_joins tile))
+pub matrix_found : (tile : PlainTile) → 0 < length (matrix_output_names tile) → instance_named (tile_items tile) matrix_instance_name ≡ Some (of_module (matrix_module_name tile) (matrix_joins tile))
 matrix_found tile some =
-    behind_wires tile matrix_instance_name ∙ behind_config tile matrix_instance_name (tile_bits tile) _ refl ∙ matrix_first tile (matrix_outputs tile) _ some
+    behind_wires tile matrix_instance_name ∙ behind_config tile matrix_instance_name (tile_bits tile) _ refl ∙ matrix_first tile (matrix_output_names tile) _ some
 
 behind_matrix : (tile : PlainTile) (name : List ℕ) (outputs : List (List ℕ)) (items : List PlainItem) → bytes_eq matrix_instance_name name ≡ false →
     instance_named (matrix_instances tile outputs ++ items) name ≡ instance_named items name
@@ -130,7 +130,7 @@ bel_found tile bel found there =
     let number : 0 + bel ≡ bel = omega arith in
     behind_wires tile (bel_instance_name bel)
     ∙ behind_config tile (bel_instance_name bel) (tile_bits tile) _ refl
-    ∙ behind_matrix tile (bel_instance_name bel) (matrix_outputs tile) _ refl
+    ∙ behind_matrix tile (bel_instance_name bel) (matrix_output_names tile) _ refl
     ∙ subst (λ n. instance_named (bel_instances tile.bels) (bel_instance_name n) ≡ Some (of_module (module_name found.kind) (bel_joins n (bits_before tile.bels n) found)))
     number (bel_at (bits_before tile.bels) 0 tile.bels bel found there)
 
@@ -166,12 +166,12 @@ matrix_among : (tile : PlainTile) (outputs : List (List ℕ)) → 0 < length out
 matrix_among tile [] some = absurd (omega arith)
 matrix_among tile (output ∷ outputs) some = contains_first (instance (matrix_module_name tile) matrix_instance_name (matrix_joins tile)) []
 
-pub matrix_there : (tile : PlainTile) → 0 < length (matrix_outputs tile) → Contains (tile_items tile) (instance (matrix_module_name tile) matrix_instance_name (matrix_joins tile))
+pub matrix_there : (tile : PlainTile) → 0 < length (matrix_output_names tile) → Contains (tile_items tile) (instance (matrix_module_name tile) matrix_instance_name (matrix_joins tile))
 matrix_there tile some =
     let item = instance (matrix_module_name tile) matrix_instance_name (matrix_joins tile) in
     instance_item tile item
     (Contains-append_right (config_instances tile (tile_bits tile)) _ item
-    (Contains-append_left (matrix_instances tile (matrix_outputs tile)) (bel_instances tile.bels) item (matrix_among tile (matrix_outputs tile) some)))
+    (Contains-append_left (matrix_instances tile (matrix_output_names tile)) (bel_instances tile.bels) item (matrix_among tile (matrix_output_names tile) some)))
 
 pub bel_there : (tile : PlainTile) (bel : ℕ) (found : Bel) → slice_get tile.bels bel ≡ Some found → Contains (tile_items tile) (bel_instance bel (bits_before tile.bels bel) found)
 bel_there tile bel found there =
@@ -183,4 +183,4 @@ bel_there tile bel found there =
     (contains_at (enumerate_from 0 tile.bels) bel (bel, found) placed) in
     instance_item tile item
     (Contains-append_right (config_instances tile (tile_bits tile)) _ item
-    (Contains-append_right (matrix_instances tile (matrix_outputs tile)) (bel_instances tile.bels) item among))
+    (Contains-append_right (matrix_instances tile (matrix_output_names tile)) (bel_instances tile.bels) item among))

@@ -12,13 +12,13 @@ use Rattle.fab_gen_tile.specs.fab_model.specs.Wires.{PlainWire, wire_of}
 use Rattle.fab_gen_tile.specs.Names.{config_module_name, matrix_module_name, matrix_instance_name, bel_instance_name}
 use Rattle.fab_gen_tile.specs.ConfigModule.{config_module}
 use Rattle.fab_gen_tile.specs.MatrixModule.{matrix_module}
-use Rattle.fab_gen_tile.specs.TileModule.{tile_module, matrix_outputs}
+use Rattle.fab_gen_tile.specs.TileModule.{tile_module, matrix_output_names}
 
 -- The instance at a path is the tile, and its text has the modules of the tile's configuration, of its switch matrix and of its BELs.
 pub record TileStands (text : List PlainModule) (path : Path) (tile : PlainTile) : Type 0 where
   pub tile_is : module_at text path ≡ Some (tile_module tile)
   pub config_is : 0 < tile_bits tile → module_named text (config_module_name tile) ≡ Some (config_module tile)
-  pub matrix_is : 0 < length (matrix_outputs tile) → module_named text (matrix_module_name tile) ≡ Some (matrix_module tile)
+  pub matrix_is : 0 < length (matrix_output_names tile) → module_named text (matrix_module_name tile) ≡ Some (matrix_module tile)
   pub kinds_are : All (λ bel. module_named text (module_name bel.kind) ≡ Some (module_of_kind bel.kind)) tile.bels
 
 -- ---- points

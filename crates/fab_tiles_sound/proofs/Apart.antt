@@ -16,7 +16,7 @@ use Rattle.fab_model.specs.Tiles.{PlainTile, counted, row_wires, bel_wires, wire
 use Rattle.fab_parts_sound.specs.fab_gen_tile.specs.Words.{IsNamed}
 use Rattle.fab_parts_sound.specs.fab_gen_tile.specs.Names.{frame_data_name, frame_strobe_name, bits_name, config_instance_name, matrix_instance_name}
 use Rattle.fab_parts_sound.specs.fab_gen_tile.specs.Borders.{border, passing_assign, beginning_assign, begin_assigns, dest_assign, row_assigns, border_ports}
-use Rattle.fab_parts_sound.specs.fab_gen_tile.specs.TileModule.{bels_ports, tile_ports, bits_wire, config_instances, matrix_outputs, matrix_instances, bel_instance, bel_instances, tile_items}
+use Rattle.fab_parts_sound.specs.fab_gen_tile.specs.TileModule.{bels_ports, tile_ports, bits_wire, config_instances, matrix_output_names, matrix_instances, bel_instance, bel_instances, tile_items}
 use Rattle.fab_parts_sound.proofs.Names.{Differ, AreApart, IsNet, nets, net_names, instance_names}
 use Rattle.fab_parts_sound.proofs.Lists.{all_counted, all_flat_map, pairs_none, pairs_left}
 use Rattle.fab_tiles_sound.proofs.Ranks.{rank, StandAbove, none_above, group_above, single_above}
@@ -30,7 +30,7 @@ abbrev pub declarations : PlainTile → List PlainItem
 declarations tile = map (wire Scalar) (matrix_names tile) ++ bits_wire (tile_bits tile)
 
 abbrev pub instances : PlainTile → List PlainItem
-instances tile = config_instances tile (tile_bits tile) ++ (matrix_instances tile (matrix_outputs tile) ++ bel_instances tile.bels)
+instances tile = config_instances tile (tile_bits tile) ++ (matrix_instances tile (matrix_output_names tile) ++ bel_instances tile.bels)
 
 abbrev pub later_items : PlainTile → List PlainItem
 later_items tile = flat_map row_assigns tile.rows ++ instances tile
@@ -143,15 +143,15 @@ bels_named low first [] = refl
 bels_named low first (bel ∷ bels) = ap (λ rest. bel_names first (bel ∷ []) ++ rest) (bels_named low (first + 1) bels)
 
 abbrev named_instances : PlainTile → List (List ℕ)
-named_instances tile = config_names (tile_bits tile) ++ (matrix_instance_names (matrix_outputs tile) ++ bel_names 0 tile.bels)
+named_instances tile = config_names (tile_bits tile) ++ (matrix_instance_names (matrix_output_names tile) ++ bel_names 0 tile.bels)
 
 instances_named : (tile : PlainTile) → instance_names (later_items tile) ≡ named_instances tile
 instances_named tile =
     instances_append (flat_map row_assigns tile.rows) (instances tile)
     ∙ ap (λ front. front ++ instance_names (instances tile)) (none_named (flat_map row_assigns tile.rows) (each_assign IsAssign (λ target e. tt) tile.rows))
     ∙ instances_append (config_instances tile (tile_bits tile)) _
-    ∙ (λ j. config_named tile (tile_bits tile) j ++ (instances_append (matrix_instances tile (matrix_outputs tile)) (bel_instances tile.bels)
-    ∙ (λ k. matrix_named tile (matrix_outputs tile) k ++ bels_named (bits_before tile.bels) 0 tile.bels k)) j)
+    ∙ (λ j. config_named tile (tile_bits tile) j ++ (instances_append (matrix_instances tile (matrix_output_names tile)) (bel_instances tile.bels)
+    ∙ (λ k. matrix_named tile (matrix_output_names tile) k ++ bels_named (bits_before tile.bels) 0 tile.bels k)) j)
 
 -- ---- the groups, one behind another
 
@@ -221,7 +221,7 @@ module _ (tile : PlainTile) (is : IsTile tile) (named : IsNamed tile) where
       (group_above 5 6 (matrix_names tile) _ (omega arith) (plain_names tile named) is.apart
       (bits_above 6 (tile_bits tile) _ (omega arith)
       (config_above 7 (tile_bits tile) _ (omega arith)
-      (matrix_above 8 (matrix_outputs tile) _ (omega arith) (bels_above 9 tile.bels (omega arith))))))))))
+      (matrix_above 8 (matrix_output_names tile) _ (omega arith) (bels_above 9 tile.bels (omega arith))))))))))
 
   -- no two nets or instances have one name
   pub all_apart : AreApart (nets (tile_ports tile) (declarations tile) ++ instance_names (later_items tile))

@@ -20,7 +20,7 @@ use Rattle.fab_parts_sound.specs.fab_gen_tile.specs.Words.{IsNamed}
 use Rattle.fab_parts_sound.specs.fab_gen_tile.specs.Names.{config_module_name, matrix_module_name, config_instance_name, matrix_instance_name, bel_instance_name}
 use Rattle.fab_parts_sound.specs.fab_gen_tile.specs.ConfigModule.{config_module}
 use Rattle.fab_parts_sound.specs.fab_gen_tile.specs.MatrixModule.{matrix_module}
-use Rattle.fab_parts_sound.specs.fab_gen_tile.specs.TileModule.{config_joins, config_instances, matrix_outputs, matrix_joins, matrix_instances, bel_joins, bel_instance, bel_instances, tile_items, tile_module}
+use Rattle.fab_parts_sound.specs.fab_gen_tile.specs.TileModule.{config_joins, config_instances, matrix_output_names, matrix_joins, matrix_instances, bel_joins, bel_instance, bel_instances, tile_items, tile_module}
 use Rattle.fab_parts_sound.proofs.Configurations.{config_clocks}
 use Rattle.fab_parts_sound.proofs.Primitives.{primitive_clocks}
 use Rattle.fab_parts_sound.proofs.TileMatrices.{tile_matrix_clocks}
@@ -79,10 +79,10 @@ module _ (text : List PlainModule) (tile : PlainTile) (has : HasModules text til
       (lead (config_module tile) (config_module_name tile) config_instance_name config_joins (has.config_is some) (λ k d few serves. absurd (config_clocks text tile _ serves)))
       (All-nil (ClockLeads text))
 
-  matrix_leads : (outputs : List (List ℕ)) → matrix_outputs tile ≡ outputs → All (ClockLeads text) (matrix_instances tile outputs)
+  matrix_leads : (outputs : List (List ℕ)) → matrix_output_names tile ≡ outputs → All (ClockLeads text) (matrix_instances tile outputs)
   matrix_leads [] are = All-nil (ClockLeads text)
   matrix_leads (output ∷ outputs) are =
-      let some : 0 < length (matrix_outputs tile) = (let all : length (matrix_outputs tile) ≡ suc (length outputs) = ap length are in omega arith) in
+      let some : 0 < length (matrix_output_names tile) = (let all : length (matrix_output_names tile) ≡ suc (length outputs) = ap length are in omega arith) in
       All-cons (ClockLeads text) (instance (matrix_module_name tile) matrix_instance_name (matrix_joins tile)) []
       (lead (matrix_module tile) (matrix_module_name tile) matrix_instance_name (matrix_joins tile) (has.matrix_is some) (λ k d few serves. absurd (tile_matrix_clocks text tile _ serves)))
       (All-nil (ClockLeads text))
@@ -104,7 +104,7 @@ module _ (text : List PlainModule) (tile : PlainTile) (has : HasModules text til
   instances_lead : All (ClockLeads text) (instances tile)
   instances_lead =
       All-append (ClockLeads text) (config_instances tile (tile_bits tile)) _ (config_leads (tile_bits tile) refl)
-      (All-append (ClockLeads text) (matrix_instances tile (matrix_outputs tile)) (bel_instances tile.bels) (matrix_leads (matrix_outputs tile) refl)
+      (All-append (ClockLeads text) (matrix_instances tile (matrix_output_names tile)) (bel_instances tile.bels) (matrix_leads (matrix_output_names tile) refl)
       (All-map (ClockLeads text) (λ (placed : ℕ × Bel). bel_instance placed.0 (bits_before tile.bels placed.0) placed.1) (enumerate_from 0 tile.bels)
       (each_placed (λ (placed : ℕ × Bel). ClockLeads text (bel_instance placed.0 (bits_before tile.bels placed.0) placed.1)) tile.bels bel_leads)))
 

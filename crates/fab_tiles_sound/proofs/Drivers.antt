@@ -19,7 +19,7 @@ use Rattle.fab_prim.specs.Modules.{module_name, module_of_kind}
 use Rattle.fab_parts_sound.specs.fab_gen_tile.specs.Names.{pad_name, same_join}
 use Rattle.fab_parts_sound.specs.fab_gen_tile.specs.Borders.{border_ports, row_assigns}
 use Rattle.fab_parts_sound.specs.fab_gen_tile.specs.MatrixModule.{named_pairs, matrix_module}
-use Rattle.fab_parts_sound.specs.fab_gen_tile.specs.TileModule.{pad_ports, bels_ports, tile_ports, bits_wire, config_joins, config_instances, bits_join, matrix_inputs, matrix_outputs, matrix_joins, matrix_instances, bel_joins, bel_instance, bel_instances, tile_items}
+use Rattle.fab_parts_sound.specs.fab_gen_tile.specs.TileModule.{pad_ports, bels_ports, tile_ports, bits_wire, config_joins, config_instances, bits_join, matrix_input_names, matrix_output_names, matrix_joins, matrix_instances, bel_joins, bel_instance, bel_instances, tile_items}
 use Rattle.fab_parts_sound.proofs.Counts.{joined_names}
 use Rattle.fab_parts_sound.proofs.Names.{net_names}
 use Rattle.fab_parts_sound.proofs.Lists.{all_right}
@@ -113,26 +113,26 @@ module _ (tile : PlainTile) (is : IsTile tile) where
   bits_inputs low zero directed = All-nil IsToInput
   bits_inputs low (suc bits) directed = All-cons IsToInput _ [] (All-head Directed _ [] directed) (All-nil IsToInput)
 
-  matrix_drives : joined_names (Some (matrix_module tile)) (matrix_joins tile) ≡ matrix_outputs tile
+  matrix_drives : joined_names (Some (matrix_module tile)) (matrix_joins tile) ≡ matrix_output_names tile
   matrix_drives =
       let below = Some (matrix_module tile) in
       let low = bel_bits tile in
       let bits = select_bits nat_eq (numbered_pairs tile) in
-      let inputs = map (scalar true) (matrix_inputs tile) in
+      let inputs = map (scalar true) (matrix_input_names tile) in
       let selects = config_port (select_bits nat_eq (named_pairs tile)) in
       let same : select_bits nat_eq (named_pairs tile) ≡ bits = bits_same (matrix_names tile) tile.pairs in
       let all : All Directed (matrix_module tile).ports = directions (matrix_module tile).ports (matrix_ports_apart tile is) in
       let later : All Directed (selects ++ _) = all_right Directed inputs _ all in
-      let outputs : All Directed (map (scalar false) (matrix_outputs tile)) = subst (All Directed) (output_ports tile) (all_right Directed selects _ later) in
-      let to_inputs : All IsToInput (map same_join (matrix_inputs tile)) =
-      All-map IsToInput same_join (matrix_inputs tile) (all_unmap Directed (scalar true) (matrix_inputs tile) (all_left Directed inputs _ all)) in
+      let outputs : All Directed (map (scalar false) (matrix_output_names tile)) = subst (All Directed) (output_ports tile) (all_right Directed selects _ later) in
+      let to_inputs : All IsToInput (map same_join (matrix_input_names tile)) =
+      All-map IsToInput same_join (matrix_input_names tile) (all_unmap Directed (scalar true) (matrix_input_names tile) (all_left Directed inputs _ all)) in
       let to_selects : All IsToInput (bits_join low bits) = bits_inputs low bits (subst (λ n. All Directed (config_port n)) same (all_left Directed selects _ later)) in
-      drives_append below (map same_join (matrix_inputs tile)) (bits_join low bits ++ map same_join (matrix_outputs tile))
-      ∙ ap (λ front. front ++ joined_names below (bits_join low bits ++ map same_join (matrix_outputs tile))) (inputs_drive_none below (map same_join (matrix_inputs tile)) to_inputs)
-      ∙ drives_append below (bits_join low bits) (map same_join (matrix_outputs tile))
-      ∙ ap (λ front. front ++ joined_names below (map same_join (matrix_outputs tile))) (inputs_drive_none below (bits_join low bits) to_selects)
-      ∙ outputs_drive below (λ name. name) (matrix_outputs tile) (all_unmap Directed (scalar false) (matrix_outputs tile) outputs)
-      ∙ map_same (matrix_outputs tile)
+      drives_append below (map same_join (matrix_input_names tile)) (bits_join low bits ++ map same_join (matrix_output_names tile))
+      ∙ ap (λ front. front ++ joined_names below (bits_join low bits ++ map same_join (matrix_output_names tile))) (inputs_drive_none below (map same_join (matrix_input_names tile)) to_inputs)
+      ∙ drives_append below (bits_join low bits) (map same_join (matrix_output_names tile))
+      ∙ ap (λ front. front ++ joined_names below (map same_join (matrix_output_names tile))) (inputs_drive_none below (bits_join low bits) to_selects)
+      ∙ outputs_drive below (λ name. name) (matrix_output_names tile) (all_unmap Directed (scalar false) (matrix_output_names tile) outputs)
+      ∙ map_same (matrix_output_names tile)
     where
       map_same : (names : List (List ℕ)) → map (λ name. name) names ≡ names
       map_same [] = refl
@@ -145,10 +145,10 @@ module _ (tile : PlainTile) (is : IsTile tile) where
         let some : 0 < tile_bits tile = (let all : tile_bits tile ≡ suc bits = are in omega arith) in
         ap (λ of. joined_names of config_joins ++ []) (has.config_is some)
 
-    matrix_instance_drives : (outputs : List (List ℕ)) → matrix_outputs tile ≡ outputs → drives text (matrix_instances tile outputs) ≡ outputs
+    matrix_instance_drives : (outputs : List (List ℕ)) → matrix_output_names tile ≡ outputs → drives text (matrix_instances tile outputs) ≡ outputs
     matrix_instance_drives [] are = refl
     matrix_instance_drives (output ∷ outputs) are =
-        let some : 0 < length (matrix_outputs tile) = (let all : length (matrix_outputs tile) ≡ suc (length outputs) = ap length are in omega arith) in
+        let some : 0 < length (matrix_output_names tile) = (let all : length (matrix_output_names tile) ≡ suc (length outputs) = ap length are in omega arith) in
         ap (λ of. joined_names of (matrix_joins tile) ++ []) (has.matrix_is some)
         ∙ append-nil (joined_names (Some (matrix_module tile)) (matrix_joins tile))
         ∙ matrix_drives
@@ -161,7 +161,7 @@ module _ (tile : PlainTile) (is : IsTile tile) where
           let wires = map (wire Scalar) (matrix_names tile) in
           let rows = flat_map row_assigns tile.rows in
           let config = config_instances tile (tile_bits tile) in
-          let matrix = matrix_instances tile (matrix_outputs tile) in
+          let matrix = matrix_instances tile (matrix_output_names tile) in
           let bels = bel_instances tile.bels in
           let first : count text name (drives text (tile_items tile)) ≡ count text name (drives text wires) + count text name (drives text (bits_wire (tile_bits tile) ++ (rows ++ (config ++ (matrix ++ bels))))) =
           counts text name _ (drives text wires) (drives text (bits_wire (tile_bits tile) ++ (rows ++ (config ++ (matrix ++ bels))))) (drives_both text wires (bits_wire (tile_bits tile) ++ (rows ++ (config ++ (matrix ++ bels))))) in
@@ -176,8 +176,8 @@ module _ (tile : PlainTile) (is : IsTile tile) where
           let of_wires : count text name (drives text wires) ≡ 0 = ap (count text name) (wires_drive_none text (matrix_names tile)) in
           let of_bits : count text name (drives text (bits_wire (tile_bits tile))) ≡ 0 = ap (count text name) (bits_drive_none text (tile_bits tile)) in
           let of_config : count text name (drives text config) ≡ count text name (bits_names (tile_bits tile)) = ap (count text name) (config_drives (tile_bits tile) refl) in
-          let of_matrix : count text name (drives text matrix) ≡ count text name (matrix_outputs tile) = ap (count text name) (matrix_instance_drives (matrix_outputs tile) refl) in
-          let outputs : count text name (matrix_outputs tile) ≡ count text name (outputs_of (flat_map row_wires tile.rows)) + count text name (outputs_of (flat_map bel_wires tile.bels)) =
+          let of_matrix : count text name (drives text matrix) ≡ count text name (matrix_output_names tile) = ap (count text name) (matrix_instance_drives (matrix_output_names tile) refl) in
+          let outputs : count text name (matrix_output_names tile) ≡ count text name (outputs_of (flat_map row_wires tile.rows)) + count text name (outputs_of (flat_map bel_wires tile.bels)) =
           counts text name _ (outputs_of (flat_map row_wires tile.rows)) (outputs_of (flat_map bel_wires tile.bels)) (outputs_append (flat_map row_wires tile.rows) (flat_map bel_wires tile.bels)) in
           let names : count text name (matrix_names tile) ≡ count text name (map wire_name (flat_map row_wires tile.rows)) + count text name (map wire_name (flat_map bel_wires tile.bels)) =
           counts text name _ (map wire_name (flat_map row_wires tile.rows)) (map wire_name (flat_map bel_wires tile.bels)) (map-append wire_name (flat_map row_wires tile.rows) (flat_map bel_wires tile.bels)) in

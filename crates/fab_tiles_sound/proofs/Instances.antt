@@ -18,7 +18,7 @@ use Rattle.fab_parts_sound.specs.fab_gen_tile.specs.Words.{IsNamed}
 use Rattle.fab_parts_sound.specs.fab_gen_tile.specs.Names.{config_module_name, matrix_module_name, config_instance_name, matrix_instance_name, frame_data_name, frame_strobe_name, bits_name, bel_instance_name, pad_name, same_join}
 use Rattle.fab_parts_sound.specs.fab_gen_tile.specs.ConfigModule.{config_module}
 use Rattle.fab_parts_sound.specs.fab_gen_tile.specs.MatrixModule.{named_pairs, matrix_module}
-use Rattle.fab_parts_sound.specs.fab_gen_tile.specs.TileModule.{config_joins, config_instances, bits_join, matrix_inputs, matrix_outputs, matrix_joins, matrix_instances, pin_join, pad_join, bel_joins, bel_instance, bel_instances, tile_items, tile_module}
+use Rattle.fab_parts_sound.specs.fab_gen_tile.specs.TileModule.{config_joins, config_instances, bits_join, matrix_input_names, matrix_output_names, matrix_joins, matrix_instances, pin_join, pad_join, bel_joins, bel_instance, bel_instances, tile_items, tile_module}
 use Rattle.fab_parts_sound.specs.fab_tile_drives.proofs.NamedPairs.{bits_same}
 use Rattle.fab_parts_sound.specs.fab_tile_drives.proofs.Members.{contains_at}
 use Rattle.fab_tiles_sound.specs.Has.{HasModules}
@@ -65,11 +65,11 @@ module _ (tile : PlainTile) (is : IsTile tile) (named : IsNamed tile) where
       let low = bel_bits tile in
       let bits = select_bits nat_eq (numbered_pairs tile) in
       let same : select_bits nat_eq (named_pairs tile) ≡ bits = bits_same (matrix_names tile) tile.pairs in
-      zip_append ToPort (map same_join (matrix_inputs tile)) (bits_join low bits ++ map same_join (matrix_outputs tile)) (map (scalar true) (matrix_inputs tile)) _
-      (scalar_zip true (matrix_inputs tile) (side_scalars tile is named false))
-      (zip_append ToPort (bits_join low bits) (map same_join (matrix_outputs tile)) (config_port (select_bits nat_eq (named_pairs tile))) _
+      zip_append ToPort (map same_join (matrix_input_names tile)) (bits_join low bits ++ map same_join (matrix_output_names tile)) (map (scalar true) (matrix_input_names tile)) _
+      (scalar_zip true (matrix_input_names tile) (side_scalars tile is named false))
+      (zip_append ToPort (bits_join low bits) (map same_join (matrix_output_names tile)) (config_port (select_bits nat_eq (named_pairs tile))) _
       (subst (λ n. AllZip ToPort (bits_join low bits) (config_port n)) (sym same) (bits_zip low bits))
-      (subst (AllZip ToPort (map same_join (matrix_outputs tile))) (sym (output_ports tile)) (scalar_zip false (matrix_outputs tile) (side_scalars tile is named true))))
+      (subst (AllZip ToPort (map same_join (matrix_output_names tile))) (sym (output_ports tile)) (scalar_zip false (matrix_output_names tile) (side_scalars tile is named true))))
 
   module _ (place : ℕ) (bel : Bel) (there : slice_get tile.bels place ≡ Some bel) where
     bel_zip : AllZip ToPort (bel_joins place (bits_before tile.bels place) bel) (module_ports bel.kind)
@@ -114,10 +114,10 @@ module _ (tile : PlainTile) (is : IsTile tile) (named : IsNamed tile) where
         (instance_fits (tile_module tile) (config_module tile) config_joins (config_ports_apart tile) (config_zip some)))
         (All-nil Fits)
 
-    matrix_fits : (outputs : List (List ℕ)) → matrix_outputs tile ≡ outputs → All Fits (matrix_instances tile outputs)
+    matrix_fits : (outputs : List (List ℕ)) → matrix_output_names tile ≡ outputs → All Fits (matrix_instances tile outputs)
     matrix_fits [] are = All-nil Fits
     matrix_fits (output ∷ outputs) are =
-        let some : 0 < length (matrix_outputs tile) = (let all : length (matrix_outputs tile) ≡ suc (length outputs) = ap length are in omega arith) in
+        let some : 0 < length (matrix_output_names tile) = (let all : length (matrix_output_names tile) ≡ suc (length outputs) = ap length are in omega arith) in
         All-cons Fits (instance (matrix_module_name tile) matrix_instance_name (matrix_joins tile)) []
         (fits (matrix_module tile) (matrix_module_name tile) matrix_instance_name (matrix_joins tile) (has.matrix_is some)
         (instance_fits (tile_module tile) (matrix_module tile) (matrix_joins tile) (matrix_ports_apart tile is) matrix_zip))
@@ -133,6 +133,6 @@ module _ (tile : PlainTile) (is : IsTile tile) (named : IsNamed tile) where
     instances_fit =
         each_of_tile Fits tile (λ shape name. tt) (λ target e. tt)
         (All-append Fits (config_instances tile (tile_bits tile)) _ (config_fits (tile_bits tile) refl)
-        (All-append Fits (matrix_instances tile (matrix_outputs tile)) (bel_instances tile.bels) (matrix_fits (matrix_outputs tile) refl)
+        (All-append Fits (matrix_instances tile (matrix_output_names tile)) (bel_instances tile.bels) (matrix_fits (matrix_output_names tile) refl)
         (All-map Fits (λ (placed : ℕ × Bel). bel_instance placed.0 (bits_before tile.bels placed.0) placed.1) (enumerate_from 0 tile.bels)
         (each_placed (λ (placed : ℕ × Bel). InstanceFits before (tile_module tile) (bel_instance placed.0 (bits_before tile.bels placed.0) placed.1)) tile.bels bel_fits))))

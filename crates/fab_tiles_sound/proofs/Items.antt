@@ -6,7 +6,7 @@ use Rattle.fab_syntax.specs.declared.tree.Shape.{Shape}
 use Rattle.fab_syntax.specs.declared.tree.Shape.TheVariants.{Scalar, Vector}
 use Rattle.fab_syntax.specs.Plain.{PlainExpr, PlainJoin, PlainItem, constant, variable, pick, part, concatenation, complement, operation, conditional, wire, reg, assign, latch, clocked, instance}
 use Rattle.fab_syntax.specs.Declarations.{width_if_any}
-use Rattle.fab_syntax.specs.Sound.{instance_name, use_of, joined, uses, mentions_in, refusals, item_expressions, width_of, width_of_name, SelectFits, OperandsFit, SidesFit, Every, IsVectorAnd}
+use Rattle.fab_syntax.specs.Sound.{instance_name, use_of, joined_expressions, uses, mentions_in, refusals, item_expressions, width_of, width_of_name, SelectFits, OperandsFit, SidesFit, Every, IsVectorAnd}
 use Rattle.fab_model.specs.Tiles.{PlainTile, IsTile}
 use Rattle.fab_parts_sound.specs.fab_gen_tile.specs.Words.{IsNamed}
 use Rattle.fab_parts_sound.specs.fab_gen_tile.specs.TileModule.{tile_ports, tile_items, tile_module}
@@ -87,7 +87,7 @@ module _ (tile : PlainTile) where
       of_net UsesKnown name_known
       (λ name high low bits is order within. uses_known tile_nets (part name high low) (only (OwnKnown tile_nets) (part name high low) (is_net name (Vector bits) is)))
 
-  join_known : (to : Option PlainExpr) → JoinStands tile to → All (IsKnown tile_nets) (flat_map uses (joined to))
+  join_known : (to : Option PlainExpr) → JoinStands tile to → All (IsKnown tile_nets) (flat_map uses (joined_expressions to))
   join_known None stands = absurd stands
   join_known (Some e) stands = all_flat_map (IsKnown tile_nets) uses (e ∷ []) (only (λ e. All (IsKnown tile_nets) (uses e)) e (of_net_known e stands))
 
@@ -98,9 +98,9 @@ module _ (tile : PlainTile) where
   item_known (latch target gate e) stands = absurd stands
   item_known (clocked clock target e) stands = absurd stands
   item_known (instance module_name i joins) stands =
-      All-cons (IsKnown tile_nets) (instance_name i) (flat_map (λ (join : PlainJoin). flat_map uses (joined join.to)) joins) tt
-      (all_flat_map (IsKnown tile_nets) (λ (join : PlainJoin). flat_map uses (joined join.to)) joins
-      (All-weaker (λ (join : PlainJoin). JoinStands tile join.to) (λ (join : PlainJoin). All (IsKnown tile_nets) (flat_map uses (joined join.to)))
+      All-cons (IsKnown tile_nets) (instance_name i) (flat_map (λ (join : PlainJoin). flat_map uses (joined_expressions join.to)) joins) tt
+      (all_flat_map (IsKnown tile_nets) (λ (join : PlainJoin). flat_map uses (joined_expressions join.to)) joins
+      (All-weaker (λ (join : PlainJoin). JoinStands tile join.to) (λ (join : PlainJoin). All (IsKnown tile_nets) (flat_map uses (joined_expressions join.to)))
       (λ join there. join_known join.to there) joins stands))
 
   -- ---- selects
@@ -127,7 +127,7 @@ module _ (tile : PlainTile) where
   of_net_operands =
       of_net (Every Operands) (λ name shape is. only Operands (variable name) tt) (λ name high low bits is order within. only Operands (part name high low) tt)
 
-  join_each : (P : PlainExpr → Type 0) → ((e : PlainExpr) → IsOfNet tile e → P e) → (to : Option PlainExpr) → JoinStands tile to → All P (joined to)
+  join_each : (P : PlainExpr → Type 0) → ((e : PlainExpr) → IsOfNet tile e → P e) → (to : Option PlainExpr) → JoinStands tile to → All P (joined_expressions to)
   join_each P each None stands = absurd stands
   join_each P each (Some e) stands = only P e (each e stands)
 
@@ -139,8 +139,8 @@ module _ (tile : PlainTile) where
   item_each P of_bit of_net (latch target gate e) stands = absurd stands
   item_each P of_bit of_net (clocked clock target e) stands = absurd stands
   item_each P of_bit of_net (instance module_name i joins) stands =
-      all_flat_map P (λ (join : PlainJoin). joined join.to) joins
-      (All-weaker (λ (join : PlainJoin). JoinStands tile join.to) (λ (join : PlainJoin). All P (joined join.to)) (λ join there. join_each P of_net join.to there) joins stands)
+      all_flat_map P (λ (join : PlainJoin). joined_expressions join.to) joins
+      (All-weaker (λ (join : PlainJoin). JoinStands tile join.to) (λ (join : PlainJoin). All P (joined_expressions join.to)) (λ join there. join_each P of_net join.to there) joins stands)
 
   -- ---- widths
 

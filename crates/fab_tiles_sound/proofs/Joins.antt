@@ -9,7 +9,7 @@ use Rattle.fab_syntax.specs.Plain.{PlainJoin, PlainModule, variable}
 use Rattle.fab_syntax.specs.Declarations.{width, is_input, is_input_of, one_if_same, times_joined}
 use Rattle.fab_syntax.specs.Sound.{FitsPort, JoinFits, IsJoinedOnce, port_named}
 use Rattle.fab_meaning.proofs.Declared.{bytes_apart}
-use Rattle.fab_parts_sound.specs.fab_gen_tile.specs.Names.{joined}
+use Rattle.fab_parts_sound.specs.fab_gen_tile.specs.Names.{port_join}
 use Rattle.fab_parts_sound.proofs.Counts.{driven_name, joined_names, times, times_once}
 use Rattle.fab_parts_sound.proofs.Names.{Differ, AreApart}
 use Rattle.fab_parts_sound.proofs.Declared.{port_names, port_direction}
@@ -107,7 +107,7 @@ inputs_drive_none of (join ∷ joins) all =
     rw input (inputs_drive_none of joins (All-tail (λ (join : PlainJoin). is_input_of of join.port ≡ true) join joins all))
 
 pub outputs_drive : (of : Option PlainModule) (to : List ℕ → List ℕ) (names : List (List ℕ)) → All (λ name. is_input_of of name ≡ false) names →
-    joined_names of (map (λ name. joined name (variable (to name))) names) ≡ map to names
+    joined_names of (map (λ name. port_join name (variable (to name))) names) ≡ map to names
 outputs_drive of to [] all = refl
 outputs_drive of to (name ∷ names) all =
     let output : is_input_of of name ≡ false = All-head (λ name. is_input_of of name ≡ false) name names all in

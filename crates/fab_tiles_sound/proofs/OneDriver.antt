@@ -13,7 +13,7 @@ use Rattle.fab_model.specs.declared.tiles.Bel.{Bel}
 use Rattle.fab_model.specs.Tiles.{PlainTile, matrix_names, tile_bits, IsTile, bits_before}
 use Rattle.fab_parts_sound.specs.fab_gen_tile.specs.Words.{IsNamed}
 use Rattle.fab_parts_sound.specs.fab_gen_tile.specs.Names.{bits_name}
-use Rattle.fab_parts_sound.specs.fab_gen_tile.specs.TileModule.{tile_ports, bits_wire, config_instances, matrix_outputs, matrix_instances, bel_instance, bel_instances, tile_items, tile_module}
+use Rattle.fab_parts_sound.specs.fab_gen_tile.specs.TileModule.{tile_ports, bits_wire, config_instances, matrix_output_names, matrix_instances, bel_instance, bel_instances, tile_items, tile_module}
 use Rattle.std.specs.List.{enumerate_from}
 use Rattle.fab_parts_sound.proofs.Counts.{times, times_once, driven_times}
 use Rattle.fab_parts_sound.proofs.Names.{nets, net_names}
@@ -96,7 +96,7 @@ never_held (instance module_name i joins ∷ items) name all = never_held items 
 pub each_instance : (P : PlainItem → Type 0) (tile : PlainTile) → ((module_name i : List ℕ) (joins : _) → P (instance module_name i joins)) → All P (instances tile)
 each_instance P tile each =
     All-append P (config_instances tile (tile_bits tile)) _ (of_config (tile_bits tile))
-    (All-append P (matrix_instances tile (matrix_outputs tile)) (bel_instances tile.bels) (of_matrix (matrix_outputs tile))
+    (All-append P (matrix_instances tile (matrix_output_names tile)) (bel_instances tile.bels) (of_matrix (matrix_output_names tile))
     (All-map P (λ (placed : ℕ × Bel). bel_instance placed.0 (bits_before tile.bels placed.0) placed.1) (enumerate_from 0 tile.bels) (λ k d few. each _ _ _)))
   where
     of_config : (bits : ℕ) → All P (config_instances tile bits)

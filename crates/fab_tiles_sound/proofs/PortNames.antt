@@ -8,7 +8,7 @@ use Rattle.fab_meaning.specs.Ports.{config_port, scalar}
 use Rattle.fab_model.specs.Tiles.{PlainTile, IsTile}
 use Rattle.fab_prim.specs.Ports.{module_ports}
 use Rattle.fab_parts_sound.specs.fab_gen_tile.specs.ConfigModule.{config_module}
-use Rattle.fab_parts_sound.specs.fab_gen_tile.specs.TileModule.{matrix_inputs, matrix_outputs}
+use Rattle.fab_parts_sound.specs.fab_gen_tile.specs.TileModule.{matrix_input_names, matrix_output_names}
 use Rattle.fab_parts_sound.specs.fab_gen_tile.specs.MatrixModule.{numbered_outputs, named_pairs, matrix_module}
 use Rattle.fab_parts_sound.proofs.Apart.{any_same, apart_if}
 use Rattle.fab_parts_sound.proofs.Declared.{port_names}
@@ -35,7 +35,7 @@ scalars_of [] = refl
 scalars_of (output ∷ outputs) = ap (λ rest. scalar false output.1 ∷ rest) (scalars_of outputs)
 
 -- the ports of the outputs in the form of those of the inputs
-pub output_ports : (tile : PlainTile) → map (λ (output : ℕ × List ℕ). scalar false output.1) (numbered_outputs tile) ≡ map (scalar false) (matrix_outputs tile)
+pub output_ports : (tile : PlainTile) → map (λ (output : ℕ × List ℕ). scalar false output.1) (numbered_outputs tile) ≡ map (scalar false) (matrix_output_names tile)
 output_ports tile = scalars_of (numbered_outputs tile) ∙ ap (map (scalar false)) (outputs_named tile)
 
 names_of_scalars : (input : Bool) (names : List (List ℕ)) → port_names (map (scalar input) names) ≡ names
@@ -51,8 +51,8 @@ matrix_ports_apart tile is =
     let bits = select_bits nat_eq (named_pairs tile) in
     let outputs = map (λ (output : ℕ × List ℕ). scalar false output.1) (numbered_outputs tile) in
     let names_of_outputs : port_names outputs ≡ map (λ (output : ℕ × List ℕ). output.1) (numbered_outputs tile) =
-    ap port_names (output_ports tile) ∙ names_of_scalars false (matrix_outputs tile) ∙ sym (outputs_named tile) in
+    ap port_names (output_ports tile) ∙ names_of_scalars false (matrix_output_names tile) ∙ sym (outputs_named tile) in
     subst AreApart
-    (sym (map-append port_name (map (scalar true) (matrix_inputs tile)) (config_port bits ++ outputs)
-    ∙ (λ j. names_of_scalars true (matrix_inputs tile) j ++ (map-append port_name (config_port bits) outputs ∙ (λ k. names_of_config bits k ++ names_of_outputs k)) j)))
+    (sym (map-append port_name (map (scalar true) (matrix_input_names tile)) (config_port bits ++ outputs)
+    ∙ (λ j. names_of_scalars true (matrix_input_names tile) j ++ (map-append port_name (config_port bits) outputs ∙ (λ k. names_of_config bits k ++ names_of_outputs k)) j)))
     (matrix_apart tile is)

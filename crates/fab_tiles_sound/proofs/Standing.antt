@@ -24,7 +24,7 @@ use Rattle.fab_parts_sound.specs.fab_gen_tile.specs.Words.{IsNamed}
 use Rattle.fab_parts_sound.specs.fab_gen_tile.specs.Names.{config_module_name, matrix_module_name, config_instance_name, matrix_instance_name, frame_data_name, frame_strobe_name, begin_name, end_name, pad_name, vector, same_join}
 use Rattle.fab_parts_sound.specs.fab_gen_tile.specs.Borders.{border, side_border, border_ports, passing_assign, beginning_assign, begin_assigns, dest_value, dest_assign, row_assigns}
 use Rattle.fab_parts_sound.specs.fab_gen_tile.specs.ConfigModule.{frame_ports}
-use Rattle.fab_parts_sound.specs.fab_gen_tile.specs.TileModule.{pad_ports, bels_ports, tile_ports, config_joins, config_instances, bits_join, is_on_side, side_names, matrix_inputs, matrix_outputs, matrix_joins, matrix_instances, pin_join, pad_join, bel_instance, bel_instances}
+use Rattle.fab_parts_sound.specs.fab_gen_tile.specs.TileModule.{pad_ports, bels_ports, tile_ports, config_joins, config_instances, bits_join, is_on_side, side_names, matrix_input_names, matrix_output_names, matrix_joins, matrix_instances, pin_join, pad_join, bel_instance, bel_instances}
 use Rattle.fab_parts_sound.proofs.Lists.{all_counted, all_flat_map, all_right, contains_first, contains_later, contains_map, contains_counted}
 use Rattle.fab_parts_sound.specs.fab_tile_drives.proofs.Members.{contains_at, contains_flat_map, get_enumerated}
 use Rattle.fab_parts_sound.specs.fab_tile_drives.proofs.BorderBits.{border_is, dest_within, jump_source}
@@ -202,9 +202,9 @@ module _ (tile : PlainTile) (is : IsTile tile) (named : IsNamed tile) where
   matrix_joins_stand : All Stands (matrix_joins tile)
   matrix_joins_stand =
       let selects = bits_join (bel_bits tile) (select_bits nat_eq (numbered_pairs tile)) in
-      All-append Stands (map same_join (matrix_inputs tile)) (selects ++ map same_join (matrix_outputs tile)) (same_joins_stand (matrix_inputs tile) (side_scalars false))
-      (All-append Stands selects (map same_join (matrix_outputs tile)) (bits_join_stands (bel_bits tile) (select_bits nat_eq (numbered_pairs tile)) (omega arith))
-      (same_joins_stand (matrix_outputs tile) (side_scalars true)))
+      All-append Stands (map same_join (matrix_input_names tile)) (selects ++ map same_join (matrix_output_names tile)) (same_joins_stand (matrix_input_names tile) (side_scalars false))
+      (All-append Stands selects (map same_join (matrix_output_names tile)) (bits_join_stands (bel_bits tile) (select_bits nat_eq (numbered_pairs tile)) (omega arith))
+      (same_joins_stand (matrix_output_names tile) (side_scalars true)))
 
   matrix_stands : (outputs : List (List ℕ)) → All (ItemStands tile) (matrix_instances tile outputs)
   matrix_stands [] = All-nil (ItemStands tile)
@@ -287,4 +287,4 @@ module _ (tile : PlainTile) (is : IsTile tile) (named : IsNamed tile) where
   all_stand =
       All-append (ItemStands tile) (flat_map row_assigns tile.rows) (instances tile) rows_stand
       (All-append (ItemStands tile) (config_instances tile (tile_bits tile)) _ (config_stands (tile_bits tile) refl)
-      (All-append (ItemStands tile) (matrix_instances tile (matrix_outputs tile)) (bel_instances tile.bels) (matrix_stands (matrix_outputs tile)) bels_stand))
+      (All-append (ItemStands tile) (matrix_instances tile (matrix_output_names tile)) (bel_instances tile.bels) (matrix_stands (matrix_output_names tile)) bels_stand))

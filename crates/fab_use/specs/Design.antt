@@ -19,7 +19,7 @@ use Rattle.fab_state.specs.fab_implementation.specs.Plain.{PlainImplementation}
 use Rattle.fab_legal.specs.Nets.{Net, StandsIn}
 use Rattle.fab_text_loads.specs.fab_prim.specs.Ports.{top_name}
 use Rattle.fab_text_loads.specs.fab_prim.specs.Modules.{flip_flop_name}
-use Rattle.fab_text_loads.specs.fab_gen_tile.specs.TileModule.{matrix_outputs}
+use Rattle.fab_text_loads.specs.fab_gen_tile.specs.TileModule.{matrix_output_names}
 use Rattle.fab_text_loads.specs.fab_tile_drives.specs.Stands.{matrix_path, name_of, wire_point}
 use Rattle.fab_text_loads.specs.fab_drives.specs.Points.{place_path, IsOnWay}
 use Rattle.fab_use.specs.Sites.{bel_point, port_point, top_point, pin_point}
@@ -40,7 +40,7 @@ pub record IsTreeWire (fabric : PlainFabric) (implementation : PlainImplementati
 pub data IsRoutePoint (fabric : PlainFabric) (implementation : PlainImplementation) : Point → Type 0 where
   in_tile : {x y : ℕ} {tile : PlainTile} {plain : PlainWire} → IsTreeWire fabric implementation x y tile plain
       → IsRoutePoint fabric implementation (wire_point (place_path x y) tile plain)
-  in_matrix : {x y : ℕ} {tile : PlainTile} {plain : PlainWire} → IsTreeWire fabric implementation x y tile plain → 0 < length (matrix_outputs tile)
+  in_matrix : {x y : ℕ} {tile : PlainTile} {plain : PlainWire} → IsTreeWire fabric implementation x y tile plain → 0 < length (matrix_output_names tile)
       → IsRoutePoint fabric implementation (point (matrix_path (place_path x y)) (name_of tile plain) 0)
   between : {x y row bit : ℕ} {tile : PlainTile} {here : PlacedRow} {p : Point} → IsTreeWire fabric implementation x y tile (dest_of row bit)
       → placed_row fabric (row_place x y row) ≡ Some here → is_jump here.row.dir ≡ false → IsOnWay fabric here bit p → IsRoutePoint fabric implementation p

@@ -19,7 +19,7 @@ use Rattle.fab_state.specs.fab_implementation.specs.Plain.{Edge, PlainTree, Plai
 use Rattle.fab_text_loads.specs.fab_prim.specs.Ports.{top_name}
 use Rattle.fab_text_loads.specs.fab_prim.specs.Modules.{flip_flop_name}
 use Rattle.fab_text_loads.specs.fab_gen_tile.specs.Borders.{fixed_bit}
-use Rattle.fab_text_loads.specs.fab_gen_tile.specs.TileModule.{matrix_outputs}
+use Rattle.fab_text_loads.specs.fab_gen_tile.specs.TileModule.{matrix_output_names}
 use Rattle.fab_text_loads.specs.fab_tile_drives.specs.Stands.{matrix_path, name_of, wire_point}
 use Rattle.fab_text_loads.specs.fab_drives.specs.Points.{place_path, row_path}
 use Rattle.fab_use.specs.Sites.{bel_point, port_point, top_point, pin_point}
@@ -78,7 +78,7 @@ pub data HasSource (fabric : PlainFabric) (packed : PlainPacked) (implementation
   of_edge : {tree : PlainTree} {edge : Edge} {x y : ℕ} {tile : PlainTile} {output input : PlainWire} → Contains implementation.trees tree → Contains tree.edges edge
       → tile_at fabric x y ≡ Some tile → IsIndexOf fabric edge.1.0 x y output → IsMatrixOutput tile output → IsIndexOf fabric edge.0.0 x y input
       → HasSource fabric packed implementation (point (matrix_path (place_path x y)) (name_of tile output) 0) (shows (point (matrix_path (place_path x y)) (name_of tile input) 0))
-  of_input : {x y : ℕ} {tile : PlainTile} {plain : PlainWire} → IsTreeWire fabric implementation x y tile plain → (IsMatrixOutput tile plain → ⊥) → 0 < length (matrix_outputs tile)
+  of_input : {x y : ℕ} {tile : PlainTile} {plain : PlainWire} → IsTreeWire fabric implementation x y tile plain → (IsMatrixOutput tile plain → ⊥) → 0 < length (matrix_output_names tile)
       → HasSource fabric packed implementation (point (matrix_path (place_path x y)) (name_of tile plain) 0) (shows (wire_point (place_path x y) tile plain))
   -- bits of jumps: constants, and copies of source bits
   constant_bit : {x y row bit : ℕ} {tile : PlainTile} {found : WireRow} → IsTreeWire fabric implementation x y tile (dest_of row bit) → slice_get tile.rows row ≡ Some found

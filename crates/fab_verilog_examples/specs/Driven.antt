@@ -5,19 +5,19 @@ use Rattle.fab_meaning.specs.Value.{bit_at}
 use Rattle.fab_values.specs.Declarations.{declarations}
 use Rattle.fab_values.specs.Evaluation.{Held, IsFit, expr_width, value_in}
 use Rattle.fab_equations.specs.Instances.{Instance, instances}
-use Rattle.fab_equations.specs.Numbering.{IsNumbered}
+use Rattle.fab_equations.specs.Numbering.{IsInstanceOfNumber}
 use Rattle.fab_equations.specs.Tables.{IsExpression}
 use Rattle.fab_equations.specs.declared.driver.Source.{Source}
 
 -- there are bits for each instance, over the names that its module declares
 pub record AreValues (text : List PlainModule) (values : List Held) : Type 0 where
   pub all : length values ≡ length (instances text)
-  pub declared : (number : ℕ) (i : Instance) (held : Held) → IsNumbered text number i → slice_get values number ≡ Some held → held.declarations ≡ declarations i.here
+  pub declared : (number : ℕ) (i : Instance) (held : Held) → IsInstanceOfNumber text number i → slice_get values number ≡ Some held → held.declarations ≡ declarations i.here
 
 -- a source is an expression that has a value over the names of its instance, and a bit of it
 pub record HasValue (text : List PlainModule) (source : Source) : Type 0 where
   pub i : Instance
-  pub is : IsNumbered text source.instance i
+  pub is : IsInstanceOfNumber text source.instance i
   pub e : PlainExpr
   pub expression : IsExpression text source.expr e
   pub fit : IsFit (declarations i.here) e

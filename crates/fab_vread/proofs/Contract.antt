@@ -10,7 +10,7 @@ use Rattle.fab_syntax.specs.Spelling.{text_bytes}
 use Rattle.fab_grammar.specs.Grammar.{SpellsText}
 use Rattle.fab_grammar.specs.Printable.{IsPrintableText}
 use Rattle.fab_vread.specs.Machine.{read_of}
-use Rattle.fab_vread.specs.Refusals.{IsRefusal}
+use Rattle.fab_vread.specs.Refusals.{IsVerilogRefusal}
 use Rattle.fab_vread.proofs.Accepting.{read_spelled, spelled_read, printed_read}
 use Rattle.fab_vread.proofs.Printable.{spelled_printable}
 use Rattle.fab_vread.proofs.Refusing.{text_refused}
@@ -35,7 +35,7 @@ printed_of file bytes result h modules printable same =
     subst (λ given. Gives plain_text result given) (printed_read file bytes modules printable same) h
 
 abbrev Told : (file bytes : List ℕ) → Fault → Type 0
-Told file bytes fault = (fault ≡ faults.Memory) ⊎ IsRefusal file bytes fault
+Told file bytes fault = (fault ≡ faults.Memory) ⊎ IsVerilogRefusal file bytes fault
 
 pub refused_of : (file bytes : List ℕ) (result : Result Text Fault) → Gives plain_text result (read_of file bytes) → IfErr result (Told file bytes)
 refused_of file bytes (Ok text) h = tt

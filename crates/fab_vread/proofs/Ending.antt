@@ -21,7 +21,7 @@ use Rattle.fab_vread.specs.declared.places.Place.TheVariants as places
 use Rattle.fab_vread.specs.Expressions as steps
 use Rattle.fab_vread.specs.Expressions.{PlainLevel, Spot, Before, Behind, Opened, parenthesis, brace, index, nothing, negation, left, test, choice, wanting, named, select, high, colon, low, after, operand, branch, whole, completed, kept, with_bits, is_this_mark, after_behind, after_whole, with_over, taken}
 use Rattle.fab_vread.specs.Places.{move_of}
-use Rattle.fab_vread.specs.Machine.{Machine, PlainState, outside, inside, after_token, at_start, begun, closed, declared, instanced, joined, with_item, with_gate, with_latch, with_stepped}
+use Rattle.fab_vread.specs.Machine.{Machine, PlainState, outside, inside, after_token, at_start, begun, closed, declared, instanced, with_join, with_item, with_gate, with_latch, with_stepped}
 use Rattle.fab_vread.proofs.Running.{run, and_next}
 
 -- some name
@@ -150,7 +150,7 @@ ends_first_join m of name =
 ends_join_value : (m : Machine) (of name port : List ℕ) → Ends (at m (places.Joins of name (joinings.Value port)))
 unfolding after_token move_of
 ends_join_value m of name port =
-    let n = joined (at m (places.Joins of name (joinings.Value port))) of name port None in
+    let n = with_join (at m (places.Joins of name (joinings.Value port))) of name port None in
     step _ n (Mark 41) refl refl (ends_join n of name)
 
 ends_join_open : (m : Machine) (of name port : List ℕ) → Ends (at m (places.Joins of name (joinings.Open port)))
@@ -319,7 +319,7 @@ clocked_ends clock target m e =
 
 join_ends : (of name port : List ℕ) (m : Machine) (e : PlainExpr) → Follows (purposes.Join of name port) m [] (whole e)
 join_ends of name port m e =
-    let n = joined m of name port (Some e) in
+    let n = with_join m of name port (Some e) in
     record { mark = 41; no_select = refl; no_test = refl; then_at = n; is = refl; same = refl; ends = ends_join n of name }
 
 ends_latch_sign : (m : Machine) (target : List ℕ) → Ends (at m (places.Process (processes.LatchSign target)))

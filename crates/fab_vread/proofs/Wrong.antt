@@ -24,7 +24,7 @@ use Rattle.fab_vread.specs.Places as moving
 use Rattle.fab_vread.specs.Places.{move_of, to, item_move, edge_move, port_start}
 use Rattle.fab_vread.specs.Machine.{Machine, PlainState, outside, inside, first_machine, after_token, after_token_at, with_stepped, with_value, valued, made}
 use Rattle.fab_vread.proofs.Running.{run, and_next, and_take}
-use Rattle.fab_vread.specs.Refusals.{BeginsText, Leads, an_item, a_port, an_edge, IsLacking, IsWrong, lacking, unfit}
+use Rattle.fab_vread.specs.Refusals.{BeginsText, BeginsItem, an_item, a_port, an_edge, IsLacking, IsWrong, lacking, unfit}
 use Rattle.fab_vread.proofs.Runs.{run_on}
 use Rattle.fab_vread.proofs.Viable.{taken_begins, refused_begins}
 use Rattle.fab_vread.proofs.Malformed.{valued_plain, moved_if, name_plain, mark_plain, begin_plain, high_number, zero_plain, start_plain, if_plain, arrow_plain, malformed, Plainly}
@@ -223,17 +223,17 @@ unfolding run
 after_one ts m t given e is =
     run_on ts (t ∷ []) first_machine ∙ ap (λ given. and_take given (t ∷ [])) e ∙ ap (λ given. and_next given (λ n. Ok n)) is
 
-leads_by : (ts : List Token) (k : Word) → IsFirst k → BeginsText (ts ++ Keyword k ∷ []) → Leads ts
+leads_by : (ts : List Token) (k : Word) → IsFirst k → BeginsText (ts ++ Keyword k ∷ []) → BeginsItem ts
 leads_by ts k wire_first b = an_item b
 leads_by ts k input_first b = a_port b
 leads_by ts k posedge_first b = an_edge b
 
-leads_no : (ts : List Token) → ((k : Word) → IsFirst k → BeginsText (ts ++ Keyword k ∷ []) → ⊥) → Leads ts → ⊥
+leads_no : (ts : List Token) → ((k : Word) → IsFirst k → BeginsText (ts ++ Keyword k ∷ []) → ⊥) → BeginsItem ts → ⊥
 leads_no ts never (an_item b) = never Wire wire_first b
 leads_no ts never (a_port b) = never Input input_first b
 leads_no ts never (an_edge b) = never Posedge posedge_first b
 
-none_lacks : (ts : List Token) (t : Token) → (Leads ts → ⊥) → IsLacking ts t → ⊥
+none_lacks : (ts : List Token) (t : Token) → (BeginsItem ts → ⊥) → IsLacking ts t → ⊥
 none_lacks ts (Identifier word) never h = never h.1
 none_lacks ts (Keyword keyword) never h = h
 none_lacks ts (Number number) never h = h
@@ -243,7 +243,7 @@ none_lacks ts Arrow never h = h
 none_lacks ts (Mark byte) never h = h
 none_lacks ts Unknown never h = h
 
-wrong_here : (ts : List Token) (t : Token) → Leads ts → IsWrong ts t (told t)
+wrong_here : (ts : List Token) (t : Token) → BeginsItem ts → IsWrong ts t (told t)
 wrong_here ts (Identifier word) leads = by_word (is_foreign word) refl where
   by_word : (b : Bool) → is_foreign word ≡ b → IsWrong ts (Identifier word) (if b then problems.Unsupported word else malformed)
   by_word true e = lacking word (e, leads)

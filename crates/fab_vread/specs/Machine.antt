@@ -103,8 +103,8 @@ with_module m whole = record m { modules = m.modules ++ whole ∷ []; state = ou
 abbrev pub closed : Machine → Machine
 closed m = with_module (record m { name = []; ports = []; items = [] }) (record { name = m.name; ports = m.ports; items = m.items })
 
-abbrev pub joined : Machine → (of name port : List ℕ) → Option PlainExpr → Machine
-joined m of name port to =
+abbrev pub with_join : Machine → (of name port : List ℕ) → Option PlainExpr → Machine
+with_join m of name port to =
     record m { joins = m.joins ++ record { port = port; to = to } ∷ []; state = outside (places.Joins of name joinings.End) }
 
 abbrev pub instanced : Machine → (of name : List ℕ) → Machine
@@ -126,7 +126,7 @@ with_value m (purposes.Assign target) e token = on 59 token (Ok (with_item m (as
 with_value m purposes.Gate e token = on 41 token (Ok (with_gate m e))
 with_value m (purposes.Latch target) e token = on 59 token (Ok (with_latch m target e))
 with_value m (purposes.Clocked clock target) e token = on 59 token (Ok (with_item m (clocked clock target e)))
-with_value m (purposes.Join of name port) e token = on 41 token (Ok (joined m of name port (Some e)))
+with_value m (purposes.Join of name port) e token = on 41 token (Ok (with_join m of name port (Some e)))
 
 abbrev pub with_effect : Machine → Purpose → List PlainLevel → Effect → Result Machine Problem
 with_effect m purpose levels (going spot) = Ok (record m { state = inside purpose levels spot })
@@ -148,7 +148,7 @@ moved m (moves.To place) = Ok (record m { state = outside place })
 moved m (moves.Begin name) = Ok (record m { name = name; state = outside (places.Header headers.Open) })
 moved m (moves.Declare kind shape name) = Ok (declared m kind shape name)
 moved m moves.End = Ok (closed m)
-moved m (moves.Unjoined of name port) = Ok (joined m of name port None)
+moved m (moves.Unjoined of name port) = Ok (with_join m of name port None)
 moved m (moves.Instance of name) = Ok (instanced m of name)
 moved m (moves.Expression purpose) = Ok (begun m purpose)
 moved m (moves.First purpose token) = valued m purpose [] (wanting nothing) token

@@ -71,14 +71,14 @@ pub record AreText (ts : List Token) : Type 0 where
 -- ---- what is wrong
 
 -- The next token is in the first place of an item or a port, or in that of the edge.
-pub data Leads (front : List Token) : Type 0 where
-  an_item : BeginsText (front ++ tokens.Keyword keywords.Wire ∷ []) → Leads front
-  a_port : BeginsText (front ++ tokens.Keyword keywords.Input ∷ []) → Leads front
-  an_edge : BeginsText (front ++ tokens.Keyword keywords.Posedge ∷ []) → Leads front
+pub data BeginsItem (front : List Token) : Type 0 where
+  an_item : BeginsText (front ++ tokens.Keyword keywords.Wire ∷ []) → BeginsItem front
+  a_port : BeginsText (front ++ tokens.Keyword keywords.Input ∷ []) → BeginsItem front
+  an_edge : BeginsText (front ++ tokens.Keyword keywords.Posedge ∷ []) → BeginsItem front
 
 -- a word of Verilog that the profile lacks, in such a place
 abbrev pub IsLacking : (front : List Token) → Token → Type 0
-IsLacking front (tokens.Identifier word) = (is_foreign word ≡ true) × Leads front
+IsLacking front (tokens.Identifier word) = (is_foreign word ≡ true) × BeginsItem front
 IsLacking front _ = ⊥
 
 -- what is wrong with a token that cannot stand behind these
@@ -130,5 +130,5 @@ pub record Refused (file : List ℕ) (lexemes : List Lexeme) (last : ℕ) (fault
   pub told : fault ≡ fault_at file line problem
 
 -- why the bytes of a file are refused
-abbrev pub IsRefusal : (file bytes : List ℕ) → Fault → Type 0
-IsRefusal file bytes fault = Refused file (lexemes_of bytes) (last_line bytes) fault
+abbrev pub IsVerilogRefusal : (file bytes : List ℕ) → Fault → Type 0
+IsVerilogRefusal file bytes fault = Refused file (lexemes_of bytes) (last_line bytes) fault

@@ -9,7 +9,7 @@ ghost use Rattle.fab_syntax.specs.Plain.{PlainModule, plain_text};
 ghost use Rattle.fab_syntax.specs.Spelling.{text_bytes};
 ghost use Rattle.fab_grammar.specs.Grammar.{SpellsText};
 ghost use Rattle.fab_grammar.specs.Printable.{IsPrintableText};
-ghost use Rattle.fab_vread.specs.Refusals.{IsRefusal};
+ghost use Rattle.fab_vread.specs.Refusals.{IsVerilogRefusal};
 
 use crate::parser::put;
 use crate::progress::Progress;
@@ -139,7 +139,7 @@ impl Reader {
         ensures only { (file bytes : List ℕ) → HasRead file bytes self → (modules : List PlainModule) → SpellsText 300 128 bytes modules → Gives plain_text result (Ok modules) }
         ensures printable { (file bytes : List ℕ) → HasRead file bytes self → IfOk result (λ text. IsPrintableText (plain_text text)) }
         ensures printed { (file bytes : List ℕ) → HasRead file bytes self → (modules : List PlainModule) → IsPrintableText modules → bytes ≡ text_bytes modules → Gives plain_text result (Ok modules) }
-        ensures refused { (file bytes : List ℕ) → HasRead file bytes self → IfErr result (λ fault. (fault ≡ faults.Memory) ⊎ IsRefusal file bytes fault) }
+        ensures refused { (file bytes : List ℕ) → HasRead file bytes self → IfErr result (λ fault. (fault ≡ faults.Memory) ⊎ IsVerilogRefusal file bytes fault) }
         ensures spent { IsSpent self → result ≡ Err faults.Memory }
     {
         let found = self.close();
@@ -161,7 +161,7 @@ pub fn read(alloc: Global, file: &Name, bytes: &[u8]) -> Result<Text, Fault>
     ensures only { (modules : List PlainModule) → SpellsText 300 128 bytes.now modules → Gives plain_text result (Ok modules) }
     ensures printable { IfOk result (λ text. IsPrintableText (plain_text text)) }
     ensures printed { (modules : List PlainModule) → IsPrintableText modules → bytes.now ≡ text_bytes modules → Gives plain_text result (Ok modules) }
-    ensures refused { IfErr result (λ fault. (fault ≡ Fault.Memory) ⊎ IsRefusal file.now bytes.now fault) }
+    ensures refused { IfErr result (λ fault. (fault ≡ Fault.Memory) ⊎ IsVerilogRefusal file.now bytes.now fault) }
 {
     let mut reader = Reader::new(alloc, file)?;
     // where memory is refused, `finish` says so again

@@ -18,7 +18,7 @@ use Rattle.fab_legal.specs.Steps.{IsPaired, IsJoined, IsStep}
 use Rattle.fab_legal.proofs.Pins.{is_tile_at}
 use Rattle.fab_ways.specs.Placing.{gap}
 use Rattle.fab_ways.specs.Edges.{place_of}
-use Rattle.fab_ways.specs.Bounds.{wire_distance, IsSpan, least_edges, Leads, stays, goes}
+use Rattle.fab_ways.specs.Bounds.{wire_distance, IsSpan, least_edges, WalksTo, stays, goes}
 use Rattle.fab_ways.specs.Laws.{LeastIsConsistent, LeastBoundsWalks}
 use Rattle.fab_ways.proofs.Lists.{none_some, mapped_some}
 use Rattle.fab_ways.proofs.Ends.{place_is}
@@ -127,7 +127,7 @@ least_bounds_walks fabric span from to steps tiles is walk =
     let low : (wire_distance fabric to.0 to.0 + (span - 1)) / span < 1 = div_below (wire_distance fabric to.0 to.0 + (span - 1)) span 1 is.some (omega (arith, here, is.some)) in
     omega (arith, led to.0 walk, low)
   where
-    led : (sink : ℕ) {wire : Wire} {n : ℕ} → Leads fabric from wire n → least_edges span fabric from.0 sink ≤ n + least_edges span fabric wire.0 sink
+    led : (sink : ℕ) {wire : Wire} {n : ℕ} → WalksTo fabric from wire n → least_edges span fabric from.0 sink ≤ n + least_edges span fabric wire.0 sink
     led sink {wire} {n} stays = omega arith
     led sink {wire} {n} (goes {wire = v} {edges = m} earlier taken) = omega (arith, led sink earlier, least_is_consistent fabric span v wire sink tiles is taken)
 

@@ -28,6 +28,6 @@ abbrev pub least_edges : (span : ℕ) → PlainFabric → (from to : ℕ) → �
 least_edges span fabric from to = (wire_distance fabric from to + (span - 1)) / span
 
 -- a wire leads to another by this many edges
-pub data Leads (fabric : PlainFabric) (from : Wire) : Wire → ℕ → Type 0 where
-  stays : Leads fabric from from 0
-  goes : {wire next : Wire} {edges : ℕ} → Leads fabric from wire edges → IsStep fabric wire next → Leads fabric from next (suc edges)
+pub data WalksTo (fabric : PlainFabric) (from : Wire) : Wire → ℕ → Type 0 where
+  stays : WalksTo fabric from from 0
+  goes : {wire next : Wire} {edges : ℕ} → WalksTo fabric from wire edges → IsStep fabric wire next → WalksTo fabric from next (suc edges)

@@ -14,7 +14,7 @@ use Rattle.fab_ways.specs.Edges.{ends, ends_at, origins, place_of}
 use Rattle.fab_ways.specs.Routing.{Paths, Run, LeavesShared}
 use Rattle.fab_ways.specs.Trees.{trees_of, with_trees}
 use Rattle.fab_ways.specs.Mapping.{IsMapping}
-use Rattle.fab_ways.specs.Bounds.{IsSpan, least_edges, Leads}
+use Rattle.fab_ways.specs.Bounds.{IsSpan, least_edges, WalksTo}
 
 -- ---- legality
 
@@ -61,5 +61,5 @@ LeastIsConsistent =
 
 abbrev pub LeastBoundsWalks : Type 0
 LeastBoundsWalks =
-    (fabric : PlainFabric) (span : ℕ) (from to : Wire) (edges : ℕ) → AreTiles fabric → IsSpan fabric span → Leads fabric from to edges →
+    (fabric : PlainFabric) (span : ℕ) (from to : Wire) (edges : ℕ) → AreTiles fabric → IsSpan fabric span → WalksTo fabric from to edges →
     least_edges span fabric from.0 to.0 ≤ edges

@@ -10,7 +10,7 @@ use Rattle.fab_syntax.specs.Plain.{PlainModule}
 use Rattle.fab_syntax.specs.Sound.{IsSound}
 use Rattle.fab_meaning.specs.Points.{Path, point}
 use Rattle.fab_meaning.specs.Runs.{clock_name, user_clock_name}
-use Rattle.fab_equations.specs.Equations.{HasNoDot, IsPoint, IsPlace, IsNoPlace, joined}
+use Rattle.fab_equations.specs.Equations.{HasNoDot, IsPoint, IsPlace, IsNoPlace, hierarchical_name}
 use Rattle.fab_equations.proofs.Points.{points_differ}
 use Rattle.fab_network.specs.declared.network.Clock.TheVariants.{Loader, User, Other}
 use Rattle.fab_wiring.specs.Wiring.{clock_called}
@@ -23,11 +23,11 @@ dot_within : (a b : List ℕ) → HasNoDot (a ++ 46 ∷ b) → ⊥
 dot_within [] b plain = All-head (λ (byte : ℕ). byte ≢ 46) 46 b plain refl
 dot_within (n ∷ a) b plain = dot_within a b (All-tail (λ (byte : ℕ). byte ≢ 46) n (a ++ 46 ∷ b) plain)
 
-dot_joined : (path : Path) (a b : List ℕ) → HasNoDot (joined path (a ++ 46 ∷ b)) → ⊥
+dot_joined : (path : Path) (a b : List ℕ) → HasNoDot (hierarchical_name path (a ++ 46 ∷ b)) → ⊥
 dot_joined [] a b plain = dot_within a b plain
-dot_joined (i ∷ path) a b plain = dot_joined path (i ++ 46 ∷ a) b (subst (λ (name : List ℕ). HasNoDot (joined path name)) (sym (append_assoc i (46 ∷ a) (46 ∷ b))) plain)
+dot_joined (i ∷ path) a b plain = dot_joined path (i ++ 46 ∷ a) b (subst (λ (name : List ℕ). HasNoDot (hierarchical_name path name)) (sym (append_assoc i (46 ∷ a) (46 ∷ b))) plain)
 
-top_point : (text : List PlainModule) (number : ℕ) (name : List ℕ) (path : Path) (local : List ℕ) → HasNoDot name → name ≡ joined path local →
+top_point : (text : List PlainModule) (number : ℕ) (name : List ℕ) (path : Path) (local : List ℕ) → HasNoDot name → name ≡ hierarchical_name path local →
     IsPoint text number (point path local 0) →
     IsPoint text number (point [] name 0)
 top_point text number name [] local plain spelled is = subst (λ (n : List ℕ). IsPoint text number (point [] n 0)) (sym spelled) is

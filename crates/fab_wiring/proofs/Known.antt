@@ -5,7 +5,7 @@ use Rattle.fab_syntax.specs.Plain.{PlainExpr, PlainModule}
 use Rattle.fab_syntax.specs.Sound.{IsSound}
 use Rattle.fab_values.specs.Declarations.{declarations}
 use Rattle.fab_equations.specs.Instances.{Instance, expressions}
-use Rattle.fab_equations.specs.Numbering.{IsNumbered}
+use Rattle.fab_equations.specs.Numbering.{IsInstanceOfNumber}
 use Rattle.fab_equations.specs.Tables.{IsExpression}
 use Rattle.fab_equations.proofs.ListPlaces.{at_end, kept_in}
 use Rattle.fab_equations.proofs.Numbering.{same_value, instances_stand}
@@ -33,9 +33,9 @@ tree_stays text old new kept i expr number for = record { tree = for.tree; is = 
 
 -- what is known serves an instance of the module
 pub found_serves : (text : List PlainModule) (made : Trees) → AreTrees text made → (instance module_number expr number : ℕ) →
-    ((i : Instance) → IsNumbered text instance i → module_number ≡ i.number) →
+    ((i : Instance) → IsInstanceOfNumber text instance i → module_number ≡ i.number) →
     slice_get made.known.items expr ≡ Some (Some (record { «module» = module_number; tree = number })) →
-    (i : Instance) → IsNumbered text instance i → IsTreeFor text made.trees.items i expr number
+    (i : Instance) → IsInstanceOfNumber text instance i → IsTreeFor text made.trees.items i expr number
 found_serves text made trees instance module_number expr number of is i numbered =
     trees.known expr (record { «module» = module_number; tree = number }) is instance i numbered (sym (of i numbered))
 
@@ -53,12 +53,12 @@ compiled_as text i expr first made tree wide at is compiled e there = (
 module _ (text : List PlainModule) (sound : IsSound text) (old new : Trees) (instance module_number expr number : ℕ) (tree : Tree)
     (known : new.known.items ≡ slice_set old.known.items expr (Some (record { «module» = module_number; tree = number })))
     (added : new.trees.items ≡ old.trees.items ++ tree ∷ []) (last : number ≡ length old.trees.items)
-    (here : Instance) (is_here : IsNumbered text instance here) (of : module_number ≡ here.number)
+    (here : Instance) (is_here : IsInstanceOfNumber text instance here) (of : module_number ≡ here.number)
     (compiled : (e : PlainExpr) → IsExpression text expr e → (wide : ℕ) × IsCompiled (declarations here.here) e tree wide) where
   pub trees_kept : AreKept old.trees.items new.trees.items
   trees_kept n other is = ap (λ trees. slice_get trees n) added ∙ kept_in old.trees.items (tree ∷ []) n other is
 
-  serves : (other : ℕ) (i : Instance) → IsNumbered text other i → i.number ≡ module_number → IsTreeFor text new.trees.items i expr number
+  serves : (other : ℕ) (i : Instance) → IsInstanceOfNumber text other i → i.number ≡ module_number → IsTreeFor text new.trees.items i expr number
   serves other i numbered in_module =
       let there : slice_get text here.number ≡ Some i.here = ap (slice_get text) (sym of ∙ sym in_module) ∙ (instances_stand text sound other i numbered).1 in
       let same : here.here ≡ i.here = same_value (slice_get text here.number) here.here i.here (instances_stand text sound instance here is_here).1 there in
@@ -68,7 +68,7 @@ module _ (text : List PlainModule) (sound : IsSound text) (old new : Trees) (ins
         compiled = λ e is. let made = compiled e is in (made.0, subst (λ (m : PlainModule). IsCompiled (declarations m) e tree made.0) same made.1);
       }
 
-  pub added_serves : (i : Instance) → IsNumbered text instance i → IsTreeFor text new.trees.items i expr number
+  pub added_serves : (i : Instance) → IsInstanceOfNumber text instance i → IsTreeFor text new.trees.items i expr number
   added_serves i numbered = serves instance i numbered (ap (λ (j : Instance). j.number) (same_value _ i here numbered is_here) ∙ sym of)
 
   known_after : AreTrees text old → (x : ℕ) (k : Known) → slice_get new.known.items x ≡ Some (Some k) → IsKnown text new.trees.items x k

@@ -9,7 +9,7 @@ use Rattle.fab_tern.specs.Values.{tern_value}
 use Rattle.fab_tern.specs.Shown.{tern_names}
 use Rattle.fab_values.specs.Declarations.{declarations, bits_of}
 use Rattle.fab_equations.specs.Instances.{Instance, points}
-use Rattle.fab_equations.specs.Numbering.{IsNumbered, points_before}
+use Rattle.fab_equations.specs.Numbering.{IsInstanceOfNumber, points_before}
 use Rattle.fab_equations.specs.Equations.{IsSource, SourceFits}
 use Rattle.fab_equations.specs.declared.driver.Source.{Source as MeantSource}
 use Rattle.fab_equations.proofs.Located.{points_within}
@@ -39,8 +39,8 @@ below_more a b l (Cond' p c q e r f) h = (below_more a b l c h.0, below_more a b
 -- ---- a source for the bit of an expression
 
 module _ (text : List PlainModule) (sound : IsSound text) (values : CompiledValues) (trees : List Tree) (meant : MeantSource) (first tree : ℕ)
-    (begins : (i : Instance) → IsNumbered text meant.instance i → first ≡ points_before text meant.instance)
-    (made : (i : Instance) → IsNumbered text meant.instance i → IsTreeFor text trees i meant.expr tree) where
+    (begins : (i : Instance) → IsInstanceOfNumber text meant.instance i → first ≡ points_before text meant.instance)
+    (made : (i : Instance) → IsInstanceOfNumber text meant.instance i → IsTreeFor text trees i meant.expr tree) where
   abbrev source : Source
   source = record { tree = tree; first = first; bit = meant.bit }
 

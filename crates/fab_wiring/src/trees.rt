@@ -5,7 +5,7 @@ ghost use Rattle.fab_syntax.specs.Plain.{PlainExpr, plain_text};
 ghost use Rattle.fab_values.specs.Declarations.{declarations};
 ghost use Rattle.fab_values.specs.Evaluation.{IsFit};
 ghost use Rattle.fab_equations.specs.Instances.{Instance, expressions, instances};
-ghost use Rattle.fab_equations.specs.Numbering.{IsNumbered};
+ghost use Rattle.fab_equations.specs.Numbering.{IsInstanceOfNumber};
 ghost use Rattle.fab_equations.specs.Tables.{IsExpression};
 ghost use Rattle.fab_equations.specs.Equations.{SourceFits};
 ghost use Rattle.fab_wiring.specs.inner.Trees.{AreTrees, AreKept, HasSource, IsMade, IsTreeFor};
@@ -78,10 +78,10 @@ impl Trees {
         requires trees { AreTrees (plain_text equations.now) self.old }
         requires instance { instance < length (instances (plain_text equations.now)) }
         requires expr { expr < length (expressions (plain_text equations.now)) }
-        requires fit { (i : Instance) (e : PlainExpr) → IsNumbered (plain_text equations.now) instance i → IsExpression (plain_text equations.now) expr e → IsFit (declarations i.here) e }
+        requires fit { (i : Instance) (e : PlainExpr) → IsInstanceOfNumber (plain_text equations.now) instance i → IsExpression (plain_text equations.now) expr e → IsFit (declarations i.here) e }
         ensures trees { OnOk result (AreTrees (plain_text equations.now) self.new) }
         ensures kept { OnOk result (AreKept self.old.trees.items self.new.trees.items) }
-        ensures tree { IfOk result (λ tree. (i : Instance) → IsNumbered (plain_text equations.now) instance i → IsTreeFor (plain_text equations.now) self.new.trees.items i expr tree) }
+        ensures tree { IfOk result (λ tree. (i : Instance) → IsInstanceOfNumber (plain_text equations.now) instance i → IsTreeFor (plain_text equations.now) self.new.trees.items i expr tree) }
     {
         let module = equations.module_of(instance);
         if let Some(tree) = self.find(module, expr) {

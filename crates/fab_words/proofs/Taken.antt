@@ -6,7 +6,7 @@ use Rattle.std.specs.List.{list_any, before_first, after_first}
 use Rattle.std.proofs.lemmas.List.{at_drop_more, at_drop_all}
 use Rattle.fab_base.specs.declared.fault.Fault.{Fault}
 use Rattle.fab_words.specs.Arguments.{PlainSetting, PlainArguments, setting, no_arguments, with_setting, is_equals, is_positional, is_option, is_setting, option_text, name_in, value_in, arguments_of, IsUsage}
-use Rattle.fab_words.specs.inner.Taking.{behind, and_setting, Takes, Ends}
+use Rattle.fab_words.specs.inner.Taking.{behind, and_setting, TakesArgument, Ends}
 
 -- with nothing in front
 behind_nothing : (more : Option PlainArguments) → behind no_arguments more ≡ more
@@ -67,7 +67,7 @@ parts_say text found name value says is = go (list_any is_equals text) refl
 
 -- `--NAME=VALUE`
 pub setting_taken : (word name value : List ℕ) (first after : PlainArguments) → is_positional word ≡ false → is_option word ≡ true → list_any is_equals (option_text word) ≡ true
-    → name ≡ name_in word → value ≡ value_in word → (length value == 0) ≡ false → after ≡ and_setting first name value → Takes first after None word None
+    → name ≡ name_in word → value ≡ value_in word → (length value == 0) ≡ false → after ≡ and_setting first name value → TakesArgument first after None word None
 setting_taken word name value first after positional option equals name_is value_is filled after_is more =
     let not_empty : (length (value_in word) == 0) ≡ false = ap (λ (v : List ℕ). length v == 0) (sym value_is) ∙ filled in
     let whole : is_setting word ≡ true = rw (option, equals, not_empty) in

@@ -5,7 +5,7 @@ ghost use Rattle.std.specs.List.{list_any, before_first, after_first};
 ghost use Rattle.std.specs.Str.{bytes_eq};
 ghost use Rattle.fab_words.specs.Arguments.{is_equals, is_positional, is_option, option_text, setting, arguments_of, has_setting, are_options, value_of, IsUsage};
 ghost use Rattle.fab_words.specs.inner.Plain.{plain_setting, plain_arguments};
-ghost use Rattle.fab_words.specs.inner.Taking.{behind, and_setting, Takes, Ends};
+ghost use Rattle.fab_words.specs.inner.Taking.{behind, and_setting, TakesArgument, Ends};
 
 use fab_base::{Fault, Memory};
 use std::alloc::Global;
@@ -57,7 +57,7 @@ impl<'a> Arguments<'a> {
 
     /// Takes the value of an option, which is a positional word.
     fn take_value(&mut self, name: &'a str, value: &'a str) -> Result<Option<&'a str>, Fault>
-        ensures taken { IfOk result (λ next. Takes (plain_arguments self.old) (plain_arguments self.new) (Some name.entry.now) value.entry.now (option_copied next)) }
+        ensures taken { IfOk result (λ next. TakesArgument (plain_arguments self.old) (plain_arguments self.new) (Some name.entry.now) value.entry.now (option_copied next)) }
         ensures usage { IfErr result (IsUsage (Ends (Some name.entry.now) value.entry.now)) }
     {
         if !is_positional(value) {
@@ -70,7 +70,7 @@ impl<'a> Arguments<'a> {
     /// Takes an option, with or without its value.
     fn take_option(&mut self, word: &'a str) -> Result<Option<&'a str>, Fault>
         requires { is_positional word.now ≡ false }
-        ensures taken { IfOk result (λ next. Takes (plain_arguments self.old) (plain_arguments self.new) None word.entry.now (option_copied next)) }
+        ensures taken { IfOk result (λ next. TakesArgument (plain_arguments self.old) (plain_arguments self.new) None word.entry.now (option_copied next)) }
         ensures usage { IfErr result (IsUsage (Ends None word.entry.now)) }
     {
         let text = option_text(word).ok_or(Fault::Usage)?;
@@ -86,7 +86,7 @@ impl<'a> Arguments<'a> {
 
     /// Takes a word that is no value of an option before it.
     fn take_word(&mut self, word: &'a str) -> Result<Option<&'a str>, Fault>
-        ensures taken { IfOk result (λ next. Takes (plain_arguments self.old) (plain_arguments self.new) None word.entry.now (option_copied next)) }
+        ensures taken { IfOk result (λ next. TakesArgument (plain_arguments self.old) (plain_arguments self.new) None word.entry.now (option_copied next)) }
         ensures usage { IfErr result (IsUsage (Ends None word.entry.now)) }
     {
         if !is_positional(word) {
@@ -98,7 +98,7 @@ impl<'a> Arguments<'a> {
 
     /// Takes the next word, behind the option whose value it is, if there is one.
     fn take(&mut self, named: Option<&'a str>, word: &'a str) -> Result<Option<&'a str>, Fault>
-        ensures taken { IfOk result (λ next. Takes (plain_arguments self.old) (plain_arguments self.new) (option_copied named.entry) word.entry.now (option_copied next)) }
+        ensures taken { IfOk result (λ next. TakesArgument (plain_arguments self.old) (plain_arguments self.new) (option_copied named.entry) word.entry.now (option_copied next)) }
         ensures usage { IfErr result (IsUsage (Ends (option_copied named.entry) word.entry.now)) }
     {
         match named {

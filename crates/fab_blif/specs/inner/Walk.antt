@@ -24,18 +24,18 @@ plain_joins entries = map (λ entry. (entry.0.items, plain_net entry.1)) entries
 -- ---- nets by number as they come
 
 -- the numbers that nets get one after another
-abbrev pub numbered : List PlainNet → List PlainNet → List ℕ
-numbered nets [] = []
-numbered nets (net ∷ more) = number_in nets net ∷ numbered (insert_key net_eq nets net) more
+abbrev pub net_numbers : List PlainNet → List PlainNet → List ℕ
+net_numbers nets [] = []
+net_numbers nets (net ∷ more) = number_in nets net ∷ net_numbers (insert_key net_eq nets net) more
 
 abbrev pub used_at : (line : ℕ) → List ℕ → List Use
 used_at line numbers = map (λ number. record { line = line; net = number }) numbers
 
 abbrev pub with_inputs : PlainDesign → ℕ → List PlainNet → PlainDesign
-with_inputs design line names = record design { nets = insert_all net_eq design.nets names; inputs = design.inputs ++ used_at line (numbered design.nets names) }
+with_inputs design line names = record design { nets = insert_all net_eq design.nets names; inputs = design.inputs ++ used_at line (net_numbers design.nets names) }
 
 abbrev pub with_outputs : PlainDesign → ℕ → List PlainNet → PlainDesign
-with_outputs design line names = record design { nets = insert_all net_eq design.nets names; outputs = design.outputs ++ used_at line (numbered design.nets names) }
+with_outputs design line names = record design { nets = insert_all net_eq design.nets names; outputs = design.outputs ++ used_at line (net_numbers design.nets names) }
 
 abbrev pub with_clock : PlainDesign → ℕ → PlainNet → PlainDesign
 with_clock design line net = record design { clocks = design.clocks ++ record { line = line; net = net; latch = None } ∷ [] }
@@ -46,7 +46,7 @@ with_clock_port design line net = record design { nets = insert_key net_eq desig
 abbrev pub with_cover : PlainDesign → ℕ → List PlainNet → PlainNet → ℕ → PlainDesign
 with_cover design line names output table = record design {
   nets = insert_key net_eq (insert_all net_eq design.nets names) output;
-  covers = design.covers ++ record { line = line; inputs = numbered design.nets names; output = number_in (insert_all net_eq design.nets names) output; table = table } ∷ [];
+  covers = design.covers ++ record { line = line; inputs = net_numbers design.nets names; output = number_in (insert_all net_eq design.nets names) output; table = table } ∷ [];
 }
 
 abbrev pub clocked : (line : ℕ) → Latch → List PlainNet → List PlainClock

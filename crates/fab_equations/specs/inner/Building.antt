@@ -4,7 +4,7 @@ use Rattle.std.specs.Borrow.{Bor}
 use Rattle.fab_syntax.specs.declared.tree.Expr.{Expr}
 use Rattle.fab_syntax.specs.Plain.{PlainExpr, variable, PlainJoin, PlainItem, PlainModule, plain_expr}
 use Rattle.fab_syntax.specs.Declarations.{module_named, one_if_same, times_driven, times_joined_out, times_joined}
-use Rattle.fab_syntax.specs.Sound.{IsSound, JoinFits, joined, item_expressions}
+use Rattle.fab_syntax.specs.Sound.{IsSound, JoinFits, joined_expressions, item_expressions}
 use Rattle.fab_values.specs.Declarations.{Declaration, declarations, number_of}
 use Rattle.fab_values.specs.declared.names.Role.TheVariants as roles
 use Rattle.fab_equations.specs.Instances.{expressions, in_64_bits}
@@ -91,7 +91,7 @@ pub record IsJoin (spot : Spot) (child : Child) (so_far : List PlainJoin) (join 
   pub rest : List PlainJoin
   pub parts : child.joins ≡ so_far ++ join ∷ rest
   pub more : List PlainExpr
-  pub all : es ++ (joined join.to ++ more) ≡ expressions spot.text
+  pub all : es ++ (joined_expressions join.to ++ more) ≡ expressions spot.text
 
 -- how far the drivers and the inputs are
 pub record AreJoinedSoFar (spot : Spot) (items : List PlainItem) (child : Child) (below : PlainModule) (so_far : List PlainJoin) (drivers : List LocalDriver) (inputs : List (Option ℕ)) : Type 0 where

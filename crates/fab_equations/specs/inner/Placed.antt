@@ -8,7 +8,7 @@ use Rattle.fab_syntax.specs.declared.tree.Expr.{Expr}
 use Rattle.fab_sound.specs.Narrow.{AreNarrow}
 use Rattle.fab_values.specs.Declarations.{bits_of}
 use Rattle.fab_equations.specs.Instances.{Instance, instances, points, expressions, whole_count, most_points}
-use Rattle.fab_equations.specs.Numbering.{IsNumbered, points_before, offset_in}
+use Rattle.fab_equations.specs.Numbering.{IsInstanceOfNumber, points_before, offset_in}
 use Rattle.fab_equations.specs.Children.{children}
 use Rattle.fab_equations.specs.Tables.{AreTables}
 use Rattle.fab_equations.specs.declared.placed.PlacedInstance.{PlacedInstance}
@@ -18,14 +18,14 @@ use Rattle.fab_equations.specs.declared.tables.Table.{Table}
 -- an instance is the child of a number in another, behind which it stands
 pub record IsUnder (text : List PlainModule) (number parent child : ℕ) : Type 0 where
   pub above : Instance
-  pub is : IsNumbered text parent above
+  pub is : IsInstanceOfNumber text parent above
   pub within : child < length (children above.here.items)
   pub follows : number ≡ parent + offset_in text above child
 
 -- the instance of a number: its module, its first point, and of which instance it is which child
 pub record IsPlaced (text : List PlainModule) (number : ℕ) (placed : PlacedInstance) : Type 0 where
   pub i : Instance
-  pub is : IsNumbered text number i
+  pub is : IsInstanceOfNumber text number i
   pub of_module : placed.«module» ≡ i.number
   pub first : placed.first ≡ points_before text number
   pub under : 0 < number → IsUnder text number placed.parent placed.child

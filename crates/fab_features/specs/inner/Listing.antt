@@ -8,11 +8,11 @@ use Rattle.fab_fabric.specs.declared.wire.Site.{Site}
 use Rattle.fab_use.specs.fab_fabric_text.specs.Places.{PlacedTile}
 use Rattle.fab_implementation.specs.Plain.{Edge}
 use Rattle.fab_fasm.specs.declared.feature.Feature.{Feature}
-use Rattle.fab_fasm.specs.Printing.{numbered}
+use Rattle.fab_fasm.specs.Printing.{line_by_line}
 
 -- these features are added, and their line numbers go on
 abbrev pub Pushes : (old new more : List Feature) → Type 0
-Pushes old new more = new ≡ old ++ numbered (length old + 1) more
+Pushes old new more = new ≡ old ++ line_by_line (length old + 1) more
 
 -- two numbers, of which the first is a key
 abbrev pub Keyed : Type 0

@@ -38,7 +38,7 @@ pub record TakesRow (placed : ℕ → Option ℕ) (x y word : ℕ) (old new : Li
   pub kept : (x2 y2 number : ℕ) → IsOther placed x y x2 y2 number → plain_bits new x2 y2 number ≡ plain_bits old x2 y2 number
 
 -- a word is taken in the place of a part
-abbrev pub Takes : PlainFabric → Part → (word : Option ℕ) → (old new : List (List (List Bool))) → Type 0
-Takes fabric part None old new = ⊥
-Takes fabric (fixed expected) (Some word) old new = new ≡ old
-Takes fabric (of_row x y frame) (Some word) old new = TakesRow (bit_placed_at fabric x y frame) x y word old new
+abbrev pub TakesWord : PlainFabric → Part → (word : Option ℕ) → (old new : List (List (List Bool))) → Type 0
+TakesWord fabric part None old new = ⊥
+TakesWord fabric (fixed expected) (Some word) old new = new ≡ old
+TakesWord fabric (of_row x y frame) (Some word) old new = TakesRow (bit_placed_at fabric x y frame) x y word old new

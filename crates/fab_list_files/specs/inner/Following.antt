@@ -18,7 +18,7 @@ MayOpen left (deeds.Adds new) = Unit {0}
 MayOpen left (deeds.Opens file) = 1 ≤ left
 
 -- Whatever rows follow, this row leads from the pairs before it to those after it.
-pub record Leads (files : Map) (known : Knowledge) (left : ℕ) (file : List ℕ) (before : List Pair) (row : PlainRow) (after : List Pair) : Type 0 where
+pub record RowLeads (files : Map) (known : Knowledge) (left : ℕ) (file : List ℕ) (before : List Pair) (row : PlainRow) (after : List Pair) : Type 0 where
   pub reads : (rows : List PlainRow) (last : List Pair) → ReadsList files known left file after rows last → ReadsList files known left file before (row ∷ rows) last
   pub meets : (rows : List PlainRow) (event : Event) → MeetsList files known left file after rows event → MeetsList files known left file before (row ∷ rows) event
 

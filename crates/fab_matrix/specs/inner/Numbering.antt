@@ -6,7 +6,7 @@ use Rattle.fab_matrix.specs.Names.{Name}
 use Rattle.fab_matrix.specs.inner.Grouped.{name_at}
 
 -- The numbers stand for these names: each is the place of its name among the keys, which are the names at their first places.
-pub record IsNumbered (names keys : List Name) (numbers : List ℕ) : Type 0 where
+pub record AreNumbersOf (names keys : List Name) (numbers : List ℕ) : Type 0 where
   pub order : keys ≡ firsts bytes_eq names
   pub within : All (λ number. number < length keys) numbers
   pub same : map (name_at keys) numbers ≡ names

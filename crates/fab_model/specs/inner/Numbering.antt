@@ -26,7 +26,7 @@ laid_bels low [] = []
 laid_bels low (bel ∷ bels) = (low, bit_count bel.kind) ∷ laid_bels (low + bit_count bel.kind) bels
 
 -- the keys of the index and the fields are those of the tile
-pub record IsNumbered (tile : PlainTile) (keys : List (List ℕ)) (bel_fields : List (ℕ × ℕ)) (order : List ℕ) (fields : List (ℕ × ℕ)) (bits : ℕ) : Type 0 where
+pub record HasTables (tile : PlainTile) (keys : List (List ℕ)) (bel_fields : List (ℕ × ℕ)) (order : List ℕ) (fields : List (ℕ × ℕ)) (bits : ℕ) : Type 0 where
   pub is_tile : IsTile tile
   pub by_number : keys ≡ matrix_names tile
   pub bels_laid_out : bel_fields ≡ laid_bels 0 tile.bels

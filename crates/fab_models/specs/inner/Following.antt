@@ -11,7 +11,8 @@ use Rattle.fab_lines.specs.Order.{judged, placed, read_from}
 use Rattle.fab_models.specs.declared.words.Kind.{Kind}
 use Rattle.fab_models.specs.declared.words.Kind.TheVariants as kinds
 use Rattle.fab_models.specs.Plain.{PlainBody, cover, PlainStatement, PlainModel}
-use Rattle.fab_models.specs.Words.{Word, words, word_at, arguments, kind_of}
+use Rattle.fab_models.specs.Words.{Word, words, arguments, kind_of}
+use Rattle.fab_lines.specs.Items.{word_at, with_last}
 use Rattle.fab_models.specs.Covers.{pattern_of, is_on, is_off, matches}
 use Rattle.fab_models.specs.Context.{Context}
 use Rattle.fab_models.specs.Judge.{judge_words}
@@ -22,12 +23,6 @@ pub record State : Type 0 where
   pub context : Context
   pub covered : ℕ
   pub models : List PlainModel
-
--- a list with its last item changed
-abbrev pub with_last : {X : Type 0} → (X → X) → List X → List X
-with_last change [] = []
-with_last change (x ∷ []) = change x ∷ []
-with_last change (x ∷ y ∷ more) = x ∷ with_last change (y ∷ more)
 
 -- ---- the models
 

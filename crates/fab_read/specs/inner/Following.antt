@@ -44,7 +44,7 @@ pub record ReadsPaired (files : Map) (end : End) (block : PlainBlock) (tile : Pl
 -- ---- rows
 
 -- Whatever rows follow, this row leads from the reading before it to that after it.
-pub record Leads (files : Map) (holder : PlainHolder) (before : PlainReading) (row : PlainRow) (after : PlainReading) : Type 0 where
+pub record RowLeads (files : Map) (holder : PlainHolder) (before : PlainReading) (row : PlainRow) (after : PlainReading) : Type 0 where
   pub reads : (rows : List PlainRow) (last : PlainReading) → ReadsRows files holder after rows last → ReadsRows files holder before (row ∷ rows) last
   pub meets : (rows : List PlainRow) (event : Event) → MeetsRows files holder after rows event → MeetsRows files holder before (row ∷ rows) event
 

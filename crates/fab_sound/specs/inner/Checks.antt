@@ -99,9 +99,9 @@ IsNew names None = true
 IsNew names (Some d) = not (is_some (found names d.0))
 
 -- a map takes a declaration in, if there is one
-abbrev pub Takes : {S : Type 0} → (old new : IndexMap (Bor (List ℕ)) Declared S) → Option (List ℕ × Declared) → Type 0
-Takes old new None = (other : List ℕ) → found new other ≡ found old other
-Takes old new (Some d) = Gives old new d.0 d.1
+abbrev pub TakesDeclaration : {S : Type 0} → (old new : IndexMap (Bor (List ℕ)) Declared S) → Option (List ℕ × Declared) → Type 0
+TakesDeclaration old new None = (other : List ℕ) → found new other ≡ found old other
+TakesDeclaration old new (Some d) = Gives old new d.0 d.1
 
 -- a map has the names that stand before, as nets and others
 abbrev pub Notes : {S : Type 0} → IndexMap (Bor (List ℕ)) Declared S → (before : List Mention) → Type 0

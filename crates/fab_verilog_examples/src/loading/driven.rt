@@ -4,7 +4,7 @@ ghost use Rattle.std.specs.Prelude.{◌≡◌, ◌<◌, IfOk, length};
 ghost use Rattle.fab_syntax.specs.Plain.{plain_text};
 ghost use Rattle.fab_values.specs.Declarations.{declarations};
 ghost use Rattle.fab_equations.specs.Instances.{Instance, instances, points};
-ghost use Rattle.fab_equations.specs.Numbering.{IsNumbered};
+ghost use Rattle.fab_equations.specs.Numbering.{IsInstanceOfNumber};
 ghost use Rattle.fab_verilog_examples.specs.Driven.{AreValues, HasValue, IsBitOf};
 
 use crate::loading::state::{State, bit_of};
@@ -22,7 +22,7 @@ fn instance_values<'e>(
     shown: &[bool],
 ) -> Result<Values<'e>, Memory>
     requires { instance < length (instances (plain_text equations.now)) }
-    ensures { IfOk result (λ values. (i : Instance) → IsNumbered (plain_text equations.now) instance i → values.declarations ≡ declarations i.here) }
+    ensures { IfOk result (λ values. (i : Instance) → IsInstanceOfNumber (plain_text equations.now) instance i → values.declarations ≡ declarations i.here) }
 {
     let mut values = equations.values(alloc, instance)?;
     let Range { start, end } = equations.points_of(instance);

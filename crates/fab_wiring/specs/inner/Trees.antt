@@ -4,7 +4,7 @@ use Rattle.fab_syntax.specs.Plain.{PlainExpr, PlainModule}
 use Rattle.fab_meaning.specs.Points.{Path}
 use Rattle.fab_values.specs.Declarations.{declarations}
 use Rattle.fab_equations.specs.Instances.{Instance, expressions, points}
-use Rattle.fab_equations.specs.Numbering.{IsNumbered}
+use Rattle.fab_equations.specs.Numbering.{IsInstanceOfNumber}
 use Rattle.fab_equations.specs.Tables.{IsExpression}
 use Rattle.fab_equations.specs.Equations.{IsSource}
 use Rattle.fab_equations.specs.declared.driver.Source.{Source as MeantSource}
@@ -24,7 +24,7 @@ pub record IsTreeFor (text : List PlainModule) (trees : List Tree) (i : Instance
 
 -- what is known of an expression serves all instances of the module
 abbrev pub IsKnown : List PlainModule → List Tree → (expr : ℕ) → Known → Type 0
-IsKnown text trees expr known = (number : ℕ) (i : Instance) → IsNumbered text number i → i.number ≡ known.«module» → IsTreeFor text trees i expr known.tree
+IsKnown text trees expr known = (number : ℕ) (i : Instance) → IsInstanceOfNumber text number i → i.number ≡ known.«module» → IsTreeFor text trees i expr known.tree
 
 pub record AreTrees (text : List PlainModule) (made : Trees) : Type 0 where
   pub long : length made.known.items ≡ length (expressions text)

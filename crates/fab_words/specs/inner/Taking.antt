@@ -12,8 +12,8 @@ behind first more =
     option_map (λ (rest : PlainArguments). record { positionals = first.positionals ++ rest.positionals; settings = first.settings ++ rest.settings }) more
 
 -- With a word that comes behind the option `named`, the arguments `old` become `new`, and the option `next` waits for its value.
-abbrev pub Takes : (old new : PlainArguments) (named : Option (List ℕ)) (word : List ℕ) (next : Option (List ℕ)) → Type 0
-Takes old new named word next = (more : List (List ℕ)) → behind old (arguments_of named (word ∷ more)) ≡ behind new (arguments_of next more)
+abbrev pub TakesArgument : (old new : PlainArguments) (named : Option (List ℕ)) (word : List ℕ) (next : Option (List ℕ)) → Type 0
+TakesArgument old new named word next = (more : List (List ℕ)) → behind old (arguments_of named (word ∷ more)) ≡ behind new (arguments_of next more)
 
 -- whatever comes behind the word, the line is none
 abbrev pub Ends : (named : Option (List ℕ)) (word : List ℕ) → Type 0

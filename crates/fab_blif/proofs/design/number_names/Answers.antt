@@ -1,7 +1,7 @@
 use Rattle.std.proofs.Common.{map}
 use Rattle.indexmap.specs.IndexSet.{insert_all}
 use Rattle.fab_blif.specs.Flat.{net_eq, net_in}
-use Rattle.fab_blif.specs.inner.Walk.{plain_nets, numbered}
+use Rattle.fab_blif.specs.inner.Walk.{plain_nets, net_numbers}
 use Rattle.fab_blif.proofs.Numbers.{nets_more, numbers_more}
 use Rattle.fab_blif.proofs.design.number_names.Goals as goal
 
@@ -17,6 +17,6 @@ loop-name-preserved c =
           c.in_ok-number_name.ensures.nets (insert_all net_eq (plain_nets c.args.nets.now.keys) (map net names)) c.loop-name.invariant.nets;
       numbers =
           numbers_more net names c.loop-name.name-index c.name-item.result c.loop-name-test.true c.name-item.is old new
-          c.in_ok-number_name.ensures.nets (numbered (plain_nets c.args.nets.now.keys) (map net names)) c.loop-name.numbers.items c.push.new.self.items
+          c.in_ok-number_name.ensures.nets (net_numbers (plain_nets c.args.nets.now.keys) (map net names)) c.loop-name.numbers.items c.push.new.self.items
           c.in_ok-number_name.field-0 c.in_ok-push.ensures.items c.in_ok-number_name.ensures.number c.loop-name.invariant.numbers;
     }

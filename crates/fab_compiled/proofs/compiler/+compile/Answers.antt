@@ -5,7 +5,7 @@ use Rattle.fab_syntax.proofs.Plain.{plain_concatenation}
 use Rattle.fab_values.specs.Declarations.{declarations}
 use Rattle.fab_values.specs.Evaluation.{IsFit}
 use Rattle.fab_equations.specs.Instances.{Instance, instances}
-use Rattle.fab_equations.specs.Numbering.{IsNumbered}
+use Rattle.fab_equations.specs.Numbering.{IsInstanceOfNumber}
 use Rattle.fab_equations.proofs.Numbering.{some_there}
 use Rattle.fab_compiled.specs.declared.compiler.Compiled.{Compiled}
 use Rattle.fab_compiled.specs.declared.tree.Tree.{Bits}
@@ -84,7 +84,7 @@ compile-returns-in-Var t c =
     let name = c.bytes.result.now in
     let same : plain_expr c.args.expr.now ≡ variable name = ap plain_expr c.in-Var.is ∙ ap variable (sym c.bytes.ensures) in
     ok_both c.boxed.result (λ (m : Compiled). m.tree.value ≡ Bits place.first place.count) (λ (m : Compiled). m.width ≡ c.from.result)
-    (λ (m : Compiled). (i : Instance) → IsNumbered (plain_text c.args.equations.now) c.args.instance i → IsCompiled (declarations i.here) (plain_expr c.args.expr.now) m.tree.value m.width)
+    (λ (m : Compiled). (i : Instance) → IsInstanceOfNumber (plain_text c.args.equations.now) c.args.instance i → IsCompiled (declarations i.here) (plain_expr c.args.expr.now) m.tree.value m.width)
     c.boxed.ensures.tree c.boxed.ensures.width
     (λ m tree wide i is.
     as_compiled (declarations i.here) (variable name) (plain_expr c.args.expr.now) (Bits place.first place.count) m.tree.value place.count m.width
@@ -98,7 +98,7 @@ compile-returns-in_ok-index-in-Pick t c =
     let index = c.in_ok-index-in-Pick.index in
     let same : plain_expr c.args.expr.now ≡ pick name e = ap plain_expr c.in-Pick.is ∙ (λ j. pick (sym c.bytes-in-Pick.ensures j) (plain_expr (sym c.deref.ensures j))) in
     ok_both c.boxed-in-Pick.result _ _
-    (λ (m : Compiled). (i : Instance) → IsNumbered (plain_text c.args.equations.now) c.args.instance i → IsCompiled (declarations i.here) (plain_expr c.args.expr.now) m.tree.value m.width)
+    (λ (m : Compiled). (i : Instance) → IsInstanceOfNumber (plain_text c.args.equations.now) c.args.instance i → IsCompiled (declarations i.here) (plain_expr c.args.expr.now) m.tree.value m.width)
     c.boxed-in-Pick.ensures.tree c.boxed-in-Pick.ensures.width
     (λ m tree wide i is.
     as_compiled (declarations i.here) (pick name e) (plain_expr c.args.expr.now) _ m.tree.value 1 m.width
@@ -113,7 +113,7 @@ compile-returns-in-Part t c =
     let low = c.in-Part.low in
     let same : plain_expr c.args.expr.now ≡ part name high low = ap plain_expr c.in-Part.is ∙ ap (λ (n : List ℕ). part n high low) (sym c.bytes-in-Part.ensures) in
     ok_both c.boxed-in-Part.result (λ (m : Compiled). m.tree.value ≡ Bits (place.first + low) (high + 1 - low)) (λ (m : Compiled). m.width ≡ c.from-in-Part.result)
-    (λ (m : Compiled). (i : Instance) → IsNumbered (plain_text c.args.equations.now) c.args.instance i → IsCompiled (declarations i.here) (plain_expr c.args.expr.now) m.tree.value m.width)
+    (λ (m : Compiled). (i : Instance) → IsInstanceOfNumber (plain_text c.args.equations.now) c.args.instance i → IsCompiled (declarations i.here) (plain_expr c.args.expr.now) m.tree.value m.width)
     c.boxed-in-Part.ensures.tree c.boxed-in-Part.ensures.width
     (λ m tree wide i is.
     as_compiled (declarations i.here) (part name high low) (plain_expr c.args.expr.now) (Bits (place.first + low) (high + 1 - low)) m.tree.value (high + 1 - low) m.width
@@ -126,8 +126,8 @@ compile-returns-in-Cat t c =
     let same : plain_expr c.args.expr.now ≡ concatenation es =
     ap plain_expr c.in-Cat.is ∙ plain_concatenation c.in-Cat.parts ∙ ap (λ (ps : List Expr). concatenation (plain_exprs (map plain_expr ps))) (sym c.deref-parts.ensures.value) in
     ok_map c.compile_parts.result
-    (λ (m : Compiled). (i : Instance) → IsNumbered (plain_text c.args.equations.now) c.args.instance i → AreCompiled (declarations i.here) es m.tree.value m.width)
-    (λ (m : Compiled). (i : Instance) → IsNumbered (plain_text c.args.equations.now) c.args.instance i → IsCompiled (declarations i.here) (plain_expr c.args.expr.now) m.tree.value m.width)
+    (λ (m : Compiled). (i : Instance) → IsInstanceOfNumber (plain_text c.args.equations.now) c.args.instance i → AreCompiled (declarations i.here) es m.tree.value m.width)
+    (λ (m : Compiled). (i : Instance) → IsInstanceOfNumber (plain_text c.args.equations.now) c.args.instance i → IsCompiled (declarations i.here) (plain_expr c.args.expr.now) m.tree.value m.width)
     c.compile_parts.ensures
     (λ m all i is. subst (λ (e : PlainExpr). IsCompiled (declarations i.here) e m.tree.value m.width) (sym same) (cat_compiled (declarations i.here) es m.tree.value m.width (all i is)))
 
@@ -137,7 +137,7 @@ compile-returns-in_ok-inner-in-Not t c =
     let inner = c.in_ok-inner-in-Not.inner in
     let same : plain_expr c.args.expr.now ≡ complement e = ap plain_expr c.in-Not.is ∙ ap (λ (x : Expr). complement (plain_expr x)) (sym c.deref-in-Not.ensures) in
     ok_both c.boxed-in-Not.result _ _
-    (λ (m : Compiled). (i : Instance) → IsNumbered (plain_text c.args.equations.now) c.args.instance i → IsCompiled (declarations i.here) (plain_expr c.args.expr.now) m.tree.value m.width)
+    (λ (m : Compiled). (i : Instance) → IsInstanceOfNumber (plain_text c.args.equations.now) c.args.instance i → IsCompiled (declarations i.here) (plain_expr c.args.expr.now) m.tree.value m.width)
     c.boxed-in-Not.ensures.tree c.boxed-in-Not.ensures.width
     (λ m tree wide i is.
     as_compiled (declarations i.here) (complement e) (plain_expr c.args.expr.now) _ m.tree.value inner.width m.width
@@ -152,7 +152,7 @@ compile-returns-in_ok-right-in-Two t c =
     let same : plain_expr c.args.expr.now ≡ operation c.in-Two.op a b =
     ap plain_expr c.in-Two.is ∙ (λ j. operation c.in-Two.op (plain_expr (sym c.deref-in-Two.ensures j)) (plain_expr (sym c.deref-in-Two-2.ensures j))) in
     ok_map c.operation.result (λ (m : Compiled). IsOperation c.in-Two.op left.tree.value left.width right.tree.value m.tree.value m.width)
-    (λ (m : Compiled). (i : Instance) → IsNumbered (plain_text c.args.equations.now) c.args.instance i → IsCompiled (declarations i.here) (plain_expr c.args.expr.now) m.tree.value m.width)
+    (λ (m : Compiled). (i : Instance) → IsInstanceOfNumber (plain_text c.args.equations.now) c.args.instance i → IsCompiled (declarations i.here) (plain_expr c.args.expr.now) m.tree.value m.width)
     c.operation.ensures
     (λ m made i is.
     let fit : IsFit (declarations i.here) (operation c.in-Two.op a b) = subst (IsFit (declarations i.here)) same (c.requires.fit i is) in
@@ -171,7 +171,7 @@ compile-returns-in_ok-no-in-Cond t c =
     let same : plain_expr c.args.expr.now ≡ conditional e f g =
     ap plain_expr c.in-Cond.is ∙ (λ j. conditional (plain_expr (sym c.deref-in-Cond.ensures j)) (plain_expr (sym c.deref-in-Cond-2.ensures j)) (plain_expr (sym c.deref-in-Cond-3.ensures j))) in
     ok_both c.boxed-in-Cond.result _ _
-    (λ (m : Compiled). (i : Instance) → IsNumbered (plain_text c.args.equations.now) c.args.instance i → IsCompiled (declarations i.here) (plain_expr c.args.expr.now) m.tree.value m.width)
+    (λ (m : Compiled). (i : Instance) → IsInstanceOfNumber (plain_text c.args.equations.now) c.args.instance i → IsCompiled (declarations i.here) (plain_expr c.args.expr.now) m.tree.value m.width)
     c.boxed-in-Cond.ensures.tree c.boxed-in-Cond.ensures.width
     (λ m tree wide i is.
     as_compiled (declarations i.here) (conditional e f g) (plain_expr c.args.expr.now) _ m.tree.value yes.width m.width

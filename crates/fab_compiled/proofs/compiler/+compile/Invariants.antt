@@ -2,7 +2,7 @@ use Rattle.std.proofs.Common.{◌≤◌, length, map, drop}
 use Rattle.fab_syntax.specs.Plain.{plain_expr, plain_exprs, plain_text}
 use Rattle.fab_values.specs.Declarations.{declarations}
 use Rattle.fab_equations.specs.Instances.{Instance}
-use Rattle.fab_equations.specs.Numbering.{IsNumbered}
+use Rattle.fab_equations.specs.Numbering.{IsInstanceOfNumber}
 use Rattle.fab_compiled.specs.Compiling.{AreCompiled}
 use Rattle.fab_compiled.proofs.compiler.+compile.Given as goal
 
@@ -10,7 +10,7 @@ use Rattle.fab_compiled.proofs.compiler.+compile.Given as goal
 abbrev pub invariant-compile_parts-loop-end : goal.invariant-compile_parts-loop-end
 invariant-compile_parts-loop-end l = record {
   within : l.end ≤ length l.parts;
-  compiled : (i : Instance) → IsNumbered (plain_text l.equations) l.instance i →
+  compiled : (i : Instance) → IsInstanceOfNumber (plain_text l.equations) l.instance i →
       AreCompiled (declarations i.here) (plain_exprs (drop l.end (map plain_expr l.parts))) l.low.tree.value l.low.width;
 }
 

@@ -3,7 +3,7 @@ use Rattle.fab_solutions.specs.fab_tern.specs.Operators.{tern_at}
 use Rattle.fab_compiled.specs.declared.tree.Tree.{Tree}
 use Rattle.fab_compiled.specs.Trees.{tree_value, tree_width, IsMade}
 use Rattle.fab_compiled.specs.Evaluation.{value_seen, IsWithin}
-use Rattle.fab_compiled.specs.Leading.{Leads}
+use Rattle.fab_compiled.specs.Leading.{TellsBit}
 use Rattle.fab_compiled.proofs.Leading.{own_leads, point_leads, low_leads, high_leads, yes_branch, no_branch}
 use Rattle.fab_compiled.specs.inner.Picks.{PickLeads}
 use Rattle.fab_compiled.proofs.Picking.{pick_leads}
@@ -22,7 +22,7 @@ returns-then-bit-width t c =
     let made : (tree_width low ≡ c.in-Cat.width) × IsMade low × IsMade high = subst IsMade c.in-Cat.is c.requires.made in
     low_leads c.args.view.now.terns.now c.args.view.now.leads.now c.args.marks.now c.args.first c.args.tree.now low high c.args.bit c.in-Cat.width
     (λ at. ap (tree_value at) c.in-Cat.is) made.0 made.1 c.if-bit-width.true c.lead_of.result
-    (subst (λ (x : Tree). Leads c.args.view.now.terns.now c.args.view.now.leads.now c.args.marks.now c.args.first x c.args.bit c.lead_of.result) c.deref.ensures c.lead_of.ensures)
+    (subst (λ (x : Tree). TellsBit c.args.view.now.terns.now c.args.view.now.leads.now c.args.marks.now c.args.first x c.args.bit c.lead_of.result) c.deref.ensures c.lead_of.ensures)
 
 pub returns-else-bit-width : goal.returns-else-bit-width
 returns-else-bit-width t c =
@@ -31,7 +31,7 @@ returns-else-bit-width t c =
     let made : (tree_width low ≡ c.in-Cat.width) × IsMade low × IsMade high = subst IsMade c.in-Cat.is c.requires.made in
     high_leads c.args.view.now.terns.now c.args.view.now.leads.now c.args.marks.now c.args.first c.args.tree.now low high c.args.bit c.in-Cat.width
     (λ at. ap (tree_value at) c.in-Cat.is) made.0 made.1 c.if-bit-width.false c.lead_of-else-bit-width.result
-    (subst (λ (x : Tree). Leads c.args.view.now.terns.now c.args.view.now.leads.now c.args.marks.now c.args.first x (c.args.bit - c.in-Cat.width) c.lead_of-else-bit-width.result)
+    (subst (λ (x : Tree). TellsBit c.args.view.now.terns.now c.args.view.now.leads.now c.args.marks.now c.args.first x (c.args.bit - c.in-Cat.width) c.lead_of-else-bit-width.result)
     c.deref-else-bit-width.ensures c.lead_of-else-bit-width.ensures)
 
 pub returns-in-Yes : goal.returns-in-Yes
@@ -45,7 +45,7 @@ returns-in-Yes t c =
     (λ at. ap (tree_value at) c.in-Cond.is) made.2 c.requires.begins inside.0
     (sym (c.in-Yes.ensures ∙ ap (λ (x : Tree). tern_at (value_seen c.args.view.now.terns.now c.args.view.now.leads.now c.args.first x) 0) c.deref-in-Cond.ensures))
     c.lead_of-in-Yes.result
-    (subst (λ (x : Tree). Leads c.args.view.now.terns.now c.args.view.now.leads.now c.args.marks.now c.args.first x c.args.bit c.lead_of-in-Yes.result)
+    (subst (λ (x : Tree). TellsBit c.args.view.now.terns.now c.args.view.now.leads.now c.args.marks.now c.args.first x c.args.bit c.lead_of-in-Yes.result)
     c.deref-in-Yes.ensures c.lead_of-in-Yes.ensures)
 
 pub returns-in-No : goal.returns-in-No
@@ -59,7 +59,7 @@ returns-in-No t c =
     (λ at. ap (tree_value at) c.in-Cond.is) made.2 c.requires.begins inside.0
     (sym (c.in-No.ensures ∙ ap (λ (x : Tree). tern_at (value_seen c.args.view.now.terns.now c.args.view.now.leads.now c.args.first x) 0) c.deref-in-Cond.ensures))
     c.lead_of-in-No.result
-    (subst (λ (x : Tree). Leads c.args.view.now.terns.now c.args.view.now.leads.now c.args.marks.now c.args.first x c.args.bit c.lead_of-in-No.result)
+    (subst (λ (x : Tree). TellsBit c.args.view.now.terns.now c.args.view.now.leads.now c.args.marks.now c.args.first x c.args.bit c.lead_of-in-No.result)
     c.deref-in-No.ensures c.lead_of-in-No.ensures)
 
 pub returns-in-Pick : goal.returns-in-Pick

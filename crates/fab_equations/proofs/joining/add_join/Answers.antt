@@ -1,6 +1,6 @@
 use Rattle.std.proofs.Common.{◌≡◌, ◌++◌, [], ◌∷◌, false, inl, inr, Some, ap, sym, subst, ◌∙◌}
 use Rattle.fab_syntax.specs.Plain.{plain_expr, plain_join, plain_option}
-use Rattle.fab_syntax.specs.Sound.{joined}
+use Rattle.fab_syntax.specs.Sound.{joined_expressions}
 use Rattle.fab_values.specs.Declarations.{declarations, found_in, number_of}
 use Rattle.fab_equations.specs.inner.Building.{listed, put_at, put_variable, AreJoinedSoFar}
 use Rattle.fab_equations.specs.declared.tables.LocalDriver.TheVariants.{Output}
@@ -40,7 +40,7 @@ returns-in-Output c =
     let e = plain_expr c.in-Some.expr in
     let to : join.to ≡ Some e = ap plain_option c.in-Some.is in
     record {
-      exprs = c.in_ok-added.ensures.added ∙ ap (λ o. listed c.args.exprs.now.items ++ joined o) (sym to);
+      exprs = c.in_ok-added.ensures.added ∙ ap (λ o. listed c.args.exprs.now.items ++ joined_expressions o) (sym to);
       joins = λ spot items child below so_far names below_names here next are.
           let found : found_in (declarations below) join.port ≡ Some c.in-Some-get.port =
           (λ j. found_in (sym below_names j) (sym c.bytes.ensures j)) ∙ sym c.get.ensures ∙ c.in-Some-get.is in

@@ -2,7 +2,7 @@ use Rattle.std.proofs.Common.{◌≡◌, ◌++◌, ◌+◌, List, map, take, dro
 use Rattle.std.proofs.lemmas.List.{take_all}
 use Rattle.std.specs.List.{flat_map}
 use Rattle.fab_syntax.specs.Plain.{PlainExpr, PlainJoin, plain_join}
-use Rattle.fab_syntax.specs.Sound.{joined}
+use Rattle.fab_syntax.specs.Sound.{joined_expressions}
 use Rattle.fab_equations.specs.Instances.{expressions}
 use Rattle.fab_equations.specs.inner.Building.{listed, AreJoinedSoFar}
 use Rattle.fab_equations.proofs.ListPlaces.{map_next, map_parts, flat_next, flat_rest}
@@ -13,7 +13,7 @@ loop-join-preserved c =
     let joins = c.args.joins.now in
     let i = c.loop-join.join-index in
     let join = c.join-item.result in
-    let own : PlainJoin → List PlainExpr = λ (j : PlainJoin). joined j.to in (
+    let own : PlainJoin → List PlainExpr = λ (j : PlainJoin). joined_expressions j.to in (
       flat_next own plain_join joins i join c.loop-join-test.true c.join-item.is (listed c.args.exprs.now.items) (listed c.loop-join.exprs.items) (listed c.add_join.new.exprs.items)
           c.loop-join.invariant.0 c.in_ok-add_join.ensures.exprs,
       λ spot items child below more names below_names here is all start.

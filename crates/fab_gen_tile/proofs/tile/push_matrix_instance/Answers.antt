@@ -2,7 +2,7 @@ use Rattle.std.proofs.Common.{◌++◌, ◌∷◌, [], ◌∙◌, ◌-◌, ◌==
 use Rattle.fab_kinds.specs.Pins.{bit_count}
 use Rattle.std.proofs.lemmas.List.{map_push, map-append, length-map}
 use Rattle.fab_syntax.specs.Plain.{plain_item, plain_join, instance}
-use Rattle.fab_gen_tile.specs.TileModule.{matrix_outputs}
+use Rattle.fab_gen_tile.specs.TileModule.{matrix_output_names}
 use Rattle.fab_gen_tile.proofs.Steps.{some_matrix, joins_made}
 use Rattle.fab_gen_tile.proofs.tile.push_matrix_instance.Goals as goal
 
@@ -13,4 +13,4 @@ returns c =
     ap (map plain_item) c.in_ok-push.ensures.items
     ∙ map_push plain_item c.args.items.now.items _
     ∙ ap (λ item. map plain_item c.args.items.now.items ++ item ∷ []) (λ j. instance ((c.in_ok-of.ensures ∙ ap (λ n. codes "matrix_" ++ n) c.name.ensures) j) (c.in_ok-name.ensures j) (joined j))
-    ∙ ap (λ items. map plain_item c.args.items.now.items ++ items) (sym (some_matrix c.args.tile.now (matrix_outputs c.args.tile.now) _ c.in_ok-outputs.ensures (ap (λ n. n == 0) (length-map c.in_ok-outputs.outputs.items plain_join ∙ sym c.in_ok-outputs.outputs.ok.0) ∙ sym c.is_empty.ensures ∙ c.if-is_empty.false)))
+    ∙ ap (λ items. map plain_item c.args.items.now.items ++ items) (sym (some_matrix c.args.tile.now (matrix_output_names c.args.tile.now) _ c.in_ok-outputs.ensures (ap (λ n. n == 0) (length-map c.in_ok-outputs.outputs.items plain_join ∙ sym c.in_ok-outputs.outputs.ok.0) ∙ sym c.is_empty.ensures ∙ c.if-is_empty.false)))

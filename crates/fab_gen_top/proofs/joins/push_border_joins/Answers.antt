@@ -3,7 +3,7 @@ use Rattle.std.proofs.lemmas.Result.{on_ok_weaker}
 use Rattle.fab_syntax.specs.Plain.{PlainJoin, plain_join, variable}
 use Rattle.fab_model.specs.Cascade.{PlacedRow}
 use Rattle.fab_model.specs.Tiles.{counted}
-use Rattle.fab_gen_tile.specs.Names.{begin_name, end_name, joined}
+use Rattle.fab_gen_tile.specs.Names.{begin_name, end_name, port_join}
 use Rattle.fab_gen_tile.specs.Borders.{side_border}
 use Rattle.fab_text_loads.specs.fab_fabric_text.specs.Names.{begin_wire_name}
 use Rattle.fab_text_loads.specs.fab_fabric_text.specs.Top.{end_value}
@@ -21,8 +21,8 @@ pub returns : goal.returns
 returns c =
     let old = map plain_join c.args.joins.now.items in
     let row = c.args.row.now in
-    let begins = counted (side_border row row.source) (λ bit. joined (begin_name row bit) (variable (begin_wire_name c.args.place.x c.args.place.y row bit))) in
-    let ends : Option PlacedRow → List PlainJoin = λ previous. counted (side_border row row.dest) (λ bit. joined (end_name row bit) (end_value previous bit)) in
+    let begins = counted (side_border row row.source) (λ bit. port_join (begin_name row bit) (variable (begin_wire_name c.args.place.x c.args.place.y row bit))) in
+    let ends : Option PlacedRow → List PlainJoin = λ previous. counted (side_border row row.dest) (λ bit. port_join (end_name row bit) (end_value previous bit)) in
     on_ok_weaker c.push_end_joins.result
     (λ last.
     last

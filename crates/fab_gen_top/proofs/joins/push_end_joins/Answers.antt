@@ -1,19 +1,19 @@
 use Rattle.std.proofs.Common.{ℕ, ◌∙◌, ap, map}
 use Rattle.std.proofs.lemmas.List.{map_push}
 use Rattle.fab_syntax.specs.Plain.{PlainJoin, plain_join}
-use Rattle.fab_gen_tile.specs.Names.{joined, end_name}
+use Rattle.fab_gen_tile.specs.Names.{port_join, end_name}
 use Rattle.fab_text_loads.specs.fab_fabric_text.specs.Top.{end_value}
 use Rattle.fab_fabric.specs.Walks.{placed_at}
 use Rattle.fab_gen_tile.proofs.Counted.{none_behind, items_more}
 use Rattle.fab_gen_top.proofs.joins.push_end_joins.Goals as goal
 
 pub loop-bit-init : goal.loop-bit-init
-loop-bit-init c = none_behind (map plain_join c.args.joins.now.items) (λ bit. joined (end_name c.args.row.now bit) (end_value (placed_at c.args.fabric.now c.args.previous) bit))
+loop-bit-init c = none_behind (map plain_join c.args.joins.now.items) (λ bit. port_join (end_name c.args.row.now bit) (end_value (placed_at c.args.fabric.now c.args.previous) bit))
 
 pub loop-bit-preserved : goal.loop-bit-preserved
 loop-bit-preserved c =
-    let f : ℕ → PlainJoin = λ bit. joined (end_name c.args.row.now bit) (end_value (placed_at c.args.fabric.now c.args.previous) bit) in
+    let f : ℕ → PlainJoin = λ bit. port_join (end_name c.args.row.now bit) (end_value (placed_at c.args.fabric.now c.args.previous) bit) in
     ap (map plain_join) c.in_ok-push.ensures.items
     ∙ map_push plain_join c.loop-bit.joins.items _
     ∙ items_more c.loop-bit.bit f (map plain_join c.loop-bit.joins.items) (map plain_join c.args.joins.now.items) _ c.loop-bit.invariant
-    (c.in_ok-joined.ensures ∙ (λ j. joined ((c.bytes.ensures ∙ c.in_ok-port.ensures) j) (c.in_ok-value.ensures j)))
+    (c.in_ok-joined.ensures ∙ (λ j. port_join ((c.bytes.ensures ∙ c.in_ok-port.ensures) j) (c.in_ok-value.ensures j)))

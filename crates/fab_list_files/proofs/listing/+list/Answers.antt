@@ -6,7 +6,7 @@ use Rattle.fab_rows.specs.Rows.{PlainRow, rows_of}
 use Rattle.fab_files.specs.Files.{MeetsFile, handed_out}
 use Rattle.fab_desk.specs.Files.{Map}
 use Rattle.fab_list_files.specs.Lists.{deed_of, Knowledge, ReadsList, MeetsList, MeetsListFile, of_file, of_rows}
-use Rattle.fab_list_files.specs.inner.Following.{Leads, MeetsRow}
+use Rattle.fab_list_files.specs.inner.Following.{RowLeads, MeetsRow}
 use Rattle.fab_list_files.proofs.Rows.{cause_at, adds_lead, opens_lead, opens_meets, bad_meets, leads_further, leads_to_end, leads_to_event, drop_next}
 use Rattle.fab_files.proofs.Causes.{cause_weaker}
 use Rattle.fab_list_files.proofs.Supported.{row_supported}
@@ -127,7 +127,7 @@ take_rows-loop-row-preserved g t c =
           leads_further files known left file before rows pairs next c.row-item.result (drop c.loop-row.row-index rows) (drop (c.loop-row.row-index + 1) rows)
           (drop_next rows c.loop-row.row-index c.row-item.result c.loop-row-test.true c.row-item.is)
           (c.loop-row.invariant.on files is)
-          (subst (λ (k : Knowledge). Leads files k left file pairs c.row-item.result next) c.loop-row.invariant.known (c.in_ok-take_row.ensures.read files (c.loop-row.invariant.told ∙ is)));
+          (subst (λ (k : Knowledge). RowLeads files k left file pairs c.row-item.result next) c.loop-row.invariant.known (c.in_ok-take_row.ensures.read files (c.loop-row.invariant.told ∙ is)));
     }
 
 pub take_rows-returns-clause-read : goal.take_rows-returns-clause-read

@@ -5,7 +5,7 @@ use Rattle.fab_select.specs.declared.pair.Pair.{Pair}
 use Rattle.fab_select.specs.Selection.{firsts, select_bits}
 use Rattle.fab_matrix.specs.Names.{Name}
 use Rattle.fab_meaning.specs.Ports.{scalar, config_port}
-use Rattle.fab_matrix.specs.Matrix.{named, numbered}
+use Rattle.fab_matrix.specs.Matrix.{named, numbered_outputs}
 use Rattle.fab_bits.specs.Keys.{group_at}
 use Rattle.fab_matrix.specs.inner.Grouped.{numbers_of, width_at, item_of}
 use Rattle.fab_select.proofs.Firsts.{firsts_all}
@@ -56,6 +56,6 @@ returns c =
     ∙ ap (λ rest. map (scalar true) inputs ++ (config_port (select_bits nat_eq (named inputs pairs)) ++ rest)) (sym (names_of_numbered (scalar false) 0 outputs)) in
     let items =
     c.in_ok-items.ensures
-    ∙ ap (λ gs. map (λ (output : ℕ × Name). item_of inputs gs order output.0 output.1) (numbered outputs)) c.deref-2.ensures.value
+    ∙ ap (λ gs. map (λ (output : ℕ × Name). item_of inputs gs order output.0 output.1) (numbered_outputs outputs)) c.deref-2.ensures.value
     ∙ items_named groups order inputs pairs c.in_ok-groups.ensures.groups c.in_ok-order.ensures outputs in
     λ j. record { name = c.in_ok-name.ensures j; ports = ports j; items = items j }

@@ -1,6 +1,7 @@
 use Rattle.std.proofs.Common.{refl}
 use Rattle.fab_models.specs.declared.model.Model.{Model}
-use Rattle.fab_models.specs.inner.Following.{with_last, with_statements, with_table}
+use Rattle.fab_models.specs.inner.Following.{with_statements, with_table}
+use Rattle.fab_lines.specs.Items.{with_last}
 use Rattle.fab_models.specs.Plain.{plain_model}
 use Rattle.fab_models.proofs.Models.{put_back, model_changed}
 use Rattle.fab_models.proofs.bodies.set_table.Goals as goal

@@ -4,7 +4,7 @@ use Rattle.fab_desk.specs.Files.{Map}
 use Rattle.fab_files.specs.Files.{MeetsFile, handed_out}
 use Rattle.fab_files.specs.Stages.{of_file, of_bytes}
 use Rattle.fab_files.proofs.Causes.{cause_weaker}
-use Rattle.fab_vread.specs.Refusals.{IsRefusal}
+use Rattle.fab_vread.specs.Refusals.{IsVerilogRefusal}
 use Rattle.fab_simulate.specs.Simulating.{MeetsDevice, misspelled}
 use Rattle.fab_simulate.proofs.Placed.{refused_cause}
 use Rattle.fab_simulate.proofs.device.read_text.Goals as goal
@@ -30,5 +30,5 @@ returns-clause-cause g c =
     let file = c.args.file.now in
     let found : (files : Map) → told ≡ Some files → handed_out files file ≡ Ok c.deref.result.now = λ files is. rw c.deref.ensures.value (c.in_ok-bytes.ensures.found files is) in
     IfErr-weaker c.text_of_bytes.result _ _
-    (λ fault refused. refused_cause told rose (λ files. MeetsDevice files file) file (IsRefusal file c.deref.result.now) fault (λ why. (why.line, why.problem, why.told)) refused
+    (λ fault refused. refused_cause told rose (λ files. MeetsDevice files file) file (IsVerilogRefusal file c.deref.result.now) fault (λ why. (why.line, why.problem, why.told)) refused
     (λ files is why. of_bytes (found files is) (misspelled why))) c.text_of_bytes.ensures.refused

@@ -5,7 +5,7 @@ use Rattle.fab_base.specs.declared.fault.Fault.TheVariants as faults
 use Rattle.fab_syntax.specs.declared.tree.Text.{Text}
 use Rattle.fab_syntax.specs.Plain.{plain_text}
 use Rattle.fab_grammar.specs.Grammar.{SpellsText}
-use Rattle.fab_vread.specs.Refusals.{IsRefusal}
+use Rattle.fab_vread.specs.Refusals.{IsVerilogRefusal}
 use Rattle.fab_vread.proofs.Feeding.{either_way}
 use Rattle.fab_simulate.proofs.device.text_of_bytes.Goals as goal
 
@@ -23,5 +23,5 @@ returns-clause-refused c =
     let bytes = c.args.bytes.now in
     elim (either_way c.feed_pieces.result (c.feed_pieces.ensures.read file [] c.in_ok-reader.ensures) c.feed_pieces.ensures.spent) [
       | inl has ↦ c.finish.ensures.refused file bytes has
-      | inr spent ↦ subst (λ (r : Result Text Fault). IfErr r (λ fault. (fault ≡ faults.Memory) ⊎ IsRefusal file bytes fault)) (sym (c.finish.ensures.spent spent)) (inl refl)
+      | inr spent ↦ subst (λ (r : Result Text Fault). IfErr r (λ fault. (fault ≡ faults.Memory) ⊎ IsVerilogRefusal file bytes fault)) (sym (c.finish.ensures.spent spent)) (inl refl)
     ]

@@ -7,7 +7,7 @@ use Rattle.fab_syntax.specs.declared.tree.Text.{Text}
 use Rattle.fab_syntax.specs.Plain.{plain_text}
 use Rattle.fab_grammar.specs.Grammar.{SpellsText}
 use Rattle.fab_grammar.specs.Printable.{IsPrintableText}
-use Rattle.fab_vread.specs.Refusals.{IsRefusal}
+use Rattle.fab_vread.specs.Refusals.{IsVerilogRefusal}
 use Rattle.fab_vread.proofs.Feeding.{either_way}
 use Rattle.fab_vread.proofs.reader.read.Goals as goal
 
@@ -44,5 +44,5 @@ pub returns-clause-refused : goal.returns-clause-refused
 returns-clause-refused c =
     elim (either_way c.feed.result (c.feed.ensures.read c.args.file.now [] c.in_ok-reader.ensures) c.feed.ensures.spent) [
       | inl has ↦ c.finish.ensures.refused c.args.file.now c.args.bytes.now has
-      | inr spent ↦ subst (λ (r : Result Text Fault). IfErr r (λ fault. (fault ≡ faults.Memory) ⊎ IsRefusal c.args.file.now c.args.bytes.now fault)) (sym (c.finish.ensures.spent spent)) (inl refl)
+      | inr spent ↦ subst (λ (r : Result Text Fault). IfErr r (λ fault. (fault ≡ faults.Memory) ⊎ IsVerilogRefusal c.args.file.now c.args.bytes.now fault)) (sym (c.finish.ensures.spent spent)) (inl refl)
     ]
