@@ -19,7 +19,8 @@ use Rattle.fab_blocks.specs.declared.mode.Said.{Said}
 use Rattle.fab_blocks.specs.declared.mode.Said.TheVariants as said
 use Rattle.fab_blocks.specs.Blocks.{PlainBlock, new_block}
 use Rattle.fab_blocks.specs.Inner.{IsPlain}
-use Rattle.fab_blocks.specs.Cells.{problem_of, is_tile_name, is_among, cell_at}
+use Rattle.fab_blocks.specs.Cells.{problem_of, is_tile_name, cell_at}
+use Rattle.fab_lines.specs.Items.{is_among}
 use Rattle.fab_blocks.specs.Reading.{PlainReading, PlainHolder, PlainGridLine, HasRoom, IsGrid, IsReading, tile_names, open_name, place_in, HasLines, HasRoomFor, with_mode}
 use Rattle.fab_blocks.specs.Saying.{line_reason, line_limit, line_problem, fits_grid, is_grid_cell, begin_reason, begin_limit, begin_problem, stands, is_place, HasRoomIfEnded}
 

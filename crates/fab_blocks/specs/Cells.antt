@@ -1,5 +1,5 @@
 -- The cells of rows: numbers that may have a minus, and names that may be `NULL`.
-pub use Rattle.fab_names.specs.Names.{is_among, come_twice}
+pub use Rattle.fab_names.specs.Names.{come_twice}
 use Rattle.std.specs.Prelude.{ℕ, Bool, List, [], ◌∷◌, ◌==◌, ◌||◌, ◌&&◌, not, nat_lt, length, drop, slice_index, slice_index_or, codes, Option, Some, None, if◌then◌else◌}
 use Rattle.std.specs.Str.{bytes_eq, str_to_ascii_lowercase}
 use Rattle.fab_base.specs.declared.problem.Problem.{Problem}

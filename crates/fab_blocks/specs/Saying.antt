@@ -18,7 +18,8 @@ use Rattle.fab_blocks.specs.declared.mode.Place.{Place}
 use Rattle.fab_blocks.specs.declared.mode.Place.TheVariants as places
 use Rattle.fab_blocks.specs.declared.mode.Said.{Said}
 use Rattle.fab_blocks.specs.declared.mode.Said.TheVariants as said
-use Rattle.fab_blocks.specs.Cells.{is_null, is_tile_name, is_among, long_of, long_problem, problem_of, cell_at}
+use Rattle.fab_blocks.specs.Cells.{is_null, is_tile_name, long_of, long_problem, problem_of, cell_at}
+use Rattle.fab_lines.specs.Items.{is_among}
 use Rattle.fab_blocks.specs.Words.{word_of}
 use Rattle.fab_blocks.specs.Blocks.{PlainBlock, new_block}
 use Rattle.fab_blocks.specs.Inner.{malformed, outer_row, inner_parameter, block_row}

@@ -8,7 +8,7 @@ use Rattle.fab_netlist.specs.Packing.{net_of, packed}
 use Rattle.fab_netlist.proofs.Members.{first_in, later_in}
 use Rattle.fab_legal.specs.WellMade.{output_name, output_ports, ports}
 use Rattle.fab_texts.specs.Rows.{Word}
-use Rattle.fab_texts.specs.Keys.{is_among}
+use Rattle.fab_lines.specs.Items.{is_among}
 use Rattle.fab_state.specs.Constraints.{with_word, data_ports}
 
 old_or_new : (known : Bool) (words : List Word) (word other : Word) → Contains (cond known words (words ++ word ∷ [])) other → Contains words other ⊎ (word ≡ other)

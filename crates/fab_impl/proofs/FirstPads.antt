@@ -9,10 +9,10 @@ use Rattle.std.proofs.lemmas.List.Quantifiers.{position-Some}
 use Rattle.std.proofs.Math.Seq.{get_or-append_seam}
 use Rattle.std.proofs.lemmas.Slice.Eq.{bytes_eq-Decides}
 use Rattle.fab_fabric.specs.declared.wire.Site.{Site}
-use Rattle.fab_implementation.specs.Plain.{Pad}
+use Rattle.fab_implementation.specs.Plain.{Pad, ports_of}
 use Rattle.fab_texts.specs.Rows.{Word}
-use Rattle.fab_texts.specs.Keys.{is_among}
-use Rattle.fab_impl.specs.FirstPlaces.{ports, first_place}
+use Rattle.fab_lines.specs.Items.{is_among}
+use Rattle.fab_impl.specs.FirstPlaces.{first_place}
 use Rattle.fab_impl.specs.inner.Firsts.{HasFirsts}
 
 -- the place where something stands first, by recursion
@@ -69,7 +69,7 @@ place_at firsts known = get_or firsts known 0
 first_push : (pads : List Pad) (port : Word) (site : Site) (sought : Word) → first_place (pads ++ (port, site) ∷ []) sought ≡ or_last (first_place pads sought) (bytes_eq sought port) (length pads)
 first_push pads port site sought =
     ap (position (bytes_eq sought)) (map_push (λ (pad : Pad). pad.0) pads (port, site))
-    ∙ place_push (bytes_eq sought) (ports pads) port
+    ∙ place_push (bytes_eq sought) (ports_of pads) port
     ∙ ap (or_last (first_place pads sought) (bytes_eq sought port)) (length-map pads (λ (pad : Pad). pad.0))
 
 new_by : (firsts : List ℕ) (known count : ℕ) (found first : Option ℕ) (passes : Bool) → length firsts ≡ known → ((place : ℕ) → found ≡ Some place → place < known) → option_map (place_at firsts) found ≡ first

@@ -11,7 +11,7 @@ use Rattle.fab_fabric.specs.declared.wire.Site.{Site}
 use Rattle.fab_fabric.specs.declared.wire.Wire.{Wire}
 use Rattle.fab_netlist.specs.declared.net_id.NetId.{NetId}
 use Rattle.fab_netlist.specs.declared.net_id.NetId.TheVariants as nets
-use Rattle.fab_implementation.specs.Plain.{Edge, Pad, PlainTree, PlainImplementation}
+use Rattle.fab_implementation.specs.Plain.{Edge, Pad, PlainTree, PlainImplementation, ports_of}
 use Rattle.fab_lines.specs.Order.{IsFine, IsWhole}
 use Rattle.fab_texts.specs.Rows.{Word, PlainRow, words_of}
 use Rattle.fab_lines.specs.Items.{word_at, with_last}
@@ -23,7 +23,7 @@ use Rattle.fab_texts.proofs.InSections.{IsOpen, NotBegun, not_begun, none_begun,
 use Rattle.fab_impl.specs.declared.kind.Kind.{Kind}
 use Rattle.fab_impl.specs.declared.kind.Kind.TheVariants as kinds
 use Rattle.fab_impl.specs.Names.{cell_of, cell_text, site_in, wire_of, wire_text, most_cell}
-use Rattle.fab_impl.specs.FirstPlaces.{ports, first_place}
+use Rattle.fab_impl.specs.FirstPlaces.{first_place}
 use Rattle.fab_impl.specs.Kinds.{kind_of, part_of}
 use Rattle.fab_impl.specs.Lines.{Cell, Known, nothing, known, take, take_kind, set_cells, set_ins, set_outs, set_trees, cell_at, pad_at, input_at, cell_net_at, with_net, with_edge, with_wires}
 use Rattle.fab_impl.specs.Spelled.{header, cell_line, pad_line, net_line, edge_line, tree_lines, inner_lines, implementation_lines, IsNamed, Spells, implementation_of, implementation_format}
@@ -238,10 +238,10 @@ module _ (old : Known) (done : List (List Word)) (holds : Holds old done) where
   as_written next made line written is same step = subst (λ (k : Known). Holds k (done ++ line ∷ [])) same (subst (λ (l : List Word). Holds made (done ++ l ∷ [])) (sym is) step)
 
   -- an input that is found by its port is named by it
-  input_named : (port : Word) (place : ℕ) → first_place old.ins port ≡ Some place → (port ≡ get_or (ports old.ins) place []) × IsNamed old.ins (nets.In place)
+  input_named : (port : Word) (place : ℕ) → first_place old.ins port ≡ Some place → (port ≡ get_or (ports_of old.ins) place []) × IsNamed old.ins (nets.In place)
   input_named port place found =
-      let stands = position-Some (bytes_eq port) (ports old.ins) place [] found in
-      let same = equal_words port (get_or (ports old.ins) place []) stands.1 in
+      let stands = position-Some (bytes_eq port) (ports_of old.ins) place [] found in
+      let same = equal_words port (get_or (ports_of old.ins) place []) stands.1 in
       (same, ap (first_place old.ins) (sym same) ∙ found)
 
   kind_step : (next : Known) (kind : Kind) (line : List Word) → IsForm kind line → has_ended old.last ≡ false → may_follow old.last (part_of kind) ≡ true → take_kind (at_kind old kind) kind line ≡ Ok next → Holds next (done ++ line ∷ [])

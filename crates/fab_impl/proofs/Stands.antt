@@ -17,7 +17,7 @@ use Rattle.fab_fabric.proofs.Numbered.{index_within}
 use Rattle.fab_netlist.specs.declared.net_id.NetId.{NetId}
 use Rattle.fab_netlist.specs.declared.net_id.NetId.TheVariants as nets
 use Rattle.fab_implementation.specs.OnFabric.{kind_at, IsSite, HasSites, HasWires, IsOnFabric}
-use Rattle.fab_implementation.specs.Plain.{Edge, Pad, PlainTree}
+use Rattle.fab_implementation.specs.Plain.{Edge, Pad, PlainTree, ports_of}
 use Rattle.fab_lines.specs.Order.{IsFine}
 use Rattle.fab_texts.specs.Rows.{Word, PlainRow, words_of}
 use Rattle.fab_lines.specs.Items.{word_at, with_last}
@@ -28,7 +28,7 @@ use Rattle.fab_texts.proofs.InSections.{IsPlaced, placed, versioned}
 use Rattle.fab_impl.specs.declared.kind.Kind.{Kind}
 use Rattle.fab_impl.specs.declared.kind.Kind.TheVariants as kinds
 use Rattle.fab_impl.specs.Names.{cell_of, on_fabric, site_in, wire_of, named_wire}
-use Rattle.fab_impl.specs.FirstPlaces.{ports, first_place}
+use Rattle.fab_impl.specs.FirstPlaces.{first_place}
 use Rattle.fab_impl.specs.Kinds.{kind_of, part_of}
 use Rattle.fab_impl.specs.Lines.{Cell, Known, nothing, known, take, take_kind, set_cells, set_ins, set_outs, set_trees, cell_at, pad_at, input_at, cell_net_at, with_net, with_edge, with_wires}
 use Rattle.fab_implementation.specs.Inputs.{NamesInput}
@@ -173,7 +173,7 @@ module _ (fabric : PlainFabric) (old next : Known) (stands : Stands fabric old) 
   kind_stands kinds.NetOne line so = net_stands nets.One tt cc
   kind_stands kinds.NetIn line so =
       input_stands (first_place old.ins (word_at line 2)) (λ place is.
-      let below = (position-Some (bytes_eq (word_at line 2)) (ports old.ins) place [] is).0 in
+      let below = (position-Some (bytes_eq (word_at line 2)) (ports_of old.ins) place [] is).0 in
       omega (arith, below, length-map old.ins (λ (p : Pad). p.0))) so
   kind_stands kinds.NetCell line so = cell_net_stands (cell_of (word_at line 2)) so
   kind_stands kinds.Edge line so = edge_stands old.trees (wire_of old.fabric (word_at line 1)) (wire_of old.fabric (word_at line 2)) refl (wire_here (word_at line 1)) (wire_here (word_at line 2)) so

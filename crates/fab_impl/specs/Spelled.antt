@@ -6,7 +6,7 @@ use Rattle.fab_model.specs.Grid.{PlainFabric}
 use Rattle.fab_fabric.specs.Fabric.{IsFabric, AreTiles}
 use Rattle.fab_netlist.specs.declared.net_id.NetId.{NetId}
 use Rattle.fab_netlist.specs.declared.net_id.NetId.TheVariants as nets
-use Rattle.fab_implementation.specs.Plain.{Edge, Pad, PlainTree, PlainImplementation}
+use Rattle.fab_implementation.specs.Plain.{Edge, Pad, PlainTree, PlainImplementation, ports_of}
 use Rattle.fab_implementation.specs.OnFabric.{IsOnFabric}
 use Rattle.fab_texts.specs.Rows.{Word, PlainRow, words_of}
 use Rattle.fab_fabric.specs.Names.{site_text}
@@ -15,7 +15,7 @@ use Rattle.fab_texts.specs.Sections.{version, ending, cut_short}
 use Rattle.fab_texts.specs.Printed.{rows_text, is_row}
 use Rattle.fab_impl.specs.Names.{cell_text, wire_text, most_cell}
 use Rattle.fab_impl.specs.Lines.{Cell, Known, known, take}
-use Rattle.fab_impl.specs.FirstPlaces.{ports, first_place}
+use Rattle.fab_impl.specs.FirstPlaces.{first_place}
 
 -- ---- the lines of an implementation
 
@@ -32,7 +32,7 @@ pad_line side pad = codes "pad" ∷ side ∷ pad.0 ∷ site_text pad.1 ∷ []
 abbrev pub net_line : (ins : List Pad) → NetId → List Word
 net_line ins nets.Zero = codes "net" ∷ codes "zero" ∷ []
 net_line ins nets.One = codes "net" ∷ codes "one" ∷ []
-net_line ins (nets.In place) = codes "net" ∷ codes "in" ∷ slice_index_or (ports ins) place [] ∷ []
+net_line ins (nets.In place) = codes "net" ∷ codes "in" ∷ slice_index_or (ports_of ins) place [] ∷ []
 net_line ins (nets.Cell cell) = codes "net" ∷ codes "cell" ∷ cell_text cell ∷ []
 
 abbrev pub edge_line : PlainFabric → Edge → List Word
@@ -62,7 +62,7 @@ implementation_text fabric it = rows_text (implementation_lines fabric it)
 abbrev pub IsNamed : (ins : List Pad) → NetId → Type 0
 IsNamed ins nets.Zero = Unit {0}
 IsNamed ins nets.One = Unit {0}
-IsNamed ins (nets.In place) = first_place ins (slice_index_or (ports ins) place []) ≡ Some place
+IsNamed ins (nets.In place) = first_place ins (slice_index_or (ports_of ins) place []) ≡ Some place
 IsNamed ins (nets.Cell cell) = cell ≤ most_cell
 
 -- the fabric has its sites and wires, and its cells and nets can be named

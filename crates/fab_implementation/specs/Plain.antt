@@ -1,5 +1,5 @@
 -- Implementations without where they lie in memory.
-use Rattle.std.specs.Prelude.{ℕ, List}
+use Rattle.std.specs.Prelude.{ℕ, List, map}
 use Rattle.fab_fabric.specs.declared.wire.Site.{Site}
 use Rattle.fab_fabric.specs.declared.wire.Wire.{Wire}
 use Rattle.fab_netlist.specs.declared.net_id.NetId.{NetId}
@@ -11,6 +11,10 @@ Edge = Wire × Wire
 -- a port by its name, and its site
 abbrev pub Pad : Type 0
 Pad = List ℕ × Site
+
+-- the names of ports
+abbrev pub ports_of : List Pad → List (List ℕ)
+ports_of pads = map (λ pad. pad.0) pads
 
 pub record PlainTree : Type 0 where
   pub net : NetId

@@ -5,7 +5,7 @@ ghost use Rattle.fab_legal.specs.declared.broken.CheckFault.TheVariants as fault
 
 use fab_base::{Memory, Name};
 
-/// A broken rule, from 1 to 9, and the first item that breaks it.
+/// A broken rule, and the first item that breaks it: rules 1 to 9 are those of an implementation, those from 10 on of features.
 #[derive(Debug, Drop)]
 pub struct Broken {
     pub rule: u8,

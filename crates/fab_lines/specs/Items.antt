@@ -1,5 +1,15 @@
 -- Items of a list by their place.
-use Rattle.std.specs.Prelude.{ℕ, List, [], ◌∷◌, slice_index_or}
+use Rattle.std.specs.Prelude.{ℕ, Bool, List, [], ◌∷◌, ◌==◌, not, length, slice_index_or}
+use Rattle.std.specs.List.{list_any}
+use Rattle.std.specs.Str.{bytes_eq}
+
+-- whether a word is one of these
+abbrev pub is_among : (names : List (List ℕ)) → (name : List ℕ) → Bool
+is_among names name = list_any (bytes_eq name) names
+
+-- whether a word has a byte
+abbrev pub is_filled : (word : List ℕ) → Bool
+is_filled word = not (length word == 0)
 
 -- of the words of a line the one at a place, which is empty past the end
 abbrev pub word_at : List (List ℕ) → (place : ℕ) → List ℕ

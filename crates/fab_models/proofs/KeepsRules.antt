@@ -7,7 +7,7 @@ use Rattle.std.proofs.lemmas.List.Concat.{flat_map-append}
 use Rattle.std.proofs.lemmas.List.Folds.{list_any-append}
 use Rattle.fab_models.specs.Plain.{PlainBody, cover, PlainStatement, PlainModel}
 use Rattle.fab_models.specs.Context.{Context}
-use Rattle.fab_models.specs.Judge.{is_among}
+use Rattle.fab_lines.specs.Items.{is_among}
 use Rattle.fab_models.specs.inner.Following.{State, with_statements}
 use Rattle.fab_models.specs.Rules.{IsFineBody, input_names, output_names, declared_inputs, declared_outputs, IsModel, AreModels}
 use Rattle.fab_models.proofs.Ends.{AtLast, last_pushed, all_pushed}

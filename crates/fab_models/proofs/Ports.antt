@@ -6,7 +6,8 @@ use Rattle.std.proofs.lemmas.Bool.{cases_Bool, both_ways, or_parts, or_cases, or
 use Rattle.std.proofs.lemmas.List.Sums.{sum_by-cons, sum_by-append}
 use Rattle.std.proofs.lemmas.Slice.Eq.{bytes_eq-Decides}
 use Rattle.indexmap.specs.IndexSet.{insert_key, insert_all}
-use Rattle.fab_models.specs.Judge.{is_among, names_twice}
+use Rattle.fab_models.specs.Judge.{names_twice}
+use Rattle.fab_lines.specs.Items.{is_among}
 use Rattle.fab_models.proofs.Parts.{any_push}
 
 -- ---- how often a name stands in a list

@@ -15,10 +15,10 @@ use Rattle.fab_models.specs.declared.words.Kind.{Kind}
 use Rattle.fab_models.specs.declared.words.Kind.TheVariants as kinds
 use Rattle.fab_models.specs.Plain.{PlainBody, inputs, outputs, clock, cover, latch, instance, PlainStatement, PlainModel}
 use Rattle.fab_models.specs.Words.{Word, words, arguments, kind_of, is_foreign}
-use Rattle.fab_lines.specs.Items.{word_at, with_last}
+use Rattle.fab_lines.specs.Items.{word_at, with_last, is_among}
 use Rattle.fab_models.specs.Covers.{pattern_of, is_on, table_of}
 use Rattle.fab_models.specs.Context.{Context}
-use Rattle.fab_models.specs.Judge.{is_among, count_fits, has_initial, breaks_number, needs_model, repeats_port, on_both_sides, port_problem, same_output, has_output, is_sign, breaks_row, is_wide, construct_problem, problem_of, malformed_by, judge_words, judge}
+use Rattle.fab_models.specs.Judge.{count_fits, has_initial, breaks_number, needs_model, repeats_port, on_both_sides, port_problem, same_output, has_output, is_sign, breaks_row, is_wide, construct_problem, problem_of, malformed_by, judge_words, judge}
 use Rattle.fab_models.specs.Spelled.{control_of, initial_of, inner_words, spelled}
 use Rattle.fab_models.specs.inner.Following.{State, with_statements, pushed, tabled, with_table, with_ports, context_after, mask_of, table_by, state_after}
 use Rattle.fab_models.specs.Rules.{Repeats, IsFineBody, input_names, output_names, declared_inputs, declared_outputs, IsModel, AreModels}

@@ -8,7 +8,8 @@ use Rattle.std.proofs.lemmas.List.Folds.{list_any-append}
 use Rattle.std.proofs.lemmas.List.Sums.{fold-append}
 use Rattle.indexmap.specs.IndexSet.{insert_key, insert_all}
 use Rattle.fab_bits.specs.Keys.{key_names}
-use Rattle.fab_models.specs.Judge.{is_among, names_twice}
+use Rattle.fab_models.specs.Judge.{names_twice}
+use Rattle.fab_lines.specs.Items.{is_among}
 
 pub any_of_names : {A : Type 0} (name : List ℕ) (keys : List (Vec ℕ A)) → list_any (λ key. bytes_eq name key.items) keys ≡ list_any (bytes_eq name) (key_names keys)
 any_of_names name [] = refl

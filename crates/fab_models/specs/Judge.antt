@@ -10,12 +10,9 @@ use Rattle.fab_lines.specs.Names.{is_between}
 use Rattle.fab_models.specs.declared.words.Kind.{Kind}
 use Rattle.fab_models.specs.declared.words.Kind.TheVariants as kinds
 use Rattle.fab_models.specs.Words.{Word, words, arguments, kind_of, is_foreign}
-use Rattle.fab_lines.specs.Items.{word_at}
+use Rattle.fab_lines.specs.Items.{word_at, is_among}
 use Rattle.fab_models.specs.Covers.{pattern_of, output_of, is_on}
 use Rattle.fab_models.specs.Context.{Context, context_of}
-
-abbrev pub is_among : List Word → Word → Bool
-is_among names name = list_any (bytes_eq name) names
 
 -- ---- the number of words
 

@@ -1,8 +1,9 @@
 -- The words of a line, and what kind of line they make.
-use Rattle.std.specs.Prelude.{ℕ, Bool, true, false, List, [], ◌∷◌, ◌||◌, ◌==◌, not, length, filter, codes, slice_index, drop, if◌then◌else◌}
+use Rattle.std.specs.Prelude.{ℕ, Bool, true, false, List, [], ◌∷◌, ◌||◌, ◌==◌, not, filter, codes, slice_index, drop, if◌then◌else◌}
 use Rattle.std.specs.List.{slice_split}
 use Rattle.std.specs.Str.{bytes_eq}
 use Rattle.fab_lines.specs.Names.{is_between}
+use Rattle.fab_lines.specs.Items.{is_filled}
 use Rattle.fab_lines.specs.Parts.{is_blank}
 use Rattle.fab_models.specs.declared.words.Kind.{Kind}
 use Rattle.fab_models.specs.declared.words.Kind.TheVariants as kinds
@@ -17,9 +18,6 @@ is_of_word byte = is_between 33 126 byte
 -- neither printable nor a tab
 abbrev pub is_foreign : ℕ → Bool
 is_foreign byte = not (is_of_word byte || is_blank byte)
-
-abbrev pub is_filled : Word → Bool
-is_filled word = not (length word == 0)
 
 -- the words of a line: what stands between bytes that are of no word
 abbrev pub words : (line : List ℕ) → List Word

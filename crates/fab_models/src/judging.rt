@@ -3,7 +3,8 @@
 ghost use Rattle.std.specs.Prelude.{◌≡◌, ◌++◌, ◌||◌, ◌&&◌, find, map, option_map, IfOk};
 ghost use Rattle.std.specs.Str.{bytes_eq};
 ghost use Rattle.fab_base.specs.declared.problem.Problem.TheVariants as problems;
-ghost use Rattle.fab_models.specs.Judge.{breaks_number, breaks_row, construct_problem, count_fits, has_initial, has_type, is_among, is_initial, judge_words, malformed_by, names_twice, needs_model, on_both_sides, port_problem, repeats_port, row_fits, type_problem};
+ghost use Rattle.fab_models.specs.Judge.{breaks_number, breaks_row, construct_problem, count_fits, has_initial, has_type, is_initial, judge_words, malformed_by, names_twice, needs_model, on_both_sides, port_problem, repeats_port, row_fits, type_problem};
+ghost use Rattle.fab_lines.specs.Items.{is_among};
 ghost use Rattle.fab_bits.specs.Keys.{key_names};
 
 use crate::context::Context;

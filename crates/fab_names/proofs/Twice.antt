@@ -10,7 +10,8 @@ use Rattle.std.proofs.lemmas.List.Folds.{list_any-append}
 use Rattle.std.proofs.lemmas.Slice.Eq.{bytes_eq-Decides}
 use Rattle.fab_lines.specs.Numbers.{number_of}
 use Rattle.fab_model.specs.Tiles.{counted}
-use Rattle.fab_names.specs.Names.{PlainFamily, PlainNames, text_of, numbered_names, has_bit, meet, is_among, come_twice, names_of, all_names, sides_of, with_sides, with_pins}
+use Rattle.fab_names.specs.Names.{PlainFamily, PlainNames, text_of, numbered_names, has_bit, meet, come_twice, names_of, all_names, sides_of, with_sides, with_pins}
+use Rattle.fab_lines.specs.Items.{is_among}
 use Rattle.fab_names.specs.inner.Sides.{opt_meets, sides_meet}
 use Rattle.fab_names.proofs.Texts.{number_of_text, text_of_number}
 use Rattle.fab_names.proofs.Families.{either_first, either_second, either_is, bit_of, has_of_bit, bit_among, among_bit, counted_any, drop_front, shared_meet, meet_shared}

@@ -1,7 +1,7 @@
 -- Names of wires whose counts have no bound: a bit is called by the name of its row and its number.
 use Rattle.std.specs.Prelude.{ℕ, ◌+◌, Bool, false, Option, Some, None, List, [], ◌∷◌, ◌++◌, ◌==◌, ◌||◌, ◌&&◌, map, length, drop, nat_eq, nat_lt, codes, if◌then◌else◌}
-use Rattle.std.specs.List.{starts_with, list_any, flat_map}
-use Rattle.std.specs.Str.{bytes_eq}
+use Rattle.std.specs.List.{starts_with, flat_map}
+use Rattle.fab_lines.specs.Items.{is_among}
 use Rattle.std.specs.Int.Digits.{digits_of}
 use Rattle.fab_lines.specs.Numbers.{is_number, number_of}
 use Rattle.fab_model.specs.Tiles.{counted}
@@ -34,9 +34,6 @@ unfoldable pub meet : PlainFamily → PlainFamily → Bool
 meet one other = nat_lt 0 one.bits && nat_lt 0 other.bits && (has_bit one (first_name other) || has_bit other (first_name one))
 
 -- ---- lists of names
-
-abbrev pub is_among : List (List ℕ) → (name : List ℕ) → Bool
-is_among names name = list_any (bytes_eq name) names
 
 -- Some name of the list stands among those before the list, or before it in the list.
 unfoldable pub come_twice : (before names : List (List ℕ)) → Bool

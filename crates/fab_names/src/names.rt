@@ -3,7 +3,8 @@
 ghost use Rattle.std.specs.Prelude.{◌≡◌, ◌++◌, ◌||◌, [], IfOk, OnOk};
 ghost use Rattle.std.specs.List.{list_any};
 ghost use Rattle.std.specs.Str.{bytes_eq};
-ghost use Rattle.fab_names.specs.Names.{all_names, come_twice, has_bit, is_among, names_of, sides_of, with_pins, with_sides};
+ghost use Rattle.fab_names.specs.Names.{all_names, come_twice, has_bit, names_of, sides_of, with_pins, with_sides};
+ghost use Rattle.fab_lines.specs.Items.{is_among};
 ghost use Rattle.fab_names.specs.inner.Sides.{opt_meets, sides_meet};
 
 use crate::family::Family;

@@ -5,7 +5,8 @@ use Rattle.std.specs.Str.Lines.{lines}
 use Rattle.std.proofs.lemmas.Bool.{cases_Bool}
 use Rattle.fab_lines.specs.Joined.{goes_on, joined, joined_lines, onto_next, without_last}
 use Rattle.fab_lines.specs.Parts.{uncommented}
-use Rattle.fab_models.specs.Words.{Word, is_filled, is_of_word, words}
+use Rattle.fab_models.specs.Words.{Word, is_of_word, words}
+use Rattle.fab_lines.specs.Items.{is_filled}
 use Rattle.fab_models.specs.Spelled.{Line}
 use Rattle.fab_models.proofs.Parts.{before_more, before_stop}
 use Rattle.fab_blif.proofs.Each.{each_joined}

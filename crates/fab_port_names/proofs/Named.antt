@@ -5,7 +5,7 @@ use Rattle.std.proofs.lemmas.Bool.Decides.{nat_tests}
 use Rattle.std.proofs.lemmas.List.Elements.{All-from_recursion}
 use Rattle.fab_models.specs.Words.{Word}
 use Rattle.fab_texts.specs.Printed.{ends_line, is_last_word, is_word_byte}
-use Rattle.fab_texts.specs.Rows.{is_filled}
+use Rattle.fab_lines.specs.Items.{is_filled}
 use Rattle.fab_netlist.specs.Plain.{name_of}
 use Rattle.fab_netlist.specs.WellMade.{ports}
 use Rattle.fab_blif.specs.Blif.{IsBlif, design_in, models_in, netlist_in}

@@ -5,7 +5,7 @@ use Rattle.std.specs.Str.{bytes_eq}
 use Rattle.std.proofs.lemmas.Bool.{cases_Bool, false≢true}
 use Rattle.std.proofs.lemmas.List.{map-append}
 use Rattle.fab_models.specs.Words.{Word}
-use Rattle.fab_models.specs.Judge.{is_among}
+use Rattle.fab_lines.specs.Items.{is_among}
 use Rattle.fab_blif.specs.Flat.{PlainNet}
 use Rattle.fab_blif.specs.Design.{PlainDesign, PlainClock, design_of, nets_of}
 use Rattle.fab_blif.specs.Judged.{is_of, EachHasOne, inner_drivers, input_ports, readers, is_driven, least, undriven_line}

@@ -13,7 +13,8 @@ use Rattle.fab_models.specs.declared.words.Kind.{Kind}
 use Rattle.fab_models.specs.declared.words.Kind.TheVariants as kinds
 use Rattle.fab_models.specs.Words.{Word, words, kind_of, is_foreign}
 use Rattle.fab_models.specs.Context.{Context, context_of}
-use Rattle.fab_models.specs.Judge.{judge_words, judge, is_among, names_twice}
+use Rattle.fab_models.specs.Judge.{judge_words, judge, names_twice}
+use Rattle.fab_lines.specs.Items.{is_among}
 use Rattle.fab_models.specs.inner.Following.{beginning, context_after}
 use Rattle.fab_models.proofs.ContextLines.{context_more}
 use Rattle.fab_sample_reads.specs.Items.{Row, row_line, Pattern, Item, cover, wire, latch, pattern_row, item_rows, model_rows}

@@ -4,7 +4,7 @@ use Rattle.std.specs.List.{AllByRecursion as Each, flat_map}
 use Rattle.std.specs.Str.{bytes_eq}
 use Rattle.std.proofs.lemmas.Bool.{cases_Bool}
 use Rattle.fab_models.specs.Words.{Word}
-use Rattle.fab_models.specs.Judge.{is_among}
+use Rattle.fab_lines.specs.Items.{is_among}
 use Rattle.fab_netlist.specs.Plain.{no_cover}
 use Rattle.fab_netlist.specs.Cycles.{HasNoCycle, IsRank}
 use Rattle.fab_netlist.proofs.Members.{in_none, first_or_later}

@@ -10,7 +10,8 @@ use Rattle.std.proofs.lemmas.List.Concat.{flat_map-append}
 use Rattle.std.proofs.lemmas.List.Folds.{list_any-append}
 use Rattle.std.proofs.lemmas.List.FromFn.{length-map-range_with_len, length-range_with_len}
 use Rattle.fab_models.specs.Words.{Word}
-use Rattle.fab_models.specs.Judge.{is_among, names_twice}
+use Rattle.fab_models.specs.Judge.{names_twice}
+use Rattle.fab_lines.specs.Items.{is_among}
 use Rattle.fab_blif.proofs.Each.{each_joined}
 use Rattle.fab_sample.specs.declared.net.Net.TheVariants as sample
 use Rattle.fab_sample.specs.Netlists.{net_name}

@@ -6,8 +6,8 @@ use Rattle.std.specs.Str.{bytes_eq}
 use Rattle.std.proofs.lemmas.Bool.{cases_Bool, cases_lt, false≢true}
 use Rattle.std.proofs.lemmas.Bool.Decides.{nat_tests}
 use Rattle.std.proofs.lemmas.Fmt.{decimal_injective, decimal_by_steps}
-use Rattle.fab_models.specs.Words.{Word, is_filled}
-use Rattle.fab_models.specs.Judge.{is_among}
+use Rattle.fab_models.specs.Words.{Word}
+use Rattle.fab_lines.specs.Items.{is_among, is_filled}
 use Rattle.fab_sample_reads.proofs.TextLines.{is_plain, is_word, all_joined}
 use Rattle.fab_sample_reads.proofs.Sameness.{same_bytes, bytes_same, not_same, nat_same, same_nat, count_first}
 

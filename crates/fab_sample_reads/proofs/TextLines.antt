@@ -9,7 +9,8 @@ use Rattle.std.proofs.lemmas.List.Splits.{slice_split_at, slice_split_none, leng
 use Rattle.std.proofs.lemmas.List.Elements.{All-cons, All-nil}
 use Rattle.fab_lines.specs.Parts.{uncommented}
 use Rattle.fab_lines.specs.Joined.{goes_on, joined, joined_lines}
-use Rattle.fab_models.specs.Words.{Word, is_of_word, is_foreign, is_filled, words}
+use Rattle.fab_models.specs.Words.{Word, is_of_word, is_foreign, words}
+use Rattle.fab_lines.specs.Items.{is_filled}
 use Rattle.fab_models.proofs.Parts.{before_none}
 use Rattle.fab_sample_reads.specs.Items.{Row, row_line, rows_text}
 

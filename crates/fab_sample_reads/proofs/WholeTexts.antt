@@ -4,7 +4,8 @@ use Rattle.std.specs.List.{AllByRecursion as Each, flat_map, sum_by}
 use Rattle.std.proofs.lemmas.List.Sums.{sum_by-cons}
 use Rattle.fab_lines.specs.Order.{IsFine}
 use Rattle.fab_models.specs.Words.{Word}
-use Rattle.fab_models.specs.Judge.{judge, is_among}
+use Rattle.fab_models.specs.Judge.{judge}
+use Rattle.fab_lines.specs.Items.{is_among}
 use Rattle.fab_models.specs.Plain as bodies
 use Rattle.fab_models.specs.Plain.{PlainBody, PlainStatement, PlainModel}
 use Rattle.fab_models.specs.Spelled.{spelled}

@@ -13,7 +13,7 @@ use Rattle.fab_netlist.specs.declared.net_id.NetId.{NetId}
 use Rattle.fab_netlist.specs.declared.net_id.NetId.TheVariants as ids
 use Rattle.fab_netlist.specs.Packed.{PlainPacked}
 use Rattle.fab_netlist.proofs.Members.{first_in, later_in, in_left, in_right, mapped_in}
-use Rattle.fab_implementation.specs.Plain.{Edge, Pad, PlainTree, PlainImplementation}
+use Rattle.fab_implementation.specs.Plain.{Edge, Pad, PlainTree, PlainImplementation, ports_of}
 use Rattle.fab_legal.specs.Legal.{IsLegal}
 use Rattle.fab_legal.specs.Lines.{IsCell, IsInput, IsOutput}
 use Rattle.fab_legal.specs.Nets.{IsNet, Net, cell_net, net_of, one_net, port_net, zero_net}
@@ -25,7 +25,6 @@ use Rattle.fab_legal.proofs.Once.{before_in, known_thing}
 use Rattle.fab_fabric.specs.Names.{site_text}
 use Rattle.fab_texts.specs.Printed.{row_text, rows_text}
 use Rattle.fab_texts.specs.Sections.{ending}
-use Rattle.fab_impl.specs.FirstPlaces.{ports}
 use Rattle.fab_impl.specs.Lines.{Cell}
 use Rattle.fab_impl.specs.Names.{cell_text, wire_names, wire_text}
 use Rattle.fab_impl.specs.Spelled.{cell_line, edge_line, header, implementation_text, inner_lines, net_line, pad_line, tree_lines}
@@ -133,17 +132,17 @@ module _ (fabric : PlainFabric) (is : IsFabric fabric) (tiles : AreTiles fabric)
       )
 
   -- the ports that lines of inputs name
-  line_names : All IsShortName (ports it.ins)
+  line_names : All IsShortName (ports_of it.ins)
   line_names = λ k d few.
-      let port = get_or (ports it.ins) k d in
-      let line = from_mapped (λ (pad : Pad). pad.0) it.ins port (All-contains_itself (ports it.ins) k d few) in
+      let port = get_or (ports_of it.ins) k d in
+      let line = from_mapped (λ (pad : Pad). pad.0) it.ins port (All-contains_itself (ports_of it.ins) k d few) in
       subst IsShortName line.2 (input_short packed names line.0.0 (known_thing (IsInput packed) fabric kinds.Io it.ins line.0 legal.placed.ports.ins.lines_right line.1))
 
   short_net : (id : NetId) → IsNet packed (net_of it id) → length (row_text (net_line it.ins id)) ≤ 48
   short_net ids.Zero known = omega (arith, row_length (codes "net") (codes "zero" ∷ []))
   short_net ids.One known = omega (arith, row_length (codes "net") (codes "one" ∷ []))
   short_net (ids.In place) known =
-      omega (arith, row_length (codes "net") (codes "in" ∷ slice_index_or (ports it.ins) place [] ∷ []), name_or_none (ports it.ins) line_names place)
+      omega (arith, row_length (codes "net") (codes "in" ∷ slice_index_or (ports_of it.ins) place [] ∷ []), name_or_none (ports_of it.ins) line_names place)
   short_net (ids.Cell cell) known = omega (arith, row_length (codes "net") (codes "cell" ∷ cell_text cell ∷ []), short_number cell known)
 
   short_edge : (edge : Edge) → length (row_text (edge_line fabric edge)) ≤ 55

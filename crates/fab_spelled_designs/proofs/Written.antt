@@ -17,7 +17,8 @@ use Rattle.fab_designs.specs.fab_impl.proofs.WireNames.{wire_is}
 use Rattle.fab_legal.proofs.Pins.{tile_type}
 use Rattle.fab_spelled_fabrics.proofs.Words.{decimal_named}
 use Rattle.fab_texts.specs.Printed.{ends_line, is_last_word, is_row, is_word, is_word_byte}
-use Rattle.fab_texts.specs.Rows.{Word, is_filled}
+use Rattle.fab_texts.specs.Rows.{Word}
+use Rattle.fab_lines.specs.Items.{is_filled}
 use Rattle.fab_texts.proofs.PrintedRows.{all_append}
 
 -- ---- bytes

@@ -9,12 +9,12 @@ use Rattle.fab_fabric.specs.declared.wire.Site.{Site}
 use Rattle.fab_implementation.specs.fab_model.specs.Grid.{PlainFabric}
 use Rattle.fab_implementation.specs.Plain.{Pad}
 use Rattle.fab_texts.specs.Rows.{Word}
-use Rattle.fab_lines.specs.Items.{word_at}
-use Rattle.fab_texts.specs.Keys.{is_among}
+use Rattle.fab_lines.specs.Items.{word_at, is_among}
 use Rattle.fab_texts.specs.Places.{site_of}
 use Rattle.fab_texts.specs.Formats.{refused}
 use Rattle.fab_texts.proofs.Formats.{Keeps}
-use Rattle.fab_state.specs.Constraints.{Fixing, pad_of, pad_at, pads_at, is_fixing, take_fixing, fixed}
+use Rattle.fab_state.specs.Constraints.{Fixing, pad_of, pad_at, is_fixing, take_fixing, fixed}
+use Rattle.fab_state.specs.Lines.{pads_at}
 
 -- one word more of a list is added
 pub fold_step : {X : Type 0} (add : List Word → Word → List Word) (seen : X → Word) (start now new : List Word) (xs : List X) (i : ℕ) (d : X) → i < length xs

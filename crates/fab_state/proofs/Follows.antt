@@ -9,8 +9,7 @@ use Rattle.fab_base.specs.declared.words.Reason.TheVariants as reasons
 use Rattle.fab_base.specs.declared.problem.Problem.{Problem}
 use Rattle.fab_fabric.specs.declared.wire.Site.{Site}
 use Rattle.fab_texts.specs.Rows.{Word}
-use Rattle.fab_lines.specs.Items.{word_at}
-use Rattle.fab_texts.specs.Keys.{is_among}
+use Rattle.fab_lines.specs.Items.{word_at, is_among}
 use Rattle.fab_texts.specs.Places.{site_of}
 use Rattle.fab_texts.specs.Formats.{refused}
 use Rattle.fab_texts.specs.declared.sections.Part.{Part}

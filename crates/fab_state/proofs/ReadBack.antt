@@ -11,7 +11,7 @@ use Rattle.fab_fabric.specs.declared.wire.Site.{Site}
 use Rattle.fab_implementation.specs.Plain.{Pad}
 use Rattle.fab_lines.specs.Order.{IsWhole}
 use Rattle.fab_texts.specs.Rows.{Word, PlainRow, words_of}
-use Rattle.fab_texts.specs.Keys.{is_among}
+use Rattle.fab_lines.specs.Items.{is_among}
 use Rattle.fab_fabric.specs.Names.{site_text}
 use Rattle.fab_texts.specs.Places.{site_of, IsWritable}
 use Rattle.fab_texts.proofs.SiteLaws.{site_again}

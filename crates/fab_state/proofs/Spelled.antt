@@ -10,8 +10,7 @@ use Rattle.fab_fabric.specs.declared.wire.Site.{Site}
 use Rattle.fab_implementation.specs.Plain.{Pad}
 use Rattle.fab_lines.specs.Order.{IsFine, IsWhole}
 use Rattle.fab_texts.specs.Rows.{Word, PlainRow, words_of}
-use Rattle.fab_lines.specs.Items.{word_at}
-use Rattle.fab_texts.specs.Keys.{is_among}
+use Rattle.fab_lines.specs.Items.{word_at, is_among}
 use Rattle.fab_fabric.specs.Names.{site_text}
 use Rattle.fab_texts.specs.Places.{IsWritable}
 use Rattle.fab_texts.proofs.SiteLaws.{site_takes}

@@ -13,11 +13,11 @@ use Rattle.fab_implementation.specs.Plain.{Pad}
 use Rattle.fab_implementation.specs.OnFabric.{kind_at}
 use Rattle.fab_lines.specs.Order.{Format, IsWhole}
 use Rattle.fab_texts.specs.Rows.{Word, PlainRow, words_of}
-use Rattle.fab_lines.specs.Items.{word_at}
-use Rattle.fab_texts.specs.Keys.{is_among}
+use Rattle.fab_lines.specs.Items.{word_at, is_among}
 use Rattle.fab_fabric.specs.Names.{site_text}
 use Rattle.fab_texts.specs.Places.{site_of, IsWritable}
 use Rattle.fab_texts.specs.Formats.{refused, text_format}
+use Rattle.fab_state.specs.Lines.{pads_at}
 
 -- words with one more, where it is not among them
 abbrev pub with_word : List Word → Word → List Word
@@ -69,10 +69,6 @@ take_fixing old line = if is_fixing line then with_pad old (word_at line 1) (wor
 
 abbrev pub unfixed : PlainFabric → (allowed : List Word) → Fixing
 unfixed fabric allowed = record { fabric = fabric; allowed = allowed; ports = []; sites = []; pads = [] }
-
-abbrev pub pads_at : (port : Word) → Option Site → List Pad
-pads_at port None = []
-pads_at port (Some site) = (port, site) ∷ []
 
 -- what lines say that are not refused: their second words are the ports, and their third words the sites
 abbrev pub fixed : PlainFabric → (allowed : List Word) → List (List Word) → Fixing

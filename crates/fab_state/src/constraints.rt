@@ -6,7 +6,7 @@ ghost use Rattle.fab_base.specs.declared.fault.Fault.TheVariants as faults;
 ghost use Rattle.fab_base.specs.Reading.{Answers, Gives};
 ghost use Rattle.fab_lines.specs.Order.{IsTextFault, IsWhole, ended, placed, read_all};
 ghost use Rattle.fab_netlist.specs.Plain.{name_of};
-ghost use Rattle.fab_texts.specs.Keys.{is_among};
+ghost use Rattle.fab_lines.specs.Items.{is_among};
 ghost use Rattle.fab_texts.specs.Places.{site_of};
 ghost use Rattle.fab_texts.specs.Rows.{after_row, rows_of, words_of};
 ghost use Rattle.fab_state.specs.Constraints.{SpellsFixings, constraint_format, data_ports, fixed, is_fixing, is_pad_kind, pad_of, take_fixing, unfixed, with_pad, with_word};

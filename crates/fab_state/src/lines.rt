@@ -2,7 +2,7 @@
 
 ghost use Rattle.std.specs.Prelude.{◌≡◌, ◌||◌};
 ghost use Rattle.fab_base.specs.Reading.{Answers};
-ghost use Rattle.fab_texts.specs.Keys.{is_among};
+ghost use Rattle.fab_lines.specs.Items.{is_among};
 ghost use Rattle.fab_state.specs.Lines.{digit_of, with_pad, with_register};
 
 use fab_base::{Name, Problem, Reason};

@@ -7,7 +7,7 @@ use Rattle.std.proofs.Math.Seq.{drop-cons}
 use Rattle.fab_netlist.proofs.Members.{in_none, first_or_later, first_in, later_in, any_by, any_gives}
 use Rattle.std.proofs.lemmas.Slice.Eq.{bytes_eq-Decides}
 use Rattle.fab_texts.specs.Rows.{Word}
-use Rattle.fab_texts.specs.Keys.{is_among}
+use Rattle.fab_lines.specs.Items.{is_among}
 use Rattle.fab_implementation.specs.Plain.{Pad}
 use Rattle.fab_state.specs.Plain.{PlainState}
 use Rattle.fab_state.specs.Spelled.{AreApart, ports}

@@ -10,7 +10,7 @@ use Rattle.std.proofs.lemmas.List.Sums.{list_all-from_AllPass}
 use Rattle.fab_base.specs.declared.problem.Problem.{Problem}
 use Rattle.fab_netlist.proofs.Members.{first_in}
 use Rattle.fab_texts.specs.Rows.{Word, PlainRow, words_of}
-use Rattle.fab_texts.specs.Keys.{is_among}
+use Rattle.fab_lines.specs.Items.{is_among}
 use Rattle.fab_texts.proofs.Formats.{taken, taken_none, taken_one, taken_fine}
 use Rattle.fab_state.specs.Spelled.{AreApart}
 use Rattle.fab_stimulus.specs.Stimuli.{Known, columns_of, cut_short, digits_of, is_digit, known, names_of, once, place_in, take, take_digits, take_names}

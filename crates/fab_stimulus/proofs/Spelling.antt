@@ -9,7 +9,7 @@ use Rattle.std.proofs.lemmas.List.Sums.{AllPass-from_list_all}
 use Rattle.fab_netlist.proofs.Members.{in_none, first_in}
 use Rattle.fab_lines.specs.Order.{IsWhole}
 use Rattle.fab_texts.specs.Rows.{Word, PlainRow, words_of}
-use Rattle.fab_texts.specs.Keys.{is_among}
+use Rattle.fab_lines.specs.Items.{is_among}
 use Rattle.fab_texts.proofs.Formats.{each_line}
 use Rattle.fab_state.specs.Spelled.{AreApart}
 use Rattle.fab_stimulus.specs.Stimuli.{Known, columns_of, cut_short, known, once, stimulus_format, take, values_at, place_in}

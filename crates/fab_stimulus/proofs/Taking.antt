@@ -7,8 +7,7 @@ use Rattle.std.proofs.lemmas.Bool.{eqb-true}
 use Rattle.std.proofs.lemmas.List.{map_push}
 use Rattle.fab_base.specs.declared.words.Reason.TheVariants as reasons
 use Rattle.fab_texts.specs.Rows.{Word}
-use Rattle.fab_lines.specs.Items.{word_at}
-use Rattle.fab_texts.specs.Keys.{is_among}
+use Rattle.fab_lines.specs.Items.{word_at, is_among}
 use Rattle.fab_texts.specs.Formats.{refused}
 use Rattle.fab_texts.proofs.Formats.{Keeps}
 use Rattle.fab_state.proofs.LineForms.{equal_words}

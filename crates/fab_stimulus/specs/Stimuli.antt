@@ -6,16 +6,11 @@ use Rattle.fab_base.specs.declared.words.Reason.TheVariants as reasons
 use Rattle.fab_base.specs.declared.problem.Problem.{Problem}
 use Rattle.fab_base.specs.declared.problem.Problem.TheVariants as problems
 use Rattle.fab_lines.specs.Order.{Format}
-use Rattle.fab_implementation.specs.Plain.{Pad}
+pub use Rattle.fab_implementation.specs.Plain.{ports_of}
 use Rattle.fab_texts.specs.Rows.{Word, PlainRow}
-use Rattle.fab_lines.specs.Items.{word_at}
-use Rattle.fab_texts.specs.Keys.{is_among}
+use Rattle.fab_lines.specs.Items.{word_at, is_among}
 use Rattle.fab_texts.specs.Formats.{refused, text_format}
 use Rattle.fab_state.specs.Constraints.{with_word}
-
--- the names of ports
-abbrev pub ports_of : List Pad → List Word
-ports_of pads = map (λ pad. pad.0) pads
 
 -- The ports that are fed; for each of them its place among the names of the first line, where this has come; and the values that
 -- the further lines give them, in the order of the ports.

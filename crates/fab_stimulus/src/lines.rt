@@ -3,7 +3,7 @@
 ghost use Rattle.std.specs.Prelude.{◌≡◌, ◌==◌, ◌||◌, IfOk, length, map, option_map};
 ghost use Rattle.std.specs.List.{list_all};
 ghost use Rattle.fab_state.specs.Spelled.{AreApart};
-ghost use Rattle.fab_texts.specs.Keys.{is_among};
+ghost use Rattle.fab_lines.specs.Items.{is_among};
 ghost use Rattle.fab_stimulus.specs.Stimuli.{columns_of, digits_of, is_digit, is_nothing, once, ports_of, value_at, values_at};
 
 use fab_base::{Memory, Name};

@@ -5,7 +5,7 @@ use Rattle.std.specs.Prelude.{not, ◌==◌}
 use Rattle.std.specs.List.{list_any, slice_split, onto_first}
 use Rattle.std.proofs.lemmas.Bool.{cases_Bool}
 use Rattle.fab_lines.specs.Parts.{is_blank}
-use Rattle.fab_texts.specs.Rows.{is_filled}
+use Rattle.fab_lines.specs.Items.{is_filled}
 
 some_first : (byte : ℕ) (parts : List (List ℕ)) → not (length (filter is_filled (onto_first byte parts)) == 0) ≡ true
 some_first byte [] = refl

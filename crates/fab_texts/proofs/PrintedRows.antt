@@ -9,7 +9,8 @@ use Rattle.std.proofs.lemmas.List.Splits.{slice_split_at, slice_split_none, leng
 use Rattle.std.proofs.lemmas.List.Elements.{All-cons, All-nil}
 use Rattle.std.proofs.lemmas.List.Concat.{flat_map-cons}
 use Rattle.fab_lines.specs.Parts.{is_blank}
-use Rattle.fab_texts.specs.Rows.{words, is_filled, holds_word, rows_from, words_of, rows_of}
+use Rattle.fab_texts.specs.Rows.{words, holds_word, rows_from, words_of, rows_of}
+use Rattle.fab_lines.specs.Items.{is_filled}
 use Rattle.fab_texts.specs.Printed.{spaced, row_text, rows_text, is_word_byte, is_word, ends_line, is_row}
 
 pub both_true : (a b : Bool) → (a && b) ≡ true → (a ≡ true) × (b ≡ true)

@@ -2,7 +2,8 @@
 use Rattle.std.specs.Prelude.{ℕ, Bool, false, List, [], ◌∷◌, ◌++◌, ◌==◌, ◌&&◌, ◌-◌, not, length, slice_index}
 use Rattle.std.specs.List.{flat_map, list_all}
 use Rattle.fab_lines.specs.Parts.{is_blank}
-use Rattle.fab_texts.specs.Rows.{Word, is_filled}
+use Rattle.fab_texts.specs.Rows.{Word}
+use Rattle.fab_lines.specs.Items.{is_filled}
 
 -- the words with a blank between two
 abbrev pub spaced : List Word → List ℕ

@@ -4,13 +4,11 @@ use Rattle.std.specs.List.{slice_split}
 use Rattle.std.specs.Option.{option_map_or}
 use Rattle.std.specs.Str.Lines.{lines}
 use Rattle.fab_base.specs.declared.problem.Problem.{Problem}
+use Rattle.fab_lines.specs.Items.{is_filled}
 use Rattle.fab_lines.specs.Parts.{uncommented, is_blank}
 
 abbrev pub Word : Type 0
 Word = List ℕ
-
-abbrev pub is_filled : Word → Bool
-is_filled word = not (length word == 0)
 
 -- the words of a line: what blanks and tabs part, before the comment
 abbrev pub words : (line : List ℕ) → List Word

@@ -2,7 +2,7 @@
 
 ghost use Rattle.std.specs.Prelude.{◌≡◌, ◌<◌, ◌++◌, [], ◌∷◌, false, IfSome, OnOk, length, position};
 ghost use Rattle.std.specs.Str.{bytes_eq};
-ghost use Rattle.fab_texts.specs.Keys.{is_among};
+ghost use Rattle.fab_lines.specs.Items.{is_among};
 
 use fab_base::Memory;
 use indexmap::IndexSet;

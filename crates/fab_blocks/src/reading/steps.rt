@@ -6,7 +6,7 @@ ghost use Rattle.std.specs.Str.{bytes_eq};
 ghost use Rattle.fab_base.specs.Reading.{Answers};
 ghost use Rattle.fab_blocks.specs.declared.mode.Mode.TheVariants as modes;
 ghost use Rattle.fab_blocks.specs.declared.mode.Place.TheVariants as places;
-ghost use Rattle.fab_blocks.specs.Cells.{is_among};
+ghost use Rattle.fab_lines.specs.Items.{is_among};
 ghost use Rattle.fab_blocks.specs.Inner.{IsPlain, block_row, inner_parameter, outer_row};
 ghost use Rattle.fab_blocks.specs.Reading.{HasRoom, open_name, tile_names};
 ghost use Rattle.fab_blocks.specs.Saying.{begin_grid, begin_limit, begin_parameters, begin_problem, begin_reason, begin_tile, end_grid, end_parameters, end_tile, grid_line, is_place, lines_of, may_begin, parameters_begun, row_in, say, stands, with_block, HasRoomIfEnded};

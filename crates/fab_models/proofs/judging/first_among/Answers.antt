@@ -1,5 +1,5 @@
 use Rattle.std.proofs.Common.{ℕ, List, Bor, ◌||◌}
-use Rattle.fab_models.specs.Judge.{is_among}
+use Rattle.fab_lines.specs.Items.{is_among}
 use Rattle.fab_bits.specs.Keys.{key_names}
 use Rattle.fab_models.proofs.Sets.{find_here, find_later}
 use Rattle.fab_models.proofs.judging.first_among.Goals as goal

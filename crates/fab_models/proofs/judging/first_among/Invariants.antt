@@ -1,7 +1,7 @@
 use Rattle.std.proofs.Common.{◌≡◌, ◌||◌, map, drop}
 use Rattle.std.specs.Prelude.{find}
 use Rattle.fab_bits.specs.Keys.{key_names}
-use Rattle.fab_models.specs.Judge.{is_among}
+use Rattle.fab_lines.specs.Items.{is_among}
 use Rattle.fab_models.proofs.judging.first_among.Given as goal
 
 abbrev pub invariant-loop-name : goal.invariant-loop-name

@@ -2,7 +2,8 @@ use Rattle.std.proofs.Common.{filter, rules, tests, ap, ◌∙◌}
 use Rattle.std.specs.Prelude.{not}
 use Rattle.std.proofs.lemmas.Iterator.Consumers.{YieldsList-at, YieldsList-end}
 use Rattle.std.proofs.lemmas.Iterator.Splits.{YieldsList-from_slice_split}
-use Rattle.fab_models.specs.Words.{is_filled, is_of_word}
+use Rattle.fab_models.specs.Words.{is_of_word}
+use Rattle.fab_lines.specs.Items.{is_filled}
 use Rattle.fab_models.proofs.words.words_of.Goals as goal
 
 pub returns : goal.returns

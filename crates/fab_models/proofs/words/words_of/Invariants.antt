@@ -1,5 +1,5 @@
 use Rattle.std.proofs.Common.{◌≡◌, map, filter}
-use Rattle.fab_models.specs.Words.{is_filled}
+use Rattle.fab_lines.specs.Items.{is_filled}
 use Rattle.fab_models.proofs.words.words_of.Given as goal
 
 abbrev pub invariant-loop-word : goal.invariant-loop-word

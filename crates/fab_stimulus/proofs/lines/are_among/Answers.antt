@@ -1,6 +1,6 @@
 use Rattle.std.proofs.Common.{◌∙◌, sym, List, ℕ, Bor}
 use Rattle.std.proofs.lemmas.List.Folds.{list_all-map}
-use Rattle.fab_texts.specs.Keys.{is_among}
+use Rattle.fab_lines.specs.Items.{is_among}
 use Rattle.fab_stimulus.proofs.lines.are_among.Goals as goal
 
 pub returns : goal.returns

@@ -1,7 +1,7 @@
 use Rattle.std.proofs.Common.{◌∙◌, sym}
 use Rattle.std.proofs.lemmas.List.Folds.{list_all-map}
 use Rattle.fab_implementation.specs.Plain.{Pad}
-use Rattle.fab_texts.specs.Keys.{is_among}
+use Rattle.fab_lines.specs.Items.{is_among}
 use Rattle.fab_stimulus.proofs.lines.are_named.Goals as goal
 
 pub returns : goal.returns

@@ -1,7 +1,7 @@
 use Rattle.std.proofs.Common.{List, ap, ◌∙◌, take}
 use Rattle.fab_implementation.specs.Plain.{Pad}
 use Rattle.fab_texts.specs.Rows.{Word}
-use Rattle.fab_texts.specs.Keys.{is_among}
+use Rattle.fab_lines.specs.Items.{is_among}
 use Rattle.fab_stimulus.specs.Stimuli.{ports_of}
 use Rattle.fab_stimulus.proofs.Once.{new_port}
 use Rattle.fab_stimulus.proofs.lines.ports_of.Goals as goal

@@ -3,7 +3,7 @@ use Rattle.std.proofs.lemmas.Iterator.Consumers.{YieldsList-at, YieldsList-end}
 use Rattle.std.proofs.lemmas.Iterator.Splits.{YieldsList-from_slice_split}
 use Rattle.std.specs.List.{slice_split}
 use Rattle.fab_lines.specs.Parts.{is_blank}
-use Rattle.fab_texts.specs.Rows.{is_filled}
+use Rattle.fab_lines.specs.Items.{is_filled}
 use Rattle.fab_texts.proofs.rows.words_of.Goals as goal
 
 pub returns : goal.returns

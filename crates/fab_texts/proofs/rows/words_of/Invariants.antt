@@ -1,5 +1,5 @@
 use Rattle.std.proofs.Common.{◌≡◌, map, filter}
-use Rattle.fab_texts.specs.Rows.{is_filled}
+use Rattle.fab_lines.specs.Items.{is_filled}
 use Rattle.fab_texts.proofs.rows.words_of.Given as goal
 
 abbrev pub invariant-loop-word : goal.invariant-loop-word

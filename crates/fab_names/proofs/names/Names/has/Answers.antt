@@ -2,7 +2,8 @@ use Rattle.std.proofs.Common.{Bool, ◌||◌, ap, sym, ◌∙◌}
 use Rattle.std.specs.List.{list_any}
 use Rattle.std.specs.Str.{bytes_eq}
 use Rattle.std.proofs.lemmas.List.Folds.{list_any-append}
-use Rattle.fab_names.specs.Names.{PlainNames, is_among, names_of, all_names}
+use Rattle.fab_names.specs.Names.{PlainNames, names_of, all_names}
+use Rattle.fab_lines.specs.Items.{is_among}
 use Rattle.fab_names.proofs.Twice.{among_families}
 use Rattle.fab_names.proofs.names.Names.has.Goals as goal
 

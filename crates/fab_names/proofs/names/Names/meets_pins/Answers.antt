@@ -1,7 +1,8 @@
 use Rattle.std.proofs.Common.{List, ℕ, Bool, ◌||◌, get_or, take, ap, sym, ◌∙◌}
 use Rattle.std.specs.List.{list_any}
 use Rattle.std.specs.Str.{bytes_eq}
-use Rattle.fab_names.specs.Names.{is_among, all_names}
+use Rattle.fab_names.specs.Names.{all_names}
+use Rattle.fab_lines.specs.Items.{is_among}
 use Rattle.fab_names.proofs.Twice.{pin_comes_twice, pin_passes, no_more_pins}
 use Rattle.fab_names.proofs.names.Names.meets_pins.Goals as goal
 

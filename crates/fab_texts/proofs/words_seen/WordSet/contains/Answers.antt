@@ -1,5 +1,5 @@
 use Rattle.std.proofs.Common.{◌∙◌, ap, ℕ, List}
-use Rattle.fab_texts.specs.Keys.{is_among}
+use Rattle.fab_lines.specs.Items.{is_among}
 use Rattle.fab_texts.proofs.Sets.{any_of_names}
 use Rattle.fab_texts.proofs.words_seen.WordSet.contains.Goals as goal
 
