@@ -11,7 +11,7 @@ use Rattle.fab_tokens.specs.declared.scanner.Scan.TheVariants as scans
 use Rattle.fab_tokens.specs.Literals.{is_word_byte, is_binary, is_one, max_number, number_of, is_number, is_written, constant_of}
 use Rattle.fab_tokens.specs.Scanning.{constant_token}
 use Rattle.fab_tokens.specs.Told.{tokens_from}
-use Rattle.fab_tokens.proofs.Words.{both, number_again, digits_again, digits_in_word}
+use Rattle.fab_tokens.proofs.Words.{both, number_again, begins_again, digits_again, digits_in_word}
 use Rattle.fab_tokens.proofs.Cutting.{EndsWord, literal_cut}
 
 list_all-reverse : (p : ℕ → Bool) (xs : List ℕ) → list_all p xs ≡ true → list_all p (reverse xs) ≡ true
@@ -74,5 +74,6 @@ constant_cut bits rest some few ends =
     let digits = reverse (map digit bits) in
     let all : list_all is_word_byte (98 ∷ digits) ≡ true = list_all-reverse is_word_byte (map digit bits) (digits_word bits) in
     ap (tokens_from scans.Between) (append_assoc (decimal (length bits)) (39 ∷ 98 ∷ digits) rest)
-    ∙ literal_cut (decimal (length bits)) (98 ∷ digits) rest (decimal_nonempty (length bits) small) (digits_in_word (decimal (length bits)) (digits_again (length bits) small)) all ends
+    ∙ literal_cut (decimal (length bits)) (98 ∷ digits) rest (begins_again (decimal (length bits)) (decimal_nonempty (length bits) small) (digits_again (length bits) small))
+      (digits_in_word (decimal (length bits)) (digits_again (length bits) small)) all ends
     ∙ ap (λ o. constant_token o ∷ tokens_from scans.Between rest) (constant_again bits some few)

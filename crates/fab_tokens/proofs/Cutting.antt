@@ -72,8 +72,10 @@ word_ends : (word rest : List ℕ) → EndsWord rest → tokens_from (scans.Word
 unfolding after_byte tokens_from
 word_ends word [] ends = refl
 word_ends word (byte ∷ rest) ends =
-    let parts = neither (is_word_byte byte) (byte == 39) ends in
-    let begins : after_byte (scans.Word word) byte ≡ begun (Some (word_token word)) byte = (let no_word = parts.0 in let no_mark = parts.1 in rw (no_word, no_mark) refl) in
+    let parts = neither (is_word_byte byte) ((byte == 36) || (byte == 39)) ends in
+    let signs = neither (byte == 36) (byte == 39) parts.1 in
+    let begins : after_byte (scans.Word word) byte ≡ begun (Some (word_token word)) byte =
+      (let no_word = parts.0 in let no_dollar = signs.0 in let no_mark = signs.1 in rw (no_word, no_dollar, no_mark) refl) in
     one_byte (scans.Word word) byte rest (begun (Some (word_token word)) byte) begins ∙ ends_before (word_token word) byte rest
 
 pub word_cut : (word rest : List ℕ) → 0 < length word → list_all is_word_byte word ≡ true → EndsWord rest →
@@ -172,16 +174,16 @@ literal_ends width more (byte ∷ rest) ends =
     let begins : after_byte (scans.Literal width more) byte ≡ begun (Some t) byte = rw ends refl in
     one_byte (scans.Literal width more) byte rest (begun (Some t) byte) begins ∙ ends_before t byte rest
 
--- a word, an apostrophe and what stands behind it
-pub literal_cut : (width text rest : List ℕ) → 0 < length width → list_all is_word_byte width ≡ true → list_all is_word_byte text ≡ true → EndsWord rest →
+-- a number, an apostrophe and what stands behind it
+pub literal_cut : (width text rest : List ℕ) → begins_with_digit width ≡ true → list_all is_word_byte width ≡ true → list_all is_word_byte text ≡ true → EndsWord rest →
     tokens_from scans.Between (width ++ 39 ∷ (text ++ rest)) ≡ constant_token (constant_of width text) ∷ tokens_from scans.Between rest
 unfolding after_byte
-literal_cut [] text rest some all more ends = absurd (omega arith)
-literal_cut (byte ∷ width) text rest some all more ends =
+literal_cut [] text rest none all more ends = absurd (false≢true none)
+literal_cut (byte ∷ width) text rest digit all more ends =
     let parts = both (is_word_byte byte) (list_all is_word_byte width) all in
     let begins : after_byte scans.Between byte ≡ step None None (scans.Word (byte ∷ [])) = (let in_word = parts.0 in rw in_word refl) in
     one_byte scans.Between byte (width ++ 39 ∷ (text ++ rest)) (step None None (scans.Word (byte ∷ []))) begins
     ∙ word_grows (byte ∷ []) width (39 ∷ (text ++ rest)) parts.1
-    ∙ one_byte (scans.Word (byte ∷ width)) 39 (text ++ rest) (going (scans.Literal (byte ∷ width) [])) refl
+    ∙ one_byte (scans.Word (byte ∷ width)) 39 (text ++ rest) (going (scans.Literal (byte ∷ width) [])) (rw digit refl)
     ∙ literal_grows (byte ∷ width) [] text rest more
     ∙ literal_ends (byte ∷ width) text rest ends

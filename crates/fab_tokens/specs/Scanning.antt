@@ -70,15 +70,21 @@ begun_sign before byte =
 abbrev pub begun : Option Token → ℕ → Step
 begun before byte = if is_word_byte byte then step before None (scans.Word (byte ∷ [])) else begun_sign before byte
 
+-- A `$` belongs to the word before it, which is then no name here. An apostrophe belongs to the number before it, as the width of a
+-- constant; behind another word it is no token.
 abbrev pub after_word : List ℕ → ℕ → Step
 after_word word byte =
     if is_word_byte byte then going (scans.Word (word ++ byte ∷ []))
-    else if byte == 39 then going (scans.Literal word [])
+    else if byte == 36 then going scans.ForeignWord
+    else if (byte == 39) && begins_with_digit word then going (scans.Literal word [])
     else begun (Some (word_token word)) byte
+
+abbrev pub after_foreign : ℕ → Step
+after_foreign byte = if is_word_byte byte || (byte == 36) then going scans.ForeignWord else begun (Some tokens.Unknown) byte
 
 abbrev pub after_literal : (width rest : List ℕ) → ℕ → Step
 after_literal width rest byte =
-    if is_word_byte byte || (byte == 39) then going (scans.Literal width (rest ++ byte ∷ []))
+    if is_word_byte byte || ((byte == 36) || (byte == 39)) then going (scans.Literal width (rest ++ byte ∷ []))
     else begun (Some (constant_token (constant_of width rest))) byte
 
 abbrev pub after_equals : ℕ → Step
@@ -104,6 +110,7 @@ after_star byte =
 unfoldable pub after_byte : Scan → ℕ → Step
 after_byte scans.Between byte = begun None byte
 after_byte (scans.Word word) byte = after_word word byte
+after_byte scans.ForeignWord byte = after_foreign byte
 after_byte (scans.Literal width rest) byte = after_literal width rest byte
 after_byte scans.Equals byte = after_equals byte
 after_byte scans.Less byte = after_less byte

@@ -28,9 +28,9 @@ IsToken tokens.Arrow = Unit {0}
 IsToken (tokens.Mark byte) = (is_mark byte || (byte == 61)) ≡ true
 IsToken tokens.Unknown = ⊥
 
--- a byte that may not follow a word or a constant: it would belong to it
+-- a byte that may not follow a word or a constant: it would belong to it, or to no token
 abbrev pub joins_words : ℕ → Bool
-joins_words byte = is_word_byte byte || (byte == 39)
+joins_words byte = is_word_byte byte || ((byte == 36) || (byte == 39))
 
 -- whether a byte behind a token would make it longer; `==` is one token
 abbrev pub continues : Token → ℕ → Bool

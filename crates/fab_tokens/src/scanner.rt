@@ -3,10 +3,10 @@
 ghost use Rattle.std.specs.Prelude.{◌≡◌, ◌++◌, ◌∷◌, [], IfOk};
 ghost use Rattle.fab_tokens.specs.Literals.{is_word_byte};
 ghost use Rattle.fab_tokens.specs.Tokens.{is_mark};
-ghost use Rattle.fab_tokens.specs.Scanning.{word_token, constant_token, begun, begun_sign, begun_other, operator_of, after_word, after_literal, after_equals, after_less, after_slash, after_return, after_star, after_byte, at_end};
+ghost use Rattle.fab_tokens.specs.Scanning.{word_token, constant_token, begun, begun_sign, begun_other, operator_of, after_word, after_foreign, after_literal, after_equals, after_less, after_slash, after_return, after_star, after_byte, at_end};
 
 use crate::token::Token;
-use crate::word::{constant_token, is_word_byte, word_token};
+use crate::word::{begins_with_digit, constant_token, is_word_byte, word_token};
 use fab_base::{Memory, Name};
 use fab_syntax::Op;
 use std::alloc::Global;
@@ -18,7 +18,9 @@ pub enum Scan {
     Between,
     /// Letters, digits and `_`.
     Word(Name),
-    /// Such a word, an apostrophe, and what stands behind it.
+    /// A word that holds a `$`.
+    ForeignWord,
+    /// Such a word that begins with a digit, an apostrophe, and what stands behind it.
     Literal(Name, Name),
     /// `=`, behind which another may stand.
     Equals,
@@ -180,16 +182,28 @@ fn after_word(alloc: Global, word: Name, byte: u8) -> Result<Step, Memory>
     if is_word_byte(byte) {
         return Ok(going(Scan::Word(with_byte(word, byte)?)));
     }
-    if byte == b'\'' {
+    if byte == b'$' {
+        return Ok(going(Scan::ForeignWord));
+    }
+    if byte == b'\'' && begins_with_digit(word.bytes()) {
         return Ok(going(Scan::Literal(word, Name::from(Vec::new(alloc)))));
     }
     begin(alloc, Some(word_token(word)), byte)
 }
 
+fn after_foreign(alloc: Global, byte: u8) -> Result<Step, Memory>
+    ensures { IfOk result (λ step. step ≡ after_foreign byte) }
+{
+    if is_word_byte(byte) || byte == b'$' {
+        return Ok(going(Scan::ForeignWord));
+    }
+    begin(alloc, Some(Token::Unknown), byte)
+}
+
 fn after_literal(alloc: Global, width: Name, rest: Name, byte: u8) -> Result<Step, Memory>
     ensures { IfOk result (λ step. step ≡ after_literal width rest byte) }
 {
-    if is_word_byte(byte) || byte == b'\'' {
+    if is_word_byte(byte) || (byte == b'$' || byte == b'\'') {
         return Ok(going(Scan::Literal(width, with_byte(rest, byte)?)));
     }
     let token = constant_token(alloc, &width, &rest)?;
@@ -260,6 +274,7 @@ pub fn take_byte(alloc: Global, scan: Scan, byte: u8) -> Result<Step, Memory>
     match scan {
         Scan::Between => begin(alloc, None, byte),
         Scan::Word(word) => after_word(alloc, word, byte),
+        Scan::ForeignWord => after_foreign(alloc, byte),
         Scan::Literal(width, rest) => after_literal(alloc, width, rest, byte),
         Scan::Equals => after_equals(alloc, byte),
         Scan::Less => after_less(alloc, byte),
@@ -283,8 +298,11 @@ pub fn finish(alloc: Global, scan: Scan) -> Result<Option<Token>, Memory>
         Scan::Word(word) => Ok(Some(word_token(word))),
         Scan::Literal(width, rest) => Ok(Some(constant_token(alloc, &width, &rest)?)),
         Scan::Equals => Ok(Some(Token::Mark(b'='))),
-        Scan::Less | Scan::Slash | Scan::Return | Scan::BlockComment | Scan::BlockStar => Ok(Some(
-            Token::Unknown,
-        )),
+        Scan::ForeignWord
+        | Scan::Less
+        | Scan::Slash
+        | Scan::Return
+        | Scan::BlockComment
+        | Scan::BlockStar => Ok(Some(Token::Unknown)),
     }
 }

@@ -23,7 +23,8 @@ pub(crate) fn is_word_byte(byte: u8) -> bool
     is_letter(byte) || is_digit(byte) || byte == b'_'
 }
 
-fn begins_with_digit(word: &[u8]) -> bool
+/// Whether a word begins with a digit, as a number and the width of a constant do.
+pub(crate) fn begins_with_digit(word: &[u8]) -> bool
     ensures { result ≡ begins_with_digit word.now }
 {
     match word {
