@@ -17,7 +17,7 @@ use crate::names::{begin_wire_name, column_strobe_name, pad_port_name, place_nam
 use crate::places::{Place, tile_of};
 use fab_base::{Memory, Name};
 use fab_fabric::{Fabric, RowAt};
-use fab_gen_tile::{begin_name, end_name, port_join, pad_name, prefixed, same_join, side_border};
+use fab_gen_tile::{begin_name, end_name, pad_name, port_join, prefixed, same_join, side_border};
 use fab_kinds::Kind;
 use fab_model::{Bel, Dir, WireRow};
 use fab_syntax::{Expr, Item, Join, Word};

@@ -75,5 +75,5 @@ constant_cut bits rest some few ends =
     let all : list_all is_word_byte (98 ∷ digits) ≡ true = list_all-reverse is_word_byte (map digit bits) (digits_word bits) in
     ap (tokens_from scans.Between) (append_assoc (decimal (length bits)) (39 ∷ 98 ∷ digits) rest)
     ∙ literal_cut (decimal (length bits)) (98 ∷ digits) rest (begins_again (decimal (length bits)) (decimal_nonempty (length bits) small) (digits_again (length bits) small))
-      (digits_in_word (decimal (length bits)) (digits_again (length bits) small)) all ends
+    (digits_in_word (decimal (length bits)) (digits_again (length bits) small)) all ends
     ∙ ap (λ o. constant_token o ∷ tokens_from scans.Between rest) (constant_again bits some few)

@@ -75,7 +75,7 @@ word_ends word (byte ∷ rest) ends =
     let parts = neither (is_word_byte byte) ((byte == 36) || (byte == 39)) ends in
     let signs = neither (byte == 36) (byte == 39) parts.1 in
     let begins : after_byte (scans.Word word) byte ≡ begun (Some (word_token word)) byte =
-      (let no_word = parts.0 in let no_dollar = signs.0 in let no_mark = signs.1 in rw (no_word, no_dollar, no_mark) refl) in
+    (let no_word = parts.0 in let no_dollar = signs.0 in let no_mark = signs.1 in rw (no_word, no_dollar, no_mark) refl) in
     one_byte (scans.Word word) byte rest (begun (Some (word_token word)) byte) begins ∙ ends_before (word_token word) byte rest
 
 pub word_cut : (word rest : List ℕ) → 0 < length word → list_all is_word_byte word ≡ true → EndsWord rest →
