@@ -15,7 +15,8 @@ use Rattle.fab_implementation.specs.fab_netlist.specs.Plain.{IsAt}
 use Rattle.fab_implementation.specs.fab_netlist.proofs.Counts.{at_mapped}
 use Rattle.fab_implementation.specs.fab_netlist.proofs.Members.{in_none, first_or_later, first_in, later_in, mapped_in, in_left}
 use Rattle.fab_legal.specs.Nets.{Reached, root, step, entered_wires, IsRightEntry}
-use Rattle.fab_legal.specs.inner.Tables.{left_number, entered_number, group_at, link, targets, IsRootSet, IsReachedSet, missing}
+use Rattle.fab_legal.specs.inner.Tables.{left_number, entered_number, link, targets, IsRootSet, IsReachedSet, missing}
+use Rattle.fab_bits.specs.Keys.{group_at}
 use Rattle.fab_legal.proofs.Members.{from_mapped, taken_more, in_taken, stays_taken, last_taken, last_in}
 use Rattle.fab_legal.proofs.PortNumbers.{place_in}
 use Rattle.fab_legal.proofs.Sets.{any_in, in_any, none_in, put_in, put_stays, put_here, all_in, old_in, new_in}

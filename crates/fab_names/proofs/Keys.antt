@@ -11,8 +11,8 @@ use Rattle.std.proofs.lemmas.List.Sums.{AllPass-from_list_all}
 use Rattle.std.proofs.lemmas.Slice.Eq.{bytes_eq-Decides}
 use Rattle.indexmap.specs.IndexSet.{insert_key}
 use Rattle.fab_lines.specs.Numbers.{is_digit}
-use Rattle.fab_bits.specs.Keys.{key_names}
-use Rattle.fab_names.specs.inner.Keyed.{Adds, group_at, group_of, under}
+use Rattle.fab_bits.specs.Keys.{key_names, group_at}
+use Rattle.fab_names.specs.inner.Keyed.{Adds, group_of, under}
 
 -- ---- groups
 

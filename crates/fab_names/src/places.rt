@@ -1,7 +1,8 @@
 //! Places by key.
 
 ghost use Rattle.std.specs.Prelude.{◌≡◌, [], ℕ, OnOk, option_map, unwrap_or};
-ghost use Rattle.fab_names.specs.inner.Keyed.{Adds, group_at, under};
+ghost use Rattle.fab_names.specs.inner.Keyed.{Adds, under};
+ghost use Rattle.fab_bits.specs.Keys.{group_at};
 
 use fab_base::Memory;
 use indexmap::IndexSet;

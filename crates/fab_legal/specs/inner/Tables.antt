@@ -1,5 +1,5 @@
 -- What the check keeps of tile types and of nets.
-use Rattle.std.specs.Prelude.{◌≡◌, ℕ, ◌+◌, ◌<◌, ◌≤◌, Bool, ◌&&◌, List, [], ◌∷◌, Vec, map, length, get_or, Contains, Option, Some, None, min, nat_eq, if◌then◌else◌}
+use Rattle.std.specs.Prelude.{◌≡◌, ℕ, ◌+◌, ◌<◌, ◌≤◌, Bool, ◌&&◌, List, [], ◌∷◌, map, length, get_or, Contains, Option, Some, None, min, nat_eq, if◌then◌else◌}
 use Rattle.std.specs.List.{list_any, position_or_len}
 use Rattle.fab_select.specs.Selection.{inputs_of}
 use Rattle.fab_implementation.specs.fab_fabric.specs.Wires.{numbered_wire}
@@ -41,10 +41,6 @@ left_number edge = edge.0.0
 
 abbrev pub entered_number : Edge → ℕ
 entered_number edge = edge.1.0
-
--- the group of a place, empty past the last
-abbrev pub group_at : {A : Type 0} → List (Vec ℕ A) → (place : ℕ) → List ℕ
-group_at groups place = get_or (map (λ group. group.items) groups) place []
 
 -- an edge by the place of its first wire among others
 abbrev pub link : (lefts : List ℕ) → Edge → ℕ × ℕ

@@ -1,15 +1,12 @@
 -- Families by their bases.
-use Rattle.std.specs.Prelude.{◌≡◌, ◌≤◌, ◌<◌, ℕ, true, Contains, List, [], ◌++◌, Option, Some, None, Vec, map, length, get_or, position}
+use Rattle.std.specs.Prelude.{◌≡◌, ◌≤◌, ◌<◌, ℕ, true, Contains, List, [], ◌++◌, Option, Some, None, Vec, length, get_or, position}
 use Rattle.std.specs.List.{list_all}
 use Rattle.std.specs.Str.{bytes_eq}
-use Rattle.fab_bits.specs.Keys.{key_names}
+use Rattle.fab_bits.specs.Keys.{group_at, key_names}
 use Rattle.fab_lines.specs.Numbers.{is_digit}
 use Rattle.fab_names.specs.Names.{PlainFamily}
 
 -- ---- places under keys
-
-abbrev pub group_at : {A : Type 0} → List (Vec ℕ A) → (slot : ℕ) → List ℕ
-group_at groups slot = get_or (map (λ group. group.items) groups) slot []
 
 abbrev pub group_of : {A : Type 0} → List (Vec ℕ A) → (slot : Option ℕ) → List ℕ
 group_of groups None = []

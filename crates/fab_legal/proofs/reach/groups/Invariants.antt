@@ -1,5 +1,6 @@
 use Rattle.std.proofs.Common.{◌≡◌, ℕ, length, take}
-use Rattle.fab_legal.specs.inner.Tables.{group_at, targets}
+use Rattle.fab_legal.specs.inner.Tables.{targets}
+use Rattle.fab_bits.specs.Keys.{group_at}
 use Rattle.fab_legal.proofs.reach.groups.Given as goal
 
 abbrev pub invariant-loop-edge : goal.invariant-loop-edge

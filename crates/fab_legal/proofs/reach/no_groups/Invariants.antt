@@ -1,5 +1,5 @@
 use Rattle.std.proofs.Common.{◌≡◌, ℕ, [], vec_len}
-use Rattle.fab_legal.specs.inner.Tables.{group_at}
+use Rattle.fab_bits.specs.Keys.{group_at}
 use Rattle.fab_legal.proofs.reach.no_groups.Given as goal
 
 abbrev pub invariant-loop-place : goal.invariant-loop-place

@@ -1,7 +1,7 @@
 use Rattle.std.proofs.Common.{◌<◌, ℕ, List, get_or, length, nat_eq, ap, ◌∙◌, arith}
 use Rattle.std.specs.List.{position_or_len}
 use Rattle.indexmap.specs.IndexSet.{insert_all}
-use Rattle.fab_legal.specs.inner.Tables.{group_at}
+use Rattle.fab_bits.specs.Keys.{group_at}
 use Rattle.fab_legal.proofs.ReachSearch.{search_begins, search_next, search_ends}
 use Rattle.fab_legal.proofs.reach.put_reached.Goals as goal
 
