@@ -16,7 +16,8 @@ use Rattle.fab_fabric_text.specs.fab_fabric.specs.Names.{place_name}
 use Rattle.fab_fabric_text.specs.fab_fabric.specs.Fabric.{IsFabric}
 use Rattle.fab_fabric_text.specs.fab_gen_tile.specs.Names.{tile_module_name}
 use Rattle.fab_fabric_text.specs.fab_gen_tile.specs.Borders.{side_border}
-use Rattle.fab_fabric_text.specs.Names.{loader_instance_name, address_name, strobe_name, row_name, column_strobe_name, begin_wire_name}
+use Rattle.fab_fabric_text.specs.Names.{loader_instance_name, column_strobe_name, begin_wire_name}
+use Rattle.fab_fabric_text.specs.fab_gen_loader.specs.Loader.{address_port, strobe_port, row_port}
 use Rattle.fab_fabric_text.specs.Places.{PlacedTile, placed_tiles}
 use Rattle.fab_fabric_text.specs.Top.{loader_wires, loader_instance, column_strobes, row_begin_wires, tile_begin_wires, tile_joins, tile_instance, top_items}
 use Rattle.fab_tile_drives.proofs.Endings.{all_flat_map, all_counted}
@@ -38,9 +39,9 @@ all_of_top fabric P scalars words strobes assigns loader tiles =
     let assigned = counted fabric.columns column_strobes in
     let strobe_wires = counted fabric.columns (λ x. wire (Vector 20) (column_strobe_name x)) in
     All-append P (loader_wires fabric.rows) (loader_instance fabric.rows ∷ (strobe_wires ++ (assigned ++ (begins ++ instances))))
-    (All-cons P (wire (Vector 32) address_name) (wire Scalar strobe_name ∷ counted fabric.rows (λ y. wire (Vector 32) (row_name y))) (words address_name)
-    (All-cons P (wire Scalar strobe_name) (counted fabric.rows (λ y. wire (Vector 32) (row_name y))) (scalars strobe_name)
-    (all_counted P fabric.rows (λ y. wire (Vector 32) (row_name y)) (λ y few. words (row_name y)))))
+    (All-cons P (wire (Vector 32) address_port) (wire Scalar strobe_port ∷ counted fabric.rows (λ y. wire (Vector 32) (row_port y))) (words address_port)
+    (All-cons P (wire Scalar strobe_port) (counted fabric.rows (λ y. wire (Vector 32) (row_port y))) (scalars strobe_port)
+    (all_counted P fabric.rows (λ y. wire (Vector 32) (row_port y)) (λ y few. words (row_port y)))))
     (All-cons P (loader_instance fabric.rows) (strobe_wires ++ (assigned ++ (begins ++ instances))) loader
     (All-append P strobe_wires (assigned ++ (begins ++ instances))
     (all_counted P fabric.columns (λ x. wire (Vector 20) (column_strobe_name x)) (λ x few. strobes (column_strobe_name x)))

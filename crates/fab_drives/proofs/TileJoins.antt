@@ -13,7 +13,8 @@ use Rattle.fab_fabric_text.specs.fab_model.specs.Grid.{PlainFabric}
 use Rattle.fab_fabric_text.specs.fab_model.specs.Cascade.{previous_row}
 use Rattle.fab_fabric_text.specs.fab_gen_tile.specs.Names.{frame_data_name, frame_strobe_name, begin_name, end_name, pad_name, port_join, same_join}
 use Rattle.fab_fabric_text.specs.fab_gen_tile.specs.Borders.{side_border}
-use Rattle.fab_fabric_text.specs.Names.{row_name, column_strobe_name, pad_port_name, begin_wire_name}
+use Rattle.fab_fabric_text.specs.Names.{column_strobe_name, pad_port_name, begin_wire_name}
+use Rattle.fab_fabric_text.specs.fab_gen_loader.specs.Loader.{row_port}
 use Rattle.fab_fabric_text.specs.Places.{PlacedTile}
 use Rattle.fab_fabric_text.specs.Top.{end_value, numbered_row, row_joins, pad_joins, tile_joins}
 use Rattle.fab_tile_drives.proofs.Members.{contains_counted, contains_map}
@@ -21,7 +22,7 @@ use Rattle.fab_drives.proofs.Lists.{contains_flat, contains_numbered}
 
 module _ (fabric : PlainFabric) (placed : PlacedTile) where
   abbrev front : List PlainJoin
-  front = same_join user_clock_name ∷ port_join frame_data_name (variable (row_name placed.y)) ∷ port_join frame_strobe_name (variable (column_strobe_name placed.x)) ∷ []
+  front = same_join user_clock_name ∷ port_join frame_data_name (variable (row_port placed.y)) ∷ port_join frame_strobe_name (variable (column_strobe_name placed.x)) ∷ []
 
   abbrev borders : List PlainJoin
   borders = flat_map (row_joins fabric placed) (enumerate_from 0 placed.tile.rows)

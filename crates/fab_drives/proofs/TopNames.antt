@@ -5,7 +5,7 @@ use Rattle.std.proofs.lemmas.List.Elements.{All-cons, All-append, All-map, Conta
 use Rattle.fab_syntax.specs.declared.tree.Shape.TheVariants.{Scalar, Vector}
 use Rattle.fab_syntax.specs.Plain.{wire}
 use Rattle.fab_syntax.specs.Declarations.{declared_width}
-use Rattle.fab_fabric_text.specs.fab_meaning.specs.Runs.{user_clock_name}
+use Rattle.fab_fabric_text.specs.fab_meaning.specs.Runs.{user_clock_name, clock_name}
 use Rattle.fab_fabric_text.specs.fab_meaning.specs.Ports.{scalar}
 use Rattle.fab_fabric_text.specs.fab_prim.specs.Ports.{top_name, top_inputs, top_outputs}
 use Rattle.fab_fabric_text.specs.fab_model.specs.declared.tiles.WireRow.{WireRow}
@@ -16,7 +16,7 @@ use Rattle.fab_fabric_text.specs.fab_model.specs.Grid.{PlainFabric, tile_at}
 use Rattle.fab_fabric_text.specs.fab_gen_tile.specs.Names.{vector}
 use Rattle.fab_fabric_text.specs.fab_gen_tile.specs.Borders.{side_border}
 use Rattle.fab_fabric_text.specs.fab_meaning.specs.Loading.{write_strobe_name, write_data_name}
-use Rattle.fab_fabric_text.specs.Names.{loader_clock_name, pad_port_name, column_strobe_name, begin_wire_name}
+use Rattle.fab_fabric_text.specs.Names.{pad_port_name, column_strobe_name, begin_wire_name}
 use Rattle.fab_fabric_text.specs.Places.{PlacedTile, placed_tiles}
 use Rattle.fab_fabric_text.specs.Top.{pad_ports, tile_pads, top_ports, loader_wires, loader_instance, column_strobes, row_begin_wires, tile_begin_wires, tile_instance, top_items}
 use Rattle.fab_tile_drives.proofs.Endings.{all_flat_map}
@@ -41,7 +41,7 @@ wide_pads x y placed =
 wide_top_ports : (fabric : PlainFabric) → All IsWide (top_ports fabric)
 wide_top_ports fabric =
     let pads = flat_map tile_pads (placed_tiles fabric) in
-    All-cons IsWide (scalar true loader_clock_name) (scalar true user_clock_name ∷ scalar true write_strobe_name ∷ vector true 32 write_data_name ∷ pads) (omega arith)
+    All-cons IsWide (scalar true clock_name) (scalar true user_clock_name ∷ scalar true write_strobe_name ∷ vector true 32 write_data_name ∷ pads) (omega arith)
     (All-cons IsWide (scalar true user_clock_name) (scalar true write_strobe_name ∷ vector true 32 write_data_name ∷ pads) (omega arith)
     (All-cons IsWide (scalar true write_strobe_name) (vector true 32 write_data_name ∷ pads) (omega arith)
     (All-cons IsWide (vector true 32 write_data_name) pads (omega arith)
@@ -60,7 +60,7 @@ pad_port : (fabric : PlainFabric) (x y : ℕ) (tile : PlainTile) (number : ℕ) 
 pad_port fabric x y tile number bel there stands is_pad =
     let port = scalar true (pad_port_name x y number top_name) in
     let placed : ℕ × Bel = (number, bel) in
-    let front = scalar true loader_clock_name ∷ scalar true user_clock_name ∷ scalar true write_strobe_name ∷ vector true 32 write_data_name ∷ [] in
+    let front = scalar true clock_name ∷ scalar true user_clock_name ∷ scalar true write_strobe_name ∷ vector true 32 write_data_name ∷ [] in
     let in_port = λ (name : List ℕ). scalar true (pad_port_name x y number name) in
     let out_port = λ (name : List ℕ). scalar false (pad_port_name x y number name) in
     Contains-append_right front (flat_map tile_pads (placed_tiles fabric)) port

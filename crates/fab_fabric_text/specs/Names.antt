@@ -12,24 +12,11 @@ loader_instance_name = codes "fab_loader"
 
 -- ---- ports
 
-abbrev pub loader_clock_name : List ℕ
-loader_clock_name = codes "CLK"
-
 -- the port of a pad to the outside, as X1Y0_A_O_top
 abbrev pub pad_port_name : (x y bel : ℕ) → (port : List ℕ) → List ℕ
 pad_port_name x y bel port = place_name x y ++ (codes "_" ++ letter bel ∷ (codes "_" ++ port))
 
 -- ---- wires
-
-abbrev pub address_name : List ℕ
-address_name = codes "Address"
-
-abbrev pub strobe_name : List ℕ
-strobe_name = codes "Strobe"
-
--- the frame data of a row of tiles
-abbrev pub row_name : (y : ℕ) → List ℕ
-row_name y = codes "Row" ++ decimal y
 
 -- the frame strobes of a column of tiles
 abbrev pub column_strobe_name : (x : ℕ) → List ℕ

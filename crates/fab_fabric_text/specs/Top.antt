@@ -6,7 +6,7 @@ use Rattle.fab_syntax.specs.declared.tree.Shape.TheVariants.{Scalar, Vector}
 use Rattle.fab_syntax.specs.declared.tree.Op.TheVariants.{And, Equal}
 use Rattle.fab_syntax.specs.declared.tree.Port.{Port}
 use Rattle.fab_syntax.specs.Plain.{PlainExpr, PlainJoin, PlainItem, PlainModule, constant, variable, part, operation, conditional, wire, assign, instance}
-use Rattle.fab_gen_tile.specs.fab_meaning.specs.Runs.{user_clock_name}
+use Rattle.fab_gen_tile.specs.fab_meaning.specs.Runs.{user_clock_name, clock_name}
 use Rattle.fab_gen_tile.specs.fab_prim.specs.Ports.{top_inputs, top_outputs}
 use Rattle.fab_gen_tile.specs.fab_meaning.specs.Ports.{scalar}
 use Rattle.fab_gen_tile.specs.fab_model.specs.declared.tiles.WireRow.{WireRow}
@@ -19,8 +19,8 @@ use Rattle.fab_fabric.specs.Names.{place_name}
 use Rattle.fab_gen_tile.specs.Names.{tile_module_name, frame_data_name, frame_strobe_name, begin_name, end_name, pad_name, vector, port_join, same_join}
 use Rattle.fab_gen_tile.specs.Borders.{side_border}
 use Rattle.fab_gen_tile.specs.fab_meaning.specs.Loading.{write_strobe_name, write_data_name}
-use Rattle.fab_gen_loader.specs.Loader.{loader_module_name}
-use Rattle.fab_fabric_text.specs.Names.{top_module_name, loader_instance_name, loader_clock_name, pad_port_name, address_name, strobe_name, row_name, column_strobe_name, begin_wire_name}
+use Rattle.fab_gen_loader.specs.Loader.{loader_module_name, address_port, strobe_port, row_port}
+use Rattle.fab_fabric_text.specs.Names.{top_module_name, loader_instance_name, pad_port_name, column_strobe_name, begin_wire_name}
 use Rattle.fab_fabric_text.specs.Places.{PlacedTile, placed_tiles}
 
 -- ---- ports
@@ -36,7 +36,7 @@ tile_pads placed = flat_map (pad_ports placed.x placed.y) (enumerate_from 0 plac
 
 abbrev pub top_ports : PlainFabric → List Port
 top_ports fabric =
-    scalar true loader_clock_name ∷ scalar true user_clock_name ∷ scalar true write_strobe_name ∷ vector true 32 write_data_name
+    scalar true clock_name ∷ scalar true user_clock_name ∷ scalar true write_strobe_name ∷ vector true 32 write_data_name
     ∷ flat_map tile_pads (placed_tiles fabric)
 
 -- ---- the loader
@@ -44,12 +44,12 @@ top_ports fabric =
 -- the loader's outputs: an address, its strobe, and the frame data of each row of tiles
 abbrev pub loader_wires : (rows : ℕ) → List PlainItem
 loader_wires rows =
-    wire (Vector 32) address_name ∷ wire Scalar strobe_name ∷ counted rows (λ y. wire (Vector 32) (row_name y))
+    wire (Vector 32) address_port ∷ wire Scalar strobe_port ∷ counted rows (λ y. wire (Vector 32) (row_port y))
 
 abbrev pub loader_joins : (rows : ℕ) → List PlainJoin
 loader_joins rows =
-    same_join loader_clock_name ∷ same_join write_strobe_name ∷ same_join write_data_name
-    ∷ same_join address_name ∷ same_join strobe_name ∷ counted rows (λ y. same_join (row_name y))
+    same_join clock_name ∷ same_join write_strobe_name ∷ same_join write_data_name
+    ∷ same_join address_port ∷ same_join strobe_port ∷ counted rows (λ y. same_join (row_port y))
 
 abbrev pub loader_instance : (rows : ℕ) → PlainItem
 loader_instance rows = instance loader_module_name loader_instance_name (loader_joins rows)
@@ -58,13 +58,13 @@ loader_instance rows = instance loader_module_name loader_instance_name (loader_
 
 -- the address names the column in its five high bits
 abbrev pub names_column : (x : ℕ) → PlainExpr
-names_column x = operation Equal (part address_name 31 27) (constant (digits 5 x))
+names_column x = operation Equal (part address_port 31 27) (constant (digits 5 x))
 
 -- (Strobe & (Address[31:27] == x)) ? Address[19:0] : 0, a strobe for each frame
 abbrev pub column_strobes : (x : ℕ) → PlainItem
 column_strobes x =
     assign (column_strobe_name x)
-    (conditional (operation And (variable strobe_name) (names_column x)) (part address_name 19 0) (constant (digits 20 0)))
+    (conditional (operation And (variable strobe_port) (names_column x)) (part address_port 19 0) (constant (digits 20 0)))
 
 -- ---- wires between tiles
 
@@ -102,7 +102,7 @@ pad_joins x y placed =
 abbrev pub tile_joins : PlainFabric → PlacedTile → List PlainJoin
 tile_joins fabric placed =
     same_join user_clock_name
-    ∷ port_join frame_data_name (variable (row_name placed.y))
+    ∷ port_join frame_data_name (variable (row_port placed.y))
     ∷ port_join frame_strobe_name (variable (column_strobe_name placed.x))
     ∷ (flat_map (row_joins fabric placed) (enumerate_from 0 placed.tile.rows)
     ++ flat_map (pad_joins placed.x placed.y) (enumerate_from 0 placed.tile.bels))

@@ -24,6 +24,7 @@ address_port = codes "Address"
 abbrev pub strobe_port : List ℕ
 strobe_port = codes "Strobe"
 
+-- the frame data of a row of tiles
 abbrev pub row_port : (row : ℕ) → List ℕ
 row_port row = codes "Row" ++ decimal row
 

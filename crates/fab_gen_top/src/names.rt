@@ -2,7 +2,8 @@
 
 ghost use Rattle.std.specs.Prelude.{◌≡◌, ◌++◌, IfOk, decimal};
 ghost use Rattle.fab_fabric.specs.Names.{place_name};
-ghost use Rattle.fab_text_loads.specs.fab_fabric_text.specs.Names.{row_name, column_strobe_name, begin_wire_name, pad_port_name};
+ghost use Rattle.fab_text_loads.specs.fab_fabric_text.specs.Names.{column_strobe_name, begin_wire_name, pad_port_name};
+ghost use Rattle.fab_gen_loader.specs.Loader.{row_port};
 
 use fab_base::{Memory, Name};
 use fab_fabric::place_name as text_of_place;
@@ -22,7 +23,7 @@ fn numbered(alloc: Global, name: &[u8], number: u32) -> Result<Name, Memory>
 
 /// The frame data of a row of tiles.
 pub fn row_name(alloc: Global, y: u32) -> Result<Name, Memory>
-    ensures { IfOk result (λ name. name ≡ row_name y) }
+    ensures { IfOk result (λ name. name ≡ row_port y) }
 {
     numbered(alloc, b"Row", y)
 }

@@ -8,7 +8,8 @@ ghost use Rattle.fab_model.specs.Tiles.{counted};
 ghost use Rattle.fab_model.specs.Rows.{is_jump};
 ghost use Rattle.fab_gen_tile.specs.Names.{same_join};
 ghost use Rattle.fab_gen_tile.specs.Borders.{side_border};
-ghost use Rattle.fab_text_loads.specs.fab_fabric_text.specs.Names.{row_name, column_strobe_name, begin_wire_name};
+ghost use Rattle.fab_text_loads.specs.fab_fabric_text.specs.Names.{column_strobe_name, begin_wire_name};
+ghost use Rattle.fab_gen_loader.specs.Loader.{row_port};
 ghost use Rattle.fab_text_loads.specs.fab_fabric_text.specs.Top.{loader_wires, loader_joins, loader_instance, names_column, column_strobes, row_begin_wires, tile_begin_wires};
 ghost use Rattle.fab_gen_top.specs.inner.Standing.{placed_of, IsPlaceOf};
 
@@ -37,7 +38,7 @@ pub fn push_loader_wires(alloc: Global, items: &mut Vec<Item>, rows: u32) -> Res
 // Adds the wires of the frame data of each row of tiles.
 fn push_row_wires(alloc: Global, items: &mut Vec<Item>, rows: u32) -> Result<(), Memory>
     ensures { OnOk result (map plain_item items.new.items
-        ≡ map plain_item items.old.items ++ counted rows (λ y. wire (shapes.Vector 32) (row_name y))) }
+        ≡ map plain_item items.old.items ++ counted rows (λ y. wire (shapes.Vector 32) (row_port y))) }
 {
     for y in 0..rows {
         items.push(Item::Wire(Shape::Vector(32), row_name(alloc, y)?))?;
@@ -70,7 +71,7 @@ fn loader_joins(alloc: Global, rows: u32) -> Result<Vec<Join>, Memory>
 // Adds the frame data of each row of tiles.
 fn push_row_joins(alloc: Global, joins: &mut Vec<Join>, rows: u32) -> Result<(), Memory>
     ensures { OnOk result (map plain_join joins.new.items
-        ≡ map plain_join joins.old.items ++ counted rows (λ y. same_join (row_name y))) }
+        ≡ map plain_join joins.old.items ++ counted rows (λ y. same_join (row_port y))) }
 {
     for y in 0..rows {
         let name = row_name(alloc, y)?;

@@ -33,8 +33,8 @@ use Rattle.fab_use.specs.fab_gen_tile.specs.ConfigModule.{config_module}
 use Rattle.fab_use.specs.fab_gen_tile.specs.TileModule.{bits_join, bel_joins, matrix_input_names, matrix_output_names, matrix_joins, tile_module}
 use Rattle.fab_use.specs.fab_gen_tile.specs.MatrixModule.{named_pairs, matrix_module}
 use Rattle.fab_use.specs.fab_gen_loader.specs.Loader as loaders
-use Rattle.fab_use.specs.fab_gen_loader.specs.Loader.{NextValues, loader_of, registers, processes, outputs, loader_ports, strobe_register_name}
-use Rattle.fab_use.specs.fab_fabric_text.specs.Names.{loader_clock_name, address_name, strobe_name, row_name, column_strobe_name}
+use Rattle.fab_use.specs.fab_gen_loader.specs.Loader.{NextValues, loader_of, registers, processes, outputs, loader_ports, strobe_register_name, address_port, strobe_port, row_port}
+use Rattle.fab_use.specs.fab_fabric_text.specs.Names.{column_strobe_name}
 use Rattle.fab_use.specs.fab_fabric_text.specs.Places.{PlacedTile, placed_tiles}
 use Rattle.fab_fabric.specs.Sites.{same_kind}
 use Rattle.fab_use.specs.fab_fabric_text.specs.Top.{top_module}
@@ -83,15 +83,15 @@ loader_net rows next name no_clock no_write no_address no_strobe no_row =
     let Differs : Port → Type 0 = λ other. other.name ≢ name in
     let front : List Port =
     loaders.port true Scalar clock_name ∷ loaders.port true Scalar loading.write_strobe_name ∷ loaders.port true (Vector 32) write_data_name
-    ∷ loaders.port false (Vector 32) loaders.address_port ∷ loaders.port false Scalar loaders.strobe_port ∷ [] in
-    let of_rows = counted rows (λ row. loaders.port false (Vector 32) (loaders.row_port row)) in
+    ∷ loaders.port false (Vector 32) address_port ∷ loaders.port false Scalar strobe_port ∷ [] in
+    let of_rows = counted rows (λ row. loaders.port false (Vector 32) (row_port row)) in
     passed_ports (loader_ports rows) (loader_of rows next).items name
     (All-append Differs front of_rows
     (each_all Differs front (
       told_apart 0 clock_name name no_clock,
-      (told_apart 0 loading.write_strobe_name name no_write, (told_apart 0 write_data_name name no_write, (told_apart 0 loaders.address_port name no_address, (told_apart 0 loaders.strobe_port name no_strobe, tt)))),
+      (told_apart 0 loading.write_strobe_name name no_write, (told_apart 0 write_data_name name no_write, (told_apart 0 address_port name no_address, (told_apart 0 strobe_port name no_strobe, tt)))),
     ))
-    (all_counted Differs rows (λ row. loaders.port false (Vector 32) (loaders.row_port row)) (λ row few. told_apart 0 (loaders.row_port row) name no_row)))
+    (all_counted Differs rows (λ row. loaders.port false (Vector 32) (row_port row)) (λ row few. told_apart 0 (row_port row) name no_row)))
 
 address_register_width : (rows : ℕ) (next : NextValues) → width_of (loader_of rows next) loaders.address_register_name ≡ 32
 address_register_width rows next = loader_net rows next loaders.address_register_name refl refl refl refl refl
@@ -151,18 +151,18 @@ module _ (fabric : PlainFabric) (text : List PlainModule) (is : IsFabric fabric)
   top_loads : All Loads (top_configuration fabric)
   top_loads =
       let top = top_module fabric in
-      let rows = counted fabric.rows row_name in
+      let rows = counted fabric.rows row_port in
       let columns = counted fabric.columns column_strobe_name in
-      let fixed : List (List ℕ) = loader_clock_name ∷ write_strobe_name ∷ write_data_name
-      ∷ address_name ∷ strobe_name ∷ [] in
-      let more = counted fabric.rows (λ y. named_bits [] (row_name y) 32) ++ counted fabric.columns (λ x. named_bits [] (column_strobe_name x) 20) in
-      All-cons Loads (named_bits [] address_name 32) (named_bits [] strobe_name 1 ∷ more)
-      (by_name [] top address_name 32 has.tiles.top_is (address_width fabric) (λ bit. in_top refl (3, omega arith, refl)))
-      (All-cons Loads (named_bits [] strobe_name 1) more (by_name [] top strobe_name 1 has.tiles.top_is (strobe_width fabric) (λ bit. in_top refl (4, omega arith, refl)))
-      (All-append Loads (counted fabric.rows (λ y. named_bits [] (row_name y) 32)) (counted fabric.columns (λ x. named_bits [] (column_strobe_name x) 20))
-      (all_counted Loads fabric.rows (λ y. named_bits [] (row_name y) 32) (λ y few.
-      by_name [] top (row_name y) 32 has.tiles.top_is (row_width fabric y few) (λ bit. in_top refl
-      (Contains-append_right fixed (rows ++ columns) (row_name y) (Contains-append_left rows columns (row_name y) (contains_counted fabric.rows row_name y few))))))
+      let fixed : List (List ℕ) = clock_name ∷ write_strobe_name ∷ write_data_name
+      ∷ address_port ∷ strobe_port ∷ [] in
+      let more = counted fabric.rows (λ y. named_bits [] (row_port y) 32) ++ counted fabric.columns (λ x. named_bits [] (column_strobe_name x) 20) in
+      All-cons Loads (named_bits [] address_port 32) (named_bits [] strobe_port 1 ∷ more)
+      (by_name [] top address_port 32 has.tiles.top_is (address_width fabric) (λ bit. in_top refl (3, omega arith, refl)))
+      (All-cons Loads (named_bits [] strobe_port 1) more (by_name [] top strobe_port 1 has.tiles.top_is (strobe_width fabric) (λ bit. in_top refl (4, omega arith, refl)))
+      (All-append Loads (counted fabric.rows (λ y. named_bits [] (row_port y) 32)) (counted fabric.columns (λ x. named_bits [] (column_strobe_name x) 20))
+      (all_counted Loads fabric.rows (λ y. named_bits [] (row_port y) 32) (λ y few.
+      by_name [] top (row_port y) 32 has.tiles.top_is (row_width fabric y few) (λ bit. in_top refl
+      (Contains-append_right fixed (rows ++ columns) (row_port y) (Contains-append_left rows columns (row_port y) (contains_counted fabric.rows row_port y few))))))
       (all_counted Loads fabric.columns (λ x. named_bits [] (column_strobe_name x) 20) (λ x few.
       by_name [] top (column_strobe_name x) 20 has.tiles.top_is (column_width fabric x few) (λ bit. in_top refl
       (Contains-append_right fixed (rows ++ columns) (column_strobe_name x) (Contains-append_right rows columns (column_strobe_name x) (contains_counted fabric.columns column_strobe_name x few))))))))
@@ -171,18 +171,18 @@ module _ (fabric : PlainFabric) (text : List PlainModule) (is : IsFabric fabric)
   loader_loads =
       let rows = fabric.rows in
       let made = loader_of rows next in
-      let front : List NamedBits = named_bits loader_path loaders.address_port 32 ∷ named_bits loader_path loaders.strobe_port 1 ∷ named_bits loader_path loaders.address_register_name 32 ∷ named_bits loader_path strobe_register_name 1 ∷ [] in
+      let front : List NamedBits = named_bits loader_path address_port 32 ∷ named_bits loader_path strobe_port 1 ∷ named_bits loader_path loaders.address_register_name 32 ∷ named_bits loader_path strobe_register_name 1 ∷ [] in
       let of_name : (name : List ℕ) (width : ℕ) → width_of made name ≡ width → Loads (named_bits loader_path name width) = λ name width wide. by_name loader_path made name width has.stands wide (λ bit. in_loader refl) in
-      All-append Loads front (counted rows (λ r. named_bits loader_path (loaders.row_port r) 32) ++ counted rows (λ r. named_bits loader_path (loaders.row_register_name r) 32))
+      All-append Loads front (counted rows (λ r. named_bits loader_path (row_port r) 32) ++ counted rows (λ r. named_bits loader_path (loaders.row_register_name r) 32))
       (each_all Loads front (
-        of_name loaders.address_port 32 refl,
+        of_name address_port 32 refl,
         (
-          of_name loaders.strobe_port 1 refl,
+          of_name strobe_port 1 refl,
           (of_name loaders.address_register_name 32 (address_register_width rows next), (of_name strobe_register_name 1 (strobe_register_width rows next), tt)),
         ),
       ))
-      (All-append Loads (counted rows (λ r. named_bits loader_path (loaders.row_port r) 32)) (counted rows (λ r. named_bits loader_path (loaders.row_register_name r) 32))
-      (all_counted Loads rows (λ r. named_bits loader_path (loaders.row_port r) 32) (λ r few. of_name (loaders.row_port r) 32 (row_port_width rows next r few)))
+      (All-append Loads (counted rows (λ r. named_bits loader_path (row_port r) 32)) (counted rows (λ r. named_bits loader_path (loaders.row_register_name r) 32))
+      (all_counted Loads rows (λ r. named_bits loader_path (row_port r) 32) (λ r few. of_name (row_port r) 32 (row_port_width rows next r few)))
       (all_counted Loads rows (λ r. named_bits loader_path (loaders.row_register_name r) 32) (λ r few. of_name (loaders.row_register_name r) 32 (row_register_width rows next r few))))
 
   module _ (x y : ℕ) (tile : PlainTile) (there : tile_at fabric x y ≡ Some tile) where

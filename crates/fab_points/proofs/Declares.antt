@@ -11,7 +11,7 @@ use Rattle.fab_syntax.specs.declared.tree.Port.{Port}
 use Rattle.fab_syntax.specs.Plain.{PlainModule}
 use Rattle.fab_meaning.specs.Points.{Point, point, module_at}
 use Rattle.fab_meaning.specs.Reads.{is_declared}
-use Rattle.fab_meaning.specs.Runs.{user_clock_name}
+use Rattle.fab_meaning.specs.Runs.{user_clock_name, clock_name}
 use Rattle.fab_meaning.proofs.Modules.{each_all}
 use Rattle.fab_meaning.specs.Ports.{scalar}
 use Rattle.fab_model.specs.declared.tiles.WireRow.{WireRow}
@@ -35,7 +35,7 @@ use Rattle.fab_use.specs.fab_gen_tile.specs.ConfigModule.{frame_ports}
 use Rattle.fab_use.specs.fab_gen_tile.specs.TileModule.{is_on_side, pad_ports, bels_ports, tile_ports, tile_items, tile_module, matrix_input_names, matrix_output_names}
 use Rattle.fab_use.specs.fab_gen_tile.specs.MatrixModule.{matrix_module, numbered_outputs}
 use Rattle.fab_meaning.specs.Loading.{write_strobe_name, write_data_name}
-use Rattle.fab_use.specs.fab_fabric_text.specs.Names.{pad_port_name, begin_wire_name, loader_clock_name}
+use Rattle.fab_use.specs.fab_fabric_text.specs.Names.{pad_port_name, begin_wire_name}
 use Rattle.fab_use.specs.fab_fabric_text.specs.Places.{PlacedTile, placed_tiles}
 use Rattle.fab_use.specs.fab_fabric_text.specs.Top as top
 use Rattle.fab_use.specs.fab_fabric_text.specs.Top.{tile_pads, top_ports, top_items, top_module}
@@ -100,7 +100,7 @@ wide_pads x y placed =
 wide_top : (fabric : PlainFabric) → All IsWide (top_ports fabric)
 wide_top fabric =
     let pads = flat_map tile_pads (placed_tiles fabric) in
-    let front : List Port = scalar true loader_clock_name ∷ scalar true user_clock_name ∷ scalar true write_strobe_name ∷ vector true 32 write_data_name ∷ [] in
+    let front : List Port = scalar true clock_name ∷ scalar true user_clock_name ∷ scalar true write_strobe_name ∷ vector true 32 write_data_name ∷ [] in
     All-append IsWide front pads (each_all IsWide front (omega arith, (omega arith, (omega arith, (omega arith, tt)))))
     (all_flat_map IsWide tile_pads (placed_tiles fabric)
     (all_of (λ (p : PlacedTile). All IsWide (tile_pads p)) (placed_tiles fabric) (λ p.
@@ -112,7 +112,7 @@ leaving_wide : (fabric : PlainFabric) (x y : ℕ) (tile : PlainTile) (number : �
 leaving_wide fabric x y tile number bel port there stands is_pad =
     let one = scalar false (pad_port_name x y number port) in
     let placed : ℕ × Bel = (number, bel) in
-    let front : List Port = scalar true loader_clock_name ∷ scalar true user_clock_name ∷ scalar true write_strobe_name ∷ vector true 32 write_data_name ∷ [] in
+    let front : List Port = scalar true clock_name ∷ scalar true user_clock_name ∷ scalar true write_strobe_name ∷ vector true 32 write_data_name ∷ [] in
     let in_port = λ (name : List ℕ). scalar true (pad_port_name x y number name) in
     let out_port = λ (name : List ℕ). scalar false (pad_port_name x y number name) in
     wide_port (top_ports fabric) (top_items fabric) one (wide_top fabric)

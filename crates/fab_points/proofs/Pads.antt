@@ -9,7 +9,7 @@ use Rattle.fab_syntax.specs.Plain.{PlainModule, variable}
 use Rattle.fab_syntax.specs.Declarations.{is_input, is_input_of}
 use Rattle.fab_meaning.specs.Points.{point, outside, module_at}
 use Rattle.fab_meaning.specs.Settled.{Assignment}
-use Rattle.fab_meaning.specs.Runs.{user_clock_name}
+use Rattle.fab_meaning.specs.Runs.{user_clock_name, clock_name}
 use Rattle.fab_meaning.proofs.Modules.{each_all}
 use Rattle.fab_meaning.specs.Ports.{scalar}
 use Rattle.fab_prim.specs.Ports.{top_name, top_inputs, top_outputs}
@@ -25,7 +25,8 @@ use Rattle.fab_use.specs.fab_gen_tile.specs.Borders.{side_border, border_ports}
 use Rattle.fab_use.specs.fab_gen_tile.specs.ConfigModule.{frame_ports}
 use Rattle.fab_use.specs.fab_gen_tile.specs.TileModule.{pad_ports, bels_ports, tile_ports, tile_module}
 use Rattle.fab_meaning.specs.Loading.{write_strobe_name, write_data_name}
-use Rattle.fab_use.specs.fab_fabric_text.specs.Names.{row_name, column_strobe_name, pad_port_name, loader_clock_name}
+use Rattle.fab_use.specs.fab_fabric_text.specs.Names.{column_strobe_name, pad_port_name}
+use Rattle.fab_use.specs.fab_gen_loader.specs.Loader.{row_port}
 use Rattle.fab_use.specs.fab_fabric_text.specs.Places.{PlacedTile, placed_tiles}
 use Rattle.fab_use.specs.fab_fabric_text.specs.Top as top
 use Rattle.fab_use.specs.fab_fabric_text.specs.Top.{row_joins, pad_joins, tile_joins, tile_pads, top_ports, top_items, top_module}
@@ -123,7 +124,7 @@ which_outside kinds.Mux8 port there = absurd (let few = there.1 in omega (arith,
 pub outside_is_joined : (fabric : PlainFabric) (placed : PlacedTile) (number : ℕ) (bel : Bel) (port : List ℕ) → slice_get placed.tile.bels number ≡ Some bel → Contains (top_outputs bel.kind) port →
     Contains (tile_joins fabric placed) (port_join (pad_name number port) (variable (pad_port_name placed.x placed.y number port)))
 outside_is_joined fabric placed number bel port stands is_pad =
-    let front = same_join user_clock_name ∷ port_join frame_data_name (variable (row_name placed.y)) ∷ port_join frame_strobe_name (variable (column_strobe_name placed.x)) ∷ [] in
+    let front = same_join user_clock_name ∷ port_join frame_data_name (variable (row_port placed.y)) ∷ port_join frame_strobe_name (variable (column_strobe_name placed.x)) ∷ [] in
     let borders = flat_map (row_joins fabric placed) (enumerate_from 0 placed.tile.rows) in
     let pads = flat_map (pad_joins placed.x placed.y) (enumerate_from 0 placed.tile.bels) in
     let pad_join = λ (port : List ℕ). port_join (pad_name number port) (variable (pad_port_name placed.x placed.y number port)) in
@@ -139,7 +140,7 @@ pub top_port : (fabric : PlainFabric) (x y : ℕ) (tile : PlainTile) (number : �
 top_port fabric x y tile number bel port there stands is_pad =
     let one = scalar true (pad_port_name x y number port) in
     let placed : ℕ × Bel = (number, bel) in
-    let front = scalar true loader_clock_name ∷ scalar true user_clock_name ∷ scalar true write_strobe_name ∷ vector true 32 write_data_name ∷ [] in
+    let front = scalar true clock_name ∷ scalar true user_clock_name ∷ scalar true write_strobe_name ∷ vector true 32 write_data_name ∷ [] in
     let in_port = λ (name : List ℕ). scalar true (pad_port_name x y number name) in
     let out_port = λ (name : List ℕ). scalar false (pad_port_name x y number name) in
     Contains-append_right front (flat_map tile_pads (placed_tiles fabric)) one

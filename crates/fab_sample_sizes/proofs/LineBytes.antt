@@ -14,8 +14,9 @@ use Rattle.fab_syntax.specs.Spelling.{expr_text, shape_text, joins_text}
 use Rattle.fab_model.specs.Tiles.{counted}
 use Rattle.fab_gen_tile.specs.Names.{port_join, same_join}
 use Rattle.fab_meaning.specs.Loading.{write_data_name, write_strobe_name}
-use Rattle.fab_gen_loader.specs.Loader.{loader_module_name}
-use Rattle.fab_fabric_text.specs.Names.{address_name, column_strobe_name, loader_clock_name, loader_instance_name, row_name, strobe_name}
+use Rattle.fab_gen_loader.specs.Loader.{loader_module_name, address_port, row_port, strobe_port}
+use Rattle.fab_fabric_text.specs.Names.{column_strobe_name, loader_instance_name}
+use Rattle.fab_meaning.specs.Runs.{clock_name}
 use Rattle.fab_fabric_text.specs.Top.{column_strobes, loader_instance, loader_joins, names_column}
 use Rattle.fab_sample_sizes.proofs.Sums.{of_counted}
 use Rattle.fab_sample_sizes.proofs.Printed.{port_bytes, join_bytes, joins_bytes, item_bytes}
@@ -47,14 +48,14 @@ pub port_line : (input : Bool) (name : List ℕ) → port_bytes (scalar input na
 port_line true name = omega arith
 port_line false name = omega arith
 
-pub row_line : (y : ℕ) → item_bytes (wire (Vector 32) (row_name y)) ≤ 300
-row_line y = omega (arith, wire_is (Vector 32) (row_name y), row_bytes y, range_bytes 32)
+pub row_line : (y : ℕ) → item_bytes (wire (Vector 32) (row_port y)) ≤ 300
+row_line y = omega (arith, wire_is (Vector 32) (row_port y), row_bytes y, range_bytes 32)
 
 pub column_line : (x : ℕ) → item_bytes (wire (Vector 20) (column_strobe_name x)) ≤ 300
 column_line x = omega (arith, wire_is (Vector 20) (column_strobe_name x), column_bytes x, range_bytes 20)
 
 abbrev strobe_value : (x : ℕ) → PlainExpr
-strobe_value x = conditional (operation And (variable strobe_name) (names_column x)) (part address_name 19 0) (constant (bits.digits 20 0))
+strobe_value x = conditional (operation And (variable strobe_port) (names_column x)) (part address_port 19 0) (constant (bits.digits 20 0))
 
 value_bytes : (x : ℕ) → length (expr_text false (strobe_value x)) ≤ 120
 unfolding digits
@@ -67,13 +68,13 @@ strobes_line x = omega (arith, assign_is (column_strobe_name x) (strobe_value x)
 
 -- what is joined beside the rows
 abbrev loader_front : List PlainJoin
-loader_front = map same_join (loader_clock_name ∷ write_strobe_name ∷ write_data_name ∷ address_name ∷ strobe_name ∷ [])
+loader_front = map same_join (clock_name ∷ write_strobe_name ∷ write_data_name ∷ address_port ∷ strobe_port ∷ [])
 
 pub loader_line : (rows : ℕ) → item_bytes (loader_instance rows) ≤ 300 + rows * 300
 loader_line rows =
-    let each : ℕ → PlainJoin = λ y. same_join (row_name y) in
+    let each : ℕ → PlainJoin = λ y. same_join (row_port y) in
     let whole = instance_within loader_module_name loader_instance_name (loader_joins rows) in
     let parts = sum_by-append join_bytes loader_front (counted rows each) in
     let front : sum_by join_bytes loader_front ≤ 200 = lit≤ tt in
-    let rest = of_counted join_bytes 300 rows each (λ y. omega (arith, joined_is (row_name y) (variable (row_name y)), row_bytes y)) in
+    let rest = of_counted join_bytes 300 rows each (λ y. omega (arith, joined_is (row_port y) (variable (row_port y)), row_bytes y)) in
     omega (arith, whole, parts, front, rest)

@@ -8,7 +8,7 @@ use Rattle.std.proofs.lemmas.List.Elements.{All-weaker, All-contains}
 use Rattle.std.proofs.lemmas.List.Sums.{sum_by-cons, sum_by-append}
 use Rattle.fab_kinds.specs.declared.kind.Kind.{Kind}
 use Rattle.fab_kinds.specs.declared.kind.Kind.TheVariants.{Lut4c, Io, Mux8}
-use Rattle.fab_meaning.specs.Runs.{user_clock_name}
+use Rattle.fab_meaning.specs.Runs.{user_clock_name, clock_name}
 use Rattle.fab_syntax.specs.declared.tree.Shape.TheVariants.{Scalar, Vector}
 use Rattle.fab_syntax.specs.Plain.{PlainJoin, variable, wire}
 use Rattle.fab_syntax.specs.Spelling.{expr_text, shape_text}
@@ -26,7 +26,8 @@ use Rattle.fab_gen_tile.specs.Names.{begin_name, end_name, frame_data_name, fram
 use Rattle.fab_gen_tile.specs.Borders.{side_border}
 use Rattle.fab_tile_drives.proofs.Members.{contains_at}
 use Rattle.fab_meaning.specs.Loading.{write_data_name, write_strobe_name}
-use Rattle.fab_fabric_text.specs.Names.{begin_wire_name, column_strobe_name, loader_clock_name, pad_port_name, row_name}
+use Rattle.fab_fabric_text.specs.Names.{begin_wire_name, column_strobe_name, pad_port_name}
+use Rattle.fab_gen_loader.specs.Loader.{row_port}
 use Rattle.fab_fabric_text.specs.Places.{PlacedTile, placed_tiles}
 use Rattle.fab_fabric_text.specs.Top.{end_value, numbered_row, pad_joins, row_joins, tile_instance, tile_joins, top_module}
 use Rattle.fab_drives.proofs.Lists.{all_numbered, all_of}
@@ -41,7 +42,7 @@ use Rattle.fab_sample_sizes.proofs.Tops.{PortsHave, ItemsHave, ports_sum, items_
 
 ports_have : PortsHave port_bytes 300
 ports_have = record {
-  clock = omega (arith, port_line true loader_clock_name);
+  clock = omega (arith, port_line true clock_name);
   user = omega (arith, port_line true user_clock_name);
   strobe = omega (arith, port_line true write_strobe_name);
   word = omega (arith, range_bytes 32, length-append (shape_text (Vector 32)) write_data_name);
@@ -133,14 +134,14 @@ module _ (fabric : PlainFabric) (small : All IsSmallTile fabric.types) where
   tile_joined placed tile =
       let rows : List PlainJoin = flat_map (row_joins fabric placed) (enumerate_from 0 placed.tile.rows) in
       let bels : List PlainJoin = flat_map (pad_joins placed.x placed.y) (enumerate_from 0 placed.tile.bels) in
-      let word : PlainJoin = port_join frame_data_name (variable (row_name placed.y)) in
+      let word : PlainJoin = port_join frame_data_name (variable (row_port placed.y)) in
       let strobe : PlainJoin = port_join frame_strobe_name (variable (column_strobe_name placed.x)) in
       let first = sum_by-cons join_bytes (same_join user_clock_name) (word ∷ strobe ∷ (rows ++ bels)) in
       let second = sum_by-cons join_bytes word (strobe ∷ (rows ++ bels)) in
       let third = sum_by-cons join_bytes strobe (rows ++ bels) in
       let fourth = sum_by-append join_bytes rows bels in
       let clock_is = joined_is user_clock_name (variable user_clock_name) in
-      let word_is = joined_is frame_data_name (variable (row_name placed.y)) in
+      let word_is = joined_is frame_data_name (variable (row_port placed.y)) in
       let strobe_is = joined_is frame_strobe_name (variable (column_strobe_name placed.x)) in
       let of_rows = rows_joined placed tile in
       let of_bels = bels_joined placed tile in

@@ -8,7 +8,7 @@ use Rattle.std.proofs.lemmas.List.Elements.{All-weaker, All-contains}
 use Rattle.std.proofs.lemmas.List.Sums.{sum_by-cons, sum_by-append, sum_by-le}
 use Rattle.fab_kinds.specs.declared.kind.Kind.{Kind}
 use Rattle.fab_kinds.specs.declared.kind.Kind.TheVariants.{Lut4c, Io, Mux8}
-use Rattle.fab_meaning.specs.Runs.{user_clock_name}
+use Rattle.fab_meaning.specs.Runs.{user_clock_name, clock_name}
 use Rattle.fab_syntax.specs.declared.tree.Shape.TheVariants.{Scalar, Vector}
 use Rattle.fab_syntax.specs.declared.tree.Port.{Port}
 use Rattle.fab_syntax.specs.Plain.{PlainItem, wire}
@@ -24,7 +24,8 @@ use Rattle.fab_gen_tile.specs.Names.{vector}
 use Rattle.fab_gen_tile.specs.Borders.{border, side_border}
 use Rattle.fab_tile_drives.proofs.Endings.{all_counted}
 use Rattle.fab_meaning.specs.Loading.{write_strobe_name, write_data_name}
-use Rattle.fab_fabric_text.specs.Names.{loader_clock_name, pad_port_name, address_name, strobe_name, row_name, column_strobe_name, begin_wire_name}
+use Rattle.fab_fabric_text.specs.Names.{pad_port_name, column_strobe_name, begin_wire_name}
+use Rattle.fab_gen_loader.specs.Loader.{address_port, strobe_port, row_port}
 use Rattle.fab_fabric_text.specs.Places.{PlacedTile, placed_at, column_tiles, placed_tiles}
 use Rattle.fab_fabric_text.specs.Top.{pad_ports, tile_pads, top_ports, loader_wires, loader_instance, column_strobes, row_begin_wires, tile_begin_wires, tile_instance, top_items}
 use Rattle.fab_drives.proofs.Lists.{all_of}
@@ -69,7 +70,7 @@ side_few row (Some name) = omega arith
 
 -- no port has more than this
 pub record PortsHave (f : Port → ℕ) (line : ℕ) : Type 0 where
-  pub clock : f (scalar true loader_clock_name) ≤ line
+  pub clock : f (scalar true clock_name) ≤ line
   pub user : f (scalar true user_clock_name) ≤ line
   pub strobe : f (scalar true write_strobe_name) ≤ line
   pub word : f (vector true 32 write_data_name) ≤ line
@@ -105,7 +106,7 @@ module _ (f : Port → ℕ) (line : ℕ) (have : PortsHave f line) where
       let user : Port = scalar true user_clock_name in
       let strobe : Port = scalar true write_strobe_name in
       let word : Port = vector true 32 write_data_name in
-      let first = sum_by-cons f (scalar true loader_clock_name) (user ∷ strobe ∷ word ∷ pads) in
+      let first = sum_by-cons f (scalar true clock_name) (user ∷ strobe ∷ word ∷ pads) in
       let second = sum_by-cons f user (strobe ∷ word ∷ pads) in
       let third = sum_by-cons f strobe (word ∷ pads) in
       let fourth = sum_by-cons f word pads in
@@ -117,9 +118,9 @@ module _ (f : Port → ℕ) (line : ℕ) (have : PortsHave f line) where
 
 -- no line has more than this, nor the instance of the loader and that of a tile
 pub record ItemsHave (f : PlainItem → ℕ) (fabric : PlainFabric) (line loader tile : ℕ) : Type 0 where
-  pub address : f (wire (Vector 32) address_name) ≤ line
-  pub strobe : f (wire Scalar strobe_name) ≤ line
-  pub row : (y : ℕ) → f (wire (Vector 32) (row_name y)) ≤ line
+  pub address : f (wire (Vector 32) address_port) ≤ line
+  pub strobe : f (wire Scalar strobe_port) ≤ line
+  pub row : (y : ℕ) → f (wire (Vector 32) (row_port y)) ≤ line
   pub instance : f (loader_instance fabric.rows) ≤ loader
   pub column : (x : ℕ) → f (wire (Vector 20) (column_strobe_name x)) ≤ line
   pub strobes : (x : ℕ) → f (column_strobes x) ≤ line
@@ -130,10 +131,10 @@ module _ (f : PlainItem → ℕ) (fabric : PlainFabric) (small : All IsSmallTile
     (line loader tile : ℕ) (have : ItemsHave f fabric line loader tile) where
   loader_sum : sum_by f (loader_wires fabric.rows) ≤ 2 * line + fabric.rows * line
   loader_sum =
-      let rows : List PlainItem = counted fabric.rows (λ y. wire (Vector 32) (row_name y)) in
-      let first = sum_by-cons f (wire (Vector 32) address_name) (wire Scalar strobe_name ∷ rows) in
-      let second = sum_by-cons f (wire Scalar strobe_name) rows in
-      let rest = of_counted f line fabric.rows (λ y. wire (Vector 32) (row_name y)) have.row in
+      let rows : List PlainItem = counted fabric.rows (λ y. wire (Vector 32) (row_port y)) in
+      let first = sum_by-cons f (wire (Vector 32) address_port) (wire Scalar strobe_port ∷ rows) in
+      let second = sum_by-cons f (wire Scalar strobe_port) rows in
+      let rest = of_counted f line fabric.rows (λ y. wire (Vector 32) (row_port y)) have.row in
       omega (arith, first, second, rest, have.address, have.strobe)
 
   row_begins : (x y : ℕ) (row : WireRow) → IsShortRow row → sum_by f (row_begin_wires x y row) ≤ 6 * line

@@ -6,7 +6,8 @@ use Rattle.std.proofs.lemmas.List.{length-append}
 use Rattle.fab_model.specs.declared.tiles.WireRow.{WireRow}
 use Rattle.fab_fabric.specs.Names.{place_name}
 use Rattle.fab_gen_tile.specs.Names.{border_name, begin_name, end_name, pad_name}
-use Rattle.fab_fabric_text.specs.Names.{pad_port_name, row_name, column_strobe_name, begin_wire_name}
+use Rattle.fab_fabric_text.specs.Names.{pad_port_name, column_strobe_name, begin_wire_name}
+use Rattle.fab_gen_loader.specs.Loader.{row_port}
 
 -- ---- numbers
 
@@ -49,7 +50,7 @@ end_bytes row bit = omega (arith, border_bytes row.dest bit)
 pub wire_bytes : (x y : ℕ) (row : WireRow) (bit : ℕ) → length (begin_wire_name x y row bit) ≤ side_bytes row.source + 196
 wire_bytes x y row bit = omega (arith, place_bytes x y, border_bytes row.source bit, length-append (place_name x y) (codes "_" ++ border_name row.source bit))
 
-pub row_bytes : (y : ℕ) → length (row_name y) ≤ 67
+pub row_bytes : (y : ℕ) → length (row_port y) ≤ 67
 row_bytes y = omega (arith, decimal_bytes y)
 
 pub column_bytes : (x : ℕ) → length (column_strobe_name x) ≤ 75

@@ -23,7 +23,7 @@ use Rattle.fab_model.specs.Grid.{PlainFabric, tile_at}
 use Rattle.fab_fabric.specs.Fabric.{IsFabric, AreTiles}
 use Rattle.fab_netlist.proofs.Members.{first_in, later_in, first_or_later, in_none}
 use Rattle.fab_gen_tile.specs.Names.{vector}
-use Rattle.fab_fabric_text.specs.Names.{pad_port_name, loader_clock_name}
+use Rattle.fab_fabric_text.specs.Names.{pad_port_name}
 use Rattle.fab_fabric_text.specs.Places.{placed_tiles}
 use Rattle.fab_fabric_text.specs.Top as top
 use Rattle.fab_fabric_text.specs.Top.{tile_pads, top_items, top_module, top_ports}
@@ -95,7 +95,7 @@ pub leaving_port : (fabric : PlainFabric) (x y : ℕ) (tile : PlainTile) (number
 leaving_port fabric x y tile number bel port there stands is_pad =
     let one = scalar false (pad_port_name x y number port) in
     let placed : ℕ × Bel = (number, bel) in
-    let front = scalar true loader_clock_name ∷ scalar true user_clock_name ∷ scalar true write_strobe_name ∷ vector true 32 write_data_name ∷ [] in
+    let front = scalar true clock_name ∷ scalar true user_clock_name ∷ scalar true write_strobe_name ∷ vector true 32 write_data_name ∷ [] in
     let in_port = λ (name : List ℕ). scalar true (pad_port_name x y number name) in
     let out_port = λ (name : List ℕ). scalar false (pad_port_name x y number name) in
     Contains-append_right front (flat_map tile_pads (placed_tiles fabric)) one

@@ -18,8 +18,9 @@ use Rattle.fab_drives.specs.fab_fabric.specs.Names.{place_name}
 use Rattle.fab_drives.specs.fab_gen_tile.specs.Names.{tile_module_name, config_module_name, config_instance_name, frame_data_name, frame_strobe_name, bits_name, latch_name, vector, port_join}
 use Rattle.fab_drives.specs.fab_gen_tile.specs.ConfigModule.{bit_latch, all_latches, config_items, config_module}
 use Rattle.fab_drives.specs.fab_gen_tile.specs.TileModule.{config_joins, tile_module}
-use Rattle.fab_drives.specs.fab_gen_loader.specs.Loader.{NextValues, loader_of, loader_module_name}
-use Rattle.fab_drives.specs.fab_fabric_text.specs.Names.{loader_instance_name, loader_clock_name, address_name, strobe_name, row_name, column_strobe_name}
+use Rattle.fab_drives.specs.fab_gen_loader.specs.Loader.{NextValues, loader_of, loader_module_name, address_port, strobe_port, row_port}
+use Rattle.fab_drives.specs.fab_fabric_text.specs.Names.{loader_instance_name, column_strobe_name}
+use Rattle.fab_meaning.specs.Runs.{clock_name}
 use Rattle.fab_drives.specs.fab_fabric_text.specs.Top.{loader_wires, loader_joins, loader_instance, column_strobes, tile_joins, top_items, top_module}
 use Rattle.fab_parts_sound.proofs.Lists.{all_reverse}
 use Rattle.fab_drives.specs.fab_tile_drives.proofs.BitValues.{inside}
@@ -56,12 +57,12 @@ latch_there tile bit few =
     Contains-append_right (counted (tile_bits tile) (λ bit. reg Scalar (latch_name bit))) _ (bit_latch tile bit)
     (Contains-append_left (counted (tile_bits tile) (bit_latch tile)) _ (bit_latch tile bit) (contains_counted (tile_bits tile) (bit_latch tile) bit few))
 
-pub row_joined : (rows row : ℕ) → row < rows → Contains (loader_joins rows) (port_join (row_name row) (variable (row_name row)))
+pub row_joined : (rows row : ℕ) → row < rows → Contains (loader_joins rows) (port_join (row_port row) (variable (row_port row)))
 row_joined rows row within =
-    Contains-append_right (port_join loader_clock_name (variable loader_clock_name) ∷ port_join write_strobe_name (variable write_strobe_name) ∷ port_join write_data_name (variable write_data_name)
-    ∷ port_join address_name (variable address_name) ∷ port_join strobe_name (variable strobe_name) ∷ [])
-    (counted rows (λ y. port_join (row_name y) (variable (row_name y)))) (port_join (row_name row) (variable (row_name row)))
-    (contains_counted rows (λ y. port_join (row_name y) (variable (row_name y))) row within)
+    Contains-append_right (port_join clock_name (variable clock_name) ∷ port_join write_strobe_name (variable write_strobe_name) ∷ port_join write_data_name (variable write_data_name)
+    ∷ port_join address_port (variable address_port) ∷ port_join strobe_port (variable strobe_port) ∷ [])
+    (counted rows (λ y. port_join (row_port y) (variable (row_port y)))) (port_join (row_port row) (variable (row_port row)))
+    (contains_counted rows (λ y. port_join (row_port y) (variable (row_port y))) row within)
 
 -- what holds of the names of all parts holds of each name that is mentioned
 parts_mention : (P : List ℕ → Type 0) (es : List PlainExpr) → All (λ e. (name : List ℕ) → mentions e name ≡ true → P name) es →
@@ -95,30 +96,30 @@ module _ (fabric : PlainFabric) (next : NextValues) (text : List PlainModule) (h
       (joined_from text [] (top_module fabric) has.tiles.top_is loader loader_module_name loader_instance_name (loader_joins fabric.rows) has.named (loader_there fabric) name name bit among output)
       (loader_within fabric next text has name bit inner)
 
-  address_within : Are [] address_name
-  address_within = from_loader address_name 32 (3, omega arith, refl) refl (address_width fabric) refl
+  address_within : Are [] address_port
+  address_within = from_loader address_port 32 (3, omega arith, refl) refl (address_width fabric) refl
 
-  loader_strobe_within : Are [] strobe_name
-  loader_strobe_within = from_loader strobe_name 1 (4, omega arith, refl) refl (strobe_width fabric) refl
+  loader_strobe_within : Are [] strobe_port
+  loader_strobe_within = from_loader strobe_port 1 (4, omega arith, refl) refl (strobe_width fabric) refl
 
-  row_within : (y : ℕ) → y < fabric.rows → Are [] (row_name y)
-  row_within y few = from_loader (row_name y) 32 (row_joined fabric.rows y few) (row_is_output fabric.rows next y) (row_width fabric y few) (row_port_width fabric.rows next y few)
+  row_within : (y : ℕ) → y < fabric.rows → Are [] (row_port y)
+  row_within y few = from_loader (row_port y) 32 (row_joined fabric.rows y few) (row_is_output fabric.rows next y) (row_width fabric y few) (row_port_width fabric.rows next y few)
 
   column_within : (x : ℕ) → x < fabric.columns → Are [] (column_strobe_name x)
   column_within x few bit declared =
       let F = flops fabric next text has in
       expression_within text F (point [] (column_strobe_name x) bit) [] (strobe_expression x) bit declared
       (assigned_by text [] (top_module fabric) has.tiles.top_is (column_strobe_name x) (strobe_expression x) bit (strobes_there fabric x few))
-      (λ name mentioned. elim (or_cases (bytes_eq strobe_name name || (bytes_eq address_name name || false)) (bytes_eq address_name name || false) mentioned) [
-        | inl test ↦ elim (or_cases (bytes_eq strobe_name name) (bytes_eq address_name name || false) test) [
-          | inl strobe ↦ only_name text F [] strobe_name loader_strobe_within name strobe
-          | inr other ↦ elim (or_cases (bytes_eq address_name name) false other) [
-            | inl address ↦ only_name text F [] address_name address_within name address
+      (λ name mentioned. elim (or_cases (bytes_eq strobe_port name || (bytes_eq address_port name || false)) (bytes_eq address_port name || false) mentioned) [
+        | inl test ↦ elim (or_cases (bytes_eq strobe_port name) (bytes_eq address_port name || false) test) [
+          | inl strobe ↦ only_name text F [] strobe_port loader_strobe_within name strobe
+          | inr other ↦ elim (or_cases (bytes_eq address_port name) false other) [
+            | inl address ↦ only_name text F [] address_port address_within name address
             | inr none ↦ absurd (false≢true none)
           ]
         ]
-        | inr other ↦ elim (or_cases (bytes_eq address_name name) false other) [
-          | inl address ↦ only_name text F [] address_name address_within name address
+        | inr other ↦ elim (or_cases (bytes_eq address_port name) false other) [
+          | inl address ↦ only_name text F [] address_port address_within name address
           | inr none ↦ absurd (false≢true none)
         ]
       ])
@@ -126,11 +127,11 @@ module _ (fabric : PlainFabric) (next : NextValues) (text : List PlainModule) (h
   top_within : All (Are []) (top_names fabric)
   top_within =
       let P = Are [] in
-      let fixed : List (List ℕ) = loader_clock_name ∷ write_strobe_name ∷ write_data_name ∷ address_name ∷ strobe_name ∷ [] in
-      All-append P fixed (counted fabric.rows row_name ++ counted fabric.columns column_strobe_name)
+      let fixed : List (List ℕ) = clock_name ∷ write_strobe_name ∷ write_data_name ∷ address_port ∷ strobe_port ∷ [] in
+      All-append P fixed (counted fabric.rows row_port ++ counted fabric.columns column_strobe_name)
       (each_all P fixed (clock_within fabric next text has, (strobe_within fabric next text has, (data_within fabric next text has, (address_within, (loader_strobe_within, tt))))))
-      (All-append P (counted fabric.rows row_name) (counted fabric.columns column_strobe_name)
-      (all_counted P fabric.rows row_name row_within)
+      (All-append P (counted fabric.rows row_port) (counted fabric.columns column_strobe_name)
+      (all_counted P fabric.rows row_port row_within)
       (all_counted P fabric.columns column_strobe_name column_within))
 
   -- ---- a tile
@@ -148,7 +149,7 @@ module _ (fabric : PlainFabric) (next : NextValues) (text : List PlainModule) (h
         is
 
     data_here : Are (place_path x y) frame_data_name
-    data_here = tile_input_within frame_data_name (row_name y) (1, omega arith, refl) refl (row_within y (in_grid fabric x y tile there).1)
+    data_here = tile_input_within frame_data_name (row_port y) (1, omega arith, refl) refl (row_within y (in_grid fabric x y tile there).1)
 
     strobe_here : Are (place_path x y) frame_strobe_name
     strobe_here = tile_input_within frame_strobe_name (column_strobe_name x) (2, omega arith, refl) refl (column_within x (in_grid fabric x y tile there).0)

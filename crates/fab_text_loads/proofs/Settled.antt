@@ -19,10 +19,10 @@ use Rattle.fab_drives.specs.fab_gen_tile.specs.Names.{tile_module_name, config_m
 use Rattle.fab_drives.specs.fab_gen_tile.specs.ConfigModule.{config_module}
 use Rattle.fab_drives.specs.fab_gen_tile.specs.TileModule.{config_joins, tile_module}
 use Rattle.fab_drives.specs.fab_gen_loader.specs.Machine.{Machine}
-use Rattle.fab_drives.specs.fab_gen_loader.specs.Loader.{NextValues, outputs, loader_of, machine_at, bits_at, strobe_register_name, address_register_name as address_register, row_register_name, loader_module_name}
+use Rattle.fab_drives.specs.fab_gen_loader.specs.Loader.{NextValues, outputs, loader_of, machine_at, bits_at, strobe_register_name, address_register_name as address_register, row_register_name, loader_module_name, address_port, strobe_port, row_port}
 use Rattle.fab_drives.specs.fab_gen_loader.proofs.Counted.{get_counted}
 use Rattle.fab_drives.specs.fab_gen_loader.proofs.Widths.{address_width as address_register_width, row_width as row_register_width}
-use Rattle.fab_drives.specs.fab_fabric_text.specs.Names.{loader_instance_name, address_name, strobe_name, row_name, column_strobe_name}
+use Rattle.fab_drives.specs.fab_fabric_text.specs.Names.{loader_instance_name, column_strobe_name}
 use Rattle.fab_drives.specs.fab_fabric_text.specs.Top.{loader_joins, tile_joins, top_module}
 use Rattle.fab_drives.specs.fab_tile_drives.specs.Stands.{IsSettledOnDeclared}
 use Rattle.fab_drives.specs.fab_tile_drives.proofs.Driven.{width_of, declared_at, variable_bit, part_bit, assigned, joined_in, joined_out}
@@ -101,30 +101,30 @@ module _ (fabric : PlainFabric) (next : NextValues) (text : List PlainModule) (h
       ∙ variable_bit text now loader_path loader has.stands register bit (omega (arith, inner, few))
       ∙ register_shows register bit listed_register (omega (arith, inner, few))
 
-  address_shows : (bit : ℕ) → bit < 32 → now (point [] address_name bit) ≡ held (point loader_path address_register bit)
+  address_shows : (bit : ℕ) → bit < 32 → now (point [] address_port bit) ≡ held (point loader_path address_register bit)
   address_shows bit few =
-      driven_shows address_name address_register 32 bit (3, omega arith, refl) (3, omega arith, refl) refl (0, omega arith, refl) (2, omega arith, refl)
+      driven_shows address_port address_register 32 bit (3, omega arith, refl) (3, omega arith, refl) refl (0, omega arith, refl) (2, omega arith, refl)
       (address_width fabric) refl (address_register_width fabric.rows next) few
 
-  strobe_shows : now (point [] strobe_name 0) ≡ held (point loader_path strobe_register_name 0)
+  strobe_shows : now (point [] strobe_port 0) ≡ held (point loader_path strobe_register_name 0)
   strobe_shows =
-      driven_shows strobe_name strobe_register_name 1 0 (4, omega arith, refl) (4, omega arith, refl) refl (1, omega arith, refl) (3, omega arith, refl)
+      driven_shows strobe_port strobe_register_name 1 0 (4, omega arith, refl) (4, omega arith, refl) refl (1, omega arith, refl) (3, omega arith, refl)
       (strobe_width fabric) refl (strobe_register_width fabric.rows next) (omega arith)
 
-  row_listed : (y : ℕ) → y < fabric.rows → Contains (top_names fabric) (row_name y)
+  row_listed : (y : ℕ) → y < fabric.rows → Contains (top_names fabric) (row_port y)
   row_listed y few =
-      Contains-append_right (clock_name ∷ write_strobe_name ∷ write_data_name ∷ address_name ∷ strobe_name ∷ []) _ (row_name y)
-      (Contains-append_left (counted fabric.rows row_name) (counted fabric.columns column_strobe_name) (row_name y) (contains_counted fabric.rows row_name y few))
+      Contains-append_right (clock_name ∷ write_strobe_name ∷ write_data_name ∷ address_port ∷ strobe_port ∷ []) _ (row_port y)
+      (Contains-append_left (counted fabric.rows row_port) (counted fabric.columns column_strobe_name) (row_port y) (contains_counted fabric.rows row_port y few))
 
   column_listed : (x : ℕ) → x < fabric.columns → Contains (top_names fabric) (column_strobe_name x)
   column_listed x few =
-      Contains-append_right (clock_name ∷ write_strobe_name ∷ write_data_name ∷ address_name ∷ strobe_name ∷ []) _ (column_strobe_name x)
-      (Contains-append_right (counted fabric.rows row_name) (counted fabric.columns column_strobe_name) (column_strobe_name x)
+      Contains-append_right (clock_name ∷ write_strobe_name ∷ write_data_name ∷ address_port ∷ strobe_port ∷ []) _ (column_strobe_name x)
+      (Contains-append_right (counted fabric.rows row_port) (counted fabric.columns column_strobe_name) (column_strobe_name x)
       (contains_counted fabric.columns column_strobe_name x few))
 
-  row_shows : (y bit : ℕ) → y < fabric.rows → bit < 32 → now (point [] (row_name y) bit) ≡ held (point loader_path (row_register_name y) bit)
+  row_shows : (y bit : ℕ) → y < fabric.rows → bit < 32 → now (point [] (row_port y) bit) ≡ held (point loader_path (row_register_name y) bit)
   row_shows y bit within few =
-      driven_shows (row_name y) (row_register_name y) 32 bit (row_listed y within) (row_joined fabric.rows y within) (row_is_output fabric.rows next y)
+      driven_shows (row_port y) (row_register_name y) 32 bit (row_listed y within) (row_joined fabric.rows y within) (row_is_output fabric.rows next y)
       (row_output_there fabric.rows y within) (row_register fabric.rows y within)
       (row_width fabric y within) (row_port_width fabric.rows next y within) (row_register_width fabric.rows next y within) few
 
@@ -138,11 +138,11 @@ module _ (fabric : PlainFabric) (next : NextValues) (text : List PlainModule) (h
       ≡ (machine.strobe && (nat_eq (number (slice_range machine.address 27 32)) x && bit_at machine.address frame))
   column_shows x frame within few =
       let few_columns = is.few_columns in
-      let strobe : names_at text now [] strobe_name ≡ held (point loader_path strobe_register_name 0) ∷ [] =
-      bits_of_name text now [] top strobe_name 1 has.tiles.top_is (strobe_width fabric) ∙ ap (λ bit. bit ∷ []) strobe_shows in
-      let address : names_at text now [] address_name ≡ bits_at held loader_path address_register 32 =
-      bits_of_name text now [] top address_name 32 has.tiles.top_is (address_width fabric)
-      ∙ first_bits_same 32 (λ bit. now (point [] address_name bit)) (λ bit. held (point loader_path address_register bit)) address_shows in
+      let strobe : names_at text now [] strobe_port ≡ held (point loader_path strobe_register_name 0) ∷ [] =
+      bits_of_name text now [] top strobe_port 1 has.tiles.top_is (strobe_width fabric) ∙ ap (λ bit. bit ∷ []) strobe_shows in
+      let address : names_at text now [] address_port ≡ bits_at held loader_path address_register 32 =
+      bits_of_name text now [] top address_port 32 has.tiles.top_is (address_width fabric)
+      ∙ first_bits_same 32 (λ bit. now (point [] address_port bit)) (λ bit. held (point loader_path address_register bit)) address_shows in
       assigned (IsLoadingPoint fabric) text inputs held now on_named [] top (column_strobe_name x) (strobe_expression x) frame has.tiles.top_is (strobes_there fabric x within)
       (omega (arith, few, column_width fabric x within)) (in_top refl (column_listed x within))
       ∙ strobe_value (λ bit. held (point loader_path address_register bit)) (names_at text now []) (held (point loader_path strobe_register_name 0)) x frame strobe address
@@ -182,10 +182,10 @@ module _ (fabric : PlainFabric) (next : NextValues) (text : List PlainModule) (h
           ∙ tile_input_shows frame_strobe_name (column_strobe_name x) frame (2, omega arith, refl) refl few
           (omega (arith, few, column_width fabric x (in_grid fabric x y tile there).0)) (in_tile x y tile there refl (1, omega arith, refl))
 
-      data_comes : (bit : ℕ) → bit < 32 → now (point (config_path x y) frame_data_name bit) ≡ now (point [] (row_name y) bit)
+      data_comes : (bit : ℕ) → bit < 32 → now (point (config_path x y) frame_data_name bit) ≡ now (point [] (row_port y) bit)
       data_comes bit few =
           config_input_shows frame_data_name bit (0, omega arith, refl) refl few few
-          ∙ tile_input_shows frame_data_name (row_name y) bit (1, omega arith, refl) refl few
+          ∙ tile_input_shows frame_data_name (row_port y) bit (1, omega arith, refl) refl few
           (omega (arith, few, row_width fabric y (in_grid fabric x y tile there).1)) (in_tile x y tile there refl (0, omega arith, refl))
 
       module _ (number_of_bit : ℕ) (few : number_of_bit < tile_bits tile) (few_frame : (latch_place x y tile number_of_bit).frame < 20)

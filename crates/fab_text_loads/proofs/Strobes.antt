@@ -5,11 +5,11 @@ use Rattle.fab_bits.proofs.Numbers.{same_bits_digits, length_first_bits, range_f
 use Rattle.fab_syntax.specs.declared.tree.Op.TheVariants.{And}
 use Rattle.fab_syntax.specs.Plain.{PlainExpr, variable, part, constant, operation, conditional}
 use Rattle.fab_meaning.specs.Value.{value, bit_at}
-use Rattle.fab_drives.specs.fab_fabric_text.specs.Names.{address_name, strobe_name}
+use Rattle.fab_drives.specs.fab_gen_loader.specs.Loader.{address_port, strobe_port}
 use Rattle.fab_drives.specs.fab_fabric_text.specs.Top.{names_column}
 
 abbrev pub strobe_expression : (x : ℕ) → PlainExpr
-strobe_expression x = conditional (operation And (variable strobe_name) (names_column x)) (part address_name 19 0) (constant (digits 20 0))
+strobe_expression x = conditional (operation And (variable strobe_port) (names_column x)) (part address_port 19 0) (constant (digits 20 0))
 
 -- bits are those of a number at their width
 same_at : (bits : List Bool) (width n : ℕ) → length bits ≡ width → n < 2 ^ width → same_bits bits (digits width n) ≡ nat_eq (number bits) n
@@ -46,7 +46,7 @@ module _ (f : ℕ → Bool) where
   named : (x : ℕ) → x < 32 → same_bits (slice_range word 27 32) (digits 5 x) ≡ nat_eq (number (slice_range word 27 32)) x
   named x few = same_at (slice_range word 27 32) 5 x (ap length high_bits ∙ length_first_bits 5 (λ bit. f (27 + bit))) (omega arith)
 
-  pub strobe_value : (names : List ℕ → List Bool) (strobe : Bool) (x frame : ℕ) → names strobe_name ≡ strobe ∷ [] → names address_name ≡ word → x < 32 → frame < 20 →
+  pub strobe_value : (names : List ℕ → List Bool) (strobe : Bool) (x frame : ℕ) → names strobe_port ≡ strobe ∷ [] → names address_port ≡ word → x < 32 → frame < 20 →
       bit_at (value names (strobe_expression x)) frame ≡ (strobe && (nat_eq (number (slice_range word 27 32)) x && bit_at word frame))
   strobe_value names strobe x frame strobe_is address_is few_x few =
       rw (strobe_is, address_is)

@@ -6,7 +6,7 @@ use Rattle.fab_syntax.specs.declared.tree.Shape.TheVariants.{Vector}
 use Rattle.fab_syntax.specs.declared.tree.Port.{Port}
 use Rattle.fab_syntax.specs.Plain.{PlainItem, wire}
 use Rattle.fab_syntax.specs.Declarations.{width_if_any, item_shape}
-use Rattle.fab_meaning.specs.Runs.{user_clock_name}
+use Rattle.fab_meaning.specs.Runs.{user_clock_name, clock_name}
 use Rattle.fab_meaning.specs.Ports.{scalar}
 use Rattle.fab_drives.specs.fab_prim.specs.Ports.{top_inputs, top_outputs}
 use Rattle.fab_drives.specs.fab_model.specs.declared.tiles.Bel.{Bel}
@@ -14,7 +14,8 @@ use Rattle.fab_drives.specs.fab_model.specs.Tiles.{counted}
 use Rattle.fab_drives.specs.fab_model.specs.Grid.{PlainFabric}
 use Rattle.fab_drives.specs.fab_gen_tile.specs.Names.{vector}
 use Rattle.fab_meaning.specs.Loading.{write_strobe_name, write_data_name}
-use Rattle.fab_drives.specs.fab_fabric_text.specs.Names.{loader_clock_name, address_name, strobe_name, row_name, column_strobe_name, pad_port_name}
+use Rattle.fab_drives.specs.fab_fabric_text.specs.Names.{column_strobe_name, pad_port_name}
+use Rattle.fab_drives.specs.fab_gen_loader.specs.Loader.{address_port, strobe_port, row_port}
 use Rattle.fab_drives.specs.fab_fabric_text.specs.Places.{PlacedTile, placed_tiles}
 use Rattle.fab_drives.specs.fab_fabric_text.specs.Top.{pad_ports, tile_pads, top_ports, loader_instance, column_strobes, tile_begin_wires, tile_instance, top_items, top_module}
 use Rattle.fab_drives.specs.fab_tile_drives.proofs.Driven.{width_of}
@@ -46,8 +47,8 @@ module _ (name : List ℕ) (no_pad : nat_eq 88 (letter_of name) ≡ false) where
       All Differs (top_ports fabric)
   ports_differ fabric no_clock no_user no_write =
       let pads = flat_map tile_pads (placed_tiles fabric) in
-      All-cons Differs (scalar true loader_clock_name) (scalar true user_clock_name ∷ scalar true write_strobe_name ∷ vector true 32 write_data_name ∷ pads)
-      (told_apart 0 loader_clock_name name no_clock)
+      All-cons Differs (scalar true clock_name) (scalar true user_clock_name ∷ scalar true write_strobe_name ∷ vector true 32 write_data_name ∷ pads)
+      (told_apart 0 clock_name name no_clock)
       (All-cons Differs (scalar true user_clock_name) (scalar true write_strobe_name ∷ vector true 32 write_data_name ∷ pads) (told_apart 0 user_clock_name name no_user)
       (All-cons Differs (scalar true write_strobe_name) (vector true 32 write_data_name ∷ pads) (told_apart 0 write_strobe_name name no_write)
       (All-cons Differs (vector true 32 write_data_name) pads (told_apart 0 write_data_name name no_write)
@@ -69,19 +70,19 @@ module _ (fabric : PlainFabric) where
       ++ (flat_map tile_begin_wires (placed_tiles fabric)
       ++ map (tile_instance fabric) (placed_tiles fabric)))
 
-  pub address_width : width_of (top_module fabric) address_name ≡ 32
-  address_width = net_width address_name refl fabric refl refl refl
+  pub address_width : width_of (top_module fabric) address_port ≡ 32
+  address_width = net_width address_port refl fabric refl refl refl
 
-  pub strobe_width : width_of (top_module fabric) strobe_name ≡ 1
-  strobe_width = net_width strobe_name refl fabric refl refl refl
+  pub strobe_width : width_of (top_module fabric) strobe_port ≡ 1
+  strobe_width = net_width strobe_port refl fabric refl refl refl
 
-  pub row_width : (y : ℕ) → y < fabric.rows → width_of (top_module fabric) (row_name y) ≡ 32
+  pub row_width : (y : ℕ) → y < fabric.rows → width_of (top_module fabric) (row_port y) ≡ 32
   row_width y within =
-      net_width (row_name y) refl fabric refl refl refl
-      ∙ ap width_if_any (wire_found (Vector 32) row_name (loader_instance fabric.rows ∷ behind_loader) fabric.rows y within)
+      net_width (row_port y) refl fabric refl refl refl
+      ∙ ap width_if_any (wire_found (Vector 32) row_port (loader_instance fabric.rows ∷ behind_loader) fabric.rows y within)
 
   pub column_width : (x : ℕ) → x < fabric.columns → width_of (top_module fabric) (column_strobe_name x) ≡ 20
   column_width x within =
       net_width (column_strobe_name x) refl fabric refl refl refl
-      ∙ ap width_if_any (wires_passed (Vector 32) row_name (loader_instance fabric.rows ∷ behind_loader) (column_strobe_name x) fabric.rows (λ y. refl)
+      ∙ ap width_if_any (wires_passed (Vector 32) row_port (loader_instance fabric.rows ∷ behind_loader) (column_strobe_name x) fabric.rows (λ y. refl)
       ∙ wire_found (Vector 20) column_strobe_name _ fabric.columns x within)

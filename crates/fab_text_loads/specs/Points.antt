@@ -5,7 +5,9 @@ use Rattle.fab_drives.specs.fab_model.specs.Tiles.{PlainTile, counted}
 use Rattle.fab_drives.specs.fab_model.specs.Grid.{PlainFabric, tile_at}
 use Rattle.fab_drives.specs.fab_gen_tile.specs.Names.{config_instance_name, frame_data_name, frame_strobe_name, bits_name}
 use Rattle.fab_meaning.specs.Loading.{write_strobe_name, write_data_name}
-use Rattle.fab_drives.specs.fab_fabric_text.specs.Names.{loader_instance_name, loader_clock_name, address_name, strobe_name, row_name, column_strobe_name}
+use Rattle.fab_drives.specs.fab_fabric_text.specs.Names.{loader_instance_name, column_strobe_name}
+use Rattle.fab_meaning.specs.Runs.{clock_name}
+use Rattle.fab_drives.specs.fab_gen_loader.specs.Loader.{address_port, strobe_port, row_port}
 use Rattle.fab_drives.specs.Points.{place_path}
 
 abbrev pub loader_path : Path
@@ -17,8 +19,8 @@ config_path x y = config_instance_name ∷ place_path x y
 -- the top's inputs that carry words, the wires that the loader drives, and the strobes of the columns
 abbrev pub top_names : PlainFabric → List (List ℕ)
 top_names fabric =
-    loader_clock_name ∷ write_strobe_name ∷ write_data_name ∷ address_name ∷ strobe_name
-    ∷ (counted fabric.rows row_name ++ counted fabric.columns column_strobe_name)
+    clock_name ∷ write_strobe_name ∷ write_data_name ∷ address_port ∷ strobe_port
+    ∷ (counted fabric.rows row_port ++ counted fabric.columns column_strobe_name)
 
 -- what a tile has of the frames, and its configuration bits
 abbrev pub tile_names : List (List ℕ)

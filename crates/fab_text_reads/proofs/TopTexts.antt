@@ -7,7 +7,7 @@ use Rattle.std.proofs.lemmas.Option.{slice_get_within, get_or_from_slice_get}
 use Rattle.std.proofs.lemmas.List.Elements.{All-append, All-cons, All-nil, All-map, All-weaker, All-contains}
 use Rattle.fab_kinds.specs.declared.kind.Kind.{Kind}
 use Rattle.fab_kinds.specs.declared.kind.Kind.TheVariants.{Lut4c, Io, Mux8}
-use Rattle.fab_meaning.specs.Runs.{user_clock_name}
+use Rattle.fab_meaning.specs.Runs.{user_clock_name, clock_name}
 use Rattle.fab_syntax.specs.declared.tree.Shape.TheVariants.{Scalar, Vector}
 use Rattle.fab_syntax.specs.Plain.{PlainItem, PlainJoin, variable, wire}
 use Rattle.fab_meaning.specs.Ports.{scalar}
@@ -25,8 +25,8 @@ use Rattle.fab_gen_tile.specs.Words.{IsFreeName}
 use Rattle.fab_gen_tile.specs.Names.{begin_name, border_name, end_name, frame_data_name, frame_strobe_name, port_join, letter, pad_name, same_join}
 use Rattle.fab_gen_tile.specs.Borders.{side_border}
 use Rattle.fab_meaning.specs.Loading.{write_data_name, write_strobe_name}
-use Rattle.fab_gen_loader.specs.Loader.{loader_module_name}
-use Rattle.fab_drives.specs.fab_fabric_text.specs.Names.{address_name, begin_wire_name, column_strobe_name, loader_clock_name, loader_instance_name, pad_port_name, row_name, strobe_name, top_module_name}
+use Rattle.fab_gen_loader.specs.Loader.{loader_module_name, address_port, row_port, strobe_port}
+use Rattle.fab_drives.specs.fab_fabric_text.specs.Names.{begin_wire_name, column_strobe_name, loader_instance_name, pad_port_name, top_module_name}
 use Rattle.fab_drives.specs.fab_fabric_text.specs.Places.{PlacedTile, placed_tiles}
 use Rattle.fab_drives.specs.fab_fabric_text.specs.Top.{column_strobes, end_value, loader_instance, loader_joins, loader_wires, numbered_row, pad_joins, pad_ports, row_begin_wires, row_joins, tile_begin_wires, tile_instance, tile_joins, tile_pads, top_items, top_module}
 use Rattle.fab_drives.proofs.Modules.{tile_of_types}
@@ -65,15 +65,15 @@ pad_is x y bel port few bytes =
 wire_is : (x y : ℕ) (row : WireRow) (bit : ℕ) → ForSome row.source IsFreeName → IsIdentifier (begin_wire_name x y row bit)
 wire_is x y row bit free = at_place x y (codes "_" ++ border_name row.source bit) (all_both is_word_byte (codes "_") (border_name row.source bit) refl (border_bytes row.source bit free))
 
-row_is : (y : ℕ) → IsIdentifier (row_name y)
+row_is : (y : ℕ) → IsIdentifier (row_port y)
 row_is y = numbered_name (codes "Row") y refl refl
 
 column_is : (x : ℕ) → IsIdentifier (column_strobe_name x)
 column_is x = numbered_name (codes "fab_strobe_") x refl refl
 
-loader_clock_is : IsIdentifier loader_clock_name
+loader_clock_is : IsIdentifier clock_name
 unfolding keyword_of
-loader_clock_is = name_of loader_clock_name refl
+loader_clock_is = name_of clock_name refl
 
 write_is : IsIdentifier write_strobe_name
 unfolding keyword_of
@@ -83,13 +83,13 @@ write_data_is : IsIdentifier write_data_name
 unfolding keyword_of
 write_data_is = name_of write_data_name refl
 
-address_is : IsIdentifier address_name
+address_is : IsIdentifier address_port
 unfolding keyword_of
-address_is = name_of address_name refl
+address_is = name_of address_port refl
 
-strobe_name_is : IsIdentifier strobe_name
+strobe_name_is : IsIdentifier strobe_port
 unfolding keyword_of
-strobe_name_is = name_of strobe_name refl
+strobe_name_is = name_of strobe_port refl
 
 -- ---- ports
 
@@ -117,16 +117,16 @@ pads_printable placed fits =
 
 rows_joined : (rows : ℕ) → All IsJoin (loader_joins rows)
 rows_joined rows =
-    let each : ℕ → PlainJoin = λ (y : ℕ). same_join (row_name y) in
+    let each : ℕ → PlainJoin = λ (y : ℕ). same_join (row_port y) in
     all_joins (loader_joins rows) (
-      same_is loader_clock_name loader_clock_is,
+      same_is clock_name loader_clock_is,
       (
         same_is write_strobe_name write_is,
         (
           same_is write_data_name write_data_is,
           (
-            same_is address_name address_is,
-            (same_is strobe_name strobe_name_is, joins_of (counted rows each) (all_counted IsJoin rows each (λ y few. same_is (row_name y) (row_is y)))),
+            same_is address_port address_is,
+            (same_is strobe_port strobe_name_is, joins_of (counted rows each) (all_counted IsJoin rows each (λ y few. same_is (row_port y) (row_is y)))),
           ),
         ),
       ),
@@ -134,7 +134,7 @@ rows_joined rows =
 
 wires_of_loader : (rows : ℕ) → All IsItem (loader_wires rows)
 wires_of_loader rows =
-    let each : ℕ → PlainItem = λ (y : ℕ). wire (Vector 32) (row_name y) in
+    let each : ℕ → PlainItem = λ (y : ℕ). wire (Vector 32) (row_port y) in
     all_items (loader_wires rows) (((lit< tt, lit≤ tt), address_is), ((tt, strobe_name_is), items_of (counted rows each) (all_counted IsItem rows each (λ y few. ((lit< tt, lit≤ tt), row_is y)))))
 
 loader_is : (rows : ℕ) → IsItem (loader_instance rows)
@@ -242,7 +242,7 @@ module _ (fabric : PlainFabric) (is : IsFabric fabric) (written : All IsWritten 
       all_joins (tile_joins fabric placed) (
         same_is user_clock_name clock_is,
         (
-          join_is frame_data_name (row_name placed.y) data_is (row_is placed.y),
+          join_is frame_data_name (row_port placed.y) data_is (row_is placed.y),
           (
             join_is frame_strobe_name (column_strobe_name placed.x) strobe_is (column_is placed.x),
             joins_of rest

@@ -8,7 +8,7 @@ use Rattle.std.proofs.lemmas.List.Kept.{AllPairs-cons}
 use Rattle.fab_syntax.specs.declared.tree.Shape.TheVariants.{Scalar, Vector}
 use Rattle.fab_syntax.specs.declared.tree.Port.{Port}
 use Rattle.fab_syntax.specs.Plain.{PlainItem, wire}
-use Rattle.fab_meaning.specs.Runs.{user_clock_name}
+use Rattle.fab_meaning.specs.Runs.{user_clock_name, clock_name}
 use Rattle.fab_meaning.specs.Ports.{scalar}
 use Rattle.fab_model.specs.Tiles.{counted}
 use Rattle.fab_model.specs.Grid.{PlainFabric}
@@ -16,7 +16,8 @@ use Rattle.fab_fabric.specs.Names.{place_name}
 use Rattle.fab_fabric.specs.Fabric.{IsFabric, AreTiles}
 use Rattle.fab_drives.specs.fab_gen_tile.specs.Names.{vector}
 use Rattle.fab_meaning.specs.Loading.{write_strobe_name, write_data_name}
-use Rattle.fab_drives.specs.fab_fabric_text.specs.Names.{loader_instance_name, loader_clock_name, address_name, strobe_name, row_name, column_strobe_name}
+use Rattle.fab_drives.specs.fab_fabric_text.specs.Names.{loader_instance_name, column_strobe_name}
+use Rattle.fab_drives.specs.fab_gen_loader.specs.Loader.{address_port, strobe_port, row_port}
 use Rattle.fab_drives.specs.fab_fabric_text.specs.Places.{PlacedTile, placed_tiles}
 use Rattle.fab_drives.specs.fab_fabric_text.specs.Top.{tile_pads, top_ports, loader_wires, loader_instance, column_strobes, tile_begin_wires, tile_instance, top_items}
 use Rattle.fab_drives.proofs.Apart.{told_apart}
@@ -30,7 +31,7 @@ use Rattle.fab_text_sound.proofs.TopApart.{item_names, AllNames, Clear, PortsDif
 
 -- ---- the numbers of rows and columns
 
-pub rows_differ : (i j : ℕ) → i < j → j < 32 → row_name i ≢ row_name j
+pub rows_differ : (i j : ℕ) → i < j → j < 32 → row_port i ≢ row_port j
 rows_differ i j before few same =
     let numbers = append_cancel_left (82 ∷ 111 ∷ 119 ∷ []) _ _ same in
     let bits = decimal_injective i j (omega arith) (omega arith) numbers in
@@ -103,14 +104,14 @@ module _ (fabric : PlainFabric) (is : IsFabric fabric) (are : AreTiles fabric) w
         All-append (AllNames P) strobe_wires (assigned ++ (begins ++ instances))
         (all_counted (AllNames P) fabric.columns (λ x. wire (Vector 20) (column_strobe_name x)) (λ x few. one_name P (column_strobe_name x) (columns_are x))) all_of_assigned
 
-    all_items : ((x : ℕ) → P (column_strobe_name x)) → P loader_instance_name → P address_name → P strobe_name → ((y : ℕ) → P (row_name y)) → All (AllNames P) (top_items fabric)
+    all_items : ((x : ℕ) → P (column_strobe_name x)) → P loader_instance_name → P address_port → P strobe_port → ((y : ℕ) → P (row_port y)) → All (AllNames P) (top_items fabric)
     all_items columns_are loader address strobe rows_are =
-        let rows = counted fabric.rows (λ y. wire (Vector 32) (row_name y)) in
+        let rows = counted fabric.rows (λ y. wire (Vector 32) (row_port y)) in
         let behind = strobe_wires ++ (assigned ++ (begins ++ instances)) in
         All-append (AllNames P) (loader_wires fabric.rows) (loader_instance fabric.rows ∷ behind)
-        (All-cons (AllNames P) (wire (Vector 32) address_name) (wire Scalar strobe_name ∷ rows) (one_name P address_name address)
-        (All-cons (AllNames P) (wire Scalar strobe_name) rows (one_name P strobe_name strobe)
-        (all_counted (AllNames P) fabric.rows (λ y. wire (Vector 32) (row_name y)) (λ y few. one_name P (row_name y) (rows_are y)))))
+        (All-cons (AllNames P) (wire (Vector 32) address_port) (wire Scalar strobe_port ∷ rows) (one_name P address_port address)
+        (All-cons (AllNames P) (wire Scalar strobe_port) rows (one_name P strobe_port strobe)
+        (all_counted (AllNames P) fabric.rows (λ y. wire (Vector 32) (row_port y)) (λ y few. one_name P (row_port y) (rows_are y)))))
         (All-cons (AllNames P) (loader_instance fabric.rows) behind (one_name P loader_instance_name loader) (all_behind_loader columns_are))
 
   -- ---- items
@@ -179,25 +180,25 @@ module _ (fabric : PlainFabric) (is : IsFabric fabric) (are : AreTiles fabric) w
   pub items_clear : AllPairs Clear (top_items fabric)
   items_clear =
       let few_rows = is.few_rows in
-      let rows = counted fabric.rows (λ y. wire (Vector 32) (row_name y)) in
+      let rows = counted fabric.rows (λ y. wire (Vector 32) (row_port y)) in
       let behind = strobe_wires ++ (assigned ++ (begins ++ instances)) in
       pairs_append Clear (loader_wires fabric.rows) (loader_instance fabric.rows ∷ behind)
-      (AllPairs-cons Clear (wire (Vector 32) address_name) (wire Scalar strobe_name ∷ rows)
-      (All-cons (Clear (wire (Vector 32) address_name)) (wire Scalar strobe_name) rows (one_each_way Differ address_name strobe_name (told_apart 0 address_name strobe_name refl))
-      (all_counted (Clear (wire (Vector 32) address_name)) fabric.rows (λ y. wire (Vector 32) (row_name y)) (λ y few.
-      one_each_way Differ address_name (row_name y) (told_apart 0 address_name (row_name y) refl))))
-      (AllPairs-cons Clear (wire Scalar strobe_name) rows
-      (all_counted (Clear (wire Scalar strobe_name)) fabric.rows (λ y. wire (Vector 32) (row_name y)) (λ y few.
-      one_each_way Differ strobe_name (row_name y) (told_apart 0 strobe_name (row_name y) refl)))
-      (pairs_counted Clear fabric.rows (λ y. wire (Vector 32) (row_name y)) (λ i j before few.
-      one_each_way Differ (row_name i) (row_name j) (rows_differ i j before (omega (arith, few, few_rows)))))))
+      (AllPairs-cons Clear (wire (Vector 32) address_port) (wire Scalar strobe_port ∷ rows)
+      (All-cons (Clear (wire (Vector 32) address_port)) (wire Scalar strobe_port) rows (one_each_way Differ address_port strobe_port (told_apart 0 address_port strobe_port refl))
+      (all_counted (Clear (wire (Vector 32) address_port)) fabric.rows (λ y. wire (Vector 32) (row_port y)) (λ y few.
+      one_each_way Differ address_port (row_port y) (told_apart 0 address_port (row_port y) refl))))
+      (AllPairs-cons Clear (wire Scalar strobe_port) rows
+      (all_counted (Clear (wire Scalar strobe_port)) fabric.rows (λ y. wire (Vector 32) (row_port y)) (λ y few.
+      one_each_way Differ strobe_port (row_port y) (told_apart 0 strobe_port (row_port y) refl)))
+      (pairs_counted Clear fabric.rows (λ y. wire (Vector 32) (row_port y)) (λ i j before few.
+      one_each_way Differ (row_port i) (row_port j) (rows_differ i j before (omega (arith, few, few_rows)))))))
       loader_clear
       (between (AllNames (λ name. head name < 88)) (AllNames (λ name. 88 ≤ head name)) Clear (loader_wires fabric.rows) (loader_instance fabric.rows ∷ behind)
       (λ a b all_a all_b. between (λ name. head name < 88) (λ name. 88 ≤ head name) Differ (item_names a) (item_names b)
       (λ n m low high same. let heads = ap head same in omega (arith, low, high, heads)) all_a all_b)
-      (All-cons (AllNames (λ name. head name < 88)) (wire (Vector 32) address_name) (wire Scalar strobe_name ∷ rows) (one_name (λ name. head name < 88) address_name (omega arith))
-      (All-cons (AllNames (λ name. head name < 88)) (wire Scalar strobe_name) rows (one_name (λ name. head name < 88) strobe_name (omega arith))
-      (all_counted (AllNames (λ name. head name < 88)) fabric.rows (λ y. wire (Vector 32) (row_name y)) (λ y few. one_name (λ name. head name < 88) (row_name y) (omega arith)))))
+      (All-cons (AllNames (λ name. head name < 88)) (wire (Vector 32) address_port) (wire Scalar strobe_port ∷ rows) (one_name (λ name. head name < 88) address_port (omega arith))
+      (All-cons (AllNames (λ name. head name < 88)) (wire Scalar strobe_port) rows (one_name (λ name. head name < 88) strobe_port (omega arith))
+      (all_counted (AllNames (λ name. head name < 88)) fabric.rows (λ y. wire (Vector 32) (row_port y)) (λ y few. one_name (λ name. head name < 88) (row_port y) (omega arith)))))
       (All-cons (AllNames (λ name. 88 ≤ head name)) (loader_instance fabric.rows) behind (one_name (λ name. 88 ≤ head name) loader_instance_name (omega arith))
       (all_behind_loader (λ name. 88 ≤ head name)
       (λ name begin. omega (arith, begin_head name begin)) (λ name place. omega (arith, place_head name place)) (λ x. omega arith))))
@@ -220,14 +221,14 @@ module _ (fabric : PlainFabric) (is : IsFabric fabric) (are : AreTiles fabric) w
 
   pub ports_apart : AllPairs PortsDiffer (top_ports fabric)
   ports_apart =
-      let loader_clock = scalar true loader_clock_name in
+      let loader_clock = scalar true clock_name in
       let clock = scalar true user_clock_name in
       let write_strobe = scalar true write_strobe_name in
       let data_port = vector true 32 write_data_name in
       AllPairs-cons PortsDiffer loader_clock (clock ∷ write_strobe ∷ data_port ∷ pads)
-      (All-cons (PortsDiffer loader_clock) clock (write_strobe ∷ data_port ∷ pads) (told_apart 0 loader_clock_name user_clock_name refl)
-      (All-cons (PortsDiffer loader_clock) write_strobe (data_port ∷ pads) (told_apart 0 loader_clock_name write_strobe_name refl)
-      (All-cons (PortsDiffer loader_clock) data_port pads (told_apart 0 loader_clock_name write_data_name refl) (front_apart loader_clock (λ same. omega (arith, same))))))
+      (All-cons (PortsDiffer loader_clock) clock (write_strobe ∷ data_port ∷ pads) (told_apart 0 clock_name user_clock_name refl)
+      (All-cons (PortsDiffer loader_clock) write_strobe (data_port ∷ pads) (told_apart 0 clock_name write_strobe_name refl)
+      (All-cons (PortsDiffer loader_clock) data_port pads (told_apart 0 clock_name write_data_name refl) (front_apart loader_clock (λ same. omega (arith, same))))))
       (AllPairs-cons PortsDiffer clock (write_strobe ∷ data_port ∷ pads)
       (All-cons (PortsDiffer clock) write_strobe (data_port ∷ pads) (told_apart 0 user_clock_name write_strobe_name refl)
       (All-cons (PortsDiffer clock) data_port pads (told_apart 0 user_clock_name write_data_name refl) (front_apart clock (λ same. omega (arith, same)))))
@@ -237,7 +238,7 @@ module _ (fabric : PlainFabric) (is : IsFabric fabric) (are : AreTiles fabric) w
 
   -- ---- ports and items
 
-  port_clear : (name : List ℕ) → (head name ≡ 88 → ⊥) → name ≢ loader_instance_name → name ≢ address_name → name ≢ strobe_name → ((y : ℕ) → name ≢ row_name y) →
+  port_clear : (name : List ℕ) → (head name ≡ 88 → ⊥) → name ≢ loader_instance_name → name ≢ address_port → name ≢ strobe_port → ((y : ℕ) → name ≢ row_port y) →
       ((x : ℕ) → name ≢ column_strobe_name x) → All (AllNames (Differ name)) (top_items fabric)
   port_clear name low no_loader no_address no_strobe no_row no_column =
       all_items (Differ name) (λ other begin. heads_differ name other 88 (begin_head other begin) low) (λ other place. heads_differ name other 88 (place_head other place) low)
@@ -248,7 +249,7 @@ module _ (fabric : PlainFabric) (is : IsFabric fabric) (are : AreTiles fabric) w
       let other = λ (n : List ℕ) (low : head n ≡ 88 → ⊥) (same : name ≡ n). low (ap head (sym same) ∙ pad_head name pad) in
       all_items (Differ name) (λ begin is_begin. pad_no_begin name begin pad is_begin) (λ place is_place. pad_no_place name place pad is_place)
       (λ x. other (column_strobe_name x) (λ same. omega (arith, same))) (other loader_instance_name (λ same. omega (arith, same)))
-      (other address_name (λ same. omega (arith, same))) (other strobe_name (λ same. omega (arith, same))) (λ y. other (row_name y) (λ same. omega (arith, same)))
+      (other address_port (λ same. omega (arith, same))) (other strobe_port (λ same. omega (arith, same))) (λ y. other (row_port y) (λ same. omega (arith, same)))
 
   abbrev Apart : Port → Type 0
   Apart port = All (AllNames (Differ port.name)) (top_items fabric)
@@ -258,16 +259,16 @@ module _ (fabric : PlainFabric) (is : IsFabric fabric) (are : AreTiles fabric) w
       let clock = scalar true user_clock_name in
       let write_strobe = scalar true write_strobe_name in
       let data_port = vector true 32 write_data_name in
-      All-cons Apart (scalar true loader_clock_name) (clock ∷ write_strobe ∷ data_port ∷ pads)
-      (port_clear loader_clock_name (λ same. omega (arith, same)) (told_apart 0 loader_clock_name loader_instance_name refl) (told_apart 0 loader_clock_name address_name refl)
-      (told_apart 0 loader_clock_name strobe_name refl) (λ y. told_apart 0 loader_clock_name (row_name y) refl) (λ x. told_apart 0 loader_clock_name (column_strobe_name x) refl))
+      All-cons Apart (scalar true clock_name) (clock ∷ write_strobe ∷ data_port ∷ pads)
+      (port_clear clock_name (λ same. omega (arith, same)) (told_apart 0 clock_name loader_instance_name refl) (told_apart 0 clock_name address_port refl)
+      (told_apart 0 clock_name strobe_port refl) (λ y. told_apart 0 clock_name (row_port y) refl) (λ x. told_apart 0 clock_name (column_strobe_name x) refl))
       (All-cons Apart clock (write_strobe ∷ data_port ∷ pads)
-      (port_clear user_clock_name (λ same. omega (arith, same)) (told_apart 0 user_clock_name loader_instance_name refl) (told_apart 0 user_clock_name address_name refl)
-      (told_apart 0 user_clock_name strobe_name refl) (λ y. told_apart 0 user_clock_name (row_name y) refl) (λ x. told_apart 0 user_clock_name (column_strobe_name x) refl))
+      (port_clear user_clock_name (λ same. omega (arith, same)) (told_apart 0 user_clock_name loader_instance_name refl) (told_apart 0 user_clock_name address_port refl)
+      (told_apart 0 user_clock_name strobe_port refl) (λ y. told_apart 0 user_clock_name (row_port y) refl) (λ x. told_apart 0 user_clock_name (column_strobe_name x) refl))
       (All-cons Apart write_strobe (data_port ∷ pads)
-      (port_clear write_strobe_name (λ same. omega (arith, same)) (told_apart 0 write_strobe_name loader_instance_name refl) (told_apart 0 write_strobe_name address_name refl)
-      (told_apart 0 write_strobe_name strobe_name refl) (λ y. told_apart 0 write_strobe_name (row_name y) refl) (λ x. told_apart 0 write_strobe_name (column_strobe_name x) refl))
+      (port_clear write_strobe_name (λ same. omega (arith, same)) (told_apart 0 write_strobe_name loader_instance_name refl) (told_apart 0 write_strobe_name address_port refl)
+      (told_apart 0 write_strobe_name strobe_port refl) (λ y. told_apart 0 write_strobe_name (row_port y) refl) (λ x. told_apart 0 write_strobe_name (column_strobe_name x) refl))
       (All-cons Apart data_port pads
-      (port_clear write_data_name (λ same. omega (arith, same)) (told_apart 0 write_data_name loader_instance_name refl) (told_apart 0 write_data_name address_name refl)
-      (told_apart 0 write_data_name strobe_name refl) (λ y. told_apart 0 write_data_name (row_name y) refl) (λ x. told_apart 0 write_data_name (column_strobe_name x) refl))
+      (port_clear write_data_name (λ same. omega (arith, same)) (told_apart 0 write_data_name loader_instance_name refl) (told_apart 0 write_data_name address_port refl)
+      (told_apart 0 write_data_name strobe_port refl) (λ y. told_apart 0 write_data_name (row_port y) refl) (λ x. told_apart 0 write_data_name (column_strobe_name x) refl))
       (All-weaker (λ (port : Port). IsPad port.name) Apart (λ port pad. pad_clear port.name pad) pads names_of_pads))))

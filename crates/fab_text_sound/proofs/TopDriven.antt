@@ -30,7 +30,7 @@ use Rattle.fab_drives.specs.fab_gen_tile.specs.TileModule as tiles
 use Rattle.fab_drives.specs.fab_gen_loader.specs.Loader.{loader_ports, address_port, strobe_port, row_port}
 use Rattle.fab_drives.specs.fab_gen_loader.specs.Loader as loaders
 use Rattle.fab_drives.specs.fab_gen_loader.specs.Expressions.{loader_module}
-use Rattle.fab_drives.specs.fab_fabric_text.specs.Names.{address_name, strobe_name, row_name, column_strobe_name, begin_wire_name}
+use Rattle.fab_drives.specs.fab_fabric_text.specs.Names.{column_strobe_name, begin_wire_name}
 use Rattle.fab_drives.specs.fab_fabric_text.specs.Places.{PlacedTile, placed_tiles}
 use Rattle.fab_drives.specs.fab_fabric_text.specs.Top.{pad_ports, tile_pads, top_ports, loader_wires, loader_joins, loader_instance, column_strobes, row_begin_wires, tile_begin_wires, end_value, numbered_row, row_joins, pad_joins, tile_joins, tile_instance, top_items, top_module}
 use Rattle.fab_drives.proofs.Apart.{told_apart}
@@ -93,9 +93,9 @@ module _ (fabric : PlainFabric) where
       outs_are (loader_module fabric.rows) (loader_joins fabric.rows) ports
       (matched_weaker (Joining fabric) SameName (λ join port right. right.0) (loader_joins fabric.rows) ports (loader_matched fabric))
       (directions ports (loader_ports_apart fabric.rows few))
-      ∙ ap (λ rest. address_name ∷ strobe_name ∷ rest)
-      (outs_counted fabric.rows (λ y. same_join (row_name y)) (λ row. loaders.port false (Vector 32) (row_port row)) row_name (λ y. refl)
-      ∙ sym (counted_wires (Vector 32) fabric.rows row_name))
+      ∙ ap (λ rest. address_port ∷ strobe_port ∷ rest)
+      (outs_counted fabric.rows (λ y. same_join (row_port y)) (λ row. loaders.port false (Vector 32) (row_port row)) row_port (λ y. refl)
+      ∙ sym (counted_wires (Vector 32) fabric.rows row_port))
 
   -- ---- what a tile drives
 
@@ -239,7 +239,7 @@ module _ (fabric : PlainFabric) where
       loader_part = loader_wires fabric.rows
 
       abbrev row_wires : List PlainItem
-      row_wires = counted fabric.rows (λ y. wire (Vector 32) (row_name y))
+      row_wires = counted fabric.rows (λ y. wire (Vector 32) (row_port y))
 
       abbrev strobe_wires : List PlainItem
       strobe_wires = counted fabric.columns (λ x. wire (Vector 20) (column_strobe_name x))
@@ -260,8 +260,8 @@ module _ (fabric : PlainFabric) where
       no_loader_drives =
           ap (λ names. times names name)
           (no_drives loader_part
-          (All-cons DrivesNone (wire (Vector 32) address_name) (wire Scalar strobe_name ∷ row_wires) refl
-          (All-cons DrivesNone (wire Scalar strobe_name) row_wires refl (all_counted DrivesNone fabric.rows (λ y. wire (Vector 32) (row_name y)) (λ y few. refl)))))
+          (All-cons DrivesNone (wire (Vector 32) address_port) (wire Scalar strobe_port ∷ row_wires) refl
+          (All-cons DrivesNone (wire Scalar strobe_port) row_wires refl (all_counted DrivesNone fabric.rows (λ y. wire (Vector 32) (row_port y)) (λ y few. refl)))))
 
       no_strobe_drives : driven strobe_wires ≡ 0
       no_strobe_drives =

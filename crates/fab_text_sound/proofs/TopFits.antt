@@ -11,10 +11,10 @@ use Rattle.fab_fabric.specs.Fabric.{IsFabric, AreTiles}
 use Rattle.fab_drives.specs.fab_gen_tile.specs.Names.{tile_module_name, same_join, port_join, frame_data_name, frame_strobe_name}
 use Rattle.fab_drives.specs.fab_gen_tile.specs.Words.{IsNamed}
 use Rattle.fab_drives.specs.fab_gen_tile.specs.TileModule.{tile_ports, tile_module}
-use Rattle.fab_drives.specs.fab_gen_loader.specs.Loader.{loader_ports, loader_module_name}
+use Rattle.fab_drives.specs.fab_gen_loader.specs.Loader.{loader_ports, loader_module_name, address_port, strobe_port, row_port}
 use Rattle.fab_drives.specs.fab_gen_loader.specs.Expressions.{loader_module}
 use Rattle.fab_meaning.specs.Loading.{write_strobe_name, write_data_name}
-use Rattle.fab_drives.specs.fab_fabric_text.specs.Names.{loader_instance_name, address_name, strobe_name, row_name, column_strobe_name}
+use Rattle.fab_drives.specs.fab_fabric_text.specs.Names.{loader_instance_name, column_strobe_name}
 use Rattle.fab_drives.specs.fab_fabric_text.specs.Places.{PlacedTile}
 use Rattle.fab_drives.specs.fab_fabric_text.specs.Top.{loader_joins, row_joins, pad_joins, tile_joins, top_module}
 use Rattle.fab_tiles_sound.specs.fab_parts_sound.specs.Fits.{FitsIn}
@@ -27,11 +27,11 @@ use Rattle.fab_text_sound.proofs.TopDriven.{loader_ports_apart, tile_ports_apart
 module _ (fabric : PlainFabric) (text before : List PlainModule) (is : IsFabric fabric) (are : AreTiles fabric) (named : All IsNamed fabric.types)
     (has_before : HasTopModules before fabric) (has : HasTopModules text fabric) (clocks : HasTopClocks text fabric) where
   abbrev later_loader_joins : List PlainJoin
-  later_loader_joins = same_join write_strobe_name ∷ same_join write_data_name ∷ same_join address_name ∷ same_join strobe_name ∷ counted fabric.rows (λ y. same_join (row_name y))
+  later_loader_joins = same_join write_strobe_name ∷ same_join write_data_name ∷ same_join address_port ∷ same_join strobe_port ∷ counted fabric.rows (λ y. same_join (row_port y))
 
   abbrev later_tile_joins : PlacedTile → List PlainJoin
   later_tile_joins p =
-      port_join frame_data_name (variable (row_name p.y)) ∷ port_join frame_strobe_name (variable (column_strobe_name p.x))
+      port_join frame_data_name (variable (row_port p.y)) ∷ port_join frame_strobe_name (variable (column_strobe_name p.x))
       ∷ (flat_map (row_joins fabric p) (enumerate_from 0 p.tile.rows) ++ flat_map (pad_joins p.x p.y) (enumerate_from 0 p.tile.bels))
 
   pub top_fits : FitsIn text before (top_module fabric)

@@ -11,7 +11,7 @@ use Rattle.fab_syntax.specs.declared.tree.Port.{Port}
 use Rattle.fab_syntax.specs.Plain.{PlainExpr, PlainJoin, PlainItem, PlainModule, constant, variable, part, operation, conditional, wire, instance}
 use Rattle.fab_syntax.specs.Declarations.{module_named, width, width_if_any}
 use Rattle.fab_syntax.specs.Sound.{item_expressions, joined_expressions, Every, width_of_name, IsVectorAnd, SelectFits, OperandsFit, SidesFit, FitsPort, JoinFits, IsJoinedOnce, InstanceFits, ServesAsClock, IsScalarInput, IsJoinedToClock, ClockFits}
-use Rattle.fab_meaning.specs.Runs.{user_clock_name}
+use Rattle.fab_meaning.specs.Runs.{user_clock_name, clock_name}
 use Rattle.fab_model.specs.declared.tiles.WireRow.{WireRow}
 use Rattle.fab_model.specs.Rows.{is_jump}
 use Rattle.fab_model.specs.Tiles.{counted}
@@ -21,8 +21,8 @@ use Rattle.fab_fabric.specs.Fabric.{IsFabric, AreTiles}
 use Rattle.fab_drives.specs.fab_gen_tile.specs.Names.{tile_module_name, same_join}
 use Rattle.fab_drives.specs.fab_gen_tile.specs.Borders.{side_border}
 use Rattle.fab_drives.specs.fab_gen_tile.specs.TileModule.{tile_ports}
-use Rattle.fab_drives.specs.fab_gen_loader.specs.Loader.{loader_ports, loader_module_name}
-use Rattle.fab_drives.specs.fab_fabric_text.specs.Names.{loader_instance_name, loader_clock_name, address_name, strobe_name, row_name, column_strobe_name, begin_wire_name}
+use Rattle.fab_drives.specs.fab_gen_loader.specs.Loader.{loader_ports, loader_module_name, address_port, strobe_port, row_port}
+use Rattle.fab_drives.specs.fab_fabric_text.specs.Names.{loader_instance_name, column_strobe_name, begin_wire_name}
 use Rattle.fab_drives.specs.fab_fabric_text.specs.Places.{PlacedTile, placed_tiles}
 use Rattle.fab_drives.specs.fab_fabric_text.specs.Top.{loader_wires, loader_joins, loader_instance, names_column, column_strobes, row_begin_wires, tile_begin_wires, tile_joins, tile_instance, top_items, top_module}
 use Rattle.fab_drives.proofs.Lists.{all_of, all_if}
@@ -78,11 +78,11 @@ module _ (fabric : PlainFabric) (is : IsFabric fabric) (are : AreTiles fabric) w
       let begins = flat_map tile_begin_wires placed in
       let assigned = counted fabric.columns column_strobes in
       let strobe_wires = counted fabric.columns (λ x. wire (Vector 20) (column_strobe_name x)) in
-      let rows = counted fabric.rows (λ y. wire (Vector 32) (row_name y)) in
+      let rows = counted fabric.rows (λ y. wire (Vector 32) (row_port y)) in
       All-append P (loader_wires fabric.rows) (loader_instance fabric.rows ∷ (strobe_wires ++ (assigned ++ (begins ++ instances))))
-      (All-cons P (wire (Vector 32) address_name) (wire Scalar strobe_name ∷ rows) (wires (Vector 32) address_name)
-      (All-cons P (wire Scalar strobe_name) rows (wires Scalar strobe_name)
-      (all_counted P fabric.rows (λ y. wire (Vector 32) (row_name y)) (λ y few. wires (Vector 32) (row_name y)))))
+      (All-cons P (wire (Vector 32) address_port) (wire Scalar strobe_port ∷ rows) (wires (Vector 32) address_port)
+      (All-cons P (wire Scalar strobe_port) rows (wires Scalar strobe_port)
+      (all_counted P fabric.rows (λ y. wire (Vector 32) (row_port y)) (λ y few. wires (Vector 32) (row_port y)))))
       (All-cons P (loader_instance fabric.rows) (strobe_wires ++ (assigned ++ (begins ++ instances))) loader
       (All-append P strobe_wires (assigned ++ (begins ++ instances))
       (all_counted P fabric.columns (λ x. wire (Vector 20) (column_strobe_name x)) (λ x few. wires (Vector 20) (column_strobe_name x)))
@@ -102,15 +102,15 @@ module _ (fabric : PlainFabric) (is : IsFabric fabric) (are : AreTiles fabric) w
   -- ---- strobes
 
   abbrev strobe_value : (x : ℕ) → PlainExpr
-  strobe_value x = conditional (operation And (variable strobe_name) (names_column x)) (part address_name 19 0) (constant (digits 20 0))
+  strobe_value x = conditional (operation And (variable strobe_port) (names_column x)) (part address_port 19 0) (constant (digits 20 0))
 
-  address_select : (high low : ℕ) → low ≤ high → high < 32 → SelectFits top (part address_name high low)
+  address_select : (high low : ℕ) → low ≤ high → high < 32 → SelectFits top (part address_port high low)
   address_select high low in_order few =
-      subst (λ shape. IsVectorAnd shape (λ n. (low ≤ high) × (high < n))) (sym (net_shape fabric is are (Vector 32) address_name (address_net fabric))) (in_order, few)
+      subst (λ shape. IsVectorAnd shape (λ n. (low ≤ high) × (high < n))) (sym (net_shape fabric is are (Vector 32) address_port (address_net fabric))) (in_order, few)
 
   strobe_sized : (x : ℕ) → Holds (IsSized top) (strobe_value x)
   strobe_sized x =
-      let strobe : width_of_name top strobe_name ≡ 1 = net_width Scalar strobe_name (strobe_net fabric) in (
+      let strobe : width_of_name top strobe_port ≡ 1 = net_width Scalar strobe_port (strobe_net fabric) in (
         (tt, (strobe, refl)),
         ((tt, strobe), (tt, tt), ((tt, refl), (address_select 31 27 (omega arith) (omega arith), tt), (tt, tt))),
         (address_select 19 0 (omega arith) (omega arith), tt),
@@ -172,7 +172,7 @@ module _ (fabric : PlainFabric) (is : IsFabric fabric) (are : AreTiles fabric) w
   pub clock_input : IsScalarInput top user_clock_name
   clock_input = (refl, refl)
 
-  pub loader_clock_input : IsScalarInput top loader_clock_name
+  pub loader_clock_input : IsScalarInput top clock_name
   loader_clock_input = (refl, refl)
 
   -- where no port but that of the first join serves as a clock, and that is joined to a scalar input

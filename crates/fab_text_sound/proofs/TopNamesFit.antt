@@ -24,8 +24,9 @@ use Rattle.fab_drives.specs.fab_gen_tile.specs.Names.{vector, same_join, tile_mo
 use Rattle.fab_drives.specs.fab_gen_tile.specs.Borders.{side_border}
 use Rattle.fab_drives.specs.fab_gen_tile.specs.TileModule.{tile_ports}
 use Rattle.fab_meaning.specs.Loading.{write_strobe_name, write_data_name}
-use Rattle.fab_drives.specs.fab_gen_loader.specs.Loader.{loader_module_name}
-use Rattle.fab_drives.specs.fab_fabric_text.specs.Names.{loader_instance_name, loader_clock_name, address_name, strobe_name, row_name, column_strobe_name, begin_wire_name}
+use Rattle.fab_drives.specs.fab_gen_loader.specs.Loader.{loader_module_name, address_port, strobe_port, row_port}
+use Rattle.fab_drives.specs.fab_fabric_text.specs.Names.{loader_instance_name, column_strobe_name, begin_wire_name}
+use Rattle.fab_meaning.specs.Runs.{clock_name}
 use Rattle.fab_drives.specs.fab_fabric_text.specs.Places.{PlacedTile, placed_tiles}
 use Rattle.fab_drives.specs.fab_fabric_text.specs.Top.{top_ports, loader_wires, loader_joins, loader_instance, names_column, column_strobes, row_begin_wires, tile_begin_wires, tile_joins, tile_instance, top_items, top_module}
 use Rattle.fab_drives.proofs.Lists.{none_there, first_or_later, all_of, all_if}
@@ -191,28 +192,28 @@ module _ (fabric : PlainFabric) (is : IsFabric fabric) (are : AreTiles fabric) w
   wire_at_loader shape name there = Contains-append_left (net_names loader_part) (port_names ports) name (net_there loader_part shape name there)
 
   abbrev row_wires : List PlainItem
-  row_wires = counted fabric.rows (λ y. wire (Vector 32) (row_name y))
+  row_wires = counted fabric.rows (λ y. wire (Vector 32) (row_port y))
 
-  address_there : Contains at_loader address_name
-  address_there = wire_at_loader (Vector 32) address_name (contains_first (wire (Vector 32) address_name) (wire Scalar strobe_name ∷ row_wires))
+  address_there : Contains at_loader address_port
+  address_there = wire_at_loader (Vector 32) address_port (contains_first (wire (Vector 32) address_port) (wire Scalar strobe_port ∷ row_wires))
 
-  strobe_there : Contains at_loader strobe_name
-  strobe_there = wire_at_loader Scalar strobe_name (contains_later (wire (Vector 32) address_name) (wire Scalar strobe_name ∷ row_wires) (wire Scalar strobe_name) (contains_first (wire Scalar strobe_name) row_wires))
+  strobe_there : Contains at_loader strobe_port
+  strobe_there = wire_at_loader Scalar strobe_port (contains_later (wire (Vector 32) address_port) (wire Scalar strobe_port ∷ row_wires) (wire Scalar strobe_port) (contains_first (wire Scalar strobe_port) row_wires))
 
   loader_used : All (Joins at_loader) (loader_joins fabric.rows)
   loader_used =
-      let rows = counted fabric.rows (λ y. same_join (row_name y)) in
-      All-cons (Joins at_loader) (same_join loader_clock_name) (same_join write_strobe_name ∷ same_join write_data_name ∷ same_join address_name ∷ same_join strobe_name ∷ rows)
-      (port_at_loader (scalar true loader_clock_name) (0, omega arith, refl))
-      (All-cons (Joins at_loader) (same_join write_strobe_name) (same_join write_data_name ∷ same_join address_name ∷ same_join strobe_name ∷ rows)
+      let rows = counted fabric.rows (λ y. same_join (row_port y)) in
+      All-cons (Joins at_loader) (same_join clock_name) (same_join write_strobe_name ∷ same_join write_data_name ∷ same_join address_port ∷ same_join strobe_port ∷ rows)
+      (port_at_loader (scalar true clock_name) (0, omega arith, refl))
+      (All-cons (Joins at_loader) (same_join write_strobe_name) (same_join write_data_name ∷ same_join address_port ∷ same_join strobe_port ∷ rows)
       (port_at_loader (scalar true write_strobe_name) (2, omega arith, refl))
-      (All-cons (Joins at_loader) (same_join write_data_name) (same_join address_name ∷ same_join strobe_name ∷ rows) (port_at_loader (vector true 32 write_data_name) (3, omega arith, refl))
-      (All-cons (Joins at_loader) (same_join address_name) (same_join strobe_name ∷ rows) address_there
-      (All-cons (Joins at_loader) (same_join strobe_name) rows strobe_there
-      (all_counted (Joins at_loader) fabric.rows (λ y. same_join (row_name y)) (λ y few.
-      wire_at_loader (Vector 32) (row_name y)
-      (contains_later (wire (Vector 32) address_name) (wire Scalar strobe_name ∷ row_wires) (wire (Vector 32) (row_name y))
-      (contains_later (wire Scalar strobe_name) row_wires (wire (Vector 32) (row_name y)) (contains_counted fabric.rows (λ y. wire (Vector 32) (row_name y)) y few)))))))))
+      (All-cons (Joins at_loader) (same_join write_data_name) (same_join address_port ∷ same_join strobe_port ∷ rows) (port_at_loader (vector true 32 write_data_name) (3, omega arith, refl))
+      (All-cons (Joins at_loader) (same_join address_port) (same_join strobe_port ∷ rows) address_there
+      (All-cons (Joins at_loader) (same_join strobe_port) rows strobe_there
+      (all_counted (Joins at_loader) fabric.rows (λ y. same_join (row_port y)) (λ y few.
+      wire_at_loader (Vector 32) (row_port y)
+      (contains_later (wire (Vector 32) address_port) (wire Scalar strobe_port ∷ row_wires) (wire (Vector 32) (row_port y))
+      (contains_later (wire Scalar strobe_port) row_wires (wire (Vector 32) (row_port y)) (contains_counted fabric.rows (λ y. wire (Vector 32) (row_port y)) y few)))))))))
 
   loader_uses : All (UsesKnown at_loader) strobe_part
   loader_uses =
@@ -224,12 +225,12 @@ module _ (fabric : PlainFabric) (is : IsFabric fabric) (are : AreTiles fabric) w
 
   strobe_uses : (x : ℕ) → x < fabric.columns → UsesKnown at_strobes (column_strobes x)
   strobe_uses x few =
-      let address = Contains-append_right (net_names strobe_part) at_loader address_name address_there in
-      let strobe = Contains-append_right (net_names strobe_part) at_loader strobe_name strobe_there in
+      let address = Contains-append_right (net_names strobe_part) at_loader address_port address_there in
+      let strobe = Contains-append_right (net_names strobe_part) at_loader strobe_port strobe_there in
       let target = Contains-append_left (net_names strobe_part) at_loader (column_strobe_name x)
       (net_there strobe_part (Vector 20) (column_strobe_name x)
       (contains_later (loader_instance fabric.rows) strobe_wires (wire (Vector 20) (column_strobe_name x)) (contains_counted fabric.columns (λ x. wire (Vector 20) (column_strobe_name x)) x few))) in
-      let value = conditional (operation And (variable strobe_name) (names_column x)) (part address_name 19 0) (constant (digits 20 0)) in
+      let value = conditional (operation And (variable strobe_port) (names_column x)) (part address_port 19 0) (constant (digits 20 0)) in
       let known : Holds (OwnKnown at_strobes) value = (tt, (tt, strobe, (tt, address, tt)), address, tt) in
       All-cons (IsKnown at_strobes) (use_of (column_strobe_name x)) (uses value) target (uses_known at_strobes value (every (OwnKnown at_strobes) value known))
 
@@ -285,9 +286,9 @@ module _ (fabric : PlainFabric) (is : IsFabric fabric) (are : AreTiles fabric) w
   in_order : InOrder (port_names ports) (flat_map item_mentions items)
   in_order =
       segment (port_names ports) loader_part (strobe_part ++ (assigned ++ (begins ++ instances)))
-      (All-cons (UsesKnown (port_names ports)) (wire (Vector 32) address_name) (wire Scalar strobe_name ∷ row_wires) tt
-      (All-cons (UsesKnown (port_names ports)) (wire Scalar strobe_name) row_wires tt
-      (all_counted (UsesKnown (port_names ports)) fabric.rows (λ y. wire (Vector 32) (row_name y)) (λ y few. tt))))
+      (All-cons (UsesKnown (port_names ports)) (wire (Vector 32) address_port) (wire Scalar strobe_port ∷ row_wires) tt
+      (All-cons (UsesKnown (port_names ports)) (wire Scalar strobe_port) row_wires tt
+      (all_counted (UsesKnown (port_names ports)) fabric.rows (λ y. wire (Vector 32) (row_port y)) (λ y few. tt))))
       (segment at_loader strobe_part (assigned ++ (begins ++ instances)) loader_uses
       (segment at_strobes assigned (begins ++ instances) (all_counted (UsesKnown at_strobes) fabric.columns column_strobes strobe_uses)
       (segment at_begins begins instances begins_use

@@ -7,7 +7,7 @@ use Rattle.fab_syntax.specs.declared.tree.Shape.{Shape}
 use Rattle.fab_syntax.specs.declared.tree.Shape.TheVariants.{Scalar, Vector}
 use Rattle.fab_syntax.specs.declared.tree.Port.{Port}
 use Rattle.fab_syntax.specs.Plain.{PlainExpr, PlainJoin, PlainItem, constant, variable, wire}
-use Rattle.fab_meaning.specs.Runs.{user_clock_name}
+use Rattle.fab_meaning.specs.Runs.{user_clock_name, clock_name}
 use Rattle.fab_meaning.specs.Ports.{scalar}
 use Rattle.fab_prim.specs.Ports.{top_inputs, top_outputs}
 use Rattle.fab_model.specs.declared.tiles.WireRow.{WireRow}
@@ -23,10 +23,10 @@ use Rattle.fab_drives.specs.fab_gen_tile.specs.Names.{begin_name, end_name, pad_
 use Rattle.fab_drives.specs.fab_gen_tile.specs.Borders.{side_border, border_ports}
 use Rattle.fab_drives.specs.fab_gen_tile.specs.TileModule.{bels_ports, tile_ports}
 use Rattle.fab_drives.specs.fab_gen_tile.specs.TileModule as tiles
-use Rattle.fab_drives.specs.fab_gen_loader.specs.Loader.{loader_ports, row_port}
+use Rattle.fab_drives.specs.fab_gen_loader.specs.Loader.{loader_ports, row_port, address_port, strobe_port}
 use Rattle.fab_drives.specs.fab_gen_loader.specs.Loader as loaders
 use Rattle.fab_meaning.specs.Loading.{write_strobe_name, write_data_name}
-use Rattle.fab_drives.specs.fab_fabric_text.specs.Names.{loader_clock_name, address_name, strobe_name, row_name, column_strobe_name, begin_wire_name, pad_port_name}
+use Rattle.fab_drives.specs.fab_fabric_text.specs.Names.{column_strobe_name, begin_wire_name, pad_port_name}
 use Rattle.fab_drives.specs.fab_fabric_text.specs.Places.{PlacedTile, placed_tiles}
 use Rattle.fab_drives.specs.fab_fabric_text.specs.Top.{pad_ports, tile_pads, top_ports, loader_wires, loader_joins, loader_instance, column_strobes, tile_begin_wires, tile_instance, top_items, end_value, numbered_row, row_joins, pad_joins, tile_joins}
 use Rattle.fab_drives.specs.fab_tile_drives.proofs.BorderBits.{source_within}
@@ -62,9 +62,9 @@ module _ (fabric : PlainFabric) where
       ++ (counted fabric.columns column_strobes ++ (flat_map tile_begin_wires (placed_tiles fabric) ++ map (tile_instance fabric) (placed_tiles fabric)))
 
   abbrev rows : List PlainItem
-  rows = counted fabric.rows (λ y. wire (Vector 32) (row_name y))
+  rows = counted fabric.rows (λ y. wire (Vector 32) (row_port y))
 
-  pub loader_clock_net : IsTopNet fabric Scalar loader_clock_name
+  pub loader_clock_net : IsTopNet fabric Scalar clock_name
   loader_clock_net = port_net true (0, omega arith, refl)
 
   pub clock_net : IsTopNet fabric Scalar user_clock_name
@@ -79,17 +79,17 @@ module _ (fabric : PlainFabric) where
   loader_net : (shape : Shape) (name : List ℕ) → Contains (loader_wires fabric.rows) (wire shape name) → IsTopNet fabric shape name
   loader_net shape name there = wire_net (Contains-append_left (loader_wires fabric.rows) (loader_instance fabric.rows ∷ behind) (wire shape name) there)
 
-  pub address_net : IsTopNet fabric (Vector 32) address_name
-  address_net = loader_net (Vector 32) address_name (contains_first (wire (Vector 32) address_name) (wire Scalar strobe_name ∷ rows))
+  pub address_net : IsTopNet fabric (Vector 32) address_port
+  address_net = loader_net (Vector 32) address_port (contains_first (wire (Vector 32) address_port) (wire Scalar strobe_port ∷ rows))
 
-  pub strobe_net : IsTopNet fabric Scalar strobe_name
-  strobe_net = loader_net Scalar strobe_name (contains_later (wire (Vector 32) address_name) (wire Scalar strobe_name ∷ rows) (wire Scalar strobe_name) (contains_first (wire Scalar strobe_name) rows))
+  pub strobe_net : IsTopNet fabric Scalar strobe_port
+  strobe_net = loader_net Scalar strobe_port (contains_later (wire (Vector 32) address_port) (wire Scalar strobe_port ∷ rows) (wire Scalar strobe_port) (contains_first (wire Scalar strobe_port) rows))
 
-  pub row_net : (y : ℕ) → y < fabric.rows → IsTopNet fabric (Vector 32) (row_name y)
+  pub row_net : (y : ℕ) → y < fabric.rows → IsTopNet fabric (Vector 32) (row_port y)
   row_net y few =
-      loader_net (Vector 32) (row_name y)
-      (contains_later (wire (Vector 32) address_name) (wire Scalar strobe_name ∷ rows) (wire (Vector 32) (row_name y))
-      (contains_later (wire Scalar strobe_name) rows (wire (Vector 32) (row_name y)) (contains_counted fabric.rows (λ y. wire (Vector 32) (row_name y)) y few)))
+      loader_net (Vector 32) (row_port y)
+      (contains_later (wire (Vector 32) address_port) (wire Scalar strobe_port ∷ rows) (wire (Vector 32) (row_port y))
+      (contains_later (wire Scalar strobe_port) rows (wire (Vector 32) (row_port y)) (contains_counted fabric.rows (λ y. wire (Vector 32) (row_port y)) y few)))
 
   pub column_net : (x : ℕ) → x < fabric.columns → IsTopNet fabric (Vector 20) (column_strobe_name x)
   column_net x few =
@@ -114,7 +114,7 @@ module _ (fabric : PlainFabric) where
           (refl, address_net),
           (
             (refl, strobe_net),
-            matched_counted (Joining fabric) fabric.rows (λ y. same_join (row_name y)) (λ y. loaders.port false (Vector 32) (row_port y)) (λ y few. (refl, row_net y few)),
+            matched_counted (Joining fabric) fabric.rows (λ y. same_join (row_port y)) (λ y. loaders.port false (Vector 32) (row_port y)) (λ y few. (refl, row_net y few)),
           ),
         ),
       ),
@@ -163,7 +163,7 @@ module _ (fabric : PlainFabric) where
 
     pad_net : (placed : ℕ × Bel) (port : Port) → Contains (enumerate_from 0 p.tile.bels) placed → Contains (pad_ports p.x p.y placed) port → Contains (top_ports fabric) port
     pad_net placed port there among =
-        let front = scalar true loader_clock_name ∷ scalar true user_clock_name ∷ scalar true write_strobe_name ∷ vector true 32 write_data_name ∷ [] in
+        let front = scalar true clock_name ∷ scalar true user_clock_name ∷ scalar true write_strobe_name ∷ vector true 32 write_data_name ∷ [] in
         Contains-append_right front (flat_map tile_pads (placed_tiles fabric)) port
         (contains_flat tile_pads (placed_tiles fabric) p port (tile_is_placed fabric p.x p.y p.tile stands.there)
         (contains_flat (pad_ports p.x p.y) (enumerate_from 0 p.tile.bels) placed port there among))

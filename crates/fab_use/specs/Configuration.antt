@@ -11,7 +11,7 @@ use Rattle.fab_model.specs.Grid.{PlainFabric}
 use Rattle.fab_meaning.specs.Ports.{config_name}
 use Rattle.fab_text_loads.specs.fab_gen_tile.specs.Names.{config_instance_name, frame_data_name, frame_strobe_name, bits_name, latch_name}
 use Rattle.fab_text_loads.specs.fab_gen_loader.specs.Loader as loader
-use Rattle.fab_text_loads.specs.fab_fabric_text.specs.Names.{address_name, strobe_name, row_name, column_strobe_name}
+use Rattle.fab_text_loads.specs.fab_fabric_text.specs.Names.{column_strobe_name}
 use Rattle.fab_text_loads.specs.fab_fabric_text.specs.Places.{PlacedTile, placed_tiles}
 use Rattle.fab_text_loads.specs.fab_fabric.specs.Sites.{same_kind}
 use Rattle.fab_text_loads.specs.fab_tile_drives.specs.Stands.{matrix_path, bel_path}
@@ -34,8 +34,8 @@ if_some_bits n = if nat_eq n.width 0 then [] else n ∷ []
 -- the wires of the top between the loader and the tiles
 abbrev pub top_configuration : PlainFabric → List NamedBits
 top_configuration fabric =
-    named_bits [] address_name 32 ∷ named_bits [] strobe_name 1
-    ∷ (counted fabric.rows (λ y. named_bits [] (row_name y) 32) ++ counted fabric.columns (λ x. named_bits [] (column_strobe_name x) 20))
+    named_bits [] loader.address_port 32 ∷ named_bits [] loader.strobe_port 1
+    ∷ (counted fabric.rows (λ y. named_bits [] (loader.row_port y) 32) ++ counted fabric.columns (λ x. named_bits [] (column_strobe_name x) 20))
 
 -- the outputs of the loader, and the registers behind them
 abbrev pub loader_configuration : PlainFabric → List NamedBits
