@@ -15,7 +15,7 @@ use Rattle.fab_model.specs.Drive.{PlainBits}
 abbrev pub waiting_word : ℕ
 waiting_word = 1048576
 
--- FAB0FAB1 wakes the loader
+-- FAB0FAB1 wakes the loader. The loader has the word by itself (`wake_word` of fab_gen_loader), so that the two cannot be wrong together.
 abbrev pub synchronizing_word : ℕ
 synchronizing_word = 4205902513
 
