@@ -18,6 +18,7 @@ use Rattle.fab_blif.specs.Judged.{EachHasOne, drivers, inner_drivers, input_port
 use Rattle.fab_blif.specs.Clocks.{clock_faults, first_fault}
 use Rattle.fab_instances.specs.Order.{NamesDiffer, RefusesNames}
 use Rattle.fab_instances.specs.Refusals.{AreFineModels, RefusesModels}
+use Rattle.fab_netlist.specs.WellMade.{most_nets}
 
 -- ---- two drivers
 
@@ -46,7 +47,8 @@ RefusesUndriven file design fault = (line : ℕ) × (undriven_line design ≡ So
 -- ---- too many nets
 
 abbrev pub RefusesNets : (file : List ℕ) → (last_line : ℕ) → PlainDesign → Fault → Type 0
-RefusesNets file last_line design fault = (16384 < length design.nets) × (fault ≡ fault_at file last_line (problems.Limit quantities.Nets (length design.nets) 16384))
+RefusesNets file last_line design fault =
+    (most_nets < length design.nets) × (fault ≡ fault_at file last_line (problems.Limit quantities.Nets (length design.nets) most_nets))
 
 -- ---- clocks
 
@@ -64,7 +66,7 @@ RefusesClocks file design fault = (told : ClockFault) × (first_fault (clock_fau
 pub record IsFineDesign (design : PlainDesign) : Type 0 where
   pub once : EachHasOne design
   pub driven : undriven_line design ≡ None
-  pub small : length design.nets ≤ 16384
+  pub small : length design.nets ≤ most_nets
   pub clocks : clock_faults design ≡ []
 
 -- The first refusal of a design.
@@ -73,7 +75,7 @@ RefusesDesign file last_line design fault =
     RefusesDrivers file design fault
     ⊎ (EachHasOne design × RefusesUndriven file design fault)
     ⊎ (EachHasOne design × (undriven_line design ≡ None) × RefusesNets file last_line design fault)
-    ⊎ (EachHasOne design × (undriven_line design ≡ None) × (length design.nets ≤ 16384) × RefusesClocks file design fault)
+    ⊎ (EachHasOne design × (undriven_line design ≡ None) × (length design.nets ≤ most_nets) × RefusesClocks file design fault)
 
 -- ---- the models of a file
 

@@ -30,7 +30,11 @@ instances models = instances_in models (length models) 0
 abbrev pub in_64_bits : ℕ → ℕ
 in_64_bits count = min count 18446744073709551615
 
+-- A flattened text has no more instances than this.
+abbrev pub most_instances : ℕ
+most_instances = 16384
+
 -- More instances than a flattened text may have, at the last line of the file.
 abbrev pub RefusesInstances : (file : List ℕ) → (last_line : ℕ) → List PlainModel → Fault → Type 0
-RefusesInstances file last_line models fault = (16384 < instances models)
-    × (fault ≡ fault_at file last_line (problems.Limit quantities.Instances (in_64_bits (instances models)) 16384))
+RefusesInstances file last_line models fault = (most_instances < instances models)
+    × (fault ≡ fault_at file last_line (problems.Limit quantities.Instances (in_64_bits (instances models)) most_instances))

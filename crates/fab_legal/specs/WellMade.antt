@@ -3,7 +3,7 @@ use Rattle.std.specs.Prelude.{◌≡◌, ◌≢◌, ℕ, ◌+◌, ◌<◌, ◌�
 use Rattle.fab_implementation.specs.fab_netlist.specs.declared.net_id.NetId.{NetId}
 use Rattle.fab_implementation.specs.fab_netlist.specs.declared.net_id.NetId.TheVariants as ids
 use Rattle.fab_implementation.specs.fab_netlist.specs.Plain.{PlainNetlist}
-use Rattle.fab_implementation.specs.fab_netlist.specs.WellMade.{IsWellMade, table_bit}
+use Rattle.fab_implementation.specs.fab_netlist.specs.WellMade.{IsWellMade, most_nets, table_bit}
 use Rattle.fab_implementation.specs.fab_netlist.specs.Packed.{PlainCell, PlainPacked}
 use Rattle.fab_implementation.specs.fab_netlist.specs.Packing.{packing}
 
@@ -31,8 +31,8 @@ pub record IsWellMadeCell (packed : PlainPacked) (cell : PlainCell) : Type 0 whe
   pub initial : (init : ℕ) → cell.latch ≡ Some init → init ≤ 3
 
 pub record IsWellMadePacked (packed : PlainPacked) : Type 0 where
-  pub few_cells : length packed.cells ≤ 16384
-  pub few_ports : length packed.inputs + length packed.outputs ≤ 16384
+  pub few_cells : length packed.cells ≤ most_nets
+  pub few_ports : length packed.inputs + length packed.outputs ≤ most_nets
   pub cells : All (IsWellMadeCell packed) packed.cells
   pub nets : All (λ output. IsNetId packed output.1) packed.outputs
   pub ports_differ : AllPairs (λ first second. first ≢ second) (ports packed)

@@ -4,6 +4,10 @@ use Rattle.std.specs.List.{flat_map}
 use Rattle.fab_netlist.specs.declared.netlist.Latch.{Latch}
 use Rattle.fab_netlist.specs.Plain.{PlainCover, PlainNetlist, IsAt, name_of}
 
+-- A netlist has no more nets than this.
+abbrev pub most_nets : ℕ
+most_nets = 16384
+
 -- how often a net stands in a list
 abbrev pub times : ℕ → List ℕ → ℕ
 times net [] = 0
@@ -35,7 +39,7 @@ abbrev pub table_bit : (table place : ℕ) → Bool
 table_bit table place = nat_eq (table / 2 ^ place % 2) 1
 
 pub record IsWellMade (netlist : PlainNetlist) : Type 0 where
-  pub small : length netlist.nets ≤ 16384
+  pub small : length netlist.nets ≤ most_nets
   pub driven_below : (net : ℕ) → Contains (driven netlist) net → net < length netlist.nets
   pub read_below : (net : ℕ) → Contains (read netlist) net → net < length netlist.nets
   pub four_inputs : (cover : PlainCover) → Contains netlist.covers cover → length cover.inputs ≤ 4

@@ -6,6 +6,7 @@ use Rattle.fab_model.specs.Tiles.{counted}
 use Rattle.fab_netlist.specs.declared.net_id.NetId.{NetId}
 use Rattle.fab_netlist.specs.declared.net_id.NetId.TheVariants as ids
 use Rattle.fab_netlist.specs.Packed.{PlainCell, PlainPacked}
+use Rattle.fab_netlist.specs.WellMade.{most_nets}
 use Rattle.fab_board.specs.declared.nets.Nets.{Nets}
 use Rattle.fab_board.specs.Measured.{items_of}
 use Rattle.fab_place.specs.declared.nets.Pin.{Pin}
@@ -27,8 +28,8 @@ pin net item = record { net = net; item = item }
 abbrev pub IsNear : NetId → Type 0
 IsNear ids.Zero = Unit {0}
 IsNear ids.One = Unit {0}
-IsNear (ids.In number) = number < 16384
-IsNear (ids.Cell number) = number < 16384
+IsNear (ids.In number) = number < most_nets
+IsNear (ids.Cell number) = number < most_nets
 
 -- the pin of an item on a net; the nets of constants have none
 abbrev pub pin_on : (inputs item : ℕ) → NetId → List Pin

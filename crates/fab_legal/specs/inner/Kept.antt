@@ -10,6 +10,7 @@ use Rattle.fab_legal.specs.Steps.{pin_wire}
 use Rattle.fab_legal.specs.Sinks.{Sinks, cells_sinks}
 use Rattle.fab_bits.specs.Keys.{key_names}
 use Rattle.fab_implementation.specs.fab_fabric.specs.declared.wire.Site.{Site}
+use Rattle.fab_implementation.specs.fab_netlist.specs.WellMade.{most_nets}
 use Rattle.fab_implementation.specs.fab_netlist.specs.Packed.{PlainPacked}
 use Rattle.fab_implementation.specs.Plain.{Pad, PlainImplementation}
 use Rattle.fab_legal.specs.Lines.{named}
@@ -27,7 +28,7 @@ pub record AreKept (packed : PlainPacked) (implementation : PlainImplementation)
 
 -- there is a site for each name, and their number is small
 pub record IsCounted (pads : Pads) : Type 0 where
-  pub few : length (key_names pads.names.keys) ≤ 16384
+  pub few : length (key_names pads.names.keys) ≤ most_nets
   pub as_many : length pads.sites.items ≡ length (key_names pads.names.keys)
 
 -- a port stands on a pad, by number
