@@ -1,5 +1,5 @@
 -- Files spell one design or are refused with one status number, and a file spells one implementation or is refused for one fault.
-use Rattle.std.proofs.Common.{◌≡◌, ℕ, List, [], Option, Some, None, refl, sym, ap, ◌∙◌}
+use Rattle.std.proofs.Common.{◌≡◌, ℕ, List, [], Option, refl, sym, ap, ◌∙◌}
 use Rattle.fab_base.specs.Report.{number_of}
 use Rattle.fab_base.specs.Reading.{fault_at}
 use Rattle.fab_base.specs.declared.fault.Fault.{Fault}
@@ -63,10 +63,8 @@ constraints_are_judged fabric netlist file = record {
 module _ (files : Map) where
   pcf_is_judged : (pcf : Option (List ℕ)) (fabric : PlainFabric) (netlist : PlainNetlist)
       → IsJudged SameNumber (ReadsIfNamed files pcf (SpellsConstraints fabric netlist) []) (MeetsConstraints files pcf fabric netlist)
-  pcf_is_judged None fabric netlist =
-      named_file_is_judged SameNumber (λ fault. refl) files (SpellsConstraints fabric netlist) (RefusesConstraints fabric netlist []) (constraints_are_judged fabric netlist []) [] None
-  pcf_is_judged (Some file) fabric netlist =
-      named_file_is_judged SameNumber (λ fault. refl) files (SpellsConstraints fabric netlist) (RefusesConstraints fabric netlist file) (constraints_are_judged fabric netlist file) [] (Some file)
+  pcf_is_judged pcf fabric netlist =
+      named_file_is_judged SameNumber (λ fault. refl) files (SpellsConstraints fabric netlist) (RefusesConstraints fabric netlist) (constraints_are_judged fabric netlist) [] pcf
 
   module _ (names : DesignFiles) where
     -- a netlist and constraints of its ports

@@ -1,5 +1,5 @@
 -- The files of a design, one behind the other: what they spell, and what a reader of them comes upon before anything is refused.
-use Rattle.std.specs.Prelude.{◌≡◌, ℕ, List, [], Option, Some, None}
+use Rattle.std.specs.Prelude.{◌≡◌, ℕ, List, [], Option}
 use Rattle.fab_base.specs.declared.fault.Fault.{Fault}
 use Rattle.fab_desk.specs.Files.{Map}
 use Rattle.fab_model.specs.Grid.{PlainFabric}
@@ -9,7 +9,7 @@ use Rattle.fab_lines.specs.Order.{IsTextFault}
 use Rattle.fab_texts.specs.Rows.{rows_of}
 use Rattle.fab_lines.specs.Counts.{last_line}
 use Rattle.fab_files.specs.Files.{Event}
-use Rattle.fab_files.specs.Stages.{ReadsFrom, MeetsIn, ReadsIfNamed, MeetsBehind}
+use Rattle.fab_files.specs.Stages.{ReadsFrom, MeetsIn, ReadsIfNamed, MeetsIfNamed, MeetsBehind}
 use Rattle.fab_read.specs.Fabrics.{SpellsFabric, MeetsFabric}
 use Rattle.fab_blif.specs.Blif.{IsBlif, RefusesBlif, netlist_in}
 use Rattle.fab_state.specs.Constraints.{SpellsFixings, constraint_format, data_ports}
@@ -54,8 +54,7 @@ abbrev pub RefusesConstraints : PlainFabric → PlainNetlist → (file bytes : L
 RefusesConstraints fabric netlist file bytes fault = IsTextFault (constraint_format fabric (data_ports netlist)) file (rows_of bytes) (last_line bytes) fault
 
 abbrev pub MeetsConstraints : (files : Map) → (pcf : Option (List ℕ)) → PlainFabric → PlainNetlist → Event → Type 0
-MeetsConstraints files None fabric netlist event = ⊥
-MeetsConstraints files (Some file) fabric netlist event = MeetsIn files file (RefusesConstraints fabric netlist file) event
+MeetsConstraints files pcf fabric netlist event = MeetsIfNamed files pcf (RefusesConstraints fabric netlist) event
 
 -- the BLIF file, and behind it the pcf file
 abbrev pub MeetsBehindFabric : (files : Map) (names : DesignFiles) → PlainFabric → Event → Type 0

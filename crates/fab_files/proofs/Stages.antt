@@ -33,13 +33,15 @@ module _ {A : Type 0} (same : Fault → Fault → Type 0) (alike : (fault : Faul
   pub file_is_judged : (file : List ℕ) → IsJudged same (ReadsFrom files file spells) (MeetsIn files file refused)
   file_is_judged file = record { once = file_once file; refused_once = file_refused_once file; apart = file_apart file }
 
+module _ {A : Type 0} (same : Fault → Fault → Type 0) (alike : (fault : Fault) → same fault fault) (files : Map) (spells : List ℕ → A → Type 0) (refused : (file bytes : List ℕ) → Fault → Type 0)
+    (judged : (file : List ℕ) → AreJudged same spells (refused file)) where
   pub named_file_is_judged : (unnamed : A) (file : Option (List ℕ)) → IsJudged same (ReadsIfNamed files file spells unnamed) (MeetsIfNamed files file refused)
   named_file_is_judged unnamed None = record {
     once = λ first second x y. x ∙ sym y;
     refused_once = λ first second x y. absurd x;
     apart = λ value fault x y. y;
   }
-  named_file_is_judged unnamed (Some file) = file_is_judged file
+  named_file_is_judged unnamed (Some file) = file_is_judged same alike files spells (refused file) (judged file) file
 
 -- ---- one stage behind another
 

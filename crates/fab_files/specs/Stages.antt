@@ -22,9 +22,9 @@ abbrev pub ReadsIfNamed : {A : Type 0} (files : Map) → Option (List ℕ) → (
 ReadsIfNamed {A} files None spells unnamed value = value ≡ unnamed
 ReadsIfNamed {A} files (Some file) spells unnamed value = ReadsFrom files file spells value
 
-abbrev pub MeetsIfNamed : (files : Map) → Option (List ℕ) → (refused : List ℕ → Fault → Type 0) → Event → Type 0
+abbrev pub MeetsIfNamed : (files : Map) → Option (List ℕ) → (refused : (file bytes : List ℕ) → Fault → Type 0) → Event → Type 0
 MeetsIfNamed files None refused event = ⊥
-MeetsIfNamed files (Some file) refused event = MeetsIn files file refused event
+MeetsIfNamed files (Some file) refused event = MeetsIn files file (refused file) event
 
 -- ---- one stage behind another
 
