@@ -14,7 +14,8 @@ use Rattle.fab_netlist.specs.Packing.{works, others, is_paired, of_cover, of_lat
 use Rattle.fab_blif.specs.Flat.{PlainNet, net_eq}
 use Rattle.fab_blif.specs.Design.{PlainClock, covers_by, latches_by, data_inputs, netlist_of, is_number}
 use Rattle.fab_blif.proofs.Below.{IsNamed, all_named, name_back, name_in}
-use Rattle.fab_sample_reads.specs.Items.{Item, cover, wire, latch, sign, pattern_row, item_rows}
+use Rattle.fab_sample_reads.specs.Items.{Item, cover, wire, latch, pattern_row, item_rows}
+use Rattle.fab_sample.specs.Netlists.{digit}
 use Rattle.fab_sample_reads.specs.Named.{NamedCover, NamedLatch, named_cover, named_latch, item_covers, item_latches, IsOfItems}
 use Rattle.fab_sample_reads.proofs.PlacedItems.{plain, num, There, model_placed, placed_from, no_clocks, output_ports, input_uses_are, used_nets, ports_there}
 use Rattle.fab_sample_reads.proofs.DrivenOnce.{nets, made}
@@ -57,7 +58,7 @@ module _ (all_nets : List PlainNet) where
   latches_named line (wire source output ∷ items) all = latches_named (line + 2) items all.1
   latches_named line (latch input output initial ∷ items) all =
       let a = all.0 in
-      λ j. record { input = name_back all_nets (plain input) a.0 j; output = name_back all_nets (plain output) a.1.0 j; initial = sign initial - 48 } ∷ latches_named (line + 1) items all.1 j
+      λ j. record { input = name_back all_nets (plain input) a.0 j; output = name_back all_nets (plain output) a.1.0 j; initial = digit initial - 48 } ∷ latches_named (line + 1) items all.1 j
 
 all_kept : (nets : List ℕ) → filter (λ net. not (is_number None net)) nets ≡ nets
 all_kept [] = refl

@@ -13,7 +13,8 @@ use Rattle.fab_blif.specs.Flat.{PlainNet, net_eq, Placed, placed_inputs, placed_
 use Rattle.fab_blif.specs.Design.{PlainDesign, design_by, uses, number_in, named, inputs_by, outputs_by, clock_ports_by, covers_by, latches_by, latch_lines, clocks_by}
 use Rattle.fab_blif.specs.Judged.{output_uses, input_uses, latch_uses, inner_drivers, input_ports, readers}
 use Rattle.fab_blif.proofs.Below.{IsThere, IsNamed}
-use Rattle.fab_sample_reads.specs.Items.{Item, cover, wire, latch, sign, pattern_row, item_rows, statements_from, model_said, cover_outputs, cover_inputs, latch_outputs, latch_inputs, Edge, edges}
+use Rattle.fab_sample_reads.specs.Items.{Item, cover, wire, latch, pattern_row, item_rows, statements_from, model_said, cover_outputs, cover_inputs, latch_outputs, latch_inputs, Edge, edges}
+use Rattle.fab_sample.specs.Netlists.{digit}
 
 abbrev pub plain : Word → PlainNet
 plain name = record { depth = 0; name = name }
@@ -22,7 +23,7 @@ plain name = record { depth = 0; name = name }
 abbrev pub placed_at : (line : ℕ) → Item → Placed
 placed_at line (cover first second third output patterns) = placed_cover line (plain first ∷ plain second ∷ plain third ∷ []) (plain output) (table_of (map pattern_row patterns))
 placed_at line (wire source output) = placed_cover line (plain source ∷ []) (plain output) 43690
-placed_at line (latch input output initial) = placed_latch line (plain input) (plain output) None (sign initial - 48)
+placed_at line (latch input output initial) = placed_latch line (plain input) (plain output) None (digit initial - 48)
 
 abbrev pub placed_from : (line : ℕ) → List Item → List Placed
 placed_from line [] = []

@@ -14,9 +14,9 @@ use Rattle.fab_models.specs.Judge.{names_twice}
 use Rattle.fab_lines.specs.Items.{is_among}
 use Rattle.fab_blif.proofs.Each.{each_joined}
 use Rattle.fab_sample.specs.declared.net.Net.TheVariants as sample
-use Rattle.fab_sample.specs.Netlists.{net_name}
+use Rattle.fab_sample.specs.Netlists.{net_name, digit}
 use Rattle.fab_sample.specs.Drawn.{net_at, drawn_cover, drawn_latch, covers, latches}
-use Rattle.fab_sample_reads.specs.Items.{Pattern, Item, sign, pattern_row, item_rows, model_rows, cover_outputs, cover_inputs, latch_outputs, latch_inputs, Edge, edges}
+use Rattle.fab_sample_reads.specs.Items.{Pattern, Item, pattern_row, item_rows, model_rows, cover_outputs, cover_inputs, latch_outputs, latch_inputs, Edge, edges}
 use Rattle.fab_sample_reads.specs.Named.{item_covers, item_latches}
 use Rattle.fab_sample_reads.specs.Samples.{patterns_of, cover_item, latch_item, output_item, sample_items, input_words, output_words}
 use Rattle.fab_sample_reads.proofs.TextLines.{is_plain, is_word, is_row, are_rows, all_joined}
@@ -380,12 +380,12 @@ module _ (size : ℕ) (draws later : ℕ → ℕ) (some : 1 ≤ size) (most : si
       let read = later (2 * number) % (size * size) in
       let a = tagged_word 110 read refl (wide read (omega (arith, large, some, square))) in
       let b = tagged_word 113 number refl (wide number (omega (arith, below, most))) in
-      let words : list_all is_word (tagged 110 read ∷ tagged 113 number ∷ (sign drawn.initial ∷ []) ∷ []) ≡ true = rw (a, b, sign_word drawn.initial) refl in
-      rw (row_of (codes ".latch") (tagged 110 read ∷ tagged 113 number ∷ (sign drawn.initial ∷ []) ∷ []) refl words) refl
+      let words : list_all is_word (tagged 110 read ∷ tagged 113 number ∷ (digit drawn.initial ∷ []) ∷ []) ≡ true = rw (a, b, digit_word drawn.initial) refl in
+      rw (row_of (codes ".latch") (tagged 110 read ∷ tagged 113 number ∷ (digit drawn.initial ∷ []) ∷ []) refl words) refl
     where
-      sign_word : (bit : Bool) → is_word (sign bit ∷ []) ≡ true
-      sign_word true = refl
-      sign_word false = refl
+      digit_word : (bit : Bool) → is_word (digit bit ∷ []) ≡ true
+      digit_word true = refl
+      digit_word false = refl
 
   output_rows : (number : ℕ) → number < size → list_all is_row (item_rows (output_at size draws later number)) ≡ true
   output_rows number below =

@@ -1,6 +1,7 @@
 -- A model of covers and latches by the words of its lines.
-use Rattle.std.specs.Prelude.{ℕ, ◌+◌, ◌-◌, Bool, List, [], ◌∷◌, ◌++◌, codes, length, map, if◌then◌else◌, None}
+use Rattle.std.specs.Prelude.{ℕ, ◌+◌, ◌-◌, Bool, List, [], ◌∷◌, ◌++◌, codes, length, map, None}
 use Rattle.std.specs.List.{flat_map, join_with_byte}
+use Rattle.fab_sample.specs.Netlists.{digit}
 use Rattle.fab_models.specs.Words.{Word}
 use Rattle.fab_models.specs.Covers.{table_of}
 use Rattle.fab_models.specs.Plain as bodies
@@ -28,16 +29,13 @@ pub data Item : Type 0 where
   wire : (source output : Word) → Item
   latch : (input output : Word) → (initial : Bool) → Item
 
-abbrev pub sign : Bool → ℕ
-sign bit = if bit then 49 else 48
-
 abbrev pub pattern_row : Pattern → Row
-pattern_row pattern = (sign pattern.0 ∷ sign pattern.1 ∷ sign pattern.2 ∷ []) ∷ codes "1" ∷ []
+pattern_row pattern = (digit pattern.0 ∷ digit pattern.1 ∷ digit pattern.2 ∷ []) ∷ codes "1" ∷ []
 
 abbrev pub item_rows : Item → List Row
 item_rows (cover first second third output patterns) = (codes ".names" ∷ first ∷ second ∷ third ∷ output ∷ []) ∷ map pattern_row patterns
 item_rows (wire source output) = (codes ".names" ∷ source ∷ output ∷ []) ∷ (codes "1" ∷ codes "1" ∷ []) ∷ []
-item_rows (latch input output initial) = (codes ".latch" ∷ input ∷ output ∷ (sign initial ∷ []) ∷ []) ∷ []
+item_rows (latch input output initial) = (codes ".latch" ∷ input ∷ output ∷ (digit initial ∷ []) ∷ []) ∷ []
 
 -- a model of these ports and items
 abbrev pub model_rows : (name : Word) (inputs outputs : List Word) → List Item → List Row
@@ -54,7 +52,7 @@ abbrev pub statement_at : (line : ℕ) → Item → PlainStatement
 statement_at line (cover first second third output patterns) =
     record { line = line; body = bodies.cover (first ∷ second ∷ third ∷ []) output (table_of (map pattern_row patterns)) }
 statement_at line (wire source output) = record { line = line; body = bodies.cover (source ∷ []) output (table_of ((codes "1" ∷ codes "1" ∷ []) ∷ [])) }
-statement_at line (latch input output initial) = record { line = line; body = bodies.latch input output None (sign initial - 48) }
+statement_at line (latch input output initial) = record { line = line; body = bodies.latch input output None (digit initial - 48) }
 
 -- the statements of items whose rows begin on a line
 abbrev pub statements_from : (line : ℕ) → List Item → List PlainStatement

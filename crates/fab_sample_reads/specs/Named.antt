@@ -5,7 +5,8 @@ use Rattle.fab_models.specs.Words.{Word}
 use Rattle.fab_models.specs.Covers.{table_of}
 use Rattle.fab_netlist.specs.declared.netlist.Latch.{Latch}
 use Rattle.fab_netlist.specs.Plain.{PlainCover, PlainNetlist, name_of}
-use Rattle.fab_sample_reads.specs.Items.{Item, cover, wire, latch, sign, pattern_row}
+use Rattle.fab_sample_reads.specs.Items.{Item, cover, wire, latch, pattern_row}
+use Rattle.fab_sample.specs.Netlists.{digit}
 
 -- a cover by names: what it reads, what it drives, and its table
 pub record NamedCover : Type 0 where
@@ -35,7 +36,7 @@ item_covers (latch input output initial) = []
 abbrev pub item_latches : Item → List NamedLatch
 item_latches (cover first second third output patterns) = []
 item_latches (wire source output) = []
-item_latches (latch input output initial) = record { input = input; output = output; initial = sign initial - 48 } ∷ []
+item_latches (latch input output initial) = record { input = input; output = output; initial = digit initial - 48 } ∷ []
 
 -- the netlist has these ports, covers and latches, in their order
 pub record IsOfItems (netlist : PlainNetlist) (input_names output_names : List Word) (items : List Item) : Type 0 where
