@@ -11,6 +11,6 @@ mod tile;
 pub use borders::{begin_name, end_name, push_border_name, scalar, side_border};
 pub use config::{config_module, push_vector};
 pub use joins::{port_join, same_join};
-pub use matrix::matrix_module;
+pub use matrix::tile_matrix_module;
 pub use names::{letter, pad_name, part, prefixed};
 pub use tile::tile_module;

@@ -10,7 +10,7 @@ ghost use Rattle.fab_gen_tile.specs.inner.Places.{HasPlaces, placed_pair};
 
 use crate::names::prefixed;
 use fab_base::{Memory, Name};
-use fab_matrix::matrix_module as module_of_matrix;
+use fab_matrix::matrix_module;
 use fab_model::{Bel, Pair, TileType, WireRow};
 use fab_syntax::Module;
 use std::alloc::Global;
@@ -18,14 +18,14 @@ use std::alloc::Global;
 /// The module of the switch matrix of a tile. The time is linear in the names and the pairs.
 ///
 /// Want of memory is also the answer where the inputs of an output, or all select bits, are too many for 32 bits.
-pub fn matrix_module(alloc: Global, tile: &TileType) -> Result<Module, Memory>
+pub fn tile_matrix_module(alloc: Global, tile: &TileType) -> Result<Module, Memory>
     ensures { IfOk result (λ m. plain_module m ≡ matrix_module tile.now) }
 {
     let name = prefixed(alloc, b"matrix_", tile.name())?;
     let are_outputs = are_outputs(alloc, tile)?;
     let sides = sides_of(alloc, tile, &are_outputs)?;
     let pairs = placed_pairs(alloc, &sides.places, tile.pairs())?;
-    let module = module_of_matrix(alloc, &name, &sides.inputs, &sides.outputs, &pairs)?;
+    let module = matrix_module(alloc, &name, &sides.inputs, &sides.outputs, &pairs)?;
     Ok(module)
 }
 

@@ -22,7 +22,7 @@ use fab_base::Memory;
 use fab_drives::fabric_texts_show_drives;
 use fab_fabric::Fabric;
 use fab_gen_loader::loader_module;
-use fab_gen_tile::{config_module, matrix_module, tile_module};
+use fab_gen_tile::{config_module, tile_matrix_module, tile_module};
 use fab_kinds::Kind;
 use fab_model::{Bel, TileType};
 use fab_prim::{IoPad, Lut4c, Mux8, Prim};
@@ -205,7 +205,7 @@ fn push_matrix(alloc: Global, modules: &mut Vec<Module>, tile: &TileType) -> Res
     ensures { OnOk result (map plain_module modules.new.items
         ≡ map plain_module modules.old.items ++ matrix_modules tile.now (matrix_output_names tile.now)) }
 {
-    let matrix = matrix_module(alloc, tile)?;
+    let matrix = tile_matrix_module(alloc, tile)?;
     if matrix.items.is_empty() {
         return Ok(());
     }

@@ -5,7 +5,7 @@ use Rattle.fab_gen_tile.specs.Names.{matrix_module_name}
 use Rattle.fab_gen_tile.specs.TileModule.{matrix_input_names, matrix_output_names}
 use Rattle.fab_gen_tile.specs.inner.Places.{placed_pair}
 use Rattle.fab_gen_tile.proofs.Renumbered.{inputs_within, outputs_within, matrix_by_places}
-use Rattle.fab_gen_tile.proofs.matrix.matrix_module.Goals as goal
+use Rattle.fab_gen_tile.proofs.matrix.tile_matrix_module.Goals as goal
 
 pub matrix_module-requires-clause-inputs : goal.matrix_module-requires-clause-inputs
 matrix_module-requires-clause-inputs c =
