@@ -24,6 +24,33 @@ input_count kind = length (input_names kind)
 abbrev pub output_count : Kind → ℕ
 output_count kind = length (output_names kind)
 
+-- ---- pins by number
+
+-- of a LUT4c: I0, SR, EN and O
+abbrev pub lut_i0 : ℕ
+lut_i0 = 0
+
+abbrev pub lut_sr : ℕ
+lut_sr = 5
+
+abbrev pub lut_en : ℕ
+lut_en = 6
+
+abbrev pub lut_o : ℕ
+lut_o = 7
+
+-- of a pad: I, T and O
+abbrev pub pad_i : ℕ
+pad_i = 0
+
+abbrev pub pad_t : ℕ
+pad_t = 1
+
+abbrev pub pad_o : ℕ
+pad_o = 2
+
+-- ---- configuration bits
+
 -- how many configuration bits a BEL has
 abbrev pub bit_count : Kind → ℕ
 bit_count kinds.Lut4c = 19

@@ -1,5 +1,6 @@
 -- The nets of an implementation: their names, their wires, and where they may begin.
 use Rattle.std.specs.Prelude.{◌≡◌, ◌⊎◌, ℕ, List, [], ◌++◌, map, get_or, Contains}
+use Rattle.fab_kinds.specs.Pins.{lut_o, pad_o}
 use Rattle.fab_implementation.specs.fab_model.specs.Grid.{PlainFabric}
 use Rattle.fab_implementation.specs.fab_model.specs.Drive.{zero_bit, one_bit}
 use Rattle.fab_implementation.specs.fab_fabric.specs.declared.wire.Site.{Site}
@@ -78,12 +79,12 @@ pub record IsSource {X : Type 0} (fabric : PlainFabric) (lines : List (X × Site
   pub listed : Contains lines (thing, site)
   pub wire_is : wire ≡ pin_wire fabric site pin
 
--- O of a pad is pin 2, and O of a LUT4c is pin 7
+-- the net of an input begins at O of its pad, and that of a cell at O of its LUT4c
 abbrev pub IsRoot : PlainFabric → PlainImplementation → Net → Wire → Type 0
 IsRoot fabric implementation zero_net wire = IsConstant fabric zero_bit wire
 IsRoot fabric implementation one_net wire = IsConstant fabric one_bit wire
-IsRoot fabric implementation (port_net port) wire = IsSource fabric implementation.ins 2 port wire
-IsRoot fabric implementation (cell_net number) wire = IsSource fabric implementation.cells 7 number wire
+IsRoot fabric implementation (port_net port) wire = IsSource fabric implementation.ins pad_o port wire
+IsRoot fabric implementation (cell_net number) wire = IsSource fabric implementation.cells lut_o number wire
 
 -- the first wire of an edge is entered by an edge of the net, or the net may begin there
 abbrev pub IsRightStart : PlainFabric → PlainImplementation → PlainTree → List Edge → Edge → Type 0

@@ -1,6 +1,7 @@
 -- The sinks that the nets of a design have to reach.
 use Rattle.std.specs.Prelude.{◌≡◌, ◌↔◌, ℕ, ◌+◌, Bool, List, [], ◌∷◌, ◌++◌, map, Contains, Option, Some, None, nat_eq, bytes_eq, if◌then◌else◌}
 use Rattle.std.specs.List.{flat_map}
+use Rattle.fab_kinds.specs.Pins.{lut_i0, lut_sr, lut_en, pad_i, pad_t}
 use Rattle.fab_implementation.specs.fab_model.specs.Grid.{PlainFabric}
 use Rattle.fab_implementation.specs.fab_fabric.specs.declared.wire.Site.{Site}
 use Rattle.fab_implementation.specs.fab_fabric.specs.declared.wire.Wire.{Wire}
@@ -14,8 +15,6 @@ use Rattle.fab_legal.specs.Lines.{CellsHaveSites, PortsHavePads}
 use Rattle.fab_legal.specs.Steps.{pin_wire}
 use Rattle.fab_legal.specs.Nets.{Net, zero_net, one_net, net_among}
 
--- The pins of a LUT4c are I0 to I3, 5 is SR and 6 is EN; those of a pad are 0 for I and 1 for T.
-
 -- ---- which wires have to stand in which nets
 
 abbrev pub packed_net : PlainPacked → NetId → Net
@@ -25,13 +24,13 @@ pub data Required (fabric : PlainFabric) (packed : PlainPacked) (implementation 
   cell_input : {number pin : ℕ} {site : Site} {cell : PlainCell} {net : NetId} → Contains implementation.cells (number, site) → IsAt packed.cells number cell
       → IsAt cell.inputs pin net → Required fabric packed implementation (packed_net packed net) (pin_wire fabric site pin)
   latch_enable : {number init : ℕ} {site : Site} {cell : PlainCell} → Contains implementation.cells (number, site) → IsAt packed.cells number cell
-      → cell.latch ≡ Some init → Required fabric packed implementation one_net (pin_wire fabric site 6)
+      → cell.latch ≡ Some init → Required fabric packed implementation one_net (pin_wire fabric site lut_en)
   latch_reset : {number init : ℕ} {site : Site} {cell : PlainCell} → Contains implementation.cells (number, site) → IsAt packed.cells number cell
-      → cell.latch ≡ Some init → Required fabric packed implementation zero_net (pin_wire fabric site 5)
-  input_released : {port : List ℕ} {site : Site} → Contains implementation.ins (port, site) → Required fabric packed implementation zero_net (pin_wire fabric site 1)
+      → cell.latch ≡ Some init → Required fabric packed implementation zero_net (pin_wire fabric site lut_sr)
+  input_released : {port : List ℕ} {site : Site} → Contains implementation.ins (port, site) → Required fabric packed implementation zero_net (pin_wire fabric site pad_t)
   output_shown : {port : List ℕ} {site : Site} {net : NetId} → Contains implementation.outs (port, site) → Contains packed.outputs (port, net)
-      → Required fabric packed implementation (packed_net packed net) (pin_wire fabric site 0)
-  output_driven : {port : List ℕ} {site : Site} → Contains implementation.outs (port, site) → Required fabric packed implementation one_net (pin_wire fabric site 1)
+      → Required fabric packed implementation (packed_net packed net) (pin_wire fabric site pad_i)
+  output_driven : {port : List ℕ} {site : Site} → Contains implementation.outs (port, site) → Required fabric packed implementation one_net (pin_wire fabric site pad_t)
 
 -- ---- the same as a list, in order
 
@@ -50,10 +49,10 @@ input_sinks fabric site pin (net ∷ nets) = (net, pin_wire fabric site pin) ∷
 
 abbrev pub latch_sinks : PlainFabric → Site → Option ℕ → Sinks
 latch_sinks fabric site None = []
-latch_sinks fabric site (Some init) = (ids.One, pin_wire fabric site 6) ∷ (ids.Zero, pin_wire fabric site 5) ∷ []
+latch_sinks fabric site (Some init) = (ids.One, pin_wire fabric site lut_en) ∷ (ids.Zero, pin_wire fabric site lut_sr) ∷ []
 
 abbrev pub cell_sinks : PlainFabric → Site → PlainCell → Sinks
-cell_sinks fabric site cell = input_sinks fabric site 0 cell.inputs ++ latch_sinks fabric site cell.latch
+cell_sinks fabric site cell = input_sinks fabric site lut_i0 cell.inputs ++ latch_sinks fabric site cell.latch
 
 -- cells from this number on, each at its site
 abbrev pub cells_sinks : PlainFabric → (site_at : ℕ → Site) → (number : ℕ) → List PlainCell → Sinks
@@ -61,10 +60,10 @@ cells_sinks fabric site_at number [] = []
 cells_sinks fabric site_at number (cell ∷ cells) = cell_sinks fabric (site_at number) cell ++ cells_sinks fabric site_at (number + 1) cells
 
 abbrev pub input_port_sinks : PlainFabric → (site_at : List ℕ → Site) → List ℕ → Sinks
-input_port_sinks fabric site_at port = (ids.Zero, pin_wire fabric (site_at port) 1) ∷ []
+input_port_sinks fabric site_at port = (ids.Zero, pin_wire fabric (site_at port) pad_t) ∷ []
 
 abbrev pub output_port_sinks : PlainFabric → (site_at : List ℕ → Site) → List ℕ × NetId → Sinks
-output_port_sinks fabric site_at output = (output.1, pin_wire fabric (site_at output.0) 0) ∷ (ids.One, pin_wire fabric (site_at output.0) 1) ∷ []
+output_port_sinks fabric site_at output = (output.1, pin_wire fabric (site_at output.0) pad_i) ∷ (ids.One, pin_wire fabric (site_at output.0) pad_t) ∷ []
 
 -- for each cell its input pins, and with a latch EN and SR; for each input port T of its pad; for each output port I and T
 abbrev pub sinks : PlainFabric → PlainPacked → PlainImplementation → Sinks

@@ -2,6 +2,7 @@
 use Rattle.std.specs.Prelude.{◌≡◌, ◌⊎◌, ◌+◌, ◌<◌, ◌≤◌, ℕ, List, [], ◌∷◌, ◌++◌, All, length, get_or, Option, Some, None}
 use Rattle.std.specs.List.{flat_map}
 use Rattle.fab_kinds.specs.declared.kind.Kind.TheVariants as kinds
+use Rattle.fab_kinds.specs.Pins.{pad_i, pad_t}
 use Rattle.fab_implementation.specs.fab_model.specs.Grid.{PlainFabric}
 use Rattle.fab_implementation.specs.fab_netlist.specs.declared.net_id.NetId.{NetId}
 use Rattle.fab_implementation.specs.fab_netlist.specs.declared.net_id.NetId.TheVariants as ids
@@ -68,10 +69,10 @@ abbrev pub site_at : List Site → (number : ℕ) → Site
 site_at sites number = get_or sites number (record { x = 0; y = 0; bel = 0 })
 
 abbrev pub in_sinks : PlainFabric → Site → Sinks
-in_sinks fabric site = (ids.Zero, pin_wire fabric site 1) ∷ []
+in_sinks fabric site = (ids.Zero, pin_wire fabric site pad_t) ∷ []
 
 abbrev pub out_sinks : PlainFabric → Site → List ℕ × NetId → Sinks
-out_sinks fabric site output = (output.1, pin_wire fabric site 0) ∷ (ids.One, pin_wire fabric site 1) ∷ []
+out_sinks fabric site output = (output.1, pin_wire fabric site pad_i) ∷ (ids.One, pin_wire fabric site pad_t) ∷ []
 
 -- outputs from this number on, each at its site
 abbrev pub outs_sinks : PlainFabric → (site_of_number : ℕ → Site) → (number : ℕ) → List (List ℕ × NetId) → Sinks

@@ -3,6 +3,7 @@ use Rattle.std.specs.Prelude.{◌≡◌, ◌⊎◌, ℕ, ◌+◌, ◌<◌, true,
 use Rattle.indexmap.specs.IndexSet.{insert_all}
 use Rattle.fab_legal.specs.Turns.{AreRight}
 use Rattle.fab_legal.specs.inner.Tables.{entered_number}
+use Rattle.fab_kinds.specs.Pins.{lut_o, pad_o}
 use Rattle.fab_implementation.specs.fab_model.specs.Grid.{PlainFabric}
 use Rattle.fab_implementation.specs.fab_fabric.specs.declared.wire.Site.{Site}
 use Rattle.fab_implementation.specs.fab_fabric.specs.declared.wire.Wire.{Wire}
@@ -48,8 +49,8 @@ StartsAt fabric (roots.Source source) wire = wire ≡ source
 abbrev pub root_by : PlainFabric → Placed → NetId → Root
 root_by fabric placed ids.Zero = roots.Constant false
 root_by fabric placed ids.One = roots.Constant true
-root_by fabric placed (ids.In number) = roots.Source (pin_wire fabric (site_at placed.ins.sites.items number) 2)
-root_by fabric placed (ids.Cell number) = roots.Source (pin_wire fabric (site_at placed.cells.items number) 7)
+root_by fabric placed (ids.In number) = roots.Source (pin_wire fabric (site_at placed.ins.sites.items number) pad_o)
+root_by fabric placed (ids.Cell number) = roots.Source (pin_wire fabric (site_at placed.cells.items number) lut_o)
 
 abbrev pub IsStart : PlainFabric → Root → (entered : List ℕ) → List Edge → Edge → Type 0
 IsStart fabric root entered before edge = Contains entered edge.0.0 ⊎ StartsAt fabric root edge.0
