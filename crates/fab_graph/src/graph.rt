@@ -117,6 +117,13 @@ impl<'a> Graph<'a> {
         self.fabric.wires()
     }
 
+    /// States what holds of the fabric of every graph, for the calls that rest on it. It does nothing.
+    pub fn is_well_made(&self)
+        ensures { AreTiles self.now }
+    {
+        self.fabric.is_well_made();
+    }
+
     /// The wires to which a wire leads.
     pub fn ends(&self, wire: Wire) -> Ends<'_>
         requires { wire.0 < wire_count self.now }

@@ -19,7 +19,7 @@ pub fn goals_of(alloc: Global, graph: &Graph, nodes: &Nodes, sink: Wire) -> Resu
     requires unjoined { (from : Wire) → IsJoined graph.now from sink → ⊥ }
     ensures { IfOk result (λ goals. (node : ℕ) → Contains goals.items node ↔ IsBefore graph.now nodes.now sink node) }
 {
-    let _wires = graph.wires();
+    graph.is_well_made();
     let origins = graph.origins(sink);
     let mut goals = Vec::new(alloc);
     for index in 0..origins.len() {
