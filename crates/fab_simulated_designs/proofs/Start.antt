@@ -50,7 +50,8 @@ are_turns : (words : List (List Bool)) (moments : List Moment) → OfferWords wo
 are_turns [] [] offers = tt
 are_turns [] (moment ∷ moments) offers = absurd offers
 are_turns (bits ∷ words) [] offers = absurd offers
-are_turns (bits ∷ words) (moment ∷ moments) offers = ((offers.1, offers.0), are_turns words moments offers.2)
+are_turns (bits ∷ words) (moment ∷ moments) offers =
+    ((offers.1, record { strobe = offers.0.strobe; bits = λ bit few. offers.0.bits bit }), are_turns words moments offers.2)
 
 same_words : (words : List (List Bool)) → words_of (map word words) ≡ words
 same_words [] = refl

@@ -127,8 +127,8 @@ module _ (fabric : PlainFabric) (next : NextValues) (text : List PlainModule) (h
       ticks_here clock = subst (λ clock. Ticks (IsLoading text) text clock held now between) clock ticks
 
       machine_turns : (turn : Turn) → IsWordTurn turn → IsTurn turn moment → machine_at between loader_path rows ≡ after_turn rows (machine_at held loader_path rows) turn
-      machine_turns (word offered) long (clock, offers) =
-          word_ticks fabric next text has is keeps moment.inputs held now between settled (ticks_here clock) offered offers long
+      machine_turns (word offered) long (clock, writes) =
+          word_ticks fabric next text has is keeps moment.inputs held now between settled (ticks_here clock) offered writes long
       machine_turns pause long (clock, quiet) = quiet_ticks fabric next text has is keeps moment.inputs held now between settled (ticks_here clock) quiet
       machine_turns other_clock long other = machine_stays fabric next text has moment.clock other held now between ticks
 

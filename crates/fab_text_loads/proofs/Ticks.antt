@@ -12,7 +12,7 @@ use Rattle.fab_meaning.specs.Value.{value, bit_at}
 use Rattle.fab_meaning.specs.Points.{point, flop}
 use Rattle.fab_meaning.specs.Settled.{Assignment, names_at, IsSettledOn}
 use Rattle.fab_meaning.specs.Runs.{clock_name, is_clock, Ticks}
-use Rattle.fab_meaning.specs.Loading.{OffersWord, IsLoading, write_data_name, write_strobe_name}
+use Rattle.fab_meaning.specs.Loading.{IsLoading, write_data_name, write_strobe_name}
 use Rattle.fab_drives.specs.fab_model.specs.Tiles.{counted}
 use Rattle.fab_drives.specs.fab_model.specs.Grid.{PlainFabric}
 use Rattle.fab_drives.specs.fab_fabric.specs.Fabric.{IsFabric}
@@ -25,6 +25,7 @@ use Rattle.fab_drives.specs.fab_tile_drives.proofs.Endings.{all_counted}
 use Rattle.fab_loading.specs.Latches.{IsWord, IsMachine}
 use Rattle.fab_loading.specs.Streams.{TicksKeepMachines}
 use Rattle.fab_text_loads.specs.Points.{loader_path, in_loader}
+use Rattle.fab_text_loads.specs.Loads.{WritesWord}
 use Rattle.fab_text_loads.proofs.Loader.{HasLoader, strobe_register_width, register_names, all_registers, row_register, IsFlop, registers_are_flops, loader_clock}
 use Rattle.fab_text_loads.proofs.Named.{named_are_loading}
 use Rattle.fab_text_loads.proofs.Settled.{register_shows, input_shows}
@@ -140,14 +141,15 @@ module _ (fabric : PlainFabric) (next : NextValues) (text : List PlainModule) (h
       (may.words row [] (omega (arith, few, may.as_many))) (row_width rows next row few)) in
       λ j. record { state = state j; count = count j; address = address j; strobe = strobe j; rows = others j }
 
-  -- the machine after the tick, where the inputs offer a word
-  pub word_ticks : (word : Word) → OffersWord word inputs → IsWord word → machine_at after loader_path rows ≡ tick rows (machine_at held loader_path rows) true word
-  word_ticks word offers long =
+  -- the machine after the tick, where the inputs write a word
+  pub word_ticks : (word : Word) → WritesWord word inputs → IsWord word → machine_at after loader_path rows ≡ tick rows (machine_at held loader_path rows) true word
+  word_ticks word writes long =
       let strobe : now (point loader_path write_strobe_name 0) ≡ true =
-      input_shows fabric next text has is inputs held now settled write_strobe_name 0 (1, omega arith, refl) (1, omega arith, refl) refl refl (omega arith) (omega arith) ∙ offers.strobe in
+      input_shows fabric next text has is inputs held now settled write_strobe_name 0 (1, omega arith, refl) (1, omega arith, refl) refl refl (omega arith) (omega arith) ∙ writes.strobe in
       let bits : bits_at now loader_path write_data_name 32 ≡ word =
       first_bits_same 32 (λ bit. now (point loader_path write_data_name bit)) (λ bit. bit_at word bit)
-      (λ bit few. input_shows fabric next text has is inputs held now settled write_data_name bit (2, omega arith, refl) (2, omega arith, refl) refl refl few few ∙ offers.bits bit)
+      (λ bit few. input_shows fabric next text has is inputs held now settled write_data_name bit (2, omega arith, refl) (2, omega arith, refl) refl refl few few
+      ∙ writes.bits bit (omega (arith, few, long)))
       ∙ ap (λ n. first_bits n (λ bit. bit_at word bit)) (sym long)
       ∙ bits_again word in
       machine_steps ∙ (λ j. tick rows (shown_machine j) (strobe j) (bits j))
@@ -160,7 +162,7 @@ module _ (fabric : PlainFabric) (next : NextValues) (text : List PlainModule) (h
       input_shows fabric next text has is inputs held now settled write_strobe_name 0 (1, omega arith, refl) (1, omega arith, refl) refl refl (omega arith) (omega arith) ∙ quiet in
       λ j. tick rows (shown_machine j) (strobe j) (bits_at now loader_path write_data_name 32)
 
-  -- the machine after the tick, where they offer none
+  -- the machine after the tick, where they write none
   pub quiet_ticks : inputs (point [] write_strobe_name 0) ≡ false → machine_at after loader_path rows ≡ tick rows (machine_at held loader_path rows) false []
   quiet_ticks quiet = machine_steps ∙ quiet_step quiet
 

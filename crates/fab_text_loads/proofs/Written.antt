@@ -21,7 +21,7 @@ offer bits = record { inputs = offered bits; clock = clock_name }
 
 are_turns : (words : List (List Bool)) → AllZip IsTurn (map word words) (map offer words)
 are_turns [] = tt
-are_turns (bits ∷ words) = ((refl, record { strobe = refl; bits = λ bit. refl }), are_turns words)
+are_turns (bits ∷ words) = ((refl, record { strobe = refl; bits = λ bit few. refl }), are_turns words)
 
 same_words : (words : List (List Bool)) → words_of (map word words) ≡ words
 same_words [] = refl

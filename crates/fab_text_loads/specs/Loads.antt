@@ -1,12 +1,13 @@
 -- The law of loading: the words of a bitstream leave the text of a fabric configured, whatever it held, however the clocks tick between words.
-use Rattle.std.specs.Prelude.{◌≡◌, ◌≢◌, ◌<◌, ℕ, Bool, true, false, List, [], All}
+use Rattle.std.specs.Prelude.{◌≡◌, ◌≢◌, ◌<◌, ℕ, Bool, true, false, List, [], length, All}
 use Rattle.std.specs.List.{AllZip}
 use Rattle.fab_syntax.specs.Plain.{PlainModule}
+use Rattle.fab_meaning.specs.Value.{bit_at}
 use Rattle.fab_meaning.specs.Points.{Point, point}
 use Rattle.fab_meaning.specs.Settled.{Assignment, IsSettledOn}
 use Rattle.fab_meaning.specs.Reads.{is_declared}
 use Rattle.fab_meaning.specs.Runs.{clock_name, Moment, IsRunOn}
-use Rattle.fab_meaning.specs.Loading.{OffersWord, IsLoading, IsSameStream, IsIdle, write_strobe_name}
+use Rattle.fab_meaning.specs.Loading.{IsLoading, IsSameStream, IsIdle, write_strobe_name, write_data_name}
 use Rattle.fab_drives.specs.fab_model.specs.Grid.{PlainFabric}
 use Rattle.fab_drives.specs.fab_model.specs.Drive.{PlainBits}
 use Rattle.fab_drives.specs.fab_gen_loader.specs.Loader.{state_name, strobe_register_name}
@@ -22,9 +23,14 @@ use Rattle.fab_text_loads.specs.Points.{loader_path, IsLoadingPoint}
 abbrev pub IsQuiet : Moment → Type 0
 IsQuiet moment = moment.inputs (point [] write_strobe_name 0) ≡ false
 
+-- Inputs that write a word, with bit 0 the least significant. Of WriteData the text of a fabric declares no further bits.
+pub record WritesWord (offered : List Bool) (inputs : Assignment) : Type 0 where
+  pub strobe : inputs (point [] write_strobe_name 0) ≡ true
+  pub bits : (bit : ℕ) → bit < length offered → inputs (point [] write_data_name bit) ≡ bit_at offered bit
+
 -- What the loader sees at the end of a moment. Where another clock than CLK ticks, the inputs are free.
 abbrev pub IsTurn : Turn → Moment → Type 0
-IsTurn (word offered) moment = (moment.clock ≡ clock_name) × OffersWord offered moment.inputs
+IsTurn (word offered) moment = (moment.clock ≡ clock_name) × WritesWord offered moment.inputs
 IsTurn pause moment = (moment.clock ≡ clock_name) × IsQuiet moment
 IsTurn other_clock moment = moment.clock ≢ clock_name
 
