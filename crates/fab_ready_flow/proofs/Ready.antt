@@ -32,6 +32,7 @@ use Rattle.fab_outputs.specs.Storing.{PlainOutput, with_outputs}
 use Rattle.fab_simulated_flow.specs.fab_flow.specs.Generating.{generated_text}
 use Rattle.fab_simulated_flow.specs.fab_flow.specs.Flowing.{FlowFiles, MakesFlow, flow_outputs}
 use Rattle.fab_simulated_flow.specs.fab_simulate.specs.Simulating.{HasPoints, IsReadyToSimulate, ReadsDevice, ReadsState, ReadsStimulus, ReadsWords, simulation_files}
+use Rattle.fab_simulated_flow.specs.Laws.{KeepsFlowFiles}
 use Rattle.fab_simulated_flow.proofs.Stored as stored_files
 use Rattle.fab_ready_flow.specs.Laws.{flow_state}
 use Rattle.fab_ready_flow.proofs.Words.{words_fit}
@@ -66,7 +67,8 @@ plain_name base ending first second =
 module _ (read_again : GeneratedTextsAreRead) (are_sound : SpelledDesignsAreSound) (are_spelled : LegalDesignsAreSpelled) (have_streams : FabricTextsHaveStreams)
     (have_entries : LegalStatesHaveEntries) (are_short : BitstreamsAreShort)
     (files : Map) (names : FlowFiles) (allowed : ℕ) (stored : List PlainOutput) (flow : MakesFlow files names allowed stored)
-    (plain : is_utf8 names.base ≡ true) (few : whole_count (generated_text flow.design.fabric) ≤ most_points) (short : length (state_text (flow_state flow)) ≤ MAX_FILE_BYTES) where
+    (plain : is_utf8 names.base ≡ true) (few : whole_count (generated_text flow.design.fabric) ≤ most_points) (short : length (state_text (flow_state flow)) ≤ MAX_FILE_BYTES)
+    (later : Map) (kept : KeepsFlowFiles names.base (with_outputs stored files) later) where
   abbrev fabric : PlainFabric
   fabric = flow.design.fabric
 
@@ -90,10 +92,10 @@ module _ (read_again : GeneratedTextsAreRead) (are_sound : SpelledDesignsAreSoun
       (flow.made.outputs_are
       ∙ ap (flow_outputs names.base (text_bytes (generated_text fabric)) (implementation_text fabric implementation)) flow.made.assembly.outputs_are)
 
-  handed : (ending bytes : List ℕ) → is_utf8 ending ≡ true → after (names.base ++ ending) ≡ Some bytes → length bytes ≤ MAX_FILE_BYTES →
-      handed_out (with_outputs stored files) (names.base ++ ending) ≡ Ok bytes
-  handed ending bytes is_text there few_bytes =
-      given_out (with_outputs stored files) (names.base ++ ending) bytes (plain_name names.base ending plain is_text) (ap (λ (m : Map). m (names.base ++ ending)) after_is ∙ there) few_bytes
+  handed : (ending bytes : List ℕ) → is_utf8 ending ≡ true → later (names.base ++ ending) ≡ with_outputs stored files (names.base ++ ending) →
+      after (names.base ++ ending) ≡ Some bytes → length bytes ≤ MAX_FILE_BYTES → handed_out later (names.base ++ ending) ≡ Ok bytes
+  handed ending bytes is_text same there few_bytes =
+      given_out later (names.base ++ ending) bytes (plain_name names.base ending plain is_text) (same ∙ ap (λ (m : Map). m (names.base ++ ending)) after_is ∙ there) few_bytes
 
   sound : IsSound flow.design
   sound = are_sound files names.design flow.design flow.spelled
@@ -101,10 +103,10 @@ module _ (read_again : GeneratedTextsAreRead) (are_sound : SpelledDesignsAreSoun
   has : HasSpelling state
   has = (are_spelled files names.design flow.design implementation flow.spelled flow.made.legal).state
 
-  device : ReadsDevice (with_outputs stored files) (names.base ++ codes ".v") (generated_text fabric)
+  device : ReadsDevice later (names.base ++ codes ".v") (generated_text fabric)
   device = record {
     bytes = text_bytes (generated_text fabric);
-    found = handed (codes ".v") (text_bytes (generated_text fabric)) text_name (stored_files.text_stands files names.base _ _ _ words state) flow.made.readable;
+    found = handed (codes ".v") (text_bytes (generated_text fabric)) text_name kept.text (stored_files.text_stands files names.base _ _ _ words state) flow.made.readable;
     spelled = record {
       spelled = (read_again files names.design.fabric fabric flow.spelled.fabric sound.fabric sound.tiles).1;
       sound = flow.made.text.sound;
@@ -112,10 +114,10 @@ module _ (read_again : GeneratedTextsAreRead) (are_sound : SpelledDesignsAreSoun
     };
   }
 
-  loaded : ReadsWords (with_outputs stored files) (names.base ++ codes ".bit") words
+  loaded : ReadsWords later (names.base ++ codes ".bit") words
   loaded = record {
     bytes = flat_map word_bytes words;
-    found = handed (codes ".bit") (flat_map word_bytes words) words_name (stored_files.words_stand files names.base _ _ _ words state)
+    found = handed (codes ".bit") (flat_map word_bytes words) words_name kept.words (stored_files.words_stand files names.base _ _ _ words state)
         (are_short fabric flow.made.assembly.bits sound.fabric);
     spelled = record { fit = words_fit fabric sound.fabric flow.made.assembly.bits; bytes_are = refl };
   }
@@ -129,15 +131,15 @@ module _ (read_again : GeneratedTextsAreRead) (are_sound : SpelledDesignsAreSoun
   spells : Spells (rows_of (state_text state)) state
   spells = record { lines = rows_again (state_lines state) (state_rows state has); fresh = has.fresh }
 
-  stands : ReadsState (with_outputs stored files) (names.base ++ codes ".state") (generated_text fabric) state
+  stands : ReadsState later (names.base ++ codes ".state") (generated_text fabric) state
   stands = record {
     bytes = state_text state;
-    found = handed (codes ".state") (state_text state) state_name (stored_files.state_stands files names.base _ _ _ words state) short;
+    found = handed (codes ".state") (state_text state) state_name kept.state (stored_files.state_stands files names.base _ _ _ words state) short;
     spelled = record { spelled = spells; says = spelled_is_read (rows_of (state_text state)) state spells; points = points };
   }
 
-  pub ready : (stimulus trace : List ℕ) (lines : List (List Bool)) → ReadsStimulus (with_outputs stored files) stimulus state lines →
-      IsReadyToSimulate (with_outputs stored files)
+  pub ready : (stimulus trace : List ℕ) (lines : List (List Bool)) → ReadsStimulus later stimulus state lines →
+      IsReadyToSimulate later
       (simulation_files (names.base ++ codes ".v") (names.base ++ codes ".bit") (names.base ++ codes ".state") stimulus trace)
   ready stimulus trace lines given = record {
     text = generated_text fabric;

@@ -12,17 +12,19 @@ use Rattle.fab_outputs.specs.Storing.{PlainOutput, with_outputs}
 use Rattle.fab_simulated_flow.specs.fab_flow.specs.Generating.{generated_text}
 use Rattle.fab_simulated_flow.specs.fab_flow.specs.Flowing.{FlowFiles, MakesFlow}
 use Rattle.fab_simulated_flow.specs.fab_simulate.specs.Simulating.{IsReadyToSimulate, ReadsStimulus, simulation_files}
+use Rattle.fab_simulated_flow.specs.Laws.{KeepsFlowFiles}
 
 -- the state that stands behind the files
 abbrev pub flow_state : {files : Map} {names : FlowFiles} {allowed : ℕ} {stored : List PlainOutput} → MakesFlow files names allowed stored → PlainState
 flow_state flow = design_state (packed flow.design.netlist) flow.made.implementation
 
--- Where the five files of a flow stand, nothing of BASE.v, BASE.bit and BASE.state is refused, if the text does not have too many points and the text of the
+-- As long as BASE.v, BASE.bit and BASE.state of a flow stand, nothing of them is refused, if the text does not have too many points and the text of the
 -- state is not too long. So with a stimulus for the ports of the netlist nothing is refused at all.
 abbrev pub FlowFilesAreReady : Type 0
 FlowFilesAreReady =
     (files : Map) (names : FlowFiles) (allowed : ℕ) (stored : List PlainOutput) (flow : MakesFlow files names allowed stored) →
     is_utf8 names.base ≡ true → whole_count (generated_text flow.design.fabric) ≤ most_points → length (state_text (flow_state flow)) ≤ MAX_FILE_BYTES →
-    (stimulus trace : List ℕ) (lines : List (List Bool)) → ReadsStimulus (with_outputs stored files) stimulus (flow_state flow) lines →
-    IsReadyToSimulate (with_outputs stored files)
+    (later : Map) → KeepsFlowFiles names.base (with_outputs stored files) later →
+    (stimulus trace : List ℕ) (lines : List (List Bool)) → ReadsStimulus later stimulus (flow_state flow) lines →
+    IsReadyToSimulate later
     (simulation_files (names.base ++ codes ".v") (names.base ++ codes ".bit") (names.base ++ codes ".state") stimulus trace)

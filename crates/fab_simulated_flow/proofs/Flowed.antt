@@ -42,7 +42,7 @@ use Rattle.fab_outputs.specs.Storing.{PlainOutput, output, with_outputs}
 use Rattle.fab_flow.specs.Generating.{generated_text}
 use Rattle.fab_flow.specs.Flowing.{FlowFiles, MakesFlow, flow_outputs}
 use Rattle.fab_simulate.specs.Simulating.{MakesTrace, Shows, simulation_files}
-use Rattle.fab_simulated_flow.specs.Laws.{TracesNetlist}
+use Rattle.fab_simulated_flow.specs.Laws.{KeepsFlowFiles, TracesNetlist}
 use Rattle.fab_simulated_flow.proofs.Digits.{same_digits}
 use Rattle.fab_simulated_flow.proofs.Narrow.{narrow_text}
 use Rattle.fab_simulated_flow.proofs.Shown.{input_names, lines_known, output_names, shown_values}
@@ -64,9 +64,9 @@ record ShowsRun (netlist : PlainNetlist) (lines : List (List Bool)) (shown : Lis
   shows : shown ≡ map (shown_by netlist) nows
 
 module _ (read_again : GeneratedTextsAreRead) (simulate : LegalDesignsSimulate) (in_order : LegalDesignsSimulateInOrder) (are_sound : SpelledDesignsAreSound) (are_spelled : LegalDesignsAreSpelled)
-    (files : Map) (names : FlowFiles) (allowed : ℕ) (stored : List PlainOutput) (flow : MakesFlow files names allowed stored) (stimulus trace : List ℕ)
-    (order : Option ℕ) (outputs : List PlainOutput)
-    (made : MakesTrace (with_outputs stored files)
+    (files : Map) (names : FlowFiles) (allowed : ℕ) (stored : List PlainOutput) (flow : MakesFlow files names allowed stored)
+    (later : Map) (kept : KeepsFlowFiles names.base (with_outputs stored files) later) (stimulus trace : List ℕ) (order : Option ℕ) (outputs : List PlainOutput)
+    (made : MakesTrace later
     (simulation_files (names.base ++ codes ".v") (names.base ++ codes ".bit") (names.base ++ codes ".state") stimulus trace) order outputs) where
   abbrev fabric : PlainFabric
   fabric = flow.design.fabric
@@ -94,8 +94,8 @@ module _ (read_again : GeneratedTextsAreRead) (simulate : LegalDesignsSimulate) 
       (flow.made.outputs_are
       ∙ ap (flow_outputs names.base (text_bytes (generated_text fabric)) (implementation_text fabric implementation)) flow.made.assembly.outputs_are)
 
-  stands : (name bytes : List ℕ) → after name ≡ Some bytes → with_outputs stored files name ≡ Some bytes
-  stands name bytes there = ap (λ (m : Map). m name) after_is ∙ there
+  stands : (name bytes : List ℕ) → later name ≡ with_outputs stored files name → after name ≡ Some bytes → later name ≡ Some bytes
+  stands name bytes same there = same ∙ ap (λ (m : Map). m name) after_is ∙ there
 
   sound : IsSound flow.design
   sound = are_sound files names.design flow.design flow.spelled
@@ -109,12 +109,12 @@ module _ (read_again : GeneratedTextsAreRead) (simulate : LegalDesignsSimulate) 
   printed : IsPrintableText (generated_text fabric) × SpellsText 300 128 (text_bytes (generated_text fabric)) (generated_text fabric)
   printed = read_again files names.design.fabric fabric flow.spelled.fabric sound.fabric sound.tiles
 
-  text_stands : with_outputs stored files (names.base ++ codes ".v") ≡ Some (text_bytes (generated_text fabric))
-  text_stands = stands _ _ (stored_files.text_stands files names.base _ _ _ words state)
+  text_stands : later (names.base ++ codes ".v") ≡ Some (text_bytes (generated_text fabric))
+  text_stands = stands _ _ kept.text (stored_files.text_stands files names.base _ _ _ words state)
 
   text_is : made.text ≡ generated_text fabric
   text_is =
-      let bytes_are = stored_files.found_is (with_outputs stored files) (names.base ++ codes ".v") made.device.bytes (text_bytes (generated_text fabric)) text_stands made.device.found in
+      let bytes_are = stored_files.found_is later (names.base ++ codes ".v") made.device.bytes (text_bytes (generated_text fabric)) text_stands made.device.found in
       text_once 300 128 300 128 made.device.bytes made.text (generated_text fabric) made.device.spelled.spelled
       (subst (λ (b : List ℕ). SpellsText 300 128 b (generated_text fabric)) (sym bytes_are) printed.1)
 
@@ -122,18 +122,18 @@ module _ (read_again : GeneratedTextsAreRead) (simulate : LegalDesignsSimulate) 
   narrow : AreNarrow (generated_text fabric)
   narrow =
       narrow_text (generated_text fabric) printed.0.1
-      (stored_files.found_short (with_outputs stored files) (names.base ++ codes ".v") made.device.bytes (text_bytes (generated_text fabric)) text_stands made.device.found)
+      (stored_files.found_short later (names.base ++ codes ".v") made.device.bytes (text_bytes (generated_text fabric)) text_stands made.device.found)
 
   words_are : map (digits 32) made.made.words ≡ map (digits 32) words
   words_are =
-      let bytes_are = stored_files.found_is (with_outputs stored files) (names.base ++ codes ".bit") made.made.loaded.bytes (flat_map word_bytes words)
-      (stands _ _ (stored_files.words_stand files names.base _ _ _ words state)) made.made.loaded.found in
+      let bytes_are = stored_files.found_is later (names.base ++ codes ".bit") made.made.loaded.bytes (flat_map word_bytes words)
+      (stands _ _ kept.words (stored_files.words_stand files names.base _ _ _ words state)) made.made.loaded.found in
       same_digits made.made.words words (sym made.made.loaded.spelled.bytes_are ∙ bytes_are)
 
   state_is : made.made.state ≡ state
   state_is =
-      let bytes_are = stored_files.found_is (with_outputs stored files) (names.base ++ codes ".state") made.made.stands.bytes (state_text state)
-      (stands _ _ (stored_files.state_stands files names.base _ _ _ words state)) made.made.stands.found in
+      let bytes_are = stored_files.found_is later (names.base ++ codes ".state") made.made.stands.bytes (state_text state)
+      (stands _ _ kept.state (stored_files.state_stands files names.base _ _ _ words state)) made.made.stands.found in
       state_again made.made.stands.bytes state made.made.state has bytes_are made.made.stands.spelled.says
 
   abbrev shown : List (List PlainTern)
@@ -158,7 +158,7 @@ module _ (read_again : GeneratedTextsAreRead) (simulate : LegalDesignsSimulate) 
       sound.netlist no_cycle flow.made.legal flow.made.assembly.configures (draws_of seed) lines ordered.bits ordered.simulates in
       record { nows = it.nows; run = it.run; shows = ordered.known_is ∙ ap (map (map known)) it.shows ∙ lines_known netlist it.nows }
 
-  pub traces_netlist : TracesNetlist (with_outputs stored files) stimulus trace netlist outputs
+  pub traces_netlist : TracesNetlist later stimulus trace netlist outputs
   traces_netlist =
       let ins_are : ports_of made.made.state.ins ≡ (packed netlist).inputs =
       ap (λ (s : PlainState). ports_of s.ins) state_is ∙ input_names implementation.ins (packed netlist).inputs in

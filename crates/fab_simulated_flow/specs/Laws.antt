@@ -32,12 +32,19 @@ pub record TracesNetlist (files : Map) (stimulus trace : List ℕ) (netlist : Pl
   pub run : IsRun netlist (initial_latches netlist) lines nows
   pub outputs_are : outputs ≡ output trace (trace_text (map (λ port. port.0) (packed netlist).outputs) (map (port_values netlist) nows)) ∷ []
 
--- Where the five files of a flow stand, what `simulate` makes of BASE.v, BASE.bit and BASE.state is the trace of the netlist. That is so without an order,
--- and with one for every seed: whatever is drawn for points at power-up, and in whichever order points change.
+-- BASE.v, BASE.bit and BASE.state are what a flow stored. Any other file may have changed since, as where a stimulus is written afterwards.
+pub record KeepsFlowFiles (base : List ℕ) (stored later : Map) : Type 0 where
+  pub text : later (base ++ codes ".v") ≡ stored (base ++ codes ".v")
+  pub words : later (base ++ codes ".bit") ≡ stored (base ++ codes ".bit")
+  pub state : later (base ++ codes ".state") ≡ stored (base ++ codes ".state")
+
+-- As long as these stand, what `simulate` makes of BASE.v, BASE.bit and BASE.state of a flow is the trace of the netlist. That is so without an order, and
+-- with one for every seed: whatever is drawn for points at power-up, and in whichever order points change.
 abbrev pub FlowFilesSimulate : Type 0
 FlowFilesSimulate =
     (files : Map) (names : FlowFiles) (allowed : ℕ) (stored : List PlainOutput) (flow : MakesFlow files names allowed stored) →
+    (later : Map) → KeepsFlowFiles names.base (with_outputs stored files) later →
     (stimulus trace : List ℕ) (order : Option ℕ) (outputs : List PlainOutput) →
-    MakesTrace (with_outputs stored files)
+    MakesTrace later
     (simulation_files (names.base ++ codes ".v") (names.base ++ codes ".bit") (names.base ++ codes ".state") stimulus trace) order outputs →
-    TracesNetlist (with_outputs stored files) stimulus trace flow.design.netlist outputs
+    TracesNetlist later stimulus trace flow.design.netlist outputs
