@@ -1,20 +1,20 @@
 -- What is simulated of the files that `flow` stored of a sample.
-use Rattle.std.proofs.Common.{◌≡◌, ℕ, List, None, Some, refl, sym, subst}
+use Rattle.std.proofs.Common.{◌≡◌, ℕ, None, Some, refl, sym, subst}
 use Rattle.fab_base.specs.declared.fault.Fault.{Fault}
 use Rattle.fab_base.specs.declared.fault.Fault.TheVariants as faults
 use Rattle.fab_desk.specs.Files.{Map}
 use Rattle.fab_desk.specs.Memory.{map_of}
 use Rattle.fab_netlist.specs.Packing.{packed}
 use Rattle.fab_ways.specs.Placing.{cost}
-use Rattle.fab_outputs.specs.Storing.{IsDone, PlainOutput, with_outputs}
+use Rattle.fab_outputs.specs.Storing.{IsDone, with_outputs}
 use Rattle.fab_sample_runs.specs.fab_simulate.specs.Simulating.{HasSimulateCause, IsReadyToSimulate, MakesTrace, MeetsSimulation, simulate_refusals}
 use Rattle.fab_sample_runs.specs.fab_simulate.proofs.SimulatedOnce.{not_both}
-use Rattle.fab_sample_runs.specs.fab_simulated_flow.specs.Laws.{FlowFilesSimulate, TracesNetlist}
+use Rattle.fab_sample_runs.specs.fab_simulated_flow.specs.Laws.{FlowFilesSimulate}
 use Rattle.fab_draws.specs.Draws.{draws_of}
 use Rattle.fab_sample_runs.specs.Commands.{rounds, simulated, names}
 use Rattle.fab_sample_runs.specs.Laws.{SamplesSimulate}
 use Rattle.fab_sampling.specs.declared.run.Run.{Run}
-use Rattle.fab_sampling.specs.inner.Running.{files_of, HasFlowed}
+use Rattle.fab_sampling.specs.inner.Running.{files_of, HasFlowed, HasTraced}
 use Rattle.fab_sampling.specs.Sampling.{IsMapped}
 use Rattle.fab_sampling.specs.Summary.{edge_count}
 use Rattle.fab_sampling.proofs.Ending.{memory_alone}
@@ -24,12 +24,18 @@ use Rattle.fab_sampling.proofs.Told.{sample_told}
 module _ (run : Run) (flowed : HasFlowed run) where
   -- the trace is that of the netlist
   pub traced : FlowFilesSimulate → (after : Map) → IsDone (λ files. MakesTrace files simulated None) (Some (map_of run.shelf)) (Some after)
-      → (trace : List PlainOutput) × TracesNetlist (with_outputs flowed.stored (files_of run)) simulated.stimulus simulated.trace flowed.flow.design.netlist trace
-  traced law after done = (
-    done.outputs,
-    law (files_of run) names rounds flowed.stored flowed.flow simulated.stimulus simulated.trace None done.outputs
-        (subst (λ (files : Map). MakesTrace files simulated None done.outputs) flowed.files (done.made (map_of run.shelf) refl)),
-  )
+      → HasTraced run flowed
+  traced law after done =
+      let there = with_outputs flowed.stored (files_of run) in
+      let made : MakesTrace there simulated None done.outputs =
+      subst (λ (files : Map). MakesTrace files simulated None done.outputs) flowed.files (done.made (map_of run.shelf) refl) in
+      record {
+        trace = done.outputs;
+        made = made;
+        traces =
+            law (files_of run) names rounds flowed.stored flowed.flow there (record { text = refl; words = refl; state = refl }) simulated.stimulus simulated.trace None
+            done.outputs made;
+      }
 
   -- nothing is refused
   pub simulate_ends : SamplesSimulate → (reads writes : Type 0) → (reads → ⊥) → (writes → ⊥) → (fault : Fault)
@@ -44,12 +50,8 @@ module _ (run : Run) (flowed : HasFlowed run) where
   -- What is told of it, where the run went on by reading files alone.
   module _ (after : Run) (same : after ≡ record run { shelf = after.shelf }) (files : map_of after.shelf ≡ map_of run.shelf) where
     pub mapped_of : (price count : ℕ) → price ≡ cost (packed flowed.flow.design.netlist) flowed.flow.made.implementation → count ≡ edge_count flowed.flow.made.implementation
-        → ((again : HasFlowed after) → (trace : List PlainOutput)
-        × TracesNetlist (with_outputs again.stored (files_of after)) simulated.stimulus simulated.trace again.flow.design.netlist trace)
-        → IsMapped (files_of run) price count
+        → ((again : HasFlowed after) → HasTraced after again) → IsMapped (files_of run) price count
     unfolding still_flowed
     mapped_of price count price_is count_is traces =
-        let there = subst (λ (r : Run). (again : HasFlowed r) → (trace : List PlainOutput)
-        × TracesNetlist (with_outputs again.stored (files_of r)) simulated.stimulus simulated.trace again.flow.design.netlist trace) same traces
-        (still_flowed run after.shelf files flowed) in
-        record { stored = flowed.stored; flow = flowed.flow; trace = there.0; traces = there.1; cost = price_is; edges = count_is }
+        let there = subst (λ (r : Run). (again : HasFlowed r) → HasTraced r again) same traces (still_flowed run after.shelf files flowed) in
+        record { stored = flowed.stored; flow = flowed.flow; trace = there.trace; made = there.made; traces = there.traces; cost = price_is; edges = count_is }

@@ -8,6 +8,7 @@ use Rattle.fab_ways.specs.Placing.{cost}
 use Rattle.fab_designs.specs.Designs.{PlainDesign, SpellsDesign}
 use Rattle.fab_outputs.specs.Storing.{PlainOutput, output, with_outputs}
 use Rattle.fab_sample_runs.specs.fab_flow.specs.Flowing.{FailsToFlow, MakesFlow}
+use Rattle.fab_sample_runs.specs.fab_simulate.specs.Simulating.{MakesTrace}
 use Rattle.fab_sample_runs.specs.fab_simulated_flow.specs.Laws.{TracesNetlist}
 use Rattle.fab_sample.specs.declared.file.File.{File}
 use Rattle.fab_draws.specs.Draws.{draws_of}
@@ -35,12 +36,13 @@ sample_map size seed = only (sample_files size (draws_of seed))
 
 -- ---- what a summary tells
 
--- `flow` makes files of the sample, and these, simulated, have the trace of the netlist. The cost and the edges are those of the implementation that
--- stands behind the files.
+-- `flow` makes files of the sample. What `simulate` makes of them and of the stimulus is the trace of the netlist. The cost and the edges are those of the
+-- implementation that stands behind the files.
 pub record IsMapped (files : Map) (price count : ℕ) : Type 0 where
   pub stored : List PlainOutput
   pub flow : MakesFlow files names rounds stored
   pub trace : List PlainOutput
+  pub made : MakesTrace (with_outputs stored files) simulated None trace
   pub traces : TracesNetlist (with_outputs stored files) simulated.stimulus simulated.trace flow.design.netlist trace
   pub cost : price ≡ cost (packed flow.design.netlist) flow.made.implementation
   pub edges : count ≡ edge_count flow.made.implementation

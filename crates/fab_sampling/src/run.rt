@@ -1,13 +1,11 @@
 //! A sample on its way through the commands.
 
-ghost use Rattle.std.specs.Prelude.{◌≡◌, ◌≢◌, ◌≤◌, List, None, IfErr, IfOk, OnOk};
+ghost use Rattle.std.specs.Prelude.{◌≡◌, ◌≢◌, ◌≤◌, IfErr, IfOk, OnOk};
 ghost use Rattle.fab_base.specs.declared.fault.Fault.TheVariants as faults;
 ghost use Rattle.fab_desk.specs.Memory.{map_of};
 ghost use Rattle.fab_designs.specs.Designs.{SpellsDesign};
-ghost use Rattle.fab_outputs.specs.Storing.{PlainOutput, with_outputs};
-ghost use Rattle.fab_sample_runs.specs.fab_simulated_flow.specs.Laws.{TracesNetlist};
-ghost use Rattle.fab_sample_runs.specs.Commands.{names, simulated};
-ghost use Rattle.fab_sampling.specs.inner.Running.{files_of, EndsFlow, HasFlowed, IsNew};
+ghost use Rattle.fab_sample_runs.specs.Commands.{names};
+ghost use Rattle.fab_sampling.specs.inner.Running.{files_of, EndsFlow, HasFlowed, IsNew, HasTraced};
 ghost use Rattle.fab_sampling.specs.Sampling.{sample_map, ComesTo};
 ghost use Rattle.fab_sampling.specs.declared.outcome.Outcome.TheVariants.{Unmapped};
 
@@ -112,8 +110,7 @@ impl Run {
     fn simulate<P: Progress>(&mut self, alloc: Global, progress: &mut P) -> Result<(), Memory>
         requires { HasFlowed self.old }
         ensures same { self.new ≡ record self.old { shelf = self.new.shelf } }
-        ensures traced { OnOk result ((flowed : HasFlowed self.old) → (trace : List PlainOutput)
-            × TracesNetlist (with_outputs flowed.stored (files_of self.old)) simulated.stimulus simulated.trace flowed.flow.design.netlist trace) }
+        ensures traced { OnOk result ((flowed : HasFlowed self.old) → HasTraced self.old flowed) }
     {
         // that nothing is refused, and what is simulated of the files of a flow, are clauses of these calls
         samples_simulate();

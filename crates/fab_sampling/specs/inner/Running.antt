@@ -1,5 +1,5 @@
 -- A sample on its way through the commands.
-use Rattle.std.specs.Prelude.{◌≡◌, ◌⊎◌, ◌≤◌, List}
+use Rattle.std.specs.Prelude.{◌≡◌, ◌⊎◌, ◌≤◌, List, None}
 use Rattle.fab_base.specs.declared.fault.Fault.{Fault}
 use Rattle.fab_base.specs.declared.fault.Fault.TheVariants as faults
 use Rattle.fab_desk.specs.Files.{Map}
@@ -7,7 +7,9 @@ use Rattle.fab_desk.specs.Memory.{map_of}
 use Rattle.fab_designs.specs.Designs.{PlainDesign, SpellsDesign}
 use Rattle.fab_outputs.specs.Storing.{PlainOutput, with_outputs}
 use Rattle.fab_sample_runs.specs.fab_flow.specs.Flowing.{MakesFlow}
-use Rattle.fab_sample_runs.specs.Commands.{names, rounds}
+use Rattle.fab_sample_runs.specs.fab_simulate.specs.Simulating.{MakesTrace}
+use Rattle.fab_sample_runs.specs.fab_simulated_flow.specs.Laws.{TracesNetlist}
+use Rattle.fab_sample_runs.specs.Commands.{names, rounds, simulated}
 use Rattle.fab_sampling.specs.Sampling.{IsUnmapped, sample_map}
 use Rattle.fab_sampling.specs.declared.run.Run.{Run}
 
@@ -33,6 +35,12 @@ pub record HasFlowed (run : Run) : Type 0 where
   pub flow : MakesFlow (files_of run) names rounds stored
   pub design : flow.design ≡ run.design
   pub files : map_of run.shelf ≡ with_outputs stored (files_of run)
+
+-- What `simulate` makes of these files is the trace of the netlist.
+pub record HasTraced (run : Run) (flowed : HasFlowed run) : Type 0 where
+  pub trace : List PlainOutput
+  pub made : MakesTrace (with_outputs flowed.stored (files_of run)) simulated None trace
+  pub traces : TracesNetlist (with_outputs flowed.stored (files_of run)) simulated.stimulus simulated.trace flowed.flow.design.netlist trace
 
 -- memory was refused, or the design of the sample is not mapped
 abbrev pub EndsFlow : Run → Fault → Type 0
