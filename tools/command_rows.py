@@ -109,10 +109,12 @@ def rows(is_small=False):
         row(4, "assemble duo.csv tog.blif tog.impl made", dict(tog, **fixtures("tog.impl"))),
         row(4, "map duo.csv inv.blif i --pcf inv.pcf --seed 3", inv),
         row(4, "map turn.csv k.blif i --rounds 4", turn),
+        row(4, "flow duo.csv inv.blif inv --pcf inv.pcf", inv),
         row(4, "flow duo.csv tog.blif made --pcf tog.pcf", tog),
         row(4, "flow turn.csv k.blif made --seed=7", turn),
         row(6, "flow fabric.csv top.blif made", dict(grid, **{"top.blif": NESTED})),
         row(8, "bits duo.csv tog.fasm b", dict(duo, **fixtures("tog.fasm"))),
+        row(4, "bits duo.csv ring.fasm ring.bit", dict(duo, **fixtures("ring.fasm"))),
         row(6, "features duo.csv inv.bit f", dict(duo, **fixtures("inv.bit"))),
         row(6, "features parts.csv last.bit f", dict(parts, **{"last.bit": fixtures("inv.bit")["inv.bit"]})),
         row(6, "simulate duo.v inv.bit inv.state inv.stim t", dict(
