@@ -13,7 +13,7 @@ use fab_examples::fetch;
 use fab_fabric::{Fabric, Wire};
 use fab_impl::read_impl;
 use fab_implementation::Fixed;
-use fab_legal::{CheckFault, check, packed_is_well_made, required};
+use fab_legal::{check, packed_is_well_made, required};
 use fab_netlist::{NetId, Netlist, Packed, pack};
 use fab_state::read_pcf;
 use std::alloc::Global;
@@ -99,13 +99,8 @@ impl<'a> Design<'a> {
         let fabric = self.fabric;
         let packed = packed_design(alloc, &self.netlist)?;
         let implementation = read_impl(alloc, file, text, fabric)?;
-        match check(alloc, fabric, &packed, &self.fixed, implementation) {
-            Ok(legal) => {
-                let sinks = required(alloc, fabric, &packed, legal.get())?;
-                Ok(self.sinks_text(alloc, &packed, &sinks)?)
-            }
-            Err(CheckFault::Broken(broken)) => Err(Fault::Illegal(broken.rule, broken.item)),
-            Err(CheckFault::Memory) => Err(Fault::Memory),
-        }
+        let legal = check(alloc, fabric, &packed, &self.fixed, implementation)?;
+        let sinks = required(alloc, fabric, &packed, legal.get())?;
+        Ok(self.sinks_text(alloc, &packed, &sinks)?)
     }
 }

@@ -25,7 +25,7 @@ use Rattle.fab_implementation.specs.Plain.{Pad, PlainImplementation}
 use Rattle.fab_implementation.specs.OnFabric.{IsOnFabric, IsSite}
 use Rattle.fab_legal.specs.declared.broken.CheckFault.{CheckFault}
 use Rattle.fab_legal.specs.declared.broken.CheckFault.TheVariants as checks
-use Rattle.fab_legal.specs.Broken.{Explains, IsFirstBroken}
+use Rattle.fab_legal.specs.Broken.{Explains, IsFirstBroken, fault_of}
 use Rattle.fab_legal.specs.Sinks.{site_of}
 use Rattle.fab_legal.proofs.SiteKeys.{few_bels}
 use Rattle.fab_state.specs.Plain.{PlainState, Register}
@@ -49,7 +49,7 @@ use Rattle.fab_assemble.specs.fab_use.specs.Registers.{bound_pad, design_state, 
 use Rattle.fab_assemble.specs.fab_settling.specs.Settling.{SettlesDesign}
 use Rattle.fab_designs.specs.Designs.{PlainDesign, MeetsDesign, SpellsDesign}
 use Rattle.fab_designs.specs.Implementations.{MeetsImplementation, ReadsImplementation}
-use Rattle.fab_flow.specs.Assembling.{AssemblyFiles, Fits, HasAssembleCause, IsAssembly, IsReadyToAssemble, MeetsAssembly, RefusesAssembly, assemble_refusals, assembly_outputs, fault_of, illegal, packing_for, short}
+use Rattle.fab_flow.specs.Assembling.{AssemblyFiles, Fits, HasAssembleCause, IsAssembly, IsReadyToAssemble, MeetsAssembly, RefusesAssembly, assemble_refusals, assembly_outputs, illegal, packing_for, short}
 use Rattle.fab_outputs.specs.Storing.{PlainOutput, Leaves, plain_output}
 use Rattle.fab_outputs.proofs.Ending.{Reads, cause_of_read, leaves_of_memory}
 

@@ -12,8 +12,6 @@ use Rattle.fab_netlist.specs.Plain.{PlainNetlist}
 use Rattle.fab_netlist.specs.Packed.{PlainPacked}
 use Rattle.fab_netlist.specs.Packing.{packed, packing}
 use Rattle.fab_implementation.specs.Plain.{PlainImplementation}
-use Rattle.fab_legal.specs.declared.broken.CheckFault.{CheckFault}
-use Rattle.fab_legal.specs.declared.broken.CheckFault.TheVariants as checks
 use Rattle.fab_legal.specs.Legal.{IsLegal}
 use Rattle.fab_legal.specs.Broken.{IsFirstBroken}
 use Rattle.fab_fabric.specs.Sites.{sites_of_kind}
@@ -92,11 +90,6 @@ pub data RefusesAssembly (design : PlainDesign) (implementation : PlainImplement
   short : {fault : Fault} → packing_for design.fabric design.netlist ≡ Err fault → RefusesAssembly design implementation fault
   illegal : {rule : ℕ} {item : List ℕ} → Fits design.fabric design.netlist → IsFirstBroken design.fabric (packed design.netlist) design.fixed implementation rule item
       → RefusesAssembly design implementation (faults.Illegal rule item)
-
--- the fault of a check
-abbrev pub fault_of : CheckFault → Fault
-fault_of (checks.Broken broken) = faults.Illegal broken.rule broken.item
-fault_of checks.Memory = faults.Memory
 
 -- what is come upon behind the files of a design
 abbrev pub MeetsBehindDesign : (files : Map) → (implementation : List ℕ) → PlainDesign → Event → Type 0

@@ -22,7 +22,7 @@ ghost use Rattle.fab_gen_tile.specs.Words.{IsNamed};
 ghost use Rattle.fab_assemble.specs.fab_features.specs.Design.{design_features};
 ghost use Rattle.fab_assemble.specs.fab_features.specs.Features.{IsBitMapOf};
 ghost use Rattle.fab_assemble.specs.fab_features.specs.Naming.{HasPrefixes};
-ghost use Rattle.fab_flow.specs.Assembling.{Fits, HasAssembleCause, IsAssembly, MakesAssembly, RefusesAssembly, assembly_files, assembly_outputs, fault_of, packing_for};
+ghost use Rattle.fab_flow.specs.Assembling.{Fits, HasAssembleCause, IsAssembly, MakesAssembly, RefusesAssembly, assembly_files, assembly_outputs, packing_for};
 ghost use Rattle.fab_outputs.specs.Storing.{IsDone, Leaves, output, plain_output};
 
 use fab_assemble::{Assembled, assemble};
@@ -32,7 +32,7 @@ use fab_desk::Desk;
 use fab_fasm::print_fasm;
 use fab_frames::to_bytes;
 use fab_kinds::Kind;
-use fab_legal::{CheckFault, Implementation};
+use fab_legal::Implementation;
 use fab_netlist::{Packed, pack};
 use fab_outputs::{Output, put_output, store_all};
 use fab_progress::{Progress, Step};
@@ -48,16 +48,6 @@ pub(crate) fn packed_design(alloc: Global, design: &Design) -> Result<Packed, Fa
     let luts = design.fabric.sites(Kind::Lut4c);
     let pads = design.fabric.sites(Kind::Io);
     pack(alloc, &design.netlist, luts, pads)
-}
-
-/// The fault of a check of an implementation, or of features.
-pub(crate) fn fault_of(fault: CheckFault) -> Fault
-    ensures { result ≡ fault_of fault }
-{
-    match fault {
-        CheckFault::Broken(broken) => Fault::Illegal(broken.rule, broken.item),
-        CheckFault::Memory => Fault::Memory,
-    }
 }
 
 /// Packs a design, and assembles an implementation of it.
@@ -91,7 +81,7 @@ fn assembled(
     );
     match made {
         Ok(assembled) => Ok(assembled),
-        Err(fault) => Err(fault_of(fault)),
+        Err(fault) => Err(Fault::from(fault)),
     }
 }
 

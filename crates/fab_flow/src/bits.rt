@@ -12,7 +12,6 @@ ghost use Rattle.fab_assemble.specs.fab_features.specs.Wrong.{IsRightFeature};
 ghost use Rattle.fab_flow.specs.Bits.{HasBitsCause, IsBitstreamOf, MakesBits, MeetsFeatures, ReadsFeatures, RefusesBits, bits_files};
 ghost use Rattle.fab_outputs.specs.Storing.{IsDone, Leaves};
 
-use crate::assembling::fault_of;
 use fab_assemble::fab_features::bits_of_features;
 use fab_base::{Fault, Name};
 use fab_desk::Desk;
@@ -46,7 +45,7 @@ fn right_bits(alloc: Global, fabric: &Fabric, features: &[Feature]) -> Result<Bi
 {
     match bits_of_features(alloc, fabric, features) {
         Ok(bits) => Ok(bits),
-        Err(fault) => Err(fault_of(fault)),
+        Err(fault) => Err(Fault::from(fault)),
     }
 }
 

@@ -1,5 +1,7 @@
 -- Which rule an implementation breaks first, and with what.
 use Rattle.std.specs.Prelude.{◌≡◌, ◌≢◌, ℕ, ◌<◌, List, ◌++◌, Contains, codes, decimal, take}
+use Rattle.fab_base.specs.declared.fault.Fault.{Fault}
+use Rattle.fab_base.specs.declared.fault.Fault.TheVariants as ends
 use Rattle.fab_kinds.specs.declared.kind.Kind.TheVariants as kinds
 use Rattle.fab_implementation.specs.fab_model.specs.Grid.{PlainFabric}
 use Rattle.fab_implementation.specs.fab_fabric.specs.Fabric.{wires_at}
@@ -143,6 +145,11 @@ pub data IsFirstBroken (fabric : PlainFabric) (packed : PlainPacked) (fixed : Li
 abbrev pub Explains : PlainFabric → PlainPacked → (fixed : List Pad) → PlainImplementation → CheckFault → Type 0
 Explains fabric packed fixed implementation (faults.Broken broken) = IsFirstBroken fabric packed fixed implementation broken.rule broken.item
 Explains fabric packed fixed implementation faults.Memory = Unit {0}
+
+-- the fault with which a command ends that is given this
+abbrev pub fault_of : CheckFault → Fault
+fault_of (faults.Broken broken) = ends.Illegal broken.rule broken.item
+fault_of faults.Memory = ends.Memory
 
 -- what breaks a rule is not legal
 abbrev pub BrokenIsNotLegal : Type 0

@@ -3,7 +3,7 @@
 ghost use Rattle.std.specs.Prelude.{◌≡◌};
 ghost use Rattle.fab_legal.specs.declared.broken.CheckFault.TheVariants as faults;
 
-use fab_base::{Memory, Name};
+use fab_base::{Fault, Memory, Name};
 
 /// A broken rule, and the first item that breaks it: rules 1 to 9 are those of an implementation, those from 10 on of features.
 #[derive(Debug, Drop)]
@@ -28,6 +28,19 @@ impl From<Memory> for CheckFault {
 
     fn from(_: Memory) -> CheckFault {
         CheckFault::Memory
+    }
+}
+
+impl From<CheckFault> for Fault {
+    ghost use Rattle.fab_legal.specs.Broken.{fault_of};
+
+    ghost from_gives = { λ check fault. fault ≡ fault_of check };
+
+    fn from(fault: CheckFault) -> Fault {
+        match fault {
+            CheckFault::Broken(broken) => Fault::Illegal(broken.rule, broken.item),
+            CheckFault::Memory => Fault::Memory,
+        }
     }
 }
 

@@ -38,6 +38,6 @@ returns-in-Ok-clause-map c =
 
 pub returns-clause-refused : goal.returns-clause-refused
 returns-clause-refused c =
-    subst (λ (f : Fault). (f ≡ faults.Memory) ⊎ RefusesAssembly c.args.design.now c.args.implementation f) (sym c.fault_of.ensures)
+    subst (λ (f : Fault). (f ≡ faults.Memory) ⊎ RefusesAssembly c.args.design.now c.args.implementation f) (sym c.from.ensures)
     (check_refused c.args.design.now c.args.implementation c.in_ok-packed.packed c.in-Err.fault c.in_ok-packed.ensures.packed c.in_ok-packed.ensures.fits
     (subst (λ (d : PlainDesign). Explains d.fabric c.in_ok-packed.packed d.fixed c.args.implementation c.in-Err.fault) c.design.view_is c.in-Err.ensures.err))

@@ -7,5 +7,5 @@ use Rattle.fab_flow.proofs.bits.right_bits.Goals as goal
 
 pub returns-in-Err-clause-refused : goal.returns-in-Err-clause-refused
 returns-in-Err-clause-refused c =
-    subst (λ (f : Fault). (f ≡ faults.Memory) ⊎ RefusesBits c.args.fabric.now c.args.features.now f) (sym c.fault_of.ensures)
+    subst (λ (f : Fault). (f ≡ faults.Memory) ⊎ RefusesBits c.args.fabric.now c.args.features.now f) (sym c.from.ensures)
     (features_refused c.args.fabric.now c.args.features.now c.in-Err.fault c.in-Err.ensures.err)
