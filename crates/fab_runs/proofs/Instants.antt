@@ -73,7 +73,7 @@ module _ (s : Setting) where
         let moment : Moment = record { inputs = i.inputs; clock = i.clock } in
         let run : IsRunOn (IsLoading s.text) s.text (moment ∷ []) held next =
         (i.now, next, loading_settled, passes.low, (λ p d loads drives. passes.ticks p d (inr loads) drives), λ p loads. refl) in
-        let stays = ((s.laws.loads s.fabric s.text s.is s.is_text).loads s.bits).stays (moment ∷ []) held next configured (All-cons IsQuiet moment [] quiet (All-nil IsQuiet)) run in
+        let stays = ((s.laws.loads s.fabric s.text s.is s.is_text).loads s.bits).stays (moment ∷ []) held next configured (All-cons IsQuiet moment [] (λ clock. quiet) (All-nil IsQuiet)) run in
         s.laws.goes s.fabric s.text s.bits held next s.is s.is_text configured stays
 
     met : MeetsSources s.fabric (packed s.netlist) s.implementation i.inputs held i.now

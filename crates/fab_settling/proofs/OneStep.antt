@@ -128,7 +128,7 @@ module _ (s : Setting) where
       let moment : Moment = record { inputs = a.now; clock = clock } in
       let run : IsRunOn Loads s.text (moment ∷ []) a.held next =
       (a.now, next, stands.rest.settled, stands.rest.low, ticks, λ q among. refl) in
-      (loading_law.loads s.bits).stays (moment ∷ []) a.held next stands.configured (All-cons IsQuiet moment [] stands.rest.quiet (All-nil IsQuiet)) run p loads
+      (loading_law.loads s.bits).stays (moment ∷ []) a.held next stands.configured (All-cons IsQuiet moment [] (λ ticked. stands.rest.quiet) (All-nil IsQuiet)) run p loads
 
   -- so a latch holds what its point has, since that is what it holds behind a tick
   latch_holds : (a : State) (p : Point) (d : Driver) (next : Bool) → Stands a → Loads p → Drives s.text p d → next ≡ a.now p →

@@ -146,8 +146,8 @@ module _ (fabric : PlainFabric) (next : NextValues) (text : List PlainModule) (h
     register_stays name bit clock listed declared =
         let loader = loader_of fabric.rows next in
         let ticks_here : Ticks (IsLoading text) text clock_name held now after = subst (λ clock. Ticks (IsLoading text) text clock held now after) clock ticks in
-        All-contains (Stays fabric next text has is keeps moment.inputs held now after settled ticks_here quiet configured.strobe) (register_names fabric.rows) name
-        (registers_stay fabric next text has is keeps moment.inputs held now after settled ticks_here quiet configured.strobe) listed bit
+        All-contains (Stays fabric next text has is keeps moment.inputs held now after settled ticks_here (quiet clock) configured.strobe) (register_names fabric.rows) name
+        (registers_stay fabric next text has is keeps moment.inputs held now after settled ticks_here (quiet clock) configured.strobe) listed bit
         (bit_below text loader_path loader name bit has.stands declared)
 
     flop_stays : (p : Point) (path : Path) (clock : List ℕ) (e : PlainExpr) (bit : ℕ) → is_declared text p ≡ true → IsLoading text p → Drives text p (flop path clock e bit) →

@@ -19,9 +19,9 @@ use Rattle.fab_text_loads.specs.Points.{loader_path, IsLoadingPoint}
 
 -- ---- words in moments
 
--- no word is written
+-- No word is written at the end of a moment: where another clock than CLK ticks, the loader sees nothing.
 abbrev pub IsQuiet : Moment → Type 0
-IsQuiet moment = moment.inputs (point [] write_strobe_name 0) ≡ false
+IsQuiet moment = moment.clock ≡ clock_name → moment.inputs (point [] write_strobe_name 0) ≡ false
 
 -- Inputs that write a word, with bit 0 the least significant. Of WriteData the text of a fabric declares no further bits.
 pub record WritesWord (offered : List Bool) (inputs : Assignment) : Type 0 where
@@ -31,7 +31,7 @@ pub record WritesWord (offered : List Bool) (inputs : Assignment) : Type 0 where
 -- What the loader sees at the end of a moment. Where another clock than CLK ticks, the inputs are free.
 abbrev pub IsTurn : Turn → Moment → Type 0
 IsTurn (word offered) moment = (moment.clock ≡ clock_name) × WritesWord offered moment.inputs
-IsTurn pause moment = (moment.clock ≡ clock_name) × IsQuiet moment
+IsTurn pause moment = (moment.clock ≡ clock_name) × (moment.inputs (point [] write_strobe_name 0) ≡ false)
 IsTurn other_clock moment = moment.clock ≢ clock_name
 
 -- In these moments the words are written, one after the other. There may be ticks of CLK without a word and ticks of other clocks among them.
