@@ -95,7 +95,8 @@ module _ (read_again : GeneratedTextsAreRead) (are_sound : SpelledDesignsAreSoun
   handed : (ending bytes : List ℕ) → is_utf8 ending ≡ true → later (names.base ++ ending) ≡ with_outputs stored files (names.base ++ ending) →
       after (names.base ++ ending) ≡ Some bytes → length bytes ≤ MAX_FILE_BYTES → handed_out later (names.base ++ ending) ≡ Ok bytes
   handed ending bytes is_text same there few_bytes =
-      given_out later (names.base ++ ending) bytes (plain_name names.base ending plain is_text) (same ∙ ap (λ (m : Map). m (names.base ++ ending)) after_is ∙ there) few_bytes
+      given_out later (names.base ++ ending) bytes (plain_name names.base ending plain is_text)
+      (same ∙ ap (λ (m : Map). m (names.base ++ ending)) after_is ∙ there) few_bytes
 
   sound : IsSound flow.design
   sound = are_sound files names.design flow.design flow.spelled
@@ -106,7 +107,8 @@ module _ (read_again : GeneratedTextsAreRead) (are_sound : SpelledDesignsAreSoun
   device : ReadsDevice later (names.base ++ codes ".v") (generated_text fabric)
   device = record {
     bytes = text_bytes (generated_text fabric);
-    found = handed (codes ".v") (text_bytes (generated_text fabric)) text_name kept.text (stored_files.text_stands files names.base _ _ _ words state) flow.made.readable;
+    found = handed (codes ".v") (text_bytes (generated_text fabric)) text_name kept.text (stored_files.text_stands files names.base _ _ _ words state)
+        flow.made.readable;
     spelled = record {
       spelled = (read_again files names.design.fabric fabric flow.spelled.fabric sound.fabric sound.tiles).1;
       sound = flow.made.text.sound;

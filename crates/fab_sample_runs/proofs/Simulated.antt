@@ -112,5 +112,6 @@ module _ (designs_read : SampleDesignsAreRead) (designs_once : DesignsOnce) (are
   pub simulates : LegalStatesAreShort → SampleStimuliAreRead → SampleTextsAreSmall → FlowFilesAreReady → IsReadyToSimulate (with_outputs stored files) simulated
   simulates are_short stimuli_read are_small ready =
       let small = are_small files size least most (tells_fabric files size draws told) design.fabric flow.spelled.fabric in
-      ready files names allowed stored flow base_name small.points (short_state are_short) (with_outputs stored files) (record { text = refl; words = refl; state = refl })
+      ready files names allowed stored flow base_name small.points (short_state are_short)
+      (with_outputs stored files) (record { text = refl; words = refl; state = refl })
       (codes "sample.stim") (codes "sample.trace") (sample_stimulus size draws) (stimulus_read stimuli_read)
