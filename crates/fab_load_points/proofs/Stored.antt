@@ -13,7 +13,7 @@ use Rattle.fab_equations.specs.declared.driver.Driver.TheVariants as by_number
 use Rattle.fab_load_points.specs.inner.Causes.{StandsFor, IsFirstOf}
 use Rattle.fab_load_points.specs.inner.Flops.{IsLoaderPoint}
 use Rattle.fab_load_points.specs.inner.Points.{bit_driven}
-use Rattle.fab_load_points.specs.Registers.{stored_mark}
+use Rattle.fab_load_points.specs.inner.Registers.{stored_mark}
 use Rattle.fab_load_points.proofs.Reading.{means_so}
 use Rattle.fab_load_points.proofs.Streams.{first_known}
 

@@ -3,3 +3,4 @@ pub mod Causes
 pub mod Search
 pub mod Flops
 pub mod Points
+pub mod Registers

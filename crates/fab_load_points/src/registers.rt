@@ -7,7 +7,7 @@ ghost use Rattle.fab_meaning.specs.Points.{Point, Driver as MeantDriver, Drives,
 ghost use Rattle.fab_meaning.specs.Loading.{IsLoading};
 ghost use Rattle.fab_equations.specs.Instances.{points};
 ghost use Rattle.fab_equations.specs.Equations.{IsPoint};
-ghost use Rattle.fab_load_points.specs.Registers.{stored_mark};
+ghost use Rattle.fab_load_points.specs.inner.Registers.{stored_mark};
 
 use crate::points::loading_points;
 use fab_base::Memory;

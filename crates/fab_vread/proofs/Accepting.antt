@@ -20,9 +20,9 @@ use Rattle.fab_vread.specs.declared.places.Purpose.TheVariants as purposes
 use Rattle.fab_vread.specs.declared.places.Place.{Place}
 use Rattle.fab_vread.specs.declared.places.Place.TheVariants as places
 use Rattle.fab_vread.specs.declared.expressions.Over.{Over}
-use Rattle.fab_vread.specs.Expressions.{PlainLevel, Spot, Behind, wanting, named, select, high, colon, low, after, operand, branch, whole, completed, taken, after_behind, after_whole, with_over}
-use Rattle.fab_vread.specs.Places.{move_of}
-use Rattle.fab_vread.specs.Machine.{Machine, PlainState, outside, inside, first_machine, after_token, after_token_at, with_stepped, with_value, valued, made, read_of}
+use Rattle.fab_vread.specs.inner.Expressions.{PlainLevel, Spot, Behind, wanting, named, select, high, colon, low, after, operand, branch, whole, completed, taken, after_behind, after_whole, with_over}
+use Rattle.fab_vread.specs.inner.Places.{move_of}
+use Rattle.fab_vread.specs.inner.Machine.{Machine, PlainState, outside, inside, first_machine, after_token, after_token_at, with_stepped, with_value, valued, made, read_of}
 use Rattle.fab_vread.proofs.Running.{run, and_next}
 use Rattle.fab_vread.proofs.Runs.{both}
 use Rattle.fab_vread.proofs.Recognized.{recognized_tree}

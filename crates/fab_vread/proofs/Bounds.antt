@@ -22,11 +22,11 @@ use Rattle.fab_vread.specs.declared.places.Move.{Move}
 use Rattle.fab_vread.specs.declared.places.Move.TheVariants as moves
 use Rattle.fab_vread.specs.declared.places.Place.{Place}
 use Rattle.fab_vread.specs.declared.places.Place.TheVariants as places
-use Rattle.fab_vread.specs.Expressions as steps
-use Rattle.fab_vread.specs.Expressions.{PlainLevel, Spot, Before, Opened, Behind, level, nothing, negation, left, test, choice, parenthesis, brace, index, wanting, named, select, high, colon, low, after, operand, branch, whole, going, ended, completed, kept, Stepped, Shown, Effect, is_this_mark, taken, after_behind, after_single, after_whole, with_over, after_wanting, with_depth, with_bits, close_by, refused}
-use Rattle.fab_vread.specs.Places as moving
-use Rattle.fab_vread.specs.Places.{move_of, on_mark, begin_on, name_of, header_move, declaration_move, process_move, joins_move, item_move, port_start, to, foreign_or}
-use Rattle.fab_vread.specs.Machine.{Machine, PlainState, outside, inside, with_stepped, with_effect, with_value, valued, made, after_token, after_token_at}
+use Rattle.fab_vread.specs.inner.Expressions as steps
+use Rattle.fab_vread.specs.inner.Expressions.{PlainLevel, Spot, Before, Opened, Behind, level, nothing, negation, left, test, choice, parenthesis, brace, index, wanting, named, select, high, colon, low, after, operand, branch, whole, going, ended, completed, kept, Stepped, Shown, Effect, is_this_mark, taken, after_behind, after_single, after_whole, with_over, after_wanting, with_depth, with_bits, close_by, refused}
+use Rattle.fab_vread.specs.inner.Places as moving
+use Rattle.fab_vread.specs.inner.Places.{move_of, on_mark, begin_on, name_of, header_move, declaration_move, process_move, joins_move, item_move, port_start, to, foreign_or}
+use Rattle.fab_vread.specs.inner.Machine.{Machine, PlainState, outside, inside, with_stepped, with_effect, with_value, valued, made, after_token, after_token_at}
 use Rattle.fab_vread.proofs.Runs.{IsShallow}
 use Rattle.fab_vread.proofs.Rests.{depth}
 use Rattle.fab_vread.proofs.Following.{depth_at}

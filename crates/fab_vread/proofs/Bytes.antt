@@ -11,7 +11,7 @@ use Rattle.fab_tokens.specs.declared.token.Token.{Token}
 use Rattle.fab_tokens.specs.Scanning.{after_byte, at_end}
 use Rattle.fab_tokens.specs.Told.{tokens_from, tokens_of}
 use Rattle.fab_vread.specs.declared.expressions.Over.{Over}
-use Rattle.fab_vread.specs.Machine.{Machine, Progress, after_token, first_machine, is_done, past, line_checked, with_machine, located, and_go, after_lexeme, after_optional, behind_byte, after_char, read_from, unless_over, closing, finished, first_progress, read_of}
+use Rattle.fab_vread.specs.inner.Machine.{Machine, Progress, after_token, first_machine, is_done, past, line_checked, with_machine, located, and_go, after_lexeme, after_optional, behind_byte, after_char, read_from, unless_over, closing, finished, first_progress, read_of}
 use Rattle.fab_vread.proofs.Running.{run, and_next}
 use Rattle.fab_vread.proofs.Recognized.{run_over, same_machine}
 

@@ -30,9 +30,9 @@ use Rattle.fab_vread.specs.declared.places.Move.{Move}
 use Rattle.fab_vread.specs.declared.places.Move.TheVariants as moves
 use Rattle.fab_vread.specs.declared.places.Place.{Place}
 use Rattle.fab_vread.specs.declared.places.Place.TheVariants as places
-use Rattle.fab_vread.specs.Expressions.{PlainLevel, Spot, Stepped, Effect, going, ended, nothing, wanting, taken, is_this_mark, refused}
-use Rattle.fab_vread.specs.Places.{move_of, on_mark, begin_on, named, name_of, header_move, declaration_move, process_move, joins_move, item_move, port_start, to, foreign_or}
-use Rattle.fab_vread.specs.Machine.{Machine, PlainState, outside, inside, with_stepped, with_effect, with_value, valued, moved, made, after_token, after_token_at}
+use Rattle.fab_vread.specs.inner.Expressions.{PlainLevel, Spot, Stepped, Effect, going, ended, nothing, wanting, taken, is_this_mark, refused}
+use Rattle.fab_vread.specs.inner.Places.{move_of, on_mark, begin_on, named, name_of, header_move, declaration_move, process_move, joins_move, item_move, port_start, to, foreign_or}
+use Rattle.fab_vread.specs.inner.Machine.{Machine, PlainState, outside, inside, with_stepped, with_effect, with_value, valued, moved, made, after_token, after_token_at}
 use Rattle.fab_vread.proofs.Rests.{if_either, mark_told, depth, Inside, AfterStep, AfterEffect, IsNarrow, spot_step, begun_whole}
 use Rattle.fab_vread.proofs.Following.{Next, next, NextName, next_name, depth_at, Ended, BehindItem, AtSemicolon, AtPortEnd, AtPort, AtPorts, AtHeader, BehindName, AtZero, AtHigh, AtRange, AtDeclaration, Valued, AtUpdate, AtGateEnd, AtGate, AtArrow, AtClockClose, AtEdge, AtEvent, AtProcess, AtJoinEnd, AtJoin, AtJoins, AtJoined, AtJoinPlace, AtPlace, BehindValue, AtState, RestOf, no_more, more_modules, items_left, ports_end, ports_more, ports_left, port_list, its_high, ranged, value, star, edge, joins_end, joins_more, joins_left, join_list, none_joined, one_joined}
 

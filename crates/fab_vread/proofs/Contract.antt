@@ -9,7 +9,7 @@ use Rattle.fab_syntax.specs.Plain.{PlainModule, plain_text}
 use Rattle.fab_syntax.specs.Spelling.{text_bytes}
 use Rattle.fab_grammar.specs.Grammar.{SpellsText}
 use Rattle.fab_grammar.specs.Printable.{IsPrintableText}
-use Rattle.fab_vread.specs.Machine.{read_of}
+use Rattle.fab_vread.specs.inner.Machine.{read_of}
 use Rattle.fab_vread.specs.Refusals.{IsVerilogRefusal}
 use Rattle.fab_vread.proofs.Accepting.{read_spelled, spelled_read, printed_read}
 use Rattle.fab_vread.proofs.Printable.{spelled_printable}

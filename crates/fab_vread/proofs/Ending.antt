@@ -18,10 +18,10 @@ use Rattle.fab_vread.specs.declared.places.Purpose.{Purpose}
 use Rattle.fab_vread.specs.declared.places.Purpose.TheVariants as purposes
 use Rattle.fab_vread.specs.declared.places.Place.{Place}
 use Rattle.fab_vread.specs.declared.places.Place.TheVariants as places
-use Rattle.fab_vread.specs.Expressions as steps
-use Rattle.fab_vread.specs.Expressions.{PlainLevel, Spot, Before, Behind, Opened, parenthesis, brace, index, nothing, negation, left, test, choice, wanting, named, select, high, colon, low, after, operand, branch, whole, completed, kept, with_bits, is_this_mark, after_behind, after_whole, with_over, taken}
-use Rattle.fab_vread.specs.Places.{move_of}
-use Rattle.fab_vread.specs.Machine.{Machine, PlainState, outside, inside, after_token, at_start, begun, closed, declared, instanced, with_join, with_item, with_gate, with_latch, with_stepped}
+use Rattle.fab_vread.specs.inner.Expressions as steps
+use Rattle.fab_vread.specs.inner.Expressions.{PlainLevel, Spot, Before, Behind, Opened, parenthesis, brace, index, nothing, negation, left, test, choice, wanting, named, select, high, colon, low, after, operand, branch, whole, completed, kept, with_bits, is_this_mark, after_behind, after_whole, with_over, taken}
+use Rattle.fab_vread.specs.inner.Places.{move_of}
+use Rattle.fab_vread.specs.inner.Machine.{Machine, PlainState, outside, inside, after_token, at_start, begun, closed, declared, instanced, with_join, with_item, with_gate, with_latch, with_stepped}
 use Rattle.fab_vread.proofs.Running.{run, and_next}
 
 -- some name

@@ -10,9 +10,9 @@ use Rattle.fab_grammar.specs.Grammar as grammar
 use Rattle.fab_grammar.specs.Grammar.{Operand, Expression, Expressions}
 use Rattle.fab_vread.specs.declared.expressions.Over.{Over}
 use Rattle.fab_vread.specs.declared.places.Purpose.{Purpose}
-use Rattle.fab_vread.specs.Expressions as steps
-use Rattle.fab_vread.specs.Expressions.{PlainLevel, Spot, Before, level, nothing, negation, left, parenthesis, brace, index, wanting, named, select, after, completed, kept, kept_before, kept_level, with_depth, with_bits, is_this_mark, taken, after_behind, with_over, after_wanting}
-use Rattle.fab_vread.specs.Machine.{Machine, inside, after_token, with_stepped}
+use Rattle.fab_vread.specs.inner.Expressions as steps
+use Rattle.fab_vread.specs.inner.Expressions.{PlainLevel, Spot, Before, level, nothing, negation, left, parenthesis, brace, index, wanting, named, select, after, completed, kept, kept_before, kept_level, with_depth, with_bits, is_this_mark, taken, after_behind, with_over, after_wanting}
+use Rattle.fab_vread.specs.inner.Machine.{Machine, inside, after_token, with_stepped}
 use Rattle.fab_vread.proofs.Running.{run, and_take}
 use Rattle.fab_vread.proofs.Innermost.{kept_before_is}
 use Rattle.fab_vread.proofs.Runs.{Watched, IsFine, within, Within, Reads, kept_is, depth_fine, bits_fine, below_bound, deeper, outer}

@@ -8,8 +8,8 @@ use Rattle.fab_syntax.specs.Plain.{plain_text}
 use Rattle.fab_vread.specs.declared.reader.Reader.{Reader}
 use Rattle.fab_vread.specs.declared.reader.Standing.{Standing}
 use Rattle.fab_vread.specs.declared.reader.Standing.TheVariants as standings
-use Rattle.fab_vread.specs.Machine.{Progress, after_char, and_go, finished, first_progress, read_from, read_of}
-use Rattle.fab_vread.specs.Progress.{plain_progress}
+use Rattle.fab_vread.specs.inner.Machine.{Progress, after_char, and_go, finished, first_progress, read_from, read_of}
+use Rattle.fab_vread.specs.inner.Progress.{plain_progress}
 use Rattle.fab_vread.specs.Pieces.{HasRead, StandsAt, fed_len}
 
 -- one byte and what is behind it

@@ -22,7 +22,7 @@ use Rattle.fab_vread.specs.declared.places.Purpose.{Purpose}
 use Rattle.fab_vread.specs.declared.places.Purpose.TheVariants as purposes
 use Rattle.fab_vread.specs.declared.places.Place.{Place}
 use Rattle.fab_vread.specs.declared.places.Place.TheVariants as places
-use Rattle.fab_vread.specs.Machine.{Machine, PlainState, outside, inside}
+use Rattle.fab_vread.specs.inner.Machine.{Machine, PlainState, outside, inside}
 use Rattle.fab_vread.proofs.Rests.{depth, Inside}
 
 -- a token, and then these

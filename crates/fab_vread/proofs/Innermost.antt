@@ -5,7 +5,7 @@ use Rattle.std.proofs.lemmas.Bool.Decides.{nat_tests}
 use Rattle.std.proofs.lemmas.List.{map_push, reverse-append, length-reverse, length-append}
 use Rattle.fab_vread.specs.declared.levels.Level.{Level}
 use Rattle.fab_vread.specs.declared.levels.Passed.{Passed}
-use Rattle.fab_vread.specs.Expressions.{PlainLevel, Before, Opened, level, nothing, negation, left, test, choice, parenthesis, brace, index, plain_wanted, plain_bracket, plain_level, plain_passed, plain_levels, kept_before, kept_bracket, kept_level}
+use Rattle.fab_vread.specs.inner.Expressions.{PlainLevel, Before, Opened, level, nothing, negation, left, test, choice, parenthesis, brace, index, plain_wanted, plain_bracket, plain_level, plain_passed, plain_levels, kept_before, kept_bracket, kept_level}
 
 -- ---- how many there are
 

@@ -3,7 +3,7 @@ use Rattle.std.proofs.Common.{◌≡◌, ℕ, List, [], ◌∷◌, sym, ap, ◌�
 use Rattle.fab_base.specs.declared.fault.Fault.{Fault}
 use Rattle.fab_base.specs.declared.fault.Fault.TheVariants as faults
 use Rattle.fab_base.specs.Reading.{Fails}
-use Rattle.fab_vread.specs.Machine.{Progress, and_go, after_char, read_from}
+use Rattle.fab_vread.specs.inner.Machine.{Progress, and_go, after_char, read_from}
 
 -- a byte that is taken
 pub byte_taken : (file : List ℕ) (p q : Progress) (byte : ℕ) (bytes : List ℕ) (whole : Result Progress Fault) → after_char file p byte ≡ Ok q →

@@ -14,11 +14,11 @@ use Rattle.fab_vread.specs.declared.places.Purpose.{Purpose}
 use Rattle.fab_vread.specs.declared.places.Purpose.TheVariants as purposes
 use Rattle.fab_vread.specs.declared.places.Move.{Move}
 use Rattle.fab_vread.specs.declared.places.Place.{Place}
-use Rattle.fab_vread.specs.Expressions as steps
-use Rattle.fab_vread.specs.Expressions.{PlainLevel, Spot, Before, Behind, Opened, Effect, going, ended, level, nothing, parenthesis, brace, index, wanting, named, select, high, colon, low, after, operand, branch, whole, completed, kept, Stepped, Shown, is_this_mark, taken, after_wanting, after_behind, after_single, after_whole, with_over, close_by, inside as held}
-use Rattle.fab_vread.specs.Places as moving
-use Rattle.fab_vread.specs.Places.{on_mark, begin_on, name_of}
-use Rattle.fab_vread.specs.Machine.{Machine, with_stepped, with_effect, with_value, valued, made, moved}
+use Rattle.fab_vread.specs.inner.Expressions as steps
+use Rattle.fab_vread.specs.inner.Expressions.{PlainLevel, Spot, Before, Behind, Opened, Effect, going, ended, level, nothing, parenthesis, brace, index, wanting, named, select, high, colon, low, after, operand, branch, whole, completed, kept, Stepped, Shown, is_this_mark, taken, after_wanting, after_behind, after_single, after_whole, with_over, close_by, inside as held}
+use Rattle.fab_vread.specs.inner.Places as moving
+use Rattle.fab_vread.specs.inner.Places.{on_mark, begin_on, name_of}
+use Rattle.fab_vread.specs.inner.Machine.{Machine, with_stepped, with_effect, with_value, valued, made, moved}
 
 abbrev pub malformed : Problem
 malformed = problems.Malformed reasons.Token

@@ -23,9 +23,9 @@ use Rattle.fab_vread.specs.declared.places.Purpose.TheVariants as purposes
 use Rattle.fab_vread.specs.declared.places.Move.TheVariants as moves
 use Rattle.fab_vread.specs.declared.places.Place.{Place}
 use Rattle.fab_vread.specs.declared.places.Place.TheVariants as places
-use Rattle.fab_vread.specs.Expressions.{Stepped, Effect, going, ended, nothing, wanting, taken, refused}
-use Rattle.fab_vread.specs.Places.{move_of, to}
-use Rattle.fab_vread.specs.Machine.{Machine, PlainState, outside, inside, first_machine, after_token, with_stepped, with_effect, declared, made, is_done}
+use Rattle.fab_vread.specs.inner.Expressions.{Stepped, Effect, going, ended, nothing, wanting, taken, refused}
+use Rattle.fab_vread.specs.inner.Places.{move_of, to}
+use Rattle.fab_vread.specs.inner.Machine.{Machine, PlainState, outside, inside, first_machine, after_token, with_stepped, with_effect, declared, made, is_done}
 use Rattle.fab_vread.proofs.Running.{run, and_take}
 use Rattle.fab_vread.proofs.Runs.{Watched, both, depth_alone, IsFine, AreFew, within, behind, Within, Reads}
 use Rattle.fab_vread.proofs.Expressing.{Begins, expression_begins, expression_read}

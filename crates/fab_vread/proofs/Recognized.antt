@@ -10,8 +10,8 @@ use Rattle.fab_vread.specs.declared.places.Header.TheVariants as headers
 use Rattle.fab_vread.specs.declared.places.Place.TheVariants as places
 use Rattle.fab_vread.specs.declared.expressions.Over.{Over}
 use Rattle.fab_vread.specs.declared.expressions.Over.TheVariants as overs
-use Rattle.fab_vread.specs.Expressions.{with_bits}
-use Rattle.fab_vread.specs.Machine.{Machine, PlainState, outside, inside, first_machine, after_token, is_done, at_start}
+use Rattle.fab_vread.specs.inner.Expressions.{with_bits}
+use Rattle.fab_vread.specs.inner.Machine.{Machine, PlainState, outside, inside, first_machine, after_token, is_done, at_start}
 use Rattle.fab_vread.proofs.Running.{run, and_next}
 use Rattle.fab_vread.proofs.Rests.{IsNarrow}
 use Rattle.fab_vread.proofs.Following.{AtState, Ended, no_more, more_modules, RestOf, BehindValue, depth_at}

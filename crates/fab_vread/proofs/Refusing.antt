@@ -14,7 +14,7 @@ use Rattle.fab_tokens.specs.declared.token.Token.{Token}
 use Rattle.fab_tokens.specs.declared.scanner.Scan.{Scan}
 use Rattle.fab_tokens.specs.Scanning.{Lexeme, after_byte, at_end}
 use Rattle.fab_vread.specs.declared.expressions.Over.{Over}
-use Rattle.fab_vread.specs.Machine.{Machine, Progress, after_token, first_machine, is_done, limit, past, line_checked, with_machine, located, and_go, after_lexeme, after_optional, behind_byte, read_from, unless_over, closing, first_progress, read_of}
+use Rattle.fab_vread.specs.inner.Machine.{Machine, Progress, after_token, first_machine, is_done, limit, past, line_checked, with_machine, located, and_go, after_lexeme, after_optional, behind_byte, read_from, unless_over, closing, first_progress, read_of}
 use Rattle.fab_vread.proofs.Running.{run}
 use Rattle.fab_vread.specs.Refusals.{next_line, lexeme, on_line, lexemes_from, lexemes_of, tokens_in, BeginsWithin, IsAbove, UpTo, by_token, by_end, by_limit, Refused}
 use Rattle.fab_vread.proofs.Bytes.{further, further_is}

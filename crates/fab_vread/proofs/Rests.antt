@@ -10,8 +10,8 @@ use Rattle.fab_tokens.specs.declared.token.Token.TheVariants.{Identifier, Keywor
 use Rattle.fab_grammar.specs.Grammar as grammar
 use Rattle.fab_grammar.specs.Grammar.{Operand, Expression, Expressions}
 use Rattle.fab_vread.specs.declared.expressions.Over.{Over}
-use Rattle.fab_vread.specs.Expressions as steps
-use Rattle.fab_vread.specs.Expressions.{PlainLevel, Spot, Before, Opened, Behind, level, nothing, negation, left, test, choice, parenthesis, brace, index, wanting, named, select, high, colon, low, after, operand, branch, whole, going, ended, completed, kept, Stepped, Shown, Effect, is_this_mark, taken, after_behind, after_single, after_whole, with_over, after_wanting, after_operand, wanting_mark, close, close_by, close_brace}
+use Rattle.fab_vread.specs.inner.Expressions as steps
+use Rattle.fab_vread.specs.inner.Expressions.{PlainLevel, Spot, Before, Opened, Behind, level, nothing, negation, left, test, choice, parenthesis, brace, index, wanting, named, select, high, colon, low, after, operand, branch, whole, going, ended, completed, kept, Stepped, Shown, Effect, is_this_mark, taken, after_behind, after_single, after_whole, with_over, after_wanting, after_operand, wanting_mark, close, close_by, close_brace}
 
 pub if_either : {X : Type 0} (P : X → Type 0) (b : Bool) (x y : X) → P (if b then x else y) → ((b ≡ true) × P x) ⊎ P y
 if_either P true x y h = inl (refl, h)

@@ -2,7 +2,7 @@
 use Rattle.std.specs.Prelude.{List, [], ◌∷◌, Result, Ok, Err}
 use Rattle.fab_base.specs.declared.problem.Problem.{Problem}
 use Rattle.fab_tokens.specs.declared.token.Token.{Token}
-use Rattle.fab_vread.specs.Machine.{Machine, after_token}
+use Rattle.fab_vread.specs.inner.Machine.{Machine, after_token}
 
 abbrev pub and_next : Result Machine Problem → (Machine → Result Machine Problem) → Result Machine Problem
 and_next (Ok m) more = more m

@@ -8,8 +8,8 @@ use Rattle.fab_vread.specs.declared.expressions.Over.{Over}
 use Rattle.fab_vread.specs.declared.expressions.Over.TheVariants as overs
 use Rattle.fab_vread.specs.declared.places.Purpose.{Purpose}
 use Rattle.fab_vread.specs.declared.places.Place.{Place}
-use Rattle.fab_vread.specs.Expressions.{PlainLevel, Spot, kept, with_depth, with_bits}
-use Rattle.fab_vread.specs.Machine.{Machine, outside, inside, after_token}
+use Rattle.fab_vread.specs.inner.Expressions.{PlainLevel, Spot, kept, with_depth, with_bits}
+use Rattle.fab_vread.specs.inner.Machine.{Machine, outside, inside, after_token}
 use Rattle.fab_vread.proofs.Running.{and_take, run}
 
 -- inside an expression

@@ -9,7 +9,7 @@ use Rattle.fab_tokens.specs.declared.token.Token.{Token}
 use Rattle.fab_tokens.specs.declared.scanner.Scan.{Scan}
 use Rattle.fab_tokens.specs.declared.scanner.Step.{Step}
 use Rattle.fab_tokens.specs.Scanning.{after_byte, at_end}
-use Rattle.fab_vread.specs.Machine.{Machine, Progress, past, line_checked, with_machine, located, and_go, after_token, after_lexeme, after_optional, behind_byte, after_step, after_char, closing, finished}
+use Rattle.fab_vread.specs.inner.Machine.{Machine, Progress, past, line_checked, with_machine, located, and_go, after_token, after_lexeme, after_optional, behind_byte, after_step, after_char, closing, finished}
 
 -- what a step refuses, all of them refuse
 pub fails_go : {X Y : Type 0} (fault : Fault) (given : Result X Fault) (more : X → Result Y Fault) → Fails fault given → Fails fault (and_go given more)

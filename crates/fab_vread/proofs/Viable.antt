@@ -7,7 +7,7 @@ use Rattle.fab_tokens.specs.declared.token.Token.TheVariants.{Identifier, Keywor
 use Rattle.fab_grammar.specs.Grammar.{Modules}
 use Rattle.fab_vread.specs.declared.expressions.Over.{Over}
 use Rattle.fab_vread.specs.declared.expressions.Over.TheVariants as overs
-use Rattle.fab_vread.specs.Machine.{Machine, limit, first_machine, after_token, is_done, at_start}
+use Rattle.fab_vread.specs.inner.Machine.{Machine, limit, first_machine, after_token, is_done, at_start}
 use Rattle.fab_vread.proofs.Running.{run, and_next, and_take}
 use Rattle.fab_vread.specs.Refusals.{BeginsWithin, BeginsText, AreText, IsAbove, deep, wide, first_wide}
 use Rattle.fab_vread.proofs.Runs.{both, depth_alone, IsShallow, run_on}

@@ -19,10 +19,10 @@ use Rattle.fab_vread.specs.declared.places.Purpose.{Purpose}
 use Rattle.fab_vread.specs.declared.places.Purpose.TheVariants as purposes
 use Rattle.fab_vread.specs.declared.places.Move.{Move}
 use Rattle.fab_vread.specs.declared.places.Place.TheVariants as places
-use Rattle.fab_vread.specs.Expressions.{PlainLevel, Spot, Behind, nothing, wanting, named, select, high, colon, low, after, operand, branch, whole, completed, is_this_mark, taken, after_behind, after_whole, with_over}
-use Rattle.fab_vread.specs.Places as moving
-use Rattle.fab_vread.specs.Places.{move_of, to, item_move, edge_move, port_start}
-use Rattle.fab_vread.specs.Machine.{Machine, PlainState, outside, inside, first_machine, after_token, after_token_at, with_stepped, with_value, valued, made}
+use Rattle.fab_vread.specs.inner.Expressions.{PlainLevel, Spot, Behind, nothing, wanting, named, select, high, colon, low, after, operand, branch, whole, completed, is_this_mark, taken, after_behind, after_whole, with_over}
+use Rattle.fab_vread.specs.inner.Places as moving
+use Rattle.fab_vread.specs.inner.Places.{move_of, to, item_move, edge_move, port_start}
+use Rattle.fab_vread.specs.inner.Machine.{Machine, PlainState, outside, inside, first_machine, after_token, after_token_at, with_stepped, with_value, valued, made}
 use Rattle.fab_vread.proofs.Running.{run, and_next, and_take}
 use Rattle.fab_vread.specs.Refusals.{BeginsText, BeginsItem, an_item, a_port, an_edge, IsLacking, IsWrong, lacking, unfit}
 use Rattle.fab_vread.proofs.Runs.{run_on}

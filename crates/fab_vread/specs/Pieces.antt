@@ -4,8 +4,8 @@ use Rattle.fab_base.specs.declared.fault.Fault.{Fault}
 use Rattle.fab_vread.specs.declared.reader.Reader.{Reader}
 use Rattle.fab_vread.specs.declared.reader.Standing.{Standing}
 use Rattle.fab_vread.specs.declared.reader.Standing.TheVariants as standings
-use Rattle.fab_vread.specs.Machine.{Progress, first_progress, read_from}
-use Rattle.fab_vread.specs.Progress.{plain_progress}
+use Rattle.fab_vread.specs.inner.Machine.{Progress, first_progress, read_from}
+use Rattle.fab_vread.specs.inner.Progress.{plain_progress}
 
 -- how many bytes the reader was fed
 abbrev pub fed_len : Reader → ℕ

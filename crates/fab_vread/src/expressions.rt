@@ -3,8 +3,8 @@
 ghost use Rattle.std.specs.Prelude.{◌≡◌, List, Ok, Err, map, length, IfOk};
 ghost use Rattle.fab_base.specs.Reading.{Answers};
 ghost use Rattle.fab_syntax.specs.Plain.{plain_expr, pick};
-ghost use Rattle.fab_vread.specs.OpenLevels.{levels_of};
-ghost use Rattle.fab_vread.specs.Expressions.{PlainLevel, parenthesis, index, brace, branch, plain_wanted, plain_read, plain_bracket, plain_level, plain_reading, plain_outcome, stepped, shown, refused, opened, completed, after_operand, with_depth, with_bits, wanting_mark, after_wanting, kept, close_brace, close_by, close, after_whole, after_single, is_this_mark, after_behind, after_name, after_select, after_high, after_colon, after_low, taken};
+ghost use Rattle.fab_vread.specs.inner.OpenLevels.{levels_of};
+ghost use Rattle.fab_vread.specs.inner.Expressions.{PlainLevel, parenthesis, index, brace, branch, plain_wanted, plain_read, plain_bracket, plain_level, plain_reading, plain_outcome, stepped, shown, refused, opened, completed, after_operand, with_depth, with_bits, wanting_mark, after_wanting, kept, close_brace, close_by, close, after_whole, after_single, is_this_mark, after_behind, after_name, after_select, after_high, after_colon, after_low, taken};
 
 use crate::levels::{Bracket, Level, Levels, Wanted, no_expression};
 use fab_base::{Memory, Name, Problem, Quantity, Reason};

@@ -3,7 +3,7 @@
 ghost use Rattle.std.specs.Prelude.{◌≡◌, ◌<◌, ◌+◌, ◌++◌, ◌∷◌, [], length, nat_lt, OnOk, MatchOption};
 ghost use Rattle.std.specs.Option.{option_to_list};
 ghost use Rattle.fab_syntax.specs.Plain.{plain_expr, constant};
-ghost use Rattle.fab_vread.specs.Expressions.{plain_wanted, plain_bracket, plain_level, plain_passed_wanted, plain_passed_bracket, plain_passed, kept_before, kept_bracket, kept_level};
+ghost use Rattle.fab_vread.specs.inner.Expressions.{plain_wanted, plain_bracket, plain_level, plain_passed_wanted, plain_passed_bracket, plain_passed, kept_before, kept_bracket, kept_level};
 
 use fab_base::{Memory, Name};
 use fab_syntax::{Expr, Op, Word};
@@ -153,7 +153,7 @@ fn pop_kept(kept: &mut Vec<Level>) -> Option<Level>
 }
 
 impl Levels {
-    ghost use Rattle.fab_vread.specs.OpenLevels.{levels_of};
+    ghost use Rattle.fab_vread.specs.inner.OpenLevels.{levels_of};
 
     /// No bracket is open.
     #[tactic(auto, unfolding(crate::specs::Expressions::plain_levels))]

@@ -2,10 +2,10 @@
 
 ghost use Rattle.std.specs.Prelude.{◌≡◌, ◌++◌, ◌∷◌, [], map, OnOk};
 ghost use Rattle.fab_base.specs.Reading.{Answers};
-ghost use Rattle.fab_vread.specs.OpenLevels.{levels_of};
-ghost use Rattle.fab_vread.specs.Expressions.{plain_reading, wanting, nothing};
+ghost use Rattle.fab_vread.specs.inner.OpenLevels.{levels_of};
+ghost use Rattle.fab_vread.specs.inner.Expressions.{plain_reading, wanting, nothing};
 ghost use Rattle.fab_syntax.specs.Plain.{plain_expr, plain_option, plain_join, plain_item, plain_module};
-ghost use Rattle.fab_vread.specs.Machine.{plain_parser, with_port, with_item_at, with_module, declared, closed, with_join, instanced, with_gate, with_latch, with_value, valued, begun, moved, after_token, first_machine};
+ghost use Rattle.fab_vread.specs.inner.Machine.{plain_parser, with_port, with_item_at, with_module, declared, closed, with_join, instanced, with_gate, with_latch, with_value, valued, begun, moved, after_token, first_machine};
 
 use crate::expressions::{Outcome, Over, Reading, is_mark, refused, take};
 use crate::levels::{Levels, Wanted, no_expression};

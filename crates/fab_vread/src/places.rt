@@ -3,8 +3,8 @@
 ghost use Rattle.std.specs.Prelude.{◌≡◌};
 ghost use Rattle.fab_base.specs.Reading.{Answers};
 ghost use Rattle.fab_grammar.specs.Words.{is_foreign};
-ghost use Rattle.fab_vread.specs.Expressions.{refused};
-ghost use Rattle.fab_vread.specs.Places.{name_of, on_mark, begin_on, foreign_or, port_start, header_move, high_move, declaration_move, item_name, item_move, edge_move, process_move, joins_move, move_of};
+ghost use Rattle.fab_vread.specs.inner.Expressions.{refused};
+ghost use Rattle.fab_vread.specs.inner.Places.{name_of, on_mark, begin_on, foreign_or, port_start, header_move, high_move, declaration_move, item_name, item_move, edge_move, process_move, joins_move, move_of};
 
 use crate::expressions::{is_mark, refused};
 use fab_base::{Name, Problem};

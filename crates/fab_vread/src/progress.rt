@@ -3,9 +3,9 @@
 ghost use Rattle.std.specs.Prelude.{◌≡◌, ◌≤◌, ◌<◌, ◌+◌, length, map};
 ghost use Rattle.fab_base.specs.Reading.{Gives};
 ghost use Rattle.fab_syntax.specs.Plain.{plain_module, plain_text};
-ghost use Rattle.fab_vread.specs.Progress.{plain_progress};
+ghost use Rattle.fab_vread.specs.inner.Progress.{plain_progress};
 ghost use Rattle.fab_vread.specs.Refusals.{next_line};
-ghost use Rattle.fab_vread.specs.Machine.{limit, first_progress, line_checked, past, after_lexeme, after_optional, after_char, read_from, is_done, closing, finished};
+ghost use Rattle.fab_vread.specs.inner.Machine.{limit, first_progress, line_checked, past, after_lexeme, after_optional, after_char, read_from, is_done, closing, finished};
 
 use crate::expressions::{MAX_BITS, Over};
 use crate::levels::MAX_DEPTH;

@@ -42,8 +42,8 @@ pub struct Reader {
 
 impl Reader {
     ghost use Rattle.fab_vread.specs.declared.reader.Standing.TheVariants as standings;
-    ghost use Rattle.fab_vread.specs.Progress.{plain_progress};
-    ghost use Rattle.fab_vread.specs.Machine.{Progress as PlainProgress, finished, read_from, read_of};
+    ghost use Rattle.fab_vread.specs.inner.Progress.{plain_progress};
+    ghost use Rattle.fab_vread.specs.inner.Machine.{Progress as PlainProgress, finished, read_from, read_of};
     ghost use Rattle.fab_vread.specs.Pieces.{HasRead, IsSpent, StandsAt, fed_len};
 
     /// A reader of a file's text, which was fed nothing yet. The error comes where memory is refused.

@@ -3,7 +3,7 @@ use Rattle.std.proofs.lemmas.Result.{err_from_is_err_and}
 use Rattle.fab_base.specs.Reading.{Gives}
 use Rattle.fab_syntax.specs.Plain.{plain_text}
 use Rattle.fab_tokens.specs.Scanning.{at_end}
-use Rattle.fab_vread.specs.Progress.{plain_progress}
+use Rattle.fab_vread.specs.inner.Progress.{plain_progress}
 use Rattle.fab_vread.proofs.Stepping.{end_fails, check_fails, closes_as}
 use Rattle.fab_vread.proofs.progress.Progress.finish.Goals as goal
 

@@ -2,7 +2,7 @@ use Rattle.std.proofs.Common.{ap, ◌∙◌}
 use Rattle.std.proofs.lemmas.Result.{err_from_is_err_and}
 use Rattle.fab_tokens.specs.declared.scanner.Scan.{Scan}
 use Rattle.fab_tokens.specs.Scanning.{after_byte}
-use Rattle.fab_vread.specs.Progress.{plain_progress}
+use Rattle.fab_vread.specs.inner.Progress.{plain_progress}
 use Rattle.fab_vread.proofs.Stepping.{first_fails, second_fails, byte_goes}
 use Rattle.fab_vread.proofs.progress.Progress.take_byte.Goals as goal
 

@@ -1,8 +1,8 @@
 use Rattle.std.proofs.Common.{ℕ, List, ap, sym, arith, ◌∙◌}
 use Rattle.std.proofs.lemmas.List.{nil_from_length}
 use Rattle.std.proofs.lemmas.Result.{err_from_is_err_and}
-use Rattle.fab_vread.specs.Machine.{read_from}
-use Rattle.fab_vread.specs.Progress.{plain_progress}
+use Rattle.fab_vread.specs.inner.Machine.{read_from}
+use Rattle.fab_vread.specs.inner.Progress.{plain_progress}
 use Rattle.fab_vread.proofs.Looping.{byte_taken, byte_fails, bytes_end}
 use Rattle.fab_vread.proofs.progress.Progress.take_bytes.Goals as goal
 

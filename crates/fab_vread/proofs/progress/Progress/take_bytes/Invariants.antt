@@ -1,6 +1,6 @@
 use Rattle.std.proofs.Common.{◌≡◌, ◌≤◌, ◌+◌, length}
-use Rattle.fab_vread.specs.Machine.{read_from}
-use Rattle.fab_vread.specs.Progress.{plain_progress}
+use Rattle.fab_vread.specs.inner.Machine.{read_from}
+use Rattle.fab_vread.specs.inner.Progress.{plain_progress}
 use Rattle.fab_vread.proofs.progress.Progress.take_bytes.Given as goal
 
 abbrev pub invariant-loop-byte : goal.invariant-loop-byte

@@ -1,5 +1,5 @@
 use Rattle.std.proofs.Common.{arith, length-append}
-use Rattle.fab_vread.specs.Progress.{plain_progress}
+use Rattle.fab_vread.specs.inner.Progress.{plain_progress}
 use Rattle.fab_vread.proofs.Feeding.{fed_more, on_ok, passed_over}
 use Rattle.fab_vread.proofs.reader.Reader.feed.Goals as goal
 

@@ -1,6 +1,6 @@
 use Rattle.std.proofs.Common.{ap, refl, sym, Ok, Result}
 use Rattle.fab_base.specs.declared.fault.Fault.{Fault}
-use Rattle.fab_vread.specs.Machine.{Progress, read_from}
+use Rattle.fab_vread.specs.inner.Machine.{Progress, read_from}
 use Rattle.fab_vread.proofs.reader.Reader.new.Goals as goal
 
 pub returns : goal.returns

@@ -1,4 +1,3 @@
--- The machine that reads, for private contracts alone: no public clause cites it.
 -- How an expression is read, token by token.
 use Rattle.std.specs.Prelude.{ℕ, Bool, true, false, List, [], ◌∷◌, ◌++◌, ◌==◌, ◌&&◌, nat_lt, length, map, reverse, if◌then◌else◌, Option, Some, None, Result, Ok, Err}
 use Rattle.fab_base.specs.declared.problem.Problem.{Problem}

@@ -1,8 +1,7 @@
--- The machine that reads, for private contracts alone: no public clause cites it.
 -- The brackets that are open, as plain data.
 use Rattle.std.specs.Prelude.{List}
 use Rattle.fab_vread.specs.declared.levels.Levels.{Levels}
-use Rattle.fab_vread.specs.Expressions.{PlainLevel, plain_levels}
+use Rattle.fab_vread.specs.inner.Expressions.{PlainLevel, plain_levels}
 
 -- the innermost first
 abbrev pub levels_of : Levels → List PlainLevel

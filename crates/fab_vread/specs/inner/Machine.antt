@@ -1,4 +1,3 @@
--- The machine that reads, for private contracts alone: no public clause cites it.
 -- How the tree of a text is built, token by token.
 use Rattle.std.specs.Prelude.{ℕ, Bool, true, false, List, [], ◌∷◌, ◌++◌, ◌&&◌, nat_lt, length, map, if◌then◌else◌, Option, Some, None, Result, Ok, Err}
 use Rattle.fab_base.specs.declared.problem.Problem.{Problem}
@@ -31,9 +30,9 @@ use Rattle.fab_vread.specs.declared.places.Move.TheVariants as moves
 use Rattle.fab_vread.specs.declared.parser.Parser.{Parser}
 use Rattle.fab_vread.specs.declared.parser.State.{State}
 use Rattle.fab_vread.specs.declared.parser.State.TheVariants as states
-use Rattle.fab_vread.specs.Expressions.{PlainLevel, Spot, Effect, Stepped, wanting, nothing, going, ended, plain_reading, refused, is_this_mark, taken}
-use Rattle.fab_vread.specs.OpenLevels.{levels_of}
-use Rattle.fab_vread.specs.Places.{move_of}
+use Rattle.fab_vread.specs.inner.Expressions.{PlainLevel, Spot, Effect, Stepped, wanting, nothing, going, ended, plain_reading, refused, is_this_mark, taken}
+use Rattle.fab_vread.specs.inner.OpenLevels.{levels_of}
+use Rattle.fab_vread.specs.inner.Places.{move_of}
 use Rattle.fab_vread.specs.Refusals.{next_line}
 
 -- where the next token stands: outside expressions, or in one with these brackets open

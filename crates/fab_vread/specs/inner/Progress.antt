@@ -1,7 +1,6 @@
--- The machine that reads, for private contracts alone: no public clause cites it.
 -- How far a text has been read, as plain data.
 use Rattle.fab_vread.specs.declared.progress.Progress.{Progress}
-use Rattle.fab_vread.specs.Machine.{Progress as PlainProgress, plain_parser}
+use Rattle.fab_vread.specs.inner.Machine.{Progress as PlainProgress, plain_parser}
 
 abbrev pub plain_progress : Progress → PlainProgress
 plain_progress progress = record {

@@ -1,4 +1,3 @@
--- The machine that reads, for private contracts alone: no public clause cites it.
 -- What a token outside an expression does.
 use Rattle.std.specs.Prelude.{ℕ, ◌+◌, List, ◌==◌, nat_lt, if◌then◌else◌, Result, Ok, Err}
 use Rattle.fab_base.specs.declared.problem.Problem.{Problem}
@@ -25,7 +24,7 @@ use Rattle.fab_vread.specs.declared.places.Place.TheVariants as places
 use Rattle.fab_vread.specs.declared.places.Move.{Move}
 use Rattle.fab_vread.specs.declared.places.Move.TheVariants as moves
 use Rattle.fab_grammar.specs.Words.{is_foreign}
-use Rattle.fab_vread.specs.Expressions.{refused, is_this_mark}
+use Rattle.fab_vread.specs.inner.Expressions.{refused, is_this_mark}
 
 abbrev pub to : Place → Result Move Problem
 to place = Ok (moves.To place)
