@@ -23,3 +23,4 @@ pub use fab_implementation::{Fixed, Implementation, Tree};
 pub use laws::{broken_is_not_legal, packed_is_well_made, sinks_are_required};
 pub use legal::{Legal, check};
 pub use sinks::required;
+pub use texts::wire_text;

@@ -8,7 +8,7 @@ ghost use Rattle.fab_legal.specs.Nets.{net_of};
 
 use fab_base::{Memory, Name};
 use fab_implementation::Implementation;
-use fab_implementation::fab_fabric::{Fabric, Wire};
+use fab_implementation::fab_fabric::{Fabric, Wire, wires_are_numbered};
 use fab_implementation::fab_netlist::NetId;
 use itoa::Buffer;
 use std::alloc::Global;
@@ -56,6 +56,6 @@ pub fn wire_text(alloc: Global, fabric: &Fabric, wire: Wire) -> Result<Name, Mem
     requires { wire.0 < wire_count fabric.now }
     ensures { IfOk result (IsWireText fabric.now wire) }
 {
-    let _spot = fabric.spot(wire);
+    wires_are_numbered();
     fabric.wire_name(alloc, wire)
 }

@@ -1,13 +1,10 @@
-//! The names of nets and wires in reports.
+//! The names of nets in reports.
 
-ghost use Rattle.std.specs.Prelude.{◌≡◌, ◌<◌, IfOk};
-ghost use Rattle.fab_fabric.specs.Fabric.{wire_count};
-ghost use Rattle.fab_legal.specs.Broken.{IsWireText};
+ghost use Rattle.std.specs.Prelude.{◌≡◌, IfOk};
 ghost use Rattle.fab_legal.specs.WellMade.{IsNetId};
 ghost use Rattle.fab_map.specs.Causes.{name_of};
 
 use fab_base::{Memory, Name};
-use fab_fabric::{Fabric, Wire};
 use fab_netlist::{NetId, Packed};
 use itoa::Buffer;
 use std::alloc::Global;
@@ -31,13 +28,4 @@ pub(crate) fn net_name(alloc: Global, packed: &Packed, net: NetId) -> Result<Nam
         }
     }
     Ok(Name::from(text))
-}
-
-/// A wire, as `X1Y0/LA_I0`.
-pub(crate) fn wire_name(alloc: Global, fabric: &Fabric, wire: Wire) -> Result<Name, Memory>
-    requires { wire.0 < wire_count fabric.now }
-    ensures { IfOk result (IsWireText fabric.now wire) }
-{
-    let _spot = fabric.spot(wire);
-    fabric.wire_name(alloc, wire)
 }

@@ -7,12 +7,13 @@ ghost use Rattle.fab_ways.specs.Placing.{IsGoodPlacement};
 ghost use Rattle.fab_route.specs.Answers.{IsCutOff, IsOverused, IsTrueFault, plain_rounds};
 ghost use Rattle.fab_map.specs.Causes.{HasMapCause};
 
-use crate::names::{net_name, wire_name};
+use crate::names::net_name;
 use crate::trees::{last_trees, with_trees};
 use fab_base::{Fault, Memory, Name};
 use fab_fabric::{Fabric, Wire};
 use fab_impl::print_impl;
 use fab_implementation::{Fixed, Implementation, Tree};
+use fab_legal::wire_text;
 use fab_netlist::{NetId, Packed};
 use fab_route::RouteFault;
 use std::alloc::Global;
@@ -72,7 +73,7 @@ fn no_path(
     fabric.is_well_made();
     let text = print_impl(alloc, fabric, &placed)?;
     let net = net_name(alloc, packed, net)?;
-    let sink = wire_name(alloc, fabric, sink)?;
+    let sink = wire_text(alloc, fabric, sink)?;
     Ok(Fault::NoPath(net, sink, Name::from(text)))
 }
 
@@ -99,7 +100,7 @@ fn overused(
     fabric.is_well_made();
     let reached = with_trees(placed, last_trees(rounds));
     let text = print_impl(alloc, fabric, &reached)?;
-    let wire = wire_name(alloc, fabric, wire)?;
+    let wire = wire_text(alloc, fabric, wire)?;
     let first = net_name(alloc, packed, first)?;
     let second = net_name(alloc, packed, second)?;
     Ok(Fault::Overused(wire, first, second, Name::from(text)))

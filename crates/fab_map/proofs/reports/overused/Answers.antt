@@ -17,8 +17,8 @@ print_impl-requires-clause-inputs c =
     reached_inputs c.args.fabric.now c.is_well_made.ensures.are_tiles c.args.packed.now c.args.placed c.requires.made c.requires.good.placed c.requires.on_fabric c.args._rounds c.args.wire c.args.first c.args.second (plain_rounds c.args.rounds.items) c.requires.overused c.requires.some
     c.last_trees.result.items (length c.args.rounds.items - 1) c.last_trees.ensures (omega (arith, length-map c.args.rounds.items (λ (trees : Vec PlainTree Global). trees.items), length-map c.requires.overused.rounds (trees_of c.args.packed.now c.args.placed), ap length c.requires.overused.told_are, c.requires.overused.all_rounds, c.requires.some)) c.with_trees-reached.result c.with_trees-reached.ensures
 
-pub wire_name-requires : goal.wire_name-requires
-wire_name-requires c =
+pub wire_text-requires : goal.wire_text-requires
+wire_text-requires c =
     shared_there c.args.fabric.now c.is_well_made.ensures.are_tiles c.args.packed.now c.args.placed c.requires.made c.requires.good.placed c.requires.on_fabric c.args._rounds c.args.wire c.args.first c.args.second (plain_rounds c.args.rounds.items) c.requires.overused c.requires.some
 
 pub net_name-requires : goal.net_name-requires
