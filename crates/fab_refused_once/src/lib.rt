@@ -1,5 +1,5 @@
-//! The laws of the first refusal: each format of lines refuses a text once, so what is told of a text that is refused is determined, want of
-//! memory aside, and a text that is read is refused by nobody. They are stated for each type of lines that there is.
+//! The laws of the first refusal: each format of lines refuses a text once, so what is told of a text that is refused is determined, where
+//! memory lasts, and a text that is read is refused by nobody. They are stated for each type of lines that there is.
 #![tactic(auto)]
 
 ghost use Rattle.std.specs.Prelude.{ℕ, List, Option};
