@@ -7,7 +7,7 @@ use Rattle.std.proofs.lemmas.List.Elements.{All-cons, All-map, All-head, All-tai
 use Rattle.std.proofs.lemmas.Option.{slice_get_within, get_or_from_slice_get, slice_get-map}
 use Rattle.fab_select.specs.declared.pair.Pair.{Pair}
 use Rattle.fab_model.specs.Tiles.{PlainTile, IsTile, TileWire, tile_wires, wire_name, matrix_names, is_matrix_output, wire_passes}
-use Rattle.fab_matrix.specs.Matrix.{matrix, numbered_outputs, named}
+use Rattle.fab_matrix.specs.Matrix.{matrix, numbered_outputs as by_number, named}
 use Rattle.fab_matrix.proofs.Renamed.{matrix_renamed}
 use Rattle.fab_gen_tile.specs.Names.{matrix_module_name}
 use Rattle.fab_gen_tile.specs.TileModule.{is_on_side, matrix_input_names, matrix_output_names}
@@ -132,7 +132,7 @@ module _ (tile : PlainTile) (is : IsTile tile) (places : List ℕ) (has : HasPla
       let rest = pairs_named pairs (All-tail P pair pairs all) in
       λ j. (place pair.output, sym here j) ∷ rest j
 
-  pub matrix_by_places : matrix nat_eq (matrix_module_name tile) (matrix_input_names tile) (numbered_outputs (matrix_output_names tile)) (named (matrix_input_names tile) (map (placed_pair places) tile.pairs))
+  pub matrix_by_places : matrix nat_eq (matrix_module_name tile) (matrix_input_names tile) (by_number (matrix_output_names tile)) (named (matrix_input_names tile) (map (placed_pair places) tile.pairs))
       ≡ matrix_module tile
   matrix_by_places =
       let P = Wired ws is_matrix_output in

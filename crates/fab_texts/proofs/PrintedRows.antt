@@ -151,9 +151,9 @@ row_holds line [] h = absurd cc
 row_holds line (w ∷ ws) h = grind (arith, nat_tests)
 
 -- the rows that are printed are read back
-rows_from : (number : ℕ) (rows : List (List (List ℕ))) → are_rows rows ≡ true → words_of (filter holds_word (rows_from number (lines (rows_text rows)))) ≡ rows
-rows_from number [] h = refl
-rows_from number (row ∷ rows) h =
+rows_from-printed : (number : ℕ) (rows : List (List (List ℕ))) → are_rows rows ≡ true → words_of (filter holds_word (rows_from number (lines (rows_text rows)))) ≡ rows
+rows_from-printed number [] h = refl
+rows_from-printed number (row ∷ rows) h =
     let b = both_true (is_row row) (are_rows rows) h in
     let cut : rows_text (row ∷ rows) ≡ spaced row ++ 10 ∷ rows_text rows = flat_map-cons row_text row rows ∙ append_assoc (spaced row) (10 ∷ []) (rows_text rows) in
     let on_line = joined_on_line row (row_words row b.0) in
@@ -161,7 +161,7 @@ rows_from number (row ∷ rows) h =
     ap lines cut ∙ lines_before (spaced row) (rows_text rows) (none_passes is_line_byte (λ x. eqb x 10) line_no_feed (spaced row) on_line) (line_whole (spaced row) (joined_ends row b.0)) in
     let again = row_again row b.0 in
     ap (λ (ls : List (List ℕ)). words_of (filter holds_word (rows_from number ls))) first
-    ∙ rw (again, row_holds number row b.0) (ap (λ rs. row ∷ rs) (rows_from (number + 1) rows b.1))
+    ∙ rw (again, row_holds number row b.0) (ap (λ rs. row ∷ rs) (rows_from-printed (number + 1) rows b.1))
 
 pub rows_again : (rows : List (List (List ℕ))) → are_rows rows ≡ true → words_of (rows_of (rows_text rows)) ≡ rows
-rows_again rows h = rows_from 1 rows h
+rows_again rows h = rows_from-printed 1 rows h

@@ -11,5 +11,5 @@ returns c =
     ap (map plain_join) c.in_ok-push.ensures.items
     ∙ map_push plain_join c.args.joins.now.items _
     ∙ ap (λ join. map plain_join c.args.joins.now.items ++ join ∷ [])
-    (c.in_ok-joined.ensures ∙ ap (port_join config_name) (c.in_ok-value.ensures ∙ ap (λ high. part bits_name high c.args.low) c.in_ok-high.ensures))
+    (c.in_ok-port_join.ensures ∙ ap (port_join config_name) (c.in_ok-value.ensures ∙ ap (λ high. part bits_name high c.args.low) c.in_ok-high.ensures))
     ∙ ap (λ joins. map plain_join c.args.joins.now.items ++ joins) (sym (some_bits c.args.low c.args.bits c.if-bits-eq0.false))

@@ -8,4 +8,4 @@ pub returns : goal.returns
 returns c =
     ap (map plain_join) c.in_ok-push.ensures.items
     ∙ map_push plain_join c.args.joins.now.items _
-    ∙ ap (λ join. map plain_join c.args.joins.now.items ++ join ∷ []) (c.in_ok-joined.ensures ∙ ap (λ name. port_join c.args.port.now (variable name)) c.in_ok-name.ensures)
+    ∙ ap (λ join. map plain_join c.args.joins.now.items ++ join ∷ []) (c.in_ok-port_join.ensures ∙ ap (λ name. port_join c.args.port.now (variable name)) c.in_ok-name.ensures)

@@ -16,4 +16,4 @@ loop-bit-preserved c =
     ap (map plain_join) c.in_ok-push.ensures.items
     ∙ map_push plain_join c.loop-bit.joins.items _
     ∙ items_more c.loop-bit.bit f (map plain_join c.loop-bit.joins.items) (map plain_join c.args.joins.now.items) _ c.loop-bit.invariant
-    (c.in_ok-joined.ensures ∙ (λ j. port_join ((c.bytes.ensures ∙ c.in_ok-port.ensures) j) (c.in_ok-value.ensures j)))
+    (c.in_ok-port_join.ensures ∙ (λ j. port_join ((c.bytes.ensures ∙ c.in_ok-port.ensures) j) (c.in_ok-value.ensures j)))

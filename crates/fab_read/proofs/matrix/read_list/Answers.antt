@@ -31,7 +31,7 @@ pub returns-clause-pairs : goal.returns-clause-pairs
 returns-clause-pairs g c =
     let tile = c.args.tile.now in
     let pairs = c.read_list_file.new.state.pairs in
-    let items : c.in_ok-numbered.field-0.items ≡ pairs_by_number tile pairs = c.in_ok-numbered.ensures ∙ (λ j. pairs_by_number (c.in_ok-names.ensures j) ((c.deref.ensures.value ∙ c.in_ok-pairs.ensures) j)) in
+    let items : c.in_ok-pairs_by_number.field-0.items ≡ pairs_by_number tile pairs = c.in_ok-pairs_by_number.ensures ∙ (λ j. pairs_by_number (c.in_ok-names.ensures j) ((c.deref.ensures.value ∙ c.in_ok-pairs.ensures) j)) in
     subst (All (IsPair tile)) (sym items) (numbered_paired tile pairs)
 
 pub returns-clause-read : goal.returns-clause-read
@@ -44,5 +44,5 @@ returns-clause-read g c = λ files is.
     let listed : ReadsListFile files (known_in c.args.tile.now) left file [] pairs =
     subst (λ (k : PlainTile). ReadsListFile files (known_in k) left file [] pairs) tile
     (subst (λ (ps : List Pair). ReadsListFile files (known_in c.new-listed.result.tile) left file ps pairs) none (c.in_ok-read_list_file.ensures.read files is)) in
-    let items : c.in_ok-numbered.field-0.items ≡ pairs_by_number c.args.tile.now pairs = c.in_ok-numbered.ensures ∙ (λ j. pairs_by_number (c.in_ok-names.ensures j) ((c.deref.ensures.value ∙ c.in_ok-pairs.ensures) j)) in
+    let items : c.in_ok-pairs_by_number.field-0.items ≡ pairs_by_number c.args.tile.now pairs = c.in_ok-pairs_by_number.ensures ∙ (λ j. pairs_by_number (c.in_ok-names.ensures j) ((c.deref.ensures.value ∙ c.in_ok-pairs.ensures) j)) in
     subst (λ (ns : List NumberPair). ReadsMatrix files left c.args.tile.now (Some file) ns) (sym items) (of_list c.requires listed)

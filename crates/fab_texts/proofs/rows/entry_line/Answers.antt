@@ -1,7 +1,7 @@
 use Rattle.std.proofs.Common.{ap, ◌∙◌, sym, arith, ◌+◌}
 use Rattle.fab_lines.proofs.FirstLine.{lines_of_none}
 use Rattle.fab_texts.specs.Rows.{entry_line, rows_of}
-use Rattle.fab_texts.proofs.Entries.{rows_from, entry_here, entry_later, entry_other, entry_none}
+use Rattle.fab_texts.proofs.Entries.{text_rows, entry_here, entry_later, entry_other, entry_none}
 use Rattle.fab_texts.proofs.rows.entry_line.Goals as goal
 use Rattle.fab_texts.proofs.rows.entry_line.Goals.{then-holds_word+else-left-eq1, else-holds_word}
 
@@ -17,10 +17,10 @@ loop-rest-preserved c =
     record {
       so_far = elim c.if-holds_word.branch [
         | then-holds_word+else-left-eq1 w ↦
-            ap (entry_line (rows_from (c.loop-rest.number + 1) after)) (w.left-is ∙ w.saturating_sub-left.ensures)
+            ap (entry_line (text_rows (c.loop-rest.number + 1) after)) (w.left-is ∙ w.saturating_sub-left.ensures)
             ∙ entry_later c.loop-rest.number c.loop-rest.left whole text line after c.first_line.ensures.first (sym c.holds_word.ensures ∙ w.if-holds_word.true) w.if-left-eq1.false c.loop-rest.invariant.so_far
         | else-holds_word w ↦
-            ap (entry_line (rows_from (c.loop-rest.number + 1) after)) w.left-is
+            ap (entry_line (text_rows (c.loop-rest.number + 1) after)) w.left-is
             ∙ entry_other c.loop-rest.number c.loop-rest.left whole text line after c.first_line.ensures.first (sym c.holds_word.ensures ∙ w.if-holds_word.false) c.loop-rest.invariant.so_far
       ];
       room = omega (arith, c.first_line.ensures.shorter, c.loop-rest.invariant.room);
