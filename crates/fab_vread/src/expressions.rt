@@ -449,7 +449,7 @@ fn take_low(
 }
 
 /// Takes the next token of an expression, the brackets that are open, and what is above its bound so far.
-#[tactic(auto, unfolding(crate::specs::Expressions::taken))]
+#[tactic(auto, unfolding(crate::specs::inner::Expressions::taken))]
 pub(crate) fn take(
     levels: &mut Levels,
     over: &mut Option<Over>,

@@ -156,7 +156,7 @@ impl Levels {
     ghost use Rattle.fab_vread.specs.inner.OpenLevels.{levels_of};
 
     /// No bracket is open.
-    #[tactic(auto, unfolding(crate::specs::Expressions::plain_levels))]
+    #[tactic(auto, unfolding(crate::specs::inner::Expressions::plain_levels))]
     pub(crate) fn new(alloc: Global) -> Levels
         ensures { levels_of result ≡ [] }
     {
@@ -166,7 +166,7 @@ impl Levels {
         }
     }
 
-    #[tactic(auto, unfolding(crate::specs::Expressions::plain_levels))]
+    #[tactic(auto, unfolding(crate::specs::inner::Expressions::plain_levels))]
     pub(crate) fn clear(&mut self)
         ensures { levels_of self.new ≡ [] }
     {

@@ -82,7 +82,7 @@ fn push_module(modules: &mut Vec<Module>, whole: Module) -> Result<(), Memory>
 
 impl Parser {
     /// Before the first token.
-    #[tactic(auto, unfolding(crate::specs::Machine::first_machine))]
+    #[tactic(auto, unfolding(crate::specs::inner::Machine::first_machine))]
     pub(crate) fn new(alloc: Global) -> Parser
         ensures { plain_parser result ≡ first_machine }
     {
@@ -280,7 +280,7 @@ impl Parser {
     }
 
     /// Takes the next token. After an error the parser is of no more use.
-    #[tactic(auto, unfolding(crate::specs::Machine::after_token))]
+    #[tactic(auto, unfolding(crate::specs::inner::Machine::after_token))]
     pub(crate) fn take(&mut self, alloc: Global, token: Token) -> Result<(), Problem>
         ensures { Answers (λ _. plain_parser self.new) result (after_token (plain_parser self.old) token) }
     {

@@ -350,7 +350,7 @@ fn joins_move(of: Name, name: Name, joins: Joins, token: Token) -> Result<Move, 
 }
 
 /// What the next token does at a place.
-#[tactic(auto, unfolding(crate::specs::Places::move_of))]
+#[tactic(auto, unfolding(crate::specs::inner::Places::move_of))]
 pub(crate) fn move_of(place: Place, token: Token) -> Result<Move, Problem>
     ensures { result ≡ move_of place token }
 {

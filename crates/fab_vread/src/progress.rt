@@ -87,7 +87,7 @@ impl Progress {
         }
     }
 
-    #[tactic(auto, unfolding(crate::specs::Machine::after_lexeme))]
+    #[tactic(auto, unfolding(crate::specs::inner::Machine::after_lexeme))]
     fn take_token(&mut self, alloc: Global, file: &Name, token: Token) -> Result<(), Fault>
         ensures given { Gives (λ _. plain_progress self.new) result (after_lexeme file.now (plain_progress self.old) token) }
         ensures scan { self.new.scan ≡ self.old.scan }
