@@ -12,11 +12,11 @@ use Rattle.fab_tokens.specs.declared.scanner.Scan.{Scan}
 use Rattle.fab_tokens.specs.declared.scanner.Scan.TheVariants as scans
 use Rattle.fab_tokens.specs.declared.scanner.Step.{Step}
 use Rattle.fab_tokens.specs.Literals.{is_word_byte, constant_of}
-use Rattle.fab_tokens.specs.Tokens.{is_mark, op_bytes}
+use Rattle.fab_tokens.specs.Tokens.{is_mark, op_bytes, begins_with_digit}
 use Rattle.fab_tokens.specs.Scanning.{step, going, begun, begun_sign, begun_operator, begun_other, operator_of, word_token, constant_token, after_byte, at_end}
 use Rattle.fab_tokens.specs.Told.{tokens_from, step_tokens, tokens_of}
 use Rattle.fab_tokens.specs.Spelled.{Spells, blank, line_end, comment, block, token, no_tail, open_comment, token_text, IsToken, IsApart, joins_words, continues, is_blank, is_no_feed, has_close}
-use Rattle.fab_tokens.proofs.Words.{neither}
+use Rattle.fab_tokens.proofs.Words.{both, neither}
 use Rattle.fab_vread.proofs.Telling.{Known, IsSpelledAs, word_spelled, constant_spelled}
 
 abbrev pub AllKnown : List Token → Type 0
@@ -77,6 +77,7 @@ block_before text bytes ts is s = record {
 data Pending : Scan → List ℕ → Type 0 where
   at_rest : Pending scans.Between []
   in_word : (word : List ℕ) → 0 < length word → list_all is_word_byte word ≡ true → Pending (scans.Word word) word
+  in_foreign : (word : List ℕ) → Pending scans.ForeignWord word
   in_literal : (width rest : List ℕ) → Pending (scans.Literal width rest) (width ++ 39 ∷ rest)
   at_equals : Pending scans.Equals (61 ∷ [])
   at_less : Pending scans.Less (60 ∷ [])
@@ -204,8 +205,19 @@ ends_token p t byte bytes s made after = λ known.
 unknown_token : (p : List ℕ) (byte : ℕ) (bytes : List ℕ) (s : Step) → After (Some tokens.Unknown) byte bytes s → Steps p byte bytes s
 unknown_token p byte bytes s after = ends_token p tokens.Unknown byte bytes s (λ us known spelled. absurd known) after
 
-joins_nothing : (byte : ℕ) → is_word_byte byte ≡ false → (byte == 39) ≡ false → joins_words byte ≡ false
-joins_nothing byte a b = rw (a, b) refl
+joins_nothing : (byte : ℕ) → is_word_byte byte ≡ false → (byte == 36) ≡ false → (byte == 39) ≡ false → joins_words byte ≡ false
+joins_nothing byte a b c = rw (a, b, c) refl
+
+-- A byte behind a word ends it. An apostrophe that is not behind a number is no token.
+word_over : (word : List ℕ) (byte : ℕ) (bytes : List ℕ) → Rest bytes → 0 < length word → list_all is_word_byte word ≡ true →
+    is_word_byte byte ≡ false → (byte == 36) ≡ false → (quote : Bool) → (byte == 39) ≡ quote → Steps word byte bytes (begun (Some (word_token word)) byte)
+unfolding is_mark
+word_over word byte bytes rest some is_word no_word no_dollar true is =
+    at_byte (λ b. Steps word b bytes (begun (Some (word_token word)) b)) byte 39 is (λ known. absurd known.1.0)
+word_over word byte bytes rest some is_word no_word no_dollar false no_quote =
+    ends_token word (word_token word) byte bytes (begun (Some (word_token word)) byte)
+    (λ us known s. spelled_before (word_token word) word byte bytes us (word_spelled word some is_word known) (joins_nothing byte no_word no_dollar no_quote) s)
+    (begun_after (Some (word_token word)) byte bytes rest)
 
 word_push : (word : List ℕ) (byte : ℕ) → list_all is_word_byte word ≡ true → is_word_byte byte ≡ true → list_all is_word_byte (word ++ byte ∷ []) ≡ true
 word_push word byte a b = list_all-append is_word_byte word (byte ∷ []) ∙ rw (a, b) refl
@@ -250,14 +262,18 @@ byte_step byte bytes rest scan p (in_word word some is_word) =
     steps_if word byte bytes (is_word_byte byte) _ _
     (λ is. grows word byte bytes (scans.Word (word ++ byte ∷ [])) (word ++ byte ∷ []) rest
     (in_word (word ++ byte ∷ []) (let l = length-append word (byte ∷ []) in omega arith) (word_push word byte is_word is)) refl)
-    (λ no_word. steps_if word byte bytes (byte == 39) _ _
-    (λ is. at_byte (λ b. Steps word b bytes (going (scans.Literal word []))) byte 39 is
+    (λ no_word. steps_if word byte bytes (byte == 36) _ _
+    (λ is. grows word byte bytes scans.ForeignWord (word ++ byte ∷ []) rest (in_foreign (word ++ byte ∷ [])) refl)
+    (λ no_dollar. steps_if word byte bytes ((byte == 39) && begins_with_digit word) _ _
+    (λ is. at_byte (λ b. Steps word b bytes (going (scans.Literal word []))) byte 39 (both (byte == 39) (begins_with_digit word) is).0
     (grows word 39 bytes (scans.Literal word []) (word ++ 39 ∷ []) rest (in_literal word []) refl))
-    (λ no_quote. ends_token word (word_token word) byte bytes (begun (Some (word_token word)) byte)
-    (λ us known s. spelled_before (word_token word) word byte bytes us (word_spelled word some is_word known) (joins_nothing byte no_word no_quote) s)
-    (begun_after (Some (word_token word)) byte bytes rest)))
+    (λ no_width. word_over word byte bytes rest some is_word no_word no_dollar (byte == 39) refl)))
+byte_step byte bytes rest scan p (in_foreign word) =
+    steps_if word byte bytes (is_word_byte byte || (byte == 36)) _ _
+    (λ is. grows word byte bytes scans.ForeignWord (word ++ byte ∷ []) rest (in_foreign (word ++ byte ∷ [])) refl)
+    (λ other. unknown_token word byte bytes (begun (Some tokens.Unknown) byte) (begun_after (Some tokens.Unknown) byte bytes rest))
 byte_step byte bytes rest scan p (in_literal width text) =
-    steps_if (width ++ 39 ∷ text) byte bytes (is_word_byte byte || (byte == 39)) _ _
+    steps_if (width ++ 39 ∷ text) byte bytes (is_word_byte byte || ((byte == 36) || (byte == 39))) _ _
     (λ is. grows (width ++ 39 ∷ text) byte bytes (scans.Literal width (text ++ byte ∷ [])) (width ++ 39 ∷ (text ++ byte ∷ [])) rest (in_literal width (text ++ byte ∷ []))
     (sym (append_assoc width (39 ∷ text) (byte ∷ []))))
     (λ other. ends_token (width ++ 39 ∷ text) (constant_token (constant_of width text)) byte bytes (begun (Some (constant_token (constant_of width text))) byte)
@@ -316,6 +332,7 @@ ends_told : (scan : Scan) (p : List ℕ) → Pending scan p → AllKnown (option
 unfolding is_mark
 ends_told scan p at_rest known = no_parts
 ends_told scan p (in_word word some is_word) known = spelled_last (word_token word) word (word_spelled word some is_word known.0)
+ends_told scan p (in_foreign word) known = absurd known.0
 ends_told scan p (in_literal width text) known = spelled_last (constant_token (constant_of width text)) (width ++ 39 ∷ text) (constant_spelled width text known.0)
 ends_told scan p at_equals known = token_before (tokens.Mark 61) (61 ∷ []) [] [] refl refl tt no_parts
 ends_told scan p at_less known = absurd known.0
