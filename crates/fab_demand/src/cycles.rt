@@ -7,7 +7,7 @@ ghost use Rattle.fab_network.specs.Network.{AreFit};
 ghost use Rattle.fab_network.specs.Passes.{kept_tern, AreOwn, EachListed, IsListed};
 ghost use Rattle.fab_demand.specs.inner.Cycles.{start_tern, IsSettled};
 
-use fab_network::{Drive, Network, settle};
+use fab_network::{Drive, Network, Readers, settle};
 use fab_ternary::Tern;
 
 /// A cycle: these points start with what is given to them, and are settled.
@@ -16,6 +16,7 @@ pub(crate) fn settle_anew(
     own: &[u32],
     given: &[Tern],
     leads: &[u32],
+    readers: &mut Readers,
     terns: &mut [Tern],
 )
     requires fit { AreFit network.now.trees.items network.now.drives.items }
@@ -28,7 +29,7 @@ pub(crate) fn settle_anew(
     ensures { IsSettled network.now given.now own.now leads.now terns.old terns.new }
 {
     start(network, own, given, terns);
-    settle(network, own, given, leads, terns);
+    settle(network, own, given, leads, readers, terns);
 }
 
 // Gives inputs and flip-flops among these points what is given to them. Nothing is known of the others.

@@ -115,6 +115,7 @@ impl Demand {
             &search.own,
             given,
             &search.leads,
+            &mut search.readers,
             &mut search.terns,
         );
     }

@@ -16,7 +16,7 @@ ghost use Rattle.fab_demand.specs.Search.{asked_of, left_of, Closes, HasRoom, Is
 use crate::look::look;
 use fab_base::Memory;
 use fab_compiled::{Lead, View};
-use fab_network::{Clock, Drive, Network, Source, lead_of_source};
+use fab_network::{Clock, Drive, Network, Readers, Source, lead_of_source};
 use fab_ternary::Tern;
 use std::alloc::Global;
 
@@ -35,6 +35,8 @@ pub struct Search {
     pub own: Vec<u32>,
     /// The points that wait, each for the next one.
     pub stack: Vec<u32>,
+    /// The readers of the points that stand for themselves.
+    pub readers: Readers,
 }
 
 impl Search {
@@ -53,6 +55,7 @@ impl Search {
             done: vec![in alloc; false; points]?,
             own: Vec::with_capacity(alloc, points)?,
             stack: Vec::with_capacity(alloc, points)?,
+            readers: Readers::new(alloc, points)?,
         })
     }
 
@@ -68,6 +71,7 @@ impl Search {
         self.done.fill(false);
         self.own.clear();
         self.stack.clear();
+        self.readers.forget();
     }
 
     // The point that waits and that was asked for last.
@@ -133,6 +137,7 @@ impl Search {
         ensures { Closes self.old self.new point (record (asked_of self.old) { own = self.old.own.items ++ point ∷ [] }) }
     {
         add(&mut self.own, point);
+        self.readers.forget();
         self.close(point);
     }
 

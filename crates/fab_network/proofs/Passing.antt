@@ -1,6 +1,6 @@
--- A pass, look by look.
+-- Looks at points, one by one, and a pass of them.
 use Rattle.std.proofs.Common.{◌≡◌, ℕ, ◌+◌, ◌<◌, Bool, true, false, List, length, refl, sym, ap, ◌∙◌, subst, inl, inr, arith, slice_set, slice_index}
-use Rattle.std.proofs.lemmas.Bool.{cases_Bool, cases_eq, cases_lt, false≢true}
+use Rattle.std.proofs.lemmas.Bool.{cases_eq, cases_lt, false≢true}
 use Rattle.std.proofs.lemmas.List.{length-set}
 use Rattle.fab_systems.specs.Ternary.{unknown, IsBelow}
 use Rattle.fab_systems.specs.Ternary.{Tern as PlainTern}
@@ -10,11 +10,32 @@ use Rattle.fab_ternary.specs.Terns.{plain_tern, is_known}
 use Rattle.fab_compiled.specs.Terns.{seen}
 use Rattle.fab_compiled.specs.Leading.{PointTerns, AreAbove}
 use Rattle.fab_network.specs.Network.{AreFit}
-use Rattle.fab_network.specs.Passes.{kept_tern, open_count, changed_after, unsettled_after, shows, shows_now, AreRising, EachListed, AreBacked, AreOwn, StaysBelow, Scene, IsVisit, IsPassed}
+use Rattle.fab_network.specs.Passes.{kept_tern, open_count, changed_after, unsettled_after, shows, shows_now, AreRising, EachListed, AreBacked, AreOwn, StaysBelow, Scene, IsVisit, IsFurther, IsPassed}
 use Rattle.fab_network.specs.declared.passes.Visit.{Visit}
 use Rattle.fab_network.specs.declared.passes.Visit.TheVariants.{Known, Still, Found}
 use Rattle.fab_network.proofs.Sources.{shown_grows}
 use Rattle.fab_network.proofs.Kept.{kept_same, kept_other, open_fewer, rising_set, known_grows}
+
+module _ (scene : Scene) where
+  pub none_further : (old : List Tern) → AreBacked scene.trees scene.drives scene.held scene.order (seen old scene.leads) → IsFurther scene old old
+  none_further old backed = record {
+    long = refl;
+    rising = λ q. below_self (kept_tern old q);
+    below = λ t solved led above. above;
+    backed = backed;
+    falls = omega arith;
+    others = λ q n. refl;
+  }
+
+  pub both_further : (old now new : List Tern) → IsFurther scene old now → IsFurther scene now new → IsFurther scene old new
+  both_further old now new first second = record {
+    long = second.long ∙ first.long;
+    rising = λ q. below_trans (kept_tern old q) (kept_tern now q) (kept_tern new q) (first.rising q) (second.rising q);
+    below = λ t solved led above. second.below t solved led (first.below t solved led above);
+    backed = second.backed;
+    falls = omega (arith, first.falls, second.falls);
+    others = λ q n. second.others q n ∙ first.others q n;
+  }
 
 module _ (scene : Scene) (fit : AreFit scene.trees scene.drives) (points : length scene.drives ≡ length scene.leads) (own : AreOwn scene.order scene.leads) where
   -- what points show rises with what is kept
@@ -33,18 +54,81 @@ module _ (scene : Scene) (fit : AreFit scene.trees scene.drives) (points : lengt
   own_seen : (terns : List Tern) (place : ℕ) → place < length scene.order → seen terns scene.leads (slice_index scene.order place) ≡ kept_tern terns (slice_index scene.order place)
   own_seen terns place l = ap (kept_tern terns) (own place l).1
 
-  -- ---- nothing so far
+  -- ---- a look at a point of the list
+
+  module _ (place : ℕ) (now : List Tern) (backed : AreBacked scene.trees scene.drives scene.held scene.order (seen now scene.leads)) (room : place < length scene.order)
+      (long : length now ≡ length scene.leads) where
+    abbrev point : ℕ
+    point = slice_index scene.order place
+
+    within : point < length scene.leads
+    within = (own place room).0
+
+    module _ (none : kept_tern now point ≡ unknown) (t : Tern) (is : is_known (plain_tern t) ≡ true) (given : plain_tern t ≡ shows_now scene now point) where
+      abbrev next : List Tern
+      next = slice_set now point t
+
+      inside : point < length now
+      inside = omega (arith, within, long)
+
+      rise : AreRising now next
+      rise = rising_set now point t inside none
+
+      pub point_kept : kept_tern next point ≡ plain_tern t
+      point_kept = kept_same now point t inside
+
+      found_below : StaysBelow scene.trees scene.drives scene.held scene.order scene.leads now next
+      found_below u solved led above q l =
+          elim (cases_eq (slice_index scene.leads q) point) [
+            | inl e ↦ (let shown : IsBelow (shows_now scene now point) (u point) =
+                subst (λ (x : PlainTern). IsBelow (shows_now scene now point) x) (sym (solved place room)) (shows_below now u above point within) in
+                let at : IsBelow (kept_tern next point) (u point) = subst (λ (x : PlainTern). IsBelow x (u point)) (sym (point_kept ∙ given)) shown in
+                let led_here : IsBelow (kept_tern next (slice_index scene.leads q)) (u (slice_index scene.leads q)) =
+                subst (λ (n : ℕ). IsBelow (kept_tern next n) (u n)) (sym e) at in
+                subst (λ (x : PlainTern). IsBelow (kept_tern next (slice_index scene.leads q)) x) (sym (led q l)) led_here)
+            | inr n ↦ subst (λ (x : PlainTern). IsBelow x (u q)) (sym (kept_other now point t (slice_index scene.leads q) n)) (above q l)
+          ]
+
+      found_backed : AreBacked scene.trees scene.drives scene.held scene.order (seen next scene.leads)
+      found_backed at l =
+          let q = slice_index scene.order at in
+          let more : IsBelow (shows_now scene now q) (shows_now scene next q) = shows_rise now next rise q (own at l).0 in
+          elim (cases_eq q point) [
+            | inl e ↦ (let value : seen next scene.leads q ≡ shows_now scene now q =
+                own_seen next at l ∙ ap (kept_tern next) e ∙ point_kept ∙ given ∙ ap (shows_now scene now) (sym e) in
+                subst (λ (x : PlainTern). IsBelow x (shows_now scene next q)) (sym value) more)
+            | inr n ↦ (let value : seen next scene.leads q ≡ seen now scene.leads q =
+                own_seen next at l ∙ kept_other now point t q n ∙ sym (own_seen now at l) in
+                subst (λ (x : PlainTern). IsBelow x (shows_now scene next q)) (sym value)
+                (below_trans (seen now scene.leads q) (shows_now scene now q) (shows_now scene next q) (backed at l) more))
+          ]
+
+      pub fewer_then : open_count now ≡ 1 + open_count next
+      fewer_then = open_fewer now point t inside none is
+
+      pub found_further : IsFurther scene now next
+      found_further = record {
+        long = length-set now point t;
+        rising = rise;
+        below = found_below;
+        backed = found_backed;
+        falls = omega (arith, fewer_then);
+        others = λ q n. kept_other now point t q (λ e. n (place, room, sym e));
+      }
+
+    pub visit_further : (new : List Tern) (visit : Visit) → IsVisit scene point now new visit → IsFurther scene now new
+    visit_further new Known (stays, is) = subst (IsFurther scene now) (sym stays) (none_further scene now backed)
+    visit_further new Still (stays, none, shows_none) = subst (IsFurther scene now) (sym stays) (none_further scene now backed)
+    visit_further new Found (none, t, stays, is, given) = subst (IsFurther scene now) (sym stays) (found_further none t is given)
+
+  -- ---- nothing of a pass so far
 
   pub none_passed : (old : List Tern) → AreBacked scene.trees scene.drives scene.held scene.order (seen old scene.leads) → IsPassed scene 0 old old false false
   none_passed old backed = record {
-    long = refl;
-    rising = λ q. below_self (kept_tern old q);
-    below = λ t solved led above. above;
-    backed = backed;
+    further = none_further scene old backed;
     same = λ e. (refl, λ place l. absurd (omega arith));
     fewer = λ e. absurd (false≢true e);
     all = λ e place l. absurd (omega arith);
-    others = λ q n. refl;
   }
 
   -- ---- one more look
@@ -53,9 +137,6 @@ module _ (scene : Scene) (fit : AreFit scene.trees scene.drives) (points : lengt
       (long : length now ≡ length scene.leads) where
     abbrev here : ℕ
     here = slice_index scene.order count
-
-    within : here < length scene.leads
-    within = (own count room).0
 
     -- what holds of all points so far, and of this one
     one_more : (P : ℕ → Type 0) → EachListed count scene.order P → P here → EachListed (count + 1) scene.order P
@@ -68,10 +149,7 @@ module _ (scene : Scene) (fit : AreFit scene.trees scene.drives) (points : lengt
     pub known_passed : (new : List Tern) → IsVisit scene here now new Known → IsPassed scene (count + 1) old new changed unsettled
     known_passed new (stays, is) =
         let made : IsPassed scene (count + 1) old now changed unsettled = record {
-          long = passed.long;
-          rising = passed.rising;
-          below = passed.below;
-          backed = passed.backed;
+          further = passed.further;
           same = λ e. let before = passed.same e in (
             before.0,
             one_more (λ q. kept_tern old q ≡ unknown → shows_now scene old q ≡ unknown) before.1
@@ -79,17 +157,13 @@ module _ (scene : Scene) (fit : AreFit scene.trees scene.drives) (points : lengt
           );
           fewer = passed.fewer;
           all = λ e. one_more (λ q. is_known (kept_tern now q) ≡ true) (passed.all e) is;
-          others = passed.others;
         } in
         subst (λ (terns : List Tern). IsPassed scene (count + 1) old terns changed unsettled) (sym stays) made
 
     pub still_passed : (new : List Tern) → IsVisit scene here now new Still → IsPassed scene (count + 1) old new changed true
     still_passed new (stays, none, shows_none) =
         let made : IsPassed scene (count + 1) old now changed true = record {
-          long = passed.long;
-          rising = passed.rising;
-          below = passed.below;
-          backed = passed.backed;
+          further = passed.further;
           same = λ e. let before = passed.same e in (
             before.0,
             one_more (λ q. kept_tern old q ≡ unknown → shows_now scene old q ≡ unknown) before.1
@@ -97,72 +171,25 @@ module _ (scene : Scene) (fit : AreFit scene.trees scene.drives) (points : lengt
           );
           fewer = passed.fewer;
           all = λ e. absurd (false≢true (sym e));
-          others = passed.others;
         } in
         subst (λ (terns : List Tern). IsPassed scene (count + 1) old terns changed true) (sym stays) made
 
     module _ (none : kept_tern now here ≡ unknown) (t : Tern) (is : is_known (plain_tern t) ≡ true) (given : plain_tern t ≡ shows_now scene now here) where
-      abbrev next : List Tern
-      next = slice_set now here t
+      abbrev after : List Tern
+      after = slice_set now here t
 
-      inside : here < length now
-      inside = omega (arith, within, long)
+      step : IsFurther scene now after
+      step = found_further count now passed.further.backed room long none t is given
 
-      rise : AreRising now next
-      rise = rising_set now here t inside none
-
-      here_kept : kept_tern next here ≡ plain_tern t
-      here_kept = kept_same now here t inside
-
-      found_below : StaysBelow scene.trees scene.drives scene.held scene.order scene.leads old next
-      found_below u solved led above q l =
-          let before = passed.below u solved led above in
-          elim (cases_eq (slice_index scene.leads q) here) [
-            | inl e ↦ (let shown : IsBelow (shows_now scene now here) (u here) =
-                subst (λ (x : PlainTern). IsBelow (shows_now scene now here) x) (sym (solved count room)) (shows_below now u before here within) in
-                let at : IsBelow (kept_tern next here) (u here) = subst (λ (x : PlainTern). IsBelow x (u here)) (sym (here_kept ∙ given)) shown in
-                let led_here : IsBelow (kept_tern next (slice_index scene.leads q)) (u (slice_index scene.leads q)) =
-                subst (λ (n : ℕ). IsBelow (kept_tern next n) (u n)) (sym e) at in
-                subst (λ (x : PlainTern). IsBelow (kept_tern next (slice_index scene.leads q)) x) (sym (led q l)) led_here)
-            | inr n ↦ subst (λ (x : PlainTern). IsBelow x (u q)) (sym (kept_other now here t (slice_index scene.leads q) n)) (before q l)
-          ]
-
-      found_backed : AreBacked scene.trees scene.drives scene.held scene.order (seen next scene.leads)
-      found_backed place l =
-          let q = slice_index scene.order place in
-          let more : IsBelow (shows_now scene now q) (shows_now scene next q) = shows_rise now next rise q (own place l).0 in
-          elim (cases_eq q here) [
-            | inl e ↦ (let value : seen next scene.leads q ≡ shows_now scene now q =
-                own_seen next place l ∙ ap (kept_tern next) e ∙ here_kept ∙ given ∙ ap (shows_now scene now) (sym e) in
-                subst (λ (x : PlainTern). IsBelow x (shows_now scene next q)) (sym value) more)
-            | inr n ↦ (let value : seen next scene.leads q ≡ seen now scene.leads q =
-                own_seen next place l ∙ kept_other now here t q n ∙ sym (own_seen now place l) in
-                subst (λ (x : PlainTern). IsBelow x (shows_now scene next q)) (sym value)
-                (below_trans (seen now scene.leads q) (shows_now scene now q) (shows_now scene next q) (passed.backed place l) more))
-          ]
-
-      fewer_now : open_count now ≡ 1 + open_count next
-      fewer_now = open_fewer now here t inside none is
-
-      found_fewer : open_count next < open_count old
-      found_fewer =
-          elim (cases_Bool changed) [
-            | inl c ↦ omega (arith, passed.fewer c, fewer_now)
-            | inr n ↦ omega (arith, ap open_count (passed.same n).0, fewer_now)
-          ]
-
-      pub found_passed_at : IsPassed scene (count + 1) old next true unsettled
+      pub found_passed_at : IsPassed scene (count + 1) old after true unsettled
       found_passed_at = record {
-        long = length-set now here t ∙ passed.long;
-        rising = λ q. below_trans (kept_tern old q) (kept_tern now q) (kept_tern next q) (passed.rising q) (rise q);
-        below = found_below;
-        backed = found_backed;
+        further = both_further scene old now after passed.further step;
         same = λ e. absurd (false≢true (sym e));
-        fewer = λ e. found_fewer;
-        all = λ e. one_more (λ q. is_known (kept_tern next q) ≡ true)
-            (λ place l. known_grows (kept_tern now (slice_index scene.order place)) (kept_tern next (slice_index scene.order place)) (passed.all e place l) (rise (slice_index scene.order place)))
-            (ap is_known here_kept ∙ is);
-        others = λ q n. kept_other now here t q (λ e. n (count, room, sym e)) ∙ passed.others q n;
+        fewer = λ e. omega (arith, passed.further.falls, fewer_then count now passed.further.backed room long none t is given);
+        all = λ e. one_more (λ q. is_known (kept_tern after q) ≡ true)
+            (λ place l. known_grows (kept_tern now (slice_index scene.order place)) (kept_tern after (slice_index scene.order place)) (passed.all e place l)
+            (step.rising (slice_index scene.order place)))
+            (ap is_known (point_kept count now passed.further.backed room long none t is given) ∙ is);
       }
 
     pub found_passed : (new : List Tern) → IsVisit scene here now new Found → IsPassed scene (count + 1) old new true unsettled

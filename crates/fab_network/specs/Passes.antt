@@ -1,5 +1,5 @@
 -- Passes over points that are not known yet.
-use Rattle.std.specs.Prelude.{◌≡◌, ℕ, ◌+◌, ◌<◌, Bool, true, false, List, [], ◌∷◌, length, slice_index, slice_get, slice_set}
+use Rattle.std.specs.Prelude.{◌≡◌, ℕ, ◌+◌, ◌<◌, ◌≤◌, Bool, true, false, List, [], ◌∷◌, length, slice_index, slice_get, slice_set}
 use Rattle.fab_systems.specs.Ternary.{unknown, IsBelow}
 use Rattle.fab_systems.specs.Ternary.{Tern as PlainTern}
 use Rattle.fab_ternary.specs.declared.Tern.{Tern}
@@ -88,13 +88,18 @@ unsettled_after unsettled Known = unsettled
 unsettled_after unsettled Still = true
 unsettled_after unsettled Found = unsettled
 
--- what looks at the first points of the list have done
-pub record IsPassed (scene : Scene) (count : ℕ) (old now : List Tern) (changed unsettled : Bool) : Type 0 where
+-- what looks at points of the list have done, whichever they were
+pub record IsFurther (scene : Scene) (old now : List Tern) : Type 0 where
   pub long : length now ≡ length old
   pub rising : AreRising old now
   pub below : StaysBelow scene.trees scene.drives scene.held scene.order scene.leads old now
   pub backed : AreBacked scene.trees scene.drives scene.held scene.order (seen now scene.leads)
+  pub falls : open_count now ≤ open_count old
+  pub others : (point : ℕ) → (IsListed scene.order point → ⊥) → kept_tern now point ≡ kept_tern old point
+
+-- what looks at the first points of the list have done
+pub record IsPassed (scene : Scene) (count : ℕ) (old now : List Tern) (changed unsettled : Bool) : Type 0 where
+  pub further : IsFurther scene old now
   pub same : changed ≡ false → (now ≡ old) × EachListed count scene.order (λ point. kept_tern old point ≡ unknown → shows_now scene old point ≡ unknown)
   pub fewer : changed ≡ true → open_count now < open_count old
   pub all : unsettled ≡ false → EachListed count scene.order (λ point. is_known (kept_tern now point) ≡ true)
-  pub others : (point : ℕ) → (IsListed scene.order point → ⊥) → kept_tern now point ≡ kept_tern old point

@@ -4,7 +4,9 @@
 mod leading;
 mod network;
 mod passes;
+mod readers;
 
 pub use leading::lead_of_source;
 pub use network::{Clock, Drive, Network, Source, evaluate};
 pub use passes::settle;
+pub use readers::Readers;

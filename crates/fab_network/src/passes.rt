@@ -4,9 +4,10 @@ ghost use Rattle.std.specs.Prelude.{◌≡◌, ◌<◌, ◌≤◌, ◌^◌, ℕ,
 ghost use Rattle.fab_ternary.specs.Terns.{plain_tern};
 ghost use Rattle.fab_compiled.specs.Terns.{seen, IsView};
 ghost use Rattle.fab_network.specs.Network.{AreFit};
-ghost use Rattle.fab_network.specs.Passes.{changed_after, kept_tern, unsettled_after, AreBacked, AreOwn, AreRising, AreSolved, IsListed, IsPassed, IsVisit, StaysBelow};
+ghost use Rattle.fab_network.specs.Passes.{changed_after, kept_tern, unsettled_after, AreBacked, AreOwn, AreRising, AreSolved, IsFurther, IsListed, IsPassed, IsVisit, StaysBelow};
 
 use crate::network::{Network, shown};
+use crate::readers::Readers;
 use fab_compiled::View;
 use fab_ternary::Tern;
 
@@ -51,8 +52,16 @@ impl Pass {
 }
 
 /// Gives points that stand for themselves what they show, as far as it is known: passes over them in their order, until one finds nothing. Where
-/// each of them depends on those before it alone, and all that it depends on is known, one pass is enough.
-pub fn settle(network: &Network, order: &[u32], held: &[Tern], leads: &[u32], terns: &mut [Tern])
+/// each of them depends on those before it alone, and all that it depends on is known, one pass is enough. Behind each other pass the readers
+/// of points that are known are looked at again, and the readers of those that come to be known by that, so that there are few passes.
+pub fn settle(
+    network: &Network,
+    order: &[u32],
+    held: &[Tern],
+    leads: &[u32],
+    readers: &mut Readers,
+    terns: &mut [Tern],
+)
     requires fit { AreFit network.now.trees.items network.now.drives.items }
     requires points { length network.now.drives.items ≡ length leads.now }
     requires terns { length terns.old ≡ length leads.now }
@@ -71,6 +80,7 @@ pub fn settle(network: &Network, order: &[u32], held: &[Tern], leads: &[u32], te
         if !pass.changed || !pass.unsettled {
             return;
         }
+        look_again(network, order, held, leads, readers, terns);
     }
 }
 
@@ -131,4 +141,151 @@ fn look_at(
     }
     terns[point] = found;
     Visit::Found
+}
+
+// Looks again at the readers of points that are known, where the pass came to the reader first, and at those of points that come to be known.
+fn look_again(
+    network: &Network,
+    order: &[u32],
+    held: &[Tern],
+    leads: &[u32],
+    readers: &mut Readers,
+    terns: &mut [Tern],
+)
+    requires fit { AreFit network.now.trees.items network.now.drives.items }
+    requires points { length network.now.drives.items ≡ length leads.now }
+    requires terns { length terns.old ≡ length leads.now }
+    requires held { length held.now ≡ length leads.now }
+    requires view { IsView terns.old leads.now }
+    requires small { length leads.now ≤ 2 ^ 32 }
+    requires own { AreOwn order.now leads.now }
+    requires backed { AreBacked network.now.trees.items network.now.drives.items held.now order.now (seen terns.old leads.now) }
+    ensures { IsFurther (record { trees = network.now.trees.items; drives = network.now.drives.items; held = held.now; order = order.now; leads = leads.now })
+        terns.old terns.new }
+{
+    readers.note(network, order, leads);
+    readers.start();
+    look_back(network, order, held, leads, readers, terns);
+    look_on(network, order, held, leads, readers, terns);
+}
+
+// Looks at the readers that stand before a point that is known.
+fn look_back(
+    network: &Network,
+    order: &[u32],
+    held: &[Tern],
+    leads: &[u32],
+    readers: &mut Readers,
+    terns: &mut [Tern],
+)
+    requires fit { AreFit network.now.trees.items network.now.drives.items }
+    requires points { length network.now.drives.items ≡ length leads.now }
+    requires terns { length terns.old ≡ length leads.now }
+    requires held { length held.now ≡ length leads.now }
+    requires view { IsView terns.old leads.now }
+    requires small { length leads.now ≤ 2 ^ 32 }
+    requires own { AreOwn order.now leads.now }
+    requires backed { AreBacked network.now.trees.items network.now.drives.items held.now order.now (seen terns.old leads.now) }
+    ensures { IsFurther (record { trees = network.now.trees.items; drives = network.now.drives.items; held = held.now; order = order.now; leads = leads.now })
+        terns.old terns.new }
+{
+    for place in 0..order.len() {
+        let note = readers.note_before(order, terns, place);
+        look_at_readers(network, order, held, leads, readers, note, terns);
+    }
+}
+
+// Looks at the readers of points that come to be known, until no more do. They are no more than the points of the order.
+fn look_on(
+    network: &Network,
+    order: &[u32],
+    held: &[Tern],
+    leads: &[u32],
+    readers: &mut Readers,
+    terns: &mut [Tern],
+)
+    requires fit { AreFit network.now.trees.items network.now.drives.items }
+    requires points { length network.now.drives.items ≡ length leads.now }
+    requires terns { length terns.old ≡ length leads.now }
+    requires held { length held.now ≡ length leads.now }
+    requires view { IsView terns.old leads.now }
+    requires small { length leads.now ≤ 2 ^ 32 }
+    requires own { AreOwn order.now leads.now }
+    requires backed { AreBacked network.now.trees.items network.now.drives.items held.now order.now (seen terns.old leads.now) }
+    ensures { IsFurther (record { trees = network.now.trees.items; drives = network.now.drives.items; held = held.now; order = order.now; leads = leads.now })
+        terns.old terns.new }
+{
+    for place in 0..order.len() {
+        let Some(note) = readers.next_found(place) else {
+            return;
+        };
+        look_at_readers(network, order, held, leads, readers, note, terns);
+    }
+}
+
+// Looks at the reader of a note, and at those of the notes before it of the same point.
+fn look_at_readers(
+    network: &Network,
+    order: &[u32],
+    held: &[Tern],
+    leads: &[u32],
+    readers: &mut Readers,
+    last: u32,
+    terns: &mut [Tern],
+)
+    requires fit { AreFit network.now.trees.items network.now.drives.items }
+    requires points { length network.now.drives.items ≡ length leads.now }
+    requires terns { length terns.old ≡ length leads.now }
+    requires held { length held.now ≡ length leads.now }
+    requires view { IsView terns.old leads.now }
+    requires small { length leads.now ≤ 2 ^ 32 }
+    requires own { AreOwn order.now leads.now }
+    requires backed { AreBacked network.now.trees.items network.now.drives.items held.now order.now (seen terns.old leads.now) }
+    ensures { IsFurther (record { trees = network.now.trees.items; drives = network.now.drives.items; held = held.now; order = order.now; leads = leads.now })
+        terns.old terns.new }
+{
+    let mut next = last;
+    for _note in 0..readers.notes() {
+        let Some(note) = readers.note_at(next) else {
+            return;
+        };
+        look_at_reader(network, order, held, leads, readers, note.reader, terns);
+        next = note.before;
+    }
+}
+
+// Looks at the point at a place of the order.
+fn look_at_reader(
+    network: &Network,
+    order: &[u32],
+    held: &[Tern],
+    leads: &[u32],
+    readers: &mut Readers,
+    place: u32,
+    terns: &mut [Tern],
+)
+    requires fit { AreFit network.now.trees.items network.now.drives.items }
+    requires points { length network.now.drives.items ≡ length leads.now }
+    requires terns { length terns.old ≡ length leads.now }
+    requires held { length held.now ≡ length leads.now }
+    requires view { IsView terns.old leads.now }
+    requires small { length leads.now ≤ 2 ^ 32 }
+    requires own { AreOwn order.now leads.now }
+    requires backed { AreBacked network.now.trees.items network.now.drives.items held.now order.now (seen terns.old leads.now) }
+    ensures { IsFurther (record { trees = network.now.trees.items; drives = network.now.drives.items; held = held.now; order = order.now; leads = leads.now })
+        terns.old terns.new }
+{
+    let Some(point) = order.get(place as usize) else {
+        return;
+    };
+    let found = look_at(network, *point as usize, held, leads, terns);
+    note_found(readers, *point, found);
+}
+
+// The readers of a point wait where it has come to be known.
+fn note_found(readers: &mut Readers, point: u32, visit: Visit) {
+    match visit {
+        Visit::Found => readers.find(point),
+        Visit::Known | Visit::Still => {}
+    }
 }

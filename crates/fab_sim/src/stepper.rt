@@ -23,7 +23,7 @@ use fab_base::Memory;
 use fab_draws::shuffle_order;
 use fab_load_runs::{loading_is_decided, loading_runs_exist};
 use fab_meaning::laws::points_of_sound_texts_have_one_driver;
-use fab_network::Network;
+use fab_network::{Network, Readers};
 use fab_ordering::fab_simulation::loading_is_known;
 use fab_phases::feed;
 use fab_solutions::least_solutions;
@@ -43,6 +43,8 @@ pub struct Stepper {
     pub(crate) board: Board,
     /// What is known in the cycle: the least ternary solution.
     pub(crate) solution: Vec<Tern>,
+    /// The readers of the points.
+    pub(crate) readers: Readers,
     /// The order in which points were activated last.
     pub(crate) order: Vec<u32>,
     /// Which inputs take a drawn value in each cycle.
@@ -83,7 +85,8 @@ impl Stepper {
         draw_values(&mut self.random, loads, false, &mut self.board.terns);
         take_over(loads, false, &self.board.terns, &mut self.board.held);
         feed(&self.points.ffs, values, &mut self.board.held);
-        self.board.solve(&self.network, &mut self.solution);
+        self.board
+            .solve(&self.network, &mut self.readers, &mut self.solution);
         take_over(loads, true, &self.solution, &mut self.board.terns);
     }
 
@@ -131,7 +134,8 @@ impl Stepper {
         least_solutions();
         feed(&self.points.ins, inputs, &mut self.board.terns);
         draw_values(&mut self.random, &self.free, true, &mut self.board.terns);
-        self.board.solve(&self.network, &mut self.solution);
+        self.board
+            .solve(&self.network, &mut self.readers, &mut self.solution);
     }
 
     /// Shuffles the order, activates each point once, and tells whether one has changed that is known in the cycle.

@@ -15,7 +15,7 @@ use crate::machine::Machine;
 use crate::stepper::Stepper;
 use fab_base::Memory;
 use fab_meaning::laws::points_of_sound_texts_have_one_driver;
-use fab_network::{Drive, Network};
+use fab_network::{Drive, Network, Readers};
 use fab_stepping::{Board, own_leads};
 use fab_ternary::Tern;
 use rand_core::SeedableRng;
@@ -29,6 +29,7 @@ pub struct Room {
     pub terns: Vec<Tern>,
     pub leads: Vec<u32>,
     pub solution: Vec<Tern>,
+    pub readers: Readers,
     pub order: Vec<u32>,
     pub free: Vec<bool>,
 }
@@ -52,10 +53,12 @@ pub fn room_of(alloc: Global, machine: &Machine) -> Result<Room, Memory>
     let solution = vec![in alloc; Tern::Open; count]?;
     let leads = own_leads(alloc, count)?;
     let order = own_leads(alloc, count)?;
+    let readers = Readers::new(alloc, count)?;
     Ok(Room {
         terns,
         leads,
         solution,
+        readers,
         order,
         free,
     })
@@ -145,6 +148,7 @@ pub fn unset_of(machine: Machine, room: Room, seed: u64) -> Unset
         terns,
         leads,
         solution,
+        readers,
         order,
         free,
     } = room;
@@ -161,6 +165,7 @@ pub fn unset_of(machine: Machine, room: Room, seed: u64) -> Unset
         points,
         board,
         solution,
+        readers,
         order,
         free,
         random,

@@ -8,12 +8,12 @@ ghost use Rattle.fab_compiled.specs.Terns.{seen};
 ghost use Rattle.fab_stepping.specs.Boards.{begun_by, given_on, AreKnown, IsBegun, IsBoardOf};
 
 use crate::board::Board;
-use fab_network::{Drive, Network, settle};
+use fab_network::{Drive, Network, Readers, settle};
 use fab_ternary::Tern;
 
 impl Board {
-    /// Writes what the least solution has, where inputs have what their points have.
-    pub fn solve(&self, network: &Network, solution: &mut [Tern])
+    /// Writes what the least solution has, where inputs have what their points have. The readers of the points are noted once, for all calls.
+    pub fn solve(&self, network: &Network, readers: &mut Readers, solution: &mut [Tern])
         requires fit { AreFit network.now.trees.items network.now.drives.items }
         requires board { IsBoardOf network.now self.now }
         requires known { AreKnown network.now self.now }
@@ -21,7 +21,14 @@ impl Board {
         ensures { IsLeast network.now.trees.items network.now.drives.items (given_on network.now self.now) (seen solution.new self.now.leads.items) }
     {
         self.begin(network, solution);
-        settle(network, &self.leads, &self.held, &self.leads, solution);
+        settle(
+            network,
+            &self.leads,
+            &self.held,
+            &self.leads,
+            readers,
+            solution,
+        );
     }
 
     // Inputs and flip-flops have what is given to them, and of all other points nothing is known.

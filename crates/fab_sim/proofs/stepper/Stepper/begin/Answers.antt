@@ -72,6 +72,7 @@ returns c text state draws before stands many =
       points = old.points;
       board = record { terns = with_items (with_items old.board.terns fed) terns; held = old.board.held; leads = old.board.leads };
       solution = with_items old.solution c.solve.new.solution;
+      readers = c.solve.new.readers;
       order = old.order;
       free = old.free;
       random = c.draw_values.new.random;

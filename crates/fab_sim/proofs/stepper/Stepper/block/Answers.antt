@@ -44,6 +44,7 @@ returns c text state draws before stands =
       points = old.points;
       board = board;
       solution = old.solution;
+      readers = old.readers;
       order = with_items old.order order;
       free = old.free;
       random = c.shuffle_order.new.random;

@@ -24,6 +24,7 @@ returns c text state draws before stands many =
       points = old.points;
       board = c.tick.new.self;
       solution = old.solution;
+      readers = old.readers;
       order = old.order;
       free = old.free;
       random = old.random;

@@ -1,0 +1,13 @@
+use Rattle.fab_network.specs.Passes.{Scene}
+use Rattle.fab_network.proofs.Passing.{both_further, none_further}
+use Rattle.fab_network.proofs.passes.look_at_readers.Goals as goal
+
+pub loop-note-init : goal.loop-note-init
+loop-note-init c =
+    let scene : Scene = record { trees = c.args.network.now.trees.items; drives = c.args.network.now.drives.items; held = c.args.held.now; order = c.args.order.now; leads = c.args.leads.now } in
+    none_further scene c.args.terns.now c.requires.backed
+
+pub loop-note-preserved : goal.loop-note-preserved
+loop-note-preserved c =
+    let scene : Scene = record { trees = c.args.network.now.trees.items; drives = c.args.network.now.drives.items; held = c.args.held.now; order = c.args.order.now; leads = c.args.leads.now } in
+    both_further scene c.args.terns.now c.loop-note.terns c.look_at_reader.new.terns c.loop-note.invariant c.look_at_reader.ensures
