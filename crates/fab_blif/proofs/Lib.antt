@@ -2,6 +2,7 @@ pub mod Joins
 pub mod Numbers
 pub mod Lines
 pub mod Stack
+pub mod Prefixes
 pub mod Designed
 pub mod Each
 pub mod Rules

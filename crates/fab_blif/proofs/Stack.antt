@@ -3,15 +3,14 @@ use Rattle.std.proofs.Common.{◌≡◌, ℕ, zero, suc, ◌+◌, ◌<◌, ◌�
 use Rattle.std.proofs.lemmas.List.Sums.{fold-append}
 use Rattle.fab_models.specs.Plain.{PlainBody, PlainStatement, PlainModel, inputs, outputs, clock, cover, latch, instance}
 use Rattle.fab_instances.specs.Places.{place_of_model, statements_of}
-use Rattle.fab_blif.specs.declared.walk.Frame.{Frame}
 use Rattle.fab_blif.specs.Flat.{PlainCopy, Placed, copy_in, lines_at, lines_by, lines_of, of_model, top_copy}
 use Rattle.fab_blif.specs.Design.{PlainDesign}
 use Rattle.fab_blif.specs.inner.Walk.{after, after_all}
-use Rattle.fab_blif.specs.inner.Frames.{deep_in, frame_lines, stack_lines, entered, new_frame, advanced, with_frames}
+use Rattle.fab_blif.specs.inner.Frames.{PlainFrame, deep_in, frame_lines, stack_lines, entered, new_frame, advanced, with_frames}
 
 module _ (models : List PlainModel) where
   -- the lines of a frame that is last come first
-  pub lines_push : (frames : List Frame) (frame : Frame) → stack_lines models (frames ++ frame ∷ []) ≡ frame_lines models frame ++ stack_lines models frames
+  pub lines_push : (frames : List PlainFrame) (frame : PlainFrame) → stack_lines models (frames ++ frame ∷ []) ≡ frame_lines models frame ++ stack_lines models frames
   unfolding stack_lines
   lines_push [] frame = sym (append-nil (frame_lines models frame))
   lines_push (first ∷ frames) frame =
@@ -19,13 +18,13 @@ module _ (models : List PlainModel) where
       ∙ append_assoc (frame_lines models frame) (stack_lines models frames) (frame_lines models first)
 
   -- a frame without lines
-  pub lines_done : (outer : List Frame) (frame : Frame) → drop frame.next (statements_of models frame.model) ≡ [] → stack_lines models (outer ++ frame ∷ []) ≡ stack_lines models outer
+  pub lines_done : (outer : List PlainFrame) (frame : PlainFrame) → drop frame.next (statements_of models frame.model) ≡ [] → stack_lines models (outer ++ frame ∷ []) ≡ stack_lines models outer
   lines_done outer frame none =
       lines_push outer frame
       ∙ ap (λ (lines : List PlainStatement). flat_map (lines_at models (lines_of models (deep_in models frame.copy.depth)) frame.copy) lines ++ stack_lines models outer) none
 
   -- what an instance that is gone into stands for
-  abbrev inner_lines : Option Frame → List Placed
+  abbrev inner_lines : Option PlainFrame → List Placed
   inner_lines None = []
   inner_lines (Some frame) = frame_lines models frame
 
@@ -65,11 +64,11 @@ module _ (models : List PlainModel) where
   line_parts (suc deep) copy line (instance name words) is = found_lines deep copy line words (place_of_model models name) is
 
   -- the lines of frames behind the next one
-  inner_last : (outer : List Frame) (frame : Frame) (inner : Option Frame) → stack_lines models (with_frames outer frame inner) ≡ inner_lines inner ++ stack_lines models (outer ++ frame ∷ [])
+  inner_last : (outer : List PlainFrame) (frame : PlainFrame) (inner : Option PlainFrame) → stack_lines models (with_frames outer frame inner) ≡ inner_lines inner ++ stack_lines models (outer ++ frame ∷ [])
   inner_last outer frame None = refl
   inner_last outer frame (Some inner) = lines_push (outer ++ frame ∷ []) inner
 
-  pub lines_next : (outer : List Frame) (frame : Frame) (statement : PlainStatement) →
+  pub lines_next : (outer : List PlainFrame) (frame : PlainFrame) (statement : PlainStatement) →
       drop frame.next (statements_of models frame.model) ≡ statement ∷ drop (frame.next + 1) (statements_of models frame.model) →
       stack_lines models (outer ++ frame ∷ [])
       ≡ put_lines frame.copy statement.line statement.body
@@ -91,7 +90,7 @@ module _ (models : List PlainModel) where
       ∙ ap (λ (text : List Placed). put ++ text) (append_assoc inner left all ∙ ap (λ (text : List Placed). inner ++ text) (sym (lines_push outer (advanced frame))) ∙ sym (inner_last outer (advanced frame) e))
 
   -- a design after a line
-  pub design_next : (outer : List Frame) (frame : Frame) (statement : PlainStatement) (design : PlainDesign) →
+  pub design_next : (outer : List PlainFrame) (frame : PlainFrame) (statement : PlainStatement) (design : PlainDesign) →
       drop frame.next (statements_of models frame.model) ≡ statement ∷ drop (frame.next + 1) (statements_of models frame.model) →
       after_all (after_all design (lines_by [] (λ _ _. []) frame.copy statement.line statement.body))
       (stack_lines models (with_frames outer (advanced frame) (entered models (deep_in models frame.copy.depth) frame.copy statement.line statement.body)))
@@ -122,14 +121,14 @@ module _ (models : List PlainModel) where
   work_of zero place = 0
   work_of (suc deep) place = 1 + total (line_work (work_of deep)) (statements_of models place)
 
-  abbrev frame_work : Frame → ℕ
+  abbrev frame_work : PlainFrame → ℕ
   frame_work frame = 1 + total (line_work (work_of (deep_in models frame.copy.depth))) (drop frame.next (statements_of models frame.model))
 
-  unfoldable pub stack_work : List Frame → ℕ
+  unfoldable pub stack_work : List PlainFrame → ℕ
   stack_work [] = 0
   stack_work (frame ∷ frames) = stack_work frames + frame_work frame
 
-  work_push : (frames : List Frame) (frame : Frame) → stack_work (frames ++ frame ∷ []) ≡ frame_work frame + stack_work frames
+  work_push : (frames : List PlainFrame) (frame : PlainFrame) → stack_work (frames ++ frame ∷ []) ≡ frame_work frame + stack_work frames
   unfolding stack_work
   work_push [] frame = omega arith
   work_push (first ∷ frames) frame =
@@ -137,10 +136,10 @@ module _ (models : List PlainModel) where
       ∙ add_assoc (frame_work frame) (stack_work frames) (frame_work first)
 
   -- a frame without lines is one step
-  pub work_done : (outer : List Frame) (frame : Frame) → stack_work outer < stack_work (outer ++ frame ∷ [])
+  pub work_done : (outer : List PlainFrame) (frame : PlainFrame) → stack_work outer < stack_work (outer ++ frame ∷ [])
   work_done outer frame = omega (arith, work_push outer frame)
 
-  abbrev inner_work : Option Frame → ℕ
+  abbrev inner_work : Option PlainFrame → ℕ
   inner_work None = 0
   inner_work (Some frame) = frame_work frame
 
@@ -159,12 +158,12 @@ module _ (models : List PlainModel) where
   body_parts (suc deep) copy line (latch input output control initial) is = omega arith
   body_parts (suc deep) copy line (instance name words) is = omega (arith, found_work deep copy line words (place_of_model models name) is)
 
-  inner_pushed : (outer : List Frame) (frame : Frame) (inner : Option Frame) → stack_work (with_frames outer frame inner) ≡ inner_work inner + stack_work (outer ++ frame ∷ [])
+  inner_pushed : (outer : List PlainFrame) (frame : PlainFrame) (inner : Option PlainFrame) → stack_work (with_frames outer frame inner) ≡ inner_work inner + stack_work (outer ++ frame ∷ [])
   inner_pushed outer frame None = omega arith
   inner_pushed outer frame (Some inner) = work_push (outer ++ frame ∷ []) inner
 
   -- a line is one step
-  pub work_next : (outer : List Frame) (frame : Frame) (statement : PlainStatement) →
+  pub work_next : (outer : List PlainFrame) (frame : PlainFrame) (statement : PlainStatement) →
       drop frame.next (statements_of models frame.model) ≡ statement ∷ drop (frame.next + 1) (statements_of models frame.model) →
       stack_work (with_frames outer (advanced frame) (entered models (deep_in models frame.copy.depth) frame.copy statement.line statement.body))
       < stack_work (outer ++ frame ∷ [])

@@ -1,9 +1,9 @@
 //! Copies of models: where they lie in the flattened text, and which nets their lines name.
 
-ghost use Rattle.std.specs.Prelude.{◌≡◌, ◌<◌, ◌+◌, ◌++◌, ◌^◌, [], ℕ, Some, None, IfOk, OnOk, IfSome, IfNone, MatchOption, length, map, decimal, drop, filter_map, option_map, option_to_list};
+ghost use Rattle.std.specs.Prelude.{◌≡◌, ◌≤◌, ◌++◌, [], ℕ, Some, None, IfOk, OnOk, IfSome, IfNone, MatchOption, length, map, decimal, drop, filter_map, option_map, option_to_list};
 ghost use Rattle.std.specs.Str.{bytes_eq};
 ghost use Rattle.indexmap.specs.IndexMap.{insert_all, insert_entry};
-ghost use Rattle.fab_blif.specs.Flat.{copy_in, net_in, join_in, joins_in, line_prefix, top_copy};
+ghost use Rattle.fab_blif.specs.Flat.{net_in, join_in, joins_in, line_prefix};
 ghost use Rattle.fab_instances.specs.Formals.{sides};
 ghost use Rattle.fab_blif.specs.inner.Walk.{plain_net, plain_joins};
 
@@ -18,33 +18,33 @@ use std::marker::Model;
 /// The nets to which the ports of a copy are joined.
 pub(crate) type Joins = IndexMap<Vec<u8>, Net>;
 
-/// A copy of a model.
+/// A copy of a model, while its lines are gone through.
 #[derive(Drop)]
-pub(crate) struct ModelCopy {
+pub(crate) struct ModelCopy<'a> {
     /// In how many instances it lies.
     pub depth: usize,
     /// What stands in front of the names of its inner nets: the lines of these instances, with `/` behind each.
-    pub prefix: Vec<u8>,
-    pub joins: Joins,
+    pub prefix: &'a [u8],
+    pub joins: &'a Joins,
 }
 
-impl Model for ModelCopy {
+impl<'a> Model for ModelCopy<'a> {
     ghost use Rattle.fab_blif.specs.Flat.{PlainCopy};
     ghost use Rattle.fab_blif.specs.inner.Walk.{plain_joins};
 
     ghost Value = { PlainCopy };
 
-    ghost view = { λ copy. record { depth = copy.depth; prefix = copy.prefix.items; joins = plain_joins copy.joins.entries } };
+    ghost view = { λ copy. record { depth = copy.depth; prefix = copy.prefix.now; joins = plain_joins copy.joins.now.entries } };
 }
 
-/// The prefix of a copy within another one, by the line of its instance.
-fn inner_prefix(alloc: Global, outer: &[u8], line: u32) -> Result<Vec<u8>, Memory>
-    ensures { IfOk result (λ text. text.items ≡ outer.now ++ line_prefix line) }
+/// Puts the line of an instance behind the prefix of the copy that it lies in, for the prefix of its own copy.
+pub(crate) fn push_line(text: &mut Vec<u8>, line: u32) -> Result<(), Memory>
+    ensures line { OnOk result (text.new.items ≡ text.old.items ++ line_prefix line) }
+    ensures length { length text.old.items ≤ length text.new.items }
 {
-    let mut text = Vec::from_slice(alloc, outer)?;
     text.extend_from_slice(Buffer::new().format(line).as_bytes())?;
     text.push(b'/')?;
-    Ok(text)
+    Ok(())
 }
 
 fn insert_join(joins: &mut Joins, formal: Vec<u8>, net: Net) -> Result<(), Memory>
@@ -54,22 +54,11 @@ fn insert_join(joins: &mut Joins, formal: Vec<u8>, net: Net) -> Result<(), Memor
     Ok(())
 }
 
-impl ModelCopy {
-    /// The first model, which is no copy.
-    pub(crate) fn top(alloc: Global) -> ModelCopy
-        ensures { result ≡ top_copy }
-    {
-        ModelCopy {
-            depth: 0,
-            prefix: Vec::new(alloc),
-            joins: IndexMap::new(alloc),
-        }
-    }
-
+impl<'a> ModelCopy<'a> {
     fn inner_net(&self, alloc: Global, name: &[u8]) -> Result<Net, Memory>
         ensures { IfOk result (λ net. plain_net net ≡ record { depth = self.now.depth; name = self.now.prefix ++ name.now }) }
     {
-        let mut text = Vec::from_slice(alloc, &self.prefix)?;
+        let mut text = Vec::from_slice(alloc, self.prefix)?;
         text.extend_from_slice(name)?;
         Ok(Net {
             depth: self.depth,
@@ -101,7 +90,7 @@ impl ModelCopy {
     }
 
     /// What the words of an instance join.
-    fn joins_in(&self, alloc: Global, words: &[Name]) -> Result<Joins, Memory>
+    pub(crate) fn joins_in(&self, alloc: Global, words: &[Name]) -> Result<Joins, Memory>
         ensures { IfOk result (λ joins. plain_joins joins.entries ≡ joins_in self.now words.now) }
     {
         let mut joins = IndexMap::new(alloc);
@@ -109,22 +98,5 @@ impl ModelCopy {
             self.join(alloc, &mut joins, word.bytes())?;
         }
         Ok(joins)
-    }
-
-    /// The copy that an instance on a line of this one makes.
-    pub(crate) fn copy_in(
-        &self,
-        alloc: Global,
-        line: u32,
-        words: &[Name],
-    ) -> Result<ModelCopy, Memory>
-        requires { self.now.depth + 1 < 2 ^ 64 }
-        ensures { IfOk result (λ copy. copy ≡ copy_in self.now line words.now) }
-    {
-        Ok(ModelCopy {
-            depth: self.depth + 1,
-            prefix: inner_prefix(alloc, &self.prefix, line)?,
-            joins: self.joins_in(alloc, words)?,
-        })
     }
 }
