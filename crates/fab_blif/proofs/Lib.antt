@@ -20,3 +20,4 @@ pub mod OneStatement
 pub mod Once
 pub mod Content
 pub mod Netlists
+pub mod Small

@@ -13,8 +13,8 @@ ghost use Rattle.fab_blif.specs.inner.Walk.{plain_clock, plain_net, plain_nets};
 use crate::design::{ClockName, Design, Use};
 use crate::judge::{driven_nets, inner_drivers, is_among, nets_in, readers_of};
 use crate::net::Net;
+use crate::parts::DesignLatch;
 use fab_base::{Fault, Memory, Name, Problem, Reason};
-use fab_netlist::Latch;
 use indexmap::IndexSet;
 use std::alloc::Global;
 
@@ -40,23 +40,14 @@ struct ClockFault {
 #[derive(Drop)]
 struct Clocking {
     /// The nets that have a driver.
-    driven: IndexSet<u32>,
+    driven: IndexSet<usize>,
     /// The nets that some line names as a clock.
-    clocks: IndexSet<u32>,
+    clocks: IndexSet<usize>,
     /// The clock.
     first: Option<Use>,
 }
 
 /// The number of a net. One that is no net of the design has the number that the next net would have.
-fn number_of(nets: &IndexSet<Net>, net: &Net) -> Result<u32, Memory>
-    ensures { IfOk result (λ number. number ≡ number_in (plain_nets nets.now.keys) (plain_net net.now)) }
-{
-    match u32::try_from(number_or_len(nets, net)) {
-        Ok(number) => Ok(number),
-        Err(_) => Err(Memory),
-    }
-}
-
 fn number_or_len(nets: &IndexSet<Net>, net: &Net) -> usize
     ensures { result ≡ number_in (plain_nets nets.now.keys) (plain_net net.now) }
 {
@@ -69,7 +60,7 @@ fn clock_uses(alloc: Global, nets: &IndexSet<Net>, clocks: &[ClockName]) -> Resu
 {
     let mut uses = Vec::new(alloc);
     for clock in clocks {
-        let net = number_of(nets, &clock.net)?;
+        let net = number_or_len(nets, &clock.net);
         uses.push(Use {
             line: clock.line,
             net,
@@ -99,7 +90,7 @@ fn clocking_of(alloc: Global, design: &Design) -> Result<Clocking, Memory>
     })
 }
 
-fn is_other(first: Option<Use>, net: u32) -> bool
+fn is_other(first: Option<Use>, net: usize) -> bool
     ensures { result ≡ is_other first net }
 {
     match first {
@@ -108,7 +99,7 @@ fn is_other(first: Option<Use>, net: u32) -> bool
     }
 }
 
-fn has_clock_data(clocks: &IndexSet<u32>, latch: Option<Latch>) -> bool
+fn has_clock_data(clocks: &IndexSet<usize>, latch: Option<DesignLatch>) -> bool
     ensures { result ≡ list_any (is_among clocks.now.keys) (latch_data latch) }
 {
     match latch {
@@ -118,7 +109,7 @@ fn has_clock_data(clocks: &IndexSet<u32>, latch: Option<Latch>) -> bool
 }
 
 /// What is wrong where a net is named as a clock, maybe by the control of a latch.
-fn wrong_clock(clocking: &Clocking, net: u32, latch: Option<Latch>) -> Option<WrongClock>
+fn wrong_clock(clocking: &Clocking, net: usize, latch: Option<DesignLatch>) -> Option<WrongClock>
     ensures { result ≡ wrong_by (is_among clocking.now.driven.keys) (is_among clocking.now.clocks.keys) clocking.now.first net latch }
 {
     if !is_among(&clocking.driven, net) {
@@ -156,13 +147,13 @@ fn put_named(
         clocking.now.first (plain_nets nets.now.keys) (map plain_clock clocks.now)) }
 {
     for clock in clocks {
-        let net = number_of(nets, &clock.net)?;
+        let net = number_or_len(nets, &clock.net);
         put_fault(faults, clock.line, wrong_clock(clocking, net, clock.latch))?;
     }
     Ok(())
 }
 
-fn data_or_none(clocks: &IndexSet<u32>, net: u32) -> Option<WrongClock>
+fn data_or_none(clocks: &IndexSet<usize>, net: usize) -> Option<WrongClock>
     ensures { result ≡ (if is_among clocks.now.keys net then Some wrongs.Data else None) }
 {
     if is_among(clocks, net) {
@@ -174,7 +165,7 @@ fn data_or_none(clocks: &IndexSet<u32>, net: u32) -> Option<WrongClock>
 
 fn put_data(
     faults: &mut Vec<ClockFault>,
-    clocks: &IndexSet<u32>,
+    clocks: &IndexSet<usize>,
     uses: &[Use],
 ) -> Result<(), Memory>
     ensures { OnOk result (faults.new.items ≡ faults.old.items ++ data_faults (is_among clocks.now.keys) uses.now) }

@@ -9,9 +9,9 @@ ghost use Rattle.fab_blif.specs.inner.Walk.{plain_net, plain_nets, plain_clock, 
 
 use crate::model_copy::ModelCopy;
 use crate::net::Net;
+use crate::parts::{DesignCover, DesignLatch};
 use fab_base::{Memory, Name};
 use fab_models::{Body, Statement};
-use fab_netlist::{Cover, Latch};
 use indexmap::IndexSet;
 use std::alloc::Global;
 use std::marker::Model;
@@ -20,7 +20,7 @@ use std::marker::Model;
 #[derive(Clone, Copy, Debug)]
 pub(crate) struct Use {
     pub line: u32,
-    pub net: u32,
+    pub net: usize,
 }
 
 /// A net that a line names as a clock.
@@ -29,7 +29,7 @@ pub(crate) struct ClockName {
     pub line: u32,
     pub net: Net,
     /// The latch whose control it is.
-    pub latch: Option<Latch>,
+    pub latch: Option<DesignLatch>,
 }
 
 /// What the lines of a text say of its nets.
@@ -42,8 +42,8 @@ pub(crate) struct Design {
     pub outputs: Vec<Use>,
     /// The input ports that `.clock` declares.
     pub clock_ports: Vec<Use>,
-    pub covers: Vec<Cover>,
-    pub latches: Vec<Latch>,
+    pub covers: Vec<DesignCover>,
+    pub latches: Vec<DesignLatch>,
     /// The lines of the latches.
     pub latch_lines: Vec<u32>,
     pub clocks: Vec<ClockName>,
@@ -68,15 +68,12 @@ impl Model for Design {
     } };
 }
 
-fn number_of(nets: &mut IndexSet<Net>, net: Net) -> Result<u32, Memory>
+fn number_of(nets: &mut IndexSet<Net>, net: Net) -> Result<usize, Memory>
     ensures nets { OnOk result (plain_nets nets.new.keys ≡ insert_key net_eq (plain_nets nets.old.keys) (plain_net net)) }
     ensures number { IfOk result (λ number. number ≡ number_in (plain_nets nets.old.keys) (plain_net net)) }
 {
     let (place, _) = nets.insert_full(net)?;
-    let Ok(number) = u32::try_from(place) else {
-        return Err(Memory);
-    };
-    Ok(number)
+    Ok(place)
 }
 
 fn number_name(
@@ -84,7 +81,7 @@ fn number_name(
     nets: &mut IndexSet<Net>,
     copy: &ModelCopy,
     name: &Name,
-) -> Result<u32, Memory>
+) -> Result<usize, Memory>
     ensures nets { OnOk result (plain_nets nets.new.keys ≡ insert_key net_eq (plain_nets nets.old.keys) (net_in copy.now name.now)) }
     ensures number { IfOk result (λ number. number ≡ number_in (plain_nets nets.old.keys) (net_in copy.now name.now)) }
 {
@@ -97,7 +94,7 @@ fn number_names(
     nets: &mut IndexSet<Net>,
     copy: &ModelCopy,
     names: &[Name],
-) -> Result<Vec<u32>, Memory>
+) -> Result<Vec<usize>, Memory>
     ensures nets { OnOk result (plain_nets nets.new.keys ≡ insert_all net_eq (plain_nets nets.old.keys) (map (net_in copy.now) names.now)) }
     ensures numbers { IfOk result (λ numbers. numbers.items ≡ net_numbers (plain_nets nets.old.keys) (map (net_in copy.now) names.now)) }
 {
@@ -108,7 +105,7 @@ fn number_names(
     Ok(numbers)
 }
 
-pub(crate) fn push_uses(uses: &mut Vec<Use>, line: u32, numbers: &[u32]) -> Result<(), Memory>
+pub(crate) fn push_uses(uses: &mut Vec<Use>, line: u32, numbers: &[usize]) -> Result<(), Memory>
     ensures { OnOk result (uses.new.items ≡ uses.old.items ++ used_at line numbers.now) }
 {
     for net in numbers {
@@ -123,7 +120,7 @@ fn name_clock(
     copy: &ModelCopy,
     line: u32,
     name: &Name,
-    latch: Option<Latch>,
+    latch: Option<DesignLatch>,
 ) -> Result<(), Memory>
     ensures { OnOk result (map plain_clock clocks.new.items
         ≡ map plain_clock clocks.old.items ++ record { line = line; net = net_in copy.now name.now; latch = latch } ∷ []) }
@@ -198,7 +195,7 @@ impl Design {
     {
         let inputs = number_names(alloc, &mut self.nets, copy, inputs)?;
         let output = number_name(alloc, &mut self.nets, copy, output)?;
-        self.covers.push(Cover {
+        self.covers.push(DesignCover {
             line,
             inputs,
             output,
@@ -215,13 +212,13 @@ impl Design {
         input: &Name,
         output: &Name,
         init: u8,
-    ) -> Result<Latch, Memory>
+    ) -> Result<DesignLatch, Memory>
         ensures latch { IfOk result (λ latch. latch ≡ latch_next self.old.nets (net_in copy.now input.now) (net_in copy.now output.now) init) }
         ensures design { OnOk result (self.new ≡ with_latch self.old line (net_in copy.now input.now) (net_in copy.now output.now) init) }
     {
         let input = number_name(alloc, &mut self.nets, copy, input)?;
         let output = number_name(alloc, &mut self.nets, copy, output)?;
-        let latch = Latch {
+        let latch = DesignLatch {
             input,
             output,
             init,
@@ -237,7 +234,7 @@ impl Design {
         alloc: Global,
         copy: &ModelCopy,
         line: u32,
-        latch: Latch,
+        latch: DesignLatch,
         control: &Option<Name>,
     ) -> Result<(), Memory>
         ensures { OnOk result (self.new ≡ with_control self.old line latch (option_to_list (option_map (net_in copy.now) control.now))) }

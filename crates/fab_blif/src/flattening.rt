@@ -18,6 +18,7 @@ use crate::clocks::refuse_clocks;
 use crate::design::{ClockName, Design, Use};
 use crate::judge::{refuse_drivers, refuse_undriven};
 use crate::net::Net;
+use crate::parts::{netlist_covers, netlist_latches, netlist_numbers};
 use crate::walk::take_all;
 use fab_base::{Fault, Memory, Name, Problem, Quantity};
 use fab_instances::index_models;
@@ -69,7 +70,7 @@ fn names_of(alloc: Global, nets: &IndexSet<Net>) -> Result<Vec<Name>, Memory>
     Ok(names)
 }
 
-fn nets_of(alloc: Global, uses: &[Use]) -> Result<Vec<u32>, Memory>
+fn nets_of(alloc: Global, uses: &[Use]) -> Result<Vec<usize>, Memory>
     ensures { IfOk result (λ nets. nets.items ≡ map (λ port. port.net) uses.now) }
 {
     let nets = uses.iter().map(|port| port.net).collect(alloc)?;
@@ -86,17 +87,17 @@ fn clock_number(nets: &IndexSet<Net>, clocks: &[ClockName]) -> Option<usize>
     }
 }
 
-fn is_number(clock: Option<usize>, net: u32) -> bool
+fn is_number(clock: Option<usize>, net: usize) -> bool
     ensures { result ≡ is_number clock net }
 {
     match clock {
         None => false,
-        Some(number) => number == net as usize,
+        Some(number) => number == net,
     }
 }
 
 /// The nets of input ports without the clock.
-fn data_inputs(alloc: Global, clock: Option<usize>, ports: &[Use]) -> Result<Vec<u32>, Memory>
+fn data_inputs(alloc: Global, clock: Option<usize>, ports: &[Use]) -> Result<Vec<usize>, Memory>
     ensures { IfOk result (λ nets. nets.items ≡ data_inputs clock ports.now) }
 {
     let mut nets = Vec::new(alloc);
@@ -108,24 +109,16 @@ fn data_inputs(alloc: Global, clock: Option<usize>, ports: &[Use]) -> Result<Vec
     Ok(nets)
 }
 
-fn netlist_of(alloc: Global, design: Design) -> Result<Netlist, Memory>
-    requires { IsWellMade (netlist_of design) }
-    ensures { IfOk result (λ netlist. netlist ≡ netlist_of design) }
+fn netlist_of(alloc: Global, design: &Design) -> Result<Netlist, Memory>
+    requires { IsWellMade (netlist_of design.now) }
+    ensures { IfOk result (λ netlist. netlist ≡ netlist_of design.now) }
 {
-    let Design {
-        nets,
-        inputs,
-        outputs,
-        clock_ports: _,
-        covers,
-        latches,
-        latch_lines: _,
-        clocks,
-    } = design;
-    let clock = clock_number(&nets, &clocks);
-    let nets = names_of(alloc, &nets)?;
-    let inputs = data_inputs(alloc, clock, &inputs)?;
-    let outputs = nets_of(alloc, &outputs)?;
+    let clock = clock_number(&design.nets, &design.clocks);
+    let nets = names_of(alloc, &design.nets)?;
+    let inputs = netlist_numbers(alloc, &data_inputs(alloc, clock, &design.inputs)?)?;
+    let outputs = netlist_numbers(alloc, &nets_of(alloc, &design.outputs)?)?;
+    let covers = netlist_covers(alloc, &design.covers)?;
+    let latches = netlist_latches(alloc, &design.latches)?;
     Netlist::new(alloc, nets, inputs, outputs, covers, latches)
 }
 
@@ -152,5 +145,5 @@ pub fn flatten(
     let places = index_models(alloc, file, last_line, models)?;
     let design = design_of(alloc, models, &places)?;
     refuse_design(alloc, file, last_line, &design)?;
-    Ok(netlist_of(alloc, design)?)
+    Ok(netlist_of(alloc, &design)?)
 }

@@ -7,9 +7,9 @@ ghost use Rattle.fab_blif.specs.Judged.{EachHasOne, IsSecondIn, drivers_in, inne
 ghost use Rattle.fab_blif.specs.Refusals.{RefusesDrivers, RefusesUndriven};
 
 use crate::design::{Design, Use, push_uses};
+use crate::parts::{DesignCover, DesignLatch};
 use fab_base::{Fault, Memory, Name, Reason};
 use fab_instances::malformed;
-use fab_netlist::{Cover, Latch};
 use indexmap::IndexSet;
 use std::alloc::Global;
 
@@ -17,7 +17,7 @@ use std::alloc::Global;
 #[derive(Clone, Copy, Debug)]
 struct Driver {
     line: u32,
-    net: u32,
+    net: usize,
     is_port: bool,
 }
 
@@ -27,7 +27,11 @@ fn line_at(lines: &[u32], place: usize) -> Option<u32>
     lines.get(place).copied()
 }
 
-fn put_latch_outputs(uses: &mut Vec<Use>, lines: &[u32], latches: &[Latch]) -> Result<(), Memory>
+fn put_latch_outputs(
+    uses: &mut Vec<Use>,
+    lines: &[u32],
+    latches: &[DesignLatch],
+) -> Result<(), Memory>
     ensures { OnOk result (uses.new.items ≡ uses.old.items ++ latch_uses (λ latch. latch.output) lines.now latches.now) }
 {
     for (place, latch) in latches.iter().enumerate() {
@@ -42,7 +46,11 @@ fn put_latch_outputs(uses: &mut Vec<Use>, lines: &[u32], latches: &[Latch]) -> R
     Ok(())
 }
 
-fn put_latch_inputs(uses: &mut Vec<Use>, lines: &[u32], latches: &[Latch]) -> Result<(), Memory>
+fn put_latch_inputs(
+    uses: &mut Vec<Use>,
+    lines: &[u32],
+    latches: &[DesignLatch],
+) -> Result<(), Memory>
     ensures { OnOk result (uses.new.items ≡ uses.old.items ++ latch_uses (λ latch. latch.input) lines.now latches.now) }
 {
     for (place, latch) in latches.iter().enumerate() {
@@ -57,7 +65,7 @@ fn put_latch_inputs(uses: &mut Vec<Use>, lines: &[u32], latches: &[Latch]) -> Re
     Ok(())
 }
 
-fn put_cover_outputs(uses: &mut Vec<Use>, covers: &[Cover]) -> Result<(), Memory>
+fn put_cover_outputs(uses: &mut Vec<Use>, covers: &[DesignCover]) -> Result<(), Memory>
     ensures { OnOk result (uses.new.items ≡ uses.old.items ++ output_uses covers.now) }
 {
     for cover in covers {
@@ -69,7 +77,7 @@ fn put_cover_outputs(uses: &mut Vec<Use>, covers: &[Cover]) -> Result<(), Memory
     Ok(())
 }
 
-fn put_cover_inputs(uses: &mut Vec<Use>, covers: &[Cover]) -> Result<(), Memory>
+fn put_cover_inputs(uses: &mut Vec<Use>, covers: &[DesignCover]) -> Result<(), Memory>
     ensures { OnOk result (uses.new.items ≡ uses.old.items ++ input_uses covers.now) }
 {
     for cover in covers {
@@ -131,13 +139,13 @@ fn drivers_of(alloc: Global, design: &Design) -> Result<Vec<Driver>, Memory>
     Ok(drivers)
 }
 
-pub(crate) fn is_among(nets: &IndexSet<u32>, net: u32) -> bool
+pub(crate) fn is_among(nets: &IndexSet<usize>, net: usize) -> bool
     ensures { result ≡ is_among nets.now.keys net }
 {
     nets.contains(&net)
 }
 
-fn put_net(nets: &mut IndexSet<u32>, net: u32) -> Result<(), Memory>
+fn put_net(nets: &mut IndexSet<usize>, net: usize) -> Result<(), Memory>
     ensures { OnOk result ((other : ℕ) → is_among nets.new.keys other ≡ (nat_eq other net || is_among nets.old.keys other)) }
 {
     nets.insert_full(net)?;
@@ -146,8 +154,8 @@ fn put_net(nets: &mut IndexSet<u32>, net: u32) -> Result<(), Memory>
 
 /// Whether a driver is the second one of its net. Lines of one port are one driver.
 fn is_second(
-    inner: &mut IndexSet<u32>,
-    ports: &mut IndexSet<u32>,
+    inner: &mut IndexSet<usize>,
+    ports: &mut IndexSet<usize>,
     driver: &Driver,
 ) -> Result<bool, Memory>
     ensures second { IfOk result (λ second. second ≡ is_second inner.old.keys ports.old.keys driver.now) }
@@ -181,7 +189,7 @@ fn second_driver(alloc: Global, drivers: &mut Vec<Driver>) -> Result<Option<u32>
 }
 
 /// The nets that uses name.
-pub(crate) fn nets_in(alloc: Global, uses: &[Use]) -> Result<IndexSet<u32>, Memory>
+pub(crate) fn nets_in(alloc: Global, uses: &[Use]) -> Result<IndexSet<usize>, Memory>
     ensures { IfOk result (λ nets. (net : ℕ) → is_among nets.keys net ≡ list_any (is_of net) uses.now) }
 {
     let mut nets = IndexSet::new(alloc);
@@ -215,7 +223,7 @@ fn with_line(least: Option<u32>, counts: bool, line: u32) -> Option<u32>
 }
 
 /// The least line of the uses of other nets.
-fn least_outside(nets: &IndexSet<u32>, uses: &[Use]) -> Option<u32>
+fn least_outside(nets: &IndexSet<usize>, uses: &[Use]) -> Option<u32>
     ensures { result ≡ least_line (λ used. not (is_among nets.now.keys used.net)) uses.now }
 {
     let mut least: Option<u32> = None;
@@ -238,7 +246,7 @@ pub(crate) fn refuse_drivers(alloc: Global, file: &Name, design: &Design) -> Res
 }
 
 /// The nets that have a driver.
-pub(crate) fn driven_nets(alloc: Global, design: &Design) -> Result<IndexSet<u32>, Memory>
+pub(crate) fn driven_nets(alloc: Global, design: &Design) -> Result<IndexSet<usize>, Memory>
     ensures { IfOk result (λ nets. (net : ℕ) → is_among nets.keys net ≡ is_driven design.now net) }
 {
     let mut uses = inner_drivers(alloc, design)?;

@@ -9,6 +9,7 @@ mod judge;
 mod laws;
 mod model_copy;
 mod net;
+mod parts;
 mod reading;
 mod walk;
 

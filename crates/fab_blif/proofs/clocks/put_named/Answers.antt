@@ -16,7 +16,7 @@ loop-clock-preserved c =
     let name = c.clock-item.result in
     let old = c.loop-clock.faults.items in
     let wrong : c.wrong_clock.result ≡ wrong_by (is_among clocking.driven.keys) (is_among clocking.clocks.keys) clocking.first (number_in nets (plain_net name.net)) name.latch =
-    c.wrong_clock.ensures ∙ ap (λ (net : ℕ). wrong_by (is_among clocking.driven.keys) (is_among clocking.clocks.keys) clocking.first net name.latch) c.in_ok-net.ensures in
+    c.wrong_clock.ensures ∙ ap (λ (net : ℕ). wrong_by (is_among clocking.driven.keys) (is_among clocking.clocks.keys) clocking.first net name.latch) c.number_or_len-net.ensures in
     let added : c.put_fault.new.faults.items ≡ old ++ says (plain_clock name) =
     c.in_ok-put_fault.ensures ∙ ap (λ (told : Option WrongClock). old ++ faults_at name.line told) wrong in
     added

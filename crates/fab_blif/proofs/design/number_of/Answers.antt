@@ -7,4 +7,4 @@ pub returns-clause-nets : goal.returns-clause-nets
 returns-clause-nets c = ap plain_nets c.in_ok-place.ensures.keys ∙ nets_of_insert c.args.nets.now.keys c.args.net
 
 pub returns-clause-number : goal.returns-clause-number
-returns-clause-number c = c.in-Ok.ensures.1 ∙ c.in_ok-place.ensures.index ∙ place_of_net c.args.net c.args.nets.now.keys
+returns-clause-number c = c.in_ok-place.ensures.index ∙ place_of_net c.args.net c.args.nets.now.keys

@@ -1,5 +1,4 @@
-use Rattle.std.proofs.Common.{List, ◌++◌, get_or, sym}
-use Rattle.std.proofs.lemmas.List.{get_or_default}
+use Rattle.std.proofs.Common.{List, [], ◌∷◌, ◌++◌, ◌∙◌, ap, sym}
 use Rattle.fab_netlist.specs.declared.netlist.Latch.{Latch}
 use Rattle.fab_blif.specs.declared.design.Use.{Use}
 use Rattle.fab_blif.specs.Judged.{latch_uses}
@@ -20,8 +19,8 @@ pub loop-place-preserved : goal.loop-place-preserved
 loop-place-preserved c =
     let latches = c.args.latches.now in
     let at = c.loop-place.place in
-    let none : Latch = record { input = 0; output = 0; init = 0 } in
-    let latch = get_or latches at none in
+    let latch = c.index-latches-place.result in
     let all : List Use = c.args.uses.now.items ++ latch_uses (λ (one : Latch). one.input) c.args.lines.now latches in
+    let same = ap (λ (one : Latch). c.loop-place.uses.items ++ record { line = c.in-Some.line; net = one.input } ∷ []) c.latch.view_is in
     latch_step (λ (one : Latch). one.input) c.args.lines.now latches at c.loop-place.uses.items all c.loop-place.invariant latch c.in-Some.line c.push.new.self.items
-    c.loop-place-test.true (get_or_default latches at none latch c.loop-place-test.true) (sym c.in-Some.ensures) c.in_ok-push.ensures.items
+    c.loop-place-test.true c.index-latches-place.is (sym c.in-Some.ensures) (c.in_ok-push.ensures.items ∙ same)
