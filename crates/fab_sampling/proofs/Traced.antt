@@ -33,8 +33,8 @@ module _ (run : Run) (flowed : HasFlowed run) where
         trace = done.outputs;
         made = made;
         traces =
-            law (files_of run) names rounds flowed.stored flowed.flow there (record { text = refl; words = refl; state = refl })
-            simulated.stimulus simulated.trace None done.outputs made;
+            (law (files_of run) names rounds flowed.stored flowed.flow there (record { text = refl; words = refl; state = refl })
+            simulated.stimulus simulated.trace None done.outputs made).0;
       }
 
   -- nothing is refused

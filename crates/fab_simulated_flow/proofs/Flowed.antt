@@ -30,19 +30,21 @@ use Rattle.fab_stimulus.specs.Stimuli.{ports_of}
 use Rattle.fab_stimulus.specs.Spelled as stimuli
 use Rattle.fab_stimulus.specs.Traces.{trace_text}
 use Rattle.fab_impl.specs.Spelled.{implementation_text}
+use Rattle.fab_flow.specs.fab_use.specs.Design.{IsSourced}
 use Rattle.fab_flow.specs.fab_use.specs.Registers.{design_state}
 use Rattle.fab_flow.specs.fab_features.specs.Design.{design_features}
 use Rattle.fab_text_reads.specs.Laws.{GeneratedTextsAreRead}
 use Rattle.fab_draws.specs.Draws.{draws_of}
-use Rattle.fab_ordered_designs.specs.fab_simulated_designs.specs.Designs.{initial_latches, shown_by}
+use Rattle.fab_ordered_designs.specs.fab_simulated_designs.specs.Designs.{EachKnows, initial_latches, shown_by}
 use Rattle.fab_ordered_designs.specs.fab_simulated_designs.specs.Laws.{LegalDesignsSimulate}
+use Rattle.fab_ordered_designs.specs.Designs.{EachRight}
 use Rattle.fab_ordered_designs.specs.Laws.{LegalDesignsSimulateInOrder}
 use Rattle.fab_spelled_designs.specs.Laws.{IsSound, LegalDesignsAreSpelled, SpelledDesignsAreSound}
 use Rattle.fab_outputs.specs.Storing.{PlainOutput, output, with_outputs}
 use Rattle.fab_flow.specs.Generating.{generated_text}
 use Rattle.fab_flow.specs.Flowing.{FlowFiles, MakesFlow, flow_outputs}
-use Rattle.fab_simulate.specs.Simulating.{MakesTrace, Shows, simulation_files}
-use Rattle.fab_simulated_flow.specs.Laws.{KeepsFlowFiles, TracesNetlist}
+use Rattle.fab_simulate.specs.Simulating.{MakesTrace, Shows, SimulationFiles, simulation_files}
+use Rattle.fab_simulated_flow.specs.Laws.{KeepsFlowFiles, KnowsDesign, TracesNetlist}
 use Rattle.fab_simulated_flow.proofs.Digits.{same_digits}
 use Rattle.fab_simulated_flow.proofs.Narrow.{narrow_text}
 use Rattle.fab_simulated_flow.proofs.Shown.{input_names, lines_known, output_names, shown_values}
@@ -57,11 +59,28 @@ state_again bytes printed said has is says =
     } in
     says.1 ∙ sym (spelled_is_read (rows_of bytes) printed spells).1
 
--- What is shown is a run of the netlist, and known.
-record ShowsRun (netlist : PlainNetlist) (lines : List (List Bool)) (shown : List (List PlainTern)) : Type 0 where
+-- `KnowsDesign`, of what is shown in any text
+abbrev Knows : PlainFabric → PlainNetlist → PlainImplementation → (text : List PlainModule) (state : PlainState) (order : Option ℕ)
+    (words lines : List (List Bool)) (shown : List (List PlainTern)) → Shows text state order words lines shown → Type 0
+Knows fabric netlist implementation text state None words lines shown simulation =
+    EachKnows (IsSourced fabric (packed netlist) implementation) simulation.cycles
+Knows fabric netlist implementation text state (Some seed) words lines shown simulation =
+    EachRight (IsSourced fabric (packed netlist) implementation) simulation.simulates.cycles
+
+knows_design : (fabric : PlainFabric) (netlist : PlainNetlist) (implementation : PlainImplementation) (files : Map) (names : SimulationFiles) (order : Option ℕ)
+    (outputs : List PlainOutput) (made : MakesTrace files names order outputs) →
+    Knows fabric netlist implementation made.text made.made.state order (map (digits 32) made.made.words) made.made.lines
+    (map (map plain_tern) made.made.traces.shown) made.made.traces.simulates → KnowsDesign fabric netlist implementation order made
+knows_design fabric netlist implementation files names None outputs made knows = knows
+knows_design fabric netlist implementation files names (Some seed) outputs made knows = knows
+
+-- What is shown is a run of the netlist, and known, and so is what is on the way to it.
+record ShowsRun (fabric : PlainFabric) (netlist : PlainNetlist) (implementation : PlainImplementation) (text : List PlainModule) (state : PlainState)
+    (order : Option ℕ) (words lines : List (List Bool)) (shown : List (List PlainTern)) (simulation : Shows text state order words lines shown) : Type 0 where
   nows : List (ℕ → Bool)
   run : IsRun netlist (initial_latches netlist) lines nows
   shows : shown ≡ map (shown_by netlist) nows
+  knows : Knows fabric netlist implementation text state order words lines shown simulation
 
 module _ (read_again : GeneratedTextsAreRead) (simulate : LegalDesignsSimulate) (in_order : LegalDesignsSimulateInOrder) (are_sound : SpelledDesignsAreSound) (are_spelled : LegalDesignsAreSpelled)
     (files : Map) (names : FlowFiles) (allowed : ℕ) (stored : List PlainOutput) (flow : MakesFlow files names allowed stored)
@@ -139,32 +158,37 @@ module _ (read_again : GeneratedTextsAreRead) (simulate : LegalDesignsSimulate) 
   abbrev shown : List (List PlainTern)
   shown = map (map plain_tern) made.made.traces.shown
 
-  shows : Shows (generated_text fabric) state order (map (digits 32) words) made.made.lines shown
-  shows =
-      let lines = made.made.lines in
-      subst (λ (s : PlainState). Shows (generated_text fabric) s order (map (digits 32) words) lines shown) state_is
-      (subst (λ (w : List (List Bool)). Shows (generated_text fabric) made.made.state order w lines shown) words_are
-      (subst (λ (t : List PlainModule). Shows t made.made.state order (map (digits 32) made.made.words) lines shown) text_is made.made.traces.simulates))
-
   -- without an order, and with one
-  runs : (chosen : Option ℕ) (lines : List (List Bool)) (seen : List (List PlainTern)) → Shows (generated_text fabric) state chosen (map (digits 32) words) lines seen →
-      ShowsRun netlist lines seen
+  runs : (chosen : Option ℕ) (lines : List (List Bool)) (seen : List (List PlainTern))
+      (simulation : Shows (generated_text fabric) state chosen (map (digits 32) words) lines seen) →
+      ShowsRun fabric netlist implementation (generated_text fabric) state chosen (map (digits 32) words) lines seen simulation
   runs None lines seen simulates =
       let it = simulate fabric (generated_text fabric) netlist flow.design.fixed implementation flow.made.assembly.bits sound.fabric sound.tiles flow.made.text
       sound.netlist no_cycle flow.made.legal flow.made.assembly.configures lines seen simulates in
-      record { nows = it.nows; run = it.run; shows = it.shows }
+      record { nows = it.nows; run = it.run; shows = it.shows; knows = it.knows }
   runs (Some seed) lines seen ordered =
       let it = in_order fabric (generated_text fabric) netlist flow.design.fixed implementation flow.made.assembly.bits sound.fabric sound.tiles flow.made.text narrow
       sound.netlist no_cycle flow.made.legal flow.made.assembly.configures (draws_of seed) lines ordered.bits ordered.simulates in
-      record { nows = it.nows; run = it.run; shows = ordered.known_is ∙ ap (map (map known)) it.shows ∙ lines_known netlist it.nows }
+      record { nows = it.nows; run = it.run; shows = ordered.known_is ∙ ap (map (map known)) it.shows ∙ lines_known netlist it.nows; knows = it.right }
 
-  pub traces_netlist : TracesNetlist later stimulus trace netlist outputs
+  -- so it is in the text, from the state and over the words that were read
+  abbrev Runs : List PlainModule → PlainState → List (List Bool) → Type 0
+  Runs t s w = (simulation : Shows t s order w made.made.lines shown) → ShowsRun fabric netlist implementation t s order w made.made.lines shown simulation
+
+  shows_run : ShowsRun fabric netlist implementation made.text made.made.state order (map (digits 32) made.made.words) made.made.lines shown
+      made.made.traces.simulates
+  shows_run =
+      subst (λ (t : List PlainModule). Runs t made.made.state (map (digits 32) made.made.words)) (sym text_is)
+      (subst (λ (s : PlainState). Runs (generated_text fabric) s (map (digits 32) made.made.words)) (sym state_is)
+      (subst (Runs (generated_text fabric) state) (sym words_are) (runs order made.made.lines shown))) made.made.traces.simulates
+
+  traces_netlist : TracesNetlist later stimulus trace netlist outputs
   traces_netlist =
       let ins_are : ports_of made.made.state.ins ≡ (packed netlist).inputs =
       ap (λ (s : PlainState). ports_of s.ins) state_is ∙ input_names implementation.ins (packed netlist).inputs in
       let outs_are : ports_of made.made.state.outs ≡ map (λ port. port.0) (packed netlist).outputs =
       ap (λ (s : PlainState). ports_of s.outs) state_is ∙ output_names implementation.outs (packed netlist).outputs in
-      let it = runs order made.made.lines shown shows in
+      let it = shows_run in
       let values = shown_values netlist made.made.traces.shown it.nows it.shows in
       let given = made.made.given in
       record {
@@ -178,3 +202,6 @@ module _ (read_again : GeneratedTextsAreRead) (simulate : LegalDesignsSimulate) 
         run = it.run;
         outputs_are = made.outputs_are ∙ ap (λ (b : List ℕ). output trace b ∷ []) (made.made.traces.bytes_are ∙ (λ j. trace_text (outs_are j) (values j)));
       }
+
+  pub simulates_flow : TracesNetlist later stimulus trace netlist outputs × KnowsDesign fabric netlist implementation order made
+  simulates_flow = (traces_netlist, knows_design fabric netlist implementation later _ order outputs made shows_run.knows)

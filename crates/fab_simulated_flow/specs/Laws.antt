@@ -1,19 +1,23 @@
 -- The files that `flow` makes, simulated.
-use Rattle.std.specs.Prelude.{◌≡◌, ℕ, Bool, true, false, List, [], ◌∷◌, ◌++◌, map, codes, Option}
+use Rattle.std.specs.Prelude.{◌≡◌, ℕ, Bool, true, false, List, [], ◌∷◌, ◌++◌, map, codes, Option, Some, None}
 use Rattle.fab_desk.specs.Files.{Map}
 use Rattle.fab_files.specs.Stages.{ReadsFrom}
+use Rattle.fab_model.specs.Grid.{PlainFabric}
 use Rattle.fab_netlist.specs.Plain.{PlainNetlist}
 use Rattle.fab_netlist.specs.Meaning.{IsRun}
 use Rattle.fab_netlist.specs.Packing.{packed}
+use Rattle.fab_implementation.specs.Plain.{PlainImplementation}
 use Rattle.fab_texts.specs.Rows.{rows_of}
 use Rattle.fab_ternary.specs.declared.Tern.{Tern}
 use Rattle.fab_ternary.specs.declared.Tern.TheVariants as terns
 use Rattle.fab_stimulus.specs.Spelled.{Says}
 use Rattle.fab_stimulus.specs.Traces.{trace_text}
-use Rattle.fab_ordered_designs.specs.fab_simulated_designs.specs.Designs.{initial_latches}
+use Rattle.fab_ordered_designs.specs.fab_simulated_designs.specs.Designs.{EachKnows, initial_latches}
+use Rattle.fab_ordered_designs.specs.Designs.{EachRight}
 use Rattle.fab_outputs.specs.Storing.{PlainOutput, output, with_outputs}
+use Rattle.fab_flow.specs.fab_use.specs.Design.{IsSourced}
 use Rattle.fab_flow.specs.Flowing.{FlowFiles, MakesFlow}
-use Rattle.fab_simulate.specs.Simulating.{MakesTrace, simulation_files}
+use Rattle.fab_simulate.specs.Simulating.{MakesTrace, SimulationFiles, simulation_files}
 
 abbrev pub known_tern : Bool → Tern
 known_tern false = terns.No
@@ -32,6 +36,14 @@ pub record TracesNetlist (files : Map) (stimulus trace : List ℕ) (netlist : Pl
   pub run : IsRun netlist (initial_latches netlist) lines nows
   pub outputs_are : outputs ≡ output trace (trace_text (map (λ port. port.0) (packed netlist).outputs) (map (port_values netlist) nows)) ∷ []
 
+-- Nor is any value open on the way to a trace: in each cycle the routes, cells and pads of an implementation are known at all their points. With an order
+-- they are so at its end, and right.
+abbrev pub KnowsDesign : PlainFabric → PlainNetlist → PlainImplementation → {files : Map} → {names : SimulationFiles} → (order : Option ℕ) →
+    {outputs : List PlainOutput} → MakesTrace files names order outputs → Type 0
+KnowsDesign fabric netlist implementation None made = EachKnows (IsSourced fabric (packed netlist) implementation) made.made.traces.simulates.cycles
+KnowsDesign fabric netlist implementation (Some seed) made =
+    EachRight (IsSourced fabric (packed netlist) implementation) made.made.traces.simulates.simulates.cycles
+
 -- BASE.v, BASE.bit and BASE.state are what a flow stored. Any other file may have changed since, as where a stimulus is written afterwards.
 pub record KeepsFlowFiles (base : List ℕ) (stored later : Map) : Type 0 where
   pub text : later (base ++ codes ".v") ≡ stored (base ++ codes ".v")
@@ -44,7 +56,8 @@ abbrev pub FlowFilesSimulate : Type 0
 FlowFilesSimulate =
     (files : Map) (names : FlowFiles) (allowed : ℕ) (stored : List PlainOutput) (flow : MakesFlow files names allowed stored) →
     (later : Map) → KeepsFlowFiles names.base (with_outputs stored files) later →
-    (stimulus trace : List ℕ) (order : Option ℕ) (outputs : List PlainOutput) →
-    MakesTrace later
-    (simulation_files (names.base ++ codes ".v") (names.base ++ codes ".bit") (names.base ++ codes ".state") stimulus trace) order outputs →
+    (stimulus trace : List ℕ) (order : Option ℕ) (outputs : List PlainOutput)
+    (made : MakesTrace later
+    (simulation_files (names.base ++ codes ".v") (names.base ++ codes ".bit") (names.base ++ codes ".state") stimulus trace) order outputs) →
     TracesNetlist later stimulus trace flow.design.netlist outputs
+    × KnowsDesign flow.design.fabric flow.design.netlist flow.made.implementation order made
