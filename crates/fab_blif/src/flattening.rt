@@ -7,7 +7,7 @@ ghost use Rattle.fab_blif.specs.Design.{data_inputs, design_of, flattened, is_nu
 ghost use Rattle.fab_blif.specs.Flat.{flat_lines, net_eq};
 ghost use Rattle.fab_instances.specs.Places.{model_names};
 ghost use Rattle.fab_models.specs.Rules.{AreModels};
-ghost use Rattle.fab_netlist.specs.WellMade.{IsWellMade};
+ghost use Rattle.fab_netlist.specs.WellMade.{most_nets, IsWellMade};
 ghost use Rattle.fab_instances.specs.Order.{NamesDiffer};
 ghost use Rattle.fab_instances.specs.Refusals.{AreFineModels};
 ghost use Rattle.fab_blif.specs.Refusals.{IsFineDesign, RefusesDesign, RefusesFile};
@@ -136,7 +136,7 @@ pub fn flatten(
 ) -> Result<Netlist, Fault>
     requires { AreModels (plain_models models.now) }
     ensures netlist { IfOk result (λ netlist. netlist ≡ flattened (plain_models models.now)) }
-    ensures small { IfOk result (λ netlist. length netlist.nets ≤ 16384) }
+    ensures small { IfOk result (λ netlist. length netlist.nets ≤ most_nets) }
     ensures fine { OnOk result (IsFineDesign (design_of (flat_lines (plain_models models.now)))) }
     ensures named { OnOk result ((0 < length models.now) × NamesDiffer (plain_models models.now)) }
     ensures models { OnOk result (AreFineModels (plain_models models.now)) }

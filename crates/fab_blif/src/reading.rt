@@ -5,6 +5,7 @@ ghost use Rattle.fab_base.specs.declared.fault.Fault.{Fault as PlainFault};
 ghost use Rattle.fab_base.specs.declared.fault.Fault.TheVariants as faults;
 ghost use Rattle.fab_netlist.specs.Cycles.{HasNoCycle};
 ghost use Rattle.fab_blif.specs.Blif.{IsBlif, RefusesBlif, netlist_in};
+ghost use Rattle.fab_netlist.specs.WellMade.{most_nets};
 
 use crate::flattening::flatten;
 use fab_base::{Fault, MAX_FILE_BYTES, Name};
@@ -27,7 +28,7 @@ pub fn read_blif(alloc: Global, file: &Name, bytes: &[u8]) -> Result<Netlist, Fa
     ensures fine { OnOk result (IsBlif bytes.now) }
     ensures netlist { IfOk result (λ netlist. netlist ≡ netlist_in bytes.now) }
     ensures acyclic { IfOk result HasNoCycle }
-    ensures small { IfOk result (λ netlist. length netlist.nets ≤ 16384) }
+    ensures small { IfOk result (λ netlist. length netlist.nets ≤ most_nets) }
     ensures refused { IfErr result (λ fault. fault ≢ faults.Memory → RefusesBlif file.now bytes.now fault) }
     ensures reads { IsBlif bytes.now → IsOkUnless result faults.Memory }
     ensures refuses { (fault : PlainFault) → RefusesBlif file.now bytes.now fault → IsErr result }

@@ -7,6 +7,7 @@ ghost use Rattle.fab_files.specs.Files.{HasReadCause};
 ghost use Rattle.fab_netlist.specs.Cycles.{HasNoCycle};
 ghost use Rattle.fab_state.specs.Constraints.{AreFixings, data_ports};
 ghost use Rattle.fab_designs.specs.Designs.{PlainDesign, design_files, SpellsDesign, MeetsDesign};
+ghost use Rattle.fab_netlist.specs.WellMade.{most_nets};
 
 use crate::constraints::read_constraints;
 use crate::netlist::read_netlist;
@@ -52,7 +53,7 @@ fn read<D: Desk, P: Progress>(
     ensures reads { D.reads desk.old ≤ D.reads desk.new }
     ensures spelled { ForSome (D.told desk.old) (λ files. IfOk result (SpellsDesign files (design_files fabric.now blif.now (option_copied pcf.entry)))) }
     ensures acyclic { IfOk result (λ design. HasNoCycle design.netlist) }
-    ensures small { IfOk result (λ design. length design.netlist.nets ≤ 16384) }
+    ensures small { IfOk result (λ design. length design.netlist.nets ≤ most_nets) }
     ensures fixings { IfOk result (λ design. AreFixings design.fabric (data_ports design.netlist) design.fixed) }
     ensures cause { IfErr result (HasReadCause (D.told desk.old) (D.reads desk.old < D.reads desk.new) (λ files. MeetsDesign files (design_files fabric.now blif.now (option_copied pcf.entry)))) }
 {
@@ -88,7 +89,7 @@ pub fn read_design<D: Desk, P: Progress>(
     ensures complete { ForSome (D.told desk.old) (λ files. (design : PlainDesign) → SpellsDesign files (design_files fabric.now blif.now (option_copied pcf.entry)) design
         → D.reads desk.new ≡ D.reads desk.old → IsOkUnless result faults.Memory) }
     ensures acyclic { IfOk result (λ design. HasNoCycle design.netlist) }
-    ensures small { IfOk result (λ design. length design.netlist.nets ≤ 16384) }
+    ensures small { IfOk result (λ design. length design.netlist.nets ≤ most_nets) }
     ensures fixings { IfOk result (λ design. AreFixings design.fabric (data_ports design.netlist) design.fixed) }
     ensures cause { IfErr result (HasReadCause (D.told desk.old) (D.reads desk.old < D.reads desk.new) (λ files. MeetsDesign files (design_files fabric.now blif.now (option_copied pcf.entry)))) }
 {

@@ -6,6 +6,7 @@ ghost use Rattle.fab_files.specs.Files.{HasReadCause};
 ghost use Rattle.fab_files.specs.Stages.{ReadsFrom};
 ghost use Rattle.fab_netlist.specs.Cycles.{HasNoCycle};
 ghost use Rattle.fab_designs.specs.Designs.{SpellsNetlist, MeetsNetlist};
+ghost use Rattle.fab_netlist.specs.WellMade.{most_nets};
 
 use fab_base::{Fault, Name};
 use fab_blif::read_blif;
@@ -21,7 +22,7 @@ pub fn read_netlist<D: Desk>(alloc: Global, desk: &mut D, blif: &Name) -> Result
     ensures reads { D.reads desk.old ≤ D.reads desk.new }
     ensures spelled { ForSome (D.told desk.old) (λ files. IfOk result (ReadsFrom files blif.now SpellsNetlist)) }
     ensures acyclic { IfOk result HasNoCycle }
-    ensures small { IfOk result (λ netlist. length netlist.nets ≤ 16384) }
+    ensures small { IfOk result (λ netlist. length netlist.nets ≤ most_nets) }
     ensures cause { IfErr result (HasReadCause (D.told desk.old) (D.reads desk.old < D.reads desk.new) (λ files. MeetsNetlist files blif.now)) }
 {
     let bytes = fetch(alloc, desk, blif)?;

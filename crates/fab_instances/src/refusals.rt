@@ -6,7 +6,7 @@ ghost use Rattle.fab_base.specs.declared.fault.Fault.TheVariants as faults;
 ghost use Rattle.fab_base.specs.declared.problem.Problem.TheVariants as problems;
 ghost use Rattle.fab_base.specs.declared.words.Quantity.TheVariants as quantities;
 ghost use Rattle.fab_models.specs.Plain.{plain_models};
-ghost use Rattle.fab_instances.specs.Counting.{RefusesInstances, instances};
+ghost use Rattle.fab_instances.specs.Counting.{instances, most_instances, RefusesInstances};
 ghost use Rattle.fab_instances.specs.Places.{model_names};
 ghost use Rattle.fab_instances.specs.Order.{IsLeastFound, IsRecursive, IsUnknown, NamesDiffer, NoLine, RefusesNames, RefusesRecursive, RefusesUnknown};
 ghost use Rattle.fab_instances.specs.Refusals.{AreFineModels, RefusesModels};
@@ -105,7 +105,7 @@ fn refuse_instances(
     requires size { length used.now ≡ length models.now }
     requires used { MarksUsed (plain_models models.now) used.now }
     requires ranks { (place : ℕ) → slice_index ranking.now.ranks.items place < length models.now }
-    ensures small { OnOk result (instances (plain_models models.now) ≤ 16384) }
+    ensures small { OnOk result (instances (plain_models models.now) ≤ most_instances) }
     ensures refused { IfErr result (λ fault. (fault ≢ faults.Memory) → RefusesInstances file.now last_line (plain_models models.now) fault) }
 {
     let count = count_instances(alloc, models, places, used, ranking)?;
@@ -114,9 +114,9 @@ fn refuse_instances(
 
 /// Refuses a count above the limit.
 fn refuse_count(alloc: Global, file: &Name, last_line: u32, count: u64) -> Result<(), Fault>
-    ensures small { OnOk result (count ≤ 16384) }
-    ensures limit { IfErr result (λ fault. (16384 < count)
-        × IsFaultOr fault (fault_at file.now last_line (problems.Limit quantities.Instances count 16384))) }
+    ensures small { OnOk result (count ≤ most_instances) }
+    ensures limit { IfErr result (λ fault. (most_instances < count)
+        × IsFaultOr fault (fault_at file.now last_line (problems.Limit quantities.Instances count most_instances))) }
 {
     if count > MAX_INSTANCES {
         let problem = Problem::Limit(Quantity::Instances, count, MAX_INSTANCES);

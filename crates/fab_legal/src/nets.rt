@@ -14,6 +14,7 @@ ghost use Rattle.fab_legal.specs.Broken.{IsNetItem};
 ghost use Rattle.fab_legal.specs.inner.Kept.{AreKept};
 ghost use Rattle.fab_legal.specs.inner.Roots.{StartsAt, IsStart, AreStarts, IsNewNet, IsSmall, entered_set, root_by, packed_id, net_number, tree_number};
 ghost use Rattle.fab_legal.specs.inner.Answers.{Breaks};
+ghost use Rattle.fab_implementation.specs.fab_netlist.specs.WellMade.{most_nets};
 
 use crate::broken::{CheckFault, broken_by};
 use crate::placed::Placed;
@@ -67,8 +68,8 @@ pub fn exists(placed: &Placed, net: NetId) -> bool
 /// The place of a net in the order of nets: those of zeros and ones, of inputs and of cells.
 pub fn net_number(placed: &Placed, net: NetId) -> u32
     requires small { IsSmall placed.now net }
-    requires few_ins { length placed.now.ins.sites.items ≤ 16384 }
-    requires few_cells { length placed.now.cells.items ≤ 16384 }
+    requires few_ins { length placed.now.ins.sites.items ≤ most_nets }
+    requires few_cells { length placed.now.cells.items ≤ most_nets }
     ensures { result ≡ net_number placed.now net }
 {
     match net {
@@ -153,8 +154,8 @@ fn wrong_tree(
 
 // Whether a net is one of the design and none of those with these numbers.
 fn is_new(placed: &Placed, numbers: &IndexSet<u32>, net: NetId) -> bool
-    requires few_ins { length placed.now.ins.sites.items ≤ 16384 }
-    requires few_cells { length placed.now.cells.items ≤ 16384 }
+    requires few_ins { length placed.now.ins.sites.items ≤ most_nets }
+    requires few_cells { length placed.now.cells.items ≤ most_nets }
     ensures { IsTrue result ↔ IsNewNet placed.now numbers.now.keys net }
 {
     if !exists(placed, net) {

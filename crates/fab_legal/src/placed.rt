@@ -12,6 +12,7 @@ ghost use Rattle.fab_legal.specs.inner.Keeping.{AreSites, ArePads, BindsPads};
 ghost use Rattle.fab_legal.specs.inner.Kept.{AreKept, HasOne, IsCounted, IsWithin, wrong_port, IsBound};
 ghost use Rattle.fab_legal.specs.declared.ports.PadBinding.TheVariants as pad_bindings;
 ghost use Rattle.fab_legal.specs.inner.Answers.{Breaks};
+ghost use Rattle.fab_implementation.specs.fab_netlist.specs.WellMade.{most_nets};
 
 use crate::broken::{CheckFault, broken_by};
 use crate::lines::{Binding, bind};
@@ -44,7 +45,7 @@ fn place_cells(
     packed: &Packed,
     implementation: &Implementation,
 ) -> Result<Vec<Site>, CheckFault>
-    requires { length packed.now.cells ≤ 16384 }
+    requires { length packed.now.cells ≤ most_nets }
     ensures placed { OnOk result (CellsHaveSites fabric.now packed.now implementation.now) }
     ensures sites { IfOk result (λ sites. AreSites implementation.now.cells (length packed.now.cells) sites.items) }
     ensures err { IfErr result (Breaks 1 (IsCellItem fabric.now packed.now implementation.now)) }

@@ -6,6 +6,7 @@ ghost use Rattle.indexmap.specs.IndexSet.{insert_key};
 ghost use Rattle.fab_bits.specs.Keys.{key_names};
 ghost use Rattle.fab_legal.specs.WellMade.{output_name};
 ghost use Rattle.fab_legal.specs.inner.Keeping.{port_number, numbered_pad, BindsPads, HasPad};
+ghost use Rattle.fab_implementation.specs.fab_netlist.specs.WellMade.{most_nets};
 
 use crate::lines::{Binding, bind};
 use fab_base::{Memory, Name};
@@ -70,7 +71,7 @@ fn put_port(alloc: Global, ports: &mut IndexSet<Vec<u8>>, name: &Name) -> Result
 
 // The number of a port; one past the last for other names.
 fn port_number(ports: &IndexSet<Vec<u8>>, name: &Name) -> u32
-    requires { length (key_names ports.now.keys) ≤ 16384 }
+    requires { length (key_names ports.now.keys) ≤ most_nets }
     ensures { result ≡ port_number (key_names ports.now.keys) name.now }
 {
     match ports.get_index_of(name.bytes()) {
@@ -85,7 +86,7 @@ fn numbered(
     ports: &IndexSet<Vec<u8>>,
     pads: &[(Name, Site)],
 ) -> Result<Vec<(u32, Site)>, Memory>
-    requires { length (key_names ports.now.keys) ≤ 16384 }
+    requires { length (key_names ports.now.keys) ≤ most_nets }
     ensures { IfOk result (λ lines. lines.items ≡ map (numbered_pad (key_names ports.now.keys)) pads.now) }
 {
     let mut lines = Vec::new(alloc);
@@ -102,7 +103,7 @@ pub fn bind_pads(
     names: IndexSet<Vec<u8>>,
     pads: &[(Name, Site)],
 ) -> Result<PadBinding, Memory>
-    requires few { length (key_names names.keys) ≤ 16384 }
+    requires few { length (key_names names.keys) ≤ most_nets }
     requires apart { AllPairs (λ first second. first ≢ second) (key_names names.keys) }
     ensures { IfOk result (BindsPads fabric.now (key_names names.keys) pads.now) }
 {
@@ -121,7 +122,7 @@ pub fn bind_pads(
 impl Pads {
     /// Whether a port stands on a pad.
     pub fn has(&self, pad: &(Name, Site)) -> bool
-        requires few { length (key_names self.now.names.keys) ≤ 16384 }
+        requires few { length (key_names self.now.names.keys) ≤ most_nets }
         requires sites { length self.now.sites.items ≡ length (key_names self.now.names.keys) }
         ensures { IsTrue result ↔ HasPad (key_names self.now.names.keys) self.now.sites.items pad.now }
     {

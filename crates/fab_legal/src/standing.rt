@@ -11,6 +11,7 @@ ghost use Rattle.fab_legal.specs.inner.Roots.{tree_number};
 ghost use Rattle.fab_legal.specs.inner.Standing.{Stands, SinkStands};
 ghost use Rattle.fab_legal.specs.inner.Tables.{key_lists, HaveWires};
 ghost use Rattle.fab_legal.specs.inner.Answers.{Breaks};
+ghost use Rattle.fab_implementation.specs.fab_netlist.specs.WellMade.{most_nets};
 
 use crate::broken::{CheckFault, broken_by};
 use crate::nets::{exists, net_number};
@@ -32,8 +33,8 @@ fn stands(
     net: NetId,
     wire: Wire,
 ) -> bool
-    requires few_ins { length placed.now.ins.sites.items ≤ 16384 }
-    requires few_cells { length placed.now.cells.items ≤ 16384 }
+    requires few_ins { length placed.now.ins.sites.items ≤ most_nets }
+    requires few_cells { length placed.now.cells.items ≤ most_nets }
     requires as_many { length sets.now ≡ length numbers.now.keys }
     ensures { IsTrue result ↔ Stands placed.now numbers.now.keys (key_lists sets.now) net wire }
 {
@@ -56,8 +57,8 @@ fn wrong_sink(
     sets: &[IndexSet<u32>],
     sinks: &[(NetId, Wire)],
 ) -> Option<usize>
-    requires few_ins { length placed.now.ins.sites.items ≤ 16384 }
-    requires few_cells { length placed.now.cells.items ≤ 16384 }
+    requires few_ins { length placed.now.ins.sites.items ≤ most_nets }
+    requires few_cells { length placed.now.cells.items ≤ most_nets }
     requires as_many { length sets.now ≡ length numbers.now.keys }
     ensures { MatchOption result (AreRight (SinkStands placed.now numbers.now.keys (key_lists sets.now)) sinks.now) (IsFirstWrongAt (SinkStands placed.now numbers.now.keys (key_lists sets.now)) sinks.now) }
 {

@@ -9,6 +9,7 @@ ghost use Rattle.fab_ways.specs.fab_legal.specs.Lines.{named};
 ghost use Rattle.fab_ways.specs.fab_legal.specs.Sinks.{site_of};
 ghost use Rattle.fab_ways.specs.Placing.{same_net, half_perimeter, cell_site, reader_sites, cost};
 ghost use Rattle.fab_place.specs.inner.Boxes.{included, NamesOnce};
+ghost use Rattle.fab_netlist.specs.WellMade.{most_nets};
 
 use crate::bounding::BoundingBox;
 use fab_base::Name;
@@ -30,7 +31,7 @@ pub fn cost(fabric: &Fabric, packed: &Packed, placed: &Implementation) -> u64
 
 /// The part of the nets of input ports.
 fn inputs_cost(packed: &Packed, placed: &Implementation) -> u64
-    requires few { length packed.now.inputs ≤ 16384 }
+    requires few { length packed.now.inputs ≤ most_nets }
     requires names { NamesOnce placed.now }
     ensures value { result ≡ sum_by (λ port. half_perimeter (site_of bytes_eq placed.now.ins port.1 ∷ reader_sites packed.now placed.now (ids.In port.0)))
         (enumerate_from 0 packed.now.inputs) }
@@ -46,7 +47,7 @@ fn inputs_cost(packed: &Packed, placed: &Implementation) -> u64
 
 /// The part of the nets of cells.
 fn cells_cost(packed: &Packed, placed: &Implementation) -> u64
-    requires few { length packed.now.cells ≤ 16384 }
+    requires few { length packed.now.cells ≤ most_nets }
     requires names { NamesOnce placed.now }
     ensures value { result ≡ sum_by (λ cell. half_perimeter (cell_site placed.now cell.0 ∷ reader_sites packed.now placed.now (ids.Cell cell.0)))
         (enumerate_from 0 packed.now.cells) }

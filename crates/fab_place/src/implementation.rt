@@ -3,6 +3,7 @@ ghost use Rattle.std.specs.Prelude.{◌≡◌, ◌<◌, ◌≤◌, ◌+◌, ◌+
 ghost use Rattle.fab_netlist.specs.Packed.{PlainPacked};
 ghost use Rattle.fab_place.specs.Pins.{item_total};
 ghost use Rattle.fab_place.specs.Standing.{site_at, cell_lines, input_lines, output_lines, standing};
+ghost use Rattle.fab_netlist.specs.WellMade.{most_nets};
 
 use fab_base::{Memory, Name};
 use fab_fabric::Site;
@@ -17,7 +18,7 @@ pub fn implementation_of(
     sites: &[Site],
     numbers: &[u32],
 ) -> Result<Implementation, Memory>
-    requires cells { length packed.now.cells ≤ 16384 }
+    requires cells { length packed.now.cells ≤ most_nets }
     requires items { length numbers.now ≡ item_total packed.now }
     requires inside { All (λ number. number < length sites.now) numbers.now }
     ensures { IfOk result (λ made. made ≡ standing packed.now sites.now numbers.now) }
@@ -39,7 +40,7 @@ fn cells_on(
     sites: &[Site],
     numbers: &[u32],
 ) -> Result<Vec<(u32, Site)>, Memory>
-    requires few { cells ≤ 16384 }
+    requires few { cells ≤ most_nets }
     requires items { cells ≤ length numbers.now }
     requires inside { All (λ number. number < length sites.now) numbers.now }
     ensures { IfOk result (λ lines. lines.items ≡ cell_lines sites.now numbers.now cells) }

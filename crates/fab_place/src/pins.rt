@@ -4,6 +4,7 @@ ghost use Rattle.std.specs.List.{flat_map};
 ghost use Rattle.fab_netlist.specs.Packed.{PlainCell};
 ghost use Rattle.fab_ways.specs.fab_legal.specs.WellMade.{IsWellMadePacked};
 ghost use Rattle.fab_place.specs.Pins.{IsNear, pin_on, input_pins, cell_pins, reading_pins, output_pins, pins};
+ghost use Rattle.fab_netlist.specs.WellMade.{most_nets};
 
 use crate::nets::Pin;
 use fab_base::{Memory, Name};
@@ -28,8 +29,8 @@ pub fn pins_of(alloc: Global, packed: &Packed) -> Result<Vec<Pin>, Memory>
 
 /// Adds the pins by which input ports drive their nets.
 fn put_inputs(made: &mut Vec<Pin>, inputs: u32, cells: u32) -> Result<(), Memory>
-    requires inputs { inputs ≤ 16384 }
-    requires cells { cells ≤ 16384 }
+    requires inputs { inputs ≤ most_nets }
+    requires cells { cells ≤ most_nets }
     ensures { OnOk result (made.new.items ≡ made.old.items ++ input_pins inputs cells) }
 {
     for net in 0..inputs {
@@ -41,8 +42,8 @@ fn put_inputs(made: &mut Vec<Pin>, inputs: u32, cells: u32) -> Result<(), Memory
 
 /// Adds the pins by which cells drive their nets.
 fn put_cells(made: &mut Vec<Pin>, inputs: u32, cells: u32) -> Result<(), Memory>
-    requires inputs { inputs ≤ 16384 }
-    requires cells { cells ≤ 16384 }
+    requires inputs { inputs ≤ most_nets }
+    requires cells { cells ≤ most_nets }
     ensures { OnOk result (made.new.items ≡ made.old.items ++ cell_pins inputs cells) }
 {
     for item in 0..cells {
@@ -54,7 +55,7 @@ fn put_cells(made: &mut Vec<Pin>, inputs: u32, cells: u32) -> Result<(), Memory>
 
 /// Adds the pin of an item on a net.
 fn put_pin(made: &mut Vec<Pin>, inputs: u32, item: u32, net: NetId) -> Result<(), Memory>
-    requires inputs { inputs ≤ 16384 }
+    requires inputs { inputs ≤ most_nets }
     requires net { IsNear net }
     ensures { OnOk result (made.new.items ≡ made.old.items ++ pin_on inputs item net) }
 {
@@ -71,7 +72,7 @@ fn put_pin(made: &mut Vec<Pin>, inputs: u32, item: u32, net: NetId) -> Result<()
 
 /// Adds the pins of an item on nets.
 fn put_pins(made: &mut Vec<Pin>, inputs: u32, item: u32, nets: &[NetId]) -> Result<(), Memory>
-    requires inputs { inputs ≤ 16384 }
+    requires inputs { inputs ≤ most_nets }
     requires nets { All IsNear nets.now }
     ensures { OnOk result (made.new.items ≡ made.old.items ++ flat_map (pin_on inputs item) nets.now) }
 {
@@ -83,8 +84,8 @@ fn put_pins(made: &mut Vec<Pin>, inputs: u32, item: u32, nets: &[NetId]) -> Resu
 
 /// Adds the pins by which cells read nets.
 fn put_readings(made: &mut Vec<Pin>, inputs: u32, cells: &[Cell]) -> Result<(), Memory>
-    requires inputs { inputs ≤ 16384 }
-    requires cells { length cells.now ≤ 16384 }
+    requires inputs { inputs ≤ most_nets }
+    requires cells { length cells.now ≤ most_nets }
     requires nets { All (λ (cell : PlainCell). All IsNear cell.inputs) cells.now }
     ensures { OnOk result (made.new.items ≡ made.old.items ++ reading_pins inputs cells.now) }
 {
@@ -101,9 +102,9 @@ fn put_outputs(
     ports: u32,
     outputs: &[(Name, NetId)],
 ) -> Result<(), Memory>
-    requires inputs { inputs ≤ 16384 }
+    requires inputs { inputs ≤ most_nets }
     requires ports { ports ≤ 32768 }
-    requires outputs { length outputs.now ≤ 16384 }
+    requires outputs { length outputs.now ≤ most_nets }
     requires nets { All (λ output. IsNear output.1) outputs.now }
     ensures { OnOk result (made.new.items ≡ made.old.items ++ output_pins inputs ports outputs.now) }
 {

@@ -9,6 +9,7 @@ ghost use Rattle.fab_legal.specs.Legal.{ArePlaced};
 ghost use Rattle.fab_legal.specs.Lines.{named};
 ghost use Rattle.fab_legal.specs.WellMade.{IsWellMadePacked};
 ghost use Rattle.fab_route.specs.inner.Wanted.{input_lines};
+ghost use Rattle.fab_netlist.specs.WellMade.{most_nets};
 
 use fab_base::{Memory, Name};
 use fab_fabric::{Fabric, Site};
@@ -57,7 +58,7 @@ fn put_name(alloc: Global, names: &mut IndexSet<Vec<u8>>, name: &Name) -> Result
 
 // The number of the line of a name; one past the last for other names.
 fn line_of(names: &IndexSet<Vec<u8>>, name: &Name) -> u32
-    requires { length (key_names names.now.keys) ≤ 16384 }
+    requires { length (key_names names.now.keys) ≤ most_nets }
     ensures { result ≡ port_number (key_names names.now.keys) name.now }
 {
     match names.get_index_of(name.bytes()) {
