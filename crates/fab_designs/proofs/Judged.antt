@@ -1,14 +1,12 @@
 -- Files spell one design or are refused with one status number, and a file spells one implementation or is refused for one fault.
 use Rattle.std.proofs.Common.{◌≡◌, ℕ, List, [], Option, refl, sym, ap, ◌∙◌}
 use Rattle.fab_base.specs.Report.{number_of}
-use Rattle.fab_base.specs.Reading.{fault_at}
 use Rattle.fab_base.specs.declared.fault.Fault.{Fault}
 use Rattle.fab_desk.specs.Files.{Map}
 use Rattle.fab_files.specs.Files.{refuses}
 use Rattle.fab_files.specs.Stages.{ReadsFrom, ReadsIfNamed, IsJudged, AreJudged}
 use Rattle.fab_files.proofs.Stages.{file_is_judged, named_file_is_judged, turn_is_judged}
-use Rattle.fab_lines.specs.Order.{Format, IsTextFault}
-use Rattle.fab_lines.proofs.Wholes.{whole_not_refused, refusal_once}
+use Rattle.fab_lines.proofs.Wholes.{text_fault_once, whole_not_refused}
 use Rattle.fab_model.specs.Grid.{PlainFabric}
 use Rattle.fab_netlist.specs.Plain.{PlainNetlist}
 use Rattle.fab_fabric.specs.Fabric.{IsFabric, AreTiles}
@@ -29,12 +27,6 @@ use Rattle.fab_designs.specs.Implementations.{SpellsImplementation, ReadsImpleme
 abbrev pub SameNumber : Fault → Fault → Type 0
 SameNumber a b = number_of a ≡ number_of b
 
--- a text has one refusal
-text_refused_once : {L : Type 0} {format : Format L} {file : List ℕ} {text : List L} {last : ℕ} (a b : Fault) → IsTextFault format file text last a → IsTextFault format file text last b → a ≡ b
-text_refused_once {file = file} a b x y =
-    let same = refusal_once x.refusal y.refusal in
-    x.is ∙ (λ j. fault_at file (same.0 j) (same.1 j)) ∙ sym y.is
-
 -- ---- each file of a design
 
 fabric_is_judged : (files : Map) (name : List ℕ) → IsJudged SameNumber (SpellsFabric files name) (MeetsFabric files name)
@@ -54,7 +46,7 @@ netlist_is_judged file = record {
 constraints_are_judged : (fabric : PlainFabric) (netlist : PlainNetlist) (file : List ℕ) → AreJudged SameNumber (SpellsConstraints fabric netlist) (RefusesConstraints fabric netlist file)
 constraints_are_judged fabric netlist file = record {
   once = λ bytes a b x y. (spelled_fixings fabric (data_ports netlist) (rows_of bytes) a x).1 ∙ sym (spelled_fixings fabric (data_ports netlist) (rows_of bytes) b y).1;
-  refused_once = λ bytes a b x y. ap number_of (text_refused_once a b x y);
+  refused_once = λ bytes a b x y. ap number_of (text_fault_once x y);
   apart = λ bytes pads fault x y. whole_not_refused (spelled_fixings fabric (data_ports netlist) (rows_of bytes) pads x).0 y.refusal;
 }
 
@@ -104,7 +96,7 @@ module _ (files : Map) where
 implementation_text_is_judged : (fabric : PlainFabric) (file : List ℕ) → AreJudged (λ a b. a ≡ b) (SpellsImplementation fabric) (RefusesImplementation fabric file)
 implementation_text_is_judged fabric file = record {
   once = λ bytes a b x y. x.says.1 ∙ sym y.says.1;
-  refused_once = λ bytes a b x y. text_refused_once a b x y;
+  refused_once = λ bytes a b x y. text_fault_once x y;
   apart = λ bytes implementation fault x y. whole_not_refused x.says.0 y.refusal;
 }
 

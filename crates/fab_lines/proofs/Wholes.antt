@@ -3,7 +3,7 @@ use Rattle.std.proofs.Common.{◌≡◌, ◌≢◌, ℕ, List, [], Option, Some,
 use Rattle.fab_base.specs.declared.fault.Fault.{Fault}
 use Rattle.fab_base.specs.declared.fault.Fault.TheVariants as faults
 use Rattle.fab_base.specs.declared.problem.Problem.{Problem}
-use Rattle.fab_base.specs.Reading.{Gives}
+use Rattle.fab_base.specs.Reading.{Gives, fault_at}
 use Rattle.fab_lines.specs.Order.{Format, IsFine, IsFirst, IsWhole, IsEndRefusal, IsRefusal, IsTextFault, read_all, judged, goes_on, placed, ended}
 use Rattle.fab_lines.proofs.Judging.{FollowsNumbered, numbered_fine, numbered_first, placed_ok, placed_err, fails_is, judged_ok, judged_err, fine_not_refused, refused_once}
 
@@ -30,6 +30,13 @@ refusal_once (inr at_end) (inr other) =
     let one = at_end.refused in
     let two = other.refused in
     (at_end.at_last ∙ sym other.at_last, cc)
+
+-- two faults of one text are equal
+pub text_fault_once : {L : Type 0} {format : Format L} {file : List ℕ} {text : List L} {last : ℕ} {first second : Fault}
+    → IsTextFault format file text last first → IsTextFault format file text last second → first ≡ second
+text_fault_once {file = file} a b =
+    let same = refusal_once a.refusal b.refusal in
+    a.is ∙ (λ j. fault_at file (same.0 j) (same.1 j)) ∙ sym b.is
 
 -- ---- What a reader that follows a format reads.
 

@@ -7,8 +7,8 @@ use Rattle.fab_base.specs.Reading.{fault_at}
 use Rattle.fab_base.specs.declared.fault.Fault.{Fault}
 use Rattle.fab_base.specs.declared.problem.Problem.{Problem}
 use Rattle.fab_desk.specs.Files.{Map}
-use Rattle.fab_lines.specs.Order.{Format, IsWhole, IsTextFault}
-use Rattle.fab_lines.proofs.Wholes.{whole_not_refused, refusal_once}
+use Rattle.fab_lines.specs.Order.{IsWhole, IsTextFault}
+use Rattle.fab_lines.proofs.Wholes.{text_fault_once, whole_not_refused}
 use Rattle.fab_rows.specs.Rows.{PlainRow, rows_of}
 use Rattle.fab_select.specs.declared.pair.Pair.{Pair as NumberPair}
 use Rattle.fab_model.specs.Tiles.{PlainTile, tile_bits, with_table}
@@ -47,12 +47,6 @@ ext_slice_get first second len same =
   where
     place_is : {a b : ℕ × ℕ} → Some a ≡ Some b → a ≡ b
     place_is same = cc
-
--- a text has one refusal
-text_fault_once : {format : Format PlainRow} {file : List ℕ} {text : List PlainRow} {last : ℕ} {first second : Fault} → IsTextFault format file text last first → IsTextFault format file text last second → first ≡ second
-text_fault_once {file = file} a b =
-    let same = refusal_once a.refusal b.refusal in
-    a.is ∙ (λ j. fault_at file (same.0 j) (same.1 j)) ∙ sym b.is
 
 -- ---- the switch matrix
 

@@ -1,11 +1,9 @@
 -- Each format of lines refuses a text once.
-use Rattle.std.proofs.Common.{◌≡◌, ℕ, List, Option, sym, ◌∙◌}
-use Rattle.fab_base.specs.declared.fault.Fault.{Fault}
+use Rattle.std.proofs.Common.{List, Option}
 use Rattle.fab_base.specs.declared.problem.Problem.{Problem}
-use Rattle.fab_base.specs.Reading.{fault_at}
-use Rattle.fab_lines.specs.Order.{Format, IsTextFault}
+use Rattle.fab_lines.specs.Order.{Format}
 use Rattle.fab_lines.proofs.Judging.{fine_not_refused, refused_once, fault_once}
-use Rattle.fab_lines.proofs.Wholes.{whole_not_refused, refusal_once}
+use Rattle.fab_lines.proofs.Wholes.{whole_not_refused, refusal_once, text_fault_once}
 use Rattle.fab_refused_once.specs.Once.{RefusesLinesOnce, RefusesTextsOnce}
 
 pub lines_once : {L : Type 0} (judge : List L → L → Option Problem) → RefusesLinesOnce judge
@@ -15,15 +13,9 @@ lines_once judge = record {
   apart = λ file text fault x fine. fine_not_refused fine x.first;
 }
 
-text_fault_once : {L : Type 0} {format : Format L} {file : List ℕ} {text : List L} {last : ℕ} (a b : Fault)
-    → IsTextFault format file text last a → IsTextFault format file text last b → a ≡ b
-text_fault_once {file = file} a b x y =
-    let same = refusal_once x.refusal y.refusal in
-    x.is ∙ (λ j. fault_at file (same.0 j) (same.1 j)) ∙ sym y.is
-
 pub texts_once : {L : Type 0} (format : Format L) → RefusesTextsOnce format
 texts_once format = record {
   one_refusal = λ text last number other problem why x y. refusal_once x y;
-  one_fault = λ file text last a b x y. text_fault_once a b x y;
+  one_fault = λ file text last a b x y. text_fault_once x y;
   apart = λ file text last fault x whole. whole_not_refused whole x.refusal;
 }

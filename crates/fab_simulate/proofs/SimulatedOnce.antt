@@ -1,18 +1,18 @@
 -- The command `simulate` has one first refusal, or is ready.
-use Rattle.std.proofs.Common.{◌≡◌, ◌%◌, ◌*◌, ℕ, Bool, List, length, inl, inr, refl, sym, ap, ◌∙◌, arith}
+use Rattle.std.proofs.Common.{◌≡◌, ◌%◌, ◌*◌, ℕ, Bool, List, length, refl, sym, ap, ◌∙◌, arith}
 use Rattle.fab_base.specs.declared.fault.Fault.{Fault}
 use Rattle.fab_desk.specs.Files.{Map}
 use Rattle.fab_files.specs.Files.{refuses}
-use Rattle.fab_files.specs.Stages.{AreJudged, IsJudged, ReadsFrom}
+use Rattle.fab_files.specs.Stages.{AreJudged, IsJudged}
 use Rattle.fab_files.proofs.Stages.{file_is_judged, turn_is_judged}
-use Rattle.fab_lines.proofs.Wholes.{whole_not_refused}
+use Rattle.fab_lines.proofs.Wholes.{text_fault_once, whole_not_refused}
 use Rattle.fab_syntax.specs.Plain.{PlainModule}
 use Rattle.fab_frames.specs.Refusals.{IsCut}
 use Rattle.fab_frames.proofs.ByteWords.{all_fit, bytes_tell_words, length_bytes}
 use Rattle.fab_state.specs.Plain.{PlainState}
 use Rattle.fab_simulate.specs.Simulating.{IsReadyToSimulate, MeetsBehindDevice, MeetsBehindWords, MeetsDevice, MeetsSimulation, MeetsState, MeetsStimulus, MeetsWords, ReadsDevice, ReadsState, ReadsStimulus, ReadsWords, RefusesDevice, RefusesState, RefusesStimulus, SimulationFiles, SpellsDevice, SpellsState, SpellsStimulus, SpellsWords}
 use Rattle.fab_simulate.proofs.SpellingOnce.{device_is_judged}
-use Rattle.fab_simulate.proofs.StandingOnce.{state_is_judged, text_refused_once}
+use Rattle.fab_simulate.proofs.StandingOnce.{state_is_judged}
 
 -- ---- words, and a stimulus
 
@@ -36,7 +36,7 @@ words_are_judged file = record {
 stimulus_is_judged : (state : PlainState) (file : List ℕ) → AreJudged (λ a b. a ≡ b) (SpellsStimulus state) (RefusesStimulus state file)
 stimulus_is_judged state file = record {
   once = λ bytes a b x y. x.says.1 ∙ sym y.says.1;
-  refused_once = λ bytes a b x y. text_refused_once a b x y;
+  refused_once = λ bytes a b x y. text_fault_once x y;
   apart = λ bytes lines fault x y. whole_not_refused x.says.0 y.refusal;
 }
 

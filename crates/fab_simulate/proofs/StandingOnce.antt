@@ -8,8 +8,7 @@ use Rattle.fab_base.specs.declared.fault.Fault.{Fault}
 use Rattle.fab_base.specs.declared.fault.Fault.TheVariants as faults
 use Rattle.fab_base.specs.declared.problem.Problem.TheVariants as problems
 use Rattle.fab_files.specs.Stages.{AreJudged}
-use Rattle.fab_lines.specs.Order.{Format, IsTextFault}
-use Rattle.fab_lines.proofs.Wholes.{refusal_once, whole_not_refused}
+use Rattle.fab_lines.proofs.Wholes.{text_fault_once, whole_not_refused}
 use Rattle.fab_syntax.specs.Plain.{PlainModule}
 use Rattle.fab_texts.specs.Rows.{rows_of}
 use Rattle.fab_state.specs.Plain.{PlainState}
@@ -18,12 +17,6 @@ use Rattle.fab_sim.specs.fab_state_points.specs.Entries.{HasEntry, entries_of, r
 use Rattle.fab_sim.specs.fab_state_points.specs.Standing.{IsFirstAbsent, IsRefusedState}
 use Rattle.fab_sim.specs.fab_state_points.specs.declared.entry.Entry.{Entry}
 use Rattle.fab_simulate.specs.Simulating.{HasPoints, RefusesState, SpellsState, absent, at_line, misspelled}
-
--- a text has one refusal
-pub text_refused_once : {L : Type 0} {format : Format L} {file : List ℕ} {text : List L} {last : ℕ} (a b : Fault) → IsTextFault format file text last a → IsTextFault format file text last b → a ≡ b
-text_refused_once {file = file} a b x y =
-    let same = refusal_once x.refusal y.refusal in
-    x.is ∙ (λ j. fault_at file (same.0 j) (same.1 j)) ∙ sym y.is
 
 -- ---- the first line that has no point
 
@@ -72,7 +65,7 @@ one_state : (rows_bytes : List ℕ) (a b : PlainState) → Says (rows_of rows_by
 one_state rows_bytes a b x y = x.1 ∙ sym y.1
 
 state_refused_once : (text : List PlainModule) (file bytes : List ℕ) (a b : Fault) → RefusesState text file bytes a → RefusesState text file bytes b → a ≡ b
-state_refused_once text file bytes a b (misspelled x) (misspelled y) = text_refused_once a b x y
+state_refused_once text file bytes a b (misspelled x) (misspelled y) = text_fault_once x y
 state_refused_once text file bytes a b (misspelled x) (absent state counted says told y is) = absurd (whole_not_refused says.0 x.refusal)
 state_refused_once text file bytes a b (absent state counted says told x is) (misspelled y) = absurd (whole_not_refused says.0 y.refusal)
 state_refused_once text file bytes a b (absent state counted says told x is) (absent other again also too y it) =
