@@ -93,7 +93,7 @@ module _ (makes : Map → List PlainOutput → Type 0) (told : Option Map) where
   -- where a store fails, those before it stand
   stops : (stored left : List PlainOutput) (next : PlainOutput) (after : Option Map) (rose : Type 0) (given : Fault) → ForSome told (λ files. makes files (stored ++ next ∷ left))
       → after ≡ option_map (with_outputs stored) told → IsStoreFault next.name rose given → Leaves makes told after given
-  stops stored left next after rose faults.Memory made is cause = inr (record { stored = stored; left = next ∷ left; has = record { made = made; after_is = is } })
+  stops stored left next after rose faults.Memory made is cause = inr (record { stored = stored; next = next; left = left; has = record { made = made; after_is = is } })
   stops stored left next after rose (faults.WriteFault file) made is cause = record {
     stored = stored;
     bytes = next.bytes;

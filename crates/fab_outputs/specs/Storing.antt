@@ -40,11 +40,12 @@ pub record StopsAt (makes : Map → List PlainOutput → Type 0) (told after : O
   pub left : List PlainOutput
   pub has : HasStored makes told after stored (output file bytes ∷ left)
 
--- the first outputs are stored, maybe none
+-- the outputs before some output are stored, maybe none, and it is not
 pub record StopsAnywhere (makes : Map → List PlainOutput → Type 0) (told after : Option Map) : Type 0 where
   pub stored : List PlainOutput
+  pub next : PlainOutput
   pub left : List PlainOutput
-  pub has : HasStored makes told after stored left
+  pub has : HasStored makes told after stored (next ∷ left)
 
 -- What a command leaves that ends with a fault: the files as they were, unless a store failed. Then exactly the outputs before it stand.
 abbrev pub Leaves : (makes : Map → List PlainOutput → Type 0) → (told after : Option Map) → Fault → Type 0
