@@ -20,14 +20,14 @@ use fab_implementation::fab_fabric::{Fabric, Site, Wire};
 use fab_implementation::fab_netlist::{Cell, NetId, Packed};
 use std::alloc::Global;
 
-// The pins of a LUT4c and of a pad.
+// The pins of a LUT4c, and of a pad: I is what it shows outside, and T is 1 where it drives.
 const LUT_RESET: u32 = 5;
 
 const LUT_ENABLE: u32 = 6;
 
-const PAD_SHOWN: u32 = 0;
+const PAD_DATA: u32 = 0;
 
-const PAD_RELEASED: u32 = 1;
+const PAD_DRIVE: u32 = 1;
 
 fn put_sink(
     alloc: Global,
@@ -111,7 +111,7 @@ fn put_ins(
     ensures { OnOk result (sinks.new.items ≡ sinks.old.items ++ flat_map (in_sinks fabric.now) sites.now) }
 {
     for site in sites {
-        put_sink(alloc, sinks, fabric, NetId::Zero, *site, PAD_RELEASED)?;
+        put_sink(alloc, sinks, fabric, NetId::Zero, *site, PAD_DRIVE)?;
     }
     Ok(())
 }
@@ -128,15 +128,8 @@ fn put_outs(
     ensures { OnOk result (sinks.new.items ≡ sinks.old.items ++ outs_sinks fabric.now (site_at sites.now) 0 outputs.now) }
 {
     for (number, output) in outputs.iter().enumerate() {
-        put_sink(alloc, sinks, fabric, output.1, sites[number], PAD_SHOWN)?;
-        put_sink(
-            alloc,
-            sinks,
-            fabric,
-            NetId::One,
-            sites[number],
-            PAD_RELEASED,
-        )?;
+        put_sink(alloc, sinks, fabric, output.1, sites[number], PAD_DATA)?;
+        put_sink(alloc, sinks, fabric, NetId::One, sites[number], PAD_DRIVE)?;
     }
     Ok(())
 }
