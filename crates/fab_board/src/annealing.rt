@@ -61,7 +61,7 @@ const STEPS: [(u32, u32); 40] = [
 /// How many steps there are.
 const STEP_COUNT: u32 = 40;
 
-/// How many exchanges of each item a step tries.
+/// How many exchanges a step tries for each item that there is. The items are drawn.
 const TRIES: u32 = 40;
 
 /// How often a tile is drawn for an exchange.

@@ -126,10 +126,9 @@ pub(crate) fn assembly(
 /// Reads a design and an implementation of it, and stores what a device is given: the features in BASE.fasm, the
 /// bitstream in BASE.bit, and in BASE.state the ports at their pads with what the flip-flops hold at first.
 ///
-/// The faults of the files come as `read_design` and `read_implementation` give them. Behind them come `Short`, where the
-/// fabric has fewer LUT4c than the packed netlist has cells, or fewer IO pads than it has data ports, and `Illegal`, with
-/// the first rule that the implementation breaks and what breaks it first. `WriteFault` names an output; those before it
-/// are stored. With any other fault but want of memory the files are as before.
+/// The faults of the files come as `read_design` and `read_implementation` give them. Behind them come `Short`, where the fabric has fewer LUT4c than the
+/// packed netlist has cells, or fewer IO pads than it has data ports, and `Illegal`, with the first rule that the implementation breaks and what breaks it
+/// first. `WriteFault` names an output; those before it are stored. With any other fault but want of memory the files that the desk tells are as before.
 pub fn do_assemble<D: Desk, P: Progress>(
     alloc: Global,
     desk: &mut D,

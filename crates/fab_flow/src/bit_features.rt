@@ -75,8 +75,8 @@ fn features_text(alloc: Global, fabric: &Fabric, bits: &Bits) -> Result<Vec<u8>,
 /// Reads a fabric with all files that its file names, and a bitstream of it, and stores the features that its configuration bits
 /// spell under the output's name.
 ///
-/// The faults of the fabric's files come as `read_fabric` gives them, and those of the bitstream file as `to_words` and then
-/// `bits_of` do; `Missing`, `TooLong` and `ReadFault` name it. `WriteFault` names the output. With any fault the files are as before.
+/// The faults of the fabric's files come as `read_fabric` gives them, and those of the bitstream file as `to_words` and then `bits_of` do; `Missing`,
+/// `TooLong` and `ReadFault` name it. `WriteFault` names the output. With any fault the files that the desk tells are as before.
 pub fn do_features<D: Desk, P: Progress>(
     alloc: Global,
     desk: &mut D,

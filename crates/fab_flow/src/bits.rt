@@ -63,10 +63,10 @@ fn bitstream(alloc: Global, fabric: &Fabric, features: &[Feature]) -> Result<Vec
 /// Reads a fabric with all files that its file names, and a list of features, and stores the bitstream of the configuration bits that
 /// these set under the output's name.
 ///
-/// The faults of the fabric's files come as `read_fabric` gives them, and those of the FASM file as `read_fasm` does; `Missing`,
-/// `TooLong` and `ReadFault` name it. Behind them comes `Illegal` for the first wrong line: rule 10 with the line's feature, which the
-/// fabric lacks or has fewer bits of; rule 11 with an output for which a line before it chooses another input. `WriteFault` names the
-/// output. With any fault the files are as before.
+/// The faults of the fabric's files come as `read_fabric` gives them, and those of the FASM file as `read_fasm` does; `Missing`, `TooLong` and `ReadFault`
+/// name it. Behind them comes `Illegal` for the first wrong line: rule 10 with the line's feature, which the fabric lacks or has fewer bits of; rule 11
+/// with an output for which a line before it chooses another input. `WriteFault` names the output. With any fault the files that the desk tells are as
+/// before.
 pub fn do_bits<D: Desk, P: Progress>(
     alloc: Global,
     desk: &mut D,

@@ -104,11 +104,10 @@ fn flowed<P: Progress>(
 /// fabric in BASE.v, the implementation in BASE.impl, its features in BASE.fasm, the bitstream in BASE.bit, and in
 /// BASE.state the ports at their pads with what the flip-flops hold at first. The search begins with the seed.
 ///
-/// The faults of the files come as `read_design` gives them. Behind them come the limit of `text bytes`, as of
-/// `do_generate`, and then `Short`, where the fabric has fewer LUT4c than the packed netlist has cells, or fewer IO
-/// pads than it has data ports. `NoPath` and `Overused` come as `map` of `fab_map` gives them. All outputs are made
-/// before the first is stored. `WriteFault` names an output; those before it are stored. With any other fault but want
-/// of memory the files are as before.
+/// The faults of the files come as `read_design` gives them. Behind them come the limit of `text bytes`, as of `do_generate`, and then `Short`, where the
+/// fabric has fewer LUT4c than the packed netlist has cells, or fewer IO pads than it has data ports. `NoPath` and `Overused` come as `map` of `fab_map`
+/// gives them. All outputs are made before the first is stored. `WriteFault` names an output; those before it are stored. With any other fault but want of
+/// memory the files that the desk tells are as before.
 pub fn do_flow<D: Desk, P: Progress>(
     alloc: Global,
     desk: &mut D,

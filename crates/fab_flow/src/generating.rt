@@ -86,8 +86,8 @@ pub(crate) fn fabric_text(alloc: Global, name: &Name, fabric: &Fabric) -> Result
 /// Reads a fabric with all files that its file names, and stores its text under the output's name: the primitives, the modules of
 /// its tiles, the loader and the top.
 ///
-/// The faults of the fabric's files come as `read_fabric` gives them. A text that has more than 67043328 bytes without its loader is
-/// refused behind them, by the limit of `text bytes` at line 0 of the fabric file. `WriteFault` names the output. With any fault the files are as before.
+/// The faults of the fabric's files come as `read_fabric` gives them. A text that has more than 67043328 bytes without its loader is refused behind them,
+/// by the limit of `text bytes` at line 0 of the fabric file. `WriteFault` names the output. With any fault the files that the desk tells are as before.
 pub fn do_generate<D: Desk, P: Progress>(
     alloc: Global,
     desk: &mut D,

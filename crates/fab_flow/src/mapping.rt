@@ -81,9 +81,9 @@ fn mapping<P: Progress>(
 
 /// Reads a design, places and routes it in at most so many rounds, and stores the implementation in OUT.
 ///
-/// The faults of the files come as `read_design` gives them. Behind them comes `Short`, where the fabric has fewer LUT4c
-/// than the packed netlist has cells, or fewer IO pads than it has data ports. `NoPath` and `Overused` come as `map` of
-/// `fab_map` gives them. `WriteFault` names OUT. With any fault but want of memory the files are as before.
+/// The faults of the files come as `read_design` gives them. Behind them comes `Short`, where the fabric has fewer LUT4c than the packed netlist has cells,
+/// or fewer IO pads than it has data ports. `NoPath` and `Overused` come as `map` of `fab_map` gives them. `WriteFault` names OUT. With any fault but want
+/// of memory the files that the desk tells are as before.
 pub fn do_map<D: Desk, P: Progress>(
     alloc: Global,
     desk: &mut D,

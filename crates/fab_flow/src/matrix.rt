@@ -35,7 +35,7 @@ fn matrix_text(alloc: Global, list: &Name, pairs: &[(Name, Name)]) -> Result<Vec
 
 /// Reads a switch list with the lists that it includes, and stores the module of its pairs under the output's name.
 ///
-/// The faults of the list come as `read_pairs` gives them. `WriteFault` names the output. With any fault the files are as before.
+/// The faults of the list come as `read_pairs` gives them. `WriteFault` names the output. With any fault the files that the desk tells are as before.
 pub fn do_matrix<D: Desk, P: Progress>(
     alloc: Global,
     desk: &mut D,

@@ -1,5 +1,5 @@
--- The border bits of a row, and what the module of its tile assigns for them. No word here is shared with what a fabric's wires
--- are driven by, so that one cannot be wrong with the other.
+-- The border bits of a row, and what the module of its tile assigns for them. How they are numbered is said here anew: what a fabric's wires
+-- are driven by shares only the rows, their kinds and how many bits they have, so that one cannot be wrong with the other.
 use Rattle.std.specs.Prelude.{ℕ, ◌+◌, ◌*◌, ◌-◌, Bool, true, false, List, [], ◌∷◌, ◌++◌, codes, bytes_eq, Option, Some, None, if◌then◌else◌}
 use Rattle.fab_syntax.specs.declared.tree.Port.{Port}
 use Rattle.fab_syntax.specs.Plain.{PlainExpr, constant, variable, PlainItem, assign}
