@@ -1,0 +1,9 @@
+pub mod Covered
+pub mod Decided
+pub mod OneMap
+pub mod Selecting
+pub mod SpelledBits
+pub mod SpelledFields
+pub mod SpelledLines
+pub mod SpelledMaps
+pub mod DesignRight

@@ -1,0 +1,10 @@
+pub mod Streams
+pub mod Listed
+pub mod Files
+pub mod Fabrics
+pub mod Lists
+pub mod Written
+pub mod Back
+pub mod Differing
+pub mod PairsOnce
+pub mod BitsWritten

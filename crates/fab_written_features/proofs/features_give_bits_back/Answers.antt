@@ -1,0 +1,8 @@
+use Rattle.fab_written_features.proofs.Back.{features_back, flows_back}
+use Rattle.fab_written_features.proofs.features_give_bits_back.Goals as goal
+
+pub returns-clause-any : goal.returns-clause-any
+returns-clause-any c = features_back c.spelled_bits_are_said.ensures c.spelled_pairs_stand_once.ensures c.spelled_features_are_written.ensures
+
+pub returns-clause-flows : goal.returns-clause-flows
+returns-clause-flows c = flows_back c.bit_maps_select_inputs.ensures

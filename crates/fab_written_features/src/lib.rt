@@ -1,0 +1,52 @@
+//! The laws of lists of features that commands wrote: `bits` makes of BASE.fasm the bytes of BASE.bit, and of what `features` wrote the bits that it was
+//! made of. The functions do nothing: their contracts are laws.
+#![tactic(auto)]
+
+ghost use Rattle.fab_written_features.specs.Laws.{
+  AssembledFeaturesAreTheirBits,
+  FeaturesGiveBitsBack,
+  FlowBitstreamsComeBack,
+  FlowFeaturesAreTheirBits,
+  SpelledFeaturesAreWritten,
+  SpelledPairsStandOnce,
+};
+
+pub use fab_feature_bits;
+use fab_feature_bits::{
+    bit_maps_are_one, bit_maps_select_inputs, design_features_are_right, spelled_bits_are_said,
+};
+pub use fab_flow;
+pub use fab_spelled_designs;
+use fab_spelled_designs::legal_designs_are_spelled;
+
+/// In a fabric that files spell no pair of a switch matrix stands twice.
+pub fn spelled_pairs_stand_once()
+    ensures { SpelledPairsStandOnce }
+{}
+
+/// The features that configuration bits of such a fabric spell can be written as lines, each with its name, address and value.
+pub fn spelled_features_are_written()
+    ensures { SpelledFeaturesAreWritten }
+{}
+
+/// Of BASE.fasm of an assembly or of a flow, `bits` refuses nothing, where the file can be handed out, and makes the bytes of BASE.bit.
+pub fn written_features_are_their_bits()
+    ensures assemblies { AssembledFeaturesAreTheirBits }
+    ensures flows { FlowFeaturesAreTheirBits }
+{
+    bit_maps_are_one();
+    design_features_are_right();
+    legal_designs_are_spelled();
+}
+
+/// Of what `features` wrote, `bits` refuses nothing, where the file can be handed out, and makes bits by which all is driven as by those of the bitstream.
+/// Where no select value of these is outside the pairs of its output, as in the bitstream of a flow, it makes the bytes of the bitstream.
+pub fn features_give_bits_back()
+    ensures any { FeaturesGiveBitsBack }
+    ensures flows { FlowBitstreamsComeBack }
+{
+    bit_maps_select_inputs();
+    spelled_bits_are_said();
+    spelled_pairs_stand_once();
+    spelled_features_are_written();
+}
