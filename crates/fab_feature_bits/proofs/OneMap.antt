@@ -1,4 +1,4 @@
--- A list of features has one bit map.
+-- A list of features has at most one bit map.
 use Rattle.std.proofs.Common.{◌≡◌, ℕ, ◌+◌, ◌<◌, Bool, false, List, get_or, Some, slice_get, sym, ap, ◌∙◌, inl, inr}
 use Rattle.fab_bits.specs.Bits.{first_bits}
 use Rattle.fab_bits.proofs.Numbers.{get_first_bits}

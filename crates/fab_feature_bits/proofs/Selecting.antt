@@ -44,7 +44,7 @@ module _ (fabric : PlainFabric) (features : List Feature) (bits : PlainBits) (is
   value_unchosen none = ap number (is.unchosen x y output tile tile_is none) ∙ number_of_none (output_field tile output).1
 
 pub bit_maps_select_inputs : BitMapsSelectInputs
-bit_maps_select_inputs fabric is_fabric tiles features bits is x y output tile tile_is =
+bit_maps_select_inputs fabric features bits is x y output tile tile_is =
     elim (decided fabric x y output features) [
       | inl some ↦ (let value = value_chosen fabric features bits is x y output tile tile_is some.feature some.input some.listed some.chooses in inr (omega (arith, value.0, value.1)))
       | inr none ↦ inl (value_unchosen fabric features bits is x y output tile tile_is none)

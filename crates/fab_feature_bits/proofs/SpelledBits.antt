@@ -8,7 +8,6 @@ use Rattle.std.proofs.lemmas.Nat.{shr-shr}
 use Rattle.std.proofs.lemmas.Option.{slice_get_within, get_or_from_slice_get}
 use Rattle.std.proofs.Math.Nat.{zero-div}
 use Rattle.fab_bits.specs.Bits.{bit_number, number, first_bits}
-use Rattle.fab_bits.proofs.Numbers.{first_bits_same}
 use Rattle.fab_select.specs.Selection.{inputs_of}
 use Rattle.fab_model.specs.Tiles.{PlainTile}
 use Rattle.fab_model.specs.Drive.{matrix_inputs, select_value, input_at}
@@ -45,11 +44,6 @@ spelled_bit (suc width) f (suc place) few =
 -- 0 has no bit that is 1
 pub none_set : (place : ℕ) → table_bit 0 place ≡ true → ⊥
 none_set place one = false≢true (ap (λ n. nat_eq (n % 2) 1) (sym (zero-div (2 ^ place))) ∙ one)
-
--- bits of one width that spell one number are the same
-pub one_spelling : (width : ℕ) (f g : ℕ → Bool) → number (first_bits width f) ≡ number (first_bits width g) → first_bits width f ≡ first_bits width g
-one_spelling width f g same =
-    first_bits_same width f g (λ place few. sym (spelled_bit width f place few) ∙ ap (λ n. table_bit n place) same ∙ spelled_bit width g place few)
 
 -- ---- picked inputs
 

@@ -1,14 +1,15 @@
 -- The bits that spelled features stand for.
-use Rattle.std.proofs.Common.{◌≡◌, ◌⊎◌, ℕ, zero, suc, ◌+◌, ◌-◌, ◌<◌, true, List, [], ◌∷◌, length, take, get_or, All, Contains, Option, Some, None, nat_lt, slice_get, sym, refl, ap, ◌∙◌, subst, inl, inr, arith}
+use Rattle.std.proofs.Common.{◌≡◌, ◌⊎◌, ℕ, zero, suc, ◌+◌, ◌-◌, ◌<◌, Bool, true, List, [], ◌∷◌, length, take, get_or, All, Contains, Option, Some, None, nat_lt, slice_get, sym, refl, ap, ◌∙◌, subst, inl, inr, arith}
 use Rattle.std.specs.Option.{option_and_then, option_map_or}
 use Rattle.std.proofs.lemmas.Bool.{cases_Bool}
 use Rattle.std.proofs.lemmas.Option.{slice_get-get_or}
+use Rattle.fab_bits.specs.Bits.{digits}
 use Rattle.fab_kinds.specs.Pins.{input_count}
 use Rattle.fab_model.specs.declared.tiles.Bel.{Bel}
 use Rattle.fab_model.specs.Tiles.{PlainTile, numbered_pairs, output_field, bits_before}
 use Rattle.fab_model.specs.Grid.{PlainFabric, tile_at}
 use Rattle.fab_model.specs.Wires.{PlainWire, source_of, dest_of, pin_of, plain_wires, wire_number}
-use Rattle.fab_model.specs.Drive.{PlainBits, zero_bit, drive, tile_drive, pin_drive, matrix_drive, copy_or_zero, input_at, matrix_inputs, select_value}
+use Rattle.fab_model.specs.Drive.{PlainBits, zero_bit, drive, tile_drive, pin_drive, matrix_drive, copy_or_zero, input_at, matrix_inputs, select_field, select_value}
 use Rattle.fab_fabric.specs.Fabric.{IsFabric, AreTiles}
 use Rattle.fab_netlist.specs.WellMade.{table_bit}
 use Rattle.fab_netlist.proofs.Members.{in_none, first_or_later, first_in, later_in}
@@ -25,14 +26,14 @@ use Rattle.fab_features.specs.Spelled.{value_of, picked_input, features_in}
 use Rattle.fab_features.specs.declared.said.BelField.{BelField}
 use Rattle.fab_features.specs.declared.said.Choice.{Choice}
 use Rattle.fab_features.specs.declared.said.Said.TheVariants as said
-use Rattle.fab_features.proofs.Configured.{bool_same}
+use Rattle.fab_features.proofs.Configured.{bool_same, spelled}
 use Rattle.fab_features.proofs.Saids.{has_choice, one_field, one_choice, no_both}
 use Rattle.fab_features.proofs.Setting.{one_tile}
 use Rattle.fab_features.proofs.Words.{of_all}
-use Rattle.fab_feature_bits.specs.Laws.{HaveSameBits, DriveAlike, SelectsInputs, PairsStandOnce, SpelledBitsAreSaid}
-use Rattle.fab_feature_bits.proofs.OneMap.{SameBels, same_everywhere}
+use Rattle.fab_feature_bits.specs.Laws.{DriveAlike, SelectsInputs, PairsStandOnce, SpelledBitsAreSaid}
+use Rattle.fab_feature_bits.proofs.OneMap.{SameBels}
 use Rattle.fab_feature_bits.proofs.Selecting.{value_chosen, value_unchosen}
-use Rattle.fab_feature_bits.proofs.SpelledBits.{spelled_bit, one_spelling, input_there, picked_at, picked_listed, picked_drives, none_picked, none_drives, own_place}
+use Rattle.fab_feature_bits.proofs.SpelledBits.{spelled_bit, input_there, picked_at, picked_listed, picked_drives, none_picked, none_drives, own_place}
 use Rattle.fab_feature_bits.proofs.SpelledLines.{IsFieldLine, IsPickLine, spelled_line, bit_spelled, pick_spelled}
 
 -- ---- in general
@@ -117,35 +118,35 @@ module _ (fabric : PlainFabric) (is_fabric : IsFabric fabric) (tiles : AreTiles 
         (sym (chosen_picked earlier x y output other has.tile has.tile_is (from_taken features place earlier before) chose) ∙ chosen_picked f x y output input has.tile has.tile_is (place, at.0, at.1) chooses);
   }
 
+  -- a bit that a feature sets is 1
+  set_spelled : (x y bel bit : ℕ) (tile : PlainTile) → tile_at fabric x y ≡ Some tile → (f : Feature) → Contains features f →
+      SetsBelBit fabric f x y bel bit → bits x y (bits_before tile.bels bel + bit) ≡ true
+  set_spelled x y bel bit tile tile_is f here sets = by (line_of f here)
+    where
+      by : IsFieldLine fabric bits f ⊎ IsPickLine fabric bits f → bits x y (bits_before tile.bels bel + bit) ≡ true
+      by (inr line) = absurd (no_both {X = ⊥} fabric f.name (bel_field x y bel sets.first sets.width) (choice line.x line.y line.output line.input) sets.said_is line.says)
+      by (inl line) =
+          let e =
+          one_field fabric f.name (bel_field line.x line.y line.bel line.field.0 line.field.1) (bel_field x y bel sets.first sets.width) line.says sets.said_is in
+          let Spells : BelField → Type 0 =
+          λ b. (t : PlainTile) → tile_at fabric b.x b.y ≡ Some t → f.value ≡ value_of (bits b.x b.y) (bits_before t.bels b.bel + b.first) b.width in
+          let there : Spells (bel_field line.x line.y line.bel line.field.0 line.field.1) =
+          λ t t_is. subst (λ (u : PlainTile). f.value ≡ value_of (bits line.x line.y) (bits_before u.bels line.bel + line.field.0) line.field.1) (one_tile fabric line.x line.y line.tile t line.tile_is t_is) line.value_is in
+          let value_is : f.value ≡ value_of (bits x y) (bits_before tile.bels bel + sets.first) sets.width = subst Spells e there tile tile_is in
+          let width_is : line.field.1 ≡ sets.width = ap (λ (b : BelField). b.width) e in
+          let low = bits_before tile.bels bel in
+          let place = bit - (sets.first + f.low) in
+          let above = sets.above in
+          let below = sets.below in
+          let wide = line.wide in
+          let few : place < sets.width = omega (arith, above, below, wide, width_is, line.low_is, line.high_is) in
+          let back : low + sets.first + place ≡ low + bit = omega (arith, above, line.low_is) in
+          ap (bits x y) (sym back) ∙ sym (spelled_bit sets.width (λ k. bits x y (low + sets.first + k)) place few)
+          ∙ ap (λ n. table_bit n place) (sym value_is) ∙ sets.one
+
   -- ---- their bit map
 
   module _ (back : PlainBits) (is : IsBitMapOf fabric features back) where
-    -- a bit that a feature sets is 1
-    set_spelled : (x y bel bit : ℕ) (tile : PlainTile) → tile_at fabric x y ≡ Some tile → (f : Feature) → Contains features f →
-        SetsBelBit fabric f x y bel bit → bits x y (bits_before tile.bels bel + bit) ≡ true
-    set_spelled x y bel bit tile tile_is f here sets = by (line_of f here)
-      where
-        by : IsFieldLine fabric bits f ⊎ IsPickLine fabric bits f → bits x y (bits_before tile.bels bel + bit) ≡ true
-        by (inr line) = absurd (no_both {X = ⊥} fabric f.name (bel_field x y bel sets.first sets.width) (choice line.x line.y line.output line.input) sets.said_is line.says)
-        by (inl line) =
-            let e =
-            one_field fabric f.name (bel_field line.x line.y line.bel line.field.0 line.field.1) (bel_field x y bel sets.first sets.width) line.says sets.said_is in
-            let Spells : BelField → Type 0 =
-            λ b. (t : PlainTile) → tile_at fabric b.x b.y ≡ Some t → f.value ≡ value_of (bits b.x b.y) (bits_before t.bels b.bel + b.first) b.width in
-            let there : Spells (bel_field line.x line.y line.bel line.field.0 line.field.1) =
-            λ t t_is. subst (λ (u : PlainTile). f.value ≡ value_of (bits line.x line.y) (bits_before u.bels line.bel + line.field.0) line.field.1) (one_tile fabric line.x line.y line.tile t line.tile_is t_is) line.value_is in
-            let value_is : f.value ≡ value_of (bits x y) (bits_before tile.bels bel + sets.first) sets.width = subst Spells e there tile tile_is in
-            let width_is : line.field.1 ≡ sets.width = ap (λ (b : BelField). b.width) e in
-            let low = bits_before tile.bels bel in
-            let place = bit - (sets.first + f.low) in
-            let above = sets.above in
-            let below = sets.below in
-            let wide = line.wide in
-            let few : place < sets.width = omega (arith, above, below, wide, width_is, line.low_is, line.high_is) in
-            let back : low + sets.first + place ≡ low + bit = omega (arith, above, line.low_is) in
-            ap (bits x y) (sym back) ∙ sym (spelled_bit sets.width (λ k. bits x y (low + sets.first + k)) place few)
-            ∙ ap (λ n. table_bit n place) (sym value_is) ∙ sets.one
-
     bels_same : SameBels fabric bits back
     bels_same x y bel bit tile found tile_is bel_is few =
         let at = bits_before tile.bels bel + bit in
@@ -179,36 +180,60 @@ module _ (fabric : PlainFabric) (is_fabric : IsFabric fabric) (tiles : AreTiles 
               picked_drives tile (bits x y) output input picked
               ∙ sym (ap (input_at inputs) (value_back (Some input) picked) ∙ input_there inputs input (picked_listed tile (bits x y) output input picked))
 
-      -- where no pair stands twice and the value is that of an input, or 0, it is the same
-      value_same : PairsStandOnce tile → (value ≡ 0) ⊎ (value < length inputs) → value ≡ select_value tile (back x y) output
-      value_same once either = by (picked_input tile (bits x y) output) refl
-        where
-          is_zero : (value ≡ 0) ⊎ (slice_get inputs value ≡ None) → (value ≡ 0) ⊎ (value < length inputs) → value ≡ 0
-          is_zero (inl zero_is) either = zero_is
-          is_zero (inr none) (inl zero_is) = zero_is
-          is_zero (inr none) (inr few) = no_number (get_or inputs value 0) (sym none ∙ slice_get-get_or inputs value 0 few)
-
-          by : (picked : Option ℕ) → picked_input tile (bits x y) output ≡ picked → value ≡ select_value tile (back x y) output
-          by None none = is_zero (none_picked tile (bits x y) output none) either ∙ sym (value_back None none)
-          by (Some input) picked =
-              sym (own_place (numbered_pairs tile) output value input once (picked_at tile (bits x y) output input picked))
-              ∙ sym (value_back (Some input) picked)
-
     alike : DriveAlike fabric bits back
     alike = record { bels = bels_same; wires = drive_alike fabric bits back inputs_alike }
 
-    same : All PairsStandOnce fabric.types → SelectsInputs fabric bits → HaveSameBits fabric bits back
-    same once selects =
-        same_everywhere fabric bits back bels_same
-        (λ x y output tile tile_is.
-        let field = output_field tile output in
+  -- ---- these bits are their bit map
+
+  module _ (once : All PairsStandOnce fabric.types) (selects : SelectsInputs fabric bits) (x y output : ℕ) (tile : PlainTile) (tile_is : tile_at fabric x y ≡ Some tile) where
+    abbrev width : ℕ
+    width = (output_field tile output).1
+
+    abbrev selected : ℕ
+    selected = select_value tile (bits x y) output
+
+    -- the field has the digits of the value that it spells
+    field_digits : select_field tile (bits x y) output ≡ digits width selected
+    field_digits =
+        let field : ℕ → Bool = λ place. bits x y ((output_field tile output).0 + place) in
+        spelled width selected field (λ place few. sym (spelled_bit width field place few))
+
+    own_chosen : (input : ℕ) (f : Feature) → Contains features f → Chooses fabric f x y output input →
+        select_field tile (bits x y) output ≡ digits width (place_among (matrix_inputs tile output) input)
+    own_chosen input f here chooses =
         let number_of_type = tile_type fabric x y tile tile_is in
         let tile_once = of_all PairsStandOnce fabric.types tile once (contains_at fabric.types number_of_type.0 tile number_of_type.1) in
-        one_spelling field.1 (λ k. bits x y (field.0 + k)) (λ k. back x y (field.0 + k)) (value_same x y output tile tile_is tile_once (selects x y output tile tile_is)))
+        let picked = chosen_picked f x y output input tile tile_is here chooses in
+        field_digits ∙ ap (digits width) (sym (own_place (numbered_pairs tile) output selected input tile_once (picked_at tile (bits x y) output input picked)))
+
+    is_zero : (selected ≡ 0) ⊎ (slice_get (matrix_inputs tile output) selected ≡ None) → (selected ≡ 0) ⊎ (selected < length (matrix_inputs tile output)) → selected ≡ 0
+    is_zero (inl zero_is) either = zero_is
+    is_zero (inr none) (inl zero_is) = zero_is
+    is_zero (inr none) (inr few) =
+        no_number (get_or (matrix_inputs tile output) selected 0) (sym none ∙ slice_get-get_or (matrix_inputs tile output) selected 0 few)
+
+    own_unchosen : ((f : Feature) (input : ℕ) → Contains features f → Chooses fabric f x y output input → ⊥) → select_field tile (bits x y) output ≡ digits width 0
+    own_unchosen never = field_digits ∙ ap (digits width) (by (picked_input tile (bits x y) output) refl)
+      where
+        by : (picked : Option ℕ) → picked_input tile (bits x y) output ≡ picked → selected ≡ 0
+        by None none = is_zero (none_picked tile (bits x y) output none) (selects x y output tile tile_is)
+        by (Some input) picked =
+            let some = pick_spelled fabric is_fabric tiles free prefixed bits x y output input tile tile_is picked in
+            absurd (never some.0 input some.1 some.2)
+
+  same : All PairsStandOnce fabric.types → SelectsInputs fabric bits → IsBitMapOf fabric features bits
+  same once selects = record {
+    bels = λ x y bel bit tile found tile_is bel_is few. (
+      bit_spelled fabric is_fabric tiles free prefixed bits x y bel bit tile found tile_is bel_is few,
+      λ some. set_spelled x y bel bit tile tile_is some.0 some.1 some.2,
+    );
+    chosen = λ x y output input tile f tile_is here chooses. own_chosen once selects x y output tile tile_is input f here chooses;
+    unchosen = λ x y output tile tile_is never. own_unchosen once selects x y output tile tile_is never;
+  }
 
 pub spelled_bits_are_said : SpelledBitsAreSaid
 spelled_bits_are_said fabric is_fabric tiles free prefixed bits = record {
   right = right fabric is_fabric tiles free prefixed bits;
   alike = alike fabric is_fabric tiles free prefixed bits;
-  same = λ once selects back is. same fabric is_fabric tiles free prefixed bits back is once selects;
+  same = same fabric is_fabric tiles free prefixed bits;
 }

@@ -1,4 +1,4 @@
--- Features and configuration bits say each other.
+-- The bit map of a list of features, and the features that bits spell.
 use Rattle.std.specs.Prelude.{◌≡◌, ◌≢◌, ◌<◌, ◌⊎◌, ℕ, ◌+◌, All, AllPairs, List, length, slice_get, Some}
 use Rattle.fab_kinds.specs.Pins.{bit_count}
 use Rattle.fab_model.specs.declared.tiles.Bel.{Bel}
@@ -26,7 +26,7 @@ abbrev pub HaveSameBits : PlainFabric → (first second : PlainBits) → Type 0
 HaveSameBits fabric first second =
     (x y bit : ℕ) (tile : PlainTile) → tile_at fabric x y ≡ Some tile → bit < tile_bits tile → first x y bit ≡ second x y bit
 
--- a list of features has one bit map
+-- a list of features has at most one bit map
 abbrev pub BitMapsAreOne : Type 0
 BitMapsAreOne =
     (fabric : PlainFabric) (features : List Feature) (first second : PlainBits) → IsBitMapOf fabric features first → IsBitMapOf fabric features second →
@@ -46,17 +46,20 @@ SelectsInputs fabric bits =
     (x y output : ℕ) (tile : PlainTile) → tile_at fabric x y ≡ Some tile →
     (select_value tile (bits x y) output ≡ 0) ⊎ (select_value tile (bits x y) output < length (matrix_inputs tile output))
 
+-- by a bit map each output selects one of its inputs, or has the value 0
+abbrev pub BitMapsSelectInputs : Type 0
+BitMapsSelectInputs = (fabric : PlainFabric) (features : List Feature) (bits : PlainBits) → IsBitMapOf fabric features bits → SelectsInputs fabric bits
+
 -- no pair of the tile's switch matrix stands twice
 abbrev pub PairsStandOnce : PlainTile → Type 0
 PairsStandOnce tile = AllPairs (λ first second. first ≢ second) (numbered_pairs tile)
 
--- The features that bits spell are right, and stand for bits by which all is driven as by those. They are the same bits, where none of these is
--- outside the pairs of its output.
+-- The features that bits spell are right, and by their bit map all is driven as by these bits. Their bit map is these bits, where no pair stands twice
+-- and no select value is outside the pairs of its output.
 pub record AreSaid (fabric : PlainFabric) (bits : PlainBits) : Type 0 where
   pub right : AreRight (IsRightFeature fabric) (features_in fabric bits)
   pub alike : (back : PlainBits) → IsBitMapOf fabric (features_in fabric bits) back → DriveAlike fabric bits back
-  pub same : All PairsStandOnce fabric.types → SelectsInputs fabric bits →
-      (back : PlainBits) → IsBitMapOf fabric (features_in fabric bits) back → HaveSameBits fabric bits back
+  pub same : All PairsStandOnce fabric.types → SelectsInputs fabric bits → IsBitMapOf fabric (features_in fabric bits) bits
 
 abbrev pub SpelledBitsAreSaid : Type 0
 SpelledBitsAreSaid =
@@ -71,9 +74,3 @@ DesignFeaturesAreRight =
     (fabric : PlainFabric) → IsFabric fabric → AreTiles fabric → All IsNamed fabric.types → All HasPrefixes fabric.types →
     (packed : PlainPacked) (fixed : List Pad) (implementation : PlainImplementation) → IsLegal fabric packed fixed implementation →
     AreRight (IsRightFeature fabric) (design_features fabric packed implementation)
-
--- where its features choose an input for an output, the bits that they set select one of its inputs
-abbrev pub BitMapsSelectInputs : Type 0
-BitMapsSelectInputs =
-    (fabric : PlainFabric) → IsFabric fabric → AreTiles fabric →
-    (features : List Feature) (bits : PlainBits) → IsBitMapOf fabric features bits → SelectsInputs fabric bits

@@ -1,5 +1,5 @@
-//! The laws of features and configuration bits: a list of features has one bit map, the features that bits spell stand for these bits, and those of a
-//! legal implementation are features of its fabric.
+//! The laws of features and configuration bits: a list of features has at most one bit map, by that of the features that bits spell all is driven as by
+//! these bits, and the features of a legal implementation are features of its fabric.
 #![tactic(auto)]
 
 ghost use Rattle.fab_feature_bits.specs.Laws.{BitMapsAreOne, BitMapsSelectInputs, DesignFeaturesAreRight, SpelledBitsAreSaid};
@@ -16,9 +16,9 @@ pub fn bit_maps_select_inputs()
     ensures { BitMapsSelectInputs }
 {}
 
-/// In a fabric that tables promise, whose names are free and whose pins have prefixes, the features that bits spell are features of the fabric, and no
-/// output has two inputs. Bits that are the bit map of them configure each BEL as those did and give each wire the same driver. Where no select value is
-/// outside the pairs of its output, they are the same bits.
+/// In a fabric as tables promise it, whose names are free and whose BELs have prefixes, but for MUX8LUTs, the features that bits spell are features of
+/// the fabric, and no output has two inputs. By their bit map each BEL is configured and each wire driven as by these bits. Where no pair stands twice
+/// and no select value is outside the pairs of its output, these bits are their bit map.
 pub fn spelled_bits_are_said()
     ensures { SpelledBitsAreSaid }
 {}

@@ -8,6 +8,7 @@ use Rattle.fab_model.specs.Tiles.{PlainTile, output_field}
 use Rattle.fab_model.specs.Grid.{PlainFabric, tile_at}
 use Rattle.fab_model.specs.Drive.{PlainBits, matrix_inputs, select_value}
 use Rattle.fab_fabric.specs.Bits.{AreBitsOf, plain_bits}
+use Rattle.fab_fabric.specs.Fabric.{IsFabric}
 use Rattle.fab_fasm.specs.Printing.{HasSpelling, printed}
 use Rattle.fab_fasm.specs.declared.feature.Feature.{Feature}
 use Rattle.fab_frames.specs.Bytes.{word_bytes}
@@ -15,8 +16,9 @@ use Rattle.fab_frames.specs.Stream.{stream}
 use Rattle.fab_netlist.specs.Packing.{packed}
 use Rattle.fab_read.proofs.FabricsOnce.{one_fabric}
 use Rattle.fab_outputs.specs.Storing.{PlainOutput, output, with_outputs}
-use Rattle.fab_feature_bits.specs.Laws.{AreSaid, BitMapsSelectInputs, HaveSameBits, SelectsInputs, SpelledBitsAreSaid}
+use Rattle.fab_feature_bits.specs.Laws.{AreSaid, BitMapsAreOne, BitMapsSelectInputs, HaveSameBits, SelectsInputs, SpelledBitsAreSaid}
 use Rattle.fab_feature_bits.specs.fab_features.specs.Design.{design_features}
+use Rattle.fab_feature_bits.specs.fab_features.specs.Features.{IsBitMapOf}
 use Rattle.fab_feature_bits.specs.fab_features.specs.Spelled.{features_in, place_spells}
 use Rattle.fab_feature_bits.specs.fab_features.specs.fab_use.specs.Registers.{design_state}
 use Rattle.fab_feature_bits.specs.fab_features.specs.fab_use.specs.fab_fabric_text.specs.Places.{placed_tiles}
@@ -26,14 +28,14 @@ use Rattle.fab_impl.specs.Spelled.{implementation_text}
 use Rattle.fab_flow.specs.BitFeatures.{FeaturesFiles, MakesFeatures}
 use Rattle.fab_flow.specs.Flowing.{flow_outputs}
 use Rattle.fab_flow.specs.Generating.{generated_text}
-use Rattle.fab_written_features.specs.Laws.{FeaturesGiveBitsBack, FlowBitstreamsComeBack, GivesBack, SpelledFeaturesAreWritten, SpelledPairsStandOnce}
+use Rattle.fab_written_features.specs.Laws.{AssembledBitstreamsComeBack, ComesBack, FeaturesGiveBitsBack, FlowBitstreamsComeBack, GivesBack, SpelledFeaturesAreWritten, SpelledPairsStandOnce, StandsBehind}
 use Rattle.fab_written_features.proofs.Fabrics.{IsPromised, spelled_is_promised}
-use Rattle.fab_written_features.proofs.Files.{output_stands, standing_is, words_flowed}
+use Rattle.fab_written_features.proofs.Files.{output_stands, standing_is, words_assembled, words_flowed}
 use Rattle.fab_written_features.proofs.Listed.{told_bits}
-use Rattle.fab_written_features.proofs.Lists.{is_ready, made_bytes, made_of_list}
+use Rattle.fab_written_features.proofs.Lists.{is_ready, listed_bytes, made_of_list}
 use Rattle.fab_written_features.proofs.Streams.{stream_told}
 
-module _ (said : SpelledBitsAreSaid) (stand_once : SpelledPairsStandOnce) (written : SpelledFeaturesAreWritten) where
+module _ (one : BitMapsAreOne) (said : SpelledBitsAreSaid) (stand_once : SpelledPairsStandOnce) (written : SpelledFeaturesAreWritten) where
   module _ (files : Map) (names : FeaturesFiles) (stored : List PlainOutput) (made : MakesFeatures files names stored) where
     abbrev bits : PlainBits
     bits = plain_bits made.bits
@@ -62,23 +64,21 @@ module _ (said : SpelledBitsAreSaid) (stand_once : SpelledPairsStandOnce) (writt
 
     give_back : GivesBack made
     give_back = record {
-      ready = λ later name out text kept found.
-          is_ready behind has made.fabric promised.is later name names.out kept.spelled (kept.kept ∙ stands) are_said.right out text found;
-      alike = λ later name out outputs kept back.
+      ready = λ later name file out text kept found.
+          is_ready behind has made.fabric promised.is later name file kept.spelled (kept.kept ∙ stands) are_said.right out text found;
+      alike = λ later name file out outputs kept back.
           are_said.alike (plain_bits back.made.bits)
-          (made_of_list behind has made.fabric promised.is later name names.out kept.spelled (kept.kept ∙ stands) out outputs back);
-      same = λ later name out outputs kept selects back.
-          let of_list = made_of_list behind has made.fabric promised.is later name names.out kept.spelled (kept.kept ∙ stands) out outputs back in
-          let alike = are_said.same (stand_once files names.fabric made.fabric made.spelled) selects (plain_bits back.made.bits) of_list in
-          made_bytes behind has made.fabric promised.is later name names.out kept.spelled (kept.kept ∙ stands) out outputs back bits
-          (λ x y bit tile tile_is few. sym (alike x y bit tile tile_is few))
+          (made_of_list behind has made.fabric promised.is later name file kept.spelled (kept.kept ∙ stands) out outputs back);
+      same = λ later name file out outputs kept selects back.
+          listed_bytes behind has made.fabric promised.is later name file kept.spelled (kept.kept ∙ stands) out outputs back one bits
+          (are_said.same (stand_once files names.fabric made.fabric made.spelled) selects)
           ∙ ap (λ (bytes : List ℕ). output out bytes ∷ []) (sym given_bytes);
     }
 
   pub features_back : FeaturesGiveBitsBack
   features_back files names stored made = give_back files names stored made
 
--- ---- the bitstream of a flow
+-- ---- BASE.bit
 
 -- bits that are the same select the same
 select_same : (fabric : PlainFabric) (first second : PlainBits) (x y output : ℕ) (tile : PlainTile) → HaveSameBits fabric first second → tile_at fabric x y ≡ Some tile →
@@ -92,29 +92,48 @@ selects_same : (fabric : PlainFabric) (first second : PlainBits) → HaveSameBit
 selects_same fabric first second same selects x y output tile tile_is =
     subst (λ n. (n ≡ 0) ⊎ (n < length (matrix_inputs tile output))) (select_same fabric first second x y output tile same tile_is) (selects x y output tile tile_is)
 
-module _ (select : BitMapsSelectInputs) where
-  pub flows_back : FlowBitstreamsComeBack
-  flows_back files names allowed stored made later features written spelled kept again =
+-- what is said of BASE.bit, whose bits are the bit map of some features
+module _ (one : BitMapsAreOne) (select : BitMapsSelectInputs) (said : SpelledBitsAreSaid) (stand_once : SpelledPairsStandOnce) (written : SpelledFeaturesAreWritten) where
+  module _ (fabric : PlainFabric) (is : IsFabric fabric) (features : List Feature) (bits : PlainBits) (bit_map : IsBitMapOf fabric features bits)
+      (base : List ℕ) (stored : Map) (words_stand : stored (base ++ codes ".bit") ≡ Some (flat_map word_bytes (stream fabric bits))) where
+    comes_back : ComesBack fabric base stored
+    comes_back later names wrote spelled kept again last name file out outputs stands back =
+        let bytes : List ℕ = flat_map word_bytes (stream fabric bits) in
+        let fabrics : again.fabric ≡ fabric = one_fabric later names.fabric again.fabric fabric again.spelled spelled in
+        let bytes_are : again.read.bytes ≡ bytes = standing_is later names.bit again.read.bytes bytes (kept ∙ words_stand) again.read.found in
+        let bytes_same : bytes ≡ flat_map word_bytes (stream fabric (plain_bits again.bits)) =
+        sym bytes_are
+        ∙ again.read.spelled.of_words.bytes_are
+        ∙ ap (flat_map word_bytes) again.read.spelled.words_are
+        ∙ ap (λ (f : PlainFabric). flat_map word_bytes (stream f (plain_bits again.bits))) fabrics in
+        let are = subst (λ (f : PlainFabric). AreBitsOf f again.bits) fabrics again.read.spelled.are in
+        let same = told_bits fabric bits again.bits is are (stream_told fabric bits (plain_bits again.bits) bytes_same) in
+        let selects = selects_same fabric bits (plain_bits again.bits) same (select fabric features bits bit_map) in
+        let selects_again = subst (λ (f : PlainFabric). SelectsInputs f (plain_bits again.bits)) (sym fabrics) selects in
+        let stands_again = subst (λ (f : PlainFabric). StandsBehind f names.out (with_outputs wrote later) last name file) (sym fabrics) stands in
+        let gives = (features_back one said stand_once written later names wrote again).same last name file out outputs stands_again selects_again back in
+        (bytes, words_stand, gives ∙ ap (λ (b : List ℕ). output out b ∷ []) bytes_are)
+
+  pub assembled_back : AssembledBitstreamsComeBack
+  assembled_back files names stored made =
       let fabric = made.design.fabric in
-      let bits = made.made.assembly.bits in
+      let features = design_features fabric (packed made.design.netlist) made.implementation in
+      comes_back fabric (spelled_is_promised files names.design.fabric fabric made.spelled.fabric).is features made.made.bits made.made.bit_map names.base
+      (with_outputs stored files)
+      (ap (λ (list : List PlainOutput). with_outputs list files (names.base ++ codes ".bit")) made.made.outputs_are
+      ∙ words_assembled files names.base features (stream fabric made.made.bits) (design_state (packed made.design.netlist) made.implementation))
+
+  pub flows_back : FlowBitstreamsComeBack
+  flows_back files names allowed stored made =
+      let fabric = made.design.fabric in
       let cells = packed made.design.netlist in
       let implementation = made.made.implementation in
+      let features = design_features fabric cells implementation in
+      let bits = made.made.assembly.bits in
       let text = text_bytes (generated_text fabric) in
       let implemented = implementation_text fabric implementation in
-      let words = stream fabric bits in
-      let promised = spelled_is_promised files names.design.fabric fabric made.spelled.fabric in
-      let fabrics : again.fabric ≡ fabric = one_fabric later features.fabric again.fabric fabric again.spelled spelled in
-      let after_is =
-      ap (λ (list : List PlainOutput). with_outputs list files (names.base ++ codes ".bit"))
-      (made.made.outputs_are ∙ ap (flow_outputs names.base text implemented) made.made.assembly.outputs_are) in
-      let stands = kept ∙ after_is ∙ words_flowed files names.base (design_features fabric cells implementation) words (design_state cells implementation) text implemented in
-      let bytes_are : again.read.bytes ≡ flat_map word_bytes words = standing_is later features.bit again.read.bytes (flat_map word_bytes words) stands again.read.found in
-      let bytes_same : flat_map word_bytes words ≡ flat_map word_bytes (stream fabric (plain_bits again.bits)) =
-      sym bytes_are
-      ∙ again.read.spelled.of_words.bytes_are
-      ∙ ap (flat_map word_bytes) again.read.spelled.words_are
-      ∙ ap (λ (f : PlainFabric). flat_map word_bytes (stream f (plain_bits again.bits))) fabrics in
-      let are = subst (λ (f : PlainFabric). AreBitsOf f again.bits) fabrics again.read.spelled.are in
-      let same = told_bits fabric bits again.bits promised.is are (stream_told fabric bits (plain_bits again.bits) bytes_same) in
-      let selects = select fabric promised.is promised.tiles (design_features fabric cells implementation) bits made.made.assembly.bit_map in
-      subst (λ (f : PlainFabric). SelectsInputs f (plain_bits again.bits)) (sym fabrics) (selects_same fabric bits (plain_bits again.bits) same selects)
+      comes_back fabric (spelled_is_promised files names.design.fabric fabric made.spelled.fabric).is features bits made.made.assembly.bit_map names.base
+      (with_outputs stored files)
+      (ap (λ (list : List PlainOutput). with_outputs list files (names.base ++ codes ".bit"))
+      (made.made.outputs_are ∙ ap (flow_outputs names.base text implemented) made.made.assembly.outputs_are)
+      ∙ words_flowed files names.base features (stream fabric bits) (design_state cells implementation) text implemented)

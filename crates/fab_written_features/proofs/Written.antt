@@ -52,12 +52,12 @@ module _ (one : BitMapsAreOne) (are_right : DesignFeaturesAreRight) (are_spelled
         stored (base ++ codes ".fasm") ≡ Some (printed features) → stored (base ++ codes ".bit") ≡ Some (flat_map word_bytes (stream design.fabric bits)) →
         IsItsBitstream design.fabric base stored
     its_bitstream base stored bits bit_map features_stand words_stand = record {
-      ready = λ later name out text stands found.
-          is_ready behind has design.fabric promised.is later name (base ++ codes ".fasm") stands.spelled (stands.kept ∙ features_stand) right out text found;
-      same = λ later name out outputs stands made. (
+      ready = λ later name file out text stands found.
+          is_ready behind has design.fabric promised.is later name file stands.spelled (stands.kept ∙ features_stand) right out text found;
+      same = λ later name file out outputs stands made. (
         flat_map word_bytes (stream design.fabric bits),
         words_stand,
-        listed_bytes behind has design.fabric promised.is later name (base ++ codes ".fasm") stands.spelled (stands.kept ∙ features_stand) out outputs made one bits bit_map,
+        listed_bytes behind has design.fabric promised.is later name file stands.spelled (stands.kept ∙ features_stand) out outputs made one bits bit_map,
       );
     }
 

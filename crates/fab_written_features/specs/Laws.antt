@@ -17,7 +17,7 @@ use Rattle.fab_flow.specs.Flowing.{FlowFiles, MakesFlow}
 
 -- ---- fabrics that files spell
 
--- a switch list names each pair once, and so does a matrix table
+-- no pair stands twice: a switch list counts it once, and a matrix table has one cell for it
 abbrev pub SpelledPairsStandOnce : Type 0
 SpelledPairsStandOnce = (files : Map) (name : List ℕ) (fabric : PlainFabric) → SpellsFabric files name fabric → All PairsStandOnce fabric.types
 
@@ -28,18 +28,21 @@ SpelledFeaturesAreWritten =
 
 -- ---- BASE.fasm
 
--- A file of features is as some command left it, and another file spells the fabric of which they are, maybe under a new name.
-pub record StandsBehind (fabric : PlainFabric) (features : List ℕ) (stored later : Map) (name : List ℕ) : Type 0 where
+-- A file holds what some command stored under the name `written`, and another spells the fabric of those features. Both may have new names.
+pub record StandsBehind (fabric : PlainFabric) (written : List ℕ) (stored later : Map) (name file : List ℕ) : Type 0 where
   pub spelled : SpellsFabric later name fabric
-  pub kept : later features ≡ stored features
+  pub kept : later file ≡ stored written
+
+-- the one output holds what was stored as BASE.bit
+abbrev pub IsBitstreamAgain : (base : List ℕ) (stored : Map) (out : List ℕ) → List PlainOutput → Type 0
+IsBitstreamAgain base stored out outputs = (bytes : List ℕ) × (stored (base ++ codes ".bit") ≡ Some bytes) × (outputs ≡ output out bytes ∷ [])
 
 -- Where BASE.fasm can be handed out, `bits` refuses nothing of it. What it makes of it is BASE.bit.
 pub record IsItsBitstream (fabric : PlainFabric) (base : List ℕ) (stored : Map) : Type 0 where
-  pub ready : (later : Map) (name out text : List ℕ) → StandsBehind fabric (base ++ codes ".fasm") stored later name →
-      handed_out later (base ++ codes ".fasm") ≡ Ok text → IsReadyForBits later (bits_files name (base ++ codes ".fasm") out)
-  pub same : (later : Map) (name out : List ℕ) (outputs : List PlainOutput) → StandsBehind fabric (base ++ codes ".fasm") stored later name →
-      MakesBits later (bits_files name (base ++ codes ".fasm") out) outputs →
-      (bytes : List ℕ) × (stored (base ++ codes ".bit") ≡ Some bytes) × (outputs ≡ output out bytes ∷ [])
+  pub ready : (later : Map) (name file out text : List ℕ) → StandsBehind fabric (base ++ codes ".fasm") stored later name file →
+      handed_out later file ≡ Ok text → IsReadyForBits later (bits_files name file out)
+  pub same : (later : Map) (name file out : List ℕ) (outputs : List PlainOutput) → StandsBehind fabric (base ++ codes ".fasm") stored later name file →
+      MakesBits later (bits_files name file out) outputs → IsBitstreamAgain base stored out outputs
 
 abbrev pub AssembledFeaturesAreTheirBits : Type 0
 AssembledFeaturesAreTheirBits =
@@ -53,23 +56,33 @@ FlowFeaturesAreTheirBits =
 
 -- ---- `features`, and then `bits`
 
--- Where what `features` wrote can be handed out, `bits` refuses nothing of it. The bits that it makes of it drive each wire as those of the bitstream did.
--- Where no select value of these is outside the pairs of its output, the bitstream comes back byte for byte.
+-- Where what `features` wrote can be handed out, `bits` refuses nothing of it. By the bits that it makes of it each BEL is configured and each wire driven
+-- as by those of the bitstream. Where no select value of these is outside the pairs of its output, the bitstream comes back byte for byte.
 pub record GivesBack {files : Map} {names : FeaturesFiles} {stored : List PlainOutput} (made : MakesFeatures files names stored) : Type 0 where
-  pub ready : (later : Map) (name out text : List ℕ) → StandsBehind made.fabric names.out (with_outputs stored files) later name →
-      handed_out later names.out ≡ Ok text → IsReadyForBits later (bits_files name names.out out)
-  pub alike : (later : Map) (name out : List ℕ) (outputs : List PlainOutput) → StandsBehind made.fabric names.out (with_outputs stored files) later name →
-      (back : MakesBits later (bits_files name names.out out) outputs) → DriveAlike made.fabric (plain_bits made.bits) (plain_bits back.made.bits)
-  pub same : (later : Map) (name out : List ℕ) (outputs : List PlainOutput) → StandsBehind made.fabric names.out (with_outputs stored files) later name →
-      SelectsInputs made.fabric (plain_bits made.bits) → MakesBits later (bits_files name names.out out) outputs → outputs ≡ output out made.read.bytes ∷ []
+  pub ready : (later : Map) (name file out text : List ℕ) → StandsBehind made.fabric names.out (with_outputs stored files) later name file →
+      handed_out later file ≡ Ok text → IsReadyForBits later (bits_files name file out)
+  pub alike : (later : Map) (name file out : List ℕ) (outputs : List PlainOutput) → StandsBehind made.fabric names.out (with_outputs stored files) later name file →
+      (back : MakesBits later (bits_files name file out) outputs) → DriveAlike made.fabric (plain_bits made.bits) (plain_bits back.made.bits)
+  pub same : (later : Map) (name file out : List ℕ) (outputs : List PlainOutput) → StandsBehind made.fabric names.out (with_outputs stored files) later name file →
+      SelectsInputs made.fabric (plain_bits made.bits) → MakesBits later (bits_files name file out) outputs → outputs ≡ output out made.read.bytes ∷ []
 
 abbrev pub FeaturesGiveBitsBack : Type 0
 FeaturesGiveBitsBack = (files : Map) (names : FeaturesFiles) (stored : List PlainOutput) (made : MakesFeatures files names stored) → GivesBack made
 
--- The bitstream of a flow has no select value outside its pairs, so that it comes back.
+-- So it is with BASE.bit: a file holds it, `features` is run on this file, and `bits` on what that wrote. No select value of it is outside the pairs.
+abbrev pub ComesBack : PlainFabric → (base : List ℕ) → (stored : Map) → Type 0
+ComesBack fabric base stored =
+    (later : Map) (names : FeaturesFiles) (written : List PlainOutput) → SpellsFabric later names.fabric fabric → later names.bit ≡ stored (base ++ codes ".bit") →
+    MakesFeatures later names written →
+    (last : Map) (name file out : List ℕ) (outputs : List PlainOutput) → StandsBehind fabric names.out (with_outputs written later) last name file →
+    MakesBits last (bits_files name file out) outputs → IsBitstreamAgain base stored out outputs
+
+abbrev pub AssembledBitstreamsComeBack : Type 0
+AssembledBitstreamsComeBack =
+    (files : Map) (names : AssemblyFiles) (stored : List PlainOutput) (made : MakesAssembly files names stored) →
+    ComesBack made.design.fabric names.base (with_outputs stored files)
+
 abbrev pub FlowBitstreamsComeBack : Type 0
 FlowBitstreamsComeBack =
     (files : Map) (names : FlowFiles) (allowed : ℕ) (stored : List PlainOutput) (made : MakesFlow files names allowed stored) →
-    (later : Map) (features : FeaturesFiles) (written : List PlainOutput) → SpellsFabric later features.fabric made.design.fabric →
-    later features.bit ≡ with_outputs stored files (names.base ++ codes ".bit") →
-    (again : MakesFeatures later features written) → SelectsInputs again.fabric (plain_bits again.bits)
+    ComesBack made.design.fabric names.base (with_outputs stored files)

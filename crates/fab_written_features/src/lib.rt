@@ -1,8 +1,9 @@
-//! The laws of lists of features that commands wrote: `bits` makes of BASE.fasm the bytes of BASE.bit, and of what `features` wrote the bits that it was
-//! made of. The functions do nothing: their contracts are laws.
+//! The laws of lists of features that commands wrote: `bits` makes of BASE.fasm the bytes of BASE.bit, and of what `features` wrote bits by which all is
+//! driven as by those of the bitstream.
 #![tactic(auto)]
 
 ghost use Rattle.fab_written_features.specs.Laws.{
+  AssembledBitstreamsComeBack,
   AssembledFeaturesAreTheirBits,
   FeaturesGiveBitsBack,
   FlowBitstreamsComeBack,
@@ -29,7 +30,8 @@ pub fn spelled_features_are_written()
     ensures { SpelledFeaturesAreWritten }
 {}
 
-/// Of BASE.fasm of an assembly or of a flow, `bits` refuses nothing, where the file can be handed out, and makes the bytes of BASE.bit.
+/// With a file that spells the same fabric, `bits` refuses nothing of BASE.fasm of an assembly or of a flow, where it can be handed out, and makes the bytes
+/// that were stored as BASE.bit.
 pub fn written_features_are_their_bits()
     ensures assemblies { AssembledFeaturesAreTheirBits }
     ensures flows { FlowFeaturesAreTheirBits }
@@ -39,12 +41,15 @@ pub fn written_features_are_their_bits()
     legal_designs_are_spelled();
 }
 
-/// Of what `features` wrote, `bits` refuses nothing, where the file can be handed out, and makes bits by which all is driven as by those of the bitstream.
-/// Where no select value of these is outside the pairs of its output, as in the bitstream of a flow, it makes the bytes of the bitstream.
+/// With a file that spells the same fabric, `bits` refuses nothing of what `features` wrote, where it can be handed out, and makes bits by which each BEL is
+/// configured and each wire driven as by those of the bitstream. Where no select value of these is outside the pairs of its output, it makes the bytes of
+/// the bitstream; so it does of BASE.bit of an assembly or of a flow.
 pub fn features_give_bits_back()
     ensures any { FeaturesGiveBitsBack }
+    ensures assemblies { AssembledBitstreamsComeBack }
     ensures flows { FlowBitstreamsComeBack }
 {
+    bit_maps_are_one();
     bit_maps_select_inputs();
     spelled_bits_are_said();
     spelled_pairs_stand_once();
