@@ -14,10 +14,10 @@ use Rattle.fab_implementation.specs.Plain.{Pad, PlainImplementation}
 use Rattle.fab_legal.specs.WellMade.{IsWellMadePacked, PackedIsWellMade}
 use Rattle.fab_legal.specs.Legal.{IsLegal}
 use Rattle.fab_state.specs.Plain.{PlainState}
-use Rattle.fab_settling.specs.fab_fabric_text.specs.Texts.{IsFabricText}
-use Rattle.fab_settling.specs.fab_use.specs.Registers.{design_state}
-use Rattle.fab_settling.specs.fab_use.specs.Configuring.{Configures}
-use Rattle.fab_settling.specs.fab_use.specs.Headline.{RunsDesign, LegalDesignsRun}
+use Rattle.fab_settling.specs.fab_fabric_text_Texts.{IsFabricText}
+use Rattle.fab_settling.specs.fab_use_Registers.{design_state}
+use Rattle.fab_settling.specs.fab_use_Configuring.{Configures}
+use Rattle.fab_settling.specs.fab_use_Headline.{RunsDesign, LegalDesignsRun}
 use Rattle.fab_settling.specs.Settling.{SettlesDesign, LegalDesignsSettle}
 
 -- a netlist is packed where there is a site for each cell and each port

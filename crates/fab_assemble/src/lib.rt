@@ -6,4 +6,4 @@ mod assembly;
 mod state;
 
 pub use assembly::{Assembled, assemble};
-pub use fab_features;
+pub use fab_features::{bits_of_features, features_of_bits};

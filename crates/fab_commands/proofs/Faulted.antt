@@ -8,20 +8,20 @@ use Rattle.fab_desk.specs.Files.{Map}
 use Rattle.fab_files.specs.Files.{refuses}
 use Rattle.fab_outputs.specs.Storing.{IsDone}
 use Rattle.fab_outputs.specs.Ending.{IsRefused, HasCause, HasSearchCause}
-use Rattle.fab_sampling.specs.fab_flow.specs.Assembling.{assembly_files}
-use Rattle.fab_sampling.specs.fab_flow.specs.BitFeatures.{features_files}
-use Rattle.fab_sampling.specs.fab_flow.specs.Bits.{bits_files}
-use Rattle.fab_sampling.specs.fab_flow.specs.Flowing.{flow_files, FailsToFlow}
-use Rattle.fab_sampling.specs.fab_flow.specs.Mapping.{mapping_files, FailsToMap}
-use Rattle.fab_sampling.specs.fab_flow.proofs.AssembledOnce as assembling
-use Rattle.fab_sampling.specs.fab_flow.proofs.BitFeaturesOnce as features
-use Rattle.fab_sampling.specs.fab_flow.proofs.BitsOnce as bits
-use Rattle.fab_sampling.specs.fab_flow.proofs.FlowedOnce.{one_flow_number, flow_not_both}
-use Rattle.fab_sampling.specs.fab_flow.proofs.MappedOnce as mapping
-use Rattle.fab_sampling.specs.fab_flow.proofs.Once as generating
-use Rattle.fab_sampling.specs.fab_simulate.specs.Simulating.{simulation_files}
-use Rattle.fab_sampling.specs.fab_simulate.proofs.Behind.{ready_of}
-use Rattle.fab_sampling.specs.fab_simulate.proofs.SimulatedOnce as simulating
+use Rattle.fab_sampling.specs.fab_flow_Assembling.{assembly_files}
+use Rattle.fab_sampling.specs.fab_flow_BitFeatures.{features_files}
+use Rattle.fab_sampling.specs.fab_flow_Bits.{bits_files}
+use Rattle.fab_sampling.specs.fab_flow_Flowing.{flow_files, FailsToFlow}
+use Rattle.fab_sampling.specs.fab_flow_Mapping.{mapping_files, FailsToMap}
+use Rattle.fab_sampling.proofs.fab_flow_AssembledOnce as assembling
+use Rattle.fab_sampling.proofs.fab_flow_BitFeaturesOnce as features
+use Rattle.fab_sampling.proofs.fab_flow_BitsOnce as bits
+use Rattle.fab_sampling.proofs.fab_flow_FlowedOnce.{one_flow_number, flow_not_both}
+use Rattle.fab_sampling.proofs.fab_flow_MappedOnce as mapping
+use Rattle.fab_sampling.proofs.fab_flow_Once as generating
+use Rattle.fab_sampling.specs.fab_simulate_Simulating.{simulation_files}
+use Rattle.fab_sampling.proofs.fab_simulate_Behind.{ready_of}
+use Rattle.fab_sampling.proofs.fab_simulate_SimulatedOnce as simulating
 use Rattle.fab_designs.specs.Designs.{design_files}
 use Rattle.fab_list_files.proofs.Once.{one_refusal, not_both}
 use Rattle.fab_words.specs.Arguments.{IsUsage}

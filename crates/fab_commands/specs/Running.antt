@@ -10,14 +10,14 @@ use Rattle.fab_desk.specs.Files.{Map, PutsPart}
 use Rattle.fab_files.specs.Files.{Event, refuses}
 use Rattle.fab_designs.specs.Designs.{design_files}
 use Rattle.fab_outputs.specs.Storing.{PlainOutput, IsDone, Leaves}
-use Rattle.fab_sampling.specs.fab_flow.specs.Assembling.{assembly_files, MakesAssembly, MeetsAssembly, IsReadyToAssemble, HasAssembleCause, assemble_refusals}
-use Rattle.fab_sampling.specs.fab_flow.specs.BitFeatures.{features_files, MakesFeatures, MeetsBitFeatures, IsReadyForFeatures, HasFeaturesCause, features_refusals}
-use Rattle.fab_sampling.specs.fab_flow.specs.Bits.{bits_files, MakesBits, MeetsBits, IsReadyForBits, HasBitsCause, bits_refusals}
-use Rattle.fab_sampling.specs.fab_flow.specs.Generating.{MakesFabric, MeetsGenerate, IsReadyToGenerate, HasGenerateCause, generate_refusals}
-use Rattle.fab_sampling.specs.fab_flow.specs.Flowing.{flow_files, MakesFlow, MeetsFlow, IsReadyToFlow, HasFlowCause, flow_refusals}
-use Rattle.fab_sampling.specs.fab_flow.specs.Mapping.{mapping_files, MakesMapping, MeetsMapping, IsReadyToMap, HasMappingCause, map_refusals}
-use Rattle.fab_sampling.specs.fab_flow.specs.Matrix.{MakesMatrix, IsReadyForMatrix, HasMatrixCause, matrix_refusals}
-use Rattle.fab_sampling.specs.fab_simulate.specs.Simulating.{simulation_files, MakesTrace, MeetsSimulation, IsReadyToSimulate, HasSimulateCause, simulate_refusals}
+use Rattle.fab_sampling.specs.fab_flow_Assembling.{assembly_files, MakesAssembly, MeetsAssembly, IsReadyToAssemble, HasAssembleCause, assemble_refusals}
+use Rattle.fab_sampling.specs.fab_flow_BitFeatures.{features_files, MakesFeatures, MeetsBitFeatures, IsReadyForFeatures, HasFeaturesCause, features_refusals}
+use Rattle.fab_sampling.specs.fab_flow_Bits.{bits_files, MakesBits, MeetsBits, IsReadyForBits, HasBitsCause, bits_refusals}
+use Rattle.fab_sampling.specs.fab_flow_Generating.{MakesFabric, MeetsGenerate, IsReadyToGenerate, HasGenerateCause, generate_refusals}
+use Rattle.fab_sampling.specs.fab_flow_Flowing.{flow_files, MakesFlow, MeetsFlow, IsReadyToFlow, HasFlowCause, flow_refusals}
+use Rattle.fab_sampling.specs.fab_flow_Mapping.{mapping_files, MakesMapping, MeetsMapping, IsReadyToMap, HasMappingCause, map_refusals}
+use Rattle.fab_sampling.specs.fab_flow_Matrix.{MakesMatrix, IsReadyForMatrix, HasMatrixCause, matrix_refusals}
+use Rattle.fab_sampling.specs.fab_simulate_Simulating.{simulation_files, MakesTrace, MeetsSimulation, IsReadyToSimulate, HasSimulateCause, simulate_refusals}
 use Rattle.fab_sampling.specs.Sampling.{IsSummary}
 use Rattle.fab_list_files.specs.Sides.{MeetsPairs}
 use Rattle.fab_words.specs.declared.job.Job.{Job}

@@ -9,11 +9,10 @@ ghost use Rattle.fab_commands.specs.Running.{StandsBefore, WriteFailed};
 use fab_base::{Fault, Memory, Name, Status};
 use fab_desk::{Desk, Sink, SinkFault};
 use fab_progress::Progress;
-use fab_sampling::fab_flow::{
-    do_assemble, do_bits, do_features, do_flow, do_generate, do_map, do_matrix,
+use fab_sampling::{
+    do_assemble, do_bits, do_features, do_flow, do_generate, do_map, do_matrix, do_simulate,
+    summary,
 };
-use fab_sampling::fab_simulate::do_simulate;
-use fab_sampling::summary;
 use fab_words::{Job, parse};
 use std::alloc::Global;
 

@@ -6,8 +6,8 @@ use Rattle.fab_systems.specs.Ternary.{Tern, no, yes, unknown}
 use Rattle.fab_ternary.specs.declared.Tern.{Tern as Kept}
 use Rattle.fab_ternary.specs.declared.Tern.TheVariants.{No, Yes, Open}
 use Rattle.fab_ternary.specs.Terns.{plain_tern}
-use Rattle.fab_solutions.specs.fab_tern.specs.Operators.{agreed, evens, odds, entry}
-use Rattle.fab_solutions.specs.fab_tern.specs.Shown.{first_terns}
+use Rattle.fab_solutions.specs.fab_tern_Operators.{agreed, evens, odds, entry}
+use Rattle.fab_solutions.specs.fab_tern_Shown.{first_terns}
 
 evens_first : (n : ℕ) (f : ℕ → Tern) → evens (first_terns (2 * n) f) ≡ first_terns n (λ k. f (2 * k))
 evens_first zero f = refl

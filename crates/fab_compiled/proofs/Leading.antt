@@ -2,7 +2,7 @@
 use Rattle.std.proofs.Common.{◌≡◌, ℕ, zero, suc, ◌+◌, ◌-◌, ◌<◌, ◌≤◌, Bool, true, false, List, [], ◌∷◌, ◌++◌, length, slice_get, slice_index, Some, sym, ap, ◌∙◌, subst, arith}
 use Rattle.fab_systems.specs.Ternary.{no, yes, known, IsBelow}
 use Rattle.fab_systems.specs.Ternary.{Tern as PlainTern}
-use Rattle.fab_solutions.specs.fab_tern.specs.Operators.{tern_at, one_of}
+use Rattle.fab_solutions.specs.fab_tern_Operators.{tern_at, one_of}
 use Rattle.fab_ternary.specs.declared.Tern.{Tern}
 use Rattle.fab_solutions.proofs.Orders.{under_at}
 use Rattle.fab_compiled.specs.declared.leads.Lead.{Lead}

@@ -7,3 +7,6 @@ pub mod Picking
 pub mod Compiling
 pub mod Placed
 pub mod Evaluated
+pub use Rattle.fab_equations.proofs.Numbering as fab_equations_Numbering
+pub use Rattle.fab_solutions.proofs.Demanded as fab_solutions_Demanded
+pub use Rattle.fab_solutions.proofs.Orders as fab_solutions_Orders

@@ -3,8 +3,8 @@ use Rattle.std.proofs.Common.{◌≡◌, ℕ, suc, ◌+◌, ◌-◌, ◌*◌, �
 use Rattle.std.proofs.lemmas.List.{drop_more, length-drop}
 use Rattle.std.proofs.Math.ListN.{drop_of_length-le}
 use Rattle.fab_systems.specs.Ternary.{no, yes, unknown, Tern as PlainTern}
-use Rattle.fab_solutions.specs.fab_tern.specs.Operators.{tern_at, agreed, evens, odds, entry}
-use Rattle.fab_solutions.specs.fab_tern.specs.Shown.{first_terns}
+use Rattle.fab_solutions.specs.fab_tern_Operators.{tern_at, agreed, evens, odds, entry}
+use Rattle.fab_solutions.specs.fab_tern_Shown.{first_terns}
 use Rattle.fab_ternary.specs.declared.Tern.{Tern}
 use Rattle.fab_compiled.specs.declared.leads.Lead.{Lead}
 use Rattle.fab_compiled.specs.declared.leads.Lead.TheVariants.{Known, Point, Own, Unmarked}

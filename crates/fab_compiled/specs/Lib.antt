@@ -5,8 +5,5 @@ pub mod Leading
 pub mod Compiling
 pub mod Values
 pub mod inner
-pub use Rattle.fab_solutions.specs.fab_tern
-pub use Rattle.fab_values
-pub use Rattle.fab_equations
-pub use Rattle.fab_solutions.specs.fab_load_runs
-pub use Rattle.fab_solutions
+pub use Rattle.fab_solutions.specs.Solutions as fab_solutions_Solutions
+pub use Rattle.fab_solutions.specs.fab_tern_Shown as fab_tern_Shown

@@ -2,8 +2,8 @@
 use Rattle.std.specs.Prelude.{◌≡◌, ℕ, ◌+◌, ◌^◌, ◌<◌, ◌≤◌, List, [], ◌∷◌, ◌++◌, map, length}
 use Rattle.fab_syntax.specs.declared.tree.Op.TheVariants as ops
 use Rattle.fab_systems.specs.Ternary.{Tern, known}
-use Rattle.fab_solutions.specs.fab_tern.specs.Operators.{tern_at, inverse, tern_operated, one_of, entry}
-use Rattle.fab_solutions.specs.fab_tern.specs.Shown.{first_terns}
+use Rattle.fab_solutions.specs.fab_tern_Operators.{tern_at, inverse, tern_operated, one_of, entry}
+use Rattle.fab_solutions.specs.fab_tern_Shown.{first_terns}
 use Rattle.fab_compiled.specs.declared.tree.Tree.{Tree, Const, Bits, Pick', Cat', Not', And', Or', Xor', Equal', Minus', Cond'}
 
 abbrev pub tree_width : Tree → ℕ

@@ -2,9 +2,9 @@
 
 ghost use Rattle.std.specs.Prelude.{◌≡◌, ◌+◌, ◌*◌, ◌^◌, ◌<◌, ◌≤◌, length, map, take};
 ghost use Rattle.fab_systems.specs.Ternary.{known as known_tern};
-ghost use Rattle.fab_solutions.specs.fab_meaning.specs.Value.{bit_at};
-ghost use Rattle.fab_solutions.specs.fab_tern.specs.Operators.{tern_at, entry as entry_of};
-ghost use Rattle.fab_solutions.specs.fab_tern.specs.Shown.{first_terns};
+ghost use Rattle.fab_solutions.specs.fab_meaning_Value.{bit_at};
+ghost use Rattle.fab_solutions.specs.fab_tern_Operators.{tern_at, entry as entry_of};
+ghost use Rattle.fab_solutions.specs.fab_tern_Shown.{first_terns};
 ghost use Rattle.fab_ternary.specs.Terns.{plain_tern};
 ghost use Rattle.fab_compiled.specs.Terns.{seen, IsView};
 ghost use Rattle.fab_compiled.specs.Trees.{tree_width, IsMade};

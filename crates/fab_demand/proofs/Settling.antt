@@ -8,8 +8,8 @@ use Rattle.fab_systems.specs.System.{AreListed}
 use Rattle.fab_systems.specs.Ternary.{unknown, IsBelow, IsMonotone, Tern as PlainTern}
 use Rattle.fab_systems.proofs.Order.{below_self, below_equal, below_both}
 use Rattle.fab_ternary.specs.declared.Tern.{Tern}
-use Rattle.fab_network.specs.fab_solutions.proofs.Demanded.{demanded_least}
-use Rattle.fab_network.specs.fab_solutions.proofs.Orders.{through_grows}
+use Rattle.fab_network.proofs.fab_solutions_Demanded.{demanded_least}
+use Rattle.fab_network.proofs.fab_solutions_Orders.{through_grows}
 use Rattle.fab_compiled.specs.declared.tree.Tree.{Tree}
 use Rattle.fab_compiled.specs.Leading.{PointTerns, AreAbove, IsMarked}
 use Rattle.fab_compiled.specs.Terns.{seen}

@@ -2,3 +2,4 @@ pub mod Causes
 pub mod Parts
 pub mod Judged
 pub mod DataPorts
+pub use Rattle.fab_impl.proofs.WireNames as fab_impl_WireNames

@@ -1,4 +1,5 @@
 pub mod Designs
 pub mod Implementations
-pub use Rattle.fab_impl
-pub use Rattle.fab_read
+pub use Rattle.fab_impl.specs.Lines as fab_impl_Lines
+pub use Rattle.fab_impl.specs.Names as fab_impl_Names
+pub use Rattle.fab_impl.specs.Spelled as fab_impl_Spelled

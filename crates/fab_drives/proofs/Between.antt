@@ -1,20 +1,20 @@
 -- What a settled assignment shows at the border of a tile in a fabric's text.
 use Rattle.std.proofs.Common.{◌≡◌, ℕ, ◌<◌, false, List, [], sym, subst, ◌∙◌, Some, Contains, slice_get}
 use Rattle.fab_syntax.specs.Plain.{PlainModule, variable}
-use Rattle.fab_fabric_text.specs.fab_meaning.specs.Points.{Point, point}
-use Rattle.fab_fabric_text.specs.fab_meaning.specs.Settled.{Assignment, names_at}
-use Rattle.fab_fabric_text.specs.fab_meaning.specs.Value.{value, bit_at}
-use Rattle.fab_fabric_text.specs.fab_prim.specs.Ports.{top_name, top_inputs}
-use Rattle.fab_fabric_text.specs.fab_model.specs.declared.tiles.Bel.{Bel}
-use Rattle.fab_fabric_text.specs.fab_model.specs.Rows.{is_jump}
-use Rattle.fab_fabric_text.specs.fab_model.specs.Tiles.{PlainTile}
-use Rattle.fab_fabric_text.specs.fab_model.specs.Grid.{PlainFabric, tile_at}
-use Rattle.fab_fabric_text.specs.fab_model.specs.Cascade.{PlacedRow, previous_row}
-use Rattle.fab_fabric_text.specs.fab_model.proofs.Crossings.{IsPlaced}
-use Rattle.fab_fabric_text.specs.fab_fabric.specs.Names.{place_name}
-use Rattle.fab_fabric_text.specs.fab_gen_tile.specs.Names.{tile_module_name, begin_name, end_name, pad_name}
-use Rattle.fab_fabric_text.specs.fab_gen_tile.specs.Borders.{side_border}
-use Rattle.fab_fabric_text.specs.fab_gen_tile.specs.TileModule.{tile_module}
+use Rattle.fab_fabric_text.specs.fab_meaning_Points.{Point, point}
+use Rattle.fab_fabric_text.specs.fab_meaning_Settled.{Assignment, names_at}
+use Rattle.fab_fabric_text.specs.fab_meaning_Value.{value, bit_at}
+use Rattle.fab_fabric_text.specs.fab_prim_Ports.{top_name, top_inputs}
+use Rattle.fab_fabric_text.specs.fab_model_tiles_Bel.{Bel}
+use Rattle.fab_fabric_text.specs.fab_model_Rows.{is_jump}
+use Rattle.fab_fabric_text.specs.fab_model_Tiles.{PlainTile}
+use Rattle.fab_fabric_text.specs.fab_model_Grid.{PlainFabric, tile_at}
+use Rattle.fab_fabric_text.specs.fab_model_Cascade.{PlacedRow, previous_row}
+use Rattle.fab_fabric_text.proofs.fab_model_Crossings.{IsPlaced}
+use Rattle.fab_fabric_text.specs.fab_fabric_Names.{place_name}
+use Rattle.fab_fabric_text.specs.fab_gen_tile_Names.{tile_module_name, begin_name, end_name, pad_name}
+use Rattle.fab_fabric_text.specs.fab_gen_tile_Borders.{side_border}
+use Rattle.fab_fabric_text.specs.fab_gen_tile_TileModule.{tile_module}
 use Rattle.fab_fabric_text.specs.Names.{pad_port_name, begin_wire_name}
 use Rattle.fab_fabric_text.specs.Top.{end_value, tile_joins, top_module}
 use Rattle.fab_tile_drives.specs.Stands.{IsSettledOnDeclared}

@@ -3,20 +3,20 @@ use Rattle.std.proofs.Common.{◌≡◌, ℕ, zero, suc, ◌+◌, ◌-◌, ◌<�
 use Rattle.std.specs.Option.{option_map_or}
 use Rattle.std.proofs.lemmas.Bool.{cases_Bool, ltb-true}
 use Rattle.fab_syntax.specs.Plain.{PlainModule}
-use Rattle.fab_fabric_text.specs.fab_meaning.specs.Points.{Point, point}
-use Rattle.fab_fabric_text.specs.fab_meaning.specs.Settled.{Assignment, names_at}
-use Rattle.fab_fabric_text.specs.fab_meaning.specs.Value.{value, bit_at}
-use Rattle.fab_fabric_text.specs.fab_model.specs.declared.tiles.WireRow.{WireRow}
-use Rattle.fab_fabric_text.specs.fab_model.specs.Rows.{is_jump, is_named, border_bits, IsWireRow}
-use Rattle.fab_fabric_text.specs.fab_model.specs.Tiles.{PlainTile}
-use Rattle.fab_fabric_text.specs.fab_model.specs.Grid.{PlainFabric, tile_at, AreRows}
-use Rattle.fab_fabric_text.specs.fab_model.specs.Cascade.{PlacedRow, previous_row, passing_bits, walk_from, opposite}
-use Rattle.fab_fabric_text.specs.fab_model.specs.Wires.{source_of}
-use Rattle.fab_fabric_text.specs.fab_model.specs.Drive.{PlainBits, joined_drive}
-use Rattle.fab_fabric_text.specs.fab_model.specs.Joins.{comes, goes}
-use Rattle.fab_fabric_text.specs.fab_model.proofs.Crossings.{IsPlaced, standing_is_wire_row, partner_is, goes_from}
-use Rattle.fab_fabric_text.specs.fab_gen_tile.specs.Names.{begin_name, end_name}
-use Rattle.fab_fabric_text.specs.fab_gen_tile.specs.Borders.{side_border}
+use Rattle.fab_fabric_text.specs.fab_meaning_Points.{Point, point}
+use Rattle.fab_fabric_text.specs.fab_meaning_Settled.{Assignment, names_at}
+use Rattle.fab_fabric_text.specs.fab_meaning_Value.{value, bit_at}
+use Rattle.fab_fabric_text.specs.fab_model_tiles_WireRow.{WireRow}
+use Rattle.fab_fabric_text.specs.fab_model_Rows.{is_jump, is_named, border_bits, IsWireRow}
+use Rattle.fab_fabric_text.specs.fab_model_Tiles.{PlainTile}
+use Rattle.fab_fabric_text.specs.fab_model_Grid.{PlainFabric, tile_at, AreRows}
+use Rattle.fab_fabric_text.specs.fab_model_Cascade.{PlacedRow, previous_row, passing_bits, walk_from, opposite}
+use Rattle.fab_fabric_text.specs.fab_model_Wires.{source_of}
+use Rattle.fab_fabric_text.specs.fab_model_Drive.{PlainBits, joined_drive}
+use Rattle.fab_fabric_text.specs.fab_model_Joins.{comes, goes}
+use Rattle.fab_fabric_text.proofs.fab_model_Crossings.{IsPlaced, standing_is_wire_row, partner_is, goes_from}
+use Rattle.fab_fabric_text.specs.fab_gen_tile_Names.{begin_name, end_name}
+use Rattle.fab_fabric_text.specs.fab_gen_tile_Borders.{side_border}
 use Rattle.fab_fabric_text.specs.Top.{end_value}
 use Rattle.fab_tile_drives.specs.Stands.{wire_point, IsSettledOnDeclared}
 use Rattle.fab_tile_drives.specs.Tiles.{TileWorks, begin_value}

@@ -2,10 +2,10 @@
 use Rattle.std.proofs.Common.{◌≡◌, ℕ, List, Some}
 use Rattle.std.proofs.lemmas.List.Elements.{All-weaker, All-contains}
 use Rattle.fab_syntax.specs.Plain.{PlainModule}
-use Rattle.fab_fabric_text.specs.fab_model.specs.Tiles.{PlainTile, IsTile}
-use Rattle.fab_fabric_text.specs.fab_model.specs.Grid.{PlainFabric, tile_at, AllRows, AreRows}
-use Rattle.fab_fabric_text.specs.fab_fabric.specs.Fabric.{IsFabric, AreTiles}
-use Rattle.fab_fabric_text.specs.fab_gen_loader.specs.Loader.{loader_module_name}
+use Rattle.fab_fabric_text.specs.fab_model_Tiles.{PlainTile, IsTile}
+use Rattle.fab_fabric_text.specs.fab_model_Grid.{PlainFabric, tile_at, AllRows, AreRows}
+use Rattle.fab_fabric_text.specs.fab_fabric_Fabric.{IsFabric, AreTiles}
+use Rattle.fab_fabric_text.specs.fab_gen_loader_Loader.{loader_module_name}
 use Rattle.fab_fabric_text.specs.Text.{fabric_text}
 use Rattle.fab_tile_drives.specs.Tiles.{TileWorks}
 use Rattle.fab_tile_drives.proofs.Together.{tile_works}

@@ -7,17 +7,17 @@ use Rattle.std.proofs.lemmas.Slice.Eq.{bytes_eq-Decides}
 use Rattle.std.proofs.lemmas.List.Elements.{All-nil, All-cons, All-head, All-tail, All-append, All-map, All-weaker, Contains-append_right}
 use Rattle.fab_syntax.specs.declared.tree.Shape.TheVariants.{Scalar, Vector}
 use Rattle.fab_syntax.specs.Plain.{PlainItem, wire, reg, assign, latch, clocked, instance}
-use Rattle.fab_fabric_text.specs.fab_meaning.specs.Points.{Found, instance_named}
-use Rattle.fab_fabric_text.specs.fab_model.specs.Rows.{is_jump}
-use Rattle.fab_fabric_text.specs.fab_model.specs.declared.tiles.WireRow.{WireRow}
-use Rattle.fab_fabric_text.specs.fab_model.specs.Tiles.{PlainTile, counted}
-use Rattle.fab_fabric_text.specs.fab_model.specs.Grid.{PlainFabric, tile_at}
-use Rattle.fab_fabric_text.specs.fab_fabric.specs.Names.{place_name}
-use Rattle.fab_fabric_text.specs.fab_fabric.specs.Fabric.{IsFabric}
-use Rattle.fab_fabric_text.specs.fab_gen_tile.specs.Names.{tile_module_name}
-use Rattle.fab_fabric_text.specs.fab_gen_tile.specs.Borders.{side_border}
+use Rattle.fab_fabric_text.specs.fab_meaning_Points.{Found, instance_named}
+use Rattle.fab_fabric_text.specs.fab_model_Rows.{is_jump}
+use Rattle.fab_fabric_text.specs.fab_model_tiles_WireRow.{WireRow}
+use Rattle.fab_fabric_text.specs.fab_model_Tiles.{PlainTile, counted}
+use Rattle.fab_fabric_text.specs.fab_model_Grid.{PlainFabric, tile_at}
+use Rattle.fab_fabric_text.specs.fab_fabric_Names.{place_name}
+use Rattle.fab_fabric_text.specs.fab_fabric_Fabric.{IsFabric}
+use Rattle.fab_fabric_text.specs.fab_gen_tile_Names.{tile_module_name}
+use Rattle.fab_fabric_text.specs.fab_gen_tile_Borders.{side_border}
 use Rattle.fab_fabric_text.specs.Names.{loader_instance_name, column_strobe_name, begin_wire_name}
-use Rattle.fab_fabric_text.specs.fab_gen_loader.specs.Loader.{address_port, strobe_port, row_port}
+use Rattle.fab_fabric_text.specs.fab_gen_loader_Loader.{address_port, strobe_port, row_port}
 use Rattle.fab_fabric_text.specs.Places.{PlacedTile, placed_tiles}
 use Rattle.fab_fabric_text.specs.Top.{loader_wires, loader_instance, column_strobes, row_begin_wires, tile_begin_wires, tile_joins, tile_instance, top_items}
 use Rattle.fab_tile_drives.proofs.Endings.{all_flat_map, all_counted}

@@ -10,20 +10,20 @@ use Rattle.fab_kinds.specs.declared.kind.Kind.{Kind}
 use Rattle.fab_kinds.specs.declared.kind.Kind.TheVariants as kinds
 use Rattle.fab_syntax.specs.Plain.{PlainModule}
 use Rattle.fab_syntax.specs.Declarations.{module_named}
-use Rattle.fab_fabric_text.specs.fab_meaning.specs.Points.{last_of, module_at}
-use Rattle.fab_fabric_text.specs.fab_prim.specs.Modules.{module_name, module_of_kind}
-use Rattle.fab_fabric_text.specs.fab_model.specs.declared.tiles.Bel.{Bel}
-use Rattle.fab_fabric_text.specs.fab_model.specs.Tiles.{PlainTile, tile_bits}
-use Rattle.fab_fabric_text.specs.fab_model.specs.Grid.{PlainFabric, tile_at, numbered_type}
-use Rattle.fab_fabric_text.specs.fab_fabric.specs.Fabric.{IsFabric}
-use Rattle.fab_fabric_text.specs.fab_gen_tile.specs.Names.{config_module_name, matrix_module_name, tile_module_name}
-use Rattle.fab_fabric_text.specs.fab_gen_tile.specs.TileModule.{tile_module, matrix_output_names}
-use Rattle.fab_fabric_text.specs.fab_gen_tile.specs.ConfigModule.{config_module}
-use Rattle.fab_fabric_text.specs.fab_gen_tile.specs.MatrixModule.{matrix_module}
-use Rattle.fab_fabric_text.specs.fab_gen_loader.specs.Loader.{loader_module_name}
+use Rattle.fab_fabric_text.specs.fab_meaning_Points.{last_of, module_at}
+use Rattle.fab_fabric_text.specs.fab_prim_Modules.{module_name, module_of_kind}
+use Rattle.fab_fabric_text.specs.fab_model_tiles_Bel.{Bel}
+use Rattle.fab_fabric_text.specs.fab_model_Tiles.{PlainTile, tile_bits}
+use Rattle.fab_fabric_text.specs.fab_model_Grid.{PlainFabric, tile_at, numbered_type}
+use Rattle.fab_fabric_text.specs.fab_fabric_Fabric.{IsFabric}
+use Rattle.fab_fabric_text.specs.fab_gen_tile_Names.{config_module_name, matrix_module_name, tile_module_name}
+use Rattle.fab_fabric_text.specs.fab_gen_tile_TileModule.{tile_module, matrix_output_names}
+use Rattle.fab_fabric_text.specs.fab_gen_tile_ConfigModule.{config_module}
+use Rattle.fab_fabric_text.specs.fab_gen_tile_MatrixModule.{matrix_module}
+use Rattle.fab_fabric_text.specs.fab_gen_loader_Loader.{loader_module_name}
 use Rattle.fab_fabric_text.specs.Names.{top_module_name}
 use Rattle.fab_fabric_text.specs.Top.{top_module}
-use Rattle.fab_fabric_text.specs.fab_fabric.specs.Sites.{same_kind}
+use Rattle.fab_fabric_text.specs.fab_fabric_Sites.{same_kind}
 use Rattle.fab_fabric_text.specs.Text.{stands, standing_types, is_used, used_kinds, matrix_modules, config_modules, tile_modules, fabric_text}
 use Rattle.fab_tile_drives.proofs.Endings.{all_flat_map}
 use Rattle.fab_tile_drives.proofs.Members.{contains_first, contains_map, contains_at}

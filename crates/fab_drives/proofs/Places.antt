@@ -5,11 +5,11 @@ use Rattle.std.specs.Char.{digit_value}
 use Rattle.std.specs.Str.Parse.{AllDigits}
 use Rattle.std.proofs.lemmas.Bool.{cases_Bool, and_parts, ltb-true}
 use Rattle.std.proofs.lemmas.Fmt.{decimal_is_IsNumeral, decimal_injective}
-use Rattle.fab_fabric_text.specs.fab_model.specs.Tiles.{PlainTile, counted}
-use Rattle.fab_fabric_text.specs.fab_model.specs.Grid.{PlainFabric, tile_at}
-use Rattle.fab_fabric_text.specs.fab_model.proofs.Steps.{map_gives}
-use Rattle.fab_fabric_text.specs.fab_fabric.specs.Names.{place_name}
-use Rattle.fab_fabric_text.specs.fab_fabric.specs.Fabric.{IsFabric}
+use Rattle.fab_fabric_text.specs.fab_model_Tiles.{PlainTile, counted}
+use Rattle.fab_fabric_text.specs.fab_model_Grid.{PlainFabric, tile_at}
+use Rattle.fab_fabric_text.proofs.fab_model_Steps.{map_gives}
+use Rattle.fab_fabric_text.specs.fab_fabric_Names.{place_name}
+use Rattle.fab_fabric_text.specs.fab_fabric_Fabric.{IsFabric}
 use Rattle.fab_fabric_text.specs.Places.{PlacedTile, placed_at, column_tiles, placed_tiles}
 use Rattle.fab_tile_drives.proofs.Endings.{all_flat_map, all_counted}
 use Rattle.fab_tile_drives.proofs.Members.{contains_counted}

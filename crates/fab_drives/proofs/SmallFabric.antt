@@ -3,15 +3,15 @@ use Rattle.std.proofs.Common.{◌≡◌, ◌≢◌, ℕ, List, [], ◌∷◌, �
 use Rattle.std.proofs.lemmas.Fmt.{decimal_digit}
 use Rattle.std.proofs.lemmas.List.Elements.{All-weaker, All-from_recursion}
 use Rattle.fab_syntax.specs.Plain.{PlainModule}
-use Rattle.fab_fabric_text.specs.fab_meaning.specs.Points.{Point, point}
-use Rattle.fab_fabric_text.specs.fab_model.specs.Tiles.{IsTile, IsPair, bare_tile, counted}
-use Rattle.fab_fabric_text.specs.fab_model.specs.Wires.{source_of, dest_of, IsWire}
-use Rattle.fab_fabric_text.specs.fab_model.specs.Drive.{PlainBits, copy, drive}
-use Rattle.fab_fabric_text.specs.fab_fabric.specs.Sums.{sum_to}
-use Rattle.fab_fabric_text.specs.fab_fabric.specs.Fabric.{IsPlace, IsFabric, AreTiles, wire_count}
-use Rattle.fab_fabric_text.specs.fab_fabric.specs.Examples.{pads, lut, pad_rows, pad_bels, pad_pairs, lut_rows, lut_bels, lut_pairs}
-use Rattle.fab_fabric_text.specs.fab_fabric.proofs.Samples.{pads_tile, lut_tile, pad_pairs_fit, lut_pairs_fit, two_tiles_fabric, names_differ}
-use Rattle.fab_fabric_text.specs.fab_gen_loader.specs.Loader.{loader_module_name}
+use Rattle.fab_fabric_text.specs.fab_meaning_Points.{Point, point}
+use Rattle.fab_fabric_text.specs.fab_model_Tiles.{IsTile, IsPair, bare_tile, counted}
+use Rattle.fab_fabric_text.specs.fab_model_Wires.{source_of, dest_of, IsWire}
+use Rattle.fab_fabric_text.specs.fab_model_Drive.{PlainBits, copy, drive}
+use Rattle.fab_fabric_text.specs.fab_fabric_Sums.{sum_to}
+use Rattle.fab_fabric_text.specs.fab_fabric_Fabric.{IsPlace, IsFabric, AreTiles, wire_count}
+use Rattle.fab_fabric_text.specs.fab_fabric_Examples.{pads, lut, pad_rows, pad_bels, pad_pairs, lut_rows, lut_bels, lut_pairs}
+use Rattle.fab_fabric_text.proofs.fab_fabric_Samples.{pads_tile, lut_tile, pad_pairs_fit, lut_pairs_fit, two_tiles_fabric, names_differ}
+use Rattle.fab_fabric_text.specs.fab_gen_loader_Loader.{loader_module_name}
 use Rattle.fab_fabric_text.specs.Top.{top_module}
 use Rattle.fab_fabric_text.specs.Text.{fabric_text}
 use Rattle.fab_tile_drives.specs.Stands.{wire_point}

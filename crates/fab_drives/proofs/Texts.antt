@@ -2,14 +2,14 @@
 use Rattle.std.proofs.Common.{◌≡◌, ℕ, [], List, ap, ◌∙◌, Some}
 use Rattle.fab_syntax.specs.Plain.{PlainModule}
 use Rattle.fab_syntax.specs.Declarations.{module_named}
-use Rattle.fab_fabric_text.specs.fab_meaning.specs.Points.{instance_in, module_of, module_at}
-use Rattle.fab_fabric_text.specs.fab_model.specs.Tiles.{PlainTile}
-use Rattle.fab_fabric_text.specs.fab_model.specs.Grid.{PlainFabric, tile_at}
-use Rattle.fab_fabric_text.specs.fab_fabric.specs.Names.{place_name}
-use Rattle.fab_fabric_text.specs.fab_fabric.specs.Fabric.{IsFabric}
-use Rattle.fab_fabric_text.specs.fab_gen_tile.specs.Names.{tile_module_name}
-use Rattle.fab_fabric_text.specs.fab_gen_tile.specs.TileModule.{tile_module}
-use Rattle.fab_fabric_text.specs.fab_gen_loader.specs.Loader.{loader_module_name}
+use Rattle.fab_fabric_text.specs.fab_meaning_Points.{instance_in, module_of, module_at}
+use Rattle.fab_fabric_text.specs.fab_model_Tiles.{PlainTile}
+use Rattle.fab_fabric_text.specs.fab_model_Grid.{PlainFabric, tile_at}
+use Rattle.fab_fabric_text.specs.fab_fabric_Names.{place_name}
+use Rattle.fab_fabric_text.specs.fab_fabric_Fabric.{IsFabric}
+use Rattle.fab_fabric_text.specs.fab_gen_tile_Names.{tile_module_name}
+use Rattle.fab_fabric_text.specs.fab_gen_tile_TileModule.{tile_module}
+use Rattle.fab_fabric_text.specs.fab_gen_loader_Loader.{loader_module_name}
 use Rattle.fab_fabric_text.specs.Top.{top_module}
 use Rattle.fab_fabric_text.specs.Text.{fabric_text}
 use Rattle.fab_tile_drives.specs.Stands.{TileStands}

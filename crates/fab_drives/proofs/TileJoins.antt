@@ -3,18 +3,18 @@ use Rattle.std.proofs.Common.{◌≡◌, ℕ, ◌<◌, true, false, List, [], �
 use Rattle.std.specs.List.{flat_map, enumerate_from}
 use Rattle.std.proofs.lemmas.List.Elements.{Contains-append_left, Contains-append_right}
 use Rattle.fab_syntax.specs.Plain.{PlainJoin, variable}
-use Rattle.fab_fabric_text.specs.fab_meaning.specs.Runs.{user_clock_name}
-use Rattle.fab_fabric_text.specs.fab_prim.specs.Ports.{top_name, top_inputs, top_outputs}
-use Rattle.fab_fabric_text.specs.fab_model.specs.declared.tiles.WireRow.{WireRow}
-use Rattle.fab_fabric_text.specs.fab_model.specs.declared.tiles.Bel.{Bel}
-use Rattle.fab_fabric_text.specs.fab_model.specs.Rows.{is_jump}
-use Rattle.fab_fabric_text.specs.fab_model.specs.Tiles.{counted}
-use Rattle.fab_fabric_text.specs.fab_model.specs.Grid.{PlainFabric}
-use Rattle.fab_fabric_text.specs.fab_model.specs.Cascade.{previous_row}
-use Rattle.fab_fabric_text.specs.fab_gen_tile.specs.Names.{frame_data_name, frame_strobe_name, begin_name, end_name, pad_name, port_join, same_join}
-use Rattle.fab_fabric_text.specs.fab_gen_tile.specs.Borders.{side_border}
+use Rattle.fab_fabric_text.specs.fab_meaning_Runs.{user_clock_name}
+use Rattle.fab_fabric_text.specs.fab_prim_Ports.{top_name, top_inputs, top_outputs}
+use Rattle.fab_fabric_text.specs.fab_model_tiles_WireRow.{WireRow}
+use Rattle.fab_fabric_text.specs.fab_model_tiles_Bel.{Bel}
+use Rattle.fab_fabric_text.specs.fab_model_Rows.{is_jump}
+use Rattle.fab_fabric_text.specs.fab_model_Tiles.{counted}
+use Rattle.fab_fabric_text.specs.fab_model_Grid.{PlainFabric}
+use Rattle.fab_fabric_text.specs.fab_model_Cascade.{previous_row}
+use Rattle.fab_fabric_text.specs.fab_gen_tile_Names.{frame_data_name, frame_strobe_name, begin_name, end_name, pad_name, port_join, same_join}
+use Rattle.fab_fabric_text.specs.fab_gen_tile_Borders.{side_border}
 use Rattle.fab_fabric_text.specs.Names.{column_strobe_name, pad_port_name, begin_wire_name}
-use Rattle.fab_fabric_text.specs.fab_gen_loader.specs.Loader.{row_port}
+use Rattle.fab_fabric_text.specs.fab_gen_loader_Loader.{row_port}
 use Rattle.fab_fabric_text.specs.Places.{PlacedTile}
 use Rattle.fab_fabric_text.specs.Top.{end_value, numbered_row, row_joins, pad_joins, tile_joins}
 use Rattle.fab_tile_drives.proofs.Members.{contains_counted, contains_map}

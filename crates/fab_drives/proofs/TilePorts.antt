@@ -6,17 +6,17 @@ use Rattle.fab_kinds.specs.declared.kind.Kind.{Kind}
 use Rattle.fab_kinds.specs.declared.kind.Kind.TheVariants as kinds
 use Rattle.fab_syntax.specs.declared.tree.Port.{Port}
 use Rattle.fab_syntax.specs.Declarations.{is_input}
-use Rattle.fab_fabric_text.specs.fab_meaning.specs.Runs.{user_clock_name}
-use Rattle.fab_fabric_text.specs.fab_meaning.specs.Ports.{scalar}
-use Rattle.fab_fabric_text.specs.fab_prim.specs.Ports.{top_name, top_inputs, top_outputs}
-use Rattle.fab_fabric_text.specs.fab_model.specs.declared.tiles.WireRow.{WireRow}
-use Rattle.fab_fabric_text.specs.fab_model.specs.declared.tiles.Bel.{Bel}
-use Rattle.fab_fabric_text.specs.fab_model.specs.Rows.{is_jump}
-use Rattle.fab_fabric_text.specs.fab_model.specs.Tiles.{PlainTile, counted}
-use Rattle.fab_fabric_text.specs.fab_gen_tile.specs.Names.{frame_data_name, frame_strobe_name, vector, begin_name, end_name, pad_name}
-use Rattle.fab_fabric_text.specs.fab_gen_tile.specs.Borders.{side_border, border_ports}
-use Rattle.fab_fabric_text.specs.fab_gen_tile.specs.ConfigModule.{frame_ports}
-use Rattle.fab_fabric_text.specs.fab_gen_tile.specs.TileModule.{pad_ports, bels_ports, tile_ports}
+use Rattle.fab_fabric_text.specs.fab_meaning_Runs.{user_clock_name}
+use Rattle.fab_fabric_text.specs.fab_meaning_Ports.{scalar}
+use Rattle.fab_fabric_text.specs.fab_prim_Ports.{top_name, top_inputs, top_outputs}
+use Rattle.fab_fabric_text.specs.fab_model_tiles_WireRow.{WireRow}
+use Rattle.fab_fabric_text.specs.fab_model_tiles_Bel.{Bel}
+use Rattle.fab_fabric_text.specs.fab_model_Rows.{is_jump}
+use Rattle.fab_fabric_text.specs.fab_model_Tiles.{PlainTile, counted}
+use Rattle.fab_fabric_text.specs.fab_gen_tile_Names.{frame_data_name, frame_strobe_name, vector, begin_name, end_name, pad_name}
+use Rattle.fab_fabric_text.specs.fab_gen_tile_Borders.{side_border, border_ports}
+use Rattle.fab_fabric_text.specs.fab_gen_tile_ConfigModule.{frame_ports}
+use Rattle.fab_fabric_text.specs.fab_gen_tile_TileModule.{pad_ports, bels_ports, tile_ports}
 use Rattle.fab_tile_drives.proofs.Endings.{all_flat_map, all_counted}
 use Rattle.fab_tile_drives.proofs.Members.{contains_at, contains_counted, contains_map}
 use Rattle.fab_drives.proofs.Lists.{contains_flat, contains_numbered, all_of, all_if}

@@ -5,17 +5,17 @@ use Rattle.std.proofs.lemmas.List.Elements.{All-cons, All-append, All-map, Conta
 use Rattle.fab_syntax.specs.declared.tree.Shape.TheVariants.{Scalar, Vector}
 use Rattle.fab_syntax.specs.Plain.{wire}
 use Rattle.fab_syntax.specs.Declarations.{declared_width}
-use Rattle.fab_fabric_text.specs.fab_meaning.specs.Runs.{user_clock_name, clock_name}
-use Rattle.fab_fabric_text.specs.fab_meaning.specs.Ports.{scalar}
-use Rattle.fab_fabric_text.specs.fab_prim.specs.Ports.{top_name, top_inputs, top_outputs}
-use Rattle.fab_fabric_text.specs.fab_model.specs.declared.tiles.WireRow.{WireRow}
-use Rattle.fab_fabric_text.specs.fab_model.specs.declared.tiles.Bel.{Bel}
-use Rattle.fab_fabric_text.specs.fab_model.specs.Rows.{is_jump}
-use Rattle.fab_fabric_text.specs.fab_model.specs.Tiles.{PlainTile, counted}
-use Rattle.fab_fabric_text.specs.fab_model.specs.Grid.{PlainFabric, tile_at}
-use Rattle.fab_fabric_text.specs.fab_gen_tile.specs.Names.{vector}
-use Rattle.fab_fabric_text.specs.fab_gen_tile.specs.Borders.{side_border}
-use Rattle.fab_fabric_text.specs.fab_meaning.specs.Loading.{write_strobe_name, write_data_name}
+use Rattle.fab_fabric_text.specs.fab_meaning_Runs.{user_clock_name, clock_name}
+use Rattle.fab_fabric_text.specs.fab_meaning_Ports.{scalar}
+use Rattle.fab_fabric_text.specs.fab_prim_Ports.{top_name, top_inputs, top_outputs}
+use Rattle.fab_fabric_text.specs.fab_model_tiles_WireRow.{WireRow}
+use Rattle.fab_fabric_text.specs.fab_model_tiles_Bel.{Bel}
+use Rattle.fab_fabric_text.specs.fab_model_Rows.{is_jump}
+use Rattle.fab_fabric_text.specs.fab_model_Tiles.{PlainTile, counted}
+use Rattle.fab_fabric_text.specs.fab_model_Grid.{PlainFabric, tile_at}
+use Rattle.fab_fabric_text.specs.fab_gen_tile_Names.{vector}
+use Rattle.fab_fabric_text.specs.fab_gen_tile_Borders.{side_border}
+use Rattle.fab_fabric_text.specs.fab_meaning_Loading.{write_strobe_name, write_data_name}
 use Rattle.fab_fabric_text.specs.Names.{pad_port_name, column_strobe_name, begin_wire_name}
 use Rattle.fab_fabric_text.specs.Places.{PlacedTile, placed_tiles}
 use Rattle.fab_fabric_text.specs.Top.{pad_ports, tile_pads, top_ports, loader_wires, loader_instance, column_strobes, row_begin_wires, tile_begin_wires, tile_instance, top_items}

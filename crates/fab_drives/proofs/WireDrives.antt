@@ -6,24 +6,24 @@ use Rattle.std.proofs.lemmas.Bool.{cases_Bool, ltb-false}
 use Rattle.fab_bits.specs.Bits.{first_bits}
 use Rattle.fab_kinds.specs.Pins.{input_names, input_count, bit_count}
 use Rattle.fab_syntax.specs.Plain.{PlainModule}
-use Rattle.fab_fabric_text.specs.fab_meaning.specs.Points.{point}
-use Rattle.fab_fabric_text.specs.fab_meaning.specs.Settled.{Assignment}
-use Rattle.fab_fabric_text.specs.fab_model.specs.declared.tiles.WireRow.{WireRow}
-use Rattle.fab_fabric_text.specs.fab_model.specs.declared.tiles.Bel.{Bel}
-use Rattle.fab_fabric_text.specs.fab_model.specs.Rows.{is_jump, is_named, border_bits, source_bits, dest_bits}
-use Rattle.fab_fabric_text.specs.fab_model.specs.Tiles.{PlainTile, source_bit, bel_pin, is_matrix_output, bits_before}
-use Rattle.fab_fabric_text.specs.fab_model.specs.Grid.{PlainFabric, tile_at, AreRows}
-use Rattle.fab_fabric_text.specs.fab_model.specs.Joins.{RowPlace}
-use Rattle.fab_fabric_text.specs.fab_model.specs.Cascade.{PlacedRow, previous_row, walk_from, row_join_from, join_from}
-use Rattle.fab_fabric_text.specs.fab_model.specs.Wires.{PlainWire, source_of, dest_of, pin_of, pin_count, wire_number, IsWire, IsMatrixOutput}
-use Rattle.fab_fabric_text.specs.fab_model.specs.Drive.{PlainBits, copy_or_zero, matrix_drive, constant, dest_drive, pin_drive, tile_drive}
-use Rattle.fab_fabric_text.specs.fab_model.proofs.Crossings.{IsPlaced, placed, standing_is_placed, standing_is_wire_row}
-use Rattle.fab_fabric_text.specs.fab_model.proofs.Walks.{side_has_name}
-use Rattle.fab_fabric_text.specs.fab_model.proofs.Drives.{drive_at}
-use Rattle.fab_fabric_text.specs.fab_prim.specs.Ports.{top_name}
-use Rattle.fab_fabric_text.specs.fab_prim.specs.Modules.{flip_flop_name}
-use Rattle.fab_fabric_text.specs.fab_gen_tile.specs.Names.{pad_name}
-use Rattle.fab_fabric_text.specs.fab_gen_tile.specs.Borders.{fixed_bit}
+use Rattle.fab_fabric_text.specs.fab_meaning_Points.{point}
+use Rattle.fab_fabric_text.specs.fab_meaning_Settled.{Assignment}
+use Rattle.fab_fabric_text.specs.fab_model_tiles_WireRow.{WireRow}
+use Rattle.fab_fabric_text.specs.fab_model_tiles_Bel.{Bel}
+use Rattle.fab_fabric_text.specs.fab_model_Rows.{is_jump, is_named, border_bits, source_bits, dest_bits}
+use Rattle.fab_fabric_text.specs.fab_model_Tiles.{PlainTile, source_bit, bel_pin, is_matrix_output, bits_before}
+use Rattle.fab_fabric_text.specs.fab_model_Grid.{PlainFabric, tile_at, AreRows}
+use Rattle.fab_fabric_text.specs.fab_model_Joins.{RowPlace}
+use Rattle.fab_fabric_text.specs.fab_model_Cascade.{PlacedRow, previous_row, walk_from, row_join_from, join_from}
+use Rattle.fab_fabric_text.specs.fab_model_Wires.{PlainWire, source_of, dest_of, pin_of, pin_count, wire_number, IsWire, IsMatrixOutput}
+use Rattle.fab_fabric_text.specs.fab_model_Drive.{PlainBits, copy_or_zero, matrix_drive, constant, dest_drive, pin_drive, tile_drive}
+use Rattle.fab_fabric_text.proofs.fab_model_Crossings.{IsPlaced, placed, standing_is_placed, standing_is_wire_row}
+use Rattle.fab_fabric_text.proofs.fab_model_Walks.{side_has_name}
+use Rattle.fab_fabric_text.proofs.fab_model_Drives.{drive_at}
+use Rattle.fab_fabric_text.specs.fab_prim_Ports.{top_name}
+use Rattle.fab_fabric_text.specs.fab_prim_Modules.{flip_flop_name}
+use Rattle.fab_fabric_text.specs.fab_gen_tile_Names.{pad_name}
+use Rattle.fab_fabric_text.specs.fab_gen_tile_Borders.{fixed_bit}
 use Rattle.fab_fabric_text.specs.Names.{pad_port_name}
 use Rattle.fab_tile_drives.specs.Stands.{bel_path, wire_point, IsSettledOnDeclared}
 use Rattle.fab_tile_drives.specs.Tiles.{TileWorks, IsOwnOfOutput, IsOwnOfPin, picked, picked_value}

@@ -5,15 +5,15 @@ use Rattle.fab_bits.specs.Bits.{first_bits}
 use Rattle.fab_kinds.specs.Pins.{input_names, bit_count}
 use Rattle.fab_kinds.specs.Kinds.{output_of}
 use Rattle.fab_syntax.specs.Plain.{PlainModule}
-use Rattle.fab_fabric_text.specs.fab_meaning.specs.Points.{point}
-use Rattle.fab_fabric_text.specs.fab_meaning.specs.Settled.{Assignment}
-use Rattle.fab_fabric_text.specs.fab_model.specs.declared.tiles.Bel.{Bel}
-use Rattle.fab_fabric_text.specs.fab_model.specs.Tiles.{PlainTile, bits_before}
-use Rattle.fab_fabric_text.specs.fab_model.specs.Grid.{PlainFabric, tile_at}
-use Rattle.fab_fabric_text.specs.fab_model.specs.Wires.{PlainWire, IsWire}
-use Rattle.fab_fabric_text.specs.fab_model.specs.Drive.{PlainBits, PlainDrive, zero_bit, one_bit, copy, bel_output, drive}
-use Rattle.fab_fabric_text.specs.fab_prim.specs.Ports.{top_name}
-use Rattle.fab_fabric_text.specs.fab_prim.specs.Modules.{flip_flop_name}
+use Rattle.fab_fabric_text.specs.fab_meaning_Points.{point}
+use Rattle.fab_fabric_text.specs.fab_meaning_Settled.{Assignment}
+use Rattle.fab_fabric_text.specs.fab_model_tiles_Bel.{Bel}
+use Rattle.fab_fabric_text.specs.fab_model_Tiles.{PlainTile, bits_before}
+use Rattle.fab_fabric_text.specs.fab_model_Grid.{PlainFabric, tile_at}
+use Rattle.fab_fabric_text.specs.fab_model_Wires.{PlainWire, IsWire}
+use Rattle.fab_fabric_text.specs.fab_model_Drive.{PlainBits, PlainDrive, zero_bit, one_bit, copy, bel_output, drive}
+use Rattle.fab_fabric_text.specs.fab_prim_Ports.{top_name}
+use Rattle.fab_fabric_text.specs.fab_prim_Modules.{flip_flop_name}
 use Rattle.fab_fabric_text.specs.Names.{pad_port_name}
 use Rattle.fab_tile_drives.specs.Stands.{bel_path, wire_point, IsSettledOnDeclared}
 use Rattle.fab_drives.specs.Points.{place_path, ShowsBits, IsOwn}

@@ -2,13 +2,13 @@
 use Rattle.std.specs.Prelude.{◌≡◌, ℕ, List, [], ◌∷◌, ◌++◌, map, codes, Option, Some, None}
 use Rattle.std.specs.List.{filter_map}
 use Rattle.fab_syntax.specs.Plain.{PlainItem, wire, PlainModule}
-use Rattle.fab_fabric_text.specs.fab_meaning.specs.Points.{point}
-use Rattle.fab_fabric_text.specs.fab_meaning.specs.Settled.{Assignment}
-use Rattle.fab_fabric_text.specs.fab_model.specs.Grid.{PlainFabric}
-use Rattle.fab_fabric_text.specs.fab_model.specs.Wires.{dest_of}
-use Rattle.fab_fabric_text.specs.fab_model.specs.Drive.{PlainBits}
-use Rattle.fab_fabric_text.specs.fab_fabric.specs.Fabric.{fabric_of}
-use Rattle.fab_fabric_text.specs.fab_fabric.specs.Examples.{pads, lut}
+use Rattle.fab_fabric_text.specs.fab_meaning_Points.{point}
+use Rattle.fab_fabric_text.specs.fab_meaning_Settled.{Assignment}
+use Rattle.fab_fabric_text.specs.fab_model_Grid.{PlainFabric}
+use Rattle.fab_fabric_text.specs.fab_model_Wires.{dest_of}
+use Rattle.fab_fabric_text.specs.fab_model_Drive.{PlainBits}
+use Rattle.fab_fabric_text.specs.fab_fabric_Fabric.{fabric_of}
+use Rattle.fab_fabric_text.specs.fab_fabric_Examples.{pads, lut}
 use Rattle.fab_tile_drives.specs.Stands.{IsSettledOnDeclared}
 use Rattle.fab_drives.specs.Points.{ShowsBits, IsOwn}
 

@@ -1,18 +1,18 @@
 -- Where the wires of a fabric stand in its text, and the points on which each of them rests.
 use Rattle.std.specs.Prelude.{◌≡◌, ◌≤◌, ◌<◌, ℕ, ◌+◌, false, [], ◌∷◌, slice_get, Some}
 use Rattle.fab_kinds.specs.Pins.{input_count}
-use Rattle.fab_fabric_text.specs.fab_meaning.specs.Points.{Path, Point, point}
-use Rattle.fab_fabric_text.specs.fab_meaning.specs.Settled.{Assignment}
-use Rattle.fab_fabric_text.specs.fab_model.specs.declared.tiles.Bel.{Bel}
-use Rattle.fab_fabric_text.specs.fab_model.specs.Rows.{is_jump}
-use Rattle.fab_fabric_text.specs.fab_model.specs.Tiles.{PlainTile}
-use Rattle.fab_fabric_text.specs.fab_model.specs.Grid.{PlainFabric, tile_at}
-use Rattle.fab_fabric_text.specs.fab_model.specs.Cascade.{PlacedRow, placed_row, previous_row, passing_bits}
-use Rattle.fab_fabric_text.specs.fab_model.specs.Wires.{PlainWire, dest_of, pin_of, IsMatrixOutput}
-use Rattle.fab_fabric_text.specs.fab_model.specs.Drive.{PlainBits}
-use Rattle.fab_fabric_text.specs.fab_fabric.specs.Names.{place_name}
-use Rattle.fab_fabric_text.specs.fab_prim.specs.Ports.{top_name}
-use Rattle.fab_fabric_text.specs.fab_gen_tile.specs.Names.{begin_name, end_name, pad_name}
+use Rattle.fab_fabric_text.specs.fab_meaning_Points.{Path, Point, point}
+use Rattle.fab_fabric_text.specs.fab_meaning_Settled.{Assignment}
+use Rattle.fab_fabric_text.specs.fab_model_tiles_Bel.{Bel}
+use Rattle.fab_fabric_text.specs.fab_model_Rows.{is_jump}
+use Rattle.fab_fabric_text.specs.fab_model_Tiles.{PlainTile}
+use Rattle.fab_fabric_text.specs.fab_model_Grid.{PlainFabric, tile_at}
+use Rattle.fab_fabric_text.specs.fab_model_Cascade.{PlacedRow, placed_row, previous_row, passing_bits}
+use Rattle.fab_fabric_text.specs.fab_model_Wires.{PlainWire, dest_of, pin_of, IsMatrixOutput}
+use Rattle.fab_fabric_text.specs.fab_model_Drive.{PlainBits}
+use Rattle.fab_fabric_text.specs.fab_fabric_Names.{place_name}
+use Rattle.fab_fabric_text.specs.fab_prim_Ports.{top_name}
+use Rattle.fab_fabric_text.specs.fab_gen_tile_Names.{begin_name, end_name, pad_name}
 use Rattle.fab_fabric_text.specs.Names.{begin_wire_name}
 use Rattle.fab_tile_drives.specs.Stands.{wire_point}
 use Rattle.fab_tile_drives.specs.Tiles.{ShowsTileBits, IsOwnOfOutput, IsOwnOfPin}

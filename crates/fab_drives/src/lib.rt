@@ -3,9 +3,9 @@
 
 ghost use Rattle.std.specs.Prelude.{◌≡◌, ◌≢◌, AllPairs};
 ghost use Rattle.fab_syntax.specs.Plain.{PlainModule};
-ghost use Rattle.fab_fabric_text.specs.fab_model.specs.Grid.{PlainFabric};
-ghost use Rattle.fab_fabric_text.specs.fab_fabric.specs.Fabric.{AreTiles, IsFabric};
-ghost use Rattle.fab_fabric_text.specs.fab_gen_loader.specs.Loader.{loader_module_name};
+ghost use Rattle.fab_fabric_text.specs.fab_model_Grid.{PlainFabric};
+ghost use Rattle.fab_fabric_text.specs.fab_fabric_Fabric.{AreTiles, IsFabric};
+ghost use Rattle.fab_fabric_text.specs.fab_gen_loader_Loader.{loader_module_name};
 ghost use Rattle.fab_fabric_text.specs.Text.{fabric_text};
 ghost use Rattle.fab_fabric_text.specs.Top.{top_module};
 ghost use Rattle.fab_drives.specs.Drives.{ShowsDrives};

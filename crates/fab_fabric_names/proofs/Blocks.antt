@@ -12,10 +12,10 @@ use Rattle.fab_model.specs.Tiles.{PlainTile, with_table}
 use Rattle.fab_model.specs.declared.tiles.Bel.{Bel}
 use Rattle.fab_model.specs.declared.tiles.WireRow.{WireRow}
 use Rattle.fab_names.proofs.Families.{both_first, both_second}
-use Rattle.fab_read.specs.fab_blocks.specs.Cells.{is_null, is_side, long_of, first_problem}
-use Rattle.fab_read.specs.fab_blocks.specs.Blocks.{PlainBlock, new_block, bare, with_row}
-use Rattle.fab_read.specs.fab_blocks.specs.Rows.{WireCells, has_numbers, has_sides, row_of, side, wire_reason, wire_problem, is_prefix, bel_reason, kind_problem, bel_problem_of, with_bel_of}
-use Rattle.fab_read.specs.fab_blocks.proofs.Readings.{passed, no_problem}
+use Rattle.fab_read.specs.fab_blocks_Cells.{is_null, is_side, long_of, first_problem}
+use Rattle.fab_read.specs.fab_blocks_Blocks.{PlainBlock, new_block, bare, with_row}
+use Rattle.fab_read.specs.fab_blocks_Rows.{WireCells, has_numbers, has_sides, row_of, side, wire_reason, wire_problem, is_prefix, bel_reason, kind_problem, bel_problem_of, with_bel_of}
+use Rattle.fab_read.proofs.fab_blocks_Readings.{passed, no_problem}
 use Rattle.fab_read.specs.Tiles.{End, ReadsTile, paired}
 use Rattle.fab_gen_tile.specs.Words.{IsFreeName, IsNamed}
 use Rattle.fab_fabric_names.proofs.Keeping.{Keeps}

@@ -3,9 +3,9 @@ use Rattle.std.proofs.Common.{◌≡◌, ℕ, true, List, Option, None}
 use Rattle.fab_kinds.specs.declared.kind.Kind.{Kind}
 use Rattle.fab_desk.specs.Files.{Map}
 use Rattle.fab_model.specs.Tiles.{PlainTile}
-use Rattle.fab_read.specs.fab_blocks.specs.Cells.{is_tile_name}
-use Rattle.fab_read.specs.fab_blocks.specs.Blocks.{PlainBlock, new_block, bare, with_row, with_matrix}
-use Rattle.fab_read.specs.fab_blocks.specs.Rows.{WireCells, row_of, wire_problem, bel_problem_of, with_bel_of}
+use Rattle.fab_read.specs.fab_blocks_Cells.{is_tile_name}
+use Rattle.fab_read.specs.fab_blocks_Blocks.{PlainBlock, new_block, bare, with_row, with_matrix}
+use Rattle.fab_read.specs.fab_blocks_Rows.{WireCells, row_of, wire_problem, bel_problem_of, with_bel_of}
 use Rattle.fab_read.specs.Tiles.{End, ReadsTile}
 
 -- A new block has the first, each row that is taken keeps it, and a tile of such a block, with its pairs and the places of its bits, has

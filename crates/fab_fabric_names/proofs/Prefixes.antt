@@ -7,10 +7,10 @@ use Rattle.fab_kinds.specs.declared.kind.Kind.TheVariants as kinds
 use Rattle.fab_paths.specs.Paths.{is_path}
 use Rattle.fab_model.specs.declared.tiles.Bel.{Bel}
 use Rattle.fab_model.specs.Tiles.{PlainTile}
-use Rattle.fab_read.specs.fab_blocks.specs.Cells.{come_twice}
-use Rattle.fab_read.specs.fab_blocks.specs.Blocks.{PlainBlock, names, bare}
-use Rattle.fab_read.specs.fab_blocks.specs.Rows.{is_prefix, may_lack_prefix, pins_of, bel_reason, kind_problem, bel_problem_of, with_bel_of}
-use Rattle.fab_read.specs.fab_blocks.proofs.Readings.{passed, failed, no_problem}
+use Rattle.fab_read.specs.fab_blocks_Cells.{come_twice}
+use Rattle.fab_read.specs.fab_blocks_Blocks.{PlainBlock, names, bare}
+use Rattle.fab_read.specs.fab_blocks_Rows.{is_prefix, may_lack_prefix, pins_of, bel_reason, kind_problem, bel_problem_of, with_bel_of}
+use Rattle.fab_read.proofs.fab_blocks_Readings.{passed, failed, no_problem}
 use Rattle.fab_fabric_names.proofs.Keeping.{Keeps}
 
 -- where a BEL lacks a prefix, it is a MUX8LUT

@@ -9,22 +9,22 @@ use Rattle.fab_paths.specs.Paths.{stem}
 use Rattle.fab_rows.specs.Rows.{PlainRow}
 use Rattle.fab_model.specs.Grid.{PlainFabric}
 use Rattle.fab_model.specs.Tiles.{PlainTile}
-use Rattle.fab_read.specs.fab_blocks.specs.declared.words.Word.{Word}
-use Rattle.fab_read.specs.fab_blocks.specs.declared.words.Word.TheVariants as words
-use Rattle.fab_read.specs.fab_blocks.specs.declared.mode.Mode.{Mode}
-use Rattle.fab_read.specs.fab_blocks.specs.declared.mode.Mode.TheVariants as modes
-use Rattle.fab_read.specs.fab_blocks.specs.declared.mode.Parameters.TheVariants as parts
-use Rattle.fab_read.specs.fab_blocks.specs.declared.mode.Place.TheVariants as places
-use Rattle.fab_read.specs.fab_blocks.specs.declared.mode.Said.{Said}
-use Rattle.fab_read.specs.fab_blocks.specs.declared.mode.Said.TheVariants as said
-use Rattle.fab_read.specs.fab_blocks.specs.Blocks.{PlainBlock, bare, new_block, with_row, with_matrix}
-use Rattle.fab_read.specs.fab_blocks.specs.Cells.{first_problem, cell_at, is_tile_name}
-use Rattle.fab_read.specs.fab_blocks.specs.Inner.{foreign_row, value_problem, parameter_row, path_problem, depth_problem, include_row, tiles_row, outer_row, inner_parameter, beside, wire_cells, wire_row, bel_row, matrix_row, block_row, file_named}
-use Rattle.fab_read.specs.fab_blocks.specs.Rows.{WireCells, row_of, wire_problem, kind_of, bel_problem, matrix_problem, with_bel_of}
-use Rattle.fab_read.specs.fab_blocks.specs.Reading.{PlainReading, PlainHolder, start, with_mode, with_grid, with_parameters, with_type}
-use Rattle.fab_read.specs.fab_blocks.specs.Saying.{Step, stands, may_begin, lines_of, line_problem, with_line, parameters_begun, begin_problem, begin_reason, begin_limit, begin_grid, end_grid, grid_line, begin_parameters, end_parameters, begin_tile, handed_out, end_tile, with_said, with_block, row_in, say, said_of}
-use Rattle.fab_read.specs.fab_blocks.specs.Words.{word_of}
-use Rattle.fab_read.specs.fab_blocks.proofs.Readings.{passed, no_problem}
+use Rattle.fab_read.specs.fab_blocks_words_Word.{Word}
+use Rattle.fab_read.specs.fab_blocks_words_Word_TheVariants as words
+use Rattle.fab_read.specs.fab_blocks_mode_Mode.{Mode}
+use Rattle.fab_read.specs.fab_blocks_mode_Mode_TheVariants as modes
+use Rattle.fab_read.specs.fab_blocks_mode_Parameters_TheVariants as parts
+use Rattle.fab_read.specs.fab_blocks_mode_Place_TheVariants as places
+use Rattle.fab_read.specs.fab_blocks_mode_Said.{Said}
+use Rattle.fab_read.specs.fab_blocks_mode_Said_TheVariants as said
+use Rattle.fab_read.specs.fab_blocks_Blocks.{PlainBlock, bare, new_block, with_row, with_matrix}
+use Rattle.fab_read.specs.fab_blocks_Cells.{first_problem, cell_at, is_tile_name}
+use Rattle.fab_read.specs.fab_blocks_Inner.{foreign_row, value_problem, parameter_row, path_problem, depth_problem, include_row, tiles_row, outer_row, inner_parameter, beside, wire_cells, wire_row, bel_row, matrix_row, block_row, file_named}
+use Rattle.fab_read.specs.fab_blocks_Rows.{WireCells, row_of, wire_problem, kind_of, bel_problem, matrix_problem, with_bel_of}
+use Rattle.fab_read.specs.fab_blocks_Reading.{PlainReading, PlainHolder, start, with_mode, with_grid, with_parameters, with_type}
+use Rattle.fab_read.specs.fab_blocks_Saying.{Step, stands, may_begin, lines_of, line_problem, with_line, parameters_begun, begin_problem, begin_reason, begin_limit, begin_grid, end_grid, grid_line, begin_parameters, end_parameters, begin_tile, handed_out, end_tile, with_said, with_block, row_in, say, said_of}
+use Rattle.fab_read.specs.fab_blocks_Words.{word_of}
+use Rattle.fab_read.proofs.fab_blocks_Readings.{passed, no_problem}
 use Rattle.fab_read.specs.Rows.{end_at, ReadsRows, ends, takes_row, opens_file, ends_tile}
 use Rattle.fab_read.specs.Fabrics.{SpellsFabric}
 use Rattle.fab_fabric_names.proofs.Keeping.{Keeps}

@@ -15,10 +15,10 @@ use Rattle.fab_lines.specs.Names.{is_identifier}
 use Rattle.fab_select.specs.Selection.{inputs_of}
 use Rattle.fab_model.specs.Tiles.{PlainTile, numbered_pairs, pair_numbers, tile_bits, with_pairs, with_table}
 use Rattle.fab_names.proofs.Families.{both_first}
-use Rattle.fab_read.specs.fab_blocks.specs.Cells.{is_null, is_tile_name}
-use Rattle.fab_read.specs.fab_blocks.specs.Blocks.{PlainBlock, bare}
-use Rattle.fab_read.specs.fab_blocks.specs.Rows.{with_bel_of}
-use Rattle.fab_read.specs.fab_list_files.specs.Sides.{crowd, input_count}
+use Rattle.fab_read.specs.fab_blocks_Cells.{is_null, is_tile_name}
+use Rattle.fab_read.specs.fab_blocks_Blocks.{PlainBlock, bare}
+use Rattle.fab_read.specs.fab_blocks_Rows.{with_bel_of}
+use Rattle.fab_read.specs.fab_list_files_Sides.{crowd, input_count}
 use Rattle.fab_read.specs.Tiles.{End, ReadsTile, bits_problem, crowd_or, paired}
 use Rattle.fab_fabric_names.proofs.Keeping.{Keeps}
 

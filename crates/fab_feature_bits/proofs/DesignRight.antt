@@ -27,8 +27,8 @@ use Rattle.fab_legal.proofs.Members.{in_either}
 use Rattle.fab_legal.proofs.Pins.{is_tile_at, tile_of_kind}
 use Rattle.fab_legal.proofs.SinkLaw.{in_flat}
 use Rattle.fab_fasm.specs.declared.feature.Feature.{Feature}
-use Rattle.fab_use.specs.fab_fabric_text.specs.Places.{PlacedTile, placed_tiles}
-use Rattle.fab_use.specs.fab_gen_tile.specs.Words.{IsNamed}
+use Rattle.fab_use.specs.fab_fabric_text_Places.{PlacedTile, placed_tiles}
+use Rattle.fab_use.specs.fab_gen_tile_Words.{IsNamed}
 use Rattle.fab_features.specs.Said.{TwoNumbers, bel_field, choice, field_of, said_of}
 use Rattle.fab_features.specs.Naming.{HasPrefixes}
 use Rattle.fab_features.specs.NameParts.{Names, of_field, of_pair}

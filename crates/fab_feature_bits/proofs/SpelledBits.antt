@@ -14,7 +14,7 @@ use Rattle.fab_model.specs.Drive.{matrix_inputs, select_value, input_at}
 use Rattle.fab_netlist.specs.WellMade.{table_bit}
 use Rattle.fab_netlist.proofs.Members.{any_by}
 use Rattle.fab_legal.proofs.PortNumbers.{place_in}
-use Rattle.fab_use.specs.fab_tile_drives.proofs.Members.{contains_at}
+use Rattle.fab_use.proofs.fab_tile_drives_Members.{contains_at}
 use Rattle.fab_features.specs.Features.{place_among}
 use Rattle.fab_features.specs.Spelled.{picked_input}
 

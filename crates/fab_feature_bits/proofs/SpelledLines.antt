@@ -15,10 +15,10 @@ use Rattle.fab_netlist.specs.WellMade.{table_bit}
 use Rattle.fab_netlist.proofs.Members.{in_none, in_left, in_right}
 use Rattle.fab_legal.proofs.Members.{in_either}
 use Rattle.fab_legal.proofs.SinkLaw.{in_flat, into_flat}
-use Rattle.fab_use.specs.fab_tile_drives.proofs.Members.{contains_counted}
+use Rattle.fab_use.proofs.fab_tile_drives_Members.{contains_counted}
 use Rattle.fab_fasm.specs.declared.feature.Feature.{Feature}
-use Rattle.fab_use.specs.fab_fabric_text.specs.Places.{PlacedTile, placed_tiles}
-use Rattle.fab_use.specs.fab_gen_tile.specs.Words.{IsNamed}
+use Rattle.fab_use.specs.fab_fabric_text_Places.{PlacedTile, placed_tiles}
+use Rattle.fab_use.specs.fab_gen_tile_Words.{IsNamed}
 use Rattle.fab_features.specs.Said.{said_of, field_of, TwoNumbers, bel_field, choice}
 use Rattle.fab_features.specs.Naming.{HasPrefixes}
 use Rattle.fab_features.specs.NameParts.{of_field, of_pair}

@@ -15,9 +15,9 @@ use Rattle.fab_netlist.specs.WellMade.{table_bit}
 use Rattle.fab_netlist.proofs.Members.{in_none, first_or_later, first_in, later_in}
 use Rattle.fab_legal.proofs.Pins.{tile_type}
 use Rattle.fab_legal.specs.Turns.{AreRight}
-use Rattle.fab_use.specs.fab_tile_drives.proofs.Members.{contains_at}
+use Rattle.fab_use.proofs.fab_tile_drives_Members.{contains_at}
 use Rattle.fab_fasm.specs.declared.feature.Feature.{Feature}
-use Rattle.fab_use.specs.fab_gen_tile.specs.Words.{IsNamed}
+use Rattle.fab_use.specs.fab_gen_tile_Words.{IsNamed}
 use Rattle.fab_features.specs.Said.{bel_field, choice}
 use Rattle.fab_features.specs.Naming.{HasPrefixes}
 use Rattle.fab_features.specs.Features.{IsBitMapOf, SetsBelBit, Chooses, place_among}

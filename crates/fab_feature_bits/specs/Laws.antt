@@ -12,7 +12,7 @@ use Rattle.fab_implementation.specs.Plain.{Pad, PlainImplementation}
 use Rattle.fab_legal.specs.Legal.{IsLegal}
 use Rattle.fab_legal.specs.Turns.{AreRight}
 use Rattle.fab_fasm.specs.declared.feature.Feature.{Feature}
-use Rattle.fab_use.specs.fab_gen_tile.specs.Words.{IsNamed}
+use Rattle.fab_use.specs.fab_gen_tile_Words.{IsNamed}
 use Rattle.fab_features.specs.Design.{design_features}
 use Rattle.fab_features.specs.Features.{IsBitMapOf}
 use Rattle.fab_features.specs.Naming.{HasPrefixes}

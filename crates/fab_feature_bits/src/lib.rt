@@ -4,8 +4,6 @@
 
 ghost use Rattle.fab_feature_bits.specs.Laws.{BitMapsAreOne, BitMapsSelectInputs, DesignFeaturesAreRight, SpelledBitsAreSaid};
 
-pub use fab_features;
-
 /// A list of features has at most one bit map: two are equal at each configuration bit of each place.
 pub fn bit_maps_are_one()
     ensures { BitMapsAreOne }

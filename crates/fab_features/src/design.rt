@@ -8,7 +8,7 @@ ghost use Rattle.fab_implementation.specs.Plain.{Pad};
 ghost use Rattle.fab_implementation.specs.OnFabric.{HasWires, kind_at};
 ghost use Rattle.fab_legal.specs.Legal.{IsLegal};
 ghost use Rattle.fab_model.specs.Tiles.{bits_before};
-ghost use Rattle.fab_use.specs.fab_gen_tile.specs.Words.{IsNamed};
+ghost use Rattle.fab_use.specs.fab_gen_tile_Words.{IsNamed};
 ghost use Rattle.fab_use.specs.Configuring.{Configures};
 ghost use Rattle.fab_features.specs.Naming.{HasPrefixes};
 ghost use Rattle.fab_features.specs.Features.{IsBitMapOf};

@@ -19,7 +19,7 @@ use Rattle.fab_frames.specs.Bytes.{word_bytes}
 use Rattle.fab_frames.specs.Refusals.{IsCut, IsStreamRefusal}
 use Rattle.fab_frames.specs.Stream.{stream}
 use Rattle.fab_frames.proofs.ByteWords.{length_bytes}
-use Rattle.fab_assemble.specs.fab_features.specs.Spelled.{features_in}
+use Rattle.fab_assemble.specs.fab_features_Spelled.{features_in}
 use Rattle.fab_outputs.specs.Bitstreams.{AreBytesOf}
 use Rattle.fab_flow.specs.BitFeatures.{FeaturesFiles, HasFeaturesCause, IsReadyForFeatures, MakesFeatures, MeetsBitFeatures, MeetsBitstream, ReadsBits, RefusesBitstream, SpellsBits, cut, features_refusals, wrong}
 use Rattle.fab_outputs.specs.Storing.{PlainOutput, output}

@@ -13,7 +13,7 @@ use Rattle.fab_legal.specs.Turns.{AreRight}
 use Rattle.fab_legal.specs.declared.broken.CheckFault.{CheckFault}
 use Rattle.fab_legal.specs.declared.broken.CheckFault.TheVariants as checks
 use Rattle.fab_fasm.specs.declared.feature.Feature.{Feature}
-use Rattle.fab_assemble.specs.fab_features.specs.Wrong.{IsFirstWrongFeature, IsRightFeature}
+use Rattle.fab_assemble.specs.fab_features_Wrong.{IsFirstWrongFeature, IsRightFeature}
 use Rattle.fab_legal.specs.Broken.{fault_of}
 use Rattle.fab_flow.specs.Bits.{BitsFiles, HasBitsCause, IsBitstreamOf, IsReadyForBits, MakesBits, MeetsBits, MeetsFeatures, ReadsFeatures, RefusesBits, RefusesFeatures, bits_refusals, illegal}
 use Rattle.fab_outputs.specs.Storing.{PlainOutput, Leaves, output}

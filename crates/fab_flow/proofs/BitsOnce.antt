@@ -17,11 +17,11 @@ use Rattle.fab_fasm.specs.declared.feature.Feature.{Feature}
 use Rattle.fab_fasm.specs.Spelled.{SpellsFasm}
 use Rattle.fab_fasm.proofs.PartsLaw.{spelled_fine, spelled_is}
 use Rattle.fab_read.specs.Fabrics.{SpellsFabric, MeetsFabric}
-use Rattle.fab_assemble.specs.fab_features.specs.Said.{choice}
-use Rattle.fab_assemble.specs.fab_features.specs.Wrong.{BreaksBehind, BreaksFirst, IsRightFeature, unknown, contrary, output_name}
-use Rattle.fab_assemble.specs.fab_features.specs.declared.said.Choice.{Choice}
-use Rattle.fab_assemble.specs.fab_features.proofs.Chosen.{wrong_not_right}
-use Rattle.fab_assemble.specs.fab_features.proofs.Saids.{one_choice}
+use Rattle.fab_assemble.specs.fab_features_Said.{choice}
+use Rattle.fab_assemble.specs.fab_features_Wrong.{BreaksBehind, BreaksFirst, IsRightFeature, unknown, contrary, output_name}
+use Rattle.fab_assemble.specs.fab_features_said_Choice.{Choice}
+use Rattle.fab_assemble.proofs.fab_features_Chosen.{wrong_not_right}
+use Rattle.fab_assemble.proofs.fab_features_Saids.{one_choice}
 use Rattle.fab_flow.specs.Bits.{BitsFiles, IsReadyForBits, MeetsBits, MeetsBitsBehind, MeetsFeatures, ReadsFeatures, RefusesBits, RefusesFeatures, illegal}
 use Rattle.fab_flow.proofs.Once.{fabric_is_judged}
 

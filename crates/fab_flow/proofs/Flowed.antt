@@ -21,10 +21,10 @@ use Rattle.fab_legal.proofs.NotLegal.{broken_is_not_legal}
 use Rattle.fab_legal.proofs.PackedMade.{packed_is_well_made}
 use Rattle.fab_ways.specs.Mapping.{IsMapping}
 use Rattle.fab_gen_tile.specs.Words.{IsNamed}
-use Rattle.fab_assemble.specs.fab_drives.specs.Drives.{ShowsDrives}
-use Rattle.fab_assemble.specs.fab_text_loads.specs.Loads.{LoadsConfigurations}
-use Rattle.fab_assemble.specs.fab_fabric_text.specs.Texts.{IsFabricText}
-use Rattle.fab_assemble.specs.fab_features.specs.Naming.{HasPrefixes}
+use Rattle.fab_assemble.specs.fab_drives_Drives.{ShowsDrives}
+use Rattle.fab_assemble.specs.fab_text_loads_Loads.{LoadsConfigurations}
+use Rattle.fab_assemble.specs.fab_fabric_text_Texts.{IsFabricText}
+use Rattle.fab_assemble.specs.fab_features_Naming.{HasPrefixes}
 use Rattle.fab_impl.specs.Spelled.{implementation_text}
 use Rattle.fab_map.specs.Causes.{HasMapCause}
 use Rattle.fab_read.specs.Fabrics.{SpellsFabric}

@@ -12,9 +12,9 @@ use Rattle.fab_files.specs.Stages.{behind_it}
 use Rattle.fab_syntax.specs.Spelling.{text_bytes}
 use Rattle.fab_model.specs.Grid.{PlainFabric}
 use Rattle.fab_gen_tile.specs.Words.{IsNamed}
-use Rattle.fab_assemble.specs.fab_drives.specs.Drives.{ShowsDrives}
-use Rattle.fab_assemble.specs.fab_text_loads.specs.Loads.{LoadsConfigurations}
-use Rattle.fab_assemble.specs.fab_fabric_text.specs.Texts.{IsFabricText}
+use Rattle.fab_assemble.specs.fab_drives_Drives.{ShowsDrives}
+use Rattle.fab_assemble.specs.fab_text_loads_Loads.{LoadsConfigurations}
+use Rattle.fab_assemble.specs.fab_fabric_text_Texts.{IsFabricText}
 use Rattle.fab_read.specs.Fabrics.{SpellsFabric}
 use Rattle.fab_fabric_names.proofs.Blocks.{names_kept}
 use Rattle.fab_fabric_names.proofs.Readings.{spelled_keep}

@@ -22,7 +22,7 @@ use Rattle.fab_implementation.specs.OnFabric.{kind_at}
 use Rattle.fab_legal.specs.WellMade.{ports as packed_ports}
 use Rattle.fab_legal.proofs.PackedMade.{packed_is_well_made}
 use Rattle.fab_fabric.specs.Sites.{sites_of_kind}
-use Rattle.fab_map.specs.fab_place.specs.Fixings.{AreFixed, Fits as HasRoom}
+use Rattle.fab_map.specs.fab_place_Fixings.{AreFixed, Fits as HasRoom}
 use Rattle.fab_state.specs.Constraints.{AreFixings, data_ports}
 use Rattle.fab_designs.specs.Designs.{PlainDesign, MeetsDesign, SpellsDesign}
 use Rattle.fab_designs.proofs.DataPorts.{data_ports_are_ports}

@@ -23,13 +23,13 @@ use Rattle.fab_frames.specs.Bytes.{word_bytes}
 use Rattle.fab_frames.specs.Stream.{stream}
 use Rattle.fab_state.specs.Plain.{PlainState}
 use Rattle.fab_state.specs.Spelled.{state_text}
-use Rattle.fab_assemble.specs.fab_fabric_text.specs.Texts.{IsFabricText}
-use Rattle.fab_assemble.specs.fab_use.specs.Configuring.{Configures}
-use Rattle.fab_assemble.specs.fab_use.specs.Headline.{RunsDesign}
-use Rattle.fab_assemble.specs.fab_use.specs.Registers.{design_state}
-use Rattle.fab_assemble.specs.fab_settling.specs.Settling.{SettlesDesign}
-use Rattle.fab_assemble.specs.fab_features.specs.Design.{design_features}
-use Rattle.fab_assemble.specs.fab_features.specs.Features.{IsBitMapOf}
+use Rattle.fab_assemble.specs.fab_fabric_text_Texts.{IsFabricText}
+use Rattle.fab_assemble.specs.fab_use_Configuring.{Configures}
+use Rattle.fab_assemble.specs.fab_use_Headline.{RunsDesign}
+use Rattle.fab_assemble.specs.fab_use_Registers.{design_state}
+use Rattle.fab_assemble.specs.fab_settling_Settling.{SettlesDesign}
+use Rattle.fab_assemble.specs.fab_features_Design.{design_features}
+use Rattle.fab_assemble.specs.fab_features_Features.{IsBitMapOf}
 use Rattle.fab_designs.specs.Designs.{DesignFiles, PlainDesign, design_files, SpellsDesign, MeetsDesign}
 use Rattle.fab_designs.specs.Implementations.{ReadsImplementation, MeetsImplementation}
 use Rattle.fab_outputs.specs.Storing.{PlainOutput, output}

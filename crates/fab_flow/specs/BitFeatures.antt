@@ -10,7 +10,7 @@ use Rattle.fab_fasm.specs.Printing.{printed}
 use Rattle.fab_frames.specs.Refusals.{IsCut, IsStreamRefusal}
 use Rattle.fab_frames.specs.Stream.{stream}
 use Rattle.fab_read.specs.Fabrics.{SpellsFabric, MeetsFabric}
-use Rattle.fab_assemble.specs.fab_features.specs.Spelled.{features_in}
+use Rattle.fab_assemble.specs.fab_features_Spelled.{features_in}
 use Rattle.fab_outputs.specs.Bitstreams.{AreBytesOf}
 use Rattle.fab_outputs.specs.Ending.{HasCause}
 use Rattle.fab_outputs.specs.Storing.{PlainOutput, output}

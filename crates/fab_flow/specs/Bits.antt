@@ -17,8 +17,8 @@ use Rattle.fab_fasm.specs.Spelled.{SpellsFasm}
 use Rattle.fab_frames.specs.Bytes.{word_bytes}
 use Rattle.fab_frames.specs.Stream.{stream}
 use Rattle.fab_read.specs.Fabrics.{SpellsFabric, MeetsFabric}
-use Rattle.fab_assemble.specs.fab_features.specs.Features.{IsBitMapOf}
-use Rattle.fab_assemble.specs.fab_features.specs.Wrong.{IsRightFeature, BreaksFirst}
+use Rattle.fab_assemble.specs.fab_features_Features.{IsBitMapOf}
+use Rattle.fab_assemble.specs.fab_features_Wrong.{IsRightFeature, BreaksFirst}
 use Rattle.fab_outputs.specs.Storing.{PlainOutput, output}
 use Rattle.fab_outputs.specs.Ending.{HasCause}
 

@@ -14,12 +14,12 @@ use Rattle.fab_ways.specs.Mapping.{IsMapping}
 use Rattle.fab_files.specs.Files.{Event}
 use Rattle.fab_files.specs.Stages.{MeetsBehind, MeetsLast}
 use Rattle.fab_frames.specs.Stream.{stream}
-use Rattle.fab_assemble.specs.fab_drives.specs.Drives.{ShowsDrives}
-use Rattle.fab_assemble.specs.fab_text_loads.specs.Loads.{LoadsConfigurations}
-use Rattle.fab_assemble.specs.fab_fabric_text.specs.Texts.{IsFabricText}
-use Rattle.fab_assemble.specs.fab_use.specs.Headline.{RunsDesign}
-use Rattle.fab_assemble.specs.fab_use.specs.Registers.{design_state}
-use Rattle.fab_assemble.specs.fab_settling.specs.Settling.{SettlesDesign}
+use Rattle.fab_assemble.specs.fab_drives_Drives.{ShowsDrives}
+use Rattle.fab_assemble.specs.fab_text_loads_Loads.{LoadsConfigurations}
+use Rattle.fab_assemble.specs.fab_fabric_text_Texts.{IsFabricText}
+use Rattle.fab_assemble.specs.fab_use_Headline.{RunsDesign}
+use Rattle.fab_assemble.specs.fab_use_Registers.{design_state}
+use Rattle.fab_assemble.specs.fab_settling_Settling.{SettlesDesign}
 use Rattle.fab_impl.specs.Spelled.{implementation_text}
 use Rattle.fab_map.specs.Causes.{HasMapCause}
 use Rattle.fab_designs.specs.Designs.{DesignFiles, PlainDesign, design_files, SpellsDesign, MeetsDesign}

@@ -5,12 +5,7 @@ pub mod Bits
 pub mod Mapping
 pub mod Flowing
 pub mod BitFeatures
-pub use Rattle.fab_map
-pub use Rattle.fab_designs
-pub use Rattle.fab_fabric_names
-pub use Rattle.fab_assemble.specs.fab_text_loads
-pub use Rattle.fab_assemble.specs.fab_use
-pub use Rattle.fab_assemble.specs.fab_settling
-pub use Rattle.fab_assemble.specs.fab_features
-pub use Rattle.fab_assemble
-pub use Rattle.fab_gen_top
+pub use Rattle.fab_designs.specs.Designs as fab_designs_Designs
+pub use Rattle.fab_assemble.specs.fab_features_Design as fab_features_Design
+pub use Rattle.fab_assemble.specs.fab_use_Design as fab_use_Design
+pub use Rattle.fab_assemble.specs.fab_use_Registers as fab_use_Registers

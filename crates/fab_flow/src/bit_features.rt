@@ -10,11 +10,11 @@ ghost use Rattle.fab_fabric.specs.Bits.{AreBitsOf, plain_bits};
 ghost use Rattle.fab_fasm.specs.Printing.{printed};
 ghost use Rattle.fab_frames.specs.Refusals.{IsStreamRefusal};
 ghost use Rattle.fab_frames.specs.Stream.{stream};
-ghost use Rattle.fab_assemble.specs.fab_features.specs.Spelled.{features_in};
+ghost use Rattle.fab_assemble.specs.fab_features_Spelled.{features_in};
 ghost use Rattle.fab_flow.specs.BitFeatures.{HasFeaturesCause, MakesFeatures, MeetsBitstream, ReadsBits, RefusesBitstream, SpellsBits, features_files};
 ghost use Rattle.fab_outputs.specs.Storing.{IsDone, Leaves};
 
-use fab_assemble::fab_features::features_of_bits;
+use fab_assemble::features_of_bits;
 use fab_base::{Fault, MAX_FILE_BYTES, Memory, Name};
 use fab_desk::Desk;
 use fab_fabric::{Bits, Fabric};

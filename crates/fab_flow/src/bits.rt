@@ -7,12 +7,12 @@ ghost use Rattle.fab_base.specs.declared.fault.Fault.TheVariants as faults;
 ghost use Rattle.fab_files.specs.Files.{HasReadCause};
 ghost use Rattle.fab_fabric.specs.Bits.{AreBitsOf, plain_bits};
 ghost use Rattle.fab_legal.specs.Turns.{AreRight};
-ghost use Rattle.fab_assemble.specs.fab_features.specs.Features.{IsBitMapOf};
-ghost use Rattle.fab_assemble.specs.fab_features.specs.Wrong.{IsRightFeature};
+ghost use Rattle.fab_assemble.specs.fab_features_Features.{IsBitMapOf};
+ghost use Rattle.fab_assemble.specs.fab_features_Wrong.{IsRightFeature};
 ghost use Rattle.fab_flow.specs.Bits.{HasBitsCause, IsBitstreamOf, MakesBits, MeetsFeatures, ReadsFeatures, RefusesBits, bits_files};
 ghost use Rattle.fab_outputs.specs.Storing.{IsDone, Leaves};
 
-use fab_assemble::fab_features::bits_of_features;
+use fab_assemble::bits_of_features;
 use fab_base::{Fault, Name};
 use fab_desk::Desk;
 use fab_fabric::{Bits, Fabric};

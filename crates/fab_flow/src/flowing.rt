@@ -11,7 +11,7 @@ ghost use Rattle.fab_legal.specs.Legal.{IsLegal};
 ghost use Rattle.fab_state.specs.Constraints.{AreFixings, data_ports};
 ghost use Rattle.fab_implementation.specs.Inputs.{InputsAreLines};
 ghost use Rattle.fab_impl.specs.Spelled.{implementation_text};
-ghost use Rattle.fab_assemble.specs.fab_features.specs.Naming.{HasPrefixes};
+ghost use Rattle.fab_assemble.specs.fab_features_Naming.{HasPrefixes};
 ghost use Rattle.fab_flow.specs.Assembling.{Fits, IsAssembly};
 ghost use Rattle.fab_flow.specs.Flowing.{EndsFlow, HasFlowCause, IsFlow, MakesFlow, flow_files, flow_outputs};
 ghost use Rattle.fab_flow.specs.Generating.{text_length, most_text_bytes};

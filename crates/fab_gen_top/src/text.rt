@@ -11,10 +11,10 @@ ghost use Rattle.fab_gen_tile.specs.TileModule.{matrix_output_names};
 ghost use Rattle.fab_gen_tile.specs.Words.{IsNamed};
 ghost use Rattle.fab_gen_loader.specs.Expressions.{loader_module};
 ghost use Rattle.fab_fabric.specs.Sites.{same_kind};
-ghost use Rattle.fab_text_loads.specs.fab_fabric_text.specs.Text.{standing_types, used_kinds, matrix_modules, config_modules, tile_modules, fabric_text};
+ghost use Rattle.fab_text_loads.specs.fab_fabric_text_Text.{standing_types, used_kinds, matrix_modules, config_modules, tile_modules, fabric_text};
 ghost use Rattle.fab_drives.specs.Drives.{ShowsDrives};
 ghost use Rattle.fab_text_loads.specs.Loads.{LoadsConfigurations};
-ghost use Rattle.fab_text_loads.specs.fab_fabric_text.specs.Texts.{IsFabricText};
+ghost use Rattle.fab_text_loads.specs.fab_fabric_text_Texts.{IsFabricText};
 ghost use Rattle.fab_gen_top.specs.inner.Standing.{type_of, AreStanding};
 
 use crate::top::top_module;

@@ -3,8 +3,6 @@
 
 ghost use Rattle.fab_load_runs.specs.Runs.{LoadingIsDecided, LoadsExist, RunsExist};
 
-pub use fab_equations;
-
 /// Which points of a sound text are its loading points can be told.
 pub fn loading_is_decided()
     ensures { LoadingIsDecided }

@@ -6,3 +6,5 @@ pub mod Frames
 pub mod Columns
 pub mod Loads
 pub mod Turns
+pub use Rattle.fab_frames.proofs.Numbers as fab_frames_Numbers
+pub use Rattle.fab_frames.proofs.Placed as fab_frames_Placed

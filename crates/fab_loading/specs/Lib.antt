@@ -1,3 +1,3 @@
 pub mod Latches
 pub mod Streams
-pub use Rattle.fab_frames
+pub use Rattle.fab_frames.specs.Stream as fab_frames_Stream

@@ -1,2 +1,2 @@
 pub mod Causes
-pub use Rattle.fab_place
+pub use Rattle.fab_place.specs.Fixings as fab_place_Fixings

@@ -26,27 +26,27 @@ use Rattle.fab_legal.specs.WellMade.{output_name}
 use Rattle.fab_legal.proofs.SinkLaw.{known_site, site_is}
 use Rattle.fab_prim.specs.Ports.{top_name}
 use Rattle.fab_fabric_text.specs.Names.{pad_port_name}
-use Rattle.fab_simulated_designs.specs.fab_drives.proofs.Apart.{told_apart}
+use Rattle.fab_simulated_designs.proofs.fab_drives_Apart.{told_apart}
 use Rattle.fab_state.specs.Plain.{PlainState}
 use Rattle.fab_tern.specs.Shown.{Terns}
 use Rattle.fab_solutions.specs.Laws.{DriversGrow, DriversFit}
-use Rattle.fab_simulated_designs.specs.fab_use.specs.Sites.{bel_point, top_point}
-use Rattle.fab_simulated_designs.specs.fab_use.specs.Design.{IsSourced}
-use Rattle.fab_simulated_designs.specs.fab_use.specs.Cycles.{Instant, Feeds}
-use Rattle.fab_simulated_designs.specs.fab_use.specs.Registers.{bound_pad, design_state}
-use Rattle.fab_simulated_designs.specs.fab_use.specs.Headline.{SettlesOnce}
-use Rattle.fab_simulated_designs.specs.fab_use.specs.Sources as sources
-use Rattle.fab_simulated_designs.specs.fab_use.specs.Sources.{Source, HasSource}
-use Rattle.fab_simulated_designs.specs.fab_points.specs.Known.{KnowsBits}
-use Rattle.fab_simulated_designs.specs.fab_points.proofs.EachSource.{has_fabric}
-use Rattle.fab_simulated_designs.specs.fab_points.proofs.Places.{cell_kind, site_tile}
-use Rattle.fab_simulated_designs.specs.fab_points.proofs.Sourced.{sources_are_of_design}
-use Rattle.fab_simulated_designs.specs.fab_simulation.specs.Simulation.{given}
-use Rattle.fab_simulated_designs.specs.fab_runs.specs.Carrying.{MeetsSources}
-use Rattle.fab_simulated_designs.specs.fab_runs.proofs.Setting.{Setting, cells_made}
-use Rattle.fab_simulated_designs.specs.fab_runs.proofs.DesignRank.{design_rank, settles_once}
-use Rattle.fab_simulated_designs.specs.fab_runs.proofs.Instants.{Has, Ready, Passes, instant_shows, user_ready}
-use Rattle.fab_simulated_designs.specs.fab_runs.proofs.Values as v
+use Rattle.fab_simulated_designs.specs.fab_use_Sites.{bel_point, top_point}
+use Rattle.fab_simulated_designs.specs.fab_use_Design.{IsSourced}
+use Rattle.fab_simulated_designs.specs.fab_use_Cycles.{Instant, Feeds}
+use Rattle.fab_simulated_designs.specs.fab_use_Registers.{bound_pad, design_state}
+use Rattle.fab_simulated_designs.specs.fab_use_Headline.{SettlesOnce}
+use Rattle.fab_simulated_designs.specs.fab_use_Sources as sources
+use Rattle.fab_simulated_designs.specs.fab_use_Sources.{Source, HasSource}
+use Rattle.fab_simulated_designs.specs.fab_points_Known.{KnowsBits}
+use Rattle.fab_simulated_designs.proofs.fab_points_EachSource.{has_fabric}
+use Rattle.fab_simulated_designs.proofs.fab_points_Places.{cell_kind, site_tile}
+use Rattle.fab_simulated_designs.proofs.fab_points_Sourced.{sources_are_of_design}
+use Rattle.fab_simulated_designs.specs.fab_simulation_Simulation.{given}
+use Rattle.fab_simulated_designs.specs.fab_runs_Carrying.{MeetsSources}
+use Rattle.fab_simulated_designs.proofs.fab_runs_Setting.{Setting, cells_made}
+use Rattle.fab_simulated_designs.proofs.fab_runs_DesignRank.{design_rank, settles_once}
+use Rattle.fab_simulated_designs.proofs.fab_runs_Instants.{Has, Ready, Passes, instant_shows, user_ready}
+use Rattle.fab_simulated_designs.proofs.fab_runs_Values as v
 use Rattle.fab_settling.proofs.Origins.{outside_is_pad, pad_outside}
 use Rattle.fab_settling.specs.Steps.{IsInputPad}
 use Rattle.fab_ordering.specs.Ordered.{Moment, IsOrderedCycle, AreOrderedCycles, none, after}

@@ -4,7 +4,7 @@ use Rattle.fab_solutions.specs.Laws.{DriversGrow, DriversFit}
 use Rattle.std.proofs.Common.{map}
 use Rattle.fab_bits.specs.Bits.{digits}
 use Rattle.fab_frames.specs.Stream.{stream}
-use Rattle.fab_simulated_designs.specs.fab_runs.proofs.Setting.{Laws, Setting}
+use Rattle.fab_simulated_designs.proofs.fab_runs_Setting.{Laws, Setting}
 use Rattle.fab_ordering.proofs.Cycles.{start_ready}
 use Rattle.fab_simulated_designs.specs.Designs.{initial_latches}
 use Rattle.fab_simulated_designs.proofs.Known.{KnownLaws}

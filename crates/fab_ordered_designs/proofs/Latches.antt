@@ -10,7 +10,7 @@ use Rattle.fab_model.specs.Grid.{PlainFabric}
 use Rattle.fab_fabric.specs.Fabric.{IsFabric}
 use Rattle.fab_gen_loader.specs.Loader.{NextValues, loader_of, StepsAsTheMachine}
 use Rattle.fab_fabric_text.specs.Text.{fabric_text}
-use Rattle.fab_simulated_designs.specs.fab_drives.proofs.Texts.{HasFabric}
+use Rattle.fab_simulated_designs.proofs.fab_drives_Texts.{HasFabric}
 use Rattle.fab_text_loads.specs.Loads.{NamedAreLoading}
 use Rattle.fab_text_loads.specs.Points.{in_configuration}
 use Rattle.fab_fabric_text.specs.Texts.{IsFabricText}

@@ -9,10 +9,10 @@ use Rattle.fab_meaning.specs.Loading.{IsLoading}
 use Rattle.fab_netlist.specs.Packing.{works, latch_at, cell_of}
 use Rattle.fab_netlist.proofs.Counts.{at_mapped}
 use Rattle.fab_prim.specs.Modules.{flip_flop_name}
-use Rattle.fab_simulated_designs.specs.fab_use.specs.Sites.{bel_point}
-use Rattle.fab_simulated_designs.specs.fab_runs.proofs.Carried.{latched}
-use Rattle.fab_simulated_designs.specs.fab_runs.proofs.Setting.{Setting}
-use Rattle.fab_simulated_designs.specs.fab_runs.proofs.Instants.{Ready}
+use Rattle.fab_simulated_designs.specs.fab_use_Sites.{bel_point}
+use Rattle.fab_simulated_designs.proofs.fab_runs_Carried.{latched}
+use Rattle.fab_simulated_designs.proofs.fab_runs_Setting.{Setting}
+use Rattle.fab_simulated_designs.proofs.fab_runs_Instants.{Ready}
 use Rattle.fab_ordering.proofs.Loading.{LeftOn, loading_left}
 use Rattle.fab_ordering.proofs.Blocks.{HoldsOn}
 use Rattle.fab_simulated_designs.proofs.Known.{IsRegister}

@@ -18,10 +18,10 @@ use Rattle.fab_kinds.specs.declared.kind.Kind.TheVariants as kinds
 use Rattle.std.proofs.lemmas.Bool.Decides.{Decides-eqb}
 use Rattle.fab_prim.specs.Modules.{flip_flop_name}
 use Rattle.fab_state.specs.Plain.{Register, PlainState}
-use Rattle.fab_simulated_designs.specs.fab_use.specs.Sites.{bel_point}
-use Rattle.fab_simulated_designs.specs.fab_use.specs.Registers.{register_of, design_state}
-use Rattle.fab_simulated_designs.specs.fab_runs.proofs.Setting.{Setting, cells_made}
-use Rattle.fab_simulated_designs.specs.fab_runs.proofs.Instants.{Ready}
+use Rattle.fab_simulated_designs.specs.fab_use_Sites.{bel_point}
+use Rattle.fab_simulated_designs.specs.fab_use_Registers.{register_of, design_state}
+use Rattle.fab_simulated_designs.proofs.fab_runs_Setting.{Setting, cells_made}
+use Rattle.fab_simulated_designs.proofs.fab_runs_Instants.{Ready}
 use Rattle.fab_ordering.specs.Ordered.{Moment, IsNamedRegister, IsStart}
 use Rattle.fab_simulated_designs.specs.Designs.{initial_latches}
 use Rattle.fab_simulated_designs.proofs.Fed.{bool_of, bool_of_known}

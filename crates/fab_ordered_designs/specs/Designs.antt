@@ -14,8 +14,8 @@ use Rattle.fab_netlist.specs.Packing.{packed}
 use Rattle.fab_implementation.specs.Plain.{PlainImplementation}
 use Rattle.fab_state.specs.Plain.{PlainState}
 use Rattle.fab_tern.specs.Shown.{Terns}
-use Rattle.fab_simulated_designs.specs.fab_use.specs.Design.{IsSourced}
-use Rattle.fab_simulated_designs.specs.fab_use.specs.Registers.{design_state}
+use Rattle.fab_simulated_designs.specs.fab_use_Design.{IsSourced}
+use Rattle.fab_simulated_designs.specs.fab_use_Registers.{design_state}
 use Rattle.fab_ordering.specs.Ordered.{Moment, AreOrderedCycles, none, after, SimulatesInOrder}
 use Rattle.fab_ordering.specs.Laws.{EachSettles}
 use Rattle.fab_simulated_designs.specs.Designs.{initial_latches}

@@ -12,7 +12,7 @@ use Rattle.fab_netlist.specs.Packing.{packed}
 use Rattle.fab_implementation.specs.Plain.{Pad, PlainImplementation}
 use Rattle.fab_legal.specs.Legal.{IsLegal}
 use Rattle.fab_fabric_text.specs.Texts.{IsFabricText}
-use Rattle.fab_simulated_designs.specs.fab_use.specs.Configuring.{Configures}
+use Rattle.fab_simulated_designs.specs.fab_use_Configuring.{Configures}
 use Rattle.fab_ordered_designs.specs.Designs.{SimulatesDesignInOrder, ShowsNetlistInOrder}
 
 -- In each text of a fabric that is loaded with the bitstream of a legal implementation, and whose widths are counted in 64 bits, what an ordered simulation

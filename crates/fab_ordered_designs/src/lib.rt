@@ -6,12 +6,12 @@ ghost use Rattle.fab_ordered_designs.specs.Laws.{LegalDesignsSimulateInOrder};
 
 use fab_meaning::laws::{loaded_points_stay, points_of_sound_texts_have_one_driver};
 use fab_netlist::one_run;
-pub use fab_simulated_designs;
-use fab_simulated_designs::fab_points::{
+pub use fab_simulated_designs::legal_designs_simulate;
+use fab_simulated_designs::{
     configuration_goes, design_is_declared, design_is_listed, design_settles_by_sources,
-    loaded_is_known, ranked_design_settles_once, registers_tick, sources_are_known,
+    loaded_is_known, loading_is_known, ranked_design_settles_once, registers_tick,
+    sources_are_known,
 };
-use fab_simulated_designs::fab_simulation::loading_is_known;
 use fab_solutions::drivers_grow;
 use fab_text_loads::fabric_texts_load;
 

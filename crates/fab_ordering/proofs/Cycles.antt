@@ -5,7 +5,7 @@ use Rattle.fab_meaning.specs.Points.{Point}
 use Rattle.fab_meaning.specs.Loading.{IsLoading}
 use Rattle.fab_meaning.specs.Loaded.{LoadedPointsStay, IsLoaded}
 use Rattle.fab_equations.specs.Instances.{points}
-use Rattle.fab_simulation.specs.fab_state.specs.Plain.{PlainState}
+use Rattle.fab_simulation.specs.fab_state_Plain.{PlainState}
 use Rattle.fab_solutions.specs.Laws.{DriversGrow, DriversFit}
 use Rattle.fab_simulation.specs.Laws.{LoadingIsKnown}
 use Rattle.fab_ordering.specs.Ordered.{Moment, IsStart, IsBegun, IsOrderedCycle, AreOrderedCycles, none, after}

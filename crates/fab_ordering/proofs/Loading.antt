@@ -14,11 +14,11 @@ use Rattle.fab_meaning.proofs.Loaded.{hold_again}
 use Rattle.fab_meaning.proofs.SingleDrivers.{one_driver}
 use Rattle.fab_meaning.proofs.SoundTexts.{sound_drives_once}
 use Rattle.fab_legal.proofs.Members.{from_mapped}
-use Rattle.fab_simulation.specs.fab_state.specs.Plain.{PlainState}
+use Rattle.fab_simulation.specs.fab_state_Plain.{PlainState}
 use Rattle.fab_prim.specs.Ports.{top_name}
-use Rattle.fab_simulation.specs.fab_fabric_text.specs.Names.{pad_port_name}
-use Rattle.fab_simulation.specs.fab_drives.proofs.Apart.{told_apart}
-use Rattle.fab_simulation.specs.fab_use.specs.Sites.{top_point}
+use Rattle.fab_simulation.specs.fab_fabric_text_Names.{pad_port_name}
+use Rattle.fab_simulation.proofs.fab_drives_Apart.{told_apart}
+use Rattle.fab_simulation.specs.fab_use_Sites.{top_point}
 use Rattle.fab_simulation.proofs.Loading.{within_declared}
 use Rattle.fab_ordering.specs.Ordered.{IsNamedInput, IsUserTick}
 

@@ -8,7 +8,7 @@ use Rattle.fab_meaning.specs.Settled.{Assignment}
 use Rattle.fab_meaning.specs.Reads.{is_declared}
 use Rattle.fab_meaning.specs.Loading.{IsLoading}
 use Rattle.fab_sound.specs.Narrow.{AreNarrow}
-use Rattle.fab_simulation.specs.fab_state.specs.Plain.{PlainState}
+use Rattle.fab_simulation.specs.fab_state_Plain.{PlainState}
 use Rattle.fab_tern.specs.Shown.{Terns}
 use Rattle.fab_ordering.specs.Ordered.{Moment, AreOrderedBlocks, enough, last, more, IsOrderedCycle, AreOrderedCycles, none, after, SimulatesInOrder}
 

@@ -1,6 +1,5 @@
 pub mod Ordered
 pub mod Laws
-pub use Rattle.fab_simulation.specs.fab_drives
-pub use Rattle.fab_simulation.specs.fab_text_loads
-pub use Rattle.fab_simulation.specs.fab_use
-pub use Rattle.fab_simulation
+pub use Rattle.fab_simulation.specs.Laws as fab_simulation_Laws
+pub use Rattle.fab_simulation.specs.Simulation as fab_simulation_Simulation
+pub use Rattle.fab_simulation.specs.fab_use_Sites as fab_use_Sites

@@ -16,10 +16,10 @@ use Rattle.fab_equations.specs.Instances.{points}
 use Rattle.fab_equations.specs.Equations.{IsPoint}
 use Rattle.fab_tern.specs.Shown.{Terns}
 use Rattle.fab_solutions.specs.Solutions.{IsLeastSolution}
-use Rattle.fab_simulation.specs.fab_state.specs.Plain.{PlainState}
+use Rattle.fab_simulation.specs.fab_state_Plain.{PlainState}
 use Rattle.fab_prim.specs.Ports.{top_name}
 use Rattle.fab_prim.specs.Modules.{flip_flop_name}
-use Rattle.fab_simulation.specs.fab_use.specs.Sites.{bel_point, top_point}
+use Rattle.fab_simulation.specs.fab_use_Sites.{bel_point, top_point}
 use Rattle.fab_simulation.specs.Simulation.{IsLoaded, with_registers, given}
 
 -- Where an ordered simulation stands: what the points have and what is held, the least ternary solution of the present cycle, the order in which points were

@@ -5,8 +5,7 @@
 ghost use Rattle.fab_ordering.specs.Laws.{OrderedBlocksSettle};
 
 use fab_meaning::laws::loaded_points_stay;
-pub use fab_simulation;
-use fab_simulation::loading_is_known;
+pub use fab_simulation::{loading_is_known, simulations_exist};
 use fab_solutions::drivers_grow;
 
 /// Where loading sets all latches, some block of each cycle changes no known point, and then all known points stand at the values of the least

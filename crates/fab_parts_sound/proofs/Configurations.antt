@@ -14,12 +14,12 @@ use Rattle.fab_syntax.specs.declared.tree.Shape.TheVariants.{Scalar}
 use Rattle.fab_syntax.specs.Plain.{PlainExpr, PlainItem, PlainModule, variable, plain_exprs, reg, assign}
 use Rattle.fab_syntax.specs.Declarations.{width_if_any}
 use Rattle.fab_syntax.specs.Sound.{width_of, width_of_name, parts_width, ServesAsClock}
-use Rattle.fab_tile_drives.specs.fab_meaning.proofs.Modules.{Each, each_all}
-use Rattle.fab_tile_drives.specs.fab_meaning.specs.Ports.{config_name}
-use Rattle.fab_tile_drives.specs.fab_model.specs.Tiles.{PlainTile, counted, tile_bits}
-use Rattle.fab_tile_drives.specs.fab_model.specs.Tables.{HasTable}
-use Rattle.fab_tile_drives.specs.fab_gen_tile.specs.Names.{latch_name, frame_data_name, frame_strobe_name}
-use Rattle.fab_tile_drives.specs.fab_gen_tile.specs.ConfigModule.{bit_latch, all_latches, config_module}
+use Rattle.fab_tile_drives.proofs.fab_meaning_Modules.{Each, each_all}
+use Rattle.fab_tile_drives.specs.fab_meaning_Ports.{config_name}
+use Rattle.fab_tile_drives.specs.fab_model_Tiles.{PlainTile, counted, tile_bits}
+use Rattle.fab_tile_drives.specs.fab_model_Tables.{HasTable}
+use Rattle.fab_tile_drives.specs.fab_gen_tile_Names.{latch_name, frame_data_name, frame_strobe_name}
+use Rattle.fab_tile_drives.specs.fab_gen_tile_ConfigModule.{bit_latch, all_latches, config_module}
 use Rattle.fab_parts_sound.specs.Fits.{FitsIn}
 use Rattle.fab_parts_sound.proofs.Lists.{all_counted, all_reverse, pairs_none, pairs_append, pairs_counted, contains_first, contains_later, contains_counted, length-counted, none_each, one_each}
 use Rattle.fab_parts_sound.proofs.Names.{Differ, told_apart, AreApart, IsNoneOf, IsNet, OwnKnown}

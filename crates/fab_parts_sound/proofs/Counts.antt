@@ -8,7 +8,7 @@ use Rattle.fab_syntax.specs.declared.tree.Port.{Port}
 use Rattle.fab_syntax.specs.Plain.{PlainExpr, PlainJoin, PlainItem, PlainModule, variable, wire, reg, assign, latch, clocked, instance}
 use Rattle.fab_syntax.specs.Declarations.{module_named, is_input_of, one_if_same, one_if_variable, times_joined_out, times_driven_by, times_driven, times_held}
 use Rattle.fab_syntax.specs.Sound.{PortIsDriven, ItemIsDriven}
-use Rattle.fab_tile_drives.specs.fab_meaning.proofs.Declared.{bytes_apart}
+use Rattle.fab_tile_drives.proofs.fab_meaning_Declared.{bytes_apart}
 use Rattle.fab_parts_sound.proofs.Lists.{pairs_head, pairs_tail}
 use Rattle.fab_parts_sound.proofs.Names.{Differ, AreApart, IsNoneOf}
 

@@ -6,7 +6,7 @@ use Rattle.std.proofs.lemmas.Slice.Eq.{bytes_eq-Decides}
 use Rattle.fab_syntax.specs.declared.tree.Port.{Port}
 use Rattle.fab_syntax.specs.Plain.{PlainItem}
 use Rattle.fab_syntax.specs.Declarations.{declared_shape, is_input}
-use Rattle.fab_tile_drives.specs.fab_meaning.proofs.Declared.{bytes_apart}
+use Rattle.fab_tile_drives.proofs.fab_meaning_Declared.{bytes_apart}
 use Rattle.fab_parts_sound.proofs.Lists.{pairs_head, pairs_tail, contains_map}
 use Rattle.fab_parts_sound.proofs.Names.{Differ, AreApart}
 

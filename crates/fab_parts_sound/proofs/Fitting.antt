@@ -5,7 +5,7 @@ use Rattle.std.proofs.lemmas.List.Elements.{All-nil, All-cons, All-head, All-tai
 use Rattle.fab_syntax.specs.Plain.{PlainModule}
 use Rattle.fab_syntax.specs.Declarations.{module_named}
 use Rattle.fab_syntax.specs.Sound.{refusals, mentions_in, item_expressions, Every, SelectFits, OperandsFit, SidesFit, PortIsDriven, ItemIsDriven, ClockFits, InstancesFitBehind, text_refusals}
-use Rattle.fab_tile_drives.specs.fab_meaning.proofs.Declared.{bytes_apart}
+use Rattle.fab_tile_drives.proofs.fab_meaning_Declared.{bytes_apart}
 use Rattle.fab_parts_sound.specs.Fits.{FitsIn, AllFit, FittingTextsAreSound}
 use Rattle.fab_parts_sound.proofs.Lists.{pairs_head, pairs_tail}
 

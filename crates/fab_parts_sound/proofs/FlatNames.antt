@@ -8,8 +8,8 @@ use Rattle.fab_syntax.specs.declared.tree.Port.{Port}
 use Rattle.fab_syntax.specs.Plain.{PlainExpr, PlainItem, PlainModule, wire, reg, assign, latch, clocked, instance}
 use Rattle.fab_syntax.specs.Sound.{use_of, uses, refusals, mentions_in, PortIsDriven, ItemIsDriven}
 use Rattle.fab_syntax.specs.Declarations.{item_shape}
-use Rattle.fab_tile_drives.specs.fab_meaning.proofs.Dependence.{same_name}
-use Rattle.fab_tile_drives.specs.fab_model.specs.Tiles.{counted}
+use Rattle.fab_tile_drives.proofs.fab_meaning_Dependence.{same_name}
+use Rattle.fab_tile_drives.specs.fab_model_Tiles.{counted}
 use Rattle.fab_parts_sound.specs.Fits.{FitsIn}
 use Rattle.fab_parts_sound.proofs.Names.{AreApart, IsNet, IsKnown, UsesNets, OwnKnown, nets, net_names, instance_names, names_fit, uses_known}
 use Rattle.fab_parts_sound.proofs.Counts.{driven_names, held_names, IsPortAmong, IsItemAmong, port_driven, item_driven}

@@ -15,3 +15,9 @@ pub mod Loaders
 pub mod Declared
 pub mod Matrices
 pub mod TileMatrices
+pub use Rattle.fab_tile_drives.proofs.BorderBits as fab_tile_drives_BorderBits
+pub use Rattle.fab_tile_drives.proofs.Endings as fab_tile_drives_Endings
+pub use Rattle.fab_tile_drives.proofs.Members as fab_tile_drives_Members
+pub use Rattle.fab_tile_drives.proofs.NamedPairs as fab_tile_drives_NamedPairs
+pub use Rattle.fab_tile_drives.proofs.PinPorts as fab_tile_drives_PinPorts
+pub use Rattle.fab_tile_drives.proofs.Widths as fab_tile_drives_Widths

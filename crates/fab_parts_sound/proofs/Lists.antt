@@ -5,7 +5,7 @@ use Rattle.std.proofs.lemmas.List.{length-reverse, get_or-reverse}
 use Rattle.std.proofs.lemmas.List.Concat.{flat_map-cons}
 use Rattle.std.proofs.lemmas.List.Elements.{All-nil, All-cons, All-append, All-head, All-tail}
 use Rattle.std.proofs.lemmas.List.Kept.{AllPairs-cons}
-use Rattle.fab_tile_drives.specs.fab_model.specs.Tiles.{counted}
+use Rattle.fab_tile_drives.specs.fab_model_Tiles.{counted}
 pub use Rattle.fab_gen_loader.proofs.Counted.{length-counted}
 pub use Rattle.fab_tile_drives.proofs.Endings.{all_counted, all_flat_map}
 pub use Rattle.fab_tile_drives.proofs.Members.{contains_first, contains_later, contains_map, contains_counted}

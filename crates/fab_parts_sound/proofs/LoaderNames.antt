@@ -11,10 +11,10 @@ use Rattle.fab_syntax.specs.declared.tree.Port.{Port}
 use Rattle.fab_syntax.specs.Plain.{PlainItem}
 use Rattle.fab_syntax.specs.Declarations.{item_shape, declared_shape, width_if_any}
 use Rattle.fab_syntax.specs.Sound.{width_of_name}
-use Rattle.fab_tile_drives.specs.fab_meaning.specs.Runs.{clock_name}
-use Rattle.fab_tile_drives.specs.fab_meaning.specs.Loading.{write_strobe_name, write_data_name}
-use Rattle.fab_tile_drives.specs.fab_meaning.proofs.Dependence.{same_name}
-use Rattle.fab_tile_drives.specs.fab_model.specs.Tiles.{counted}
+use Rattle.fab_tile_drives.specs.fab_meaning_Runs.{clock_name}
+use Rattle.fab_tile_drives.specs.fab_meaning_Loading.{write_strobe_name, write_data_name}
+use Rattle.fab_tile_drives.proofs.fab_meaning_Dependence.{same_name}
+use Rattle.fab_tile_drives.specs.fab_model_Tiles.{counted}
 use Rattle.fab_gen_loader.specs.Loader.{port, address_port, strobe_port, row_port, state_name, count_name, strobe_register_name, address_register_name, row_register_name}
 use Rattle.fab_gen_loader.specs.Expressions.{loader_module}
 use Rattle.fab_parts_sound.proofs.Lists.{all_counted, pairs_append, pairs_counted, contains_counted}

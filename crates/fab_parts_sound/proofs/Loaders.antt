@@ -9,11 +9,11 @@ use Rattle.fab_syntax.specs.declared.tree.Shape.TheVariants.{Scalar, Vector}
 use Rattle.fab_syntax.specs.declared.tree.Port.{Port}
 use Rattle.fab_syntax.specs.Plain.{PlainExpr, PlainItem, PlainModule, variable, complement, operation, conditional, reg, assign, clocked}
 use Rattle.fab_syntax.specs.Sound.{width_of_name, ServesAsClock}
-use Rattle.fab_tile_drives.specs.fab_meaning.specs.Runs.{clock_name}
-use Rattle.fab_tile_drives.specs.fab_meaning.specs.Loading.{write_strobe_name, write_data_name}
-use Rattle.fab_tile_drives.specs.fab_meaning.proofs.Modules.{Each, each_all}
-use Rattle.fab_tile_drives.specs.fab_model.specs.Tiles.{counted}
-use Rattle.fab_tile_drives.specs.fab_model.proofs.Inserts.{map_counted}
+use Rattle.fab_tile_drives.specs.fab_meaning_Runs.{clock_name}
+use Rattle.fab_tile_drives.specs.fab_meaning_Loading.{write_strobe_name, write_data_name}
+use Rattle.fab_tile_drives.proofs.fab_meaning_Modules.{Each, each_all}
+use Rattle.fab_tile_drives.specs.fab_model_Tiles.{counted}
+use Rattle.fab_tile_drives.proofs.fab_model_Inserts.{map_counted}
 use Rattle.fab_gen_loader.specs.Machine.{wake_word}
 use Rattle.fab_gen_loader.specs.Loader.{port, address_port, strobe_port, row_port, state_name, count_name, strobe_register_name, registers, processes, outputs, address_register_name, row_register_name}
 use Rattle.fab_gen_loader.specs.Expressions.{number_at, equals, both, takes_in, ends, rows_left, by_state, next_state, next_count, next_address, next_strobe, next_row, next_values, loader_module}

@@ -11,9 +11,9 @@ use Rattle.fab_syntax.specs.declared.tree.Port.{Port}
 use Rattle.fab_syntax.specs.Plain.{PlainExpr, PlainItem, PlainModule, constant, variable, operation, assign}
 use Rattle.fab_syntax.specs.Declarations.{width_if_any, declared_shape}
 use Rattle.fab_syntax.specs.Sound.{width_of_name}
-use Rattle.fab_tile_drives.specs.fab_meaning.specs.Ports.{config_name, scalar, config_port}
-use Rattle.fab_tile_drives.specs.fab_matrix.specs.Matrix.{field, chain, selection, output_value, matrix}
-use Rattle.fab_tile_drives.specs.fab_matrix.proofs.Fields.{field_within}
+use Rattle.fab_tile_drives.specs.fab_meaning_Ports.{config_name, scalar, config_port}
+use Rattle.fab_tile_drives.specs.fab_matrix_Matrix.{field, chain, selection, output_value, matrix}
+use Rattle.fab_tile_drives.proofs.fab_matrix_Fields.{field_within}
 use Rattle.fab_parts_sound.specs.Fits.{FitsIn}
 use Rattle.fab_parts_sound.proofs.Lists.{pairs_none, pairs_right, pairs_across, all_right, contains_first, contains_map}
 use Rattle.fab_parts_sound.proofs.Names.{Differ, AreApart, IsNet}

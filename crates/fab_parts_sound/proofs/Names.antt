@@ -10,7 +10,7 @@ use Rattle.std.proofs.lemmas.Slice.Eq.{bytes_eq-Decides}
 use Rattle.fab_syntax.specs.declared.tree.Port.{Port}
 use Rattle.fab_syntax.specs.Plain.{PlainExpr, PlainJoin, PlainItem, PlainModule, constant, variable, pick, part, concatenation, complement, operation, conditional, wire, reg, assign, latch, clocked, instance}
 use Rattle.fab_syntax.specs.Sound.{Mention, net, instance_name, use_of, joined_expressions, subexpressions, own_names, uses, item_mentions, mentions_in, is_net, is_declaration, refusals}
-use Rattle.fab_tile_drives.specs.fab_meaning.proofs.Declared.{bytes_apart}
+use Rattle.fab_tile_drives.proofs.fab_meaning_Declared.{bytes_apart}
 use Rattle.fab_parts_sound.proofs.Lists.{all_flat_map, pairs_head, pairs_tail, pairs_left, pairs_right, pairs_across}
 
 abbrev pub Differ : List ℕ → List ℕ → Type 0

@@ -4,9 +4,9 @@ use Rattle.fab_kinds.specs.declared.kind.Kind.{Kind}
 use Rattle.fab_kinds.specs.declared.kind.Kind.TheVariants.{Lut4c, Io, Mux8}
 use Rattle.fab_syntax.specs.Plain.{PlainModule}
 use Rattle.fab_syntax.specs.Sound.{refusals, mentions_in, PortIsDriven, ItemIsDriven, ServesAsClock}
-use Rattle.fab_tile_drives.specs.fab_meaning.specs.Runs.{user_clock_name}
-use Rattle.fab_tile_drives.specs.fab_meaning.proofs.Modules.{Each, each_all}
-use Rattle.fab_tile_drives.specs.fab_prim.specs.Modules.{module_of_kind}
+use Rattle.fab_tile_drives.specs.fab_meaning_Runs.{user_clock_name}
+use Rattle.fab_tile_drives.proofs.fab_meaning_Modules.{Each, each_all}
+use Rattle.fab_tile_drives.specs.fab_prim_Modules.{module_of_kind}
 use Rattle.fab_parts_sound.specs.Fits.{FitsIn}
 use Rattle.fab_parts_sound.proofs.Clocks.{ClocksBy, serves}
 use Rattle.fab_parts_sound.proofs.Flat.{ItemFits, flat_fits}

@@ -11,12 +11,12 @@ use Rattle.fab_select.specs.declared.pair.Pair.{Pair}
 use Rattle.fab_select.specs.Selection.{select_bits}
 use Rattle.fab_syntax.specs.Plain.{PlainModule, assign}
 use Rattle.fab_syntax.specs.Sound.{ServesAsClock}
-use Rattle.fab_tile_drives.specs.fab_meaning.specs.Ports.{config_name}
-use Rattle.fab_tile_drives.specs.fab_matrix.specs.Matrix.{output_value}
-use Rattle.fab_tile_drives.specs.fab_model.specs.Tiles.{PlainTile, TileWire, tile_wires, wire_name, matrix_names, is_matrix_output, wire_passes, IsPair, IsTile}
-use Rattle.fab_tile_drives.specs.fab_gen_tile.specs.Names.{matrix_module_name}
-use Rattle.fab_tile_drives.specs.fab_gen_tile.specs.TileModule.{is_on_side, side_names, matrix_input_names, matrix_output_names}
-use Rattle.fab_tile_drives.specs.fab_gen_tile.specs.MatrixModule.{numbered_outputs, named_pairs, matrix_module}
+use Rattle.fab_tile_drives.specs.fab_meaning_Ports.{config_name}
+use Rattle.fab_tile_drives.specs.fab_matrix_Matrix.{output_value}
+use Rattle.fab_tile_drives.specs.fab_model_Tiles.{PlainTile, TileWire, tile_wires, wire_name, matrix_names, is_matrix_output, wire_passes, IsPair, IsTile}
+use Rattle.fab_tile_drives.specs.fab_gen_tile_Names.{matrix_module_name}
+use Rattle.fab_tile_drives.specs.fab_gen_tile_TileModule.{is_on_side, side_names, matrix_input_names, matrix_output_names}
+use Rattle.fab_tile_drives.specs.fab_gen_tile_MatrixModule.{numbered_outputs, named_pairs, matrix_module}
 use Rattle.fab_tile_drives.proofs.Endings.{EndsLow, low_apart, low_wires}
 use Rattle.fab_tile_drives.proofs.MatrixPorts.{side_there}
 use Rattle.fab_parts_sound.specs.Fits.{FitsIn}

@@ -16,8 +16,8 @@ use Rattle.fab_netlist.specs.declared.net_id.NetId.{NetId}
 use Rattle.fab_netlist.specs.declared.net_id.NetId.TheVariants as ids
 use Rattle.fab_netlist.specs.Packed.{PlainCell, PlainPacked}
 use Rattle.fab_netlist.proofs.Members.{first_in, later_in, first_or_later}
-use Rattle.fab_ways.specs.fab_legal.specs.WellMade.{IsNetId, IsWellMadePacked}
-use Rattle.fab_ways.specs.fab_legal.specs.Sinks.{site_of}
+use Rattle.fab_ways.specs.fab_legal_WellMade.{IsNetId, IsWellMadePacked}
+use Rattle.fab_ways.specs.fab_legal_Sinks.{site_of}
 use Rattle.fab_ways.specs.Placing.{no_site, half_perimeter, cell_site, reader_sites, cost}
 use Rattle.fab_place.specs.Pins.{item_total, net_total, pin}
 use Rattle.fab_place.specs.Standing.{site_at, standing}

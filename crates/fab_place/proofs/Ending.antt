@@ -15,10 +15,10 @@ use Rattle.fab_netlist.specs.Packed.{PlainPacked}
 use Rattle.fab_netlist.proofs.Members.{mapped_in}
 use Rattle.fab_implementation.specs.Plain.{Pad, PlainImplementation}
 use Rattle.fab_implementation.specs.OnFabric.{IsSite, kind_at, IsOnFabric}
-use Rattle.fab_ways.specs.fab_legal.specs.WellMade.{output_name, output_ports, ports}
-use Rattle.fab_ways.specs.fab_legal.specs.Lines.{IsCell, IsInput, IsOutput, HaveSites, sites as all_sites, ConstraintsHold}
-use Rattle.fab_ways.specs.fab_legal.specs.Legal.{ArePlaced}
-use Rattle.fab_ways.specs.fab_legal.proofs.Bindings.{differ_left, differ_right}
+use Rattle.fab_ways.specs.fab_legal_WellMade.{output_name, output_ports, ports}
+use Rattle.fab_ways.specs.fab_legal_Lines.{IsCell, IsInput, IsOutput, HaveSites, sites as all_sites, ConstraintsHold}
+use Rattle.fab_ways.specs.fab_legal_Legal.{ArePlaced}
+use Rattle.fab_ways.proofs.fab_legal_Bindings.{differ_left, differ_right}
 use Rattle.fab_fabric.specs.Sites.{sites_of_kind}
 use Rattle.fab_ways.specs.Sites.{same_site}
 use Rattle.fab_ways.specs.Placing.{no_site, site_after, exchanged, MayExchange, IsGoodPlacement, cost, placement_in_order}

@@ -5,7 +5,7 @@ use Rattle.std.proofs.lemmas.Bool.Decides.{eqb_tells}
 use Rattle.fab_model.specs.Tiles.{counted}
 use Rattle.fab_fabric.specs.declared.wire.Site.{Site}
 use Rattle.fab_netlist.specs.Packed.{PlainPacked}
-use Rattle.fab_ways.specs.fab_legal.specs.Sinks.{site_of}
+use Rattle.fab_ways.specs.fab_legal_Sinks.{site_of}
 use Rattle.fab_ways.specs.Placing.{cell_site}
 use Rattle.fab_place.specs.Standing.{site_at, standing}
 

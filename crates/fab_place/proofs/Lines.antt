@@ -12,9 +12,9 @@ use Rattle.fab_netlist.specs.Plain.{IsAt}
 use Rattle.fab_netlist.specs.Packed.{PlainPacked}
 use Rattle.fab_implementation.specs.Plain.{Pad}
 use Rattle.fab_implementation.specs.OnFabric.{kind_at}
-use Rattle.fab_ways.specs.fab_legal.specs.Turns.{AreRight}
-use Rattle.fab_ways.specs.fab_legal.specs.WellMade.{output_name, output_ports, ports}
-use Rattle.fab_ways.specs.fab_legal.specs.Lines.{named, sited, HaveSites, IsNew, sites as all_sites}
+use Rattle.fab_ways.specs.fab_legal_Turns.{AreRight}
+use Rattle.fab_ways.specs.fab_legal_WellMade.{output_name, output_ports, ports}
+use Rattle.fab_ways.specs.fab_legal_Lines.{named, sited, HaveSites, IsNew, sites as all_sites}
 use Rattle.fab_ways.proofs.Lists.{from_counted, in_counted}
 use Rattle.fab_place.specs.Pins.{item_total}
 use Rattle.fab_place.specs.Standing.{site_at, input_lines, output_lines, standing}

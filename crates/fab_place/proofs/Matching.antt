@@ -15,9 +15,9 @@ use Rattle.fab_netlist.specs.Packed.{PlainPacked}
 use Rattle.fab_netlist.proofs.Members.{any_by, any_gives}
 use Rattle.fab_implementation.specs.Plain.{Pad}
 use Rattle.fab_implementation.specs.OnFabric.{kind_at}
-use Rattle.fab_ways.specs.fab_legal.specs.Lines.{named, sited}
-use Rattle.fab_ways.specs.fab_legal.specs.Sinks.{site_of}
-use Rattle.fab_ways.specs.fab_legal.specs.WellMade.{ports, IsWellMadePacked}
+use Rattle.fab_ways.specs.fab_legal_Lines.{named, sited}
+use Rattle.fab_ways.specs.fab_legal_Sinks.{site_of}
+use Rattle.fab_ways.specs.fab_legal_WellMade.{ports, IsWellMadePacked}
 use Rattle.fab_fabric.specs.Sites.{sites_of_kind}
 use Rattle.fab_ways.specs.Sites.{same_site}
 use Rattle.fab_ways.specs.Placing.{no_site, is_fixed, pads_in_order, free_pads}

@@ -12,7 +12,7 @@ use Rattle.fab_fabric.specs.declared.wire.Site.{Site}
 use Rattle.fab_netlist.specs.Packed.{PlainPacked}
 use Rattle.fab_implementation.specs.Plain.{Pad, PlainImplementation}
 use Rattle.fab_implementation.specs.OnFabric.{IsOnFabric}
-use Rattle.fab_ways.specs.fab_legal.specs.WellMade.{ports}
+use Rattle.fab_ways.specs.fab_legal_WellMade.{ports}
 use Rattle.fab_fabric.specs.Sites.{sites_of_kind}
 use Rattle.fab_ways.specs.Placing.{IsGoodPlacement}
 use Rattle.fab_place.specs.Fixings.{AreFixed, Fits}

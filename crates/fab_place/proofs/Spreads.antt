@@ -5,7 +5,7 @@ use Rattle.std.specs.List.{Contains}
 use Rattle.fab_fabric.specs.declared.wire.Site.{Site}
 use Rattle.fab_board.specs.Spans.{least, greatest, spread as item_spread}
 use Rattle.fab_board.proofs.Extremes.{least_below, least_reached, least_is, greatest_above, greatest_reached, greatest_is}
-use Rattle.fab_ways.specs.fab_legal.proofs.Members.{from_mapped}
+use Rattle.fab_ways.proofs.fab_legal_Members.{from_mapped}
 use Rattle.fab_ways.specs.Placing.{spread, half_perimeter}
 
 -- the spread of numbers is that of themselves as places

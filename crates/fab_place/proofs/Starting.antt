@@ -13,8 +13,8 @@ use Rattle.fab_fabric.specs.Fabric.{IsFabric}
 use Rattle.fab_fabric.specs.declared.wire.Site.{Site}
 use Rattle.fab_netlist.specs.Packed.{PlainPacked}
 use Rattle.fab_implementation.specs.Plain.{Pad, PlainImplementation}
-use Rattle.fab_ways.specs.fab_legal.specs.WellMade.{output_name, output_ports, ports}
-use Rattle.fab_ways.specs.fab_legal.proofs.Members.{from_mapped}
+use Rattle.fab_ways.specs.fab_legal_WellMade.{output_name, output_ports, ports}
+use Rattle.fab_ways.proofs.fab_legal_Members.{from_mapped}
 use Rattle.fab_fabric.specs.Sites.{sites_of_kind}
 use Rattle.fab_ways.specs.Placing.{no_site, pads_in_order, free_pads, placement_in_order}
 use Rattle.fab_ways.proofs.Lists.{from_counted, from_filter}

@@ -1,6 +1,6 @@
 //! The board of a design.
 ghost use Rattle.std.specs.Prelude.{◌≡◌, ◌+◌, ◌<◌, ◌≤◌, ◌^◌, ◌++◌, false, IfOk, length, map, replicate, is_some};
-ghost use Rattle.fab_ways.specs.fab_legal.specs.WellMade.{IsWellMadePacked};
+ghost use Rattle.fab_ways.specs.fab_legal_WellMade.{IsWellMadePacked};
 ghost use Rattle.fab_board.specs.Measured.{IsNets, net_count, item_count};
 ghost use Rattle.fab_place.specs.Pins.{net_total, item_total, pins, HavePins};
 ghost use Rattle.fab_place.specs.inner.BoardOf.{IsBoardOf};

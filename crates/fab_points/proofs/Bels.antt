@@ -16,15 +16,15 @@ use Rattle.fab_model.specs.Tiles.{PlainTile, bel_pin, wire_name, bits_before}
 use Rattle.fab_model.specs.Wires.{pin_of, pin_count, IsWire}
 use Rattle.fab_prim.specs.Ports.{clock_names, top_inputs, top_outputs}
 use Rattle.fab_prim.specs.Modules.{module_name, module_of_kind}
-use Rattle.fab_use.specs.fab_gen_tile.specs.Names.{bel_instance_name, pad_name, same_join}
-use Rattle.fab_use.specs.fab_gen_tile.specs.TileModule.{bits_join, pin_join, pad_join, bel_joins, tile_module}
-use Rattle.fab_use.specs.fab_tile_drives.specs.Stands.{TileStands, bel_path, name_of, wire_point}
-use Rattle.fab_use.specs.fab_tile_drives.proofs.Members.{contains_at, contains_map}
-use Rattle.fab_use.specs.fab_tile_drives.proofs.TileNames.{name_wide, top_wide}
-use Rattle.fab_use.specs.fab_tile_drives.proofs.TileItems.{bel_found, bel_there}
-use Rattle.fab_use.specs.fab_tile_drives.proofs.WireNames.{name_there}
-use Rattle.fab_use.specs.fab_tile_drives.proofs.BitValues.{inside}
-use Rattle.fab_use.specs.fab_tile_drives.proofs.PinPorts.{IsNoInput, first_input, outputs_are_outputs, top_input, input_joined, top_joined, output_joined}
+use Rattle.fab_use.specs.fab_gen_tile_Names.{bel_instance_name, pad_name, same_join}
+use Rattle.fab_use.specs.fab_gen_tile_TileModule.{bits_join, pin_join, pad_join, bel_joins, tile_module}
+use Rattle.fab_use.specs.fab_tile_drives_Stands.{TileStands, bel_path, name_of, wire_point}
+use Rattle.fab_use.proofs.fab_tile_drives_Members.{contains_at, contains_map}
+use Rattle.fab_use.proofs.fab_tile_drives_TileNames.{name_wide, top_wide}
+use Rattle.fab_use.proofs.fab_tile_drives_TileItems.{bel_found, bel_there}
+use Rattle.fab_use.proofs.fab_tile_drives_WireNames.{name_there}
+use Rattle.fab_use.proofs.fab_tile_drives_BitValues.{inside}
+use Rattle.fab_use.proofs.fab_tile_drives_PinPorts.{IsNoInput, first_input, outputs_are_outputs, top_input, input_joined, top_joined, output_joined}
 use Rattle.fab_use.specs.Sources.{shows}
 use Rattle.fab_tern.specs.Shown.{Terns}
 use Rattle.fab_points.specs.Shown.{Shown}

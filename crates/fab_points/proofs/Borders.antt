@@ -12,24 +12,24 @@ use Rattle.fab_model.specs.Cascade.{PlacedRow, previous_row, passing_bits}
 use Rattle.fab_model.specs.Wires.{PlainWire, source_of, dest_of, IsWire}
 use Rattle.fab_model.proofs.Crossings.{IsPlaced}
 use Rattle.fab_fabric.specs.Names.{place_name}
-use Rattle.fab_use.specs.fab_gen_tile.specs.Names.{tile_module_name, begin_name, end_name}
-use Rattle.fab_use.specs.fab_gen_tile.specs.Borders.{side_border, fixed_bit, dest_value}
-use Rattle.fab_use.specs.fab_gen_tile.specs.TileModule.{tile_module}
-use Rattle.fab_use.specs.fab_fabric_text.specs.Names.{begin_wire_name}
-use Rattle.fab_use.specs.fab_fabric_text.specs.Top.{end_value, tile_joins, top_module}
-use Rattle.fab_use.specs.fab_tile_drives.specs.Stands.{TileStands, name_of, wire_point}
-use Rattle.fab_use.specs.fab_tile_drives.proofs.Members.{contains_at}
-use Rattle.fab_use.specs.fab_tile_drives.proofs.TileNames.{name_wide, end_wide}
-use Rattle.fab_use.specs.fab_tile_drives.proofs.TileItems.{assign_there}
-use Rattle.fab_use.specs.fab_tile_drives.proofs.WireNames.{name_there, source_name, dest_name, source_exists}
-use Rattle.fab_use.specs.fab_tile_drives.proofs.BorderBits.{dest_within, passing_within, beginning_within, passing_there, beginning_there, dest_there, jump_source}
-use Rattle.fab_use.specs.fab_drives.proofs.Places.{placed_tile}
-use Rattle.fab_use.specs.fab_drives.proofs.Instances.{tile_instance_there}
-use Rattle.fab_use.specs.fab_drives.proofs.Texts.{HasFabric}
-use Rattle.fab_use.specs.fab_drives.proofs.TilePorts.{end_is_input, begin_is_output}
-use Rattle.fab_use.specs.fab_drives.proofs.TopNames.{begin_wire_has_bits}
-use Rattle.fab_use.specs.fab_drives.proofs.TileJoins.{begin_is_joined, end_is_joined}
-use Rattle.fab_use.specs.fab_text_loads.proofs.Drivers.{joined_to}
+use Rattle.fab_use.specs.fab_gen_tile_Names.{tile_module_name, begin_name, end_name}
+use Rattle.fab_use.specs.fab_gen_tile_Borders.{side_border, fixed_bit, dest_value}
+use Rattle.fab_use.specs.fab_gen_tile_TileModule.{tile_module}
+use Rattle.fab_use.specs.fab_fabric_text_Names.{begin_wire_name}
+use Rattle.fab_use.specs.fab_fabric_text_Top.{end_value, tile_joins, top_module}
+use Rattle.fab_use.specs.fab_tile_drives_Stands.{TileStands, name_of, wire_point}
+use Rattle.fab_use.proofs.fab_tile_drives_Members.{contains_at}
+use Rattle.fab_use.proofs.fab_tile_drives_TileNames.{name_wide, end_wide}
+use Rattle.fab_use.proofs.fab_tile_drives_TileItems.{assign_there}
+use Rattle.fab_use.proofs.fab_tile_drives_WireNames.{name_there, source_name, dest_name, source_exists}
+use Rattle.fab_use.proofs.fab_tile_drives_BorderBits.{dest_within, passing_within, beginning_within, passing_there, beginning_there, dest_there, jump_source}
+use Rattle.fab_use.proofs.fab_drives_Places.{placed_tile}
+use Rattle.fab_use.proofs.fab_drives_Instances.{tile_instance_there}
+use Rattle.fab_use.proofs.fab_drives_Texts.{HasFabric}
+use Rattle.fab_use.proofs.fab_drives_TilePorts.{end_is_input, begin_is_output}
+use Rattle.fab_use.proofs.fab_drives_TopNames.{begin_wire_has_bits}
+use Rattle.fab_use.proofs.fab_drives_TileJoins.{begin_is_joined, end_is_joined}
+use Rattle.fab_use.proofs.fab_text_loads_Drivers.{joined_to}
 use Rattle.fab_tern.specs.Operators.{tern_at}
 use Rattle.fab_tern.specs.Values.{tern_value}
 use Rattle.fab_use.specs.Sources.{Source, shows, always}

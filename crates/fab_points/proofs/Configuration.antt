@@ -28,39 +28,39 @@ use Rattle.fab_model.specs.Grid.{PlainFabric, tile_at}
 use Rattle.fab_model.proofs.Wires.{number_has_wire}
 use Rattle.fab_fabric.specs.Fabric.{IsFabric, AreTiles}
 use Rattle.fab_prim.specs.Modules.{module_name, module_of_kind}
-use Rattle.fab_use.specs.fab_gen_tile.specs.Names.{config_instance_name, matrix_module_name, matrix_instance_name, bel_instance_name, bits_name, frame_data_name, frame_strobe_name, latch_name, same_join}
-use Rattle.fab_use.specs.fab_gen_tile.specs.ConfigModule.{config_module}
-use Rattle.fab_use.specs.fab_gen_tile.specs.TileModule.{bits_join, bel_joins, matrix_input_names, matrix_output_names, matrix_joins, tile_module}
-use Rattle.fab_use.specs.fab_gen_tile.specs.MatrixModule.{named_pairs, matrix_module}
-use Rattle.fab_use.specs.fab_gen_loader.specs.Loader as loaders
-use Rattle.fab_use.specs.fab_gen_loader.specs.Loader.{NextValues, loader_of, registers, processes, outputs, loader_ports, strobe_register_name, address_port, strobe_port, row_port}
-use Rattle.fab_use.specs.fab_fabric_text.specs.Names.{column_strobe_name}
-use Rattle.fab_use.specs.fab_fabric_text.specs.Places.{PlacedTile, placed_tiles}
+use Rattle.fab_use.specs.fab_gen_tile_Names.{config_instance_name, matrix_module_name, matrix_instance_name, bel_instance_name, bits_name, frame_data_name, frame_strobe_name, latch_name, same_join}
+use Rattle.fab_use.specs.fab_gen_tile_ConfigModule.{config_module}
+use Rattle.fab_use.specs.fab_gen_tile_TileModule.{bits_join, bel_joins, matrix_input_names, matrix_output_names, matrix_joins, tile_module}
+use Rattle.fab_use.specs.fab_gen_tile_MatrixModule.{named_pairs, matrix_module}
+use Rattle.fab_use.specs.fab_gen_loader_Loader as loaders
+use Rattle.fab_use.specs.fab_gen_loader_Loader.{NextValues, loader_of, registers, processes, outputs, loader_ports, strobe_register_name, address_port, strobe_port, row_port}
+use Rattle.fab_use.specs.fab_fabric_text_Names.{column_strobe_name}
+use Rattle.fab_use.specs.fab_fabric_text_Places.{PlacedTile, placed_tiles}
 use Rattle.fab_fabric.specs.Sites.{same_kind}
-use Rattle.fab_use.specs.fab_fabric_text.specs.Top.{top_module}
-use Rattle.fab_use.specs.fab_tile_drives.specs.Stands.{TileStands, matrix_path, bel_path}
-use Rattle.fab_use.specs.fab_tile_drives.proofs.Endings.{all_flat_map, all_counted}
-use Rattle.fab_use.specs.fab_tile_drives.proofs.Members.{contains_at, contains_counted}
-use Rattle.fab_use.specs.fab_tile_drives.proofs.Widths.{passed_ports}
-use Rattle.fab_use.specs.fab_tile_drives.proofs.TileNames.{bits_wide}
-use Rattle.fab_use.specs.fab_tile_drives.proofs.TileItems.{matrix_found, matrix_there, bel_found, bel_there}
-use Rattle.fab_use.specs.fab_tile_drives.proofs.Driven.{width_of, declared_at}
-use Rattle.fab_use.specs.fab_tile_drives.proofs.Latches.{latch_width}
-use Rattle.fab_use.specs.fab_tile_drives.proofs.BitValues.{inside}
-use Rattle.fab_use.specs.fab_tile_drives.proofs.MatrixPorts.{bits_input, bits_width}
-use Rattle.fab_use.specs.fab_tile_drives.proofs.NamedPairs.{bits_same}
-use Rattle.fab_use.specs.fab_tile_drives.proofs.PinPorts.{config_input, config_width, config_joined, bits_within}
-use Rattle.fab_use.specs.fab_drives.specs.Points.{place_path}
-use Rattle.fab_use.specs.fab_drives.proofs.Apart.{told_apart}
-use Rattle.fab_use.specs.fab_drives.proofs.Modules.{tile_of_types}
-use Rattle.fab_use.specs.fab_drives.proofs.Places.{IsThere, all_placed}
-use Rattle.fab_use.specs.fab_text_loads.specs.Points.{loader_path, config_path, IsLoadingPoint, in_top, in_loader, in_tile, in_configuration}
-use Rattle.fab_use.specs.fab_fabric_text.specs.Texts.{IsFabricText}
-use Rattle.fab_use.specs.fab_text_loads.proofs.Drivers.{assigned_by}
-use Rattle.fab_use.specs.fab_text_loads.proofs.Loader.{HasLoader, row_port_width, strobe_register_width}
-use Rattle.fab_use.specs.fab_text_loads.proofs.Tops.{address_width, strobe_width, row_width, column_width}
-use Rattle.fab_use.specs.fab_text_loads.proofs.Within.{AreWithin, expression_within, only_name, flops}
-use Rattle.fab_use.specs.fab_text_loads.proofs.Named.{config_stands, named_are_loading}
+use Rattle.fab_use.specs.fab_fabric_text_Top.{top_module}
+use Rattle.fab_use.specs.fab_tile_drives_Stands.{TileStands, matrix_path, bel_path}
+use Rattle.fab_use.proofs.fab_tile_drives_Endings.{all_flat_map, all_counted}
+use Rattle.fab_use.proofs.fab_tile_drives_Members.{contains_at, contains_counted}
+use Rattle.fab_use.proofs.fab_tile_drives_Widths.{passed_ports}
+use Rattle.fab_use.proofs.fab_tile_drives_TileNames.{bits_wide}
+use Rattle.fab_use.proofs.fab_tile_drives_TileItems.{matrix_found, matrix_there, bel_found, bel_there}
+use Rattle.fab_use.proofs.fab_tile_drives_Driven.{width_of, declared_at}
+use Rattle.fab_use.proofs.fab_tile_drives_Latches.{latch_width}
+use Rattle.fab_use.proofs.fab_tile_drives_BitValues.{inside}
+use Rattle.fab_use.proofs.fab_tile_drives_MatrixPorts.{bits_input, bits_width}
+use Rattle.fab_use.proofs.fab_tile_drives_NamedPairs.{bits_same}
+use Rattle.fab_use.proofs.fab_tile_drives_PinPorts.{config_input, config_width, config_joined, bits_within}
+use Rattle.fab_use.specs.fab_drives_Points.{place_path}
+use Rattle.fab_use.proofs.fab_drives_Apart.{told_apart}
+use Rattle.fab_use.proofs.fab_drives_Modules.{tile_of_types}
+use Rattle.fab_use.proofs.fab_drives_Places.{IsThere, all_placed}
+use Rattle.fab_use.specs.fab_text_loads_Points.{loader_path, config_path, IsLoadingPoint, in_top, in_loader, in_tile, in_configuration}
+use Rattle.fab_use.specs.fab_fabric_text_Texts.{IsFabricText}
+use Rattle.fab_use.proofs.fab_text_loads_Drivers.{assigned_by}
+use Rattle.fab_use.proofs.fab_text_loads_Loader.{HasLoader, row_port_width, strobe_register_width}
+use Rattle.fab_use.proofs.fab_text_loads_Tops.{address_width, strobe_width, row_width, column_width}
+use Rattle.fab_use.proofs.fab_text_loads_Within.{AreWithin, expression_within, only_name, flops}
+use Rattle.fab_use.proofs.fab_text_loads_Named.{config_stands, named_are_loading}
 use Rattle.fab_use.specs.Configuration.{NamedBits, named_bits, if_some_bits, frame_names, top_configuration, loader_configuration, bits_configuration, matrix_configuration, bel_configuration, tile_configuration, configuration, IsConfigurationPoint}
 use Rattle.fab_points.proofs.Loading.{loads, instance_loads, has_loader}
 use Rattle.fab_points.proofs.Places.{outputs_there, passing_plain}

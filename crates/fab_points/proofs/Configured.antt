@@ -3,14 +3,14 @@ use Rattle.std.proofs.Common.{◌≡◌, ℕ, List, refl, ◌∙◌, arith}
 use Rattle.fab_meaning.specs.Points.{point}
 use Rattle.fab_meaning.specs.Reads.{is_declared}
 use Rattle.fab_meaning.specs.Loading.{IsLoading}
-use Rattle.fab_use.specs.fab_gen_loader.specs.Loader.{NextValues, loader_of, state_name, strobe_register_name}
-use Rattle.fab_use.specs.fab_gen_tile.specs.ConfigModule.{config_module}
-use Rattle.fab_use.specs.fab_gen_tile.specs.Names.{latch_name}
-use Rattle.fab_use.specs.fab_tile_drives.proofs.Driven.{width_of, declared_at}
-use Rattle.fab_use.specs.fab_tile_drives.proofs.Latches.{latch_width}
-use Rattle.fab_use.specs.fab_text_loads.specs.Points.{loader_path, config_path, in_loader, in_configuration}
-use Rattle.fab_use.specs.fab_text_loads.proofs.Loader.{HasLoader, strobe_register_width}
-use Rattle.fab_use.specs.fab_text_loads.proofs.Named.{config_stands, named_are_loading}
+use Rattle.fab_use.specs.fab_gen_loader_Loader.{NextValues, loader_of, state_name, strobe_register_name}
+use Rattle.fab_use.specs.fab_gen_tile_ConfigModule.{config_module}
+use Rattle.fab_use.specs.fab_gen_tile_Names.{latch_name}
+use Rattle.fab_use.proofs.fab_tile_drives_Driven.{width_of, declared_at}
+use Rattle.fab_use.proofs.fab_tile_drives_Latches.{latch_width}
+use Rattle.fab_use.specs.fab_text_loads_Points.{loader_path, config_path, in_loader, in_configuration}
+use Rattle.fab_use.proofs.fab_text_loads_Loader.{HasLoader, strobe_register_width}
+use Rattle.fab_use.proofs.fab_text_loads_Named.{config_stands, named_are_loading}
 use Rattle.fab_points.specs.Laws.{ConfigurationGoes}
 use Rattle.fab_points.proofs.Loading.{has_loader}
 use Rattle.fab_points.proofs.Configuration.{loader_net}

@@ -21,15 +21,15 @@ use Rattle.fab_fabric.specs.Fabric.{AreTiles}
 use Rattle.fab_fabric.specs.Wires.{row_place}
 use Rattle.fab_fabric.specs.declared.wire.Site.{Site}
 use Rattle.fab_netlist.specs.Packed.{PlainCell, PlainPacked}
-use Rattle.fab_use.specs.fab_implementation.specs.Plain.{Pad, PlainImplementation}
-use Rattle.fab_use.specs.fab_implementation.specs.OnFabric.{kind_at}
-use Rattle.fab_use.specs.fab_legal.specs.Nets.{Net, zero_net, one_net}
-use Rattle.fab_use.specs.fab_legal.specs.Sinks.{Required, input_released, output_driven}
-use Rattle.fab_use.specs.fab_legal.specs.Steps.{pin_wire}
-use Rattle.fab_use.specs.fab_legal.specs.Legal.{IsLegal}
-use Rattle.fab_use.specs.fab_gen_tile.specs.TileModule.{matrix_output_names}
-use Rattle.fab_use.specs.fab_tile_drives.specs.Stands.{matrix_path, name_of, wire_point}
-use Rattle.fab_use.specs.fab_drives.specs.Points.{place_path, IsOnWay, end_bit, wire_between, begin_bit, before}
+use Rattle.fab_use.specs.fab_implementation_Plain.{Pad, PlainImplementation}
+use Rattle.fab_use.specs.fab_implementation_OnFabric.{kind_at}
+use Rattle.fab_use.specs.fab_legal_Nets.{Net, zero_net, one_net}
+use Rattle.fab_use.specs.fab_legal_Sinks.{Required, input_released, output_driven}
+use Rattle.fab_use.specs.fab_legal_Steps.{pin_wire}
+use Rattle.fab_use.specs.fab_legal_Legal.{IsLegal}
+use Rattle.fab_use.specs.fab_gen_tile_TileModule.{matrix_output_names}
+use Rattle.fab_use.specs.fab_tile_drives_Stands.{matrix_path, name_of, wire_point}
+use Rattle.fab_use.specs.fab_drives_Points.{place_path, IsOnWay, end_bit, wire_between, begin_bit, before}
 use Rattle.fab_use.specs.Design as design
 use Rattle.fab_use.specs.Sites.{bel_point}
 use Rattle.fab_use.specs.Design.{IsTreeWire, IsRoutePoint, IsBound, required_pins, IsCellPoint, input_pad, output_pad, IsPadPoint}

@@ -24,37 +24,37 @@ use Rattle.fab_model.proofs.Wires.{wire_at_number}
 use Rattle.fab_fabric.specs.Fabric.{AreTiles}
 use Rattle.fab_fabric.specs.declared.wire.Site.{Site}
 use Rattle.fab_netlist.specs.Packed.{PlainCell, PlainPacked}
-use Rattle.fab_use.specs.fab_implementation.specs.Plain.{Pad, PlainImplementation}
-use Rattle.fab_use.specs.fab_implementation.specs.OnFabric.{kind_at}
-use Rattle.fab_use.specs.fab_legal.specs.Legal.{IsLegal}
+use Rattle.fab_use.specs.fab_implementation_Plain.{Pad, PlainImplementation}
+use Rattle.fab_use.specs.fab_implementation_OnFabric.{kind_at}
+use Rattle.fab_use.specs.fab_legal_Legal.{IsLegal}
 use Rattle.fab_prim.specs.Ports.{top_name, top_inputs, top_outputs}
 use Rattle.fab_prim.specs.Modules.{flip_flop_name, module_of_kind}
-use Rattle.fab_use.specs.fab_gen_tile.specs.Names.{begin_name, end_name, pad_name, vector, matrix_instance_name}
-use Rattle.fab_use.specs.fab_gen_tile.specs.Borders.{border_ports}
-use Rattle.fab_use.specs.fab_gen_tile.specs.ConfigModule.{frame_ports}
-use Rattle.fab_use.specs.fab_gen_tile.specs.TileModule.{is_on_side, pad_ports, bels_ports, tile_ports, tile_items, tile_module, matrix_input_names, matrix_output_names}
-use Rattle.fab_use.specs.fab_gen_tile.specs.MatrixModule.{matrix_module, numbered_outputs}
+use Rattle.fab_use.specs.fab_gen_tile_Names.{begin_name, end_name, pad_name, vector, matrix_instance_name}
+use Rattle.fab_use.specs.fab_gen_tile_Borders.{border_ports}
+use Rattle.fab_use.specs.fab_gen_tile_ConfigModule.{frame_ports}
+use Rattle.fab_use.specs.fab_gen_tile_TileModule.{is_on_side, pad_ports, bels_ports, tile_ports, tile_items, tile_module, matrix_input_names, matrix_output_names}
+use Rattle.fab_use.specs.fab_gen_tile_MatrixModule.{matrix_module, numbered_outputs}
 use Rattle.fab_meaning.specs.Loading.{write_strobe_name, write_data_name}
-use Rattle.fab_use.specs.fab_fabric_text.specs.Names.{pad_port_name, begin_wire_name}
-use Rattle.fab_use.specs.fab_fabric_text.specs.Places.{PlacedTile, placed_tiles}
-use Rattle.fab_use.specs.fab_fabric_text.specs.Top as top
-use Rattle.fab_use.specs.fab_fabric_text.specs.Top.{tile_pads, top_ports, top_items, top_module}
-use Rattle.fab_use.specs.fab_tile_drives.specs.Stands.{matrix_path, bel_path, name_of, wire_point}
-use Rattle.fab_use.specs.fab_tile_drives.proofs.Endings.{all_flat_map}
-use Rattle.fab_use.specs.fab_tile_drives.proofs.Members.{contains_at, contains_map}
-use Rattle.fab_use.specs.fab_tile_drives.proofs.Widths.{IsWide, wide_port}
-use Rattle.fab_use.specs.fab_tile_drives.proofs.TileNames.{name_wide, end_wide, begin_wide, top_wide}
-use Rattle.fab_use.specs.fab_tile_drives.proofs.TileItems.{matrix_found}
-use Rattle.fab_use.specs.fab_tile_drives.proofs.Driven.{width_of, declared_at}
-use Rattle.fab_use.specs.fab_tile_drives.proofs.WireNames.{at_number, name_there}
-use Rattle.fab_use.specs.fab_tile_drives.proofs.BitValues.{inside}
-use Rattle.fab_use.specs.fab_tile_drives.proofs.PinPorts.{first_width}
-use Rattle.fab_use.specs.fab_tile_drives.proofs.MatrixPorts.{side_there, output_there, output_wide}
-use Rattle.fab_use.specs.fab_drives.specs.Points.{place_path, row_path}
-use Rattle.fab_use.specs.fab_drives.proofs.Lists.{contains_flat, contains_numbered, all_of}
-use Rattle.fab_use.specs.fab_drives.proofs.Places.{placed_tile, tile_is_placed}
-use Rattle.fab_use.specs.fab_drives.proofs.Texts.{HasFabric}
-use Rattle.fab_use.specs.fab_drives.proofs.TopNames.{pad_port_has_bits, begin_wire_has_bits}
+use Rattle.fab_use.specs.fab_fabric_text_Names.{pad_port_name, begin_wire_name}
+use Rattle.fab_use.specs.fab_fabric_text_Places.{PlacedTile, placed_tiles}
+use Rattle.fab_use.specs.fab_fabric_text_Top as top
+use Rattle.fab_use.specs.fab_fabric_text_Top.{tile_pads, top_ports, top_items, top_module}
+use Rattle.fab_use.specs.fab_tile_drives_Stands.{matrix_path, bel_path, name_of, wire_point}
+use Rattle.fab_use.proofs.fab_tile_drives_Endings.{all_flat_map}
+use Rattle.fab_use.proofs.fab_tile_drives_Members.{contains_at, contains_map}
+use Rattle.fab_use.proofs.fab_tile_drives_Widths.{IsWide, wide_port}
+use Rattle.fab_use.proofs.fab_tile_drives_TileNames.{name_wide, end_wide, begin_wide, top_wide}
+use Rattle.fab_use.proofs.fab_tile_drives_TileItems.{matrix_found}
+use Rattle.fab_use.proofs.fab_tile_drives_Driven.{width_of, declared_at}
+use Rattle.fab_use.proofs.fab_tile_drives_WireNames.{at_number, name_there}
+use Rattle.fab_use.proofs.fab_tile_drives_BitValues.{inside}
+use Rattle.fab_use.proofs.fab_tile_drives_PinPorts.{first_width}
+use Rattle.fab_use.proofs.fab_tile_drives_MatrixPorts.{side_there, output_there, output_wide}
+use Rattle.fab_use.specs.fab_drives_Points.{place_path, row_path}
+use Rattle.fab_use.proofs.fab_drives_Lists.{contains_flat, contains_numbered, all_of}
+use Rattle.fab_use.proofs.fab_drives_Places.{placed_tile, tile_is_placed}
+use Rattle.fab_use.proofs.fab_drives_Texts.{HasFabric}
+use Rattle.fab_use.proofs.fab_drives_TopNames.{pad_port_has_bits, begin_wire_has_bits}
 use Rattle.fab_use.specs.Sites.{site_path, bel_point, port_point, top_point, pin_point}
 use Rattle.fab_use.specs.Design.{IsBound}
 use Rattle.fab_use.specs.Sources as sources

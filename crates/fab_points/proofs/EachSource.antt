@@ -19,21 +19,21 @@ use Rattle.fab_fabric.specs.Fabric.{IsFabric, AreTiles}
 use Rattle.fab_fabric.specs.declared.wire.Site.{Site}
 use Rattle.fab_netlist.specs.WellMade.{table_bit}
 use Rattle.fab_netlist.specs.Packed.{PlainCell, PlainPacked}
-use Rattle.fab_use.specs.fab_implementation.specs.Plain.{Pad, PlainImplementation}
-use Rattle.fab_use.specs.fab_implementation.specs.OnFabric.{kind_at}
-use Rattle.fab_use.specs.fab_legal.specs.WellMade.{IsWellMadeCell, IsWellMadePacked}
-use Rattle.fab_use.specs.fab_legal.specs.Legal.{IsLegal}
+use Rattle.fab_use.specs.fab_implementation_Plain.{Pad, PlainImplementation}
+use Rattle.fab_use.specs.fab_implementation_OnFabric.{kind_at}
+use Rattle.fab_use.specs.fab_legal_WellMade.{IsWellMadeCell, IsWellMadePacked}
+use Rattle.fab_use.specs.fab_legal_Legal.{IsLegal}
 use Rattle.fab_meaning.specs.Ports.{config_name}
 use Rattle.fab_prim.specs.Ports.{top_name, top_inputs, top_outputs}
 use Rattle.fab_prim.specs.Modules.{flip_flop_name, module_of_kind}
-use Rattle.fab_use.specs.fab_gen_loader.specs.Loader.{loader_of}
-use Rattle.fab_use.specs.fab_fabric_text.specs.Text.{fabric_text}
-use Rattle.fab_use.specs.fab_tile_drives.specs.Stands.{bel_path, wire_point}
-use Rattle.fab_use.specs.fab_tile_drives.proofs.Members.{contains_at}
-use Rattle.fab_use.specs.fab_drives.specs.Points.{place_path, row_path}
-use Rattle.fab_use.specs.fab_drives.proofs.Modules.{tile_of_types}
-use Rattle.fab_use.specs.fab_drives.proofs.Texts.{HasFabric, text_has_fabric}
-use Rattle.fab_use.specs.fab_fabric_text.specs.Texts.{IsFabricText}
+use Rattle.fab_use.specs.fab_gen_loader_Loader.{loader_of}
+use Rattle.fab_use.specs.fab_fabric_text_Text.{fabric_text}
+use Rattle.fab_use.specs.fab_tile_drives_Stands.{bel_path, wire_point}
+use Rattle.fab_use.proofs.fab_tile_drives_Members.{contains_at}
+use Rattle.fab_use.specs.fab_drives_Points.{place_path, row_path}
+use Rattle.fab_use.proofs.fab_drives_Modules.{tile_of_types}
+use Rattle.fab_use.proofs.fab_drives_Texts.{HasFabric, text_has_fabric}
+use Rattle.fab_use.specs.fab_fabric_text_Texts.{IsFabricText}
 use Rattle.fab_use.specs.Sites.{site_path, bel_point, port_point, top_point, pin_point}
 use Rattle.fab_use.specs.Design.{IsTreeWire, IsBound}
 use Rattle.fab_use.specs.Configuring.{Configures, cell_bit}

@@ -11,14 +11,14 @@ use Rattle.fab_meaning.specs.Loading.{IsLoading}
 use Rattle.fab_fabric.specs.declared.wire.Site.{Site}
 use Rattle.fab_netlist.specs.WellMade.{table_bit}
 use Rattle.fab_netlist.specs.Packed.{PlainCell}
-use Rattle.fab_use.specs.fab_legal.specs.WellMade.{IsWellMadeCell, IsWellMadePacked}
-use Rattle.fab_use.specs.fab_legal.specs.Lines.{IsRightLine, IsCell, CellsHaveSites}
-use Rattle.fab_use.specs.fab_legal.specs.Sinks.{Required, cell_input, latch_enable, latch_reset, input_released, output_shown, output_driven}
-use Rattle.fab_use.specs.fab_legal.specs.Legal.{IsLegal}
-use Rattle.fab_use.specs.fab_drives.specs.Examples.{small_fabric}
-use Rattle.fab_use.specs.fab_drives.proofs.Lists.{none_there}
-use Rattle.fab_use.specs.fab_drives.proofs.SmallFabric.{small_is_fabric, small_is_of_tiles}
-use Rattle.fab_use.specs.fab_fabric_text.specs.Texts.{IsFabricText}
+use Rattle.fab_use.specs.fab_legal_WellMade.{IsWellMadeCell, IsWellMadePacked}
+use Rattle.fab_use.specs.fab_legal_Lines.{IsRightLine, IsCell, CellsHaveSites}
+use Rattle.fab_use.specs.fab_legal_Sinks.{Required, cell_input, latch_enable, latch_reset, input_released, output_shown, output_driven}
+use Rattle.fab_use.specs.fab_legal_Legal.{IsLegal}
+use Rattle.fab_use.specs.fab_drives_Examples.{small_fabric}
+use Rattle.fab_use.proofs.fab_drives_Lists.{none_there}
+use Rattle.fab_use.proofs.fab_drives_SmallFabric.{small_is_fabric, small_is_of_tiles}
+use Rattle.fab_use.specs.fab_fabric_text_Texts.{IsFabricText}
 use Rattle.fab_use.specs.Design as design
 use Rattle.fab_use.specs.Sites.{bel_point}
 use Rattle.fab_use.specs.Design.{IsBound, IsOfDesign, IsRoutePoint, IsCellPoint, IsPadPoint}

@@ -11,12 +11,12 @@ use Rattle.fab_meaning.specs.Sound.{PointsOfSoundTextsHaveOneDriver}
 use Rattle.fab_model.specs.Grid.{PlainFabric}
 use Rattle.fab_fabric.specs.Fabric.{AreTiles}
 use Rattle.fab_netlist.specs.Packed.{PlainPacked}
-use Rattle.fab_use.specs.fab_implementation.specs.Plain.{Pad, PlainImplementation}
-use Rattle.fab_use.specs.fab_legal.specs.WellMade.{IsWellMadePacked}
-use Rattle.fab_use.specs.fab_legal.specs.Lines.{IsCell}
-use Rattle.fab_use.specs.fab_legal.specs.Legal.{IsLegal}
+use Rattle.fab_use.specs.fab_implementation_Plain.{Pad, PlainImplementation}
+use Rattle.fab_use.specs.fab_legal_WellMade.{IsWellMadePacked}
+use Rattle.fab_use.specs.fab_legal_Lines.{IsCell}
+use Rattle.fab_use.specs.fab_legal_Legal.{IsLegal}
 use Rattle.fab_prim.specs.Modules.{flip_flop_name, module_of_kind}
-use Rattle.fab_use.specs.fab_tile_drives.specs.Stands.{bel_path}
+use Rattle.fab_use.specs.fab_tile_drives_Stands.{bel_path}
 use Rattle.fab_use.specs.Sites.{site_path, bel_point}
 use Rattle.fab_use.specs.Design.{at_flip_flop, IsSourced, IsOfDesign, IsDesignPoint}
 use Rattle.fab_use.specs.Sources.{Source, HasSource, source_reads, source_value}

@@ -16,33 +16,33 @@ use Rattle.fab_model.specs.declared.tiles.Bel.{Bel}
 use Rattle.fab_model.specs.Tiles.{PlainTile, matrix_names, numbered_pairs, bel_bits, tile_bits, bits_before}
 use Rattle.fab_model.specs.Grid.{PlainFabric, tile_at}
 use Rattle.fab_prim.specs.Modules.{module_name, module_of_kind}
-use Rattle.fab_use.specs.fab_gen_tile.specs.Names.{config_module_name, config_instance_name, matrix_module_name, matrix_instance_name, bel_instance_name, bits_name, port_join, same_join}
-use Rattle.fab_use.specs.fab_gen_tile.specs.ConfigModule.{all_latches, config_module}
-use Rattle.fab_use.specs.fab_gen_tile.specs.TileModule.{config_joins, bits_join, bel_joins, matrix_input_names, matrix_output_names, matrix_joins, tile_items, tile_module}
-use Rattle.fab_use.specs.fab_gen_tile.specs.MatrixModule.{named_pairs, matrix_module}
-use Rattle.fab_use.specs.fab_gen_loader.specs.Loader.{NextValues, loader_of, StepsAsTheMachine}
+use Rattle.fab_use.specs.fab_gen_tile_Names.{config_module_name, config_instance_name, matrix_module_name, matrix_instance_name, bel_instance_name, bits_name, port_join, same_join}
+use Rattle.fab_use.specs.fab_gen_tile_ConfigModule.{all_latches, config_module}
+use Rattle.fab_use.specs.fab_gen_tile_TileModule.{config_joins, bits_join, bel_joins, matrix_input_names, matrix_output_names, matrix_joins, tile_items, tile_module}
+use Rattle.fab_use.specs.fab_gen_tile_MatrixModule.{named_pairs, matrix_module}
+use Rattle.fab_use.specs.fab_gen_loader_Loader.{NextValues, loader_of, StepsAsTheMachine}
 use Rattle.fab_fabric.specs.Fabric.{IsFabric}
-use Rattle.fab_use.specs.fab_fabric_text.specs.Text.{fabric_text}
-use Rattle.fab_use.specs.fab_tile_drives.specs.Stands.{TileStands, matrix_path, bel_path}
-use Rattle.fab_use.specs.fab_tile_drives.specs.Tiles.{ShowsTileBits}
-use Rattle.fab_use.specs.fab_tile_drives.proofs.Members.{contains_at, contains_first}
-use Rattle.fab_use.specs.fab_tile_drives.proofs.TileNames.{tile_width, bits_wide}
-use Rattle.fab_use.specs.fab_tile_drives.proofs.TileItems.{config_there, matrix_found, matrix_there, bel_found, bel_there}
-use Rattle.fab_use.specs.fab_tile_drives.proofs.Driven.{width_of, declared_at, part_bit}
-use Rattle.fab_use.specs.fab_tile_drives.proofs.Latches.{all_there, latches_seen}
-use Rattle.fab_use.specs.fab_tile_drives.proofs.BitValues.{inside}
-use Rattle.fab_use.specs.fab_tile_drives.proofs.MatrixPorts.{bits_input, bits_width}
-use Rattle.fab_use.specs.fab_tile_drives.proofs.NamedPairs.{bits_same}
-use Rattle.fab_use.specs.fab_tile_drives.proofs.PinPorts.{config_input, config_width, config_joined, bits_within}
-use Rattle.fab_use.specs.fab_drives.specs.Points.{place_path}
-use Rattle.fab_use.specs.fab_text_loads.specs.Points.{config_path}
-use Rattle.fab_use.specs.fab_fabric_text.specs.Texts.{IsFabricText}
-use Rattle.fab_use.specs.fab_text_loads.proofs.Drivers.{assigned_by, joined_to, joined_from}
-use Rattle.fab_use.specs.fab_text_loads.proofs.Declared.{bit_below}
-use Rattle.fab_use.specs.fab_text_loads.proofs.Loader.{HasLoader, text_has_loader}
-use Rattle.fab_use.specs.fab_text_loads.proofs.Within.{AreWithin, expression_within, only_name, copy_within, flops, within_is_loading}
-use Rattle.fab_use.specs.fab_text_loads.proofs.Named.{config_stands, config_within}
-use Rattle.fab_use.specs.fab_text_loads.proofs.Runs.{configured_shows}
+use Rattle.fab_use.specs.fab_fabric_text_Text.{fabric_text}
+use Rattle.fab_use.specs.fab_tile_drives_Stands.{TileStands, matrix_path, bel_path}
+use Rattle.fab_use.specs.fab_tile_drives_Tiles.{ShowsTileBits}
+use Rattle.fab_use.proofs.fab_tile_drives_Members.{contains_at, contains_first}
+use Rattle.fab_use.proofs.fab_tile_drives_TileNames.{tile_width, bits_wide}
+use Rattle.fab_use.proofs.fab_tile_drives_TileItems.{config_there, matrix_found, matrix_there, bel_found, bel_there}
+use Rattle.fab_use.proofs.fab_tile_drives_Driven.{width_of, declared_at, part_bit}
+use Rattle.fab_use.proofs.fab_tile_drives_Latches.{all_there, latches_seen}
+use Rattle.fab_use.proofs.fab_tile_drives_BitValues.{inside}
+use Rattle.fab_use.proofs.fab_tile_drives_MatrixPorts.{bits_input, bits_width}
+use Rattle.fab_use.proofs.fab_tile_drives_NamedPairs.{bits_same}
+use Rattle.fab_use.proofs.fab_tile_drives_PinPorts.{config_input, config_width, config_joined, bits_within}
+use Rattle.fab_use.specs.fab_drives_Points.{place_path}
+use Rattle.fab_use.specs.fab_text_loads_Points.{config_path}
+use Rattle.fab_use.specs.fab_fabric_text_Texts.{IsFabricText}
+use Rattle.fab_use.proofs.fab_text_loads_Drivers.{assigned_by, joined_to, joined_from}
+use Rattle.fab_use.proofs.fab_text_loads_Declared.{bit_below}
+use Rattle.fab_use.proofs.fab_text_loads_Loader.{HasLoader, text_has_loader}
+use Rattle.fab_use.proofs.fab_text_loads_Within.{AreWithin, expression_within, only_name, copy_within, flops, within_is_loading}
+use Rattle.fab_use.proofs.fab_text_loads_Named.{config_stands, config_within}
+use Rattle.fab_use.proofs.fab_text_loads_Runs.{configured_shows}
 use Rattle.fab_tern.specs.Shown.{Terns}
 use Rattle.fab_points.specs.Known.{KnowsTile}
 use Rattle.fab_points.specs.Laws.{LoadedIsKnown}

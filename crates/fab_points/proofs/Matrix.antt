@@ -26,21 +26,21 @@ use Rattle.fab_model.specs.Wires.{PlainWire, IsWire, IsMatrixOutput, plain_wires
 use Rattle.fab_model.specs.Drive as drive
 use Rattle.fab_model.specs.Drive.{input_at}
 use Rattle.fab_model.proofs.Wires.{wire_at_number}
-use Rattle.fab_use.specs.fab_gen_tile.specs.Names.{matrix_module_name, matrix_instance_name, same_join}
-use Rattle.fab_use.specs.fab_gen_tile.specs.TileModule.{is_on_side, matrix_input_names, matrix_output_names, bits_join, matrix_joins, tile_module}
-use Rattle.fab_use.specs.fab_gen_tile.specs.MatrixModule.{numbered_outputs, named_pairs, matrix_module}
-use Rattle.fab_use.specs.fab_tile_drives.specs.Stands.{TileStands, matrix_path, name_of, wire_point}
-use Rattle.fab_use.specs.fab_tile_drives.specs.Tiles.{picked}
-use Rattle.fab_use.specs.fab_tile_drives.proofs.Endings.{EndsLow, low_wires}
-use Rattle.fab_use.specs.fab_tile_drives.proofs.Members.{contains_at, contains_map}
-use Rattle.fab_use.specs.fab_tile_drives.proofs.TileNames.{name_wide}
-use Rattle.fab_use.specs.fab_tile_drives.proofs.TileItems.{matrix_found, matrix_there}
-use Rattle.fab_use.specs.fab_tile_drives.proofs.Driven.{width_of}
-use Rattle.fab_use.specs.fab_tile_drives.proofs.WireNames.{IsAt, at_number, name_at_number, name_there}
-use Rattle.fab_use.specs.fab_tile_drives.proofs.BitValues.{inside}
-use Rattle.fab_use.specs.fab_tile_drives.proofs.PinPorts.{first_input, first_width}
-use Rattle.fab_use.specs.fab_tile_drives.proofs.NamedPairs.{inputs_same, width_same, low_same, bits_same}
-use Rattle.fab_use.specs.fab_tile_drives.proofs.MatrixPorts.{side_there, output_there, sides_apart, bits_width, output_is_output}
+use Rattle.fab_use.specs.fab_gen_tile_Names.{matrix_module_name, matrix_instance_name, same_join}
+use Rattle.fab_use.specs.fab_gen_tile_TileModule.{is_on_side, matrix_input_names, matrix_output_names, bits_join, matrix_joins, tile_module}
+use Rattle.fab_use.specs.fab_gen_tile_MatrixModule.{numbered_outputs, named_pairs, matrix_module}
+use Rattle.fab_use.specs.fab_tile_drives_Stands.{TileStands, matrix_path, name_of, wire_point}
+use Rattle.fab_use.specs.fab_tile_drives_Tiles.{picked}
+use Rattle.fab_use.proofs.fab_tile_drives_Endings.{EndsLow, low_wires}
+use Rattle.fab_use.proofs.fab_tile_drives_Members.{contains_at, contains_map}
+use Rattle.fab_use.proofs.fab_tile_drives_TileNames.{name_wide}
+use Rattle.fab_use.proofs.fab_tile_drives_TileItems.{matrix_found, matrix_there}
+use Rattle.fab_use.proofs.fab_tile_drives_Driven.{width_of}
+use Rattle.fab_use.proofs.fab_tile_drives_WireNames.{IsAt, at_number, name_at_number, name_there}
+use Rattle.fab_use.proofs.fab_tile_drives_BitValues.{inside}
+use Rattle.fab_use.proofs.fab_tile_drives_PinPorts.{first_input, first_width}
+use Rattle.fab_use.proofs.fab_tile_drives_NamedPairs.{inputs_same, width_same, low_same, bits_same}
+use Rattle.fab_use.proofs.fab_tile_drives_MatrixPorts.{side_there, output_there, sides_apart, bits_width, output_is_output}
 use Rattle.fab_tern.specs.Operators.{tern_at}
 use Rattle.fab_tern.specs.Values.{tern_value}
 use Rattle.fab_tern.specs.Laws.{at_from}

@@ -19,12 +19,12 @@ use Rattle.fab_model.specs.Drive.{PlainBits}
 use Rattle.fab_fabric.specs.Fabric.{IsFabric, AreTiles}
 use Rattle.fab_netlist.specs.WellMade.{table_bit}
 use Rattle.fab_netlist.specs.Packed.{PlainPacked}
-use Rattle.fab_use.specs.fab_implementation.specs.Plain.{Pad, PlainImplementation}
-use Rattle.fab_use.specs.fab_legal.specs.WellMade.{IsWellMadePacked}
-use Rattle.fab_use.specs.fab_legal.specs.Legal.{IsLegal}
+use Rattle.fab_use.specs.fab_implementation_Plain.{Pad, PlainImplementation}
+use Rattle.fab_use.specs.fab_legal_WellMade.{IsWellMadePacked}
+use Rattle.fab_use.specs.fab_legal_Legal.{IsLegal}
 use Rattle.fab_load_runs.specs.Runs.{IsClockLow, LoadingIsDecided}
-use Rattle.fab_use.specs.fab_fabric_text.specs.Texts.{IsFabricText}
-use Rattle.fab_use.specs.fab_text_loads.specs.Loads.{IsConfigured, LoadsConfigurations}
+use Rattle.fab_use.specs.fab_fabric_text_Texts.{IsFabricText}
+use Rattle.fab_use.specs.fab_text_loads_Loads.{IsConfigured, LoadsConfigurations}
 use Rattle.fab_use.specs.Design.{IsSourced, IsOfDesign, IsDesignPoint}
 use Rattle.fab_use.specs.Configuring.{Configures}
 use Rattle.fab_use.specs.Headline as headline

@@ -22,15 +22,15 @@ use Rattle.fab_fabric.specs.declared.wire.Site.{Site}
 use Rattle.fab_fabric.specs.declared.wire.Wire.{Wire}
 use Rattle.fab_fabric.proofs.Numbered.{one_wire, wire_with_number}
 use Rattle.fab_netlist.specs.Packed.{PlainCell, PlainPacked}
-use Rattle.fab_use.specs.fab_implementation.specs.Plain.{Edge, Pad, PlainTree, PlainImplementation}
-use Rattle.fab_use.specs.fab_implementation.specs.OnFabric.{kind_at}
-use Rattle.fab_use.specs.fab_legal.specs.Lines.{IsCell, IsInput}
-use Rattle.fab_use.specs.fab_legal.specs.Nets.{Net, zero_net, one_net, port_net, cell_net, net_of, IsRoot, left_wires, entered_wires}
-use Rattle.fab_use.specs.fab_legal.specs.Steps.{IsStep, IsPaired, IsJoined, IsConstant, pin_wire}
-use Rattle.fab_use.specs.fab_legal.specs.Legal.{IsLegal}
-use Rattle.fab_use.specs.fab_legal.proofs.Members.{from_mapped}
-use Rattle.fab_use.specs.fab_legal.proofs.Once.{known_thing}
-use Rattle.fab_use.specs.fab_drives.proofs.Modules.{tile_of_types}
+use Rattle.fab_use.specs.fab_implementation_Plain.{Edge, Pad, PlainTree, PlainImplementation}
+use Rattle.fab_use.specs.fab_implementation_OnFabric.{kind_at}
+use Rattle.fab_use.specs.fab_legal_Lines.{IsCell, IsInput}
+use Rattle.fab_use.specs.fab_legal_Nets.{Net, zero_net, one_net, port_net, cell_net, net_of, IsRoot, left_wires, entered_wires}
+use Rattle.fab_use.specs.fab_legal_Steps.{IsStep, IsPaired, IsJoined, IsConstant, pin_wire}
+use Rattle.fab_use.specs.fab_legal_Legal.{IsLegal}
+use Rattle.fab_use.proofs.fab_legal_Members.{from_mapped}
+use Rattle.fab_use.proofs.fab_legal_Once.{known_thing}
+use Rattle.fab_use.proofs.fab_drives_Modules.{tile_of_types}
 use Rattle.fab_use.specs.Design.{IsTreeWire, IsBound}
 use Rattle.fab_points.proofs.Places.{one_tile, passing_plain, site_tile, site_bel, line_kind}
 

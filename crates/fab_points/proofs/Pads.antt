@@ -20,28 +20,28 @@ use Rattle.fab_model.specs.Tiles.{PlainTile, counted}
 use Rattle.fab_model.specs.Grid.{PlainFabric, tile_at}
 use Rattle.fab_fabric.specs.Names.{place_name}
 use Rattle.fab_fabric.specs.Fabric.{IsFabric, AreTiles}
-use Rattle.fab_use.specs.fab_gen_tile.specs.Names.{tile_module_name, frame_data_name, frame_strobe_name, vector, begin_name, end_name, pad_name, port_join, same_join}
-use Rattle.fab_use.specs.fab_gen_tile.specs.Borders.{side_border, border_ports}
-use Rattle.fab_use.specs.fab_gen_tile.specs.ConfigModule.{frame_ports}
-use Rattle.fab_use.specs.fab_gen_tile.specs.TileModule.{pad_ports, bels_ports, tile_ports, tile_module}
+use Rattle.fab_use.specs.fab_gen_tile_Names.{tile_module_name, frame_data_name, frame_strobe_name, vector, begin_name, end_name, pad_name, port_join, same_join}
+use Rattle.fab_use.specs.fab_gen_tile_Borders.{side_border, border_ports}
+use Rattle.fab_use.specs.fab_gen_tile_ConfigModule.{frame_ports}
+use Rattle.fab_use.specs.fab_gen_tile_TileModule.{pad_ports, bels_ports, tile_ports, tile_module}
 use Rattle.fab_meaning.specs.Loading.{write_strobe_name, write_data_name}
-use Rattle.fab_use.specs.fab_fabric_text.specs.Names.{column_strobe_name, pad_port_name}
-use Rattle.fab_use.specs.fab_gen_loader.specs.Loader.{row_port}
-use Rattle.fab_use.specs.fab_fabric_text.specs.Places.{PlacedTile, placed_tiles}
-use Rattle.fab_use.specs.fab_fabric_text.specs.Top as top
-use Rattle.fab_use.specs.fab_fabric_text.specs.Top.{row_joins, pad_joins, tile_joins, tile_pads, top_ports, top_items, top_module}
-use Rattle.fab_use.specs.fab_tile_drives.proofs.Endings.{all_flat_map, all_counted}
-use Rattle.fab_use.specs.fab_tile_drives.proofs.Members.{contains_map}
-use Rattle.fab_use.specs.fab_drives.specs.Points.{place_path}
-use Rattle.fab_use.specs.fab_drives.proofs.Lists.{contains_flat, contains_numbered, all_of, all_if}
-use Rattle.fab_use.specs.fab_drives.proofs.Apart.{told_apart, one_of_name}
-use Rattle.fab_use.specs.fab_drives.proofs.Declared.{port_has_direction}
-use Rattle.fab_use.specs.fab_drives.proofs.Places.{placed_tile, tile_is_placed}
-use Rattle.fab_use.specs.fab_drives.proofs.Instances.{tile_instance_there}
-use Rattle.fab_use.specs.fab_drives.proofs.Texts.{HasFabric}
-use Rattle.fab_use.specs.fab_drives.proofs.TilePorts.{pad_is_input}
-use Rattle.fab_use.specs.fab_drives.proofs.TopNames.{pad_port_has_bits}
-use Rattle.fab_use.specs.fab_drives.proofs.TileJoins.{pad_is_joined}
+use Rattle.fab_use.specs.fab_fabric_text_Names.{column_strobe_name, pad_port_name}
+use Rattle.fab_use.specs.fab_gen_loader_Loader.{row_port}
+use Rattle.fab_use.specs.fab_fabric_text_Places.{PlacedTile, placed_tiles}
+use Rattle.fab_use.specs.fab_fabric_text_Top as top
+use Rattle.fab_use.specs.fab_fabric_text_Top.{row_joins, pad_joins, tile_joins, tile_pads, top_ports, top_items, top_module}
+use Rattle.fab_use.proofs.fab_tile_drives_Endings.{all_flat_map, all_counted}
+use Rattle.fab_use.proofs.fab_tile_drives_Members.{contains_map}
+use Rattle.fab_use.specs.fab_drives_Points.{place_path}
+use Rattle.fab_use.proofs.fab_drives_Lists.{contains_flat, contains_numbered, all_of, all_if}
+use Rattle.fab_use.proofs.fab_drives_Apart.{told_apart, one_of_name}
+use Rattle.fab_use.proofs.fab_drives_Declared.{port_has_direction}
+use Rattle.fab_use.proofs.fab_drives_Places.{placed_tile, tile_is_placed}
+use Rattle.fab_use.proofs.fab_drives_Instances.{tile_instance_there}
+use Rattle.fab_use.proofs.fab_drives_Texts.{HasFabric}
+use Rattle.fab_use.proofs.fab_drives_TilePorts.{pad_is_input}
+use Rattle.fab_use.proofs.fab_drives_TopNames.{pad_port_has_bits}
+use Rattle.fab_use.proofs.fab_drives_TileJoins.{pad_is_joined}
 use Rattle.fab_text_sound.proofs.TopDeclared.{ports_apart}
 use Rattle.fab_use.specs.Sources.{shows, top_input}
 use Rattle.fab_tern.specs.Shown.{Terns}

@@ -19,16 +19,16 @@ use Rattle.fab_model.proofs.Wires.{wire_at_number, plain_wires_are_wires}
 use Rattle.fab_fabric.specs.Wires.{IsIndexOf, row_place}
 use Rattle.fab_fabric.specs.declared.wire.Site.{Site}
 use Rattle.fab_netlist.specs.Packed.{PlainCell, PlainPacked}
-use Rattle.fab_use.specs.fab_implementation.specs.Plain.{Edge, Pad, PlainTree, PlainImplementation}
-use Rattle.fab_use.specs.fab_implementation.specs.OnFabric.{kind_at}
-use Rattle.fab_use.specs.fab_legal.specs.Turns.{AreRight}
-use Rattle.fab_use.specs.fab_legal.specs.Lines.{IsRightLine, IsCell, IsInput, IsOutput}
-use Rattle.fab_use.specs.fab_legal.specs.Nets.{net_of, left_wires, entered_wires}
-use Rattle.fab_use.specs.fab_legal.specs.Legal.{IsLegal}
-use Rattle.fab_use.specs.fab_gen_tile.specs.TileModule.{matrix_output_names}
-use Rattle.fab_use.specs.fab_tile_drives.proofs.Members.{contains_map}
-use Rattle.fab_use.specs.fab_tile_drives.proofs.WireNames.{at_number}
-use Rattle.fab_use.specs.fab_tile_drives.proofs.MatrixPorts.{side_there}
+use Rattle.fab_use.specs.fab_implementation_Plain.{Edge, Pad, PlainTree, PlainImplementation}
+use Rattle.fab_use.specs.fab_implementation_OnFabric.{kind_at}
+use Rattle.fab_use.specs.fab_legal_Turns.{AreRight}
+use Rattle.fab_use.specs.fab_legal_Lines.{IsRightLine, IsCell, IsInput, IsOutput}
+use Rattle.fab_use.specs.fab_legal_Nets.{net_of, left_wires, entered_wires}
+use Rattle.fab_use.specs.fab_legal_Legal.{IsLegal}
+use Rattle.fab_use.specs.fab_gen_tile_TileModule.{matrix_output_names}
+use Rattle.fab_use.proofs.fab_tile_drives_Members.{contains_map}
+use Rattle.fab_use.proofs.fab_tile_drives_WireNames.{at_number}
+use Rattle.fab_use.proofs.fab_tile_drives_MatrixPorts.{side_there}
 use Rattle.fab_use.specs.Design.{IsTreeWire, IsBound}
 
 pub one_tile : (fabric : PlainFabric) (x y : ℕ) (a b : PlainTile) → tile_at fabric x y ≡ Some a → tile_at fabric x y ≡ Some b → a ≡ b

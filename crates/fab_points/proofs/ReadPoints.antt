@@ -21,19 +21,19 @@ use Rattle.fab_fabric.specs.Wires.{IsIndexOf, row_place}
 use Rattle.fab_fabric.specs.declared.wire.Site.{Site}
 use Rattle.fab_netlist.specs.declared.net_id.NetId.TheVariants as ids
 use Rattle.fab_netlist.specs.Packed.{PlainCell, PlainPacked}
-use Rattle.fab_use.specs.fab_implementation.specs.Plain.{Pad, PlainImplementation}
-use Rattle.fab_use.specs.fab_legal.specs.Lines.{IsOutput}
-use Rattle.fab_use.specs.fab_legal.specs.WellMade.{IsWellMadeCell, IsWellMadePacked, output_name}
-use Rattle.fab_use.specs.fab_legal.specs.Nets.{Net, zero_net, one_net}
-use Rattle.fab_use.specs.fab_legal.specs.Sinks.{Required, packed_net, cell_input, latch_enable, latch_reset, output_shown}
-use Rattle.fab_use.specs.fab_legal.specs.Steps.{pin_wire}
-use Rattle.fab_use.specs.fab_legal.specs.Legal.{IsLegal}
-use Rattle.fab_use.specs.fab_legal.proofs.Members.{from_mapped}
-use Rattle.fab_use.specs.fab_legal.proofs.Once.{known_thing}
+use Rattle.fab_use.specs.fab_implementation_Plain.{Pad, PlainImplementation}
+use Rattle.fab_use.specs.fab_legal_Lines.{IsOutput}
+use Rattle.fab_use.specs.fab_legal_WellMade.{IsWellMadeCell, IsWellMadePacked, output_name}
+use Rattle.fab_use.specs.fab_legal_Nets.{Net, zero_net, one_net}
+use Rattle.fab_use.specs.fab_legal_Sinks.{Required, packed_net, cell_input, latch_enable, latch_reset, output_shown}
+use Rattle.fab_use.specs.fab_legal_Steps.{pin_wire}
+use Rattle.fab_use.specs.fab_legal_Legal.{IsLegal}
+use Rattle.fab_use.proofs.fab_legal_Members.{from_mapped}
+use Rattle.fab_use.proofs.fab_legal_Once.{known_thing}
 use Rattle.fab_prim.specs.Ports.{top_name}
 use Rattle.fab_prim.specs.Modules.{flip_flop_name}
-use Rattle.fab_use.specs.fab_tile_drives.proofs.Members.{contains_at}
-use Rattle.fab_use.specs.fab_drives.specs.Points.{end_bit, wire_between, begin_bit, before}
+use Rattle.fab_use.proofs.fab_tile_drives_Members.{contains_at}
+use Rattle.fab_use.specs.fab_drives_Points.{end_bit, wire_between, begin_bit, before}
 use Rattle.fab_use.specs.Design as design
 use Rattle.fab_use.specs.Sites.{bel_point, port_point, top_point, pin_point}
 use Rattle.fab_use.specs.Design.{IsTreeWire, IsRoutePoint, IsBound, required_pins, IsCellPoint, input_pad, output_pad, IsPadPoint}

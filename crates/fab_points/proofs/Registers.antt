@@ -19,15 +19,15 @@ use Rattle.fab_meaning.specs.Ports.{config_name}
 use Rattle.fab_prim.specs.Modules as modules
 use Rattle.fab_prim.specs.Modules.{flip_flop_name, flip_flop, module_of_kind}
 use Rattle.fab_prim.proofs.Instance.{seen}
-use Rattle.fab_use.specs.fab_gen_tile.specs.Names.{bel_instance_name}
-use Rattle.fab_use.specs.fab_gen_tile.specs.TileModule.{bel_joins, tile_module}
-use Rattle.fab_use.specs.fab_fabric_text.specs.Top.{top_module}
-use Rattle.fab_use.specs.fab_tile_drives.specs.Stands.{bel_path}
-use Rattle.fab_use.specs.fab_tile_drives.proofs.TileItems.{bel_found}
-use Rattle.fab_use.specs.fab_drives.specs.Points.{place_path}
-use Rattle.fab_use.specs.fab_drives.proofs.Places.{placed_tile}
-use Rattle.fab_use.specs.fab_drives.proofs.Instances.{found_tile, tile_instance_found}
-use Rattle.fab_use.specs.fab_drives.proofs.Texts.{HasFabric}
+use Rattle.fab_use.specs.fab_gen_tile_Names.{bel_instance_name}
+use Rattle.fab_use.specs.fab_gen_tile_TileModule.{bel_joins, tile_module}
+use Rattle.fab_use.specs.fab_fabric_text_Top.{top_module}
+use Rattle.fab_use.specs.fab_tile_drives_Stands.{bel_path}
+use Rattle.fab_use.proofs.fab_tile_drives_TileItems.{bel_found}
+use Rattle.fab_use.specs.fab_drives_Points.{place_path}
+use Rattle.fab_use.proofs.fab_drives_Places.{placed_tile}
+use Rattle.fab_use.proofs.fab_drives_Instances.{found_tile, tile_instance_found}
+use Rattle.fab_use.proofs.fab_drives_Texts.{HasFabric}
 use Rattle.fab_tern.specs.Operators.{tern_at, one_of}
 use Rattle.fab_tern.specs.Values.{tern_value}
 use Rattle.fab_tern.specs.Shown.{Terns, first_terns, tern_names}

@@ -21,21 +21,21 @@ use Rattle.fab_fabric.specs.declared.wire.Site.{Site}
 use Rattle.fab_fabric.specs.declared.wire.Wire.{Wire}
 use Rattle.fab_fabric.proofs.Numbered.{one_wire, some_wire, wire_within}
 use Rattle.fab_netlist.specs.Packed.{PlainCell, PlainPacked}
-use Rattle.fab_use.specs.fab_implementation.specs.Plain.{Pad, PlainTree, PlainImplementation}
-use Rattle.fab_use.specs.fab_legal.specs.WellMade.{IsWellMadePacked}
-use Rattle.fab_use.specs.fab_legal.specs.Lines.{IsCell}
-use Rattle.fab_use.specs.fab_legal.specs.Nets.{net_of, left_wires, entered_wires}
-use Rattle.fab_use.specs.fab_legal.specs.Legal.{IsLegal}
-use Rattle.fab_use.specs.fab_legal.proofs.Lists.{same_at}
-use Rattle.fab_use.specs.fab_legal.proofs.Members.{from_mapped}
-use Rattle.fab_use.specs.fab_legal.proofs.Once.{known_thing}
+use Rattle.fab_use.specs.fab_implementation_Plain.{Pad, PlainTree, PlainImplementation}
+use Rattle.fab_use.specs.fab_legal_WellMade.{IsWellMadePacked}
+use Rattle.fab_use.specs.fab_legal_Lines.{IsCell}
+use Rattle.fab_use.specs.fab_legal_Nets.{net_of, left_wires, entered_wires}
+use Rattle.fab_use.specs.fab_legal_Legal.{IsLegal}
+use Rattle.fab_use.proofs.fab_legal_Lists.{same_at}
+use Rattle.fab_use.proofs.fab_legal_Members.{from_mapped}
+use Rattle.fab_use.proofs.fab_legal_Once.{known_thing}
 use Rattle.fab_prim.specs.Modules.{flip_flop_name}
-use Rattle.fab_use.specs.fab_gen_tile.specs.TileModule.{matrix_output_names}
-use Rattle.fab_use.specs.fab_tile_drives.specs.Stands.{matrix_path, name_of, wire_point}
-use Rattle.fab_use.specs.fab_tile_drives.proofs.BorderBits.{passing_within}
-use Rattle.fab_use.specs.fab_drives.specs.Points.{place_path, IsOnWay, end_bit, wire_between, begin_bit, before}
-use Rattle.fab_use.specs.fab_drives.proofs.Lists.{first_or_later, none_there}
-use Rattle.fab_use.specs.fab_tile_drives.proofs.Members.{contains_first, contains_later, contains_map}
+use Rattle.fab_use.specs.fab_gen_tile_TileModule.{matrix_output_names}
+use Rattle.fab_use.specs.fab_tile_drives_Stands.{matrix_path, name_of, wire_point}
+use Rattle.fab_use.proofs.fab_tile_drives_BorderBits.{passing_within}
+use Rattle.fab_use.specs.fab_drives_Points.{place_path, IsOnWay, end_bit, wire_between, begin_bit, before}
+use Rattle.fab_use.proofs.fab_drives_Lists.{first_or_later, none_there}
+use Rattle.fab_use.proofs.fab_tile_drives_Members.{contains_first, contains_later, contains_map}
 use Rattle.fab_use.specs.Design as design
 use Rattle.fab_use.specs.Sites.{bel_point}
 use Rattle.fab_use.specs.Design.{IsTreeWire, IsSourced, IsRoutePoint, IsBound, required_pins, IsCellPoint, input_pad, output_pad, IsPadPoint}

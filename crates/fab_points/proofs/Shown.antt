@@ -4,9 +4,9 @@ use Rattle.fab_syntax.specs.Plain.{PlainExpr, variable, PlainJoin, assign, insta
 use Rattle.fab_syntax.specs.Declarations.{module_named, width_in, is_input}
 use Rattle.fab_meaning.specs.Points.{Path, point, bit_of, copy, module_at}
 use Rattle.fab_meaning.specs.Settled.{Assignment}
-use Rattle.fab_use.specs.fab_gen_tile.specs.Names.{port_join}
-use Rattle.fab_use.specs.fab_tile_drives.proofs.Driven.{width_of}
-use Rattle.fab_use.specs.fab_text_loads.proofs.Drivers.{assigned_by, joined_to, joined_from}
+use Rattle.fab_use.specs.fab_gen_tile_Names.{port_join}
+use Rattle.fab_use.proofs.fab_tile_drives_Driven.{width_of}
+use Rattle.fab_use.proofs.fab_text_loads_Drivers.{assigned_by, joined_to, joined_from}
 use Rattle.fab_tern.specs.Operators.{tern_at}
 use Rattle.fab_tern.specs.Values.{tern_value}
 use Rattle.fab_use.specs.Sources.{Source, shows}

@@ -8,12 +8,12 @@ use Rattle.fab_model.specs.Grid.{PlainFabric}
 use Rattle.fab_fabric.specs.Fabric.{AreTiles}
 use Rattle.fab_fabric.specs.declared.wire.Site.{Site}
 use Rattle.fab_netlist.specs.Packed.{PlainCell, PlainPacked}
-use Rattle.fab_use.specs.fab_implementation.specs.Plain.{Pad, PlainImplementation}
-use Rattle.fab_use.specs.fab_legal.specs.WellMade.{IsWellMadePacked}
-use Rattle.fab_use.specs.fab_legal.specs.Legal.{IsLegal}
+use Rattle.fab_use.specs.fab_implementation_Plain.{Pad, PlainImplementation}
+use Rattle.fab_use.specs.fab_legal_WellMade.{IsWellMadePacked}
+use Rattle.fab_use.specs.fab_legal_Legal.{IsLegal}
 use Rattle.fab_prim.specs.Ports.{top_name}
-use Rattle.fab_use.specs.fab_drives.specs.Points.{end_bit, wire_between, begin_bit}
-use Rattle.fab_use.specs.fab_tile_drives.proofs.Members.{contains_at}
+use Rattle.fab_use.specs.fab_drives_Points.{end_bit, wire_between, begin_bit}
+use Rattle.fab_use.proofs.fab_tile_drives_Members.{contains_at}
 use Rattle.fab_use.specs.Sites.{bel_point, port_point, top_point, pin_point}
 use Rattle.fab_use.specs.Design as design
 use Rattle.fab_use.specs.Design.{IsBound, IsSourced, IsRoutePoint, IsCellPoint, input_pad, required_pins}

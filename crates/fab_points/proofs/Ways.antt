@@ -8,9 +8,9 @@ use Rattle.fab_model.specs.Cascade.{PlacedRow, previous_row, passing_bits, walk_
 use Rattle.fab_model.specs.Joins.{RowPlace, comes, goes}
 use Rattle.fab_model.proofs.Crossings.{IsPlaced, placed, standing_is_wire_row, partner_is, goes_from}
 use Rattle.fab_fabric.specs.Wires.{row_place}
-use Rattle.fab_use.specs.fab_implementation.specs.Plain.{PlainImplementation}
-use Rattle.fab_use.specs.fab_gen_tile.specs.Borders.{side_border}
-use Rattle.fab_use.specs.fab_tile_drives.proofs.BorderBits.{dest_within, source_within, passing_within}
+use Rattle.fab_use.specs.fab_implementation_Plain.{PlainImplementation}
+use Rattle.fab_use.specs.fab_gen_tile_Borders.{side_border}
+use Rattle.fab_use.proofs.fab_tile_drives_BorderBits.{dest_within, source_within, passing_within}
 use Rattle.fab_use.specs.Ways.{Passes, ends, came, IsTreeWay}
 use Rattle.fab_points.proofs.Places.{dest_few, placed_there, tree_wire}
 

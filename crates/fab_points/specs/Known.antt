@@ -10,9 +10,9 @@ use Rattle.fab_model.specs.Tiles.{PlainTile, numbered_pairs, bel_bits, bits_befo
 use Rattle.fab_model.specs.Grid.{PlainFabric, tile_at}
 use Rattle.fab_model.specs.Drive.{PlainBits}
 use Rattle.fab_meaning.specs.Ports.{config_name}
-use Rattle.fab_use.specs.fab_gen_tile.specs.TileModule.{matrix_output_names}
-use Rattle.fab_use.specs.fab_tile_drives.specs.Stands.{matrix_path, bel_path}
-use Rattle.fab_use.specs.fab_drives.specs.Points.{place_path}
+use Rattle.fab_use.specs.fab_gen_tile_TileModule.{matrix_output_names}
+use Rattle.fab_use.specs.fab_tile_drives_Stands.{matrix_path, bel_path}
+use Rattle.fab_use.specs.fab_drives_Points.{place_path}
 use Rattle.fab_tern.specs.Shown.{Terns}
 
 -- In a tile: the select bits of the switch matrix, the configuration bits of BELs, and the tables of LUTs.

@@ -12,12 +12,12 @@ use Rattle.fab_model.specs.Drive.{PlainBits}
 use Rattle.fab_fabric.specs.Fabric.{IsFabric, AreTiles}
 use Rattle.fab_fabric.specs.declared.wire.Site.{Site}
 use Rattle.fab_netlist.specs.Packed.{PlainCell, PlainPacked}
-use Rattle.fab_use.specs.fab_implementation.specs.Plain.{Pad, PlainImplementation}
-use Rattle.fab_use.specs.fab_legal.specs.WellMade.{IsWellMadePacked}
-use Rattle.fab_use.specs.fab_legal.specs.Legal.{IsLegal}
+use Rattle.fab_use.specs.fab_implementation_Plain.{Pad, PlainImplementation}
+use Rattle.fab_use.specs.fab_legal_WellMade.{IsWellMadePacked}
+use Rattle.fab_use.specs.fab_legal_Legal.{IsLegal}
 use Rattle.fab_prim.specs.Modules.{flip_flop_name}
-use Rattle.fab_use.specs.fab_fabric_text.specs.Texts.{IsFabricText}
-use Rattle.fab_use.specs.fab_text_loads.specs.Loads.{IsConfigured}
+use Rattle.fab_use.specs.fab_fabric_text_Texts.{IsFabricText}
+use Rattle.fab_use.specs.fab_text_loads_Loads.{IsConfigured}
 use Rattle.fab_tern.specs.Shown.{Terns, tern_shown}
 use Rattle.fab_use.specs.Sites.{bel_point}
 use Rattle.fab_use.specs.Design.{IsBound, IsSourced, IsOfDesign, IsDesignPoint}

@@ -20,8 +20,7 @@ ghost use Rattle.fab_points.specs.Laws.{
 
 use fab_load_runs::loading_is_decided;
 use fab_meaning::laws::points_of_sound_texts_have_one_driver;
-pub use fab_use::fab_text_loads;
-use fab_use::fab_text_loads::fabric_texts_load;
+pub use fab_use::fabric_texts_load;
 
 /// Over known configuration bits a driver of each point with a source gives it what the source shows, whatever else is known.
 pub fn sources_show()

@@ -11,3 +11,4 @@ pub mod TilesOnce
 pub mod RowsOnce
 pub mod FabricsOnce
 pub mod Grids
+pub use Rattle.fab_blocks.proofs.Readings as fab_blocks_Readings

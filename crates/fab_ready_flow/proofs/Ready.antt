@@ -1,9 +1,8 @@
 -- What a flow stored is read.
-use Rattle.std.proofs.Common.{◌≡◌, ◌≤◌, ℕ, Bool, true, false, List, [], ◌∷◌, ◌++◌, codes, length, nat_lt, Some, Ok, refl, sym, ap, ◌∙◌, arith}
+use Rattle.std.proofs.Common.{◌≡◌, ◌≤◌, ℕ, Bool, true, false, List, [], ◌∷◌, ◌++◌, codes, length, Some, Ok, refl}
 use Rattle.std.specs.List.{flat_map}
 use Rattle.std.specs.Str.{is_utf8, chars}
 use lib.Utf8.{encode}
-use Rattle.std.proofs.lemmas.Bool.Decides.{nat_tests}
 use Rattle.std.proofs.lemmas.Str.{IsUtf8-append, IsUtf8-from_is_utf8, is_utf8-from_IsUtf8}
 use Rattle.fab_base.specs.declared.TheConstants.{MAX_FILE_BYTES}
 use Rattle.fab_desk.specs.Files.{Map}
@@ -22,28 +21,19 @@ use Rattle.fab_state.specs.Plain.{PlainState}
 use Rattle.fab_state.specs.Spelled.{HasSpelling, Spells, state_lines, state_text}
 use Rattle.fab_state.proofs.Printed.{state_rows}
 use Rattle.fab_state.proofs.ReadBack.{spelled_is_read}
-use Rattle.fab_impl.specs.Spelled.{implementation_text}
-use Rattle.fab_simulated_flow.specs.fab_features.specs.Design.{design_features}
-use Rattle.fab_simulated_flow.specs.fab_text_reads.specs.Laws.{GeneratedTextsAreRead}
-use Rattle.fab_simulated_flow.specs.fab_spelled_designs.specs.Laws.{IsSound, LegalDesignsAreSpelled, SpelledDesignsAreSound}
-use Rattle.fab_short_texts.specs.fab_standing_states.specs.Laws.{FabricTextsHaveStreams, LegalStatesHaveEntries}
+use Rattle.fab_text_reads.specs.Laws.{GeneratedTextsAreRead}
+use Rattle.fab_spelled_designs.specs.Laws.{IsSound, LegalDesignsAreSpelled, SpelledDesignsAreSound}
+use Rattle.fab_short_texts.specs.fab_standing_states_Laws.{FabricTextsHaveStreams, LegalStatesHaveEntries}
 use Rattle.fab_short_texts.specs.Laws.{BitstreamsAreShort}
 use Rattle.fab_outputs.specs.Storing.{PlainOutput, with_outputs}
-use Rattle.fab_simulated_flow.specs.fab_flow.specs.Generating.{generated_text}
-use Rattle.fab_simulated_flow.specs.fab_flow.specs.Flowing.{FlowFiles, MakesFlow, flow_outputs}
-use Rattle.fab_simulated_flow.specs.fab_simulate.specs.Simulating.{HasPoints, IsReadyToSimulate, ReadsDevice, ReadsState, ReadsStimulus, ReadsWords, simulation_files}
-use Rattle.fab_simulated_flow.specs.Laws.{KeepsFlowFiles}
-use Rattle.fab_simulated_flow.proofs.Stored as stored_files
-use Rattle.fab_ready_flow.specs.Laws.{flow_state}
+use Rattle.fab_stored_flow.specs.fab_flow_Generating.{generated_text}
+use Rattle.fab_stored_flow.specs.fab_flow_Flowing.{FlowFiles, MakesFlow}
+use Rattle.fab_simulate.specs.Simulating.{HasPoints, IsReadyToSimulate, ReadsDevice, ReadsState, ReadsStimulus, ReadsWords, simulation_files}
+use Rattle.fab_stored_flow.specs.Laws.{FlowFilesStand, HoldsFlow, KeepsFlowFiles, flow_state}
+use Rattle.fab_stored_flow.proofs.HandedOut.{given_out}
 use Rattle.fab_ready_flow.proofs.Words.{words_fit}
 
 -- ---- files
-
-not_long : (bytes : List ℕ) → length bytes ≤ MAX_FILE_BYTES → nat_lt MAX_FILE_BYTES (length bytes) ≡ false
-not_long bytes short = grind (arith, nat_tests)
-
-pub given_out : (files : Map) (name bytes : List ℕ) → is_utf8 name ≡ true → files name ≡ Some bytes → length bytes ≤ MAX_FILE_BYTES → handed_out files name ≡ Ok bytes
-given_out files name bytes plain there short = rw (plain, there, not_long bytes short) refl
 
 -- a name with its ending
 text_name : is_utf8 (codes ".v") ≡ true
@@ -64,7 +54,7 @@ plain_name base ending first second =
 
 -- ---- the flow
 
-module _ (read_again : GeneratedTextsAreRead) (are_sound : SpelledDesignsAreSound) (are_spelled : LegalDesignsAreSpelled) (have_streams : FabricTextsHaveStreams)
+module _ (stand : FlowFilesStand) (read_again : GeneratedTextsAreRead) (are_sound : SpelledDesignsAreSound) (are_spelled : LegalDesignsAreSpelled) (have_streams : FabricTextsHaveStreams)
     (have_entries : LegalStatesHaveEntries) (are_short : BitstreamsAreShort)
     (files : Map) (names : FlowFiles) (allowed : ℕ) (stored : List PlainOutput) (flow : MakesFlow files names allowed stored)
     (plain : is_utf8 names.base ≡ true) (few : whole_count (generated_text flow.design.fabric) ≤ most_points) (short : length (state_text (flow_state flow)) ≤ MAX_FILE_BYTES)
@@ -81,22 +71,13 @@ module _ (read_again : GeneratedTextsAreRead) (are_sound : SpelledDesignsAreSoun
   abbrev words : List ℕ
   words = stream fabric flow.made.assembly.bits
 
-  abbrev after : Map
-  after =
-      stored_files.after files names.base (text_bytes (generated_text fabric)) (implementation_text fabric implementation)
-      (design_features fabric (packed flow.design.netlist) implementation) words state
+  holds : HoldsFlow flow later
+  holds = stand files names allowed stored flow later kept
 
-  after_is : with_outputs stored files ≡ after
-  after_is =
-      ap (λ (list : List PlainOutput). with_outputs list files)
-      (flow.made.outputs_are
-      ∙ ap (flow_outputs names.base (text_bytes (generated_text fabric)) (implementation_text fabric implementation)) flow.made.assembly.outputs_are)
-
-  handed : (ending bytes : List ℕ) → is_utf8 ending ≡ true → later (names.base ++ ending) ≡ with_outputs stored files (names.base ++ ending) →
-      after (names.base ++ ending) ≡ Some bytes → length bytes ≤ MAX_FILE_BYTES → handed_out later (names.base ++ ending) ≡ Ok bytes
-  handed ending bytes is_text same there few_bytes =
-      given_out later (names.base ++ ending) bytes (plain_name names.base ending plain is_text)
-      (same ∙ ap (λ (m : Map). m (names.base ++ ending)) after_is ∙ there) few_bytes
+  handed : (ending bytes : List ℕ) → is_utf8 ending ≡ true → later (names.base ++ ending) ≡ Some bytes → length bytes ≤ MAX_FILE_BYTES →
+      handed_out later (names.base ++ ending) ≡ Ok bytes
+  handed ending bytes is_text there few_bytes =
+      given_out later (names.base ++ ending) bytes (plain_name names.base ending plain is_text) there few_bytes
 
   sound : IsSound flow.design
   sound = are_sound files names.design flow.design flow.spelled
@@ -107,8 +88,7 @@ module _ (read_again : GeneratedTextsAreRead) (are_sound : SpelledDesignsAreSoun
   device : ReadsDevice later (names.base ++ codes ".v") (generated_text fabric)
   device = record {
     bytes = text_bytes (generated_text fabric);
-    found = handed (codes ".v") (text_bytes (generated_text fabric)) text_name kept.text (stored_files.text_stands files names.base _ _ _ words state)
-        flow.made.readable;
+    found = handed (codes ".v") (text_bytes (generated_text fabric)) text_name holds.text flow.made.readable;
     spelled = record {
       spelled = (read_again files names.design.fabric fabric flow.spelled.fabric sound.fabric sound.tiles).1;
       sound = flow.made.text.sound;
@@ -119,7 +99,7 @@ module _ (read_again : GeneratedTextsAreRead) (are_sound : SpelledDesignsAreSoun
   loaded : ReadsWords later (names.base ++ codes ".bit") words
   loaded = record {
     bytes = flat_map word_bytes words;
-    found = handed (codes ".bit") (flat_map word_bytes words) words_name kept.words (stored_files.words_stand files names.base _ _ _ words state)
+    found = handed (codes ".bit") (flat_map word_bytes words) words_name holds.words
         (are_short fabric flow.made.assembly.bits sound.fabric);
     spelled = record { fit = words_fit fabric sound.fabric flow.made.assembly.bits; bytes_are = refl };
   }
@@ -136,7 +116,7 @@ module _ (read_again : GeneratedTextsAreRead) (are_sound : SpelledDesignsAreSoun
   stands : ReadsState later (names.base ++ codes ".state") (generated_text fabric) state
   stands = record {
     bytes = state_text state;
-    found = handed (codes ".state") (state_text state) state_name kept.state (stored_files.state_stands files names.base _ _ _ words state) short;
+    found = handed (codes ".state") (state_text state) state_name holds.state short;
     spelled = record { spelled = spells; says = spelled_is_read (rows_of (state_text state)) state spells; points = points };
   }
 

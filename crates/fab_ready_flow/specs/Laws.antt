@@ -3,20 +3,13 @@ use Rattle.std.specs.Prelude.{◌≡◌, ◌≤◌, ℕ, Bool, true, List, ◌++
 use Rattle.std.specs.Str.{is_utf8}
 use Rattle.fab_base.specs.declared.TheConstants.{MAX_FILE_BYTES}
 use Rattle.fab_desk.specs.Files.{Map}
-use Rattle.fab_netlist.specs.Packing.{packed}
 use Rattle.fab_equations.specs.Instances.{whole_count, most_points}
-use Rattle.fab_state.specs.Plain.{PlainState}
 use Rattle.fab_state.specs.Spelled.{state_text}
-use Rattle.fab_simulated_flow.specs.fab_use.specs.Registers.{design_state}
 use Rattle.fab_outputs.specs.Storing.{PlainOutput, with_outputs}
-use Rattle.fab_simulated_flow.specs.fab_flow.specs.Generating.{generated_text}
-use Rattle.fab_simulated_flow.specs.fab_flow.specs.Flowing.{FlowFiles, MakesFlow}
-use Rattle.fab_simulated_flow.specs.fab_simulate.specs.Simulating.{IsReadyToSimulate, ReadsStimulus, simulation_files}
-use Rattle.fab_simulated_flow.specs.Laws.{KeepsFlowFiles}
-
--- the state that stands behind the files
-abbrev pub flow_state : {files : Map} {names : FlowFiles} {allowed : ℕ} {stored : List PlainOutput} → MakesFlow files names allowed stored → PlainState
-flow_state flow = design_state (packed flow.design.netlist) flow.made.implementation
+use Rattle.fab_stored_flow.specs.fab_flow_Generating.{generated_text}
+use Rattle.fab_stored_flow.specs.fab_flow_Flowing.{FlowFiles, MakesFlow}
+use Rattle.fab_simulate.specs.Simulating.{IsReadyToSimulate, ReadsStimulus, simulation_files}
+use Rattle.fab_stored_flow.specs.Laws.{KeepsFlowFiles, flow_state}
 
 -- As long as BASE.v, BASE.bit and BASE.state of a flow stand, nothing of them is refused, if the text does not have too many points and the text of the
 -- state is not too long. So with a stimulus for the ports of the netlist nothing is refused at all.

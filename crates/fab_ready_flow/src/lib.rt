@@ -3,21 +3,22 @@
 
 ghost use Rattle.fab_ready_flow.specs.Laws.{FlowFilesAreReady};
 
-pub use fab_short_texts;
-use fab_short_texts::bitstreams_are_short;
-use fab_short_texts::fab_standing_states::{fabric_texts_have_streams, legal_states_have_entries};
-pub use fab_simulated_flow;
-use fab_simulated_flow::fab_spelled_designs::{
-    legal_designs_are_spelled, spelled_designs_are_sound,
+use fab_short_texts::{bitstreams_are_short, fabric_texts_have_streams, legal_states_have_entries};
+pub use fab_short_texts::{legal_implementations_are_short, legal_states_are_short};
+pub use fab_simulate::do_simulate;
+pub use fab_spelled_designs::{legal_designs_are_spelled, spelled_designs_are_sound};
+use fab_stored_flow::flow_files_stand;
+pub use fab_stored_flow::{
+    do_assemble, do_bits, do_features, do_flow, do_generate, do_map, do_matrix,
 };
-use fab_simulated_flow::fab_text_reads::generated_texts_are_read;
-pub use fab_simulated_flow::{fab_flow, fab_simulate, fab_spelled_designs};
+use fab_text_reads::generated_texts_are_read;
 
 /// Of the files that a flow stored `simulate` refuses nothing: where the text has few enough points, the text of the state is no longer than a file may be,
 /// and the stimulus is read for the state's ports.
 pub fn flow_files_are_ready()
     ensures { FlowFilesAreReady }
 {
+    flow_files_stand();
     generated_texts_are_read();
     spelled_designs_are_sound();
     legal_designs_are_spelled();

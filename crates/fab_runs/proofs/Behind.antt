@@ -7,7 +7,7 @@ use Rattle.fab_meaning.specs.Settled.{Assignment, names_at, shown}
 use Rattle.fab_meaning.specs.Runs.{clock_of, is_clock, kept}
 use Rattle.fab_netlist.specs.Plain.{PlainNetlist}
 use Rattle.fab_implementation.specs.Plain.{PlainImplementation}
-use Rattle.fab_points.specs.fab_use.specs.Cycles.{Instant, AreInstants, IsCycle, Cycle, AreCycles}
+use Rattle.fab_points.specs.fab_use_Cycles.{Instant, AreInstants, IsCycle, Cycle, AreCycles}
 
 module _ (text : List PlainModule) where
   -- what a point shows, and what it is left with, looks at what is held there alone

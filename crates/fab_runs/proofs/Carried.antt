@@ -16,11 +16,11 @@ use Rattle.fab_netlist.proofs.Counts.{at_mapped}
 use Rattle.fab_netlist.proofs.Carried.{keeps_meaning}
 use Rattle.fab_netlist.proofs.Works.{IsWork, is_work, pair_at}
 use Rattle.fab_implementation.specs.Plain.{Pad, PlainImplementation}
-use Rattle.fab_points.specs.fab_legal.specs.Legal.{IsLegal}
-use Rattle.fab_points.specs.fab_legal.proofs.Lists.{at_default, at_from_mapped}
-use Rattle.fab_points.specs.fab_use.specs.Design.{IsBound}
-use Rattle.fab_points.specs.fab_use.specs.Cycles.{Feeds, Shows}
-use Rattle.fab_points.specs.fab_use.specs.Registers.{HoldsLatches}
+use Rattle.fab_points.specs.fab_legal_Legal.{IsLegal}
+use Rattle.fab_points.proofs.fab_legal_Lists.{at_default, at_from_mapped}
+use Rattle.fab_points.specs.fab_use_Design.{IsBound}
+use Rattle.fab_points.specs.fab_use_Cycles.{Feeds, Shows}
+use Rattle.fab_points.specs.fab_use_Registers.{HoldsLatches}
 use Rattle.fab_runs.specs.Carrying.{MeetsSources, TakesNext, SourcesCarry}
 use Rattle.fab_runs.proofs.Values as v
 

@@ -5,7 +5,7 @@ use Rattle.fab_kinds.specs.Pins.{input_names}
 use Rattle.fab_meaning.specs.Points.{Point}
 use Rattle.fab_fabric.specs.declared.wire.Site.{Site}
 use Rattle.fab_netlist.specs.Packed.{PlainCell}
-use Rattle.fab_points.specs.fab_use.specs.Sites.{bel_point}
+use Rattle.fab_points.specs.fab_use_Sites.{bel_point}
 
 module _ (site : Site) (cell : PlainCell) where
   -- what holds of x and of each used pin holds of each point of the index

@@ -5,10 +5,10 @@ use Rattle.std.proofs.lemmas.List.Elements.{All-nil, All-cons, All-head, All-tai
 use Rattle.fab_meaning.specs.Settled.{Assignment}
 use Rattle.fab_netlist.specs.Plain.{bit_at}
 use Rattle.fab_netlist.specs.Meaning.{Meets, next_held, IsRun}
-use Rattle.fab_points.specs.fab_text_loads.specs.Loads.{IsConfigured}
-use Rattle.fab_points.specs.fab_use.specs.Cycles.{Instant, AreInstants, Feeds, Shows, EndsCycle, Cycle, AreCycles, EachShows}
-use Rattle.fab_points.specs.fab_use.specs.Registers.{HoldsLatches}
-use Rattle.fab_points.specs.fab_use.specs.Headline.{SettlesOnce, IsFed, RunsFrom}
+use Rattle.fab_points.specs.fab_text_loads_Loads.{IsConfigured}
+use Rattle.fab_points.specs.fab_use_Cycles.{Instant, AreInstants, Feeds, Shows, EndsCycle, Cycle, AreCycles, EachShows}
+use Rattle.fab_points.specs.fab_use_Registers.{HoldsLatches}
+use Rattle.fab_points.specs.fab_use_Headline.{SettlesOnce, IsFed, RunsFrom}
 use Rattle.fab_runs.proofs.Setting.{Setting}
 use Rattle.fab_runs.proofs.DesignRank.{settles_once}
 use Rattle.fab_runs.proofs.Instants.{Has, Ready, same_configured, same_ready, Passes, still_configured, instant_shows, user_ready, loader_ready}

@@ -8,11 +8,11 @@ use Rattle.fab_meaning.specs.Runs.{clock_name}
 use Rattle.fab_meaning.specs.Loading.{IsLoading}
 use Rattle.fab_netlist.specs.Packing.{packed}
 use Rattle.fab_netlist.proofs.Members.{mapped_in}
-use Rattle.fab_points.specs.fab_legal.proofs.Members.{from_mapped}
-use Rattle.fab_points.specs.fab_use.specs.Design.{IsSourced}
-use Rattle.fab_points.specs.fab_text_loads.specs.Loads.{IsConfigured}
-use Rattle.fab_points.specs.fab_use.specs.Headline.{SettlesOnce, DesignPoints}
-use Rattle.fab_points.specs.fab_use.specs.Sources.{Source, source_reads, HasSource}
+use Rattle.fab_points.proofs.fab_legal_Members.{from_mapped}
+use Rattle.fab_points.specs.fab_use_Design.{IsSourced}
+use Rattle.fab_points.specs.fab_text_loads_Loads.{IsConfigured}
+use Rattle.fab_points.specs.fab_use_Headline.{SettlesOnce, DesignPoints}
+use Rattle.fab_points.specs.fab_use_Sources.{Source, source_reads, HasSource}
 use Rattle.fab_points.specs.Laws.{RanksDesign}
 use Rattle.fab_points.proofs.Configuration.{configuration_point_loads}
 use Rattle.fab_runs.proofs.Setting.{Setting, cells_made}

@@ -25,26 +25,26 @@ use Rattle.fab_netlist.specs.Packing.{packed}
 use Rattle.fab_netlist.proofs.Members.{at_in}
 use Rattle.fab_implementation.specs.Plain.{Edge, Pad, PlainTree, PlainImplementation}
 use Rattle.fab_implementation.specs.OnFabric.{kind_at}
-use Rattle.fab_points.specs.fab_legal.specs.Lines.{IsOutput}
-use Rattle.fab_points.specs.fab_legal.specs.Nets.{Net, zero_net, one_net, port_net, cell_net, net_among}
-use Rattle.fab_points.specs.fab_legal.specs.Sinks.{packed_net, cell_input, latch_enable, latch_reset, input_released, output_shown, output_driven}
-use Rattle.fab_points.specs.fab_legal.specs.WellMade.{IsWellMadeCell, output_name}
-use Rattle.fab_points.specs.fab_legal.specs.Legal.{IsLegal}
-use Rattle.fab_points.specs.fab_legal.proofs.Lists.{at_default}
-use Rattle.fab_points.specs.fab_legal.proofs.Members.{from_mapped}
-use Rattle.fab_points.specs.fab_legal.proofs.Once.{known_thing}
-use Rattle.fab_points.specs.fab_legal.proofs.PackedMade.{packed_made}
+use Rattle.fab_points.specs.fab_legal_Lines.{IsOutput}
+use Rattle.fab_points.specs.fab_legal_Nets.{Net, zero_net, one_net, port_net, cell_net, net_among}
+use Rattle.fab_points.specs.fab_legal_Sinks.{packed_net, cell_input, latch_enable, latch_reset, input_released, output_shown, output_driven}
+use Rattle.fab_points.specs.fab_legal_WellMade.{IsWellMadeCell, output_name}
+use Rattle.fab_points.specs.fab_legal_Legal.{IsLegal}
+use Rattle.fab_points.proofs.fab_legal_Lists.{at_default}
+use Rattle.fab_points.proofs.fab_legal_Members.{from_mapped}
+use Rattle.fab_points.proofs.fab_legal_Once.{known_thing}
+use Rattle.fab_points.proofs.fab_legal_PackedMade.{packed_made}
 use Rattle.fab_prim.specs.Ports.{top_name}
 use Rattle.fab_prim.specs.Modules.{flip_flop_name}
-use Rattle.fab_points.specs.fab_drives.specs.Points.{place_path, IsOnWay}
-use Rattle.fab_points.specs.fab_gen_tile.specs.TileModule.{matrix_output_names}
-use Rattle.fab_points.specs.fab_tile_drives.specs.Stands.{matrix_path, name_of, wire_point}
-use Rattle.fab_points.specs.fab_use.specs.Design as design
-use Rattle.fab_points.specs.fab_use.specs.Sites.{bel_point, port_point, top_point, pin_point}
-use Rattle.fab_points.specs.fab_use.specs.Design.{input_pad, output_pad, IsTreeWire, IsBound, IsSourced, IsRoutePoint, IsCellPoint, IsPadPoint}
-use Rattle.fab_points.specs.fab_use.specs.Sources as sources
-use Rattle.fab_points.specs.fab_use.specs.Ways as ways
-use Rattle.fab_points.specs.fab_use.specs.Sources.{Source, always, shows, source_reads, HasSource, output_source}
+use Rattle.fab_points.specs.fab_drives_Points.{place_path, IsOnWay}
+use Rattle.fab_points.specs.fab_gen_tile_TileModule.{matrix_output_names}
+use Rattle.fab_points.specs.fab_tile_drives_Stands.{matrix_path, name_of, wire_point}
+use Rattle.fab_points.specs.fab_use_Design as design
+use Rattle.fab_points.specs.fab_use_Sites.{bel_point, port_point, top_point, pin_point}
+use Rattle.fab_points.specs.fab_use_Design.{input_pad, output_pad, IsTreeWire, IsBound, IsSourced, IsRoutePoint, IsCellPoint, IsPadPoint}
+use Rattle.fab_points.specs.fab_use_Sources as sources
+use Rattle.fab_points.specs.fab_use_Ways as ways
+use Rattle.fab_points.specs.fab_use_Sources.{Source, always, shows, source_reads, HasSource, output_source}
 use Rattle.fab_points.proofs.Places.{site_tile, cell_kind, in_kind, out_kind, left_tree}
 use Rattle.fab_points.proofs.Covers.{from_take, by_edge, way_walk}
 use Rattle.fab_points.proofs.ReadPoints.{all_take}

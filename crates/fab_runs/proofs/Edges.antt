@@ -15,15 +15,15 @@ use Rattle.fab_fabric.specs.Wires.{IsIndexOf, row_place}
 use Rattle.fab_fabric.specs.declared.wire.Wire.{Wire}
 use Rattle.fab_netlist.specs.Packed.{PlainPacked}
 use Rattle.fab_implementation.specs.Plain.{Edge, Pad, PlainTree, PlainImplementation}
-use Rattle.fab_points.specs.fab_legal.specs.Legal.{IsLegal}
-use Rattle.fab_points.specs.fab_drives.specs.Points.{place_path, IsOnWay, end_bit, wire_between, begin_bit, before}
-use Rattle.fab_points.specs.fab_gen_tile.specs.TileModule.{matrix_output_names}
-use Rattle.fab_points.specs.fab_tile_drives.specs.Stands.{matrix_path, name_of, wire_point}
-use Rattle.fab_points.specs.fab_use.specs.Design.{IsTreeWire}
-use Rattle.fab_points.specs.fab_use.specs.Ways as ways
-use Rattle.fab_points.specs.fab_use.specs.Ways.{Passes, IsTreeWay, end_port, begin_port}
-use Rattle.fab_points.specs.fab_use.specs.Sources as sources
-use Rattle.fab_points.specs.fab_use.specs.Sources.{shows, HasSource}
+use Rattle.fab_points.specs.fab_legal_Legal.{IsLegal}
+use Rattle.fab_points.specs.fab_drives_Points.{place_path, IsOnWay, end_bit, wire_between, begin_bit, before}
+use Rattle.fab_points.specs.fab_gen_tile_TileModule.{matrix_output_names}
+use Rattle.fab_points.specs.fab_tile_drives_Stands.{matrix_path, name_of, wire_point}
+use Rattle.fab_points.specs.fab_use_Design.{IsTreeWire}
+use Rattle.fab_points.specs.fab_use_Ways as ways
+use Rattle.fab_points.specs.fab_use_Ways.{Passes, IsTreeWay, end_port, begin_port}
+use Rattle.fab_points.specs.fab_use_Sources as sources
+use Rattle.fab_points.specs.fab_use_Sources.{shows, HasSource}
 use Rattle.fab_points.proofs.Places.{index_wire, tree_wire, outputs_there, left_tree, entered_tree}
 use Rattle.fab_points.proofs.Ways.{before_placed}
 use Rattle.fab_points.proofs.Origins.{OfPair, of_pair, of_join, edge_step, counted_there}

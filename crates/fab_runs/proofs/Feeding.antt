@@ -10,12 +10,12 @@ use Rattle.fab_meaning.specs.Settled.{Assignment, IsSettledOn}
 use Rattle.fab_meaning.specs.Runs.{clock_name, user_clock_name, AreClocksLow, Ticks}
 use Rattle.fab_model.specs.Grid.{PlainFabric}
 use Rattle.fab_fabric.specs.Fabric.{IsFabric}
-use Rattle.fab_points.specs.fab_fabric_text.specs.Top.{top_module}
+use Rattle.fab_points.specs.fab_fabric_text_Top.{top_module}
 use Rattle.fab_netlist.specs.Plain.{PlainNetlist}
 use Rattle.fab_implementation.specs.Plain.{PlainImplementation}
-use Rattle.fab_points.specs.fab_fabric_text.specs.Texts.{IsFabricText}
-use Rattle.fab_points.specs.fab_use.specs.Cycles.{Instant, AreInstants, Feeds, EndsCycle, IsCycle, Cycle, AreCycles}
-use Rattle.fab_points.specs.fab_use.specs.Headline.{SettlesOnce, DesignPoints, IsFed, RunsFrom}
+use Rattle.fab_points.specs.fab_fabric_text_Texts.{IsFabricText}
+use Rattle.fab_points.specs.fab_use_Cycles.{Instant, AreInstants, Feeds, EndsCycle, IsCycle, Cycle, AreCycles}
+use Rattle.fab_points.specs.fab_use_Headline.{SettlesOnce, DesignPoints, IsFed, RunsFrom}
 use Rattle.fab_points.proofs.EachSource.{has_fabric}
 use Rattle.fab_runs.specs.Feeding.{AreFedAlike, AreGivenAlike, IsCycleAtLow, FedDesignsRun}
 use Rattle.fab_runs.proofs.Behind.{one_more_instant, one_more_cycle}

@@ -1,6 +1,6 @@
 -- The bitstream of a legal implementation runs its netlist.
 use Rattle.fab_netlist.specs.Packing.{packed}
-use Rattle.fab_points.specs.fab_use.specs.Headline.{LegalDesignsRun}
+use Rattle.fab_points.specs.fab_use_Headline.{LegalDesignsRun}
 use Rattle.fab_runs.proofs.Setting.{Laws, Setting, cells_made}
 use Rattle.fab_runs.proofs.Start.{state_begins}
 use Rattle.fab_runs.proofs.CyclesRun.{runs_from}

@@ -13,13 +13,13 @@ use Rattle.fab_netlist.specs.Meaning.{Meets, next_held}
 use Rattle.fab_netlist.specs.Packing.{Work, works, latch_at, cell_of, packed}
 use Rattle.fab_netlist.proofs.Counts.{at_mapped}
 use Rattle.fab_prim.specs.Modules.{flip_flop_name}
-use Rattle.fab_points.specs.fab_text_loads.specs.Loads.{IsQuiet, IsConfigured}
-use Rattle.fab_points.specs.fab_use.specs.Sites.{bel_point}
-use Rattle.fab_points.specs.fab_use.specs.Design as design
-use Rattle.fab_points.specs.fab_use.specs.Design.{IsBound}
-use Rattle.fab_points.specs.fab_use.specs.Cycles.{Instant, Feeds, Shows}
-use Rattle.fab_points.specs.fab_use.specs.Registers.{HoldsLatches}
-use Rattle.fab_points.specs.fab_use.specs.Headline.{DesignPoints}
+use Rattle.fab_points.specs.fab_text_loads_Loads.{IsQuiet, IsConfigured}
+use Rattle.fab_points.specs.fab_use_Sites.{bel_point}
+use Rattle.fab_points.specs.fab_use_Design as design
+use Rattle.fab_points.specs.fab_use_Design.{IsBound}
+use Rattle.fab_points.specs.fab_use_Cycles.{Instant, Feeds, Shows}
+use Rattle.fab_points.specs.fab_use_Registers.{HoldsLatches}
+use Rattle.fab_points.specs.fab_use_Headline.{DesignPoints}
 use Rattle.fab_runs.specs.Carrying.{MeetsSources, TakesNext}
 use Rattle.fab_runs.proofs.Carried.{latched, sources_carry}
 use Rattle.fab_runs.proofs.Setting.{Setting, cells_made}

@@ -11,8 +11,8 @@ use Rattle.fab_netlist.proofs.Members.{at_in}
 use Rattle.fab_netlist.proofs.Counts.{one_place, at_mapped}
 use Rattle.fab_netlist.proofs.Meaning.{covers_once}
 use Rattle.fab_netlist.proofs.Works.{other_seen, IsWork, is_work, pair_at, latch_work}
-use Rattle.fab_points.specs.fab_legal.proofs.Lists.{same_at, at_from_mapped}
-use Rattle.fab_points.specs.fab_legal.proofs.Members.{place_in}
+use Rattle.fab_points.proofs.fab_legal_Lists.{same_at, at_from_mapped}
+use Rattle.fab_points.proofs.fab_legal_Members.{place_in}
 
 -- ---- lists
 

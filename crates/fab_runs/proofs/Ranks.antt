@@ -8,7 +8,7 @@ use Rattle.fab_model.specs.Grid.{PlainFabric}
 use Rattle.fab_netlist.specs.Packed.{PlainPacked}
 use Rattle.fab_netlist.proofs.Members.{in_none, first_or_later, any_gives}
 use Rattle.fab_implementation.specs.Plain.{PlainImplementation}
-use Rattle.fab_points.specs.fab_use.specs.Sources.{source_reads, HasSource}
+use Rattle.fab_points.specs.fab_use_Sources.{source_reads, HasSource}
 use Rattle.std.specs.List.{All}
 use Rattle.std.proofs.lemmas.List.Elements.{All-nil, All-cons}
 use Rattle.fab_netlist.proofs.Members.{first_in, later_in}

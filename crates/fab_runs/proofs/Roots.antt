@@ -18,19 +18,19 @@ use Rattle.fab_fabric.proofs.Numbered.{one_wire}
 use Rattle.fab_netlist.specs.Packed.{PlainCell, PlainPacked}
 use Rattle.fab_implementation.specs.Plain.{Pad, PlainImplementation}
 use Rattle.fab_implementation.specs.OnFabric.{kind_at}
-use Rattle.fab_points.specs.fab_legal.specs.Lines.{IsCell}
-use Rattle.fab_points.specs.fab_legal.specs.Nets.{Net, zero_net, one_net, port_net, cell_net, IsRoot, StandsIn}
-use Rattle.fab_points.specs.fab_legal.specs.Sinks.{Required}
-use Rattle.fab_points.specs.fab_legal.specs.Steps.{IsConstant, pin_wire}
-use Rattle.fab_points.specs.fab_legal.specs.Legal.{IsLegal}
-use Rattle.fab_points.specs.fab_legal.proofs.Once.{known_thing}
-use Rattle.fab_points.specs.fab_gen_tile.specs.Borders.{fixed_bit}
-use Rattle.fab_points.specs.fab_drives.specs.Points.{place_path}
-use Rattle.fab_points.specs.fab_tile_drives.specs.Stands.{wire_point}
-use Rattle.fab_points.specs.fab_use.specs.Sites.{bel_point, pin_point}
-use Rattle.fab_points.specs.fab_use.specs.Design.{IsTreeWire, IsBound}
-use Rattle.fab_points.specs.fab_use.specs.Sources as sources
-use Rattle.fab_points.specs.fab_use.specs.Sources.{always, shows, HasSource}
+use Rattle.fab_points.specs.fab_legal_Lines.{IsCell}
+use Rattle.fab_points.specs.fab_legal_Nets.{Net, zero_net, one_net, port_net, cell_net, IsRoot, StandsIn}
+use Rattle.fab_points.specs.fab_legal_Sinks.{Required}
+use Rattle.fab_points.specs.fab_legal_Steps.{IsConstant, pin_wire}
+use Rattle.fab_points.specs.fab_legal_Legal.{IsLegal}
+use Rattle.fab_points.proofs.fab_legal_Once.{known_thing}
+use Rattle.fab_points.specs.fab_gen_tile_Borders.{fixed_bit}
+use Rattle.fab_points.specs.fab_drives_Points.{place_path}
+use Rattle.fab_points.specs.fab_tile_drives_Stands.{wire_point}
+use Rattle.fab_points.specs.fab_use_Sites.{bel_point, pin_point}
+use Rattle.fab_points.specs.fab_use_Design.{IsTreeWire, IsBound}
+use Rattle.fab_points.specs.fab_use_Sources as sources
+use Rattle.fab_points.specs.fab_use_Sources.{always, shows, HasSource}
 use Rattle.fab_points.proofs.Places.{one_tile, cell_kind, in_kind}
 use Rattle.fab_points.proofs.Origins.{pin_index}
 use Rattle.fab_runs.proofs.Edges.{HasIt}

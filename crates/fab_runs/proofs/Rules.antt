@@ -8,8 +8,8 @@ use Rattle.fab_netlist.specs.Packed.{PlainPacked}
 use Rattle.fab_netlist.specs.Packing.{packed}
 use Rattle.fab_netlist.proofs.Members.{in_none, first_or_later, first_in, later_in, in_left, in_right}
 use Rattle.fab_implementation.specs.Plain.{PlainImplementation}
-use Rattle.fab_points.specs.fab_use.specs.Design.{IsSourced}
-use Rattle.fab_points.specs.fab_use.specs.Sources.{Source, source_reads, HasSource}
+use Rattle.fab_points.specs.fab_use_Design.{IsSourced}
+use Rattle.fab_points.specs.fab_use_Sources.{Source, source_reads, HasSource}
 use Rattle.fab_runs.specs.Ranking.{Rule, ruled, StandBehind, DesignHasOrder}
 use Rattle.fab_runs.proofs.EachPoint.{sourced_has}
 

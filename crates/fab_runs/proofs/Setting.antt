@@ -10,12 +10,12 @@ use Rattle.fab_netlist.specs.Cycles.{HasNoCycle}
 use Rattle.fab_netlist.specs.Meaning.{AcyclicMeansOneRun}
 use Rattle.fab_netlist.specs.Packing.{packed}
 use Rattle.fab_implementation.specs.Plain.{Pad, PlainImplementation}
-use Rattle.fab_points.specs.fab_legal.specs.WellMade.{IsWellMadePacked}
-use Rattle.fab_points.specs.fab_legal.specs.Legal.{IsLegal}
-use Rattle.fab_points.specs.fab_legal.proofs.PackedMade.{packed_made}
-use Rattle.fab_points.specs.fab_fabric_text.specs.Texts.{IsFabricText}
-use Rattle.fab_points.specs.fab_text_loads.specs.Loads.{LoadsConfigurations}
-use Rattle.fab_points.specs.fab_use.specs.Configuring.{Configures}
+use Rattle.fab_points.specs.fab_legal_WellMade.{IsWellMadePacked}
+use Rattle.fab_points.specs.fab_legal_Legal.{IsLegal}
+use Rattle.fab_points.proofs.fab_legal_PackedMade.{packed_made}
+use Rattle.fab_points.specs.fab_fabric_text_Texts.{IsFabricText}
+use Rattle.fab_points.specs.fab_text_loads_Loads.{LoadsConfigurations}
+use Rattle.fab_points.specs.fab_use_Configuring.{Configures}
 use Rattle.fab_points.specs.Laws.{ConfigurationGoes, DesignIsDeclared, DesignIsListed, DesignSettlesBySources, RankedDesignSettlesOnce, RegistersTick}
 
 pub record Laws : Type 0 where

@@ -20,16 +20,16 @@ use Rattle.fab_netlist.proofs.Members.{at_in}
 use Rattle.fab_netlist.proofs.Counts.{at_mapped}
 use Rattle.fab_netlist.proofs.Works.{is_work}
 use Rattle.fab_implementation.specs.Plain.{Pad, PlainImplementation}
-use Rattle.fab_points.specs.fab_legal.specs.Lines.{IsCell}
-use Rattle.fab_points.specs.fab_legal.specs.Sinks.{site_of}
-use Rattle.fab_points.specs.fab_legal.specs.Legal.{IsLegal}
-use Rattle.fab_points.specs.fab_legal.proofs.Lists.{at_default}
-use Rattle.fab_points.specs.fab_legal.proofs.SinkLaw.{known_site, site_is}
+use Rattle.fab_points.specs.fab_legal_Lines.{IsCell}
+use Rattle.fab_points.specs.fab_legal_Sinks.{site_of}
+use Rattle.fab_points.specs.fab_legal_Legal.{IsLegal}
+use Rattle.fab_points.proofs.fab_legal_Lists.{at_default}
+use Rattle.fab_points.proofs.fab_legal_SinkLaw.{known_site, site_is}
 use Rattle.fab_prim.specs.Modules.{flip_flop_name}
-use Rattle.fab_points.specs.fab_drives.proofs.Lists.{contains_found, contains_numbered}
-use Rattle.fab_points.specs.fab_state.specs.Plain.{Register}
-use Rattle.fab_points.specs.fab_use.specs.Sites.{bel_point}
-use Rattle.fab_points.specs.fab_use.specs.Registers.{HoldsLatches, register_of, design_state, HoldsState, IsInitial}
+use Rattle.fab_points.proofs.fab_drives_Lists.{contains_found, contains_numbered}
+use Rattle.fab_points.specs.fab_state_Plain.{Register}
+use Rattle.fab_points.specs.fab_use_Sites.{bel_point}
+use Rattle.fab_points.specs.fab_use_Registers.{HoldsLatches, register_of, design_state, HoldsState, IsInitial}
 use Rattle.fab_runs.proofs.Carried.{latched, within}
 use Rattle.fab_runs.proofs.LatchCells.{latch_cell, one_cell}
 

@@ -13,14 +13,14 @@ use Rattle.fab_fabric.specs.declared.wire.Wire.{Wire}
 use Rattle.fab_netlist.specs.Packed.{PlainPacked}
 use Rattle.fab_implementation.specs.Plain.{Edge, Pad, PlainTree, PlainImplementation}
 use Rattle.fab_implementation.specs.OnFabric.{kind_at}
-use Rattle.fab_points.specs.fab_legal.specs.Nets.{Net, net_of, IsRoot, StandsIn, left_wires, entered_wires, Reached, root, step}
-use Rattle.fab_points.specs.fab_legal.specs.Sinks.{Required}
-use Rattle.fab_points.specs.fab_legal.specs.Steps.{pin_wire}
-use Rattle.fab_points.specs.fab_legal.specs.Legal.{IsLegal}
-use Rattle.fab_points.specs.fab_legal.proofs.Members.{from_mapped}
-use Rattle.fab_points.specs.fab_tile_drives.proofs.Members.{contains_map}
-use Rattle.fab_points.specs.fab_use.specs.Sites.{pin_point}
-use Rattle.fab_points.specs.fab_use.specs.Sources.{shows, HasSource}
+use Rattle.fab_points.specs.fab_legal_Nets.{Net, net_of, IsRoot, StandsIn, left_wires, entered_wires, Reached, root, step}
+use Rattle.fab_points.specs.fab_legal_Sinks.{Required}
+use Rattle.fab_points.specs.fab_legal_Steps.{pin_wire}
+use Rattle.fab_points.specs.fab_legal_Legal.{IsLegal}
+use Rattle.fab_points.proofs.fab_legal_Members.{from_mapped}
+use Rattle.fab_points.proofs.fab_tile_drives_Members.{contains_map}
+use Rattle.fab_points.specs.fab_use_Sites.{pin_point}
+use Rattle.fab_points.specs.fab_use_Sources.{shows, HasSource}
 use Rattle.fab_points.proofs.Origins.{pin_index}
 use Rattle.fab_runs.proofs.Edges.{HasIt, along_edge}
 

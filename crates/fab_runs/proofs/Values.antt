@@ -23,24 +23,24 @@ use Rattle.fab_netlist.specs.Packing.{Work, of_cover, of_latch, works, latch_of,
 use Rattle.fab_netlist.proofs.Members.{at_in}
 use Rattle.fab_implementation.specs.Plain.{Pad, PlainImplementation}
 use Rattle.fab_implementation.specs.OnFabric.{kind_at}
-use Rattle.fab_points.specs.fab_legal.specs.Lines.{IsCell, IsInput}
-use Rattle.fab_points.specs.fab_legal.specs.Nets.{Net, zero_net, one_net, port_net, cell_net}
-use Rattle.fab_points.specs.fab_legal.specs.Sinks.{Required, packed_net, site_of, latch_enable, latch_reset, input_released, output_shown, output_driven}
-use Rattle.fab_points.specs.fab_legal.specs.Sinks as sinks
-use Rattle.fab_points.specs.fab_legal.specs.Steps.{pin_wire}
-use Rattle.fab_points.specs.fab_legal.specs.WellMade.{IsWellMadeCell}
-use Rattle.fab_points.specs.fab_legal.specs.Legal.{IsLegal}
-use Rattle.fab_points.specs.fab_legal.proofs.Lists.{same_at, at_default, at_from_mapped}
-use Rattle.fab_points.specs.fab_legal.proofs.SinkLaw.{known_site, site_is}
-use Rattle.fab_points.specs.fab_legal.proofs.PackedMade.{packed_made}
+use Rattle.fab_points.specs.fab_legal_Lines.{IsCell, IsInput}
+use Rattle.fab_points.specs.fab_legal_Nets.{Net, zero_net, one_net, port_net, cell_net}
+use Rattle.fab_points.specs.fab_legal_Sinks.{Required, packed_net, site_of, latch_enable, latch_reset, input_released, output_shown, output_driven}
+use Rattle.fab_points.specs.fab_legal_Sinks as sinks
+use Rattle.fab_points.specs.fab_legal_Steps.{pin_wire}
+use Rattle.fab_points.specs.fab_legal_WellMade.{IsWellMadeCell}
+use Rattle.fab_points.specs.fab_legal_Legal.{IsLegal}
+use Rattle.fab_points.proofs.fab_legal_Lists.{same_at, at_default, at_from_mapped}
+use Rattle.fab_points.proofs.fab_legal_SinkLaw.{known_site, site_is}
+use Rattle.fab_points.proofs.fab_legal_PackedMade.{packed_made}
 use Rattle.fab_prim.specs.Ports.{top_name}
 use Rattle.fab_prim.specs.Modules.{flip_flop_name}
-use Rattle.fab_points.specs.fab_use.specs.Sites.{bel_point, top_point, pin_point}
-use Rattle.fab_points.specs.fab_use.specs.Design.{IsBound}
-use Rattle.fab_points.specs.fab_use.specs.Sources as sources
-use Rattle.fab_points.specs.fab_use.specs.Sources.{Source, always, shows, source_value, HasSource, output_source}
-use Rattle.fab_points.specs.fab_use.specs.Cycles.{Feeds}
-use Rattle.fab_points.specs.fab_use.specs.Registers.{HoldsLatches}
+use Rattle.fab_points.specs.fab_use_Sites.{bel_point, top_point, pin_point}
+use Rattle.fab_points.specs.fab_use_Design.{IsBound}
+use Rattle.fab_points.specs.fab_use_Sources as sources
+use Rattle.fab_points.specs.fab_use_Sources.{Source, always, shows, source_value, HasSource, output_source}
+use Rattle.fab_points.specs.fab_use_Cycles.{Feeds}
+use Rattle.fab_points.specs.fab_use_Registers.{HoldsLatches}
 use Rattle.fab_points.proofs.Places.{site_tile, cell_kind, in_kind, out_kind}
 use Rattle.fab_points.proofs.Sourced.{sources_are_of_design}
 use Rattle.fab_runs.specs.Carrying.{MeetsSources}

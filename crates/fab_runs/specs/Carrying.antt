@@ -12,12 +12,12 @@ use Rattle.fab_netlist.specs.Meaning.{Meets, next_held}
 use Rattle.fab_netlist.specs.Packed.{PlainPacked}
 use Rattle.fab_netlist.specs.Packing.{Work, works, latch_of, packed}
 use Rattle.fab_implementation.specs.Plain.{Pad, PlainImplementation}
-use Rattle.fab_points.specs.fab_legal.specs.Legal.{IsLegal}
-use Rattle.fab_points.specs.fab_use.specs.Sites.{bel_point}
-use Rattle.fab_points.specs.fab_use.specs.Design.{IsOfDesign}
-use Rattle.fab_points.specs.fab_use.specs.Cycles.{Feeds, Shows}
-use Rattle.fab_points.specs.fab_use.specs.Registers.{HoldsLatches}
-use Rattle.fab_points.specs.fab_use.specs.Sources.{Source, source_value, HasSource}
+use Rattle.fab_points.specs.fab_legal_Legal.{IsLegal}
+use Rattle.fab_points.specs.fab_use_Sites.{bel_point}
+use Rattle.fab_points.specs.fab_use_Design.{IsOfDesign}
+use Rattle.fab_points.specs.fab_use_Cycles.{Feeds, Shows}
+use Rattle.fab_points.specs.fab_use_Registers.{HoldsLatches}
+use Rattle.fab_points.specs.fab_use_Sources.{Source, source_value, HasSource}
 
 -- Each named point of a design has the value of each of its sources.
 abbrev pub MeetsSources : PlainFabric → PlainPacked → PlainImplementation → (inputs held now : Assignment) → Type 0

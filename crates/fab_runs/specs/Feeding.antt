@@ -9,9 +9,9 @@ use Rattle.fab_model.specs.Grid.{PlainFabric}
 use Rattle.fab_fabric.specs.Fabric.{IsFabric}
 use Rattle.fab_netlist.specs.Plain.{PlainNetlist}
 use Rattle.fab_implementation.specs.Plain.{PlainImplementation}
-use Rattle.fab_points.specs.fab_fabric_text.specs.Texts.{IsFabricText}
-use Rattle.fab_points.specs.fab_use.specs.Cycles.{Instant, IsCycle, Cycle, AreCycles}
-use Rattle.fab_points.specs.fab_use.specs.Headline.{DesignPoints, RunsFrom}
+use Rattle.fab_points.specs.fab_fabric_text_Texts.{IsFabricText}
+use Rattle.fab_points.specs.fab_use_Cycles.{Instant, IsCycle, Cycle, AreCycles}
+use Rattle.fab_points.specs.fab_use_Headline.{DesignPoints, RunsFrom}
 
 -- two instants with the same inputs, at whose ends the same clock ticks
 pub record AreFedAlike (first second : Instant) : Type 0 where

@@ -12,9 +12,9 @@ use Rattle.fab_netlist.specs.Cycles.{HasNoCycle}
 use Rattle.fab_netlist.specs.Packed.{PlainPacked}
 use Rattle.fab_netlist.specs.Packing.{packed}
 use Rattle.fab_implementation.specs.Plain.{Pad, PlainImplementation}
-use Rattle.fab_points.specs.fab_legal.specs.Legal.{IsLegal}
-use Rattle.fab_points.specs.fab_use.specs.Design.{IsSourced}
-use Rattle.fab_points.specs.fab_use.specs.Sources.{Source, top_input, source_reads, HasSource}
+use Rattle.fab_points.specs.fab_legal_Legal.{IsLegal}
+use Rattle.fab_points.specs.fab_use_Design.{IsSourced}
+use Rattle.fab_points.specs.fab_use_Sources.{Source, top_input, source_reads, HasSource}
 
 -- a point, and a source of it
 abbrev pub Rule : Type 0

@@ -2,18 +2,16 @@
 //! function does nothing: its contract is a law.
 #![tactic(auto)]
 
-ghost use Rattle.fab_points.specs.fab_use.specs.Headline.{LegalDesignsRun};
+ghost use Rattle.fab_points.specs.fab_use_Headline.{LegalDesignsRun};
 ghost use Rattle.fab_runs.specs.Carrying.{SourcesCarry};
 ghost use Rattle.fab_runs.specs.Feeding.{FedDesignsRun};
 ghost use Rattle.fab_runs.specs.Ranking.{DesignHasOrder, DesignRanks, RulesRank};
 
 use fab_netlist::one_run;
-pub use fab_points;
-pub use fab_points::fab_text_loads;
-use fab_points::fab_text_loads::fabric_texts_load;
-use fab_points::{
+pub use fab_points::{
     configuration_goes, design_is_declared, design_is_listed, design_settles_by_sources,
-    ranked_design_settles_once, registers_tick,
+    fabric_texts_load, loaded_is_known, ranked_design_settles_once, registers_tick,
+    sources_are_known,
 };
 
 /// Where each design point has the value of its source, bound pads show the nets of the netlist, and flip-flops take what its latches take.

@@ -7,13 +7,13 @@ use Rattle.std.proofs.lemmas.List.Elements.{All-from_recursion}
 use Rattle.fab_base.specs.declared.TheConstants.{MAX_FILE_BYTES}
 use Rattle.fab_desk.specs.Files.{Map}
 use Rattle.fab_blif.specs.Blif.{netlist_in}
-use Rattle.fab_flow.specs.fab_designs.specs.Designs.{PlainDesign}
+use Rattle.fab_flow.specs.fab_designs_Designs.{PlainDesign}
 use Rattle.fab_sample.specs.Drawn.{covers, sample_latches}
 use Rattle.fab_sample.specs.Files.{file_of, fabric_files}
-use Rattle.fab_sample_sizes.specs.fab_sample_fabrics.specs.Fabrics.{Stands, TellsFabric}
-use Rattle.fab_sample_sizes.specs.fab_sample_fabrics.proofs.TilesRead.{handed}
-use Rattle.fab_sample_sizes.specs.fab_sample_fabrics.proofs.Assembled.{fabrics_read}
-use Rattle.fab_sample_sizes.specs.fab_sample_fabrics.proofs.Counted.{have_sites}
+use Rattle.fab_sample_sizes.specs.fab_sample_fabrics_Fabrics.{Stands, TellsFabric}
+use Rattle.fab_sample_sizes.proofs.fab_sample_fabrics_TilesRead.{handed}
+use Rattle.fab_sample_sizes.proofs.fab_sample_fabrics_Assembled.{fabrics_read}
+use Rattle.fab_sample_sizes.proofs.fab_sample_fabrics_Counted.{have_sites}
 use Rattle.fab_sample_reads.specs.Laws.{netlist_text}
 use Rattle.fab_sample_reads.proofs.SampleNetlists.{netlists_read}
 use Rattle.fab_sample_designs.specs.Designs.{TellsSample, SampleDesignsAreRead}

@@ -4,10 +4,10 @@ use Rattle.fab_desk.specs.Files.{Map}
 use Rattle.fab_kinds.specs.declared.kind.Kind.TheVariants as kinds
 use Rattle.fab_netlist.specs.Packing.{packed, packing}
 use Rattle.fab_fabric.specs.Sites.{sites_of_kind}
-use Rattle.fab_flow.specs.fab_designs.specs.Designs.{DesignFiles, PlainDesign, design_files, SpellsDesign}
+use Rattle.fab_flow.specs.fab_designs_Designs.{DesignFiles, PlainDesign, design_files, SpellsDesign}
 use Rattle.fab_sample.specs.Drawn.{covers, sample_latches}
 use Rattle.fab_sample.specs.Files.{sample_files}
-use Rattle.fab_sample_sizes.specs.fab_sample_fabrics.specs.Fabrics.{Stands, IsAbsent, place_tables, IsSampleFabric}
+use Rattle.fab_sample_sizes.specs.fab_sample_fabrics_Fabrics.{Stands, IsAbsent, place_tables, IsSampleFabric}
 use Rattle.fab_sample_reads.specs.Named.{IsOfItems}
 use Rattle.fab_sample_reads.specs.Samples.{sample_items, input_words, output_words}
 

@@ -4,7 +4,7 @@
 ghost use Rattle.fab_sample_designs.specs.Designs.{SampleDesignsAreRead};
 ghost use Rattle.fab_sample_designs.specs.Ready.{SamplesAreReady};
 
-pub use fab_sample_sizes;
+pub use fab_sample_sizes::sample_texts_are_small;
 
 /// The files of a sample of any size from 2 to 16 spell its fabric and its netlist, and the fabric has sites for the netlist.
 pub fn sample_designs_are_read()

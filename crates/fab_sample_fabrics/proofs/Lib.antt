@@ -7,3 +7,4 @@ pub mod Selected
 pub mod Sizes
 pub mod Assembled
 pub mod Counted
+pub use Rattle.fab_read.proofs.FabricsOnce as fab_read_FabricsOnce

@@ -12,7 +12,7 @@ use Rattle.fab_sample_reads.specs.Samples.{input_words, output_words}
 use Rattle.fab_sample_reads.proofs.SampleItems.{inputs_are, output_words_are}
 use Rattle.fab_sample_reads.proofs.ShortTexts.{short_run}
 use Rattle.fab_sample_reads.proofs.TaggedWords.{run}
-use Rattle.fab_ready_flow.specs.fab_short_texts.specs.Laws.{IsShortName}
+use Rattle.fab_ready_flow.specs.fab_short_texts_Laws.{IsShortName}
 
 -- a letter and a number
 run_short : (letter size : ℕ) → size ≤ 16 → (words : List (List ℕ)) → words ≡ run letter 0 size → All IsShortName words

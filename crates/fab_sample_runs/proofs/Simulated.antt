@@ -19,21 +19,22 @@ use Rattle.fab_stimulus.specs.Spelled as stimuli
 use Rattle.fab_impl.specs.Spelled.{implementation_text}
 use Rattle.fab_read.specs.Fabrics.{SpellsFabric}
 use Rattle.fab_designs.specs.Designs.{DesignFiles, PlainDesign, SpellsDesign}
-use Rattle.fab_ready_flow.specs.fab_spelled_designs.specs.Laws.{IsSound, SpelledDesignsAreSound}
-use Rattle.fab_ready_flow.specs.fab_short_texts.specs.Laws.{IsShortName, LegalImplementationsAreShort, LegalStatesAreShort}
+use Rattle.fab_ready_flow.specs.fab_spelled_designs_Laws.{IsSound, SpelledDesignsAreSound}
+use Rattle.fab_ready_flow.specs.fab_short_texts_Laws.{IsShortName, LegalImplementationsAreShort, LegalStatesAreShort}
 use Rattle.fab_outputs.specs.Storing.{PlainOutput, with_outputs}
-use Rattle.fab_ready_flow.specs.fab_flow.specs.Generating.{generated_text}
-use Rattle.fab_ready_flow.specs.fab_flow.specs.Flowing.{MakesFlow, flow_outputs}
-use Rattle.fab_ready_flow.specs.fab_simulate.specs.Simulating.{IsReadyToSimulate, ReadsStimulus}
-use Rattle.fab_ready_flow.specs.fab_simulated_flow.proofs.Shown.{input_names}
-use Rattle.fab_ready_flow.specs.Laws.{FlowFilesAreReady, flow_state}
-use Rattle.fab_ready_flow.proofs.Ready.{given_out}
+use Rattle.fab_ready_flow.specs.fab_flow_Generating.{generated_text}
+use Rattle.fab_ready_flow.specs.fab_flow_Flowing.{MakesFlow, flow_outputs}
+use Rattle.fab_ready_flow.specs.fab_simulate_Simulating.{IsReadyToSimulate, ReadsStimulus}
+use Rattle.fab_ready_flow.specs.fab_stored_flow_Laws.{flow_state}
+use Rattle.fab_ready_flow.proofs.fab_stored_flow_HandedOut.{given_out}
+use Rattle.fab_ready_flow.proofs.fab_stored_flow_Ports.{input_names}
+use Rattle.fab_ready_flow.specs.Laws.{FlowFilesAreReady}
 use Rattle.fab_sample.specs.Drawn.{covers, sample_latches, sample_stimulus}
 use Rattle.fab_sample.specs.Files.{file_of}
 use Rattle.fab_sample_reads.specs.Laws.{SampleStimuliAreRead, stimulus_text}
 use Rattle.fab_sample_reads.specs.Named.{IsOfItems}
 use Rattle.fab_sample_reads.specs.Samples.{input_words, output_words, sample_items}
-use Rattle.fab_sample_designs.specs.fab_sample_sizes.specs.Sizes.{SampleTextsAreSmall}
+use Rattle.fab_sample_designs.specs.fab_sample_sizes_Sizes.{SampleTextsAreSmall}
 use Rattle.fab_sample_designs.specs.Designs.{SampleDesignsAreRead, TellsSample}
 use Rattle.fab_sample_designs.proofs.Designs.{tells_fabric}
 use Rattle.fab_sample_runs.specs.Commands.{names, simulated}

@@ -16,11 +16,11 @@ use Rattle.fab_fabric.proofs.Numbered.{tile_within}
 use Rattle.fab_legal.proofs.Pins.{tile_type}
 use Rattle.fab_impl.specs.Names.{list_to, place_wires, wire_names}
 use Rattle.fab_read.specs.Fabrics.{SpellsFabric}
-use Rattle.fab_sample_designs.specs.fab_sample_fabrics.specs.Fabrics.{TellsFabric}
-use Rattle.fab_sample_designs.specs.fab_sample_fabrics.proofs.Assembled.{east_tile, fabrics_typed, logic_tile, west_tile}
-use Rattle.fab_sample_designs.specs.fab_sample_fabrics.proofs.Blocks.{east, logic, west}
-use Rattle.fab_ready_flow.specs.fab_short_texts.specs.Laws.{IsShortName}
-use Rattle.fab_ready_flow.specs.fab_short_texts.proofs.Rows.{place_length}
+use Rattle.fab_sample_designs.specs.fab_sample_fabrics_Fabrics.{TellsFabric}
+use Rattle.fab_sample_designs.proofs.fab_sample_fabrics_Assembled.{east_tile, fabrics_typed, logic_tile, west_tile}
+use Rattle.fab_sample_designs.proofs.fab_sample_fabrics_Blocks.{east, logic, west}
+use Rattle.fab_ready_flow.specs.fab_short_texts_Laws.{IsShortName}
+use Rattle.fab_ready_flow.proofs.fab_short_texts_Rows.{place_length}
 
 -- ---- tiles
 

@@ -4,8 +4,8 @@ use Rattle.fab_base.specs.declared.TheConstants.{MAX_FILE_BYTES}
 use Rattle.fab_desk.specs.Files.{Map}
 use Rattle.fab_impl.specs.Spelled.{implementation_text}
 use Rattle.fab_outputs.specs.Storing.{PlainOutput, with_outputs}
-use Rattle.fab_ready_flow.specs.fab_flow.specs.Flowing.{MakesFlow}
-use Rattle.fab_ready_flow.specs.fab_simulate.specs.Simulating.{IsReadyToSimulate}
+use Rattle.fab_ready_flow.specs.fab_flow_Flowing.{MakesFlow}
+use Rattle.fab_ready_flow.specs.fab_simulate_Simulating.{IsReadyToSimulate}
 use Rattle.fab_sample_designs.specs.Designs.{TellsSample}
 use Rattle.fab_sample_runs.specs.Commands.{names, simulated}
 

@@ -5,13 +5,15 @@ ghost use Rattle.fab_sample_runs.specs.Laws.{SampleImplementationsAreShort, Samp
 
 use fab_designs::designs_are_spelled_once;
 use fab_read::fabrics_are_spelled_once;
-use fab_ready_flow::fab_short_texts::{legal_implementations_are_short, legal_states_are_short};
-use fab_ready_flow::fab_spelled_designs::spelled_designs_are_sound;
-use fab_ready_flow::flow_files_are_ready;
-pub use fab_ready_flow::{fab_flow, fab_simulate, fab_simulated_flow, fab_spelled_designs};
-pub use fab_sample_designs;
-use fab_sample_designs::fab_sample_sizes::sample_texts_are_small;
-use fab_sample_designs::sample_designs_are_read;
+use fab_ready_flow::{
+    flow_files_are_ready, legal_implementations_are_short, legal_states_are_short,
+};
+pub use fab_ready_flow::{
+    do_assemble, do_bits, do_features, do_flow, do_generate, do_map, do_matrix, do_simulate,
+    legal_designs_are_spelled, spelled_designs_are_sound,
+};
+use fab_sample_designs::sample_texts_are_small;
+pub use fab_sample_designs::{sample_designs_are_read, samples_are_ready};
 use fab_sample_reads::sample_stimuli_are_read;
 
 /// Of what a flow makes of the files of a sample `simulate` refuses nothing.

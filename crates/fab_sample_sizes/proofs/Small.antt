@@ -18,7 +18,7 @@ use Rattle.fab_gen_loader.specs.Loader.{loader_module_name}
 use Rattle.fab_fabric_text.specs.Places.{placed_tiles}
 use Rattle.fab_fabric_text.specs.Text.{tile_modules, fabric_text}
 use Rattle.fab_fabric_text.specs.Top.{top_module}
-use Rattle.fab_sample_fabrics.specs.fab_read.proofs.FabricsOnce.{one_fabric}
+use Rattle.fab_sample_fabrics.proofs.fab_read_FabricsOnce.{one_fabric}
 use Rattle.fab_sample_fabrics.specs.Fabrics.{IsSampleFabric}
 use Rattle.fab_sample_fabrics.proofs.Assembled.{west_pairs, logic_pairs, east_pairs, west_tile, logic_tile, east_tile, fabrics_typed}
 use Rattle.fab_sample_sizes.specs.Sizes.{IsSmall, SampleTextsAreSmall}

@@ -1,2 +1,2 @@
 pub mod Sizes
-pub use Rattle.fab_sample_fabrics
+pub use Rattle.fab_sample_fabrics.specs.Fabrics as fab_sample_fabrics_Fabrics

@@ -7,7 +7,7 @@ use Rattle.fab_equations.specs.Instances.{whole_count, most_points}
 use Rattle.fab_model.specs.Grid.{PlainFabric}
 use Rattle.fab_gen_loader.specs.Expressions.{loader_module}
 use Rattle.fab_fabric_text.specs.Text.{fabric_text}
-use Rattle.fab_sample_fabrics.specs.fab_read.specs.Fabrics.{SpellsFabric}
+use Rattle.fab_sample_fabrics.specs.fab_read_Fabrics.{SpellsFabric}
 use Rattle.fab_sample_fabrics.specs.Fabrics.{TellsFabric}
 
 -- a quarter of what a file may have

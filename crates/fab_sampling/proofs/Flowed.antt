@@ -21,11 +21,10 @@ use Rattle.fab_designs.specs.Designs.{PlainDesign, SpellsDesign}
 use Rattle.fab_designs.specs.Implementations.{ReadsImplementation}
 use Rattle.fab_designs.proofs.Judged.{design_is_judged}
 use Rattle.fab_outputs.specs.Storing.{IsDone, PlainOutput, with_outputs}
-use Rattle.fab_sample_runs.specs.fab_flow.specs.Generating.{generated_text}
-use Rattle.fab_sample_runs.specs.fab_flow.specs.Flowing.{MakesFlow, flow_outputs}
-use Rattle.fab_sample_runs.specs.fab_simulated_flow.proofs.Stored.{found_is}
-use Rattle.fab_sample_runs.specs.fab_spelled_designs.specs.Laws.{IsSound, LegalDesignsAreSpelled, SpelledDesignsAreSound}
-use Rattle.fab_sample_runs.specs.fab_ready_flow.proofs.Ready.{given_out}
+use Rattle.fab_sample_runs.specs.fab_flow_Generating.{generated_text}
+use Rattle.fab_sample_runs.specs.fab_flow_Flowing.{MakesFlow, flow_outputs}
+use Rattle.fab_sample_runs.proofs.fab_stored_flow_HandedOut.{found_is, given_out}
+use Rattle.fab_sample_runs.specs.fab_spelled_designs_Laws.{IsSound, LegalDesignsAreSpelled, SpelledDesignsAreSound}
 use Rattle.fab_draws.specs.Draws.{draws_of}
 use Rattle.fab_sample_runs.specs.Commands.{names, rounds}
 use Rattle.fab_sample_runs.specs.Laws.{SampleImplementationsAreShort}

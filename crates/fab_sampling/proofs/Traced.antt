@@ -7,9 +7,9 @@ use Rattle.fab_desk.specs.Memory.{map_of}
 use Rattle.fab_netlist.specs.Packing.{packed}
 use Rattle.fab_ways.specs.Placing.{cost}
 use Rattle.fab_outputs.specs.Storing.{IsDone, with_outputs}
-use Rattle.fab_sample_runs.specs.fab_simulate.specs.Simulating.{HasSimulateCause, IsReadyToSimulate, MakesTrace, MeetsSimulation, simulate_refusals}
-use Rattle.fab_sample_runs.specs.fab_simulate.proofs.SimulatedOnce.{not_both}
-use Rattle.fab_sample_runs.specs.fab_simulated_flow.specs.Laws.{FlowFilesSimulate}
+use Rattle.fab_sample_runs.specs.fab_simulate_Simulating.{HasSimulateCause, IsReadyToSimulate, MakesTrace, MeetsSimulation, simulate_refusals}
+use Rattle.fab_sample_runs.proofs.fab_simulate_SimulatedOnce.{not_both}
+use Rattle.fab_simulated_flow.specs.Laws.{FlowFilesSimulate}
 use Rattle.fab_draws.specs.Draws.{draws_of}
 use Rattle.fab_sample_runs.specs.Commands.{rounds, simulated, names}
 use Rattle.fab_sample_runs.specs.Laws.{SamplesSimulate}

@@ -7,9 +7,9 @@ use Rattle.fab_netlist.specs.Packing.{packed}
 use Rattle.fab_ways.specs.Placing.{cost}
 use Rattle.fab_designs.specs.Designs.{PlainDesign, SpellsDesign}
 use Rattle.fab_outputs.specs.Storing.{PlainOutput, output, with_outputs}
-use Rattle.fab_sample_runs.specs.fab_flow.specs.Flowing.{FailsToFlow, MakesFlow}
-use Rattle.fab_sample_runs.specs.fab_simulate.specs.Simulating.{MakesTrace}
-use Rattle.fab_sample_runs.specs.fab_simulated_flow.specs.Laws.{TracesNetlist}
+use Rattle.fab_sample_runs.specs.fab_flow_Flowing.{FailsToFlow, MakesFlow}
+use Rattle.fab_sample_runs.specs.fab_simulate_Simulating.{MakesTrace}
+use Rattle.fab_simulated_flow.specs.Laws.{TracesNetlist}
 use Rattle.fab_sample.specs.declared.file.File.{File}
 use Rattle.fab_draws.specs.Draws.{draws_of}
 use Rattle.fab_sample.specs.Files.{sample_files}

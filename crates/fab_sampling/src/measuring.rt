@@ -14,8 +14,9 @@ use fab_designs::read_implementation;
 use fab_implementation::{Implementation, Tree};
 use fab_netlist::{Netlist, Packed, pack};
 use fab_place::cost;
-use fab_sample_runs::fab_spelled_designs::{legal_designs_are_spelled, spelled_designs_are_sound};
-use fab_sample_runs::sample_implementations_are_short;
+use fab_sample_runs::{
+    legal_designs_are_spelled, sample_implementations_are_short, spelled_designs_are_sound,
+};
 use std::alloc::Global;
 
 /// The cells and ports of a netlist. A netlist has fewer than 32 bits count, so only want of memory comes.

@@ -17,11 +17,10 @@ use crate::stocking::stocked;
 use fab_base::{Fault, Memory, Name};
 use fab_designs::{Design, read_design};
 use fab_progress::{Progress, Silent};
-use fab_sample_runs::fab_flow::do_flow;
-use fab_sample_runs::fab_sample_designs::{sample_designs_are_read, samples_are_ready};
-use fab_sample_runs::fab_simulate::do_simulate;
-use fab_sample_runs::fab_simulated_flow::flow_files_simulate;
-use fab_sample_runs::samples_simulate;
+use fab_sample_runs::{
+    do_flow, do_simulate, sample_designs_are_read, samples_are_ready, samples_simulate,
+};
+use fab_simulated_flow::flow_files_simulate;
 use std::alloc::Global;
 
 /// A sample: its size and its seed, the design that its files spell, and these files with what commands made of them.

@@ -23,19 +23,19 @@ use Rattle.fab_netlist.specs.WellMade.{table_bit}
 use Rattle.fab_netlist.specs.Packed.{PlainPacked}
 use Rattle.fab_netlist.specs.Packing.{packed}
 use Rattle.fab_netlist.proofs.Members.{first_in, later_in, mapped_in, any_by, any_gives}
-use Rattle.fab_runs.specs.fab_legal.proofs.Members.{from_mapped}
-use Rattle.fab_runs.specs.fab_use.specs.Design.{IsSourced, IsOfDesign}
-use Rattle.fab_runs.specs.fab_use.specs.Sources as sources
-use Rattle.fab_runs.specs.fab_use.specs.Sources.{Source, source_value, source_reads, HasSource}
+use Rattle.fab_runs.proofs.fab_legal_Members.{from_mapped}
+use Rattle.fab_runs.specs.fab_use_Design.{IsSourced, IsOfDesign}
+use Rattle.fab_runs.specs.fab_use_Sources as sources
+use Rattle.fab_runs.specs.fab_use_Sources.{Source, source_value, source_reads, HasSource}
 use Rattle.fab_systems.specs.Ternary.{known}
-use Rattle.fab_runs.specs.fab_points.specs.Known.{KnowsBits}
-use Rattle.fab_runs.specs.fab_points.specs.Shown.{Shown}
-use Rattle.fab_runs.specs.fab_points.proofs.Boolean.{gives_source}
-use Rattle.fab_runs.specs.fab_points.proofs.Configuration.{configuration_point_loads}
-use Rattle.fab_runs.specs.fab_points.proofs.EachSource.{sources_show}
-use Rattle.fab_runs.specs.fab_points.proofs.Loading.{loaded_is_known}
-use Rattle.fab_runs.specs.fab_points.proofs.ReadPoints.{reads_covered, reads_few}
-use Rattle.fab_runs.specs.fab_points.proofs.Sourced.{sources_are_of_design}
+use Rattle.fab_runs.specs.fab_points_Known.{KnowsBits}
+use Rattle.fab_runs.specs.fab_points_Shown.{Shown}
+use Rattle.fab_runs.proofs.fab_points_Boolean.{gives_source}
+use Rattle.fab_runs.proofs.fab_points_Configuration.{configuration_point_loads}
+use Rattle.fab_runs.proofs.fab_points_EachSource.{sources_show}
+use Rattle.fab_runs.proofs.fab_points_Loading.{loaded_is_known}
+use Rattle.fab_runs.proofs.fab_points_ReadPoints.{reads_covered, reads_few}
+use Rattle.fab_runs.proofs.fab_points_Sourced.{sources_are_of_design}
 use Rattle.fab_runs.specs.Ranking.{Rule, ruled, StandBehind, source_at, place_at, reads_by}
 use Rattle.fab_runs.proofs.Rules.{design_has_order}
 use Rattle.fab_runs.proofs.Ranks.{all_by, rules_rank}

@@ -11,11 +11,11 @@ use Rattle.fab_netlist.specs.Plain.{name_of}
 use Rattle.fab_netlist.specs.Meaning.{IsRun}
 use Rattle.fab_netlist.specs.Packing.{packed}
 use Rattle.fab_prim.specs.Ports.{top_name}
-use Rattle.fab_runs.specs.fab_text_loads.specs.Loads.{IsConfigured}
-use Rattle.fab_runs.specs.fab_use.specs.Sites.{top_point}
-use Rattle.fab_runs.specs.fab_use.specs.Design.{at_flip_flop}
-use Rattle.fab_runs.specs.fab_use.specs.Cycles.{Instant, AreInstants, Feeds, AreCycles}
-use Rattle.fab_runs.specs.fab_use.specs.Sources.{source_value}
+use Rattle.fab_runs.specs.fab_text_loads_Loads.{IsConfigured}
+use Rattle.fab_runs.specs.fab_use_Sites.{top_point}
+use Rattle.fab_runs.specs.fab_use_Design.{at_flip_flop}
+use Rattle.fab_runs.specs.fab_use_Cycles.{Instant, AreInstants, Feeds, AreCycles}
+use Rattle.fab_runs.specs.fab_use_Sources.{source_value}
 use Rattle.fab_runs.specs.Carrying.{MeetsSources}
 use Rattle.fab_runs.proofs.Setting.{Setting, cells_made}
 use Rattle.fab_runs.proofs.DesignRank.{settles_once}

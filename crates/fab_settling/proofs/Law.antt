@@ -3,7 +3,7 @@ use Rattle.std.proofs.Common.{length, refl}
 use Rattle.fab_equations.specs.Instances as instances
 use Rattle.fab_equations.proofs.Points.{declared_are_points}
 use Rattle.fab_netlist.specs.Packing.{packed}
-use Rattle.fab_runs.specs.fab_use.specs.Headline.{DesignPoints}
+use Rattle.fab_runs.specs.fab_use_Headline.{DesignPoints}
 use Rattle.fab_runs.proofs.Setting.{Laws, Setting, cells_made}
 use Rattle.fab_settling.specs.Blocks.{HasAtMost}
 use Rattle.fab_settling.specs.Settling.{LegalDesignsSettle}

@@ -17,14 +17,14 @@ use Rattle.fab_meaning.proofs.Declared.{bytes_apart}
 use Rattle.fab_meaning.proofs.Dependence.{shown_same, same_point_refl, same_point_is}
 use Rattle.fab_meaning.proofs.SoundDrivers.{has_one_driver}
 use Rattle.fab_meaning.proofs.UserSteps.{user_steps}
-use Rattle.fab_runs.specs.fab_drives.proofs.Apart.{told_apart}
+use Rattle.fab_runs.proofs.fab_drives_Apart.{told_apart}
 use Rattle.fab_fabric.specs.declared.wire.Site.{Site}
 use Rattle.fab_netlist.specs.Packing.{packed}
 use Rattle.fab_prim.specs.Ports.{top_name}
-use Rattle.fab_runs.specs.fab_fabric_text.specs.Names.{pad_port_name}
-use Rattle.fab_runs.specs.fab_fabric_text.specs.Top.{top_module}
-use Rattle.fab_runs.specs.fab_text_loads.specs.Loads.{IsQuiet, IsConfigured, LoadsConfigurations}
-use Rattle.fab_runs.specs.fab_points.proofs.EachSource.{has_fabric}
+use Rattle.fab_runs.specs.fab_fabric_text_Names.{pad_port_name}
+use Rattle.fab_runs.specs.fab_fabric_text_Top.{top_module}
+use Rattle.fab_runs.specs.fab_text_loads_Loads.{IsQuiet, IsConfigured, LoadsConfigurations}
+use Rattle.fab_runs.proofs.fab_points_EachSource.{has_fabric}
 use Rattle.fab_runs.proofs.Setting.{Setting, cells_made}
 use Rattle.fab_runs.proofs.DesignRank.{settles_once}
 use Rattle.fab_settling.specs.Steps.{IsAtRest, IsUse, IsUseStep, IsInputPad, IsFree, IsFreeStep, IsFeedingStep}

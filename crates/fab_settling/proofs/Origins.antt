@@ -16,20 +16,20 @@ use Rattle.fab_implementation.specs.Plain.{PlainImplementation}
 use Rattle.fab_prim.specs.Ports.{top_name, top_inputs}
 use Rattle.fab_prim.specs.Modules as modules
 use Rattle.fab_prim.specs.Modules.{flip_flop_name, module_of_kind}
-use Rattle.fab_runs.specs.fab_tile_drives.specs.Stands.{bel_path}
-use Rattle.fab_runs.specs.fab_drives.proofs.Texts.{HasFabric}
+use Rattle.fab_runs.specs.fab_tile_drives_Stands.{bel_path}
+use Rattle.fab_runs.proofs.fab_drives_Texts.{HasFabric}
 use Rattle.fab_tern.specs.Shown.{Terns, tern_shown}
-use Rattle.fab_runs.specs.fab_use.specs.Sites.{site_path, bel_point, top_point}
-use Rattle.fab_runs.specs.fab_use.specs.Design.{IsBound}
-use Rattle.fab_runs.specs.fab_use.specs.Sources as sources
-use Rattle.fab_runs.specs.fab_use.specs.Sources.{Source, HasSource, output_source}
-use Rattle.fab_runs.specs.fab_points.specs.Known.{KnowsBits}
-use Rattle.fab_runs.specs.fab_points.specs.Shown.{tern_source, Shown}
-use Rattle.fab_runs.specs.fab_points.proofs.EachSource.{has_fabric, sources_show}
-use Rattle.fab_runs.specs.fab_points.proofs.Bels.{bel_stands}
-use Rattle.fab_runs.specs.fab_points.proofs.Pads.{outer_shown}
-use Rattle.fab_runs.specs.fab_points.proofs.Places.{site_tile, site_bel, cell_kind, in_kind}
-use Rattle.fab_runs.specs.fab_points.proofs.Registers.{lut_clock, q_drives}
+use Rattle.fab_runs.specs.fab_use_Sites.{site_path, bel_point, top_point}
+use Rattle.fab_runs.specs.fab_use_Design.{IsBound}
+use Rattle.fab_runs.specs.fab_use_Sources as sources
+use Rattle.fab_runs.specs.fab_use_Sources.{Source, HasSource, output_source}
+use Rattle.fab_runs.specs.fab_points_Known.{KnowsBits}
+use Rattle.fab_runs.specs.fab_points_Shown.{tern_source, Shown}
+use Rattle.fab_runs.proofs.fab_points_EachSource.{has_fabric, sources_show}
+use Rattle.fab_runs.proofs.fab_points_Bels.{bel_stands}
+use Rattle.fab_runs.proofs.fab_points_Pads.{outer_shown}
+use Rattle.fab_runs.proofs.fab_points_Places.{site_tile, site_bel, cell_kind, in_kind}
+use Rattle.fab_runs.proofs.fab_points_Registers.{lut_clock, q_drives}
 use Rattle.fab_runs.proofs.Setting.{Setting, cells_made}
 use Rattle.fab_settling.specs.Steps.{IsInputPad}
 

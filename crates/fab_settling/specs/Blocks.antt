@@ -7,7 +7,7 @@ use Rattle.fab_meaning.specs.Runs.{user_clock_name}
 use Rattle.fab_meaning.specs.Activation.{State, Event, activate, IsTick, AreSteps}
 use Rattle.fab_netlist.specs.Plain.{PlainNetlist}
 use Rattle.fab_implementation.specs.Plain.{PlainImplementation}
-use Rattle.fab_runs.specs.fab_use.specs.Cycles.{Instant, Feeds, Cycle}
+use Rattle.fab_runs.specs.fab_use_Cycles.{Instant, Feeds, Cycle}
 use Rattle.fab_settling.specs.Steps.{IsFreeStep, IsFeedingStep}
 
 -- The points of a set stand on a list of this length. The least such number is the number of the points.

@@ -19,13 +19,13 @@ use Rattle.fab_netlist.specs.Meaning.{IsRun}
 use Rattle.fab_netlist.specs.Cycles.{HasNoCycle}
 use Rattle.fab_netlist.specs.Packing.{packed}
 use Rattle.fab_implementation.specs.Plain.{Pad, PlainImplementation}
-use Rattle.fab_runs.specs.fab_legal.specs.Legal.{IsLegal}
-use Rattle.fab_runs.specs.fab_text_loads.specs.Loads.{Writes}
-use Rattle.fab_runs.specs.fab_fabric_text.specs.Texts.{IsFabricText}
-use Rattle.fab_runs.specs.fab_use.specs.Configuring.{Configures}
-use Rattle.fab_runs.specs.fab_use.specs.Cycles.{AreCycles, EachShows}
-use Rattle.fab_runs.specs.fab_use.specs.Registers.{HoldsLatches}
-use Rattle.fab_runs.specs.fab_use.specs.Headline.{SettlesOnce, DesignPoints}
+use Rattle.fab_runs.specs.fab_legal_Legal.{IsLegal}
+use Rattle.fab_runs.specs.fab_text_loads_Loads.{Writes}
+use Rattle.fab_runs.specs.fab_fabric_text_Texts.{IsFabricText}
+use Rattle.fab_runs.specs.fab_use_Configuring.{Configures}
+use Rattle.fab_runs.specs.fab_use_Cycles.{AreCycles, EachShows}
+use Rattle.fab_runs.specs.fab_use_Registers.{HoldsLatches}
+use Rattle.fab_runs.specs.fab_use_Headline.{SettlesOnce, DesignPoints}
 use Rattle.fab_settling.specs.Steps.{IsAtRest, IsUseStep, IsFreeStep}
 use Rattle.fab_settling.specs.Blocks.{HasAtMost, AreBlocks, BlockCycle, as_cycle, AreBlockCycles}
 

@@ -9,7 +9,7 @@ use Rattle.fab_meaning.specs.Loaded.{IsLoaded}
 use Rattle.fab_fabric.specs.declared.wire.Site.{Site}
 use Rattle.fab_implementation.specs.Plain.{PlainImplementation}
 use Rattle.fab_prim.specs.Ports.{top_name}
-use Rattle.fab_runs.specs.fab_use.specs.Sites.{top_point}
+use Rattle.fab_runs.specs.fab_use_Sites.{top_point}
 
 -- The loading points have what their drivers give them, no word is written, and the clocks are 0. Of all other points nothing is said.
 pub record IsAtRest (text : List PlainModule) (state : State) : Type 0 where

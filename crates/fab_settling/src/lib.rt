@@ -5,12 +5,11 @@
 ghost use Rattle.fab_settling.specs.Settling.{LegalDesignsSettle};
 
 use fab_netlist::one_run;
-pub use fab_runs;
-use fab_runs::fab_points::{
+pub use fab_runs::legal_designs_run;
+use fab_runs::{
     configuration_goes, design_is_declared, design_is_listed, design_settles_by_sources,
-    ranked_design_settles_once, registers_tick,
+    fabric_texts_load, ranked_design_settles_once, registers_tick,
 };
-use fab_runs::fab_text_loads::fabric_texts_load;
 
 /// In each text of a fabric that is loaded with the bitstream of a legal implementation, as many blocks of activations as there are design points
 /// give each of them the value of the headline, and cycle by cycle the pads show what the netlist says.

@@ -19,7 +19,7 @@ use Rattle.fab_texts.specs.Printed.{row_text, rows_text}
 use Rattle.fab_texts.specs.Sections.{ending}
 use Rattle.fab_state.specs.Plain.{PlainState, Register}
 use Rattle.fab_state.specs.Spelled.{digit, ff_line, header, inner_lines, pad_line, state_text}
-use Rattle.fab_standing_states.specs.fab_use.specs.Registers.{bound_pad, design_state, register_of}
+use Rattle.fab_standing_states.specs.fab_use_Registers.{bound_pad, design_state, register_of}
 use Rattle.fab_standing_states.proofs.StateLines.{IsInputAt, IsOfCell, IsOutputAt, ffs_bound, ins_listed, outs_listed}
 use Rattle.fab_short_texts.specs.Laws.{IsShortName}
 use Rattle.fab_short_texts.proofs.Lines.{input_short, output_short, short_line}

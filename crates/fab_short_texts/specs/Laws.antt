@@ -14,7 +14,7 @@ use Rattle.fab_frames.specs.Stream.{stream}
 use Rattle.fab_state.specs.Spelled.{state_text}
 use Rattle.fab_impl.specs.Names.{wire_names}
 use Rattle.fab_impl.specs.Spelled.{implementation_text}
-use Rattle.fab_standing_states.specs.fab_use.specs.Registers.{design_state}
+use Rattle.fab_standing_states.specs.fab_use_Registers.{design_state}
 
 -- the words of a bitstream, with four bytes each
 abbrev pub BitstreamsAreShort : Type 0

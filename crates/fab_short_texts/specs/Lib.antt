@@ -1,2 +1,2 @@
 pub mod Laws
-pub use Rattle.fab_standing_states
+pub use Rattle.fab_standing_states.specs.Laws as fab_standing_states_Laws

@@ -3,7 +3,7 @@
 
 ghost use Rattle.fab_short_texts.specs.Laws.{BitstreamsAreShort, LegalImplementationsAreShort, LegalStatesAreShort};
 
-pub use fab_standing_states;
+pub use fab_standing_states::{fabric_texts_have_streams, legal_states_have_entries};
 
 /// The bitstream of a fabric is never too long.
 pub fn bitstreams_are_short()

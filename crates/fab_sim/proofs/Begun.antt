@@ -15,7 +15,7 @@ use Rattle.fab_tern.specs.Shown.{Terns}
 use Rattle.fab_ternary.specs.Terns.{is_known, is_one}
 use Rattle.fab_equations.specs.Equations.{IsPoint}
 use Rattle.fab_equations.proofs.Numbering.{some_there}
-use Rattle.fab_ordering.specs.fab_use.specs.Sites.{top_point}
+use Rattle.fab_ordering.specs.fab_use_Sites.{top_point}
 use Rattle.fab_phases.specs.Cycles.{IsIn}
 use Rattle.fab_phases.proofs.Lists.{get_mapped, get_of_mapped}
 use Rattle.fab_state_points.specs.Entries.{entry_point, in_entries, HasEntry}

@@ -22,7 +22,7 @@ use Rattle.fab_network.specs.Solved.{IsLeast}
 use Rattle.fab_demand.specs.Asked.{Asked}
 use Rattle.fab_wiring.specs.Given.{IsGivenTo, given_at, given_tern, left_by, left_tern, ticks_at}
 use Rattle.fab_wiring.specs.Laws.{LeastByNumber, LeftByNumber, NumbersHaveTerns}
-use Rattle.fab_ordering.specs.fab_simulation.specs.Simulation.{given, IsCycle}
+use Rattle.fab_ordering.specs.fab_simulation_Simulation.{given, IsCycle}
 use Rattle.fab_phases.specs.Cycles.{IsFed, IsIn, IsRunningAt, IsTicked}
 use Rattle.fab_sim.specs.Machine.{IsAt}
 use Rattle.fab_sim.specs.declared.machine.Machine.{Machine}

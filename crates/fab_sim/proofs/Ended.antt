@@ -14,7 +14,7 @@ use Rattle.fab_ternary.specs.declared.Tern.{Tern}
 use Rattle.fab_ternary.specs.Terns.{is_one}
 use Rattle.fab_equations.specs.Instances.{points}
 use Rattle.fab_compiled.specs.Leading.{PointTerns}
-use Rattle.fab_ordering.specs.fab_use.specs.Sites.{top_point}
+use Rattle.fab_ordering.specs.fab_use_Sites.{top_point}
 use Rattle.fab_network.specs.Passes.{kept_tern}
 use Rattle.fab_state_points.specs.Standing.{StandsAt}
 use Rattle.fab_stepping.specs.Boards.{IsBoardOf, IsTicked, LeadToThemselves}

@@ -20,7 +20,7 @@ use Rattle.fab_equations.proofs.Numbering.{same_value, some_there}
 use Rattle.fab_compiled.specs.declared.tree.Tree.{Tree}
 use Rattle.fab_equations.proofs.Points.{declared_are_points}
 use Rattle.fab_compiled.specs.Values.{AreByNumber}
-use Rattle.fab_ordering.specs.fab_simulation.specs.Simulation.{given}
+use Rattle.fab_ordering.specs.fab_simulation_Simulation.{given}
 use Rattle.fab_network.specs.declared.network.Clock.{Clock}
 use Rattle.fab_network.specs.declared.network.Source.{Source}
 use Rattle.fab_network.specs.declared.network.Drive.{Drive}

@@ -32,9 +32,9 @@ use Rattle.fab_wiring.specs.Wiring.{clock_called, IsDriveOf}
 use Rattle.fab_wiring.specs.Given.{IsGivenTo, left_by, left_tern}
 use Rattle.fab_wiring.specs.Laws.{LeastByNumber, LeftByNumber, NumbersHaveTerns, PointsHaveTerns, SolutionsByNumber}
 use Rattle.fab_wiring.proofs.Solved.{is_point}
-use Rattle.fab_ordering.specs.fab_drives.proofs.Apart.{told_apart}
-use Rattle.fab_ordering.specs.fab_simulation.specs.Simulation.{zeros}
-use Rattle.fab_ordering.specs.fab_simulation.specs.Laws.{AreKnown, LoadingIsKept, LoadingIsKnown}
+use Rattle.fab_ordering.proofs.fab_drives_Apart.{told_apart}
+use Rattle.fab_ordering.specs.fab_simulation_Simulation.{zeros}
+use Rattle.fab_ordering.specs.fab_simulation_Laws.{AreKnown, LoadingIsKept, LoadingIsKnown}
 use Rattle.fab_phases.specs.Loading.{IsSolvable}
 use Rattle.fab_phases.specs.Words.{AreLoadSteps, IsLoadStep, word_bit}
 use Rattle.fab_state_points.specs.Standing.{HasStream, IsStreamAt}

@@ -26,8 +26,8 @@ use Rattle.fab_compiled.specs.Leading.{PointTerns}
 use Rattle.fab_compiled.specs.Values.{AreByNumber}
 use Rattle.fab_network.specs.declared.network.Drive.TheVariants.{Given}
 use Rattle.fab_network.specs.declared.network.Network.{Network}
-use Rattle.fab_ordering.specs.fab_use.specs.Sites.{bel_point, top_point}
-use Rattle.fab_ordering.specs.fab_simulation.specs.Simulation.{given, shown_at, with_registers}
+use Rattle.fab_ordering.specs.fab_use_Sites.{bel_point, top_point}
+use Rattle.fab_ordering.specs.fab_simulation_Simulation.{given, shown_at, with_registers}
 use Rattle.fab_phases.specs.Cycles.{AreOnce, IsIn}
 use Rattle.fab_phases.specs.Running.{AreNumbers}
 use Rattle.fab_phases.proofs.Lists.{get_mapped, get_of_mapped}

@@ -19,7 +19,7 @@ use Rattle.fab_equations.specs.Equations.{IsPoint}
 use Rattle.fab_equations.proofs.Numbering.{some_there}
 use Rattle.fab_equations.proofs.Points.{declared_are_points}
 use Rattle.fab_compiled.specs.Values.{AreByNumber}
-use Rattle.fab_ordering.specs.fab_simulation.specs.Simulation.{IsLoaded, with_registers}
+use Rattle.fab_ordering.specs.fab_simulation_Simulation.{IsLoaded, with_registers}
 use Rattle.fab_network.specs.Passes.{kept_tern}
 use Rattle.fab_wiring.proofs.Numbered.{points_have_terns}
 use Rattle.fab_wiring.proofs.Solved.{is_point}

@@ -16,7 +16,7 @@ use Rattle.fab_equations.proofs.Numbering.{some_there}
 use Rattle.fab_compiled.specs.Leading.{PointTerns}
 use Rattle.fab_network.specs.declared.network.Drive.TheVariants.{Given}
 use Rattle.fab_network.specs.declared.network.Network.{Network}
-use Rattle.fab_ordering.specs.fab_simulation.specs.Simulation.{with_registers}
+use Rattle.fab_ordering.specs.fab_simulation_Simulation.{with_registers}
 use Rattle.fab_phases.specs.Lists.{Each}
 use Rattle.fab_phases.specs.Cycles.{IsIn}
 use Rattle.fab_sim.specs.inner.Starting.{IsSetOut, IsUnnamed}

@@ -20,7 +20,7 @@ use Rattle.fab_equations.specs.Equations.{IsPoint}
 use Rattle.fab_equations.proofs.Numbering.{some_there}
 use Rattle.fab_equations.proofs.Points.{declared_are_points}
 use Rattle.fab_compiled.specs.Values.{AreByNumber}
-use Rattle.fab_ordering.specs.fab_simulation.specs.Simulation.{IsLoaded, with_registers}
+use Rattle.fab_ordering.specs.fab_simulation_Simulation.{IsLoaded, with_registers}
 use Rattle.fab_network.specs.Passes.{kept_tern}
 use Rattle.fab_wiring.proofs.Numbered.{points_have_terns}
 use Rattle.fab_wiring.proofs.Solved.{is_point}
@@ -51,8 +51,8 @@ use Rattle.std.proofs.lemmas.List.Elements.{All-cons, All-nil}
 use Rattle.std.proofs.Common.{[], ◌∷◌}
 use Rattle.std.proofs.lemmas.Option.{slice_get-get_or, get_or_from_slice_get}
 use Rattle.fab_solutions.specs.Laws.{LeastSolutionsExist}
-use Rattle.fab_ordering.specs.fab_simulation.specs.Laws.{LoadingIsKnown}
-use Rattle.fab_ordering.specs.fab_use.specs.Sites.{bel_point}
+use Rattle.fab_ordering.specs.fab_simulation_Laws.{LoadingIsKnown}
+use Rattle.fab_ordering.specs.fab_use_Sites.{bel_point}
 use Rattle.fab_prim.specs.Modules.{flip_flop_name}
 use Rattle.fab_state_points.specs.Entries.{entry_point, register_entries}
 use Rattle.fab_state_points.specs.declared.entry.Entry.TheVariants as entries
@@ -63,7 +63,7 @@ use Rattle.fab_stepping.specs.Standing.{StandsFor}
 use Rattle.fab_stepping.proofs.Leaving.{solved_by, IsSolvedBy}
 use Rattle.fab_stepping.proofs.Reading.{leads_seen}
 use Rattle.fab_ordering.specs.Ordered.{Moment, IsNamedRegister, IsStart}
-use Rattle.fab_ordering.specs.fab_simulation.proofs.Loading.{within_declared}
+use Rattle.fab_ordering.proofs.fab_simulation_Loading.{within_declared}
 
 -- what drives a loading point reads loading points
 reads_within : (text : List PlainModule) → IsSound text → (flops : Point → Bool) → IsClosed text flops → (p : Point) → Within text flops p → (d : Driver) → Drives text p d →

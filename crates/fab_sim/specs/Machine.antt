@@ -12,7 +12,7 @@ use Rattle.fab_compiled.specs.Leading.{PointTerns}
 use Rattle.fab_network.specs.declared.network.Drive.TheVariants.{Given}
 use Rattle.fab_network.specs.Passes.{kept_tern}
 use Rattle.fab_wiring.specs.Clocks.{IsClockAt}
-use Rattle.fab_ordering.specs.fab_simulation.specs.Simulation.{with_registers}
+use Rattle.fab_ordering.specs.fab_simulation_Simulation.{with_registers}
 use Rattle.fab_phases.specs.Words.{IsLoadingAt}
 use Rattle.fab_phases.specs.Cycles.{IsIn, IsRunningAt}
 use Rattle.fab_state_points.specs.Standing.{StandsAt}

@@ -9,7 +9,7 @@ use Rattle.fab_tern.specs.Shown.{Terns}
 use Rattle.fab_state.specs.Plain.{PlainState}
 use Rattle.fab_network.specs.Passes.{kept_tern}
 use Rattle.fab_ordering.specs.Ordered.{Moment, IsFreeInput}
-use Rattle.fab_ordering.specs.fab_simulation.specs.Simulation.{IsLoaded}
+use Rattle.fab_ordering.specs.fab_simulation_Simulation.{IsLoaded}
 use Rattle.fab_state_points.specs.Standing.{StandsAt}
 use Rattle.fab_stepping.specs.Activating.{AreApart}
 use Rattle.fab_stepping.specs.Boards.{IsBoardOf}

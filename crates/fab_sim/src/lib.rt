@@ -7,6 +7,6 @@ mod starting;
 mod stepper;
 mod stepping;
 
-pub use fab_ordering::fab_simulation;
+pub use fab_ordering::simulations_exist;
 pub use machine::Machine;
 pub use stepper::Stepper;

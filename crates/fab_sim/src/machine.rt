@@ -8,7 +8,7 @@ ghost use Rattle.fab_ternary.specs.Terns.{plain_tern};
 ghost use Rattle.fab_tern.specs.Shown.{Terns};
 ghost use Rattle.fab_state.specs.Plain.{PlainState};
 ghost use Rattle.fab_state_points.specs.Standing.{IsRefusedState};
-ghost use Rattle.fab_ordering.specs.fab_simulation.specs.Simulation.{IsCycle, IsLoaded, with_registers};
+ghost use Rattle.fab_ordering.specs.fab_simulation_Simulation.{IsCycle, IsLoaded, with_registers};
 ghost use Rattle.fab_sim.specs.Once.{StandsOnce};
 
 use crate::making::{clock_of, machine_of, values_of};
@@ -19,7 +19,7 @@ use fab_equations::Equations;
 use fab_load_points::{loading_points, registers_among};
 use fab_meaning::laws::points_of_sound_texts_have_one_driver;
 use fab_network::Network;
-use fab_ordering::fab_simulation::loading_is_known;
+use fab_ordering::loading_is_known;
 use fab_phases::{Loading, ask_for_run, cycle, load_words};
 use fab_solutions::least_solutions;
 use fab_state::State;

@@ -4,7 +4,7 @@ ghost use Rattle.std.specs.Prelude.{◌≡◌, ◌↔◌, ◌<◌, ℕ, Bool, Li
 ghost use Rattle.fab_draws.specs.Draws.{draws_of, word_at};
 ghost use Rattle.fab_syntax.specs.Plain.{PlainModule};
 ghost use Rattle.fab_tern.specs.Shown.{Terns};
-ghost use Rattle.fab_ordering.specs.fab_simulation.specs.Simulation.{IsLoaded};
+ghost use Rattle.fab_ordering.specs.fab_simulation_Simulation.{IsLoaded};
 ghost use Rattle.fab_sim.specs.Machine.{IsFresh};
 ghost use Rattle.fab_sim.specs.inner.Unset.{CanBeSet, IsUnset};
 ghost use Rattle.fab_ternary.specs.Terns.{is_known, is_one};
@@ -24,7 +24,7 @@ use fab_draws::shuffle_order;
 use fab_load_runs::{loading_is_decided, loading_runs_exist};
 use fab_meaning::laws::points_of_sound_texts_have_one_driver;
 use fab_network::{Network, Readers};
-use fab_ordering::fab_simulation::loading_is_known;
+use fab_ordering::loading_is_known;
 use fab_phases::feed;
 use fab_solutions::least_solutions;
 use fab_state_points::StatePoints;

@@ -13,7 +13,7 @@ use Rattle.fab_values.specs.Declarations.{declared_at, found_from, found_in, ite
 use Rattle.fab_values.specs.declared.names.Local.{Local}
 use Rattle.fab_values.specs.declared.names.Role.TheVariants as roles
 use Rattle.fab_load_runs.specs.Runs.{HasClocks}
-use Rattle.fab_sim.specs.fab_state_points.specs.Standing.{HasStream}
+use Rattle.fab_sim.specs.fab_state_points_Standing.{HasStream}
 
 -- wires and registers are no inputs
 item_is_none : (first : ℕ) (items : List PlainItem) (name : List ℕ) (local : Local) → found_from first (item_declarations items) name ≡ Some local → local.role ≡ roles.Input → ⊥

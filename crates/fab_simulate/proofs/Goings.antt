@@ -8,8 +8,8 @@ use Rattle.fab_syntax.specs.Plain.{PlainModule}
 use Rattle.fab_systems.specs.Ternary.{Tern}
 use Rattle.fab_tern.specs.Shown.{Terns}
 use Rattle.fab_state.specs.Plain.{PlainState}
-use Rattle.fab_sim.specs.fab_simulation.specs.Simulation.{AreCycles, IsCycle, IsLoaded, Simulates, after, none, with_registers}
-use Rattle.fab_sim.specs.fab_simulation.specs.Laws.{SimulationsExist}
+use Rattle.fab_sim.specs.fab_simulation_Simulation.{AreCycles, IsCycle, IsLoaded, Simulates, after, none, with_registers}
+use Rattle.fab_sim.specs.fab_simulation_Laws.{SimulationsExist}
 use Rattle.fab_sim.specs.declared.machine.Machine.{Machine}
 use Rattle.fab_sim.specs.Machine.{IsAt, IsNew}
 use Rattle.fab_simulate.specs.inner.Going.{AreFull, GoesThrough}

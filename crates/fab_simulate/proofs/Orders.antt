@@ -5,7 +5,7 @@ use Rattle.fab_syntax.specs.Plain.{PlainModule}
 use Rattle.fab_systems.specs.Ternary.{Tern, known}
 use Rattle.fab_state.specs.Plain.{PlainState}
 use Rattle.fab_equations.specs.Instances.{points}
-use Rattle.fab_sim.specs.fab_ordering.specs.Ordered.{AreOrderedBlocks, AreOrderedCycles, ChangesKnown, IsOrderedBlock, Moment, after, enough, last, more, none}
+use Rattle.fab_sim.specs.fab_ordering_Ordered.{AreOrderedBlocks, AreOrderedCycles, ChangesKnown, IsOrderedBlock, Moment, after, enough, last, more, none}
 use Rattle.fab_sim.specs.declared.stepper.Stepper.{Stepper}
 use Rattle.fab_sim.specs.Stepper.{Stands}
 use Rattle.fab_simulate.specs.inner.Going.{HasCycled, HasGoneInOrder}

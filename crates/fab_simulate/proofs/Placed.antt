@@ -16,8 +16,8 @@ use Rattle.fab_equations.specs.Equations.{IsRefused}
 use Rattle.fab_frames.specs.Refusals.{IsCut}
 use Rattle.fab_texts.specs.Rows.{rows_of, entry_line}
 use Rattle.fab_state.specs.Plain.{PlainState}
-use Rattle.fab_sim.specs.fab_state_points.specs.Entries.{reason_of}
-use Rattle.fab_sim.specs.fab_state_points.specs.Standing.{IsRefusedState}
+use Rattle.fab_sim.specs.fab_state_points_Entries.{reason_of}
+use Rattle.fab_sim.specs.fab_state_points_Standing.{IsRefusedState}
 use Rattle.fab_simulate.specs.Simulating.{RefusesDevice, RefusesState, absent, at_line, misspelled, unfit}
 
 -- the fault tells a problem at a line of the file

@@ -13,9 +13,9 @@ use Rattle.fab_syntax.specs.Plain.{PlainModule}
 use Rattle.fab_texts.specs.Rows.{rows_of}
 use Rattle.fab_state.specs.Plain.{PlainState}
 use Rattle.fab_state.specs.Spelled.{Says}
-use Rattle.fab_sim.specs.fab_state_points.specs.Entries.{HasEntry, entries_of, reason_of}
-use Rattle.fab_sim.specs.fab_state_points.specs.Standing.{IsFirstAbsent, IsRefusedState}
-use Rattle.fab_sim.specs.fab_state_points.specs.declared.entry.Entry.{Entry}
+use Rattle.fab_sim.specs.fab_state_points_Entries.{HasEntry, entries_of, reason_of}
+use Rattle.fab_sim.specs.fab_state_points_Standing.{IsFirstAbsent, IsRefusedState}
+use Rattle.fab_sim.specs.fab_state_points_entry_Entry.{Entry}
 use Rattle.fab_simulate.specs.Simulating.{HasPoints, RefusesState, SpellsState, absent, at_line, misspelled}
 
 -- ---- the first line that has no point

@@ -10,9 +10,9 @@ use Rattle.fab_syntax.specs.Plain.{PlainModule}
 use Rattle.fab_texts.specs.Rows.{rows_of}
 use Rattle.fab_state.specs.Plain.{PlainState}
 use Rattle.fab_state.specs.Spelled.{Says, state_format}
-use Rattle.fab_sim.specs.fab_state_points.specs.Entries.{HasEntry, entry_point, in_entries, out_entries, register_entries}
-use Rattle.fab_sim.specs.fab_state_points.specs.Standing.{AreAt, IsRefusedState, StandsAt}
-use Rattle.fab_sim.specs.fab_state_points.specs.declared.entry.Entry.{Entry}
+use Rattle.fab_sim.specs.fab_state_points_Entries.{HasEntry, entry_point, in_entries, out_entries, register_entries}
+use Rattle.fab_sim.specs.fab_state_points_Standing.{AreAt, IsRefusedState, StandsAt}
+use Rattle.fab_sim.specs.fab_state_points_entry_Entry.{Entry}
 use Rattle.fab_equations.specs.Equations.{IsPoint}
 use Rattle.fab_sim.specs.Machine.{IsNew}
 use Rattle.fab_sim.specs.declared.machine.Machine.{Machine}

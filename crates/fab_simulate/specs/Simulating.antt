@@ -19,16 +19,16 @@ use Rattle.fab_texts.specs.Rows.{PlainRow, rows_of, entry_line}
 use Rattle.fab_frames.specs.Refusals.{IsCut}
 use Rattle.fab_state.specs.Plain.{PlainState}
 use Rattle.fab_state.specs.Spelled as states
-use Rattle.fab_sim.specs.fab_state_points.specs.Entries.{entries_of, HasEntry}
-use Rattle.fab_sim.specs.fab_state_points.specs.Standing.{HasStream, IsRefusedState}
+use Rattle.fab_sim.specs.fab_state_points_Entries.{entries_of, HasEntry}
+use Rattle.fab_sim.specs.fab_state_points_Standing.{HasStream, IsRefusedState}
 use Rattle.fab_systems.specs.Ternary.{Tern as PlainTern, known}
 use Rattle.fab_ternary.specs.declared.Tern.{Tern}
 use Rattle.fab_ternary.specs.Terns.{plain_tern}
 use Rattle.fab_stimulus.specs.Stimuli.{ports_of, stimulus_format}
 use Rattle.fab_stimulus.specs.Spelled as stimuli
 use Rattle.fab_stimulus.specs.Traces.{trace_text}
-use Rattle.fab_sim.specs.fab_simulation.specs.Simulation.{Simulates}
-use Rattle.fab_sim.specs.fab_ordering.specs.Ordered.{SimulatesInOrder}
+use Rattle.fab_sim.specs.fab_simulation_Simulation.{Simulates}
+use Rattle.fab_sim.specs.fab_ordering_Ordered.{SimulatesInOrder}
 use Rattle.fab_outputs.specs.Bitstreams.{AreBytesOf}
 use Rattle.fab_outputs.specs.Storing.{PlainOutput, output}
 use Rattle.fab_outputs.specs.Ending.{HasCause}

@@ -3,7 +3,7 @@
 ghost use Rattle.std.specs.Prelude.{◌≡◌, ◌+◌, ℕ, Bool, IfOk, List, length, map};
 ghost use Rattle.fab_bits.specs.Bits.{digits};
 ghost use Rattle.fab_equations.specs.Instances.{points};
-ghost use Rattle.fab_sim.specs.fab_ordering.specs.Ordered.{AreOrderedBlocks, Moment};
+ghost use Rattle.fab_sim.specs.fab_ordering_Ordered.{AreOrderedBlocks, Moment};
 ghost use Rattle.fab_sim.specs.Machine.{IsNew};
 ghost use Rattle.fab_sim.specs.Stepper.{CanStep, CanTell, Stands};
 ghost use Rattle.fab_state.specs.Plain.{PlainState};
@@ -16,8 +16,7 @@ ghost use Rattle.fab_simulate.specs.Simulating.{ShowsInOrder};
 use crate::telling::tell_cycle;
 use fab_base::Memory;
 use fab_progress::{Progress, Step};
-use fab_sim::fab_simulation::simulations_exist;
-use fab_sim::{Machine, Stepper};
+use fab_sim::{Machine, Stepper, simulations_exist};
 use fab_state::State;
 use fab_ternary::Tern;
 use std::alloc::Global;

@@ -3,7 +3,7 @@
 ghost use Rattle.std.specs.Prelude.{◌≡◌, IfOk, List, length, map};
 ghost use Rattle.fab_bits.specs.Bits.{digits};
 ghost use Rattle.fab_sim.specs.Machine.{CanCycle, IsAt, IsNew};
-ghost use Rattle.fab_sim.specs.fab_simulation.specs.Simulation.{IsCycle, Simulates};
+ghost use Rattle.fab_sim.specs.fab_simulation_Simulation.{IsCycle, Simulates};
 ghost use Rattle.fab_state.specs.Plain.{PlainState};
 ghost use Rattle.fab_syntax.specs.Plain.{PlainModule};
 ghost use Rattle.fab_systems.specs.Ternary.{Tern as PlainTern};
@@ -16,8 +16,7 @@ use crate::ordered::simulated_in_order;
 use crate::telling::tell_cycle;
 use fab_base::Memory;
 use fab_progress::{Progress, Step};
-use fab_sim::Machine;
-use fab_sim::fab_simulation::simulations_exist;
+use fab_sim::{Machine, simulations_exist};
 use fab_state::State;
 use fab_stimulus::print_trace;
 use fab_ternary::Tern;

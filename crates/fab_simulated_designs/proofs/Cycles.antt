@@ -22,16 +22,16 @@ use Rattle.fab_legal.specs.Sinks.{site_of}
 use Rattle.fab_legal.proofs.SinkLaw.{known_site}
 use Rattle.fab_state.specs.Plain.{PlainState}
 use Rattle.fab_tern.specs.Shown.{Terns}
-use Rattle.fab_runs.specs.fab_use.specs.Sites.{bel_point, top_point}
-use Rattle.fab_runs.specs.fab_use.specs.Design.{IsSourced}
-use Rattle.fab_runs.specs.fab_use.specs.Cycles.{Instant, Shows}
-use Rattle.fab_runs.specs.fab_use.specs.Registers.{bound_pad, design_state}
-use Rattle.fab_runs.specs.fab_use.specs.Sources as sources
-use Rattle.fab_runs.specs.fab_use.specs.Sources.{Source, HasSource}
-use Rattle.fab_runs.specs.fab_use.specs.Headline.{SettlesOnce}
-use Rattle.fab_runs.specs.fab_points.proofs.EachSource.{has_fabric}
-use Rattle.fab_runs.specs.fab_points.proofs.Places.{cell_kind, site_tile}
-use Rattle.fab_runs.specs.fab_points.proofs.Sourced.{sources_are_of_design}
+use Rattle.fab_runs.specs.fab_use_Sites.{bel_point, top_point}
+use Rattle.fab_runs.specs.fab_use_Design.{IsSourced}
+use Rattle.fab_runs.specs.fab_use_Cycles.{Instant, Shows}
+use Rattle.fab_runs.specs.fab_use_Registers.{bound_pad, design_state}
+use Rattle.fab_runs.specs.fab_use_Sources as sources
+use Rattle.fab_runs.specs.fab_use_Sources.{Source, HasSource}
+use Rattle.fab_runs.specs.fab_use_Headline.{SettlesOnce}
+use Rattle.fab_runs.proofs.fab_points_EachSource.{has_fabric}
+use Rattle.fab_runs.proofs.fab_points_Places.{cell_kind, site_tile}
+use Rattle.fab_runs.proofs.fab_points_Sourced.{sources_are_of_design}
 use Rattle.fab_simulation.specs.Simulation.{given, shown_at, IsCycle, AreCycles, none, after}
 use Rattle.fab_simulation.specs.Laws.{AreKnown}
 use Rattle.fab_runs.specs.Carrying.{MeetsSources}

@@ -22,10 +22,10 @@ use Rattle.fab_legal.proofs.Lists.{at_from_mapped}
 use Rattle.fab_legal.proofs.SinkLaw.{known_site, site_is}
 use Rattle.fab_prim.specs.Ports.{top_name}
 use Rattle.fab_fabric_text.specs.Names.{pad_port_name}
-use Rattle.fab_runs.specs.fab_drives.proofs.Apart.{told_apart}
-use Rattle.fab_runs.specs.fab_use.specs.Sites.{top_point}
-use Rattle.fab_runs.specs.fab_use.specs.Cycles.{Feeds}
-use Rattle.fab_runs.specs.fab_use.specs.Registers.{bound_pad}
+use Rattle.fab_runs.proofs.fab_drives_Apart.{told_apart}
+use Rattle.fab_runs.specs.fab_use_Sites.{top_point}
+use Rattle.fab_runs.specs.fab_use_Cycles.{Feeds}
+use Rattle.fab_runs.specs.fab_use_Registers.{bound_pad}
 use Rattle.fab_simulation.specs.Simulation.{given}
 use Rattle.fab_runs.proofs.Setting.{Setting}
 use Rattle.fab_simulated_designs.proofs.Sites.{at_left, one_pad, pad_in_grid, one_port_at}

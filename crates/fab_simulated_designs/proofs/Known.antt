@@ -14,13 +14,13 @@ use Rattle.fab_prim.specs.Modules.{flip_flop_name}
 use Rattle.fab_tern.specs.Shown.{Terns, tern_shown}
 use Rattle.fab_text_loads.specs.Loads.{IsConfigured}
 use Rattle.fab_solutions.specs.Solutions.{Solves}
-use Rattle.fab_runs.specs.fab_use.specs.Sites.{bel_point}
-use Rattle.fab_runs.specs.fab_use.specs.Design.{IsBound, IsSourced, IsOfDesign, IsDesignPoint}
-use Rattle.fab_runs.specs.fab_use.specs.Sources as sources
-use Rattle.fab_runs.specs.fab_use.specs.Sources.{Source, output_source, source_value, source_reads, HasSource}
-use Rattle.fab_runs.specs.fab_points.specs.Known.{KnowsBits}
-use Rattle.fab_runs.specs.fab_points.specs.Laws.{LoadedIsKnown, SourcesAreKnown}
-use Rattle.fab_runs.specs.fab_points.proofs.ReadPoints.{reads_covered}
+use Rattle.fab_runs.specs.fab_use_Sites.{bel_point}
+use Rattle.fab_runs.specs.fab_use_Design.{IsBound, IsSourced, IsOfDesign, IsDesignPoint}
+use Rattle.fab_runs.specs.fab_use_Sources as sources
+use Rattle.fab_runs.specs.fab_use_Sources.{Source, output_source, source_value, source_reads, HasSource}
+use Rattle.fab_runs.specs.fab_points_Known.{KnowsBits}
+use Rattle.fab_runs.specs.fab_points_Laws.{LoadedIsKnown, SourcesAreKnown}
+use Rattle.fab_runs.proofs.fab_points_ReadPoints.{reads_covered}
 use Rattle.fab_simulation.specs.Laws.{AreKnown, LoadingIsKnown, LoadingIsKept}
 use Rattle.fab_runs.specs.Carrying.{MeetsSources}
 use Rattle.fab_runs.proofs.Setting.{Setting, cells_made}

@@ -26,12 +26,12 @@ use Rattle.fab_legal.proofs.PackedMade.{packed_made}
 use Rattle.fab_legal.proofs.SinkLaw.{known_site}
 use Rattle.fab_load_runs.specs.Runs.{HasClocks}
 use Rattle.fab_fabric_text.specs.Texts.{IsFabricText}
-use Rattle.fab_runs.specs.fab_use.specs.Sites.{top_point}
-use Rattle.fab_runs.specs.fab_use.specs.Registers.{bound_pad, design_state}
-use Rattle.fab_runs.specs.fab_use.specs.Sources as sources
-use Rattle.fab_runs.specs.fab_points.specs.Laws.{DesignIsDeclared}
-use Rattle.fab_runs.specs.fab_points.proofs.EachSource.{has_fabric}
-use Rattle.fab_runs.specs.fab_points.proofs.Sourced.{sources_are_of_design}
+use Rattle.fab_runs.specs.fab_use_Sites.{top_point}
+use Rattle.fab_runs.specs.fab_use_Registers.{bound_pad, design_state}
+use Rattle.fab_runs.specs.fab_use_Sources as sources
+use Rattle.fab_runs.specs.fab_points_Laws.{DesignIsDeclared}
+use Rattle.fab_runs.proofs.fab_points_EachSource.{has_fabric}
+use Rattle.fab_runs.proofs.fab_points_Sourced.{sources_are_of_design}
 use Rattle.fab_runs.proofs.Ranks.{all_by}
 use Rattle.fab_simulation.specs.Laws.{AreShown, SimulationsExist, SimulationsAgree}
 use Rattle.fab_simulated_designs.specs.Laws.{LegalDesignsSimulateOnce}

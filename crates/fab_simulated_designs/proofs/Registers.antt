@@ -14,12 +14,12 @@ use Rattle.fab_tile_drives.specs.Stands.{bel_path}
 use Rattle.fab_tern.specs.Operators.{tern_at}
 use Rattle.fab_tern.specs.Values.{tern_value}
 use Rattle.fab_tern.specs.Shown.{Terns, tern_names}
-use Rattle.fab_runs.specs.fab_use.specs.Sites.{site_path, bel_point}
-use Rattle.fab_runs.specs.fab_use.specs.Design.{at_flip_flop, IsDesignPoint}
-use Rattle.fab_runs.specs.fab_points.proofs.Bels.{bel_stands}
-use Rattle.fab_runs.specs.fab_points.proofs.EachSource.{has_fabric}
-use Rattle.fab_runs.specs.fab_points.proofs.Places.{cell_kind, site_tile, site_bel}
-use Rattle.fab_runs.specs.fab_points.proofs.Registers.{lut_clock, q_drives, next_known}
+use Rattle.fab_runs.specs.fab_use_Sites.{site_path, bel_point}
+use Rattle.fab_runs.specs.fab_use_Design.{at_flip_flop, IsDesignPoint}
+use Rattle.fab_runs.proofs.fab_points_Bels.{bel_stands}
+use Rattle.fab_runs.proofs.fab_points_EachSource.{has_fabric}
+use Rattle.fab_runs.proofs.fab_points_Places.{cell_kind, site_tile, site_bel}
+use Rattle.fab_runs.proofs.fab_points_Registers.{lut_clock, q_drives, next_known}
 use Rattle.fab_simulation.specs.Simulation.{LeavesAt}
 use Rattle.fab_runs.proofs.Setting.{Setting, cells_made}
 use Rattle.fab_simulated_designs.proofs.Drivers.{user_not_loading}

@@ -20,10 +20,10 @@ use Rattle.fab_legal.proofs.Once.{before_in}
 use Rattle.fab_prim.specs.Ports.{top_name}
 use Rattle.fab_prim.specs.Modules.{flip_flop_name}
 use Rattle.fab_gen_tile.specs.Names.{letter}
-use Rattle.fab_runs.specs.fab_drives.proofs.Places.{same_place, in_grid}
-use Rattle.fab_runs.specs.fab_text_sound.proofs.Ends.{same_named}
-use Rattle.fab_runs.specs.fab_use.specs.Sites.{bel_point, top_point}
-use Rattle.fab_runs.specs.fab_points.proofs.Places.{line_kind, site_tile}
+use Rattle.fab_runs.proofs.fab_drives_Places.{same_place, in_grid}
+use Rattle.fab_runs.proofs.fab_text_sound_Ends.{same_named}
+use Rattle.fab_runs.specs.fab_use_Sites.{bel_point, top_point}
+use Rattle.fab_runs.proofs.fab_points_Places.{line_kind, site_tile}
 
 -- ---- lists
 

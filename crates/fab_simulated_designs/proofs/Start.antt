@@ -31,9 +31,9 @@ use Rattle.fab_prim.specs.Modules.{flip_flop_name}
 use Rattle.fab_state.specs.Plain.{Register}
 use Rattle.fab_tern.specs.Shown.{Terns}
 use Rattle.fab_text_loads.specs.Loads.{IsTurn, Writes, IsConfigured}
-use Rattle.fab_runs.specs.fab_use.specs.Sites.{bel_point}
-use Rattle.fab_runs.specs.fab_use.specs.Design.{IsBound}
-use Rattle.fab_runs.specs.fab_use.specs.Registers.{HoldsLatches, register_of, design_state}
+use Rattle.fab_runs.specs.fab_use_Sites.{bel_point}
+use Rattle.fab_runs.specs.fab_use_Design.{IsBound}
+use Rattle.fab_runs.specs.fab_use_Registers.{HoldsLatches, register_of, design_state}
 use Rattle.fab_simulation.specs.Simulation.{zeros, IsLoaded, with_registers}
 use Rattle.fab_runs.proofs.Setting.{Setting}
 use Rattle.fab_runs.proofs.Carried.{latched, within}

@@ -13,8 +13,8 @@ use Rattle.fab_netlist.specs.Packing.{packed}
 use Rattle.fab_implementation.specs.Plain.{PlainImplementation}
 use Rattle.fab_state.specs.Plain.{PlainState}
 use Rattle.fab_tern.specs.Shown.{Terns}
-use Rattle.fab_runs.specs.fab_use.specs.Design.{IsSourced}
-use Rattle.fab_runs.specs.fab_use.specs.Registers.{design_state}
+use Rattle.fab_runs.specs.fab_use_Design.{IsSourced}
+use Rattle.fab_runs.specs.fab_use_Registers.{design_state}
 use Rattle.fab_simulation.specs.Simulation.{AreCycles, none, after, Simulates}
 
 -- ---- netlists

@@ -13,7 +13,7 @@ use Rattle.fab_netlist.specs.Packing.{packed}
 use Rattle.fab_implementation.specs.Plain.{Pad, PlainImplementation}
 use Rattle.fab_legal.specs.Legal.{IsLegal}
 use Rattle.fab_fabric_text.specs.Texts.{IsFabricText}
-use Rattle.fab_runs.specs.fab_use.specs.Configuring.{Configures}
+use Rattle.fab_runs.specs.fab_use_Configuring.{Configures}
 use Rattle.fab_simulated_designs.specs.Designs.{SimulatesDesign, ShowsNetlist}
 
 -- In each text of a fabric that is loaded with the bitstream of a legal implementation, what a simulation shows is what the netlist says, whatever is

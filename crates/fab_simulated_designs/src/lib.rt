@@ -6,13 +6,12 @@ ghost use Rattle.fab_simulated_designs.specs.Laws.{LegalDesignsSimulate, LegalDe
 
 use fab_meaning::laws::points_of_sound_texts_have_one_driver;
 use fab_netlist::one_run;
-pub use fab_runs::fab_points;
-use fab_runs::fab_points::{
+pub use fab_runs::{
     configuration_goes, design_is_declared, design_is_listed, design_settles_by_sources,
     loaded_is_known, ranked_design_settles_once, registers_tick, sources_are_known,
 };
-pub use fab_simulation;
-use fab_simulation::{loading_is_known, simulations_agree, simulations_exist};
+pub use fab_simulation::loading_is_known;
+use fab_simulation::{simulations_agree, simulations_exist};
 use fab_text_loads::fabric_texts_load;
 
 /// A simulation of a legal implementation shows a run of its netlist.

@@ -29,26 +29,25 @@ use Rattle.fab_ternary.specs.Terns.{plain_tern}
 use Rattle.fab_stimulus.specs.Stimuli.{ports_of}
 use Rattle.fab_stimulus.specs.Spelled as stimuli
 use Rattle.fab_stimulus.specs.Traces.{trace_text}
-use Rattle.fab_impl.specs.Spelled.{implementation_text}
-use Rattle.fab_flow.specs.fab_use.specs.Design.{IsSourced}
-use Rattle.fab_flow.specs.fab_use.specs.Registers.{design_state}
-use Rattle.fab_flow.specs.fab_features.specs.Design.{design_features}
+use Rattle.fab_stored_flow.specs.fab_use_Design.{IsSourced}
 use Rattle.fab_text_reads.specs.Laws.{GeneratedTextsAreRead}
 use Rattle.fab_draws.specs.Draws.{draws_of}
-use Rattle.fab_ordered_designs.specs.fab_simulated_designs.specs.Designs.{EachKnows, initial_latches, shown_by}
-use Rattle.fab_ordered_designs.specs.fab_simulated_designs.specs.Laws.{LegalDesignsSimulate}
+use Rattle.fab_ordered_designs.specs.fab_simulated_designs_Designs.{EachKnows, initial_latches, shown_by}
+use Rattle.fab_ordered_designs.specs.fab_simulated_designs_Laws.{LegalDesignsSimulate}
 use Rattle.fab_ordered_designs.specs.Designs.{EachRight}
 use Rattle.fab_ordered_designs.specs.Laws.{LegalDesignsSimulateInOrder}
 use Rattle.fab_spelled_designs.specs.Laws.{IsSound, LegalDesignsAreSpelled, SpelledDesignsAreSound}
 use Rattle.fab_outputs.specs.Storing.{PlainOutput, output, with_outputs}
-use Rattle.fab_flow.specs.Generating.{generated_text}
-use Rattle.fab_flow.specs.Flowing.{FlowFiles, MakesFlow, flow_outputs}
+use Rattle.fab_stored_flow.specs.fab_flow_Generating.{generated_text}
+use Rattle.fab_stored_flow.specs.fab_flow_Flowing.{FlowFiles, MakesFlow}
 use Rattle.fab_simulate.specs.Simulating.{MakesTrace, Shows, SimulationFiles, simulation_files}
-use Rattle.fab_simulated_flow.specs.Laws.{KeepsFlowFiles, KnowsDesign, TracesNetlist}
+use Rattle.fab_stored_flow.specs.Laws.{FlowFilesStand, HoldsFlow, KeepsFlowFiles, flow_state}
+use Rattle.fab_stored_flow.proofs.HandedOut.{found_is, found_short}
+use Rattle.fab_stored_flow.proofs.Ports.{input_names, output_names}
+use Rattle.fab_simulated_flow.specs.Laws.{KnowsDesign, TracesNetlist}
 use Rattle.fab_simulated_flow.proofs.Digits.{same_digits}
 use Rattle.fab_simulated_flow.proofs.Narrow.{narrow_text}
-use Rattle.fab_simulated_flow.proofs.Shown.{input_names, lines_known, output_names, shown_values}
-use Rattle.fab_simulated_flow.proofs.Stored as stored_files
+use Rattle.fab_simulated_flow.proofs.Shown.{lines_known, shown_values}
 
 -- a printed state says itself alone
 state_again : (bytes : List ℕ) (printed said : PlainState) → HasSpelling printed → bytes ≡ state_text printed → Says (rows_of bytes) said → said ≡ printed
@@ -82,7 +81,7 @@ record ShowsRun (fabric : PlainFabric) (netlist : PlainNetlist) (implementation 
   shows : shown ≡ map (shown_by netlist) nows
   knows : Knows fabric netlist implementation text state order words lines shown simulation
 
-module _ (read_again : GeneratedTextsAreRead) (simulate : LegalDesignsSimulate) (in_order : LegalDesignsSimulateInOrder) (are_sound : SpelledDesignsAreSound) (are_spelled : LegalDesignsAreSpelled)
+module _ (stand : FlowFilesStand) (read_again : GeneratedTextsAreRead) (simulate : LegalDesignsSimulate) (in_order : LegalDesignsSimulateInOrder) (are_sound : SpelledDesignsAreSound) (are_spelled : LegalDesignsAreSpelled)
     (files : Map) (names : FlowFiles) (allowed : ℕ) (stored : List PlainOutput) (flow : MakesFlow files names allowed stored)
     (later : Map) (kept : KeepsFlowFiles names.base (with_outputs stored files) later) (stimulus trace : List ℕ) (order : Option ℕ) (outputs : List PlainOutput)
     (made : MakesTrace later
@@ -97,24 +96,13 @@ module _ (read_again : GeneratedTextsAreRead) (simulate : LegalDesignsSimulate) 
   implementation = flow.made.implementation
 
   abbrev state : PlainState
-  state = design_state (packed netlist) implementation
+  state = flow_state flow
 
   abbrev words : List ℕ
   words = stream fabric flow.made.assembly.bits
 
-  abbrev after : Map
-  after =
-      stored_files.after files names.base (text_bytes (generated_text fabric)) (implementation_text fabric implementation)
-      (design_features fabric (packed netlist) implementation) words state
-
-  after_is : with_outputs stored files ≡ after
-  after_is =
-      ap (λ (list : List PlainOutput). with_outputs list files)
-      (flow.made.outputs_are
-      ∙ ap (flow_outputs names.base (text_bytes (generated_text fabric)) (implementation_text fabric implementation)) flow.made.assembly.outputs_are)
-
-  stands : (name bytes : List ℕ) → later name ≡ with_outputs stored files name → after name ≡ Some bytes → later name ≡ Some bytes
-  stands name bytes same there = same ∙ ap (λ (m : Map). m name) after_is ∙ there
+  holds : HoldsFlow flow later
+  holds = stand files names allowed stored flow later kept
 
   sound : IsSound flow.design
   sound = are_sound files names.design flow.design flow.spelled
@@ -128,12 +116,9 @@ module _ (read_again : GeneratedTextsAreRead) (simulate : LegalDesignsSimulate) 
   printed : IsPrintableText (generated_text fabric) × SpellsText 300 128 (text_bytes (generated_text fabric)) (generated_text fabric)
   printed = read_again files names.design.fabric fabric flow.spelled.fabric sound.fabric sound.tiles
 
-  text_stands : later (names.base ++ codes ".v") ≡ Some (text_bytes (generated_text fabric))
-  text_stands = stands _ _ kept.text (stored_files.text_stands files names.base _ _ _ words state)
-
   text_is : made.text ≡ generated_text fabric
   text_is =
-      let bytes_are = stored_files.found_is later (names.base ++ codes ".v") made.device.bytes (text_bytes (generated_text fabric)) text_stands made.device.found in
+      let bytes_are = found_is later (names.base ++ codes ".v") made.device.bytes (text_bytes (generated_text fabric)) holds.text made.device.found in
       text_once 300 128 300 128 made.device.bytes made.text (generated_text fabric) made.device.spelled.spelled
       (subst (λ (b : List ℕ). SpellsText 300 128 b (generated_text fabric)) (sym bytes_are) printed.1)
 
@@ -141,18 +126,16 @@ module _ (read_again : GeneratedTextsAreRead) (simulate : LegalDesignsSimulate) 
   narrow : AreNarrow (generated_text fabric)
   narrow =
       narrow_text (generated_text fabric) printed.0.1
-      (stored_files.found_short later (names.base ++ codes ".v") made.device.bytes (text_bytes (generated_text fabric)) text_stands made.device.found)
+      (found_short later (names.base ++ codes ".v") made.device.bytes (text_bytes (generated_text fabric)) holds.text made.device.found)
 
   words_are : map (digits 32) made.made.words ≡ map (digits 32) words
   words_are =
-      let bytes_are = stored_files.found_is later (names.base ++ codes ".bit") made.made.loaded.bytes (flat_map word_bytes words)
-      (stands _ _ kept.words (stored_files.words_stand files names.base _ _ _ words state)) made.made.loaded.found in
+      let bytes_are = found_is later (names.base ++ codes ".bit") made.made.loaded.bytes (flat_map word_bytes words) holds.words made.made.loaded.found in
       same_digits made.made.words words (sym made.made.loaded.spelled.bytes_are ∙ bytes_are)
 
   state_is : made.made.state ≡ state
   state_is =
-      let bytes_are = stored_files.found_is later (names.base ++ codes ".state") made.made.stands.bytes (state_text state)
-      (stands _ _ kept.state (stored_files.state_stands files names.base _ _ _ words state)) made.made.stands.found in
+      let bytes_are = found_is later (names.base ++ codes ".state") made.made.stands.bytes (state_text state) holds.state made.made.stands.found in
       state_again made.made.stands.bytes state made.made.state has bytes_are made.made.stands.spelled.says
 
   abbrev shown : List (List PlainTern)

@@ -1,4 +1,3 @@
-pub mod Stored
 pub mod Digits
 pub mod Shown
 pub mod Narrow

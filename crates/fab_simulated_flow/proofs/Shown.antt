@@ -1,16 +1,12 @@
--- Values that are known, as ternary bits and as plain ones; and the names of ports in the state of a design.
+-- Values that are known, as ternary bits and as plain ones.
 use Rattle.std.proofs.Common.{◌≡◌, ℕ, Bool, true, false, List, [], ◌∷◌, map, refl, sym, ap, ◌∙◌}
 use Rattle.fab_systems.specs.Ternary.{known, no, yes, unknown}
 use Rattle.fab_systems.specs.Ternary.{Tern as PlainTern}
 use Rattle.fab_netlist.specs.Plain.{PlainNetlist}
-use Rattle.fab_netlist.specs.declared.net_id.NetId.{NetId}
-use Rattle.fab_implementation.specs.Plain.{Pad}
 use Rattle.fab_ternary.specs.declared.Tern.{Tern}
 use Rattle.fab_ternary.specs.declared.Tern.TheVariants as terns
 use Rattle.fab_ternary.specs.Terns.{plain_tern}
-use Rattle.fab_stimulus.specs.Stimuli.{ports_of}
-use Rattle.fab_flow.specs.fab_use.specs.Registers.{bound_pad}
-use Rattle.fab_ordered_designs.specs.fab_simulated_designs.specs.Designs.{shown_by}
+use Rattle.fab_ordered_designs.specs.fab_simulated_designs_Designs.{shown_by}
 use Rattle.fab_ordered_designs.specs.Designs.{outputs_by}
 use Rattle.fab_simulated_flow.specs.Laws.{known_tern, port_values}
 
@@ -60,13 +56,3 @@ line_known nets (net ∷ outputs) = let rest = line_known nets outputs in λ j. 
 pub lines_known : (netlist : PlainNetlist) (nows : List (ℕ → Bool)) → map (map known) (map (outputs_by netlist) nows) ≡ map (shown_by netlist) nows
 lines_known netlist [] = refl
 lines_known netlist (now ∷ nows) = let here = line_known now netlist.outputs in let rest = lines_known netlist nows in λ j. here j ∷ rest j
-
--- ---- ports
-
-pub input_names : (lines : List Pad) (ports : List (List ℕ)) → ports_of (map (bound_pad lines) ports) ≡ ports
-input_names lines [] = refl
-input_names lines (port ∷ ports) = ap (λ (names : List (List ℕ)). port ∷ names) (input_names lines ports)
-
-pub output_names : (lines : List Pad) (ports : List (List ℕ × NetId)) → ports_of (map (λ port. bound_pad lines port.0) ports) ≡ map (λ port. port.0) ports
-output_names lines [] = refl
-output_names lines (port ∷ ports) = ap (λ (names : List (List ℕ)). port.0 ∷ names) (output_names lines ports)

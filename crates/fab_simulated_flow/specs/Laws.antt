@@ -12,11 +12,12 @@ use Rattle.fab_ternary.specs.declared.Tern.{Tern}
 use Rattle.fab_ternary.specs.declared.Tern.TheVariants as terns
 use Rattle.fab_stimulus.specs.Spelled.{Says}
 use Rattle.fab_stimulus.specs.Traces.{trace_text}
-use Rattle.fab_ordered_designs.specs.fab_simulated_designs.specs.Designs.{EachKnows, initial_latches}
+use Rattle.fab_ordered_designs.specs.fab_simulated_designs_Designs.{EachKnows, initial_latches}
 use Rattle.fab_ordered_designs.specs.Designs.{EachRight}
 use Rattle.fab_outputs.specs.Storing.{PlainOutput, output, with_outputs}
-use Rattle.fab_flow.specs.fab_use.specs.Design.{IsSourced}
-use Rattle.fab_flow.specs.Flowing.{FlowFiles, MakesFlow}
+use Rattle.fab_stored_flow.specs.fab_use_Design.{IsSourced}
+use Rattle.fab_stored_flow.specs.fab_flow_Flowing.{FlowFiles, MakesFlow}
+use Rattle.fab_stored_flow.specs.Laws.{KeepsFlowFiles}
 use Rattle.fab_simulate.specs.Simulating.{MakesTrace, SimulationFiles, simulation_files}
 
 abbrev pub known_tern : Bool → Tern
@@ -44,13 +45,7 @@ KnowsDesign fabric netlist implementation None made = EachKnows (IsSourced fabri
 KnowsDesign fabric netlist implementation (Some seed) made =
     EachRight (IsSourced fabric (packed netlist) implementation) made.made.traces.simulates.simulates.cycles
 
--- BASE.v, BASE.bit and BASE.state are what a flow stored. Any other file may have changed since, as where a stimulus is written afterwards.
-pub record KeepsFlowFiles (base : List ℕ) (stored later : Map) : Type 0 where
-  pub text : later (base ++ codes ".v") ≡ stored (base ++ codes ".v")
-  pub words : later (base ++ codes ".bit") ≡ stored (base ++ codes ".bit")
-  pub state : later (base ++ codes ".state") ≡ stored (base ++ codes ".state")
-
--- As long as these stand, what `simulate` makes of BASE.v, BASE.bit and BASE.state of a flow is the trace of the netlist. That is so without an order, and
+-- As long as BASE.v, BASE.bit and BASE.state of a flow stand, what `simulate` makes of them is the trace of the netlist. That is so without an order, and
 -- with one for every seed: whatever is drawn for points at power-up, and in whichever order points change.
 abbrev pub FlowFilesSimulate : Type 0
 FlowFilesSimulate =

@@ -3,19 +3,16 @@
 
 ghost use Rattle.fab_simulated_flow.specs.Laws.{FlowFilesSimulate};
 
-pub use fab_flow;
-use fab_ordered_designs::fab_simulated_designs::legal_designs_simulate;
-use fab_ordered_designs::legal_designs_simulate_in_order;
-pub use fab_simulate;
-pub use fab_spelled_designs;
+use fab_ordered_designs::{legal_designs_simulate, legal_designs_simulate_in_order};
 use fab_spelled_designs::{legal_designs_are_spelled, spelled_designs_are_sound};
-pub use fab_text_reads;
+use fab_stored_flow::flow_files_stand;
 use fab_text_reads::generated_texts_are_read;
 
 /// The trace that `simulate` makes of the files that `flow` stored is that of a run of the netlist: without an order, and with one for every seed.
 pub fn flow_files_simulate()
     ensures { FlowFilesSimulate }
 {
+    flow_files_stand();
     generated_texts_are_read();
     legal_designs_simulate();
     legal_designs_simulate_in_order();

@@ -13,7 +13,7 @@ use Rattle.fab_meaning.specs.Loading.{IsLoading, LoadsAgree, write_strobe_name}
 use Rattle.fab_meaning.specs.Sound.{PointsOfSoundTextsHaveOneDriver}
 use Rattle.fab_implementation.specs.Plain.{Pad}
 use Rattle.fab_prim.specs.Modules.{flip_flop_name}
-use Rattle.fab_use.specs.fab_state.specs.Plain.{Register, PlainState}
+use Rattle.fab_use.specs.fab_state_Plain.{Register, PlainState}
 use Rattle.fab_tern.specs.Operators.{tern_at}
 use Rattle.fab_tern.specs.Values.{tern_value}
 use Rattle.fab_tern.specs.Shown.{Terns, first_terns, tern_names, through}

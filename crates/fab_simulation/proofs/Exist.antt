@@ -9,7 +9,7 @@ use Rattle.fab_meaning.specs.Reads.{is_declared}
 use Rattle.fab_meaning.specs.Runs.{user_clock_name}
 use Rattle.fab_meaning.specs.Sound.{PointsOfSoundTextsHaveOneDriver}
 use Rattle.fab_sound.specs.Narrow.{AreNarrow}
-use Rattle.fab_use.specs.fab_state.specs.Plain.{PlainState}
+use Rattle.fab_use.specs.fab_state_Plain.{PlainState}
 use Rattle.fab_tern.specs.Shown.{Terns}
 use Rattle.fab_load_runs.specs.Runs.{HasClocks, LoadingIsDecided, LoadsExist}
 use Rattle.fab_solutions.specs.Solutions.{tern_kept}

@@ -11,7 +11,7 @@ use Rattle.fab_meaning.specs.Runs.{clock_name, kept}
 use Rattle.fab_meaning.specs.Loading.{IsStream, IsLoading, write_strobe_name}
 use Rattle.fab_sound.specs.Narrow.{AreNarrow}
 use Rattle.fab_implementation.specs.Plain.{Pad}
-use Rattle.fab_use.specs.fab_state.specs.Plain.{PlainState}
+use Rattle.fab_use.specs.fab_state_Plain.{PlainState}
 use Rattle.fab_tern.specs.Shown.{Terns}
 use Rattle.fab_load_runs.specs.Runs.{HasClocks}
 use Rattle.fab_solutions.specs.Solutions.{Solves, tern_kept}

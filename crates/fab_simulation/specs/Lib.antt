@@ -1,8 +1,5 @@
 pub mod Simulation
 pub mod Laws
-pub use Rattle.fab_use.specs.fab_state
-pub use Rattle.fab_use.specs.fab_fabric_text
-pub use Rattle.fab_use.specs.fab_drives
-pub use Rattle.fab_use.specs.fab_loading
-pub use Rattle.fab_use.specs.fab_text_loads
-pub use Rattle.fab_use
+pub use Rattle.fab_use.specs.fab_fabric_text_Names as fab_fabric_text_Names
+pub use Rattle.fab_use.specs.fab_state_Plain as fab_state_Plain
+pub use Rattle.fab_use.specs.Sites as fab_use_Sites

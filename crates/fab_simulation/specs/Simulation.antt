@@ -9,7 +9,7 @@ use Rattle.fab_meaning.specs.Reads.{is_declared, same_point}
 use Rattle.fab_meaning.specs.Runs.{user_clock_name}
 use Rattle.fab_meaning.specs.Loading.{IsLoading, Loads}
 use Rattle.fab_implementation.specs.Plain.{Pad}
-use Rattle.fab_use.specs.fab_state.specs.Plain.{Register, PlainState}
+use Rattle.fab_use.specs.fab_state_Plain.{Register, PlainState}
 use Rattle.fab_prim.specs.Ports.{top_name}
 use Rattle.fab_prim.specs.Modules.{flip_flop_name}
 use Rattle.fab_tern.specs.Shown.{Terns}

@@ -3,13 +3,13 @@ use Rattle.std.proofs.Common.{◌≡◌, ℕ, Bool, true, false, List, [], ◌�
 use Rattle.fab_syntax.specs.Plain.{PlainExpr, PlainJoin, PlainItem, variable, wire, reg, assign, latch, clocked, instance, PlainModule}
 use Rattle.fab_syntax.specs.Declarations.{module_named, is_input_of, width_in}
 use Rattle.fab_syntax.specs.Sound.{IsSound, item_expressions, joined_expressions}
-use Rattle.fab_load_runs.specs.fab_sound.specs.Narrow.{AreNarrow}
-use Rattle.fab_load_runs.specs.fab_meaning.specs.Points.{Path, Point, point, Driver, outside, copy, bit_of, flop, hold, Drives, JoinDrives, ItemDrives, module_at}
-use Rattle.fab_load_runs.specs.fab_meaning.specs.Settled.{Assignment}
-use Rattle.fab_load_runs.specs.fab_meaning.specs.Reads.{is_declared}
-use Rattle.fab_load_runs.specs.fab_meaning.proofs.SoundTexts.{contains_first, contains_later}
-use Rattle.fab_load_runs.specs.fab_values.specs.Declarations.{Declaration, declarations, found_in}
-use Rattle.fab_load_runs.specs.fab_values.specs.Evaluation.{local_width, IsFit}
+use Rattle.fab_load_runs.specs.fab_sound_Narrow.{AreNarrow}
+use Rattle.fab_load_runs.specs.fab_meaning_Points.{Path, Point, point, Driver, outside, copy, bit_of, flop, hold, Drives, JoinDrives, ItemDrives, module_at}
+use Rattle.fab_load_runs.specs.fab_meaning_Settled.{Assignment}
+use Rattle.fab_load_runs.specs.fab_meaning_Reads.{is_declared}
+use Rattle.fab_load_runs.proofs.fab_meaning_SoundTexts.{contains_first, contains_later}
+use Rattle.fab_load_runs.specs.fab_values_Declarations.{Declaration, declarations, found_in}
+use Rattle.fab_load_runs.specs.fab_values_Evaluation.{local_width, IsFit}
 use Rattle.fab_systems.specs.System.{AreListed}
 use Rattle.fab_systems.specs.Ternary.{Tern, unknown, known, IsBelow, AreBelow, IsMonotone}
 use Rattle.fab_systems.proofs.Order.{below_self, below_equal, below_trans, below_both}

@@ -4,9 +4,9 @@ use Rattle.std.proofs.lemmas.List.{length-map, length-append, length-take, lengt
 use Rattle.fab_syntax.specs.declared.tree.Op.{Op}
 use Rattle.fab_syntax.specs.declared.tree.Op.TheVariants.{And, Or, Xor, Equal, Minus}
 use Rattle.fab_syntax.specs.Plain.{PlainExpr, PlainExprs, constant, variable, pick, part, concatenation, complement, operation, conditional, none, more}
-use Rattle.fab_load_runs.specs.fab_values.specs.Declarations.{Declaration, found_in, width}
-use Rattle.fab_load_runs.specs.fab_values.specs.Evaluation.{expr_width, exprs_width, local_width, IsFit, AreFit, IsVectorOf}
-use Rattle.fab_load_runs.specs.fab_values.proofs.Widths.{vector_found}
+use Rattle.fab_load_runs.specs.fab_values_Declarations.{Declaration, found_in, width}
+use Rattle.fab_load_runs.specs.fab_values_Evaluation.{expr_width, exprs_width, local_width, IsFit, AreFit, IsVectorOf}
+use Rattle.fab_load_runs.proofs.fab_values_Widths.{vector_found}
 use Rattle.fab_systems.specs.Ternary.{Tern, known}
 use Rattle.fab_tern.specs.Operators.{tern_at, inverse, both, either, differs, agreed, each_tern, bools, minus_of, tern_operated, one_of, entry}
 use Rattle.fab_tern.specs.Values.{tern_value, tern_concatenated}

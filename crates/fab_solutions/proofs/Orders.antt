@@ -2,10 +2,10 @@
 use Rattle.std.proofs.Common.{◌≡◌, ℕ, zero, suc, ◌+◌, ◌-◌, ◌<◌, Bool, true, false, List, [], ◌∷◌, ◌++◌, length, map, take, drop, slice_range, Option, Some, None, option_map, refl, sym, ap, ◌∙◌, subst, inl, inr, arith, ◌⊎◌}
 use Rattle.std.proofs.lemmas.List.{length-map}
 use Rattle.fab_bits.specs.Bits.{number, digits}
-use Rattle.fab_load_runs.specs.fab_meaning.specs.Value.{operated}
+use Rattle.fab_load_runs.specs.fab_meaning_Value.{operated}
 use Rattle.fab_syntax.specs.declared.tree.Op.{Op}
 use Rattle.fab_syntax.specs.declared.tree.Op.TheVariants.{And, Or, Xor, Equal, Minus}
-use Rattle.fab_load_runs.specs.fab_values.proofs.Widths.{length_digits}
+use Rattle.fab_load_runs.proofs.fab_values_Widths.{length_digits}
 use Rattle.fab_systems.specs.Ternary.{Tern, no, yes, unknown, known, IsBelow}
 use Rattle.fab_systems.proofs.Order.{below_self, below_equal, below_trans}
 use Rattle.fab_tern.specs.Operators.{tern_at, inverse, both, either, differs, agreed, each_tern, same_terns, bools, minus_of, tern_operated, one_of, evens, odds, entry}

@@ -2,12 +2,12 @@
 use Rattle.std.specs.Prelude.{◌≡◌, ℕ, Bool, true, List, [], ◌∷◌, length, Some}
 use Rattle.fab_syntax.specs.Plain.{PlainExpr, PlainModule}
 use Rattle.fab_syntax.specs.Sound.{IsSound}
-use Rattle.fab_load_runs.specs.fab_meaning.specs.Points.{Path, Point, Driver, outside, copy, bit_of, flop, hold, Drives, module_at}
-use Rattle.fab_load_runs.specs.fab_meaning.specs.Settled.{Assignment}
-use Rattle.fab_load_runs.specs.fab_meaning.specs.Reads.{is_declared}
-use Rattle.fab_load_runs.specs.fab_sound.specs.Narrow.{AreNarrow}
-use Rattle.fab_load_runs.specs.fab_values.specs.Declarations.{Declaration, declarations, found_in}
-use Rattle.fab_load_runs.specs.fab_values.specs.Evaluation.{local_width, IsFit}
+use Rattle.fab_load_runs.specs.fab_meaning_Points.{Path, Point, Driver, outside, copy, bit_of, flop, hold, Drives, module_at}
+use Rattle.fab_load_runs.specs.fab_meaning_Settled.{Assignment}
+use Rattle.fab_load_runs.specs.fab_meaning_Reads.{is_declared}
+use Rattle.fab_load_runs.specs.fab_sound_Narrow.{AreNarrow}
+use Rattle.fab_load_runs.specs.fab_values_Declarations.{Declaration, declarations, found_in}
+use Rattle.fab_load_runs.specs.fab_values_Evaluation.{local_width, IsFit}
 use Rattle.fab_systems.specs.System.{AreListed, IsSettledOn}
 use Rattle.fab_systems.specs.Ternary.{Tern, known, IsBelow, AreBelow, IsMonotone}
 use Rattle.fab_tern.specs.Values.{tern_value}

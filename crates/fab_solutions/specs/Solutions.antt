@@ -1,9 +1,9 @@
 -- Ternary solutions of a text, where inputs of the top and what flip-flops and latches hold may be unknown.
 use Rattle.std.specs.Prelude.{◌≡◌, ℕ, true, List, if◌then◌else◌}
 use Rattle.fab_syntax.specs.Plain.{PlainModule}
-use Rattle.fab_load_runs.specs.fab_meaning.specs.Points.{Point, Driver, outside, copy, bit_of, flop, hold, Drives}
-use Rattle.fab_load_runs.specs.fab_meaning.specs.Reads.{is_declared}
-use Rattle.fab_load_runs.specs.fab_meaning.specs.Runs.{clock_of, is_clock}
+use Rattle.fab_load_runs.specs.fab_meaning_Points.{Point, Driver, outside, copy, bit_of, flop, hold, Drives}
+use Rattle.fab_load_runs.specs.fab_meaning_Reads.{is_declared}
+use Rattle.fab_load_runs.specs.fab_meaning_Runs.{clock_of, is_clock}
 use Rattle.fab_systems.specs.Ternary.{Tern, IsBelow}
 use Rattle.fab_tern.specs.Operators.{tern_at}
 use Rattle.fab_tern.specs.Values.{tern_value}

@@ -4,8 +4,6 @@
 
 ghost use Rattle.fab_solutions.specs.Laws.{DemandedIsLeast, DriversFit, DriversGrow, GivenIsShown, LeastSolutionsAgree, LeastSolutionsExist, ValuesGrow};
 
-pub use fab_equations;
-
 /// Where all inputs and all held values are known, a driver gives its point what `tern_shown` says.
 pub fn given_is_shown()
     ensures { GivenIsShown }

@@ -17,12 +17,12 @@ use Rattle.fab_legal.specs.Legal.{IsLegal}
 use Rattle.fab_legal.specs.WellMade.{IsWellMadePacked, output_name, ports as design_ports}
 use Rattle.fab_legal.proofs.PackedMade.{packed_made}
 use Rattle.fab_state.specs.Spelled as states
-use Rattle.fab_designs.specs.fab_impl.specs.Spelled as texts
+use Rattle.fab_designs.specs.fab_impl_Spelled as texts
 use Rattle.fab_fasm.specs.Printing as lines
 use Rattle.fab_features.specs.Design.{design_features}
 use Rattle.fab_texts.specs.Printed.{ends_line, is_last_word, is_word}
 use Rattle.fab_texts.specs.Rows.{Word}
-use Rattle.fab_features.specs.fab_use.specs.Registers.{design_state}
+use Rattle.fab_features.specs.fab_use_Registers.{design_state}
 use Rattle.fab_blif.proofs.Each.{each_joined, each_kept, each_mapped, each_weaker}
 use Rattle.fab_blif.proofs.Netlists.{netlist_is_well_made}
 use Rattle.fab_designs.specs.Designs.{DesignFiles, PlainDesign, SpellsDesign}

@@ -25,9 +25,9 @@ use Rattle.fab_legal.proofs.Lists.{at_default, at_from_mapped}
 use Rattle.fab_legal.proofs.Once.{before_in, known_thing}
 use Rattle.fab_legal.proofs.PortNumbers.{own_number}
 use Rattle.fab_ways.proofs.Bounded.{step_from_within, step_within}
-use Rattle.fab_designs.specs.fab_impl.specs.Lines.{Cell}
-use Rattle.fab_designs.specs.fab_impl.specs.Names.{most_cell}
-use Rattle.fab_designs.specs.fab_impl.specs.Spelled.{HasSpelling, IsNameable, IsNamed, cell_line, edge_line, implementation_lines, inner_lines, net_line, pad_line, tree_lines}
+use Rattle.fab_designs.specs.fab_impl_Lines.{Cell}
+use Rattle.fab_designs.specs.fab_impl_Names.{most_cell}
+use Rattle.fab_designs.specs.fab_impl_Spelled.{HasSpelling, IsNameable, IsNamed, cell_line, edge_line, implementation_lines, inner_lines, net_line, pad_line, tree_lines}
 use Rattle.fab_fabric.specs.Names.{site_text}
 use Rattle.fab_texts.specs.Printed.{is_last_word, is_row}
 use Rattle.fab_texts.specs.Rows.{Word}

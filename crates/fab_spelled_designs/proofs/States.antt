@@ -24,7 +24,7 @@ use Rattle.fab_state.specs.Plain.{PlainState, Register}
 use Rattle.fab_state.specs.Spelled.{HasSpelling, IsFresh, ports}
 use Rattle.fab_texts.specs.Places.{IsWritable}
 use Rattle.fab_texts.specs.Printed.{is_word}
-use Rattle.fab_features.specs.fab_use.specs.Registers.{bound_pad, design_state, register_of}
+use Rattle.fab_features.specs.fab_use_Registers.{bound_pad, design_state, register_of}
 use Rattle.fab_blif.proofs.Each.{each_mapped}
 use Rattle.fab_spelled_designs.proofs.Apart.{Differ, new_differ}
 use Rattle.fab_spelled_designs.proofs.Sited.{each_writable, sites_differ}

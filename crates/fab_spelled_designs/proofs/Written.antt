@@ -12,8 +12,8 @@ use Rattle.fab_fabric.specs.Fabric.{wire_count, wires_at}
 use Rattle.fab_fabric.specs.Names.{full_name, name_at, place_name}
 use Rattle.fab_fabric.specs.declared.wire.Wire.{Wire}
 use Rattle.fab_fabric.proofs.Numbered.{some_place}
-use Rattle.fab_designs.specs.fab_impl.specs.Names.{cell_text, wire_names, wire_text}
-use Rattle.fab_designs.specs.fab_impl.proofs.WireNames.{wire_is}
+use Rattle.fab_designs.specs.fab_impl_Names.{cell_text, wire_names, wire_text}
+use Rattle.fab_designs.proofs.fab_impl_WireNames.{wire_is}
 use Rattle.fab_legal.proofs.Pins.{tile_type}
 use Rattle.fab_spelled_fabrics.proofs.Words.{decimal_named}
 use Rattle.fab_texts.specs.Printed.{ends_line, is_last_word, is_row, is_word, is_word_byte}

@@ -7,10 +7,10 @@ use Rattle.fab_netlist.specs.WellMade.{IsWellMade}
 use Rattle.fab_implementation.specs.Plain.{PlainImplementation}
 use Rattle.fab_legal.specs.Legal.{IsLegal}
 use Rattle.fab_state.specs.Spelled as states
-use Rattle.fab_designs.specs.fab_impl.specs.Spelled as texts
+use Rattle.fab_designs.specs.fab_impl_Spelled as texts
 use Rattle.fab_fasm.specs.Printing as lines
 use Rattle.fab_features.specs.Design.{design_features}
-use Rattle.fab_features.specs.fab_use.specs.Registers.{design_state}
+use Rattle.fab_features.specs.fab_use_Registers.{design_state}
 use Rattle.fab_designs.specs.Designs.{DesignFiles, PlainDesign, SpellsDesign}
 
 -- a fabric with its tiles, and a netlist that is well made

@@ -1,2 +1,1 @@
 pub mod Laws
-pub use Rattle.fab_fabric_names

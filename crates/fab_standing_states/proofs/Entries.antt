@@ -25,8 +25,8 @@ use Rattle.fab_fabric_text.specs.Names.{pad_port_name}
 use Rattle.fab_tile_drives.specs.Stands.{bel_path}
 use Rattle.fab_fabric_text.specs.Texts.{IsFabricText}
 use Rattle.fab_state.specs.Plain.{PlainState, Register}
-use Rattle.fab_points.specs.fab_use.specs.Sites.{site_path}
-use Rattle.fab_points.specs.fab_use.specs.Registers.{design_state}
+use Rattle.fab_points.specs.fab_use_Sites.{site_path}
+use Rattle.fab_points.specs.fab_use_Registers.{design_state}
 use Rattle.fab_points.proofs.Bels.{bel_stands}
 use Rattle.fab_points.proofs.EachSource.{has_fabric}
 use Rattle.fab_points.proofs.Pads.{top_port}

@@ -28,12 +28,12 @@ use Rattle.fab_fabric_text.specs.Places.{placed_tiles}
 use Rattle.fab_fabric_text.specs.Top as top
 use Rattle.fab_fabric_text.specs.Top.{tile_pads, top_items, top_module, top_ports}
 use Rattle.fab_tile_drives.proofs.Members.{contains_map}
-use Rattle.fab_points.specs.fab_drives.proofs.Apart.{one_of_name}
-use Rattle.fab_points.specs.fab_drives.proofs.Lists.{contains_flat, contains_numbered}
-use Rattle.fab_points.specs.fab_drives.proofs.Modules.{top_is_last}
-use Rattle.fab_points.specs.fab_drives.proofs.Places.{placed_tile, tile_is_placed}
+use Rattle.fab_points.proofs.fab_drives_Apart.{one_of_name}
+use Rattle.fab_points.proofs.fab_drives_Lists.{contains_flat, contains_numbered}
+use Rattle.fab_points.proofs.fab_drives_Modules.{top_is_last}
+use Rattle.fab_points.proofs.fab_drives_Places.{placed_tile, tile_is_placed}
 use Rattle.fab_fabric_text.specs.Texts.{IsFabricText}
-use Rattle.fab_points.specs.fab_text_sound.proofs.TopDeclared.{ports_apart}
+use Rattle.fab_points.proofs.fab_text_sound_TopDeclared.{ports_apart}
 use Rattle.fab_state_points.specs.Finding.{IsDeclared}
 use Rattle.fab_state_points.specs.Standing.{HasStream}
 

@@ -22,9 +22,9 @@ use Rattle.fab_legal.specs.WellMade.{output_name}
 use Rattle.fab_legal.proofs.Lists.{at_default}
 use Rattle.fab_legal.proofs.SinkLaw.{known_site}
 use Rattle.fab_state.specs.Plain.{PlainState, Register}
-use Rattle.fab_points.specs.fab_drives.proofs.Lists.{all_found}
-use Rattle.fab_points.specs.fab_use.specs.Design.{IsBound}
-use Rattle.fab_points.specs.fab_use.specs.Registers.{bound_pad, design_state, register_of}
+use Rattle.fab_points.proofs.fab_drives_Lists.{all_found}
+use Rattle.fab_points.specs.fab_use_Design.{IsBound}
+use Rattle.fab_points.specs.fab_use_Registers.{bound_pad, design_state, register_of}
 
 -- a port of the design at its pad
 abbrev pub IsInputAt : PlainPacked → PlainImplementation → Pad → Type 0

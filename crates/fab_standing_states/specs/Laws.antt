@@ -7,7 +7,7 @@ use Rattle.fab_netlist.specs.Packed.{PlainPacked}
 use Rattle.fab_implementation.specs.Plain.{Pad, PlainImplementation}
 use Rattle.fab_legal.specs.Legal.{IsLegal}
 use Rattle.fab_fabric_text.specs.Texts.{IsFabricText}
-use Rattle.fab_points.specs.fab_use.specs.Registers.{design_state}
+use Rattle.fab_points.specs.fab_use_Registers.{design_state}
 use Rattle.fab_state_points.specs.Entries.{entries_of, HasEntry}
 use Rattle.fab_state_points.specs.Standing.{HasStream}
 

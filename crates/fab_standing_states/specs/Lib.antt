@@ -1,4 +1,2 @@
 pub mod Laws
-pub use Rattle.fab_points.specs.fab_use
-pub use Rattle.fab_points
-pub use Rattle.fab_state_points
+pub use Rattle.fab_points.specs.fab_use_Registers as fab_use_Registers

@@ -9,22 +9,22 @@ use Rattle.fab_syntax.specs.Declarations.{is_input_of}
 use Rattle.fab_meaning.specs.Points.{Path, Found, instance_in, module_at}
 use Rattle.fab_meaning.specs.Runs.{clock_name, user_clock_name, join_named, join_of, named_by, clock_of}
 use Rattle.fab_meaning.proofs.Clocks.{clock_at_top}
-use Rattle.fab_drives.specs.fab_model.specs.Tiles.{PlainTile}
-use Rattle.fab_drives.specs.fab_model.specs.Grid.{PlainFabric, tile_at}
-use Rattle.fab_drives.specs.fab_fabric.specs.Names.{place_name}
-use Rattle.fab_drives.specs.fab_fabric.specs.Fabric.{IsFabric}
-use Rattle.fab_drives.specs.fab_gen_tile.specs.MatrixModule.{matrix_module}
-use Rattle.fab_drives.specs.fab_gen_loader.specs.Loader.{NextValues, loader_of}
-use Rattle.fab_drives.specs.fab_fabric_text.specs.Top.{top_module}
+use Rattle.fab_drives.specs.fab_model_Tiles.{PlainTile}
+use Rattle.fab_drives.specs.fab_model_Grid.{PlainFabric, tile_at}
+use Rattle.fab_drives.specs.fab_fabric_Names.{place_name}
+use Rattle.fab_drives.specs.fab_fabric_Fabric.{IsFabric}
+use Rattle.fab_drives.specs.fab_gen_tile_MatrixModule.{matrix_module}
+use Rattle.fab_drives.specs.fab_gen_loader_Loader.{NextValues, loader_of}
+use Rattle.fab_drives.specs.fab_fabric_text_Top.{top_module}
 use Rattle.fab_drives.specs.Points.{place_path}
 use Rattle.fab_drives.proofs.Apart.{told_apart}
 use Rattle.fab_drives.proofs.Instances.{found_tile, tile_instance_found}
 use Rattle.fab_drives.proofs.Places.{placed_tile}
 use Rattle.fab_text_loads.specs.Points.{loader_path}
 use Rattle.fab_text_loads.proofs.Loader.{HasLoader, register_names}
-use Rattle.fab_drives.specs.fab_gen_tile.specs.ConfigModule.{config_module}
-use Rattle.fab_drives.specs.fab_gen_tile.specs.TileModule.{tile_module}
-use Rattle.fab_drives.specs.fab_prim.specs.Modules.{module_of_kind}
+use Rattle.fab_drives.specs.fab_gen_tile_ConfigModule.{config_module}
+use Rattle.fab_drives.specs.fab_gen_tile_TileModule.{tile_module}
+use Rattle.fab_drives.specs.fab_prim_Modules.{module_of_kind}
 use Rattle.fab_text_loads.proofs.Parts.{flop_is, NoInstance, NoLatch, NoFlop, ByUserClock, IsTopPart, top_is, IsRegister, loader_is, IsLatchOf, config_is, matrix_is, kind_is, KeepsClock, IsTilePart, tile_is, IsPart, the_top, the_loader, a_tile, a_config, a_matrix, a_bel}
 
 -- ---- UserCLK stays UserCLK on the way up

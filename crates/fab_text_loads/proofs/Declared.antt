@@ -11,8 +11,8 @@ use Rattle.fab_syntax.specs.Declarations.{item_shape, width_in, width_if_any, de
 use Rattle.fab_meaning.specs.Points.{Path, point, module_at}
 use Rattle.fab_meaning.specs.Reads.{is_declared}
 use Rattle.fab_meaning.proofs.Dependence.{same_name}
-use Rattle.fab_drives.specs.fab_model.specs.Tiles.{counted}
-use Rattle.fab_drives.specs.fab_tile_drives.proofs.Driven.{width_of}
+use Rattle.fab_drives.specs.fab_model_Tiles.{counted}
+use Rattle.fab_drives.proofs.fab_tile_drives_Driven.{width_of}
 
 abbrev pub NetHolds : (List ℕ → Type 0) → PlainItem → Type 0
 NetHolds P (wire shape name) = P name

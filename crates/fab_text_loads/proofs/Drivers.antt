@@ -3,7 +3,7 @@ use Rattle.std.proofs.Common.{◌≡◌, ℕ, true, false, List, ◌∷◌, refl
 use Rattle.fab_syntax.specs.Plain.{PlainExpr, variable, PlainJoin, assign, latch, instance, PlainModule}
 use Rattle.fab_syntax.specs.Declarations.{module_named, is_input, is_input_of}
 use Rattle.fab_meaning.specs.Points.{Path, point, bit_of, hold, copy, JoinDrives, Drives, module_at}
-use Rattle.fab_drives.specs.fab_gen_tile.specs.Names.{port_join}
+use Rattle.fab_drives.specs.fab_gen_tile_Names.{port_join}
 
 module _ (text : List PlainModule) (path : Path) (m : PlainModule) (stands : module_at text path ≡ Some m) where
   pub assigned_by : (name : List ℕ) (e : PlainExpr) (bit : ℕ) → Contains m.items (assign name e) → Drives text (point path name bit) (bit_of path e bit)

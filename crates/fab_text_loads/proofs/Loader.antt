@@ -17,20 +17,20 @@ use Rattle.fab_meaning.specs.Loading.{write_data_name, write_strobe_name}
 use Rattle.fab_meaning.proofs.Clocks.{clock_at_top, clock_below}
 use Rattle.fab_meaning.proofs.Dependence.{same_name}
 use Rattle.fab_meaning.proofs.Modules.{each_all}
-use Rattle.fab_drives.specs.fab_prim.specs.Modules.{module_of_kind}
-use Rattle.fab_drives.specs.fab_model.specs.Tiles.{PlainTile, counted}
-use Rattle.fab_drives.specs.fab_model.specs.Grid.{PlainFabric}
-use Rattle.fab_drives.specs.fab_fabric.specs.Names.{place_name}
-use Rattle.fab_drives.specs.fab_fabric.specs.Fabric.{IsFabric}
-use Rattle.fab_drives.specs.fab_gen_tile.specs.Names.{config_module_name, matrix_module_name, tile_module_name}
-use Rattle.fab_drives.specs.fab_gen_loader.specs.Loader.{NextValues, port, address_port, strobe_port, row_port, loader_ports, registers, processes, outputs, loader_of, state_name, count_name, strobe_register_name, TakesNext, StepsAsTheMachine, address_register_name, row_register_name, loader_module_name}
-use Rattle.fab_drives.specs.fab_fabric_text.specs.Names.{top_module_name, loader_instance_name}
-use Rattle.fab_drives.specs.fab_fabric_text.specs.Top.{loader_wires, loader_joins, loader_instance, top_items, top_module}
-use Rattle.fab_drives.specs.fab_fabric_text.specs.Text.{used_kinds, standing_types, tile_modules, fabric_text}
-use Rattle.fab_drives.specs.fab_tile_drives.proofs.Driven.{width_of}
-use Rattle.fab_drives.specs.fab_tile_drives.proofs.Endings.{all_counted, all_flat_map}
-use Rattle.fab_drives.specs.fab_tile_drives.proofs.Members.{contains_first, contains_counted}
-use Rattle.fab_drives.specs.fab_tile_drives.proofs.Widths.{passed_ports}
+use Rattle.fab_drives.specs.fab_prim_Modules.{module_of_kind}
+use Rattle.fab_drives.specs.fab_model_Tiles.{PlainTile, counted}
+use Rattle.fab_drives.specs.fab_model_Grid.{PlainFabric}
+use Rattle.fab_drives.specs.fab_fabric_Names.{place_name}
+use Rattle.fab_drives.specs.fab_fabric_Fabric.{IsFabric}
+use Rattle.fab_drives.specs.fab_gen_tile_Names.{config_module_name, matrix_module_name, tile_module_name}
+use Rattle.fab_drives.specs.fab_gen_loader_Loader.{NextValues, port, address_port, strobe_port, row_port, loader_ports, registers, processes, outputs, loader_of, state_name, count_name, strobe_register_name, TakesNext, StepsAsTheMachine, address_register_name, row_register_name, loader_module_name}
+use Rattle.fab_drives.specs.fab_fabric_text_Names.{top_module_name, loader_instance_name}
+use Rattle.fab_drives.specs.fab_fabric_text_Top.{loader_wires, loader_joins, loader_instance, top_items, top_module}
+use Rattle.fab_drives.specs.fab_fabric_text_Text.{used_kinds, standing_types, tile_modules, fabric_text}
+use Rattle.fab_drives.proofs.fab_tile_drives_Driven.{width_of}
+use Rattle.fab_drives.proofs.fab_tile_drives_Endings.{all_counted, all_flat_map}
+use Rattle.fab_drives.proofs.fab_tile_drives_Members.{contains_first, contains_counted}
+use Rattle.fab_drives.proofs.fab_tile_drives_Widths.{passed_ports}
 use Rattle.fab_drives.proofs.Apart.{told_apart}
 use Rattle.fab_drives.proofs.Lists.{all_of, only_one_found}
 use Rattle.fab_drives.proofs.Modules.{Only, all_of_tile, no_loader_kind, top_is_last}

@@ -12,24 +12,24 @@ use Rattle.fab_meaning.specs.Reads.{mentions, some_mentions, is_declared, expres
 use Rattle.fab_meaning.specs.Loading.{Within, by_reads, write_strobe_name, write_data_name}
 use Rattle.fab_meaning.proofs.Modules.{each_all}
 use Rattle.fab_meaning.specs.Ports.{config_name}
-use Rattle.fab_drives.specs.fab_model.specs.Tiles.{PlainTile, counted, tile_bits}
-use Rattle.fab_drives.specs.fab_model.specs.Grid.{PlainFabric, tile_at}
-use Rattle.fab_drives.specs.fab_fabric.specs.Names.{place_name}
-use Rattle.fab_drives.specs.fab_gen_tile.specs.Names.{tile_module_name, config_module_name, config_instance_name, frame_data_name, frame_strobe_name, bits_name, latch_name, vector, port_join}
-use Rattle.fab_drives.specs.fab_gen_tile.specs.ConfigModule.{bit_latch, all_latches, config_items, config_module}
-use Rattle.fab_drives.specs.fab_gen_tile.specs.TileModule.{config_joins, tile_module}
-use Rattle.fab_drives.specs.fab_gen_loader.specs.Loader.{NextValues, loader_of, loader_module_name, address_port, strobe_port, row_port}
-use Rattle.fab_drives.specs.fab_fabric_text.specs.Names.{loader_instance_name, column_strobe_name}
+use Rattle.fab_drives.specs.fab_model_Tiles.{PlainTile, counted, tile_bits}
+use Rattle.fab_drives.specs.fab_model_Grid.{PlainFabric, tile_at}
+use Rattle.fab_drives.specs.fab_fabric_Names.{place_name}
+use Rattle.fab_drives.specs.fab_gen_tile_Names.{tile_module_name, config_module_name, config_instance_name, frame_data_name, frame_strobe_name, bits_name, latch_name, vector, port_join}
+use Rattle.fab_drives.specs.fab_gen_tile_ConfigModule.{bit_latch, all_latches, config_items, config_module}
+use Rattle.fab_drives.specs.fab_gen_tile_TileModule.{config_joins, tile_module}
+use Rattle.fab_drives.specs.fab_gen_loader_Loader.{NextValues, loader_of, loader_module_name, address_port, strobe_port, row_port}
+use Rattle.fab_drives.specs.fab_fabric_text_Names.{loader_instance_name, column_strobe_name}
 use Rattle.fab_meaning.specs.Runs.{clock_name}
-use Rattle.fab_drives.specs.fab_fabric_text.specs.Top.{loader_wires, loader_joins, loader_instance, column_strobes, tile_joins, top_items, top_module}
+use Rattle.fab_drives.specs.fab_fabric_text_Top.{loader_wires, loader_joins, loader_instance, column_strobes, tile_joins, top_items, top_module}
 use Rattle.fab_parts_sound.proofs.Lists.{all_reverse}
-use Rattle.fab_drives.specs.fab_tile_drives.proofs.BitValues.{inside}
-use Rattle.fab_drives.specs.fab_tile_drives.proofs.Driven.{width_of, declared_at}
-use Rattle.fab_drives.specs.fab_tile_drives.proofs.Endings.{all_counted}
-use Rattle.fab_drives.specs.fab_tile_drives.proofs.Latches.{all_there}
-use Rattle.fab_drives.specs.fab_tile_drives.proofs.Members.{contains_later, contains_counted}
-use Rattle.fab_drives.specs.fab_tile_drives.proofs.TileItems.{config_found, config_there}
-use Rattle.fab_drives.specs.fab_tile_drives.proofs.TileNames.{bits_wide}
+use Rattle.fab_drives.proofs.fab_tile_drives_BitValues.{inside}
+use Rattle.fab_drives.proofs.fab_tile_drives_Driven.{width_of, declared_at}
+use Rattle.fab_drives.proofs.fab_tile_drives_Endings.{all_counted}
+use Rattle.fab_drives.proofs.fab_tile_drives_Latches.{all_there}
+use Rattle.fab_drives.proofs.fab_tile_drives_Members.{contains_later, contains_counted}
+use Rattle.fab_drives.proofs.fab_tile_drives_TileItems.{config_found, config_there}
+use Rattle.fab_drives.proofs.fab_tile_drives_TileNames.{bits_wide}
 use Rattle.fab_drives.specs.Points.{place_path}
 use Rattle.fab_drives.proofs.Instances.{tile_instance_there}
 use Rattle.fab_drives.proofs.Places.{in_grid, placed_tile}

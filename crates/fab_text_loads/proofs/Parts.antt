@@ -15,23 +15,23 @@ use Rattle.fab_meaning.specs.Points.{Path, Found, instance_named, instance_in, m
 use Rattle.fab_meaning.specs.Runs.{clock_name, user_clock_name}
 use Rattle.fab_meaning.proofs.Modules.{each_all}
 use Rattle.fab_meaning.specs.Ports.{config_name}
-use Rattle.fab_drives.specs.fab_prim.specs.Ports.{clock_names, top_inputs, top_outputs}
-use Rattle.fab_drives.specs.fab_prim.specs.Modules.{module_name, module_items, module_of_kind}
-use Rattle.fab_drives.specs.fab_model.specs.declared.tiles.Bel.{Bel}
-use Rattle.fab_drives.specs.fab_model.specs.Tiles.{PlainTile, counted, matrix_names, tile_bits}
-use Rattle.fab_drives.specs.fab_model.specs.Grid.{PlainFabric, tile_at}
-use Rattle.fab_drives.specs.fab_fabric.specs.Names.{place_name}
-use Rattle.fab_drives.specs.fab_gen_tile.specs.Names.{config_module_name, matrix_module_name, tile_module_name, config_instance_name, bits_name, latch_name, pad_name, port_join, same_join}
-use Rattle.fab_drives.specs.fab_gen_tile.specs.ConfigModule.{bit_latch, all_latches, config_items, config_module}
-use Rattle.fab_drives.specs.fab_gen_tile.specs.MatrixModule.{matrix_module, numbered_outputs}
-use Rattle.fab_drives.specs.fab_gen_tile.specs.TileModule.{bits_join, matrix_output_names, pin_join, pad_join, bel_joins, tile_items, tile_module}
-use Rattle.fab_drives.specs.fab_gen_loader.specs.Loader.{NextValues, address_port, strobe_port, registers, processes, outputs, loader_of, state_name, count_name, strobe_register_name, row_port, address_register_name, row_register_name, loader_module_name}
-use Rattle.fab_drives.specs.fab_fabric_text.specs.Names.{loader_instance_name}
-use Rattle.fab_drives.specs.fab_fabric_text.specs.Places.{PlacedTile}
-use Rattle.fab_drives.specs.fab_fabric_text.specs.Top.{top_items, top_module}
+use Rattle.fab_drives.specs.fab_prim_Ports.{clock_names, top_inputs, top_outputs}
+use Rattle.fab_drives.specs.fab_prim_Modules.{module_name, module_items, module_of_kind}
+use Rattle.fab_drives.specs.fab_model_tiles_Bel.{Bel}
+use Rattle.fab_drives.specs.fab_model_Tiles.{PlainTile, counted, matrix_names, tile_bits}
+use Rattle.fab_drives.specs.fab_model_Grid.{PlainFabric, tile_at}
+use Rattle.fab_drives.specs.fab_fabric_Names.{place_name}
+use Rattle.fab_drives.specs.fab_gen_tile_Names.{config_module_name, matrix_module_name, tile_module_name, config_instance_name, bits_name, latch_name, pad_name, port_join, same_join}
+use Rattle.fab_drives.specs.fab_gen_tile_ConfigModule.{bit_latch, all_latches, config_items, config_module}
+use Rattle.fab_drives.specs.fab_gen_tile_MatrixModule.{matrix_module, numbered_outputs}
+use Rattle.fab_drives.specs.fab_gen_tile_TileModule.{bits_join, matrix_output_names, pin_join, pad_join, bel_joins, tile_items, tile_module}
+use Rattle.fab_drives.specs.fab_gen_loader_Loader.{NextValues, address_port, strobe_port, registers, processes, outputs, loader_of, state_name, count_name, strobe_register_name, row_port, address_register_name, row_register_name, loader_module_name}
+use Rattle.fab_drives.specs.fab_fabric_text_Names.{loader_instance_name}
+use Rattle.fab_drives.specs.fab_fabric_text_Places.{PlacedTile}
+use Rattle.fab_drives.specs.fab_fabric_text_Top.{top_items, top_module}
 use Rattle.fab_parts_sound.proofs.Apart.{differs_from}
 use Rattle.fab_parts_sound.proofs.Names.{Differ}
-use Rattle.fab_drives.specs.fab_tile_drives.proofs.Endings.{all_counted}
+use Rattle.fab_drives.proofs.fab_tile_drives_Endings.{all_counted}
 use Rattle.fab_drives.specs.Points.{place_path}
 use Rattle.fab_drives.proofs.Apart.{told_apart}
 use Rattle.fab_drives.proofs.Instances.{all_of_top}

@@ -10,18 +10,18 @@ use Rattle.fab_meaning.specs.Points.{point, hold}
 use Rattle.fab_meaning.specs.Settled.{Assignment, IsSettledOn}
 use Rattle.fab_meaning.specs.Runs.{clock_name, Ticks, Moment, IsRunOn}
 use Rattle.fab_meaning.specs.Loading.{IsLoading}
-use Rattle.fab_drives.specs.fab_model.specs.Tables.{HasTable}
-use Rattle.fab_drives.specs.fab_model.specs.Tiles.{PlainTile, tile_bits}
-use Rattle.fab_drives.specs.fab_model.specs.Grid.{PlainFabric, tile_at}
-use Rattle.fab_drives.specs.fab_model.specs.Drive.{PlainBits}
-use Rattle.fab_drives.specs.fab_fabric.specs.Fabric.{IsFabric}
-use Rattle.fab_loading.specs.fab_frames.specs.Stream.{stream, placed_bit, bit_placed_at}
-use Rattle.fab_loading.specs.fab_frames.proofs.Placed.{placed_at}
-use Rattle.fab_drives.specs.fab_gen_tile.specs.Names.{frame_data_name, frame_strobe_name, latch_name}
-use Rattle.fab_drives.specs.fab_gen_tile.specs.ConfigModule.{config_module}
-use Rattle.fab_drives.specs.fab_gen_loader.specs.Loader.{NextValues, loader_of, state_name, machine_at}
-use Rattle.fab_drives.specs.fab_tile_drives.proofs.Driven.{declared_at}
-use Rattle.fab_drives.specs.fab_tile_drives.proofs.Latches.{latch_width}
+use Rattle.fab_drives.specs.fab_model_Tables.{HasTable}
+use Rattle.fab_drives.specs.fab_model_Tiles.{PlainTile, tile_bits}
+use Rattle.fab_drives.specs.fab_model_Grid.{PlainFabric, tile_at}
+use Rattle.fab_drives.specs.fab_model_Drive.{PlainBits}
+use Rattle.fab_drives.specs.fab_fabric_Fabric.{IsFabric}
+use Rattle.fab_loading.specs.fab_frames_Stream.{stream, placed_bit, bit_placed_at}
+use Rattle.fab_loading.proofs.fab_frames_Placed.{placed_at}
+use Rattle.fab_drives.specs.fab_gen_tile_Names.{frame_data_name, frame_strobe_name, latch_name}
+use Rattle.fab_drives.specs.fab_gen_tile_ConfigModule.{config_module}
+use Rattle.fab_drives.specs.fab_gen_loader_Loader.{NextValues, loader_of, state_name, machine_at}
+use Rattle.fab_drives.proofs.fab_tile_drives_Driven.{declared_at}
+use Rattle.fab_drives.proofs.fab_tile_drives_Latches.{latch_width}
 use Rattle.fab_drives.specs.Points.{ShowsBits}
 use Rattle.fab_drives.proofs.Lists.{all_of}
 use Rattle.fab_drives.proofs.Modules.{tile_of_types}

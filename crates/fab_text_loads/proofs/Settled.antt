@@ -11,24 +11,24 @@ use Rattle.fab_meaning.specs.Settled.{Assignment, names_at, IsSettledOn}
 use Rattle.fab_meaning.specs.Runs.{clock_name}
 use Rattle.fab_meaning.specs.Loading.{IsLoading, write_strobe_name, write_data_name}
 use Rattle.fab_meaning.proofs.Declared.{bits_of_name}
-use Rattle.fab_drives.specs.fab_model.specs.Tiles.{PlainTile, counted, tile_bits}
-use Rattle.fab_drives.specs.fab_model.specs.Grid.{PlainFabric, tile_at}
-use Rattle.fab_drives.specs.fab_fabric.specs.Names.{place_name}
-use Rattle.fab_drives.specs.fab_fabric.specs.Fabric.{IsFabric}
-use Rattle.fab_drives.specs.fab_gen_tile.specs.Names.{tile_module_name, config_module_name, config_instance_name, frame_data_name, frame_strobe_name, latch_name, port_join}
-use Rattle.fab_drives.specs.fab_gen_tile.specs.ConfigModule.{config_module}
-use Rattle.fab_drives.specs.fab_gen_tile.specs.TileModule.{config_joins, tile_module}
-use Rattle.fab_drives.specs.fab_gen_loader.specs.Machine.{Machine}
-use Rattle.fab_drives.specs.fab_gen_loader.specs.Loader.{NextValues, outputs, loader_of, machine_at, bits_at, strobe_register_name, address_register_name as address_register, row_register_name, loader_module_name, address_port, strobe_port, row_port}
-use Rattle.fab_drives.specs.fab_gen_loader.proofs.Counted.{get_counted}
-use Rattle.fab_drives.specs.fab_gen_loader.proofs.Widths.{address_width as address_register_width, row_width as row_register_width}
-use Rattle.fab_drives.specs.fab_fabric_text.specs.Names.{loader_instance_name, column_strobe_name}
-use Rattle.fab_drives.specs.fab_fabric_text.specs.Top.{loader_joins, tile_joins, top_module}
-use Rattle.fab_drives.specs.fab_tile_drives.specs.Stands.{IsSettledOnDeclared}
-use Rattle.fab_drives.specs.fab_tile_drives.proofs.Driven.{width_of, declared_at, variable_bit, part_bit, assigned, joined_in, joined_out}
-use Rattle.fab_drives.specs.fab_tile_drives.proofs.Latches.{latch_width}
-use Rattle.fab_drives.specs.fab_tile_drives.proofs.Members.{contains_counted}
-use Rattle.fab_drives.specs.fab_tile_drives.proofs.TileItems.{config_there}
+use Rattle.fab_drives.specs.fab_model_Tiles.{PlainTile, counted, tile_bits}
+use Rattle.fab_drives.specs.fab_model_Grid.{PlainFabric, tile_at}
+use Rattle.fab_drives.specs.fab_fabric_Names.{place_name}
+use Rattle.fab_drives.specs.fab_fabric_Fabric.{IsFabric}
+use Rattle.fab_drives.specs.fab_gen_tile_Names.{tile_module_name, config_module_name, config_instance_name, frame_data_name, frame_strobe_name, latch_name, port_join}
+use Rattle.fab_drives.specs.fab_gen_tile_ConfigModule.{config_module}
+use Rattle.fab_drives.specs.fab_gen_tile_TileModule.{config_joins, tile_module}
+use Rattle.fab_drives.specs.fab_gen_loader_Machine.{Machine}
+use Rattle.fab_drives.specs.fab_gen_loader_Loader.{NextValues, outputs, loader_of, machine_at, bits_at, strobe_register_name, address_register_name as address_register, row_register_name, loader_module_name, address_port, strobe_port, row_port}
+use Rattle.fab_drives.proofs.fab_gen_loader_Counted.{get_counted}
+use Rattle.fab_drives.proofs.fab_gen_loader_Widths.{address_width as address_register_width, row_width as row_register_width}
+use Rattle.fab_drives.specs.fab_fabric_text_Names.{loader_instance_name, column_strobe_name}
+use Rattle.fab_drives.specs.fab_fabric_text_Top.{loader_joins, tile_joins, top_module}
+use Rattle.fab_drives.specs.fab_tile_drives_Stands.{IsSettledOnDeclared}
+use Rattle.fab_drives.proofs.fab_tile_drives_Driven.{width_of, declared_at, variable_bit, part_bit, assigned, joined_in, joined_out}
+use Rattle.fab_drives.proofs.fab_tile_drives_Latches.{latch_width}
+use Rattle.fab_drives.proofs.fab_tile_drives_Members.{contains_counted}
+use Rattle.fab_drives.proofs.fab_tile_drives_TileItems.{config_there}
 use Rattle.fab_drives.specs.Points.{place_path}
 use Rattle.fab_drives.proofs.Instances.{tile_instance_there}
 use Rattle.fab_drives.proofs.Places.{in_grid, placed_tile}

@@ -12,15 +12,15 @@ use Rattle.fab_meaning.specs.Reads.{is_declared}
 use Rattle.fab_meaning.specs.Settled.{Assignment, names_at, IsSettledOn}
 use Rattle.fab_meaning.specs.Runs.{clock_name, clock_of, is_clock, Ticks, Moment, IsRunOn}
 use Rattle.fab_meaning.specs.Loading.{IsDerived, Within, by_flop, by_stream, by_reads, IsClosed, IsLoading}
-use Rattle.fab_drives.specs.fab_model.specs.Grid.{PlainFabric}
-use Rattle.fab_drives.specs.fab_model.specs.Drive.{PlainBits}
-use Rattle.fab_drives.specs.fab_fabric.specs.Fabric.{IsFabric}
-use Rattle.fab_drives.specs.fab_gen_tile.specs.Names.{latch_name}
-use Rattle.fab_drives.specs.fab_gen_tile.specs.ConfigModule.{config_module}
-use Rattle.fab_drives.specs.fab_gen_loader.specs.Loader.{NextValues, loader_of, state_name, strobe_register_name, machine_at}
-use Rattle.fab_drives.specs.fab_gen_loader.proofs.Widths.{state_width}
-use Rattle.fab_drives.specs.fab_tile_drives.proofs.Driven.{declared_at}
-use Rattle.fab_drives.specs.fab_tile_drives.proofs.Latches.{latch_width}
+use Rattle.fab_drives.specs.fab_model_Grid.{PlainFabric}
+use Rattle.fab_drives.specs.fab_model_Drive.{PlainBits}
+use Rattle.fab_drives.specs.fab_fabric_Fabric.{IsFabric}
+use Rattle.fab_drives.specs.fab_gen_tile_Names.{latch_name}
+use Rattle.fab_drives.specs.fab_gen_tile_ConfigModule.{config_module}
+use Rattle.fab_drives.specs.fab_gen_loader_Loader.{NextValues, loader_of, state_name, strobe_register_name, machine_at}
+use Rattle.fab_drives.proofs.fab_gen_loader_Widths.{state_width}
+use Rattle.fab_drives.proofs.fab_tile_drives_Driven.{declared_at}
+use Rattle.fab_drives.proofs.fab_tile_drives_Latches.{latch_width}
 use Rattle.fab_loading.specs.Latches.{latch_shows}
 use Rattle.fab_loading.specs.Streams.{TicksKeepMachines}
 use Rattle.fab_text_loads.specs.Points.{loader_path, config_path, in_loader}

@@ -5,8 +5,8 @@ use Rattle.fab_bits.proofs.Numbers.{same_bits_digits, length_first_bits, range_f
 use Rattle.fab_syntax.specs.declared.tree.Op.TheVariants.{And}
 use Rattle.fab_syntax.specs.Plain.{PlainExpr, variable, part, constant, operation, conditional}
 use Rattle.fab_meaning.specs.Value.{value, bit_at}
-use Rattle.fab_drives.specs.fab_gen_loader.specs.Loader.{address_port, strobe_port}
-use Rattle.fab_drives.specs.fab_fabric_text.specs.Top.{names_column}
+use Rattle.fab_drives.specs.fab_gen_loader_Loader.{address_port, strobe_port}
+use Rattle.fab_drives.specs.fab_fabric_text_Top.{names_column}
 
 abbrev pub strobe_expression : (x : ℕ) → PlainExpr
 strobe_expression x = conditional (operation And (variable strobe_port) (names_column x)) (part address_port 19 0) (constant (digits 20 0))

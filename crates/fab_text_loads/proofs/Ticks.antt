@@ -6,22 +6,22 @@ use Rattle.std.proofs.lemmas.List.Elements.{All-contains}
 use Rattle.std.proofs.lemmas.Slice.Eq.{bytes_eq-Decides}
 use Rattle.fab_bits.specs.Bits.{number, digits, first_bits}
 use Rattle.fab_bits.proofs.Numbers.{length_first_bits, first_bits_same, get_first_bits}
-use Rattle.fab_loading.specs.fab_frames.proofs.Numbers.{digits_number, number_digits, number_below}
+use Rattle.fab_loading.proofs.fab_frames_Numbers.{digits_number, number_digits, number_below}
 use Rattle.fab_syntax.specs.Plain.{PlainModule}
 use Rattle.fab_meaning.specs.Value.{value, bit_at}
 use Rattle.fab_meaning.specs.Points.{point, flop}
 use Rattle.fab_meaning.specs.Settled.{Assignment, names_at, IsSettledOn}
 use Rattle.fab_meaning.specs.Runs.{clock_name, is_clock, Ticks}
 use Rattle.fab_meaning.specs.Loading.{IsLoading, write_data_name, write_strobe_name}
-use Rattle.fab_drives.specs.fab_model.specs.Tiles.{counted}
-use Rattle.fab_drives.specs.fab_model.specs.Grid.{PlainFabric}
-use Rattle.fab_drives.specs.fab_fabric.specs.Fabric.{IsFabric}
-use Rattle.fab_drives.specs.fab_gen_loader.specs.Machine.{Machine, Word, tick}
-use Rattle.fab_drives.specs.fab_gen_loader.specs.Loader.{NextValues, loader_of, state_name, count_name, strobe_register_name, bits_at, machine_at, machine_next, RegisterTakes, TakesNext, address_register_name, row_register_name}
-use Rattle.fab_drives.specs.fab_gen_loader.proofs.Counted.{length-counted, get_counted}
-use Rattle.fab_drives.specs.fab_gen_loader.proofs.Widths.{state_width, count_width, address_width, row_width}
-use Rattle.fab_drives.specs.fab_tile_drives.proofs.Driven.{width_of, declared_at}
-use Rattle.fab_drives.specs.fab_tile_drives.proofs.Endings.{all_counted}
+use Rattle.fab_drives.specs.fab_model_Tiles.{counted}
+use Rattle.fab_drives.specs.fab_model_Grid.{PlainFabric}
+use Rattle.fab_drives.specs.fab_fabric_Fabric.{IsFabric}
+use Rattle.fab_drives.specs.fab_gen_loader_Machine.{Machine, Word, tick}
+use Rattle.fab_drives.specs.fab_gen_loader_Loader.{NextValues, loader_of, state_name, count_name, strobe_register_name, bits_at, machine_at, machine_next, RegisterTakes, TakesNext, address_register_name, row_register_name}
+use Rattle.fab_drives.proofs.fab_gen_loader_Counted.{length-counted, get_counted}
+use Rattle.fab_drives.proofs.fab_gen_loader_Widths.{state_width, count_width, address_width, row_width}
+use Rattle.fab_drives.proofs.fab_tile_drives_Driven.{width_of, declared_at}
+use Rattle.fab_drives.proofs.fab_tile_drives_Endings.{all_counted}
 use Rattle.fab_loading.specs.Latches.{IsWord, IsMachine}
 use Rattle.fab_loading.specs.Streams.{TicksKeepMachines}
 use Rattle.fab_text_loads.specs.Points.{loader_path, in_loader}

@@ -15,17 +15,17 @@ use Rattle.fab_meaning.specs.Runs.{user_clock_name}
 use Rattle.fab_meaning.proofs.Declared.{bytes_apart}
 use Rattle.fab_meaning.proofs.Modules.{each_all}
 use Rattle.fab_meaning.specs.Ports.{scalar}
-use Rattle.fab_drives.specs.fab_prim.specs.Ports.{top_inputs, top_outputs}
-use Rattle.fab_drives.specs.fab_model.specs.declared.tiles.WireRow.{WireRow}
-use Rattle.fab_drives.specs.fab_model.specs.declared.tiles.Bel.{Bel}
-use Rattle.fab_drives.specs.fab_model.specs.Rows.{is_jump, dest_bits}
-use Rattle.fab_drives.specs.fab_model.specs.Tiles.{PlainTile, counted, matrix_names, tile_bits, bits_before}
-use Rattle.fab_drives.specs.fab_gen_tile.specs.Names.{config_module_name, matrix_module_name, config_instance_name, matrix_instance_name, bel_instance_name, frame_data_name, frame_strobe_name, bits_name, begin_name, end_name, pad_name}
-use Rattle.fab_drives.specs.fab_gen_tile.specs.Borders.{border, side_border, border_ports, passing_assign, beginning_assign, begin_assigns, dest_assign, row_assigns}
-use Rattle.fab_drives.specs.fab_gen_tile.specs.ConfigModule.{frame_ports}
-use Rattle.fab_drives.specs.fab_gen_tile.specs.TileModule.{pad_ports, bels_ports, tile_ports, bits_wire, config_joins, config_instances, matrix_joins, matrix_output_names, matrix_instances, bel_instance, bel_instances, tile_items, tile_module}
-use Rattle.fab_drives.specs.fab_tile_drives.proofs.Endings.{EndsLow, low_apart, low_names, all_counted, all_flat_map}
-use Rattle.fab_drives.specs.fab_tile_drives.proofs.TileNames.{tile_width}
+use Rattle.fab_drives.specs.fab_prim_Ports.{top_inputs, top_outputs}
+use Rattle.fab_drives.specs.fab_model_tiles_WireRow.{WireRow}
+use Rattle.fab_drives.specs.fab_model_tiles_Bel.{Bel}
+use Rattle.fab_drives.specs.fab_model_Rows.{is_jump, dest_bits}
+use Rattle.fab_drives.specs.fab_model_Tiles.{PlainTile, counted, matrix_names, tile_bits, bits_before}
+use Rattle.fab_drives.specs.fab_gen_tile_Names.{config_module_name, matrix_module_name, config_instance_name, matrix_instance_name, bel_instance_name, frame_data_name, frame_strobe_name, bits_name, begin_name, end_name, pad_name}
+use Rattle.fab_drives.specs.fab_gen_tile_Borders.{border, side_border, border_ports, passing_assign, beginning_assign, begin_assigns, dest_assign, row_assigns}
+use Rattle.fab_drives.specs.fab_gen_tile_ConfigModule.{frame_ports}
+use Rattle.fab_drives.specs.fab_gen_tile_TileModule.{pad_ports, bels_ports, tile_ports, bits_wire, config_joins, config_instances, matrix_joins, matrix_output_names, matrix_instances, bel_instance, bel_instances, tile_items, tile_module}
+use Rattle.fab_drives.proofs.fab_tile_drives_Endings.{EndsLow, low_apart, low_names, all_counted, all_flat_map}
+use Rattle.fab_drives.proofs.fab_tile_drives_TileNames.{tile_width}
 use Rattle.fab_drives.proofs.Apart.{told_apart}
 use Rattle.fab_drives.proofs.Lists.{all_of, all_if, all_numbered}
 use Rattle.fab_text_loads.proofs.Declared.{NetHolds, declared_holds}

@@ -6,14 +6,14 @@ use Rattle.fab_syntax.specs.Declarations.{is_input_of}
 use Rattle.fab_syntax.specs.Sound.{IsSound}
 use Rattle.fab_meaning.specs.Runs.{clock_name, user_clock_name, Moment}
 use Rattle.fab_meaning.specs.Loading.{AreAlike, IsIdle, LoadingRunsAgree, LoadingPointsStay}
-use Rattle.fab_drives.specs.fab_model.specs.Grid.{PlainFabric}
-use Rattle.fab_drives.specs.fab_fabric.specs.Fabric.{IsFabric}
-use Rattle.fab_drives.specs.fab_gen_loader.specs.Loader.{NextValues, loader_of, StepsAsTheMachine}
-use Rattle.fab_drives.specs.fab_fabric_text.specs.Text.{fabric_text}
+use Rattle.fab_drives.specs.fab_model_Grid.{PlainFabric}
+use Rattle.fab_drives.specs.fab_fabric_Fabric.{IsFabric}
+use Rattle.fab_drives.specs.fab_gen_loader_Loader.{NextValues, loader_of, StepsAsTheMachine}
+use Rattle.fab_drives.specs.fab_fabric_text_Text.{fabric_text}
 use Rattle.fab_loading.specs.Streams.{stream_words, StreamsLoad, TicksKeepMachines}
 use Rattle.fab_load_runs.specs.Runs.{HasClocks, RunsExist}
 use Rattle.fab_text_loads.specs.Loads.{RunsOnce, LoadsConfigurations}
-use Rattle.fab_drives.specs.fab_fabric_text.specs.Texts.{IsFabricText}
+use Rattle.fab_drives.specs.fab_fabric_text_Texts.{IsFabricText}
 use Rattle.fab_text_loads.proofs.Loader.{HasLoader, text_has_loader}
 use Rattle.fab_text_loads.proofs.Named.{named_are_loading}
 use Rattle.fab_text_loads.proofs.Runs.{writing_configures, configured_shows}

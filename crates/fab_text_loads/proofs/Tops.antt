@@ -8,19 +8,19 @@ use Rattle.fab_syntax.specs.Plain.{PlainItem, wire}
 use Rattle.fab_syntax.specs.Declarations.{width_if_any, item_shape}
 use Rattle.fab_meaning.specs.Runs.{user_clock_name, clock_name}
 use Rattle.fab_meaning.specs.Ports.{scalar}
-use Rattle.fab_drives.specs.fab_prim.specs.Ports.{top_inputs, top_outputs}
-use Rattle.fab_drives.specs.fab_model.specs.declared.tiles.Bel.{Bel}
-use Rattle.fab_drives.specs.fab_model.specs.Tiles.{counted}
-use Rattle.fab_drives.specs.fab_model.specs.Grid.{PlainFabric}
-use Rattle.fab_drives.specs.fab_gen_tile.specs.Names.{vector}
+use Rattle.fab_drives.specs.fab_prim_Ports.{top_inputs, top_outputs}
+use Rattle.fab_drives.specs.fab_model_tiles_Bel.{Bel}
+use Rattle.fab_drives.specs.fab_model_Tiles.{counted}
+use Rattle.fab_drives.specs.fab_model_Grid.{PlainFabric}
+use Rattle.fab_drives.specs.fab_gen_tile_Names.{vector}
 use Rattle.fab_meaning.specs.Loading.{write_strobe_name, write_data_name}
-use Rattle.fab_drives.specs.fab_fabric_text.specs.Names.{column_strobe_name, pad_port_name}
-use Rattle.fab_drives.specs.fab_gen_loader.specs.Loader.{address_port, strobe_port, row_port}
-use Rattle.fab_drives.specs.fab_fabric_text.specs.Places.{PlacedTile, placed_tiles}
-use Rattle.fab_drives.specs.fab_fabric_text.specs.Top.{pad_ports, tile_pads, top_ports, loader_instance, column_strobes, tile_begin_wires, tile_instance, top_items, top_module}
-use Rattle.fab_drives.specs.fab_tile_drives.proofs.Driven.{width_of}
-use Rattle.fab_drives.specs.fab_tile_drives.proofs.Endings.{all_flat_map}
-use Rattle.fab_drives.specs.fab_tile_drives.proofs.Widths.{passed_ports}
+use Rattle.fab_drives.specs.fab_fabric_text_Names.{column_strobe_name, pad_port_name}
+use Rattle.fab_drives.specs.fab_gen_loader_Loader.{address_port, strobe_port, row_port}
+use Rattle.fab_drives.specs.fab_fabric_text_Places.{PlacedTile, placed_tiles}
+use Rattle.fab_drives.specs.fab_fabric_text_Top.{pad_ports, tile_pads, top_ports, loader_instance, column_strobes, tile_begin_wires, tile_instance, top_items, top_module}
+use Rattle.fab_drives.proofs.fab_tile_drives_Driven.{width_of}
+use Rattle.fab_drives.proofs.fab_tile_drives_Endings.{all_flat_map}
+use Rattle.fab_drives.proofs.fab_tile_drives_Widths.{passed_ports}
 use Rattle.fab_drives.proofs.Lists.{all_of}
 use Rattle.fab_drives.proofs.Apart.{told_apart}
 use Rattle.fab_text_loads.proofs.Declared.{wire_found, wires_passed}

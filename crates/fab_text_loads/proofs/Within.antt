@@ -17,12 +17,12 @@ use Rattle.fab_meaning.specs.Runs.{clock_name}
 use Rattle.fab_meaning.specs.Loading.{Within, by_flop, by_stream, by_reads, IsClosed, IsLoading, write_data_name, write_strobe_name}
 use Rattle.fab_meaning.proofs.Dependence.{same_name, same_path_refl, same_point_is}
 use Rattle.fab_meaning.proofs.Modules.{each_all}
-use Rattle.fab_drives.specs.fab_model.specs.Tiles.{counted}
-use Rattle.fab_drives.specs.fab_model.specs.Grid.{PlainFabric}
-use Rattle.fab_drives.specs.fab_gen_loader.specs.Loader.{NextValues, port, address_port, strobe_port, row_port, registers, processes, outputs, loader_of, state_name, count_name, strobe_register_name, address_register_name, row_register_name, loader_module_name}
-use Rattle.fab_drives.specs.fab_fabric_text.specs.Names.{loader_instance_name}
-use Rattle.fab_drives.specs.fab_fabric_text.specs.Top.{loader_joins, top_module}
-use Rattle.fab_drives.specs.fab_tile_drives.proofs.Endings.{all_counted}
+use Rattle.fab_drives.specs.fab_model_Tiles.{counted}
+use Rattle.fab_drives.specs.fab_model_Grid.{PlainFabric}
+use Rattle.fab_drives.specs.fab_gen_loader_Loader.{NextValues, port, address_port, strobe_port, row_port, registers, processes, outputs, loader_of, state_name, count_name, strobe_register_name, address_register_name, row_register_name, loader_module_name}
+use Rattle.fab_drives.specs.fab_fabric_text_Names.{loader_instance_name}
+use Rattle.fab_drives.specs.fab_fabric_text_Top.{loader_joins, top_module}
+use Rattle.fab_drives.proofs.fab_tile_drives_Endings.{all_counted}
 use Rattle.fab_drives.proofs.Modules.{any_there}
 use Rattle.fab_text_loads.specs.Points.{loader_path}
 use Rattle.fab_text_loads.proofs.Drivers.{assigned_by, joined_to}

@@ -8,9 +8,9 @@ use Rattle.fab_meaning.specs.Settled.{Assignment, IsSettledOn}
 use Rattle.fab_meaning.specs.Reads.{is_declared}
 use Rattle.fab_meaning.specs.Runs.{clock_name, Moment, IsRunOn}
 use Rattle.fab_meaning.specs.Loading.{IsLoading, IsSameStream, IsIdle, write_strobe_name, write_data_name}
-use Rattle.fab_drives.specs.fab_model.specs.Grid.{PlainFabric}
-use Rattle.fab_drives.specs.fab_model.specs.Drive.{PlainBits}
-use Rattle.fab_drives.specs.fab_gen_loader.specs.Loader.{state_name, strobe_register_name}
+use Rattle.fab_drives.specs.fab_model_Grid.{PlainFabric}
+use Rattle.fab_drives.specs.fab_model_Drive.{PlainBits}
+use Rattle.fab_drives.specs.fab_gen_loader_Loader.{state_name, strobe_register_name}
 use Rattle.fab_drives.specs.Points.{ShowsBits}
 use Rattle.fab_loading.specs.Latches.{Turn, word, pause, other_clock, words_of}
 use Rattle.fab_loading.specs.Streams.{stream_words}

@@ -1,13 +1,13 @@
 -- The loading points of a fabric's text by their names.
 use Rattle.std.specs.Prelude.{◌≡◌, ℕ, List, [], ◌∷◌, ◌++◌, Contains, Some}
 use Rattle.fab_meaning.specs.Points.{Path, Point}
-use Rattle.fab_drives.specs.fab_model.specs.Tiles.{PlainTile, counted}
-use Rattle.fab_drives.specs.fab_model.specs.Grid.{PlainFabric, tile_at}
-use Rattle.fab_drives.specs.fab_gen_tile.specs.Names.{config_instance_name, frame_data_name, frame_strobe_name, bits_name}
+use Rattle.fab_drives.specs.fab_model_Tiles.{PlainTile, counted}
+use Rattle.fab_drives.specs.fab_model_Grid.{PlainFabric, tile_at}
+use Rattle.fab_drives.specs.fab_gen_tile_Names.{config_instance_name, frame_data_name, frame_strobe_name, bits_name}
 use Rattle.fab_meaning.specs.Loading.{write_strobe_name, write_data_name}
-use Rattle.fab_drives.specs.fab_fabric_text.specs.Names.{loader_instance_name, column_strobe_name}
+use Rattle.fab_drives.specs.fab_fabric_text_Names.{loader_instance_name, column_strobe_name}
 use Rattle.fab_meaning.specs.Runs.{clock_name}
-use Rattle.fab_drives.specs.fab_gen_loader.specs.Loader.{address_port, strobe_port, row_port}
+use Rattle.fab_drives.specs.fab_gen_loader_Loader.{address_port, strobe_port, row_port}
 use Rattle.fab_drives.specs.Points.{place_path}
 
 abbrev pub loader_path : Path

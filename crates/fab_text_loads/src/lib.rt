@@ -3,10 +3,10 @@
 
 ghost use Rattle.std.specs.Prelude.{List};
 ghost use Rattle.fab_syntax.specs.Plain.{PlainModule};
-ghost use Rattle.fab_drives.specs.fab_model.specs.Grid.{PlainFabric};
-ghost use Rattle.fab_drives.specs.fab_fabric.specs.Fabric.{IsFabric};
+ghost use Rattle.fab_drives.specs.fab_model_Grid.{PlainFabric};
+ghost use Rattle.fab_drives.specs.fab_fabric_Fabric.{IsFabric};
 ghost use Rattle.fab_text_loads.specs.Loads.{LoadsConfigurations};
-ghost use Rattle.fab_drives.specs.fab_fabric_text.specs.Texts.{IsFabricText};
+ghost use Rattle.fab_drives.specs.fab_fabric_text_Texts.{IsFabricText};
 
 use fab_load_runs::loading_runs_exist;
 use fab_loading::{streams_load, ticks_keep_machines};

@@ -13,8 +13,8 @@ use Rattle.fab_fabric.specs.Fabric.{AreTiles, IsFabric}
 use Rattle.fab_gen_tile.specs.ConfigModule.{config_module}
 use Rattle.fab_gen_tile.specs.MatrixModule.{matrix_module}
 use Rattle.fab_gen_tile.specs.TileModule.{matrix_output_names, tile_module}
-use Rattle.fab_drives.specs.fab_fabric_text.specs.Text.{config_modules, fabric_text, matrix_modules, standing_types, tile_modules, used_kinds}
-use Rattle.fab_drives.specs.fab_fabric_text.specs.Top.{top_module}
+use Rattle.fab_drives.specs.fab_fabric_text_Text.{config_modules, fabric_text, matrix_modules, standing_types, tile_modules, used_kinds}
+use Rattle.fab_drives.specs.fab_fabric_text_Top.{top_module}
 use Rattle.fab_tile_drives.proofs.Endings.{all_flat_map}
 use Rattle.fab_drives.proofs.Modules.{all_standing}
 use Rattle.fab_tokens.specs.Tokens.{keyword_of}

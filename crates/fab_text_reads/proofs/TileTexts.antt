@@ -24,10 +24,10 @@ use Rattle.fab_gen_tile.specs.ConfigModule.{all_latches, bit_latch, config_modul
 use Rattle.fab_gen_tile.specs.MatrixModule.{matrix_module, named_pairs, numbered_outputs}
 use Rattle.fab_gen_loader.proofs.Counted.{length-counted}
 use Rattle.fab_tile_drives.proofs.Endings.{all_counted}
-use Rattle.fab_tiles_sound.specs.fab_parts_sound.proofs.Lists.{all_reverse}
+use Rattle.fab_tiles_sound.proofs.fab_parts_sound_Lists.{all_reverse}
 use Rattle.fab_tile_drives.proofs.NamedPairs.{bits_same, inputs_same}
-use Rattle.fab_tiles_sound.specs.fab_parts_sound.proofs.Sized.{length-digits}
-use Rattle.fab_tiles_sound.specs.fab_parts_sound.proofs.TileMatrices.{outputs_named}
+use Rattle.fab_tiles_sound.proofs.fab_parts_sound_Sized.{length-digits}
+use Rattle.fab_tiles_sound.proofs.fab_parts_sound_TileMatrices.{outputs_named}
 use Rattle.fab_tokens.specs.Tokens.{IsIdentifier, keyword_of}
 use Rattle.fab_grammar.specs.Printable.{AreWritten, HasPart, IsItem, IsModule, IsPrintable, nested, nested_parts, IsWritten as IsSpelled}
 use Rattle.fab_text_reads.specs.Laws.{IsWritten}

@@ -26,15 +26,15 @@ use Rattle.fab_gen_tile.specs.Names.{begin_name, border_name, end_name, frame_da
 use Rattle.fab_gen_tile.specs.Borders.{side_border}
 use Rattle.fab_meaning.specs.Loading.{write_data_name, write_strobe_name}
 use Rattle.fab_gen_loader.specs.Loader.{loader_module_name, address_port, row_port, strobe_port}
-use Rattle.fab_drives.specs.fab_fabric_text.specs.Names.{begin_wire_name, column_strobe_name, loader_instance_name, pad_port_name, top_module_name}
-use Rattle.fab_drives.specs.fab_fabric_text.specs.Places.{PlacedTile, placed_tiles}
-use Rattle.fab_drives.specs.fab_fabric_text.specs.Top.{column_strobes, end_value, loader_instance, loader_joins, loader_wires, numbered_row, pad_joins, pad_ports, row_begin_wires, row_joins, tile_begin_wires, tile_instance, tile_joins, tile_pads, top_items, top_module}
+use Rattle.fab_drives.specs.fab_fabric_text_Names.{begin_wire_name, column_strobe_name, loader_instance_name, pad_port_name, top_module_name}
+use Rattle.fab_drives.specs.fab_fabric_text_Places.{PlacedTile, placed_tiles}
+use Rattle.fab_drives.specs.fab_fabric_text_Top.{column_strobes, end_value, loader_instance, loader_joins, loader_wires, numbered_row, pad_joins, pad_ports, row_begin_wires, row_joins, tile_begin_wires, tile_instance, tile_joins, tile_pads, top_items, top_module}
 use Rattle.fab_drives.proofs.Modules.{tile_of_types}
 use Rattle.fab_drives.proofs.Places.{IsThere, all_placed}
 use Rattle.fab_tile_drives.proofs.Endings.{all_counted, all_flat_map}
 use Rattle.fab_tile_drives.proofs.Members.{contains_first, contains_later}
 use Rattle.fab_tiles_sound.proofs.Standing.{each_placed}
-use Rattle.fab_tiles_sound.specs.fab_parts_sound.proofs.Sized.{length-digits}
+use Rattle.fab_tiles_sound.proofs.fab_parts_sound_Sized.{length-digits}
 use Rattle.fab_tokens.specs.Literals.{is_word_byte}
 use Rattle.fab_tokens.specs.Tokens.{IsIdentifier, keyword_of}
 use Rattle.fab_grammar.specs.Words.{is_foreign}

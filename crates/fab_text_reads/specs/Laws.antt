@@ -10,11 +10,11 @@ use Rattle.fab_model.specs.Grid.{PlainFabric}
 use Rattle.fab_fabric.specs.Fabric.{AreTiles, IsFabric}
 use Rattle.fab_gen_tile.specs.Words.{IsNamed}
 use Rattle.fab_gen_loader.specs.Expressions.{loader_module}
-use Rattle.fab_fabric_names.specs.fab_read.specs.Fabrics.{SpellsFabric}
+use Rattle.fab_fabric_names.specs.fab_read_Fabrics.{SpellsFabric}
 use Rattle.fab_grammar.specs.Grammar.{SpellsText}
 use Rattle.fab_grammar.specs.Printable.{IsModule, IsPrintableText}
-use Rattle.fab_drives.specs.fab_fabric_text.specs.Text.{fabric_text}
-use Rattle.fab_drives.specs.fab_fabric_text.specs.Texts.{generated_text}
+use Rattle.fab_drives.specs.fab_fabric_text_Text.{fabric_text}
+use Rattle.fab_drives.specs.fab_fabric_text_Texts.{generated_text}
 
 -- What tables promise beside: the tile has a name, and it has no more inputs of an output and configuration bits than tables allow.
 pub record IsWritten (tile : PlainTile) : Type 0 where

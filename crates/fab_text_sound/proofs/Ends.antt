@@ -5,7 +5,7 @@ use Rattle.std.specs.Str.Parse.{AllDigits}
 use Rattle.std.proofs.lemmas.Fmt.{decimal_injective}
 use Rattle.std.proofs.lemmas.List.{length-append}
 use Rattle.fab_fabric.specs.Names.{place_name}
-use Rattle.fab_drives.specs.fab_gen_tile.specs.Names.{border_name}
+use Rattle.fab_drives.specs.fab_gen_tile_Names.{border_name}
 use Rattle.fab_drives.proofs.Places.{same_digits, digits_of}
 
 -- ---- a number behind the last `_`

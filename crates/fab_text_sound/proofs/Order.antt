@@ -11,9 +11,9 @@ use Rattle.fab_syntax.specs.Plain.{PlainExpr, PlainJoin, PlainItem, PlainModule,
 use Rattle.fab_syntax.specs.Sound.{Mention, net, instance_name, use_of, joined_expressions, subexpressions, own_names, uses, item_mentions, mentions_in, is_net, is_declaration, refusals}
 use Rattle.fab_meaning.proofs.Declared.{bytes_apart}
 use Rattle.fab_drives.proofs.Lists.{none_there, first_or_later}
-use Rattle.fab_tiles_sound.specs.fab_parts_sound.proofs.Declared.{port_names}
-use Rattle.fab_tiles_sound.specs.fab_parts_sound.proofs.Lists.{all_flat_map, pairs_head, pairs_tail, contains_first, contains_later}
-use Rattle.fab_tiles_sound.specs.fab_parts_sound.proofs.Names.{Differ, AreApart, IsKnown, UsesNets, net_names}
+use Rattle.fab_tiles_sound.proofs.fab_parts_sound_Declared.{port_names}
+use Rattle.fab_tiles_sound.proofs.fab_parts_sound_Lists.{all_flat_map, pairs_head, pairs_tail, contains_first, contains_later}
+use Rattle.fab_tiles_sound.proofs.fab_parts_sound_Names.{Differ, AreApart, IsKnown, UsesNets, net_names}
 use Rattle.fab_text_sound.proofs.TopApart.{item_names}
 
 -- ---- mentions in order

@@ -5,7 +5,7 @@ use Rattle.std.proofs.lemmas.List.{length-map, get_or-map}
 use Rattle.std.proofs.lemmas.List.Elements.{All-nil, All-cons, All-head, All-tail, All-map, All-filter, All-weaker}
 use Rattle.std.proofs.lemmas.List.Kept.{AllPairs-cons}
 use Rattle.fab_drives.proofs.Lists.{all_found, all_numbered}
-use Rattle.fab_tiles_sound.specs.fab_parts_sound.proofs.Lists.{all_flat_map, all_right, pairs_none, pairs_head, pairs_tail, pairs_append, pairs_right, pairs_across}
+use Rattle.fab_tiles_sound.proofs.fab_parts_sound_Lists.{all_flat_map, all_right, pairs_none, pairs_head, pairs_tail, pairs_append, pairs_right, pairs_across}
 
 -- each of one list against each of another
 abbrev pub Between : {X : Type 0} → (R : X → X → Type 0) → List X → List X → Type 0

@@ -9,10 +9,10 @@ use Rattle.std.proofs.lemmas.List.Elements.{All-contains, All-weaker, All-contai
 use Rattle.fab_model.specs.declared.tiles.WireRow.{WireRow}
 use Rattle.fab_model.specs.Rows.{is_jump, is_named, side_bits, source_bits, dest_bits, bit_name, IsWireRow}
 use Rattle.fab_model.specs.Tiles.{PlainTile, TileWire, source_bit, dest_bit, counted, row_wires, bel_wires, tile_wires, wire_name, matrix_names, IsTile}
-use Rattle.fab_drives.specs.fab_gen_tile.specs.Names.{border_name}
-use Rattle.fab_drives.specs.fab_gen_tile.specs.Borders.{side_border}
+use Rattle.fab_drives.specs.fab_gen_tile_Names.{border_name}
+use Rattle.fab_drives.specs.fab_gen_tile_Borders.{side_border}
 use Rattle.fab_drives.proofs.Lists.{none_there, first_or_later}
-use Rattle.fab_tiles_sound.specs.fab_parts_sound.proofs.Lists.{all_counted, contains_counted, length-counted, pairs_left, pairs_counted}
+use Rattle.fab_tiles_sound.proofs.fab_parts_sound_Lists.{all_counted, contains_counted, length-counted, pairs_left, pairs_counted}
 use Rattle.fab_text_sound.proofs.Pairs.{Between, pairs_weaker, pairs_of_flat, pairs_of_map}
 use Rattle.fab_text_sound.proofs.Ends.{side_text, same_border}
 

@@ -8,9 +8,9 @@ use Rattle.fab_meaning.proofs.Modules.{each_all}
 use Rattle.fab_model.specs.declared.tiles.WireRow.{WireRow}
 use Rattle.fab_model.specs.declared.tiles.Bel.{Bel}
 use Rattle.fab_fabric.specs.Examples.{pads, lut, pad_rows, pad_bels, lut_rows, lut_bels}
-use Rattle.fab_drives.specs.fab_gen_tile.specs.Words.{IsFreeName, IsNamed}
-use Rattle.fab_drives.specs.fab_gen_loader.specs.Expressions.{loader_module}
-use Rattle.fab_drives.specs.fab_fabric_text.specs.Text.{fabric_text}
+use Rattle.fab_drives.specs.fab_gen_tile_Words.{IsFreeName, IsNamed}
+use Rattle.fab_drives.specs.fab_gen_loader_Expressions.{loader_module}
+use Rattle.fab_drives.specs.fab_fabric_text_Text.{fabric_text}
 use Rattle.fab_drives.specs.Examples.{small_fabric}
 use Rattle.fab_drives.proofs.SmallFabric.{small_is_fabric, small_is_of_tiles}
 use Rattle.fab_text_sound.proofs.TextFits.{text_is_sound}

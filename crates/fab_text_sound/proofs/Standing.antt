@@ -5,11 +5,11 @@ use Rattle.fab_model.specs.Tiles.{IsTile, counted}
 use Rattle.fab_model.specs.Grid.{PlainFabric, tile_at}
 use Rattle.fab_model.proofs.Steps.{map_gives}
 use Rattle.fab_fabric.specs.Fabric.{IsFabric, AreTiles}
-use Rattle.fab_drives.specs.fab_fabric_text.specs.Places.{PlacedTile, placed_at, column_tiles, placed_tiles}
+use Rattle.fab_drives.specs.fab_fabric_text_Places.{PlacedTile, placed_at, column_tiles, placed_tiles}
 use Rattle.fab_drives.proofs.Lists.{all_of, all_found}
 use Rattle.fab_drives.proofs.Modules.{tile_of_types}
 use Rattle.fab_drives.proofs.Places.{placed_tile, in_grid, IsThere, all_placed}
-use Rattle.fab_tiles_sound.specs.fab_parts_sound.proofs.Lists.{pairs_counted}
+use Rattle.fab_tiles_sound.proofs.fab_parts_sound_Lists.{pairs_counted}
 use Rattle.fab_text_sound.proofs.Pairs.{Between, between, pairs_flat, pairs_found}
 
 -- at another place

@@ -13,19 +13,19 @@ use Rattle.fab_prim.specs.Modules.{module_name, module_of_kind}
 use Rattle.fab_model.specs.Tiles.{PlainTile, tile_bits}
 use Rattle.fab_model.specs.Grid.{PlainFabric}
 use Rattle.fab_fabric.specs.Fabric.{IsFabric}
-use Rattle.fab_drives.specs.fab_gen_tile.specs.Names.{config_module_name, matrix_module_name, tile_module_name}
-use Rattle.fab_drives.specs.fab_gen_tile.specs.TileModule.{tile_module, matrix_output_names}
-use Rattle.fab_drives.specs.fab_gen_tile.specs.ConfigModule.{config_module}
-use Rattle.fab_drives.specs.fab_gen_tile.specs.MatrixModule.{matrix_module}
-use Rattle.fab_drives.specs.fab_gen_loader.specs.Expressions.{loader_module}
-use Rattle.fab_drives.specs.fab_gen_loader.specs.Loader.{loader_module_name}
-use Rattle.fab_drives.specs.fab_fabric_text.specs.Names.{top_module_name}
-use Rattle.fab_drives.specs.fab_fabric_text.specs.Top.{top_module}
-use Rattle.fab_drives.specs.fab_fabric_text.specs.Text.{stands, standing_types, is_used, used_kinds, matrix_modules, config_modules, tile_modules, fabric_text}
+use Rattle.fab_drives.specs.fab_gen_tile_Names.{config_module_name, matrix_module_name, tile_module_name}
+use Rattle.fab_drives.specs.fab_gen_tile_TileModule.{tile_module, matrix_output_names}
+use Rattle.fab_drives.specs.fab_gen_tile_ConfigModule.{config_module}
+use Rattle.fab_drives.specs.fab_gen_tile_MatrixModule.{matrix_module}
+use Rattle.fab_drives.specs.fab_gen_loader_Expressions.{loader_module}
+use Rattle.fab_drives.specs.fab_gen_loader_Loader.{loader_module_name}
+use Rattle.fab_drives.specs.fab_fabric_text_Names.{top_module_name}
+use Rattle.fab_drives.specs.fab_fabric_text_Top.{top_module}
+use Rattle.fab_drives.specs.fab_fabric_text_Text.{stands, standing_types, is_used, used_kinds, matrix_modules, config_modules, tile_modules, fabric_text}
 use Rattle.fab_drives.proofs.Apart.{told_apart, one_of_name}
 use Rattle.fab_drives.proofs.Lists.{all_of, only_one_found}
 use Rattle.fab_drives.proofs.Modules.{kind_apart, no_loader_kind}
-use Rattle.fab_tiles_sound.specs.fab_parts_sound.proofs.Lists.{all_flat_map, pairs_none, pairs_append}
+use Rattle.fab_tiles_sound.proofs.fab_parts_sound_Lists.{all_flat_map, pairs_none, pairs_append}
 use Rattle.fab_text_sound.proofs.Pairs.{Between, between, one_alone, pairs_weaker, pairs_flat, pairs_map, pairs_numbered, pairs_kept}
 
 abbrev pub NamesDiffer : PlainModule → PlainModule → Type 0

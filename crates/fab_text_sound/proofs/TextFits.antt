@@ -12,24 +12,24 @@ use Rattle.fab_model.specs.Tiles.{PlainTile, tile_bits, IsTile}
 use Rattle.fab_model.specs.Tables.{HasTable}
 use Rattle.fab_model.specs.Grid.{PlainFabric, tile_at}
 use Rattle.fab_fabric.specs.Fabric.{IsFabric, AreTiles}
-use Rattle.fab_drives.specs.fab_gen_tile.specs.Words.{IsNamed}
-use Rattle.fab_drives.specs.fab_gen_tile.specs.TileModule.{tile_module, matrix_output_names}
-use Rattle.fab_drives.specs.fab_gen_tile.specs.ConfigModule.{config_module}
-use Rattle.fab_drives.specs.fab_gen_tile.specs.MatrixModule.{matrix_module}
-use Rattle.fab_drives.specs.fab_gen_loader.specs.Expressions.{loader_module}
-use Rattle.fab_drives.specs.fab_fabric_text.specs.Top.{top_module}
+use Rattle.fab_drives.specs.fab_gen_tile_Words.{IsNamed}
+use Rattle.fab_drives.specs.fab_gen_tile_TileModule.{tile_module, matrix_output_names}
+use Rattle.fab_drives.specs.fab_gen_tile_ConfigModule.{config_module}
+use Rattle.fab_drives.specs.fab_gen_tile_MatrixModule.{matrix_module}
+use Rattle.fab_drives.specs.fab_gen_loader_Expressions.{loader_module}
+use Rattle.fab_drives.specs.fab_fabric_text_Top.{top_module}
 use Rattle.fab_fabric.specs.Sites.{same_kind}
-use Rattle.fab_drives.specs.fab_fabric_text.specs.Text.{standing_types, is_used, used_kinds, matrix_modules, config_modules, tile_modules, fabric_text}
+use Rattle.fab_drives.specs.fab_fabric_text_Text.{standing_types, is_used, used_kinds, matrix_modules, config_modules, tile_modules, fabric_text}
 use Rattle.fab_drives.proofs.Lists.{contains_flat, contains_kept, all_of}
 use Rattle.fab_drives.proofs.Modules as listed
 use Rattle.fab_drives.proofs.Modules.{any_there, contains_matrix, contains_config, same_kind_self, all_kinds, tile_stands}
-use Rattle.fab_tiles_sound.specs.fab_parts_sound.specs.Fits.{FitsIn, AllFit}
-use Rattle.fab_tiles_sound.specs.fab_parts_sound.proofs.Lists.{contains_first, contains_map, pairs_left}
-use Rattle.fab_tiles_sound.specs.fab_parts_sound.proofs.Fitting.{fitting_is_sound}
-use Rattle.fab_tiles_sound.specs.fab_parts_sound.proofs.Primitives.{primitive_fits}
-use Rattle.fab_tiles_sound.specs.fab_parts_sound.proofs.Configurations.{config_fits}
-use Rattle.fab_tiles_sound.specs.fab_parts_sound.proofs.TileMatrices.{tile_matrix_fits}
-use Rattle.fab_tiles_sound.specs.fab_parts_sound.proofs.Loaders.{loader_fits, loader_clocks}
+use Rattle.fab_tiles_sound.specs.fab_parts_sound_Fits.{FitsIn, AllFit}
+use Rattle.fab_tiles_sound.proofs.fab_parts_sound_Lists.{contains_first, contains_map, pairs_left}
+use Rattle.fab_tiles_sound.proofs.fab_parts_sound_Fitting.{fitting_is_sound}
+use Rattle.fab_tiles_sound.proofs.fab_parts_sound_Primitives.{primitive_fits}
+use Rattle.fab_tiles_sound.proofs.fab_parts_sound_Configurations.{config_fits}
+use Rattle.fab_tiles_sound.proofs.fab_parts_sound_TileMatrices.{tile_matrix_fits}
+use Rattle.fab_tiles_sound.proofs.fab_parts_sound_Loaders.{loader_fits, loader_clocks}
 use Rattle.fab_tiles_sound.specs.Has.{HasModules}
 use Rattle.fab_tiles_sound.proofs.ClockUse.{tile_clocks}
 use Rattle.fab_tiles_sound.proofs.Fitting.{tile_fits}

@@ -18,15 +18,15 @@ use Rattle.fab_model.specs.Rows.{is_jump}
 use Rattle.fab_model.specs.Tiles.{counted}
 use Rattle.fab_model.specs.Grid.{PlainFabric}
 use Rattle.fab_fabric.specs.Names.{place_name}
-use Rattle.fab_drives.specs.fab_gen_tile.specs.Names.{border_name, letter}
-use Rattle.fab_drives.specs.fab_gen_tile.specs.Borders.{side_border}
-use Rattle.fab_drives.specs.fab_fabric_text.specs.Names.{pad_port_name, begin_wire_name}
-use Rattle.fab_drives.specs.fab_fabric_text.specs.Places.{PlacedTile}
-use Rattle.fab_drives.specs.fab_fabric_text.specs.Top.{pad_ports, tile_pads, row_begin_wires, tile_begin_wires}
+use Rattle.fab_drives.specs.fab_gen_tile_Names.{border_name, letter}
+use Rattle.fab_drives.specs.fab_gen_tile_Borders.{side_border}
+use Rattle.fab_drives.specs.fab_fabric_text_Names.{pad_port_name, begin_wire_name}
+use Rattle.fab_drives.specs.fab_fabric_text_Places.{PlacedTile}
+use Rattle.fab_drives.specs.fab_fabric_text_Top.{pad_ports, tile_pads, row_begin_wires, tile_begin_wires}
 use Rattle.fab_drives.proofs.Apart.{told_apart}
 use Rattle.fab_drives.proofs.Lists.{all_of}
-use Rattle.fab_tiles_sound.specs.fab_parts_sound.proofs.Lists.{all_counted, all_flat_map, pairs_none}
-use Rattle.fab_tiles_sound.specs.fab_parts_sound.proofs.Names.{Differ}
+use Rattle.fab_tiles_sound.proofs.fab_parts_sound_Lists.{all_counted, all_flat_map, pairs_none}
+use Rattle.fab_tiles_sound.proofs.fab_parts_sound_Names.{Differ}
 use Rattle.fab_text_sound.proofs.Pairs.{Between, pairs_weaker, between, one_each_way, one_alone, pairs_flat, numbers_apart}
 use Rattle.fab_text_sound.proofs.Ends.{named_at, same_named, no_place, no_border}
 use Rattle.fab_text_sound.proofs.Sides.{RowsApart, HasFewBits, rows_apart, few_bits, sides_between, bits_apart}

@@ -14,17 +14,17 @@ use Rattle.fab_model.specs.Tiles.{counted}
 use Rattle.fab_model.specs.Grid.{PlainFabric}
 use Rattle.fab_fabric.specs.Names.{place_name}
 use Rattle.fab_fabric.specs.Fabric.{IsFabric, AreTiles}
-use Rattle.fab_drives.specs.fab_gen_tile.specs.Names.{vector}
+use Rattle.fab_drives.specs.fab_gen_tile_Names.{vector}
 use Rattle.fab_meaning.specs.Loading.{write_strobe_name, write_data_name}
-use Rattle.fab_drives.specs.fab_fabric_text.specs.Names.{loader_instance_name, column_strobe_name}
-use Rattle.fab_drives.specs.fab_gen_loader.specs.Loader.{address_port, strobe_port, row_port}
-use Rattle.fab_drives.specs.fab_fabric_text.specs.Places.{PlacedTile, placed_tiles}
-use Rattle.fab_drives.specs.fab_fabric_text.specs.Top.{tile_pads, top_ports, loader_wires, loader_instance, column_strobes, tile_begin_wires, tile_instance, top_items}
+use Rattle.fab_drives.specs.fab_fabric_text_Names.{loader_instance_name, column_strobe_name}
+use Rattle.fab_drives.specs.fab_gen_loader_Loader.{address_port, strobe_port, row_port}
+use Rattle.fab_drives.specs.fab_fabric_text_Places.{PlacedTile, placed_tiles}
+use Rattle.fab_drives.specs.fab_fabric_text_Top.{tile_pads, top_ports, loader_wires, loader_instance, column_strobes, tile_begin_wires, tile_instance, top_items}
 use Rattle.fab_drives.proofs.Apart.{told_apart}
 use Rattle.fab_drives.proofs.Lists.{all_of}
 use Rattle.fab_drives.proofs.Places.{same_place}
-use Rattle.fab_tiles_sound.specs.fab_parts_sound.proofs.Lists.{all_counted, all_flat_map, pairs_append, pairs_counted}
-use Rattle.fab_tiles_sound.specs.fab_parts_sound.proofs.Names.{Differ}
+use Rattle.fab_tiles_sound.proofs.fab_parts_sound_Lists.{all_counted, all_flat_map, pairs_append, pairs_counted}
+use Rattle.fab_tiles_sound.proofs.fab_parts_sound_Names.{Differ}
 use Rattle.fab_text_sound.proofs.Pairs.{Between, pairs_weaker, between, one_each_way, pairs_flat, pairs_map}
 use Rattle.fab_text_sound.proofs.Standing.{IsElsewhere, placed_apart, IsStanding, all_standing}
 use Rattle.fab_text_sound.proofs.TopApart.{item_names, AllNames, Clear, PortsDiffer, IsBeginAt, IsTilePad, IsBegin, IsPad, IsPlaceName, begin_of_tile, pad_of_tile, elsewhere, pad_no_begin, tile_begins_clear, begins_of_tile, tile_pads_apart, pads_of_tile, head, one_name, begin_head, pad_head, place_head, heads_differ, begin_no_place, pad_no_place}

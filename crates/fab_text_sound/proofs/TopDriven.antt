@@ -22,23 +22,23 @@ use Rattle.fab_model.specs.Tiles.{PlainTile, counted, IsTile}
 use Rattle.fab_model.specs.Grid.{PlainFabric}
 use Rattle.fab_model.specs.Cascade.{previous_row}
 use Rattle.fab_fabric.specs.Fabric.{IsFabric, AreTiles}
-use Rattle.fab_drives.specs.fab_gen_tile.specs.Names.{begin_name, end_name, port_join, same_join}
-use Rattle.fab_drives.specs.fab_gen_tile.specs.Words.{IsNamed}
-use Rattle.fab_drives.specs.fab_gen_tile.specs.Borders.{side_border, border_ports}
-use Rattle.fab_drives.specs.fab_gen_tile.specs.TileModule.{tile_ports, tile_module, bels_ports}
-use Rattle.fab_drives.specs.fab_gen_tile.specs.TileModule as tiles
-use Rattle.fab_drives.specs.fab_gen_loader.specs.Loader.{loader_ports, address_port, strobe_port, row_port}
-use Rattle.fab_drives.specs.fab_gen_loader.specs.Loader as loaders
-use Rattle.fab_drives.specs.fab_gen_loader.specs.Expressions.{loader_module}
-use Rattle.fab_drives.specs.fab_fabric_text.specs.Names.{column_strobe_name, begin_wire_name}
-use Rattle.fab_drives.specs.fab_fabric_text.specs.Places.{PlacedTile, placed_tiles}
-use Rattle.fab_drives.specs.fab_fabric_text.specs.Top.{pad_ports, tile_pads, top_ports, loader_wires, loader_joins, loader_instance, column_strobes, row_begin_wires, tile_begin_wires, end_value, numbered_row, row_joins, pad_joins, tile_joins, tile_instance, top_items, top_module}
+use Rattle.fab_drives.specs.fab_gen_tile_Names.{begin_name, end_name, port_join, same_join}
+use Rattle.fab_drives.specs.fab_gen_tile_Words.{IsNamed}
+use Rattle.fab_drives.specs.fab_gen_tile_Borders.{side_border, border_ports}
+use Rattle.fab_drives.specs.fab_gen_tile_TileModule.{tile_ports, tile_module, bels_ports}
+use Rattle.fab_drives.specs.fab_gen_tile_TileModule as tiles
+use Rattle.fab_drives.specs.fab_gen_loader_Loader.{loader_ports, address_port, strobe_port, row_port}
+use Rattle.fab_drives.specs.fab_gen_loader_Loader as loaders
+use Rattle.fab_drives.specs.fab_gen_loader_Expressions.{loader_module}
+use Rattle.fab_drives.specs.fab_fabric_text_Names.{column_strobe_name, begin_wire_name}
+use Rattle.fab_drives.specs.fab_fabric_text_Places.{PlacedTile, placed_tiles}
+use Rattle.fab_drives.specs.fab_fabric_text_Top.{pad_ports, tile_pads, top_ports, loader_wires, loader_joins, loader_instance, column_strobes, row_begin_wires, tile_begin_wires, end_value, numbered_row, row_joins, pad_joins, tile_joins, tile_instance, top_items, top_module}
 use Rattle.fab_drives.proofs.Apart.{told_apart}
 use Rattle.fab_drives.proofs.Lists.{all_of}
 use Rattle.fab_drives.proofs.Modules.{tile_of_types}
-use Rattle.fab_tiles_sound.specs.fab_parts_sound.proofs.Counts.{joined_names, item_drives, driven_names, times, driven_times}
-use Rattle.fab_tiles_sound.specs.fab_parts_sound.proofs.Lists.{all_counted, all_flat_map, pairs_left, pairs_counted, one_each}
-use Rattle.fab_tiles_sound.specs.fab_parts_sound.proofs.Names.{Differ, AreApart, net_names}
+use Rattle.fab_tiles_sound.proofs.fab_parts_sound_Counts.{joined_names, item_drives, driven_names, times, driven_times}
+use Rattle.fab_tiles_sound.proofs.fab_parts_sound_Lists.{all_counted, all_flat_map, pairs_left, pairs_counted, one_each}
+use Rattle.fab_tiles_sound.proofs.fab_parts_sound_Names.{Differ, AreApart, net_names}
 use Rattle.fab_tiles_sound.proofs.Apart.{declarations, nets_apart}
 use Rattle.fab_tiles_sound.proofs.Drives.{times_both, out_names, out_append}
 use Rattle.fab_tiles_sound.proofs.Joins.{port_name, directions, zip_append}

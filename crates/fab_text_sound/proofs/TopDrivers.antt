@@ -8,9 +8,9 @@ use Rattle.fab_syntax.specs.Plain.{PlainJoin, PlainItem, PlainModule, wire, reg,
 use Rattle.fab_syntax.specs.Declarations.{is_input}
 use Rattle.fab_model.specs.Tiles.{counted}
 use Rattle.fab_drives.proofs.Lists.{none_there, first_or_later}
-use Rattle.fab_tiles_sound.specs.fab_parts_sound.proofs.Counts.{driven_name, joined_names, times, times_none, times_once}
-use Rattle.fab_tiles_sound.specs.fab_parts_sound.proofs.Lists.{pairs_none, pairs_head, pairs_tail, contains_first}
-use Rattle.fab_tiles_sound.specs.fab_parts_sound.proofs.Names.{Differ, AreApart, IsNoneOf, net_names}
+use Rattle.fab_tiles_sound.proofs.fab_parts_sound_Counts.{driven_name, joined_names, times, times_none, times_once}
+use Rattle.fab_tiles_sound.proofs.fab_parts_sound_Lists.{pairs_none, pairs_head, pairs_tail, contains_first}
+use Rattle.fab_tiles_sound.proofs.fab_parts_sound_Names.{Differ, AreApart, IsNoneOf, net_names}
 use Rattle.fab_tiles_sound.proofs.Drives.{times_both, out_names}
 use Rattle.std.proofs.lemmas.List.Kept.{AllPairs-cons}
 use Rattle.fab_text_sound.proofs.Pairs.{one_alone}

@@ -8,16 +8,16 @@ use Rattle.fab_model.specs.Tiles.{counted}
 use Rattle.fab_model.specs.Grid.{PlainFabric}
 use Rattle.fab_fabric.specs.Names.{place_name}
 use Rattle.fab_fabric.specs.Fabric.{IsFabric, AreTiles}
-use Rattle.fab_drives.specs.fab_gen_tile.specs.Names.{tile_module_name, same_join, port_join, frame_data_name, frame_strobe_name}
-use Rattle.fab_drives.specs.fab_gen_tile.specs.Words.{IsNamed}
-use Rattle.fab_drives.specs.fab_gen_tile.specs.TileModule.{tile_ports, tile_module}
-use Rattle.fab_drives.specs.fab_gen_loader.specs.Loader.{loader_ports, loader_module_name, address_port, strobe_port, row_port}
-use Rattle.fab_drives.specs.fab_gen_loader.specs.Expressions.{loader_module}
+use Rattle.fab_drives.specs.fab_gen_tile_Names.{tile_module_name, same_join, port_join, frame_data_name, frame_strobe_name}
+use Rattle.fab_drives.specs.fab_gen_tile_Words.{IsNamed}
+use Rattle.fab_drives.specs.fab_gen_tile_TileModule.{tile_ports, tile_module}
+use Rattle.fab_drives.specs.fab_gen_loader_Loader.{loader_ports, loader_module_name, address_port, strobe_port, row_port}
+use Rattle.fab_drives.specs.fab_gen_loader_Expressions.{loader_module}
 use Rattle.fab_meaning.specs.Loading.{write_strobe_name, write_data_name}
-use Rattle.fab_drives.specs.fab_fabric_text.specs.Names.{loader_instance_name, column_strobe_name}
-use Rattle.fab_drives.specs.fab_fabric_text.specs.Places.{PlacedTile}
-use Rattle.fab_drives.specs.fab_fabric_text.specs.Top.{loader_joins, row_joins, pad_joins, tile_joins, top_module}
-use Rattle.fab_tiles_sound.specs.fab_parts_sound.specs.Fits.{FitsIn}
+use Rattle.fab_drives.specs.fab_fabric_text_Names.{loader_instance_name, column_strobe_name}
+use Rattle.fab_drives.specs.fab_fabric_text_Places.{PlacedTile}
+use Rattle.fab_drives.specs.fab_fabric_text_Top.{loader_joins, row_joins, pad_joins, tile_joins, top_module}
+use Rattle.fab_tiles_sound.specs.fab_parts_sound_Fits.{FitsIn}
 use Rattle.fab_text_sound.specs.HasTop.{HasTopModules, HasTopClocks}
 use Rattle.fab_text_sound.proofs.TopNets.{loader_matched, tile_matched}
 use Rattle.fab_text_sound.proofs.TopNamesFit.{top_names_fit}

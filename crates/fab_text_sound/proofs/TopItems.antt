@@ -18,18 +18,18 @@ use Rattle.fab_model.specs.Tiles.{counted}
 use Rattle.fab_model.specs.Grid.{PlainFabric}
 use Rattle.fab_fabric.specs.Names.{place_name}
 use Rattle.fab_fabric.specs.Fabric.{IsFabric, AreTiles}
-use Rattle.fab_drives.specs.fab_gen_tile.specs.Names.{tile_module_name, same_join}
-use Rattle.fab_drives.specs.fab_gen_tile.specs.Borders.{side_border}
-use Rattle.fab_drives.specs.fab_gen_tile.specs.TileModule.{tile_ports}
-use Rattle.fab_drives.specs.fab_gen_loader.specs.Loader.{loader_ports, loader_module_name, address_port, strobe_port, row_port}
-use Rattle.fab_drives.specs.fab_fabric_text.specs.Names.{loader_instance_name, column_strobe_name, begin_wire_name}
-use Rattle.fab_drives.specs.fab_fabric_text.specs.Places.{PlacedTile, placed_tiles}
-use Rattle.fab_drives.specs.fab_fabric_text.specs.Top.{loader_wires, loader_joins, loader_instance, names_column, column_strobes, row_begin_wires, tile_begin_wires, tile_joins, tile_instance, top_items, top_module}
+use Rattle.fab_drives.specs.fab_gen_tile_Names.{tile_module_name, same_join}
+use Rattle.fab_drives.specs.fab_gen_tile_Borders.{side_border}
+use Rattle.fab_drives.specs.fab_gen_tile_TileModule.{tile_ports}
+use Rattle.fab_drives.specs.fab_gen_loader_Loader.{loader_ports, loader_module_name, address_port, strobe_port, row_port}
+use Rattle.fab_drives.specs.fab_fabric_text_Names.{loader_instance_name, column_strobe_name, begin_wire_name}
+use Rattle.fab_drives.specs.fab_fabric_text_Places.{PlacedTile, placed_tiles}
+use Rattle.fab_drives.specs.fab_fabric_text_Top.{loader_wires, loader_joins, loader_instance, names_column, column_strobes, row_begin_wires, tile_begin_wires, tile_joins, tile_instance, top_items, top_module}
 use Rattle.fab_drives.proofs.Lists.{all_of, all_if}
-use Rattle.fab_tiles_sound.specs.fab_parts_sound.proofs.Lists.{all_counted, all_flat_map, pairs_head}
-use Rattle.fab_tiles_sound.specs.fab_parts_sound.proofs.Names.{Differ, AreApart}
-use Rattle.fab_tiles_sound.specs.fab_parts_sound.proofs.Expressions.{Holds, every}
-use Rattle.fab_tiles_sound.specs.fab_parts_sound.proofs.Flat.{IsSized}
+use Rattle.fab_tiles_sound.proofs.fab_parts_sound_Lists.{all_counted, all_flat_map, pairs_head}
+use Rattle.fab_tiles_sound.proofs.fab_parts_sound_Names.{Differ, AreApart}
+use Rattle.fab_tiles_sound.proofs.fab_parts_sound_Expressions.{Holds, every}
+use Rattle.fab_tiles_sound.proofs.fab_parts_sound_Flat.{IsSized}
 use Rattle.fab_tiles_sound.proofs.Joins.{port_name, JoinsPort, instance_fits}
 use Rattle.fab_text_sound.proofs.Standing.{IsStanding, all_standing}
 use Rattle.fab_text_sound.proofs.Matched.{matched_all, matched_weaker}

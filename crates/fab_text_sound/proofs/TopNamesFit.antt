@@ -20,20 +20,20 @@ use Rattle.fab_model.specs.Grid.{PlainFabric}
 use Rattle.fab_fabric.specs.Names.{place_name}
 use Rattle.fab_fabric.specs.Fabric.{IsFabric, AreTiles}
 use Rattle.fab_meaning.specs.Ports.{scalar}
-use Rattle.fab_drives.specs.fab_gen_tile.specs.Names.{vector, same_join, tile_module_name}
-use Rattle.fab_drives.specs.fab_gen_tile.specs.Borders.{side_border}
-use Rattle.fab_drives.specs.fab_gen_tile.specs.TileModule.{tile_ports}
+use Rattle.fab_drives.specs.fab_gen_tile_Names.{vector, same_join, tile_module_name}
+use Rattle.fab_drives.specs.fab_gen_tile_Borders.{side_border}
+use Rattle.fab_drives.specs.fab_gen_tile_TileModule.{tile_ports}
 use Rattle.fab_meaning.specs.Loading.{write_strobe_name, write_data_name}
-use Rattle.fab_drives.specs.fab_gen_loader.specs.Loader.{loader_module_name, address_port, strobe_port, row_port}
-use Rattle.fab_drives.specs.fab_fabric_text.specs.Names.{loader_instance_name, column_strobe_name, begin_wire_name}
+use Rattle.fab_drives.specs.fab_gen_loader_Loader.{loader_module_name, address_port, strobe_port, row_port}
+use Rattle.fab_drives.specs.fab_fabric_text_Names.{loader_instance_name, column_strobe_name, begin_wire_name}
 use Rattle.fab_meaning.specs.Runs.{clock_name}
-use Rattle.fab_drives.specs.fab_fabric_text.specs.Places.{PlacedTile, placed_tiles}
-use Rattle.fab_drives.specs.fab_fabric_text.specs.Top.{top_ports, loader_wires, loader_joins, loader_instance, names_column, column_strobes, row_begin_wires, tile_begin_wires, tile_joins, tile_instance, top_items, top_module}
+use Rattle.fab_drives.specs.fab_fabric_text_Places.{PlacedTile, placed_tiles}
+use Rattle.fab_drives.specs.fab_fabric_text_Top.{top_ports, loader_wires, loader_joins, loader_instance, names_column, column_strobes, row_begin_wires, tile_begin_wires, tile_joins, tile_instance, top_items, top_module}
 use Rattle.fab_drives.proofs.Lists.{none_there, first_or_later, all_of, all_if}
-use Rattle.fab_tiles_sound.specs.fab_parts_sound.proofs.Declared.{port_names}
-use Rattle.fab_tiles_sound.specs.fab_parts_sound.proofs.Lists.{all_counted, all_flat_map, pairs_none, pairs_append, pairs_head, pairs_tail, contains_first, contains_later, contains_map, contains_counted}
-use Rattle.fab_tiles_sound.specs.fab_parts_sound.proofs.Names.{Differ, AreApart, IsKnown, OwnKnown, net_names, uses_known}
-use Rattle.fab_tiles_sound.specs.fab_parts_sound.proofs.Expressions.{Holds, every}
+use Rattle.fab_tiles_sound.proofs.fab_parts_sound_Declared.{port_names}
+use Rattle.fab_tiles_sound.proofs.fab_parts_sound_Lists.{all_counted, all_flat_map, pairs_none, pairs_append, pairs_head, pairs_tail, contains_first, contains_later, contains_map, contains_counted}
+use Rattle.fab_tiles_sound.proofs.fab_parts_sound_Names.{Differ, AreApart, IsKnown, OwnKnown, net_names, uses_known}
+use Rattle.fab_tiles_sound.proofs.fab_parts_sound_Expressions.{Holds, every}
 use Rattle.fab_text_sound.proofs.Pairs.{Between, one_alone, pairs_flat, pairs_map}
 use Rattle.fab_text_sound.proofs.Standing.{IsStanding, all_standing}
 use Rattle.fab_text_sound.proofs.TopApart.{item_names, AllNames, Clear, PortsDiffer}

@@ -19,21 +19,21 @@ use Rattle.fab_model.specs.Joins.{goes, comes}
 use Rattle.fab_model.specs.Cascade.{PlacedRow, previous_row, opposite}
 use Rattle.fab_model.proofs.Crossings.{partner_is, goes_from, standing_is_wire_row}
 use Rattle.fab_fabric.specs.Fabric.{AreTiles}
-use Rattle.fab_drives.specs.fab_gen_tile.specs.Names.{begin_name, end_name, pad_name, vector, port_join, same_join}
-use Rattle.fab_drives.specs.fab_gen_tile.specs.Borders.{side_border, border_ports}
-use Rattle.fab_drives.specs.fab_gen_tile.specs.TileModule.{bels_ports, tile_ports}
-use Rattle.fab_drives.specs.fab_gen_tile.specs.TileModule as tiles
-use Rattle.fab_drives.specs.fab_gen_loader.specs.Loader.{loader_ports, row_port, address_port, strobe_port}
-use Rattle.fab_drives.specs.fab_gen_loader.specs.Loader as loaders
+use Rattle.fab_drives.specs.fab_gen_tile_Names.{begin_name, end_name, pad_name, vector, port_join, same_join}
+use Rattle.fab_drives.specs.fab_gen_tile_Borders.{side_border, border_ports}
+use Rattle.fab_drives.specs.fab_gen_tile_TileModule.{bels_ports, tile_ports}
+use Rattle.fab_drives.specs.fab_gen_tile_TileModule as tiles
+use Rattle.fab_drives.specs.fab_gen_loader_Loader.{loader_ports, row_port, address_port, strobe_port}
+use Rattle.fab_drives.specs.fab_gen_loader_Loader as loaders
 use Rattle.fab_meaning.specs.Loading.{write_strobe_name, write_data_name}
-use Rattle.fab_drives.specs.fab_fabric_text.specs.Names.{column_strobe_name, begin_wire_name, pad_port_name}
-use Rattle.fab_drives.specs.fab_fabric_text.specs.Places.{PlacedTile, placed_tiles}
-use Rattle.fab_drives.specs.fab_fabric_text.specs.Top.{pad_ports, tile_pads, top_ports, loader_wires, loader_joins, loader_instance, column_strobes, tile_begin_wires, tile_instance, top_items, end_value, numbered_row, row_joins, pad_joins, tile_joins}
-use Rattle.fab_drives.specs.fab_tile_drives.proofs.BorderBits.{source_within}
+use Rattle.fab_drives.specs.fab_fabric_text_Names.{column_strobe_name, begin_wire_name, pad_port_name}
+use Rattle.fab_drives.specs.fab_fabric_text_Places.{PlacedTile, placed_tiles}
+use Rattle.fab_drives.specs.fab_fabric_text_Top.{pad_ports, tile_pads, top_ports, loader_wires, loader_joins, loader_instance, column_strobes, tile_begin_wires, tile_instance, top_items, end_value, numbered_row, row_joins, pad_joins, tile_joins}
+use Rattle.fab_drives.proofs.fab_tile_drives_BorderBits.{source_within}
 use Rattle.fab_drives.proofs.Lists.{contains_flat}
 use Rattle.fab_drives.proofs.Places.{tile_is_placed}
 use Rattle.fab_drives.proofs.TopNames.{begin_wire}
-use Rattle.fab_tiles_sound.specs.fab_parts_sound.proofs.Lists.{contains_first, contains_later, contains_map, contains_counted}
+use Rattle.fab_tiles_sound.proofs.fab_parts_sound_Lists.{contains_first, contains_later, contains_map, contains_counted}
 use Rattle.fab_tiles_sound.proofs.Joins.{zip_append, zip_map}
 use Rattle.fab_text_sound.proofs.Matched.{matched_counted, matched_flat, matched_numbered, numbers_find}
 use Rattle.fab_text_sound.proofs.Standing.{IsStanding}

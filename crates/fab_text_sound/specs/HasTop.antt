@@ -6,10 +6,10 @@ use Rattle.fab_syntax.specs.Sound.{ServesAsClock}
 use Rattle.fab_meaning.specs.Runs.{clock_name, user_clock_name}
 use Rattle.fab_model.specs.Tiles.{PlainTile}
 use Rattle.fab_model.specs.Grid.{PlainFabric, tile_at}
-use Rattle.fab_drives.specs.fab_gen_tile.specs.Names.{tile_module_name}
-use Rattle.fab_drives.specs.fab_gen_tile.specs.TileModule.{tile_module}
-use Rattle.fab_drives.specs.fab_gen_loader.specs.Expressions.{loader_module}
-use Rattle.fab_drives.specs.fab_gen_loader.specs.Loader.{loader_module_name}
+use Rattle.fab_drives.specs.fab_gen_tile_Names.{tile_module_name}
+use Rattle.fab_drives.specs.fab_gen_tile_TileModule.{tile_module}
+use Rattle.fab_drives.specs.fab_gen_loader_Expressions.{loader_module}
+use Rattle.fab_drives.specs.fab_gen_loader_Loader.{loader_module_name}
 
 -- By their names are found the loader, and the module of each tile that stands at some place.
 pub record HasTopModules (modules : List PlainModule) (fabric : PlainFabric) : Type 0 where

@@ -1,2 +1,1 @@
 pub mod HasTop
-pub use Rattle.fab_tiles_sound

@@ -6,12 +6,12 @@ ghost use Rattle.fab_syntax.specs.Plain.{PlainModule};
 ghost use Rattle.fab_syntax.specs.Sound.{IsSound};
 ghost use Rattle.fab_model.specs.Grid.{PlainFabric};
 ghost use Rattle.fab_fabric.specs.Fabric.{AreTiles, IsFabric};
-ghost use Rattle.fab_drives.specs.fab_gen_tile.specs.Words.{IsNamed};
-ghost use Rattle.fab_drives.specs.fab_gen_loader.specs.Expressions.{loader_module};
-ghost use Rattle.fab_drives.specs.fab_fabric_text.specs.Text.{fabric_text};
-ghost use Rattle.fab_drives.specs.fab_fabric_text.specs.Top.{top_module};
+ghost use Rattle.fab_drives.specs.fab_gen_tile_Words.{IsNamed};
+ghost use Rattle.fab_drives.specs.fab_gen_loader_Expressions.{loader_module};
+ghost use Rattle.fab_drives.specs.fab_fabric_text_Text.{fabric_text};
+ghost use Rattle.fab_drives.specs.fab_fabric_text_Top.{top_module};
 ghost use Rattle.fab_drives.specs.Examples.{small_fabric};
-ghost use Rattle.fab_tiles_sound.specs.fab_parts_sound.specs.Fits.{FitsIn};
+ghost use Rattle.fab_tiles_sound.specs.fab_parts_sound_Fits.{FitsIn};
 ghost use Rattle.fab_text_sound.specs.HasTop.{HasTopClocks, HasTopModules};
 
 /// The top of a fabric fits into a text behind modules among which are its loader and the modules of its tiles, where no port of

@@ -13,10 +13,10 @@ use Rattle.fab_model.specs.declared.tiles.WireRow.{WireRow}
 use Rattle.fab_model.specs.declared.tiles.Bel.{Bel}
 use Rattle.fab_model.specs.Rows.{is_jump, dest_bits}
 use Rattle.fab_model.specs.Tiles.{PlainTile, counted, row_wires, bel_wires, wire_name, matrix_names, tile_bits, IsTile, bits_before}
-use Rattle.fab_parts_sound.specs.fab_gen_tile.specs.Words.{IsNamed}
-use Rattle.fab_parts_sound.specs.fab_gen_tile.specs.Names.{frame_data_name, frame_strobe_name, bits_name, config_instance_name, matrix_instance_name}
-use Rattle.fab_parts_sound.specs.fab_gen_tile.specs.Borders.{border, passing_assign, beginning_assign, begin_assigns, dest_assign, row_assigns, border_ports}
-use Rattle.fab_parts_sound.specs.fab_gen_tile.specs.TileModule.{bels_ports, tile_ports, bits_wire, config_instances, matrix_output_names, matrix_instances, bel_instance, bel_instances, tile_items}
+use Rattle.fab_parts_sound.specs.fab_gen_tile_Words.{IsNamed}
+use Rattle.fab_parts_sound.specs.fab_gen_tile_Names.{frame_data_name, frame_strobe_name, bits_name, config_instance_name, matrix_instance_name}
+use Rattle.fab_parts_sound.specs.fab_gen_tile_Borders.{border, passing_assign, beginning_assign, begin_assigns, dest_assign, row_assigns, border_ports}
+use Rattle.fab_parts_sound.specs.fab_gen_tile_TileModule.{bels_ports, tile_ports, bits_wire, config_instances, matrix_output_names, matrix_instances, bel_instance, bel_instances, tile_items}
 use Rattle.fab_parts_sound.proofs.Names.{Differ, AreApart, IsNet, nets, net_names, instance_names}
 use Rattle.fab_parts_sound.proofs.Lists.{all_counted, all_flat_map, pairs_none, pairs_left}
 use Rattle.fab_tiles_sound.proofs.Ranks.{rank, StandAbove, none_above, group_above, single_above}

@@ -14,8 +14,8 @@ use Rattle.fab_meaning.specs.Ports.{scalar}
 use Rattle.fab_model.specs.declared.tiles.WireRow.{WireRow}
 use Rattle.fab_model.specs.Rows.{is_jump, is_named, source_bits, dest_bits, side_bits, bit_name, IsWireRow}
 use Rattle.fab_model.specs.Tiles.{TileWire, source_bit, dest_bit, counted, row_wires, wire_name}
-use Rattle.fab_parts_sound.specs.fab_gen_tile.specs.Names.{border_name, begin_name, end_name}
-use Rattle.fab_parts_sound.specs.fab_gen_tile.specs.Borders.{border, side_border, border_ports}
+use Rattle.fab_parts_sound.specs.fab_gen_tile_Names.{border_name, begin_name, end_name}
+use Rattle.fab_parts_sound.specs.fab_gen_tile_Borders.{border, side_border, border_ports}
 use Rattle.fab_parts_sound.proofs.Names.{Differ, AreApart}
 use Rattle.fab_parts_sound.proofs.Lists.{length-counted, all_counted, all_flat_map, pairs_none, pairs_append, pairs_counted, pairs_across, pairs_right, contains_map, contains_counted}
 use Rattle.fab_tiles_sound.proofs.Digits.{same_word, same_number}

@@ -16,15 +16,15 @@ use Rattle.fab_meaning.proofs.Modules.{Each, each_all}
 use Rattle.fab_model.specs.declared.tiles.Bel.{Bel}
 use Rattle.fab_model.specs.Tiles.{PlainTile, tile_bits, IsTile, bits_before}
 use Rattle.fab_prim.specs.Modules.{module_name, module_of_kind}
-use Rattle.fab_parts_sound.specs.fab_gen_tile.specs.Words.{IsNamed}
-use Rattle.fab_parts_sound.specs.fab_gen_tile.specs.Names.{config_module_name, matrix_module_name, config_instance_name, matrix_instance_name, bel_instance_name}
-use Rattle.fab_parts_sound.specs.fab_gen_tile.specs.ConfigModule.{config_module}
-use Rattle.fab_parts_sound.specs.fab_gen_tile.specs.MatrixModule.{matrix_module}
-use Rattle.fab_parts_sound.specs.fab_gen_tile.specs.TileModule.{config_joins, config_instances, matrix_output_names, matrix_joins, matrix_instances, bel_joins, bel_instance, bel_instances, tile_items, tile_module}
+use Rattle.fab_parts_sound.specs.fab_gen_tile_Words.{IsNamed}
+use Rattle.fab_parts_sound.specs.fab_gen_tile_Names.{config_module_name, matrix_module_name, config_instance_name, matrix_instance_name, bel_instance_name}
+use Rattle.fab_parts_sound.specs.fab_gen_tile_ConfigModule.{config_module}
+use Rattle.fab_parts_sound.specs.fab_gen_tile_MatrixModule.{matrix_module}
+use Rattle.fab_parts_sound.specs.fab_gen_tile_TileModule.{config_joins, config_instances, matrix_output_names, matrix_joins, matrix_instances, bel_joins, bel_instance, bel_instances, tile_items, tile_module}
 use Rattle.fab_parts_sound.proofs.Configurations.{config_clocks}
 use Rattle.fab_parts_sound.proofs.Primitives.{primitive_clocks}
 use Rattle.fab_parts_sound.proofs.TileMatrices.{tile_matrix_clocks}
-use Rattle.fab_parts_sound.specs.fab_tile_drives.proofs.Members.{contains_at}
+use Rattle.fab_parts_sound.proofs.fab_tile_drives_Members.{contains_at}
 use Rattle.fab_tiles_sound.specs.Has.{HasModules}
 use Rattle.fab_tiles_sound.proofs.Apart.{instances, each_of_tile}
 use Rattle.fab_tiles_sound.proofs.Shapes.{whole_shape}

@@ -5,7 +5,7 @@ use Rattle.std.proofs.lemmas.Bool.{cases_Bool, eqb-true, lt-ltb}
 use Rattle.std.proofs.lemmas.List.{append_cancel_left}
 use Rattle.std.proofs.lemmas.List.Elements.{All-nil, All-cons, All-head, All-tail}
 use Rattle.std.proofs.lemmas.Fmt.{decimal_injective}
-use Rattle.fab_parts_sound.specs.fab_tile_drives.proofs.Endings.{last_byte}
+use Rattle.fab_parts_sound.proofs.fab_tile_drives_Endings.{last_byte}
 
 -- ---- the bytes of a number
 

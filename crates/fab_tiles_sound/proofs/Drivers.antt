@@ -16,14 +16,14 @@ use Rattle.fab_model.specs.declared.tiles.Bel.{Bel}
 use Rattle.fab_model.specs.Tiles.{PlainTile, row_wires, bel_wires, counted, wire_name, matrix_names, numbered_pairs, bel_bits, tile_bits, IsTile, bits_before}
 use Rattle.fab_prim.specs.Ports.{top_outputs}
 use Rattle.fab_prim.specs.Modules.{module_name, module_of_kind}
-use Rattle.fab_parts_sound.specs.fab_gen_tile.specs.Names.{pad_name, same_join}
-use Rattle.fab_parts_sound.specs.fab_gen_tile.specs.Borders.{border_ports, row_assigns}
-use Rattle.fab_parts_sound.specs.fab_gen_tile.specs.MatrixModule.{named_pairs, matrix_module}
-use Rattle.fab_parts_sound.specs.fab_gen_tile.specs.TileModule.{pad_ports, bels_ports, tile_ports, bits_wire, config_joins, config_instances, bits_join, matrix_input_names, matrix_output_names, matrix_joins, matrix_instances, bel_joins, bel_instance, bel_instances, tile_items}
+use Rattle.fab_parts_sound.specs.fab_gen_tile_Names.{pad_name, same_join}
+use Rattle.fab_parts_sound.specs.fab_gen_tile_Borders.{border_ports, row_assigns}
+use Rattle.fab_parts_sound.specs.fab_gen_tile_MatrixModule.{named_pairs, matrix_module}
+use Rattle.fab_parts_sound.specs.fab_gen_tile_TileModule.{pad_ports, bels_ports, tile_ports, bits_wire, config_joins, config_instances, bits_join, matrix_input_names, matrix_output_names, matrix_joins, matrix_instances, bel_joins, bel_instance, bel_instances, tile_items}
 use Rattle.fab_parts_sound.proofs.Counts.{joined_names}
 use Rattle.fab_parts_sound.proofs.Names.{net_names}
 use Rattle.fab_parts_sound.proofs.Lists.{all_right}
-use Rattle.fab_parts_sound.specs.fab_tile_drives.proofs.NamedPairs.{bits_same}
+use Rattle.fab_parts_sound.proofs.fab_tile_drives_NamedPairs.{bits_same}
 use Rattle.fab_tiles_sound.specs.Has.{HasModules}
 use Rattle.fab_tiles_sound.proofs.Apart.{declarations, bits_names, declared_names}
 use Rattle.fab_tiles_sound.proofs.Standing.{all_left}

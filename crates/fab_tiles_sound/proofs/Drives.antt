@@ -12,12 +12,12 @@ use Rattle.fab_model.specs.declared.tiles.WireRow.{WireRow}
 use Rattle.fab_model.specs.Rows.{is_jump, source_bits, dest_bits, bit_name, IsWireRow}
 use Rattle.fab_model.specs.Tiles.{TileWire, source_bit, dest_bit, counted, row_wires, wire_name}
 use Rattle.fab_model.proofs.Inserts.{map_counted}
-use Rattle.fab_parts_sound.specs.fab_gen_tile.specs.Names.{begin_name, end_name}
-use Rattle.fab_parts_sound.specs.fab_gen_tile.specs.Borders.{border, side_border, border_ports, passing_assign, beginning_assign, begin_assigns, dest_value, dest_assign, row_assigns}
-use Rattle.fab_parts_sound.specs.fab_gen_tile.specs.TileModule.{is_on_side}
+use Rattle.fab_parts_sound.specs.fab_gen_tile_Names.{begin_name, end_name}
+use Rattle.fab_parts_sound.specs.fab_gen_tile_Borders.{border, side_border, border_ports, passing_assign, beginning_assign, begin_assigns, dest_value, dest_assign, row_assigns}
+use Rattle.fab_parts_sound.specs.fab_gen_tile_TileModule.{is_on_side}
 use Rattle.fab_parts_sound.proofs.Lists.{one_each}
 use Rattle.fab_parts_sound.proofs.Counts.{item_drives, driven_names, times}
-use Rattle.fab_parts_sound.specs.fab_tile_drives.proofs.BorderBits.{border_is}
+use Rattle.fab_parts_sound.proofs.fab_tile_drives_BorderBits.{border_is}
 
 -- ---- counts and lists
 

@@ -2,8 +2,8 @@
 use Rattle.std.proofs.Common.{List}
 use Rattle.fab_syntax.specs.Plain.{PlainModule}
 use Rattle.fab_model.specs.Tiles.{PlainTile, IsTile}
-use Rattle.fab_parts_sound.specs.fab_gen_tile.specs.Words.{IsNamed}
-use Rattle.fab_parts_sound.specs.fab_gen_tile.specs.TileModule.{tile_module}
+use Rattle.fab_parts_sound.specs.fab_gen_tile_Words.{IsNamed}
+use Rattle.fab_parts_sound.specs.fab_gen_tile_TileModule.{tile_module}
 use Rattle.fab_parts_sound.specs.Fits.{FitsIn}
 use Rattle.fab_tiles_sound.specs.Has.{HasModules}
 use Rattle.fab_tiles_sound.proofs.Items.{names_stand, selects_stand, widths_stand}

@@ -14,13 +14,13 @@ use Rattle.fab_model.specs.declared.tiles.Bel.{Bel}
 use Rattle.fab_model.specs.Tiles.{PlainTile, matrix_names, numbered_pairs, bel_bits, tile_bits, IsTile, bits_before}
 use Rattle.fab_prim.specs.Ports.{clock_names, top_inputs, top_outputs, module_ports}
 use Rattle.fab_prim.specs.Modules.{module_name, module_of_kind}
-use Rattle.fab_parts_sound.specs.fab_gen_tile.specs.Words.{IsNamed}
-use Rattle.fab_parts_sound.specs.fab_gen_tile.specs.Names.{config_module_name, matrix_module_name, config_instance_name, matrix_instance_name, frame_data_name, frame_strobe_name, bits_name, bel_instance_name, pad_name, same_join}
-use Rattle.fab_parts_sound.specs.fab_gen_tile.specs.ConfigModule.{config_module}
-use Rattle.fab_parts_sound.specs.fab_gen_tile.specs.MatrixModule.{named_pairs, matrix_module}
-use Rattle.fab_parts_sound.specs.fab_gen_tile.specs.TileModule.{config_joins, config_instances, bits_join, matrix_input_names, matrix_output_names, matrix_joins, matrix_instances, pin_join, pad_join, bel_joins, bel_instance, bel_instances, tile_items, tile_module}
-use Rattle.fab_parts_sound.specs.fab_tile_drives.proofs.NamedPairs.{bits_same}
-use Rattle.fab_parts_sound.specs.fab_tile_drives.proofs.Members.{contains_at}
+use Rattle.fab_parts_sound.specs.fab_gen_tile_Words.{IsNamed}
+use Rattle.fab_parts_sound.specs.fab_gen_tile_Names.{config_module_name, matrix_module_name, config_instance_name, matrix_instance_name, frame_data_name, frame_strobe_name, bits_name, bel_instance_name, pad_name, same_join}
+use Rattle.fab_parts_sound.specs.fab_gen_tile_ConfigModule.{config_module}
+use Rattle.fab_parts_sound.specs.fab_gen_tile_MatrixModule.{named_pairs, matrix_module}
+use Rattle.fab_parts_sound.specs.fab_gen_tile_TileModule.{config_joins, config_instances, bits_join, matrix_input_names, matrix_output_names, matrix_joins, matrix_instances, pin_join, pad_join, bel_joins, bel_instance, bel_instances, tile_items, tile_module}
+use Rattle.fab_parts_sound.proofs.fab_tile_drives_NamedPairs.{bits_same}
+use Rattle.fab_parts_sound.proofs.fab_tile_drives_Members.{contains_at}
 use Rattle.fab_tiles_sound.specs.Has.{HasModules}
 use Rattle.fab_tiles_sound.proofs.Apart.{each_of_tile}
 use Rattle.fab_tiles_sound.proofs.Shapes.{shape_of, bits_shape}

@@ -8,8 +8,8 @@ use Rattle.fab_syntax.specs.Plain.{PlainExpr, PlainJoin, PlainItem, constant, va
 use Rattle.fab_syntax.specs.Declarations.{width_if_any}
 use Rattle.fab_syntax.specs.Sound.{instance_name, use_of, joined_expressions, uses, mentions_in, refusals, item_expressions, width_of, width_of_name, SelectFits, OperandsFit, SidesFit, Every, IsVectorAnd}
 use Rattle.fab_model.specs.Tiles.{PlainTile, IsTile}
-use Rattle.fab_parts_sound.specs.fab_gen_tile.specs.Words.{IsNamed}
-use Rattle.fab_parts_sound.specs.fab_gen_tile.specs.TileModule.{tile_ports, tile_items, tile_module}
+use Rattle.fab_parts_sound.specs.fab_gen_tile_Words.{IsNamed}
+use Rattle.fab_parts_sound.specs.fab_gen_tile_TileModule.{tile_ports, tile_items, tile_module}
 use Rattle.fab_parts_sound.proofs.Names.{IsKnown, UsesNets, OwnKnown, uses_known, nets, names_fit}
 use Rattle.fab_parts_sound.proofs.Lists.{all_flat_map}
 use Rattle.fab_tiles_sound.proofs.Apart.{declarations, later_items, items_split, each_declaration, they_declare, all_apart}

@@ -9,7 +9,7 @@ use Rattle.fab_syntax.specs.Plain.{PlainJoin, PlainModule, variable}
 use Rattle.fab_syntax.specs.Declarations.{width, is_input, is_input_of, one_if_same, times_joined}
 use Rattle.fab_syntax.specs.Sound.{FitsPort, JoinFits, IsJoinedOnce, port_named}
 use Rattle.fab_meaning.proofs.Declared.{bytes_apart}
-use Rattle.fab_parts_sound.specs.fab_gen_tile.specs.Names.{port_join}
+use Rattle.fab_parts_sound.specs.fab_gen_tile_Names.{port_join}
 use Rattle.fab_parts_sound.proofs.Counts.{driven_name, joined_names, times, times_once}
 use Rattle.fab_parts_sound.proofs.Names.{Differ, AreApart}
 use Rattle.fab_parts_sound.proofs.Declared.{port_names, port_direction}

@@ -11,9 +11,9 @@ use Rattle.fab_syntax.specs.Declarations.{times_driven, times_held}
 use Rattle.fab_syntax.specs.Sound.{IsAssignedOnce, DirectionFits, PortIsDriven, ItemIsDriven}
 use Rattle.fab_model.specs.declared.tiles.Bel.{Bel}
 use Rattle.fab_model.specs.Tiles.{PlainTile, matrix_names, tile_bits, IsTile, bits_before}
-use Rattle.fab_parts_sound.specs.fab_gen_tile.specs.Words.{IsNamed}
-use Rattle.fab_parts_sound.specs.fab_gen_tile.specs.Names.{bits_name}
-use Rattle.fab_parts_sound.specs.fab_gen_tile.specs.TileModule.{tile_ports, bits_wire, config_instances, matrix_output_names, matrix_instances, bel_instance, bel_instances, tile_items, tile_module}
+use Rattle.fab_parts_sound.specs.fab_gen_tile_Words.{IsNamed}
+use Rattle.fab_parts_sound.specs.fab_gen_tile_Names.{bits_name}
+use Rattle.fab_parts_sound.specs.fab_gen_tile_TileModule.{tile_ports, bits_wire, config_instances, matrix_output_names, matrix_instances, bel_instance, bel_instances, tile_items, tile_module}
 use Rattle.std.specs.List.{enumerate_from}
 use Rattle.fab_parts_sound.proofs.Counts.{times, times_once, driven_times}
 use Rattle.fab_parts_sound.proofs.Names.{nets, net_names}

@@ -11,8 +11,8 @@ use Rattle.fab_meaning.proofs.Modules.{each_all}
 use Rattle.fab_model.specs.declared.tiles.Bel.{Bel}
 use Rattle.fab_meaning.specs.Ports.{scalar}
 use Rattle.fab_prim.specs.Ports.{top_name}
-use Rattle.fab_parts_sound.specs.fab_gen_tile.specs.Names.{bel_instance_name, pad_name}
-use Rattle.fab_parts_sound.specs.fab_gen_tile.specs.TileModule.{pad_ports, bels_ports}
+use Rattle.fab_parts_sound.specs.fab_gen_tile_Names.{bel_instance_name, pad_name}
+use Rattle.fab_parts_sound.specs.fab_gen_tile_TileModule.{pad_ports, bels_ports}
 use Rattle.fab_parts_sound.proofs.Names.{Differ, AreApart}
 use Rattle.fab_parts_sound.proofs.Lists.{all_flat_map, pairs_none, pairs_append, pairs_head, pairs_tail}
 use Rattle.fab_tiles_sound.proofs.Ranks.{rank}

@@ -12,9 +12,9 @@ use Rattle.fab_model.specs.declared.tiles.Bel.{Bel}
 use Rattle.fab_model.specs.Rows.{source_bits, dest_bits, side_bits, bit_name}
 use Rattle.fab_model.specs.Tiles.{PlainTile, TileWire, source_bit, dest_bit, bel_pin, counted, row_wires, bel_wires, tile_wires, wire_name, matrix_names}
 use Rattle.std.specs.Fmt.{decimal}
-use Rattle.fab_parts_sound.specs.fab_gen_tile.specs.Words.{IsFreeName, IsNamed}
+use Rattle.fab_parts_sound.specs.fab_gen_tile_Words.{IsFreeName, IsNamed}
 use Rattle.fab_parts_sound.proofs.Lists.{all_counted, all_flat_map}
-use Rattle.fab_parts_sound.specs.fab_tile_drives.proofs.Endings.{last_byte, last_append}
+use Rattle.fab_parts_sound.proofs.fab_tile_drives_Endings.{last_byte, last_append}
 use Rattle.fab_tiles_sound.proofs.Digits.{first_byte, first_digit, last_digit, decimal_digits}
 use Rattle.fab_tiles_sound.proofs.Ranks.{is_made, plain_rank, rank, free_joined, plain_is, low_plain}
 

@@ -7,9 +7,9 @@ use Rattle.fab_select.specs.Selection.{select_bits}
 use Rattle.fab_meaning.specs.Ports.{config_port, scalar}
 use Rattle.fab_model.specs.Tiles.{PlainTile, IsTile}
 use Rattle.fab_prim.specs.Ports.{module_ports}
-use Rattle.fab_parts_sound.specs.fab_gen_tile.specs.ConfigModule.{config_module}
-use Rattle.fab_parts_sound.specs.fab_gen_tile.specs.TileModule.{matrix_input_names, matrix_output_names}
-use Rattle.fab_parts_sound.specs.fab_gen_tile.specs.MatrixModule.{numbered_outputs, named_pairs, matrix_module}
+use Rattle.fab_parts_sound.specs.fab_gen_tile_ConfigModule.{config_module}
+use Rattle.fab_parts_sound.specs.fab_gen_tile_TileModule.{matrix_input_names, matrix_output_names}
+use Rattle.fab_parts_sound.specs.fab_gen_tile_MatrixModule.{numbered_outputs, named_pairs, matrix_module}
 use Rattle.fab_parts_sound.proofs.Apart.{any_same, apart_if}
 use Rattle.fab_parts_sound.proofs.Declared.{port_names}
 use Rattle.fab_parts_sound.proofs.Matrices.{config_names}

@@ -4,7 +4,7 @@ use Rattle.std.specs.List.{starts_with}
 use Rattle.std.proofs.lemmas.List.Elements.{All-nil, All-cons, All-append, All-weaker}
 use Rattle.fab_parts_sound.proofs.Names.{Differ, AreApart}
 use Rattle.fab_parts_sound.proofs.Lists.{pairs_none, pairs_append}
-use Rattle.fab_parts_sound.specs.fab_tile_drives.proofs.Endings.{last_byte}
+use Rattle.fab_parts_sound.proofs.fab_tile_drives_Endings.{last_byte}
 use Rattle.fab_tiles_sound.proofs.Digits.{first_byte, byte_apart}
 
 -- a name that the generator makes

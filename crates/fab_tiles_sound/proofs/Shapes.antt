@@ -11,13 +11,13 @@ use Rattle.fab_syntax.specs.Plain.{PlainItem, wire, reg, assign, latch, clocked,
 use Rattle.fab_syntax.specs.Declarations.{item_shape, declared_shape}
 use Rattle.fab_meaning.proofs.Declared.{bytes_apart}
 use Rattle.fab_model.specs.Tiles.{PlainTile, matrix_names, tile_bits, IsTile}
-use Rattle.fab_parts_sound.specs.fab_gen_tile.specs.Words.{IsNamed}
-use Rattle.fab_parts_sound.specs.fab_gen_tile.specs.Names.{bits_name}
-use Rattle.fab_parts_sound.specs.fab_gen_tile.specs.TileModule.{tile_ports, bits_wire, tile_items}
+use Rattle.fab_parts_sound.specs.fab_gen_tile_Words.{IsNamed}
+use Rattle.fab_parts_sound.specs.fab_gen_tile_Names.{bits_name}
+use Rattle.fab_parts_sound.specs.fab_gen_tile_TileModule.{tile_ports, bits_wire, tile_items}
 use Rattle.fab_parts_sound.proofs.Names.{Differ, AreApart, nets, net_names}
 use Rattle.fab_parts_sound.proofs.Declared.{port_names, port_declared}
 use Rattle.fab_parts_sound.proofs.Lists.{pairs_left, pairs_head, pairs_tail, pairs_right, pairs_across, contains_first, contains_later}
-use Rattle.fab_parts_sound.specs.fab_tile_drives.proofs.Widths.{scalar_wire, passed_wires}
+use Rattle.fab_parts_sound.proofs.fab_tile_drives_Widths.{scalar_wire, passed_wires}
 use Rattle.fab_tiles_sound.proofs.Apart.{declarations, later_items, items_split, bits_names, declared_names, nets_apart}
 
 -- ---- a name with a shape is a net

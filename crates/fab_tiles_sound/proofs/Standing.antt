@@ -20,15 +20,15 @@ use Rattle.fab_model.specs.declared.tiles.Bel.{Bel}
 use Rattle.fab_model.specs.Rows.{is_jump, is_named, side_bits, source_bits, dest_bits, bit_name, IsWireRow}
 use Rattle.fab_model.specs.Tiles.{PlainTile, TileWire, source_bit, dest_bit, bel_pin, counted, row_wires, bel_wires, tile_wires, wire_name, numbered_pairs, bel_bits, tile_bits, IsTile, bits_before}
 use Rattle.fab_prim.specs.Ports.{clock_names, top_inputs, top_outputs}
-use Rattle.fab_parts_sound.specs.fab_gen_tile.specs.Words.{IsNamed}
-use Rattle.fab_parts_sound.specs.fab_gen_tile.specs.Names.{config_module_name, matrix_module_name, config_instance_name, matrix_instance_name, frame_data_name, frame_strobe_name, begin_name, end_name, pad_name, vector, same_join}
-use Rattle.fab_parts_sound.specs.fab_gen_tile.specs.Borders.{border, side_border, border_ports, passing_assign, beginning_assign, begin_assigns, dest_value, dest_assign, row_assigns}
-use Rattle.fab_parts_sound.specs.fab_gen_tile.specs.ConfigModule.{frame_ports}
-use Rattle.fab_parts_sound.specs.fab_gen_tile.specs.TileModule.{pad_ports, bels_ports, tile_ports, config_joins, config_instances, bits_join, is_on_side, side_names, matrix_input_names, matrix_output_names, matrix_joins, matrix_instances, pin_join, pad_join, bel_instance, bel_instances}
+use Rattle.fab_parts_sound.specs.fab_gen_tile_Words.{IsNamed}
+use Rattle.fab_parts_sound.specs.fab_gen_tile_Names.{config_module_name, matrix_module_name, config_instance_name, matrix_instance_name, frame_data_name, frame_strobe_name, begin_name, end_name, pad_name, vector, same_join}
+use Rattle.fab_parts_sound.specs.fab_gen_tile_Borders.{border, side_border, border_ports, passing_assign, beginning_assign, begin_assigns, dest_value, dest_assign, row_assigns}
+use Rattle.fab_parts_sound.specs.fab_gen_tile_ConfigModule.{frame_ports}
+use Rattle.fab_parts_sound.specs.fab_gen_tile_TileModule.{pad_ports, bels_ports, tile_ports, config_joins, config_instances, bits_join, is_on_side, side_names, matrix_input_names, matrix_output_names, matrix_joins, matrix_instances, pin_join, pad_join, bel_instance, bel_instances}
 use Rattle.fab_parts_sound.proofs.Lists.{all_counted, all_flat_map, all_right, contains_first, contains_later, contains_map, contains_counted}
-use Rattle.fab_parts_sound.specs.fab_tile_drives.proofs.Members.{contains_at, contains_flat_map, get_enumerated}
-use Rattle.fab_parts_sound.specs.fab_tile_drives.proofs.BorderBits.{border_is, dest_within, jump_source}
-use Rattle.fab_parts_sound.specs.fab_tile_drives.proofs.PinPorts.{bits_within}
+use Rattle.fab_parts_sound.proofs.fab_tile_drives_Members.{contains_at, contains_flat_map, get_enumerated}
+use Rattle.fab_parts_sound.proofs.fab_tile_drives_BorderBits.{border_is, dest_within, jump_source}
+use Rattle.fab_parts_sound.proofs.fab_tile_drives_PinPorts.{bits_within}
 use Rattle.fab_tiles_sound.proofs.Apart.{instances, later_items}
 use Rattle.fab_tiles_sound.proofs.Shapes.{shape_of, port_shape, matrix_shape, bits_shape}
 use Rattle.fab_tiles_sound.proofs.Items.{ItemStands, JoinStands, IsBit}

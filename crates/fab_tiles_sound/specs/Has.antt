@@ -4,10 +4,10 @@ use Rattle.fab_syntax.specs.Plain.{PlainModule}
 use Rattle.fab_syntax.specs.Declarations.{module_named}
 use Rattle.fab_prim.specs.Modules.{module_name, module_of_kind}
 use Rattle.fab_model.specs.Tiles.{PlainTile, tile_bits}
-use Rattle.fab_parts_sound.specs.fab_gen_tile.specs.Names.{config_module_name, matrix_module_name}
-use Rattle.fab_parts_sound.specs.fab_gen_tile.specs.ConfigModule.{config_module}
-use Rattle.fab_parts_sound.specs.fab_gen_tile.specs.MatrixModule.{matrix_module}
-use Rattle.fab_parts_sound.specs.fab_gen_tile.specs.TileModule.{matrix_output_names}
+use Rattle.fab_parts_sound.specs.fab_gen_tile_Names.{config_module_name, matrix_module_name}
+use Rattle.fab_parts_sound.specs.fab_gen_tile_ConfigModule.{config_module}
+use Rattle.fab_parts_sound.specs.fab_gen_tile_MatrixModule.{matrix_module}
+use Rattle.fab_parts_sound.specs.fab_gen_tile_TileModule.{matrix_output_names}
 
 -- By their names are found the tile's configuration where it has bits, its switch matrix where that has an output, and the modules of its BELs.
 pub record HasModules (modules : List PlainModule) (tile : PlainTile) : Type 0 where

@@ -1,2 +1,2 @@
 pub mod Has
-pub use Rattle.fab_parts_sound
+pub use Rattle.fab_parts_sound.specs.Fits as fab_parts_sound_Fits

@@ -6,8 +6,8 @@ ghost use Rattle.fab_syntax.specs.Plain.{PlainModule};
 ghost use Rattle.fab_syntax.specs.Sound.{ServesAsClock};
 ghost use Rattle.fab_meaning.specs.Runs.{user_clock_name};
 ghost use Rattle.fab_model.specs.Tiles.{PlainTile, IsTile};
-ghost use Rattle.fab_parts_sound.specs.fab_gen_tile.specs.Words.{IsNamed};
-ghost use Rattle.fab_parts_sound.specs.fab_gen_tile.specs.TileModule.{tile_module};
+ghost use Rattle.fab_parts_sound.specs.fab_gen_tile_Words.{IsNamed};
+ghost use Rattle.fab_parts_sound.specs.fab_gen_tile_TileModule.{tile_module};
 ghost use Rattle.fab_parts_sound.specs.Fits.{FitsIn};
 ghost use Rattle.fab_tiles_sound.specs.Has.{HasModules};
 

@@ -9,13 +9,13 @@ use Rattle.fab_model.specs.declared.tiles.Bel.{Bel}
 use Rattle.fab_model.specs.Tiles.{PlainTile, counted, tile_bits, numbered_pairs}
 use Rattle.fab_model.specs.Grid.{PlainFabric}
 use Rattle.fab_meaning.specs.Ports.{config_name}
-use Rattle.fab_text_loads.specs.fab_gen_tile.specs.Names.{config_instance_name, frame_data_name, frame_strobe_name, bits_name, latch_name}
-use Rattle.fab_text_loads.specs.fab_gen_loader.specs.Loader as loader
-use Rattle.fab_text_loads.specs.fab_fabric_text.specs.Names.{column_strobe_name}
-use Rattle.fab_text_loads.specs.fab_fabric_text.specs.Places.{PlacedTile, placed_tiles}
-use Rattle.fab_text_loads.specs.fab_fabric.specs.Sites.{same_kind}
-use Rattle.fab_text_loads.specs.fab_tile_drives.specs.Stands.{matrix_path, bel_path}
-use Rattle.fab_text_loads.specs.fab_drives.specs.Points.{place_path}
+use Rattle.fab_text_loads.specs.fab_gen_tile_Names.{config_instance_name, frame_data_name, frame_strobe_name, bits_name, latch_name}
+use Rattle.fab_text_loads.specs.fab_gen_loader_Loader as loader
+use Rattle.fab_text_loads.specs.fab_fabric_text_Names.{column_strobe_name}
+use Rattle.fab_text_loads.specs.fab_fabric_text_Places.{PlacedTile, placed_tiles}
+use Rattle.fab_text_loads.specs.fab_fabric_Sites.{same_kind}
+use Rattle.fab_text_loads.specs.fab_tile_drives_Stands.{matrix_path, bel_path}
+use Rattle.fab_text_loads.specs.fab_drives_Points.{place_path}
 use Rattle.fab_text_loads.specs.Points.{loader_path}
 
 -- a name of an instance, with its width in bits

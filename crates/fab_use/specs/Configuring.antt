@@ -4,12 +4,12 @@ use Rattle.fab_model.specs.Tiles.{PlainTile, bits_before}
 use Rattle.fab_model.specs.Wires.{PlainWire, IsMatrixOutput}
 use Rattle.fab_model.specs.Grid.{PlainFabric, tile_at}
 use Rattle.fab_model.specs.Drive.{PlainBits}
-use Rattle.fab_text_loads.specs.fab_fabric.specs.Wires.{IsIndexOf}
-use Rattle.fab_text_loads.specs.fab_fabric.specs.declared.wire.Site.{Site}
+use Rattle.fab_text_loads.specs.fab_fabric_Wires.{IsIndexOf}
+use Rattle.fab_text_loads.specs.fab_fabric_wire_Site.{Site}
 use Rattle.fab_state.specs.fab_netlist.specs.WellMade.{table_bit}
 use Rattle.fab_state.specs.fab_netlist.specs.Packed.{PlainCell, PlainPacked}
 use Rattle.fab_state.specs.fab_implementation.specs.Plain.{Edge, PlainTree, PlainImplementation}
-use Rattle.fab_text_loads.specs.fab_tile_drives.specs.Tiles.{picked}
+use Rattle.fab_text_loads.specs.fab_tile_drives_Tiles.{picked}
 use Rattle.fab_use.specs.Design.{IsBound}
 
 -- The 19 configuration bits of the LUT4c of a cell: 0 to 15 are its table, and 16 selects the flip-flop where the cell has a latch; 17 leaves

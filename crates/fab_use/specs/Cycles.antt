@@ -5,10 +5,10 @@ use Rattle.fab_meaning.specs.Points.{Point, point}
 use Rattle.fab_meaning.specs.Settled.{Assignment, IsSettledOn}
 use Rattle.fab_meaning.specs.Runs.{clock_name, user_clock_name, AreClocksLow, Ticks}
 use Rattle.fab_meaning.specs.Loading.{write_strobe_name}
-use Rattle.fab_text_loads.specs.fab_fabric.specs.declared.wire.Site.{Site}
+use Rattle.fab_text_loads.specs.fab_fabric_wire_Site.{Site}
 use Rattle.fab_state.specs.fab_netlist.specs.Plain.{PlainNetlist, IsAt, bit_at, name_of}
 use Rattle.fab_state.specs.fab_implementation.specs.Plain.{PlainImplementation}
-use Rattle.fab_text_loads.specs.fab_prim.specs.Ports.{top_name}
+use Rattle.fab_text_loads.specs.fab_prim_Ports.{top_name}
 use Rattle.fab_use.specs.Sites.{top_point}
 
 -- ---- instants

@@ -10,18 +10,18 @@ use Rattle.fab_model.specs.Tiles.{PlainTile}
 use Rattle.fab_model.specs.Wires.{PlainWire, dest_of}
 use Rattle.fab_model.specs.Grid.{PlainFabric, tile_at}
 use Rattle.fab_model.specs.Cascade.{PlacedRow, placed_row}
-use Rattle.fab_text_loads.specs.fab_fabric.specs.Wires.{IsIndexOf, row_place}
-use Rattle.fab_text_loads.specs.fab_fabric.specs.declared.wire.Site.{Site}
-use Rattle.fab_text_loads.specs.fab_fabric.specs.declared.wire.Wire.{Wire}
+use Rattle.fab_text_loads.specs.fab_fabric_Wires.{IsIndexOf, row_place}
+use Rattle.fab_text_loads.specs.fab_fabric_wire_Site.{Site}
+use Rattle.fab_text_loads.specs.fab_fabric_wire_Wire.{Wire}
 use Rattle.fab_state.specs.fab_netlist.specs.Plain.{IsAt}
 use Rattle.fab_state.specs.fab_netlist.specs.Packed.{PlainCell, PlainPacked}
 use Rattle.fab_state.specs.fab_implementation.specs.Plain.{PlainImplementation}
 use Rattle.fab_legal.specs.Nets.{Net, StandsIn}
-use Rattle.fab_text_loads.specs.fab_prim.specs.Ports.{top_name}
-use Rattle.fab_text_loads.specs.fab_prim.specs.Modules.{flip_flop_name}
-use Rattle.fab_text_loads.specs.fab_gen_tile.specs.TileModule.{matrix_output_names}
-use Rattle.fab_text_loads.specs.fab_tile_drives.specs.Stands.{matrix_path, name_of, wire_point}
-use Rattle.fab_text_loads.specs.fab_drives.specs.Points.{place_path, IsOnWay}
+use Rattle.fab_text_loads.specs.fab_prim_Ports.{top_name}
+use Rattle.fab_text_loads.specs.fab_prim_Modules.{flip_flop_name}
+use Rattle.fab_text_loads.specs.fab_gen_tile_TileModule.{matrix_output_names}
+use Rattle.fab_text_loads.specs.fab_tile_drives_Stands.{matrix_path, name_of, wire_point}
+use Rattle.fab_text_loads.specs.fab_drives_Points.{place_path, IsOnWay}
 use Rattle.fab_use.specs.Sites.{bel_point, port_point, top_point, pin_point}
 use Rattle.fab_use.specs.Configuration.{IsConfigurationPoint}
 

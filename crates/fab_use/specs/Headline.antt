@@ -9,8 +9,8 @@ use Rattle.fab_meaning.specs.Runs.{clock_name, Moment, IsRunOn, Ticks}
 use Rattle.fab_meaning.specs.Loading.{IsLoading}
 use Rattle.fab_model.specs.Grid.{PlainFabric}
 use Rattle.fab_model.specs.Drive.{PlainBits}
-use Rattle.fab_text_loads.specs.fab_fabric.specs.Fabric.{IsFabric, AreTiles}
-use Rattle.fab_text_loads.specs.fab_frames.specs.Stream.{stream}
+use Rattle.fab_text_loads.specs.fab_fabric_Fabric.{IsFabric, AreTiles}
+use Rattle.fab_text_loads.specs.fab_frames_Stream.{stream}
 use Rattle.fab_state.specs.fab_netlist.specs.Plain.{PlainNetlist}
 use Rattle.fab_state.specs.fab_netlist.specs.WellMade.{IsWellMade}
 use Rattle.fab_state.specs.fab_netlist.specs.Meaning.{IsRun}
@@ -19,9 +19,9 @@ use Rattle.fab_state.specs.fab_netlist.specs.Packing.{packed}
 use Rattle.fab_state.specs.fab_implementation.specs.Plain.{Pad, PlainImplementation}
 use Rattle.fab_legal.specs.Legal.{IsLegal}
 use Rattle.fab_state.specs.Plain.{PlainState}
-use Rattle.fab_text_loads.specs.fab_load_runs.specs.Runs.{IsClockLow}
+use Rattle.fab_text_loads.specs.fab_load_runs_Runs.{IsClockLow}
 use Rattle.fab_text_loads.specs.Loads.{Writes, RunsOnce}
-use Rattle.fab_text_loads.specs.fab_fabric_text.specs.Texts.{IsFabricText}
+use Rattle.fab_text_loads.specs.fab_fabric_text_Texts.{IsFabricText}
 use Rattle.fab_use.specs.Design.{IsDesignPoint}
 use Rattle.fab_use.specs.Configuring.{Configures}
 use Rattle.fab_use.specs.Cycles.{Instant, AreInstants, Feeds, Cycle, AreCycles, EachShows}

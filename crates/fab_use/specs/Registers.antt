@@ -2,7 +2,7 @@
 use Rattle.std.specs.Prelude.{◌≡◌, ℕ, Bool, true, false, List, All, Contains, length, map, nat_eq, bytes_eq, option_map, Option, Some}
 use Rattle.std.specs.List.{filter_map, enumerate_from}
 use Rattle.fab_meaning.specs.Settled.{Assignment}
-use Rattle.fab_text_loads.specs.fab_fabric.specs.declared.wire.Site.{Site}
+use Rattle.fab_text_loads.specs.fab_fabric_wire_Site.{Site}
 use Rattle.fab_state.specs.fab_netlist.specs.declared.netlist.Latch.{Latch}
 use Rattle.fab_state.specs.fab_netlist.specs.Plain.{PlainNetlist, IsAt, bit_at}
 use Rattle.fab_state.specs.fab_netlist.specs.Packed.{PlainCell, PlainPacked}
@@ -10,7 +10,7 @@ use Rattle.fab_state.specs.fab_netlist.specs.Packing.{Work, works, latch_of}
 use Rattle.fab_state.specs.fab_implementation.specs.Plain.{Pad, PlainImplementation}
 use Rattle.fab_legal.specs.Sinks.{site_of}
 use Rattle.fab_state.specs.Plain.{Register, PlainState}
-use Rattle.fab_text_loads.specs.fab_prim.specs.Modules.{flip_flop_name}
+use Rattle.fab_text_loads.specs.fab_prim_Modules.{flip_flop_name}
 use Rattle.fab_use.specs.Sites.{bel_point}
 
 -- Values of the latches of a netlist, by place: each is what the flip-flop holds at the site of the cell that was made of the latch.

@@ -3,11 +3,11 @@ use Rattle.std.specs.Prelude.{ℕ, List, []}
 use Rattle.fab_meaning.specs.Points.{Path, Point, point}
 use Rattle.fab_model.specs.Tiles.{PlainTile}
 use Rattle.fab_model.specs.Wires.{pin_of}
-use Rattle.fab_text_loads.specs.fab_fabric.specs.declared.wire.Site.{Site}
-use Rattle.fab_text_loads.specs.fab_gen_tile.specs.Names.{pad_name}
-use Rattle.fab_text_loads.specs.fab_fabric_text.specs.Names.{pad_port_name}
-use Rattle.fab_text_loads.specs.fab_tile_drives.specs.Stands.{bel_path, wire_point}
-use Rattle.fab_text_loads.specs.fab_drives.specs.Points.{place_path}
+use Rattle.fab_text_loads.specs.fab_fabric_wire_Site.{Site}
+use Rattle.fab_text_loads.specs.fab_gen_tile_Names.{pad_name}
+use Rattle.fab_text_loads.specs.fab_fabric_text_Names.{pad_port_name}
+use Rattle.fab_text_loads.specs.fab_tile_drives_Stands.{bel_path, wire_point}
+use Rattle.fab_text_loads.specs.fab_drives_Points.{place_path}
 
 -- the instance of its tile
 abbrev pub site_path : Site → Path

@@ -11,17 +11,17 @@ use Rattle.fab_model.specs.Tiles.{PlainTile}
 use Rattle.fab_model.specs.Wires.{PlainWire, source_of, dest_of, pin_of, IsMatrixOutput}
 use Rattle.fab_model.specs.Grid.{PlainFabric, tile_at}
 use Rattle.fab_model.specs.Cascade.{PlacedRow, placed_row, previous_row, passing_bits}
-use Rattle.fab_text_loads.specs.fab_fabric.specs.Wires.{IsIndexOf, row_place}
-use Rattle.fab_text_loads.specs.fab_fabric.specs.declared.wire.Site.{Site}
+use Rattle.fab_text_loads.specs.fab_fabric_Wires.{IsIndexOf, row_place}
+use Rattle.fab_text_loads.specs.fab_fabric_wire_Site.{Site}
 use Rattle.fab_state.specs.fab_netlist.specs.WellMade.{table_bit}
 use Rattle.fab_state.specs.fab_netlist.specs.Packed.{PlainCell, PlainPacked}
 use Rattle.fab_state.specs.fab_implementation.specs.Plain.{Edge, PlainTree, PlainImplementation}
-use Rattle.fab_text_loads.specs.fab_prim.specs.Ports.{top_name}
-use Rattle.fab_text_loads.specs.fab_prim.specs.Modules.{flip_flop_name}
-use Rattle.fab_text_loads.specs.fab_gen_tile.specs.Borders.{fixed_bit}
-use Rattle.fab_text_loads.specs.fab_gen_tile.specs.TileModule.{matrix_output_names}
-use Rattle.fab_text_loads.specs.fab_tile_drives.specs.Stands.{matrix_path, name_of, wire_point}
-use Rattle.fab_text_loads.specs.fab_drives.specs.Points.{place_path, row_path}
+use Rattle.fab_text_loads.specs.fab_prim_Ports.{top_name}
+use Rattle.fab_text_loads.specs.fab_prim_Modules.{flip_flop_name}
+use Rattle.fab_text_loads.specs.fab_gen_tile_Borders.{fixed_bit}
+use Rattle.fab_text_loads.specs.fab_gen_tile_TileModule.{matrix_output_names}
+use Rattle.fab_text_loads.specs.fab_tile_drives_Stands.{matrix_path, name_of, wire_point}
+use Rattle.fab_text_loads.specs.fab_drives_Points.{place_path, row_path}
 use Rattle.fab_use.specs.Sites.{bel_point, port_point, top_point, pin_point}
 use Rattle.fab_use.specs.Design.{IsTreeWire, IsBound}
 use Rattle.fab_use.specs.Ways.{IsTreeWay, end_port, begin_port, begin_wire}

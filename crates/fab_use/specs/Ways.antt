@@ -6,11 +6,11 @@ use Rattle.fab_model.specs.Tiles.{PlainTile}
 use Rattle.fab_model.specs.Wires.{dest_of}
 use Rattle.fab_model.specs.Grid.{PlainFabric}
 use Rattle.fab_model.specs.Cascade.{PlacedRow, placed_row, previous_row, passing_bits}
-use Rattle.fab_text_loads.specs.fab_fabric.specs.Wires.{row_place}
+use Rattle.fab_text_loads.specs.fab_fabric_Wires.{row_place}
 use Rattle.fab_state.specs.fab_implementation.specs.Plain.{PlainImplementation}
-use Rattle.fab_text_loads.specs.fab_gen_tile.specs.Names.{begin_name, end_name}
-use Rattle.fab_text_loads.specs.fab_fabric_text.specs.Names.{begin_wire_name}
-use Rattle.fab_text_loads.specs.fab_drives.specs.Points.{row_path}
+use Rattle.fab_text_loads.specs.fab_gen_tile_Names.{begin_name, end_name}
+use Rattle.fab_text_loads.specs.fab_fabric_text_Names.{begin_wire_name}
+use Rattle.fab_text_loads.specs.fab_drives_Points.{row_path}
 use Rattle.fab_use.specs.Design.{IsTreeWire}
 
 -- the rows that a border bit comes through on its way to a row, with its number in each

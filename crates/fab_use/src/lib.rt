@@ -3,4 +3,4 @@
 //! design. `Sources` and `Ways` say what each point of a design shows; the proofs stand on them, and the headline does not speak of them.
 #![tactic(auto)]
 
-pub use fab_text_loads;
+pub use fab_text_loads::fabric_texts_load;

@@ -17,20 +17,18 @@ use Rattle.fab_netlist.specs.Packing.{packed}
 use Rattle.fab_read.proofs.FabricsOnce.{one_fabric}
 use Rattle.fab_outputs.specs.Storing.{PlainOutput, output, with_outputs}
 use Rattle.fab_feature_bits.specs.Laws.{AreSaid, BitMapsAreOne, BitMapsSelectInputs, HaveSameBits, SelectsInputs, SpelledBitsAreSaid}
-use Rattle.fab_feature_bits.specs.fab_features.specs.Design.{design_features}
-use Rattle.fab_feature_bits.specs.fab_features.specs.Features.{IsBitMapOf}
-use Rattle.fab_feature_bits.specs.fab_features.specs.Spelled.{features_in, place_spells}
-use Rattle.fab_feature_bits.specs.fab_features.specs.fab_use.specs.Registers.{design_state}
-use Rattle.fab_feature_bits.specs.fab_features.specs.fab_use.specs.fab_fabric_text.specs.Places.{placed_tiles}
-use Rattle.fab_feature_bits.specs.fab_features.proofs.Fields.{field_fits}
-use Rattle.fab_syntax.specs.Spelling.{text_bytes}
-use Rattle.fab_impl.specs.Spelled.{implementation_text}
-use Rattle.fab_flow.specs.BitFeatures.{FeaturesFiles, MakesFeatures}
-use Rattle.fab_flow.specs.Flowing.{flow_outputs}
-use Rattle.fab_flow.specs.Generating.{generated_text}
+use Rattle.fab_feature_bits.specs.fab_features_Design.{design_features}
+use Rattle.fab_feature_bits.specs.fab_features_Features.{IsBitMapOf}
+use Rattle.fab_feature_bits.specs.fab_features_Spelled.{features_in, place_spells}
+use Rattle.fab_feature_bits.specs.fab_use_Registers.{design_state}
+use Rattle.fab_feature_bits.specs.fab_fabric_text_Places.{placed_tiles}
+use Rattle.fab_feature_bits.proofs.fab_features_Fields.{field_fits}
+use Rattle.fab_stored_flow.specs.fab_flow_BitFeatures.{FeaturesFiles, MakesFeatures}
+use Rattle.fab_stored_flow.proofs.HandedOut.{found_is}
+use Rattle.fab_stored_flow.proofs.Stored.{flow_words_stand}
 use Rattle.fab_written_features.specs.Laws.{AssembledBitstreamsComeBack, ComesBack, FeaturesGiveBitsBack, FlowBitstreamsComeBack, GivesBack, SpelledFeaturesAreWritten, SpelledPairsStandOnce, StandsBehind}
 use Rattle.fab_written_features.proofs.Fabrics.{IsPromised, spelled_is_promised}
-use Rattle.fab_written_features.proofs.Files.{output_stands, standing_is, words_assembled, words_flowed}
+use Rattle.fab_written_features.proofs.Files.{output_stands, words_assembled}
 use Rattle.fab_written_features.proofs.Listed.{told_bits}
 use Rattle.fab_written_features.proofs.Lists.{is_ready, listed_bytes, made_of_list}
 use Rattle.fab_written_features.proofs.Streams.{stream_told}
@@ -100,7 +98,7 @@ module _ (one : BitMapsAreOne) (select : BitMapsSelectInputs) (said : SpelledBit
     comes_back later names wrote spelled kept again last name file out outputs stands back =
         let bytes : List ℕ = flat_map word_bytes (stream fabric bits) in
         let fabrics : again.fabric ≡ fabric = one_fabric later names.fabric again.fabric fabric again.spelled spelled in
-        let bytes_are : again.read.bytes ≡ bytes = standing_is later names.bit again.read.bytes bytes (kept ∙ words_stand) again.read.found in
+        let bytes_are : again.read.bytes ≡ bytes = found_is later names.bit again.read.bytes bytes (kept ∙ words_stand) again.read.found in
         let bytes_same : bytes ≡ flat_map word_bytes (stream fabric (plain_bits again.bits)) =
         sym bytes_are
         ∙ again.read.spelled.of_words.bytes_are
@@ -126,14 +124,10 @@ module _ (one : BitMapsAreOne) (select : BitMapsSelectInputs) (said : SpelledBit
   pub flows_back : FlowBitstreamsComeBack
   flows_back files names allowed stored made =
       let fabric = made.design.fabric in
-      let cells = packed made.design.netlist in
-      let implementation = made.made.implementation in
-      let features = design_features fabric cells implementation in
-      let bits = made.made.assembly.bits in
-      let text = text_bytes (generated_text fabric) in
-      let implemented = implementation_text fabric implementation in
-      comes_back fabric (spelled_is_promised files names.design.fabric fabric made.spelled.fabric).is features bits made.made.assembly.bit_map names.base
+      comes_back fabric (spelled_is_promised files names.design.fabric fabric made.spelled.fabric).is
+      (design_features fabric (packed made.design.netlist) made.made.implementation)
+      made.made.assembly.bits
+      made.made.assembly.bit_map
+      names.base
       (with_outputs stored files)
-      (ap (λ (list : List PlainOutput). with_outputs list files (names.base ++ codes ".bit"))
-      (made.made.outputs_are ∙ ap (flow_outputs names.base text implemented) made.made.assembly.outputs_are)
-      ∙ words_flowed files names.base features (stream fabric bits) (design_state cells implementation) text implemented)
+      (flow_words_stand files names allowed stored made)

@@ -26,14 +26,14 @@ use Rattle.fab_legal.proofs.SinkLaw.{in_flat}
 use Rattle.fab_fasm.specs.Parts.{is_feature, width_of}
 use Rattle.fab_fasm.specs.Printing.{HasSpelling}
 use Rattle.fab_fasm.specs.declared.feature.Feature.{Feature}
-use Rattle.fab_feature_bits.specs.fab_features.specs.fab_use.specs.fab_fabric_text.specs.Places.{PlacedTile, placed_tiles}
-use Rattle.fab_feature_bits.specs.fab_features.specs.Design.{feature_of, field_name, site_in}
-use Rattle.fab_feature_bits.specs.fab_features.specs.Spelled.{TileBits, bel_features, features_in, field_features, kind_features, picked_input, place_spells, tile_pair_name, tile_picks, value_of}
-use Rattle.fab_feature_bits.specs.fab_features.proofs.DesignLines.{from_found, from_numbered, item_at, pair_of_input, placed_there, relined}
-use Rattle.fab_feature_bits.specs.fab_features.proofs.Listed.{named}
-use Rattle.fab_feature_bits.specs.fab_features.proofs.Tables.{few_bels}
-use Rattle.fab_feature_bits.specs.fab_features.proofs.Values.{number_below}
-use Rattle.fab_feature_bits.specs.fab_features.proofs.Words.{from_counted, of_all}
+use Rattle.fab_feature_bits.specs.fab_fabric_text_Places.{PlacedTile, placed_tiles}
+use Rattle.fab_feature_bits.specs.fab_features_Design.{feature_of, field_name, site_in}
+use Rattle.fab_feature_bits.specs.fab_features_Spelled.{TileBits, bel_features, features_in, field_features, kind_features, picked_input, place_spells, tile_pair_name, tile_picks, value_of}
+use Rattle.fab_feature_bits.proofs.fab_features_DesignLines.{from_found, from_numbered, item_at, pair_of_input, placed_there, relined}
+use Rattle.fab_feature_bits.proofs.fab_features_Listed.{named}
+use Rattle.fab_feature_bits.proofs.fab_features_Tables.{few_bels}
+use Rattle.fab_feature_bits.proofs.fab_features_Values.{number_below}
+use Rattle.fab_feature_bits.proofs.fab_features_Words.{from_counted, of_all}
 use Rattle.fab_spelled_designs.proofs.FeatureNames.{field_spelled, pair_spelled}
 use Rattle.fab_spelled_designs.proofs.Written.{HasWords, name_named}
 

@@ -6,7 +6,7 @@ use Rattle.std.proofs.lemmas.List.Kept.{AllPairs-cons}
 use Rattle.fab_netlist.proofs.Members.{any_by, first_in, first_or_later, in_none, later_in}
 use Rattle.fab_legal.proofs.Lists.{at_default}
 use Rattle.fab_legal.proofs.Members.{in_either}
-use Rattle.fab_feature_bits.specs.fab_features.proofs.DesignLines.{from_found}
+use Rattle.fab_feature_bits.proofs.fab_features_DesignLines.{from_found}
 use Rattle.fab_spelled_designs.proofs.Apart.{Differ}
 
 -- what passes no test is not there

@@ -8,8 +8,8 @@ use Rattle.fab_fabric_names.proofs.Blocks.{names_kept}
 use Rattle.fab_fabric_names.proofs.Prefixes.{ArePrefixed, prefixes_kept}
 use Rattle.fab_fabric_names.proofs.Readings.{spelled_keep}
 use Rattle.fab_spelled_fabrics.proofs.Whole.{spelled_fabric, spelled_tiles}
-use Rattle.fab_feature_bits.specs.fab_features.specs.Naming.{HasPrefixes}
-use Rattle.fab_feature_bits.specs.fab_features.specs.fab_use.specs.fab_gen_tile.specs.Words.{IsNamed}
+use Rattle.fab_feature_bits.specs.fab_features_Naming.{HasPrefixes}
+use Rattle.fab_feature_bits.specs.fab_gen_tile_Words.{IsNamed}
 
 pub record IsPromised (fabric : PlainFabric) : Type 0 where
   pub is : IsFabric fabric

@@ -20,10 +20,10 @@ use Rattle.fab_read.specs.Fabrics.{SpellsFabric}
 use Rattle.fab_read.proofs.FabricsOnce.{one_fabric}
 use Rattle.fab_outputs.specs.Storing.{PlainOutput, output}
 use Rattle.fab_feature_bits.specs.Laws.{BitMapsAreOne, HaveSameBits}
-use Rattle.fab_feature_bits.specs.fab_features.specs.Features.{IsBitMapOf}
-use Rattle.fab_feature_bits.specs.fab_features.specs.Wrong.{IsRightFeature}
-use Rattle.fab_flow.specs.Bits.{IsReadyForBits, MakesBits, bits_files}
-use Rattle.fab_written_features.proofs.Files.{standing_is}
+use Rattle.fab_feature_bits.specs.fab_features_Features.{IsBitMapOf}
+use Rattle.fab_feature_bits.specs.fab_features_Wrong.{IsRightFeature}
+use Rattle.fab_stored_flow.specs.fab_flow_Bits.{IsReadyForBits, MakesBits, bits_files}
+use Rattle.fab_stored_flow.proofs.HandedOut.{found_is}
 use Rattle.fab_written_features.proofs.Streams.{stream_same}
 
 -- lines that have their numbers keep them
@@ -51,7 +51,7 @@ module _ (behind : List Feature) (has : All HasSpelling (line_by_line 1 behind))
       read = record {
         bytes = text;
         found = found;
-        spelled = subst (λ (bytes : List ℕ). SpellsFasm (lines bytes) listed) (sym (standing_is later file text (printed listed) stands found)) says_itself;
+        spelled = subst (λ (bytes : List ℕ). SpellsFasm (lines bytes) listed) (sym (found_is later file text (printed listed) stands found)) says_itself;
       };
       right = right;
     }
@@ -63,7 +63,7 @@ module _ (behind : List Feature) (has : All HasSpelling (line_by_line 1 behind))
 
       features_are : made.features ≡ listed
       features_are =
-          let bytes_are = standing_is later file made.read.bytes (printed listed) stands made.read.found in
+          let bytes_are = found_is later file made.read.bytes (printed listed) stands made.read.found in
           says_nothing_else made.features (subst (λ (bytes : List ℕ). SpellsFasm (lines bytes) made.features) bytes_are made.read.spelled)
 
       abbrev pub made_bits : PlainBits

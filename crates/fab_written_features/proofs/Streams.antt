@@ -15,7 +15,7 @@ use Rattle.fab_frames.proofs.ByteWords.{all_fit, bytes_tell_words}
 use Rattle.fab_frames.proofs.Mapped.{tile_has_table}
 use Rattle.fab_frames.proofs.Placed.{placed_below}
 use Rattle.fab_feature_bits.specs.Laws.{HaveSameBits}
-use Rattle.fab_feature_bits.specs.fab_features.proofs.Values.{number_below}
+use Rattle.fab_feature_bits.proofs.fab_features_Values.{number_below}
 
 module _ (fabric : PlainFabric) (is : IsFabric fabric) (first second : PlainBits) (same : HaveSameBits fabric first second) where
   placed_same : (x y frame bit : ℕ) (found : Option PlainTile) → tile_at fabric x y ≡ found →

@@ -2,7 +2,6 @@
 use Rattle.std.proofs.Common.{◌≡◌, ℕ, All, List, ◌++◌, codes, Some, ap, ◌∙◌}
 use Rattle.std.specs.List.{flat_map}
 use Rattle.fab_desk.specs.Files.{Map}
-use Rattle.fab_syntax.specs.Spelling.{text_bytes}
 use Rattle.fab_model.specs.Drive.{PlainBits}
 use Rattle.fab_netlist.specs.Packing.{packed}
 use Rattle.fab_implementation.specs.Plain.{PlainImplementation}
@@ -15,18 +14,16 @@ use Rattle.fab_frames.specs.Stream.{stream}
 use Rattle.fab_outputs.specs.Storing.{PlainOutput, with_outputs}
 use Rattle.fab_designs.specs.Designs.{DesignFiles, PlainDesign, SpellsDesign}
 use Rattle.fab_feature_bits.specs.Laws.{BitMapsAreOne, DesignFeaturesAreRight}
-use Rattle.fab_feature_bits.specs.fab_features.specs.Design.{design_features, tile_features}
-use Rattle.fab_feature_bits.specs.fab_features.specs.Features.{IsBitMapOf}
-use Rattle.fab_feature_bits.specs.fab_features.specs.Wrong.{IsRightFeature}
-use Rattle.fab_feature_bits.specs.fab_features.specs.fab_use.specs.Registers.{design_state}
-use Rattle.fab_feature_bits.specs.fab_features.specs.fab_use.specs.fab_fabric_text.specs.Places.{placed_tiles}
+use Rattle.fab_feature_bits.specs.fab_features_Design.{design_features, tile_features}
+use Rattle.fab_feature_bits.specs.fab_features_Features.{IsBitMapOf}
+use Rattle.fab_feature_bits.specs.fab_features_Wrong.{IsRightFeature}
+use Rattle.fab_feature_bits.specs.fab_use_Registers.{design_state}
+use Rattle.fab_feature_bits.specs.fab_fabric_text_Places.{placed_tiles}
 use Rattle.fab_spelled_designs.specs.Laws.{LegalDesignsAreSpelled}
-use Rattle.fab_impl.specs.Spelled.{implementation_text}
-use Rattle.fab_flow.specs.Flowing.{flow_outputs}
-use Rattle.fab_flow.specs.Generating.{generated_text}
+use Rattle.fab_stored_flow.proofs.Stored.{flow_features_stand, flow_words_stand}
 use Rattle.fab_written_features.specs.Laws.{AssembledFeaturesAreTheirBits, FlowFeaturesAreTheirBits, IsItsBitstream}
 use Rattle.fab_written_features.proofs.Fabrics.{IsPromised, spelled_is_promised}
-use Rattle.fab_written_features.proofs.Files.{features_assembled, features_flowed, words_assembled, words_flowed}
+use Rattle.fab_written_features.proofs.Files.{features_assembled, words_assembled}
 use Rattle.fab_written_features.proofs.Lists.{is_ready, listed_bytes}
 
 module _ (one : BitMapsAreOne) (are_right : DesignFeaturesAreRight) (are_spelled : LegalDesignsAreSpelled) where
@@ -75,16 +72,8 @@ module _ (one : BitMapsAreOne) (are_right : DesignFeaturesAreRight) (are_spelled
 
   pub flow_features : FlowFeaturesAreTheirBits
   flow_features files names allowed stored made =
-      let fabric = made.design.fabric in
-      let cells = packed made.design.netlist in
-      let implementation = made.made.implementation in
-      let state = design_state cells implementation in
-      let features = design_features fabric cells implementation in
-      let words = stream fabric made.made.assembly.bits in
-      let text = text_bytes (generated_text fabric) in
-      let implemented = implementation_text fabric implementation in
-      let after_is =
-      ap (λ (list : List PlainOutput). with_outputs list files) (made.made.outputs_are ∙ ap (flow_outputs names.base text implemented) made.made.assembly.outputs_are) in
-      its_bitstream files names.design made.design made.spelled implementation made.made.legal names.base (with_outputs stored files) made.made.assembly.bits made.made.assembly.bit_map
-      (ap (λ (m : Map). m (names.base ++ codes ".fasm")) after_is ∙ features_flowed files names.base features words state text implemented)
-      (ap (λ (m : Map). m (names.base ++ codes ".bit")) after_is ∙ words_flowed files names.base features words state text implemented)
+      its_bitstream files names.design made.design made.spelled made.made.implementation made.made.legal names.base (with_outputs stored files)
+      made.made.assembly.bits
+      made.made.assembly.bit_map
+      (flow_features_stand files names allowed stored made)
+      (flow_words_stand files names allowed stored made)

@@ -9,11 +9,11 @@ use Rattle.fab_fasm.specs.Printing.{HasSpelling}
 use Rattle.fab_read.specs.Fabrics.{SpellsFabric}
 use Rattle.fab_outputs.specs.Storing.{PlainOutput, output, with_outputs}
 use Rattle.fab_feature_bits.specs.Laws.{DriveAlike, PairsStandOnce, SelectsInputs}
-use Rattle.fab_feature_bits.specs.fab_features.specs.Spelled.{features_in}
-use Rattle.fab_flow.specs.Assembling.{AssemblyFiles, MakesAssembly}
-use Rattle.fab_flow.specs.BitFeatures.{FeaturesFiles, MakesFeatures}
-use Rattle.fab_flow.specs.Bits.{IsReadyForBits, MakesBits, bits_files}
-use Rattle.fab_flow.specs.Flowing.{FlowFiles, MakesFlow}
+use Rattle.fab_feature_bits.specs.fab_features_Spelled.{features_in}
+use Rattle.fab_stored_flow.specs.fab_flow_Assembling.{AssemblyFiles, MakesAssembly}
+use Rattle.fab_stored_flow.specs.fab_flow_BitFeatures.{FeaturesFiles, MakesFeatures}
+use Rattle.fab_stored_flow.specs.fab_flow_Bits.{IsReadyForBits, MakesBits, bits_files}
+use Rattle.fab_stored_flow.specs.fab_flow_Flowing.{FlowFiles, MakesFlow}
 
 -- ---- fabrics that files spell
 

@@ -12,12 +12,9 @@ ghost use Rattle.fab_written_features.specs.Laws.{
   SpelledPairsStandOnce,
 };
 
-pub use fab_feature_bits;
 use fab_feature_bits::{
     bit_maps_are_one, bit_maps_select_inputs, design_features_are_right, spelled_bits_are_said,
 };
-pub use fab_flow;
-pub use fab_spelled_designs;
 use fab_spelled_designs::legal_designs_are_spelled;
 
 /// In a fabric that files spell no pair of a switch matrix stands twice.

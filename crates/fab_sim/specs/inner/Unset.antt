@@ -8,7 +8,7 @@ use Rattle.fab_equations.specs.Instances.{points}
 use Rattle.fab_equations.specs.Equations.{IsPoint}
 use Rattle.fab_state.specs.Plain.{PlainState}
 use Rattle.fab_network.specs.Passes.{kept_tern}
-use Rattle.fab_ordering.specs.fab_simulation.specs.Simulation.{IsLoaded, with_registers}
+use Rattle.fab_ordering.specs.fab_simulation_Simulation.{IsLoaded, with_registers}
 use Rattle.fab_state_points.specs.Standing.{StandsAt}
 use Rattle.fab_stepping.specs.Boards.{IsBoardOf, LeadToThemselves}
 use Rattle.fab_sim.specs.Once.{StandsOnce}

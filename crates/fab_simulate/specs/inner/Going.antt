@@ -5,8 +5,8 @@ use Rattle.fab_syntax.specs.Plain.{PlainModule}
 use Rattle.fab_systems.specs.Ternary.{Tern, known}
 use Rattle.fab_tern.specs.Shown.{Terns}
 use Rattle.fab_state.specs.Plain.{PlainState}
-use Rattle.fab_sim.specs.fab_simulation.specs.Simulation.{AreCycles}
-use Rattle.fab_sim.specs.fab_ordering.specs.Ordered.{AreOrderedCycles, IsOrderedCycle, Moment}
+use Rattle.fab_sim.specs.fab_simulation_Simulation.{AreCycles}
+use Rattle.fab_sim.specs.fab_ordering_Ordered.{AreOrderedCycles, IsOrderedCycle, Moment}
 use Rattle.fab_sim.specs.declared.machine.Machine.{Machine}
 use Rattle.fab_sim.specs.declared.stepper.Stepper.{Stepper}
 use Rattle.fab_sim.specs.Machine.{IsAt, IsNew}

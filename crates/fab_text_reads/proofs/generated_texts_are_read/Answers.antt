@@ -5,7 +5,7 @@ use Rattle.fab_fabric_names.proofs.Blocks.{names_kept}
 use Rattle.fab_fabric_names.proofs.Readings.{spelled_keep}
 use Rattle.fab_fabric_names.proofs.Sizes.{HasName, IsSized, sizes_kept}
 use Rattle.fab_grammar.proofs.Printed.{texts_form}
-use Rattle.fab_drives.specs.fab_fabric_text.specs.Texts.{generated_text}
+use Rattle.fab_drives.specs.fab_fabric_text_Texts.{generated_text}
 use Rattle.fab_text_reads.specs.Laws.{IsWritten}
 use Rattle.fab_text_reads.proofs.Loaders.{loader_printable}
 use Rattle.fab_text_reads.proofs.Texts.{texts_printable}

@@ -2,7 +2,7 @@ use Rattle.std.proofs.Common.{◌≡◌, ap, ◌∙◌, sym, subst}
 use Rattle.std.proofs.lemmas.Result.{IfErr-weaker, err_from_is_err_and}
 use Rattle.fab_netlist.specs.Packing.{packed}
 use Rattle.fab_netlist.specs.Packed.{PlainPacked}
-use Rattle.fab_map.specs.fab_place.specs.Fixings.{AreFixed, Fits as HasRoom}
+use Rattle.fab_map.specs.fab_place_Fixings.{AreFixed, Fits as HasRoom}
 use Rattle.fab_state.specs.Constraints.{AreFixings, data_ports}
 use Rattle.fab_designs.specs.Designs.{PlainDesign}
 use Rattle.fab_flow.specs.Assembling.{Fits}

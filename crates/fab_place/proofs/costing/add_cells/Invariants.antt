@@ -1,7 +1,7 @@
 use Rattle.std.proofs.Common.{◌≡◌, fold, take, nat_eq}
 use Rattle.std.specs.List.{list_any}
 use Rattle.fab_netlist.specs.Packed.{PlainCell}
-use Rattle.fab_ways.specs.fab_legal.specs.Sinks.{site_of}
+use Rattle.fab_ways.specs.fab_legal_Sinks.{site_of}
 use Rattle.fab_ways.specs.Placing.{same_net}
 use Rattle.fab_place.specs.inner.Boxes.{included}
 use Rattle.fab_place.proofs.Listed.{kept_from}

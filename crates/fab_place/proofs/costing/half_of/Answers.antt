@@ -5,7 +5,7 @@ use Rattle.fab_fabric.specs.declared.wire.Site.{Site}
 use Rattle.fab_netlist.specs.declared.net_id.NetId.{NetId}
 use Rattle.fab_netlist.specs.Packed.{PlainCell, PlainPacked}
 use Rattle.fab_implementation.specs.Plain.{Pad, PlainImplementation}
-use Rattle.fab_ways.specs.fab_legal.specs.Sinks.{site_of}
+use Rattle.fab_ways.specs.fab_legal_Sinks.{site_of}
 use Rattle.fab_ways.specs.Placing.{same_net}
 use Rattle.fab_place.specs.declared.bounding.BoundingBox.{BoundingBox}
 use Rattle.fab_place.specs.inner.Boxes.{around, included}

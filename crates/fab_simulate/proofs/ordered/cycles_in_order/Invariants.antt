@@ -2,7 +2,7 @@ use Rattle.std.proofs.Common.{◌≡◌, ℕ, List, length, map, drop}
 use Rattle.fab_syntax.specs.Plain.{PlainModule}
 use Rattle.fab_state.specs.Plain.{PlainState}
 use Rattle.fab_ternary.specs.Terns.{plain_tern}
-use Rattle.fab_sim.specs.fab_ordering.specs.Ordered.{Moment}
+use Rattle.fab_sim.specs.fab_ordering_Ordered.{Moment}
 use Rattle.fab_sim.specs.Stepper.{Stands}
 use Rattle.fab_simulate.specs.inner.Going.{AreFull}
 use Rattle.fab_simulate.proofs.Orders.{HasStepped}

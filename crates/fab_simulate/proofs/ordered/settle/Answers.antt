@@ -1,5 +1,5 @@
 use Rattle.std.proofs.Common.{◌≡◌, ◌+◌, ◌-◌, ◌∙◌, true, sym, arith}
-use Rattle.fab_sim.specs.fab_ordering.specs.Ordered.{ChangesKnown}
+use Rattle.fab_sim.specs.fab_ordering_Ordered.{ChangesKnown}
 use Rattle.fab_simulate.proofs.Orders.{all_made, last_made, none_made, one_made}
 use Rattle.fab_simulate.proofs.ordered.settle.Goals as goal
 

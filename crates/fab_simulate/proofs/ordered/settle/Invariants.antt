@@ -1,7 +1,7 @@
 use Rattle.std.proofs.Common.{◌-◌, ℕ, List}
 use Rattle.fab_syntax.specs.Plain.{PlainModule}
 use Rattle.fab_state.specs.Plain.{PlainState}
-use Rattle.fab_sim.specs.fab_ordering.specs.Ordered.{Moment}
+use Rattle.fab_sim.specs.fab_ordering_Ordered.{Moment}
 use Rattle.fab_sim.specs.Stepper.{Stands}
 use Rattle.fab_simulate.proofs.Orders.{HasMade}
 use Rattle.fab_simulate.proofs.ordered.settle.Given as goal

@@ -3,7 +3,7 @@ use Rattle.std.proofs.lemmas.Result.{IfOk-weaker}
 use Rattle.fab_bits.specs.Bits.{digits}
 use Rattle.fab_state.specs.Plain.{PlainState}
 use Rattle.fab_systems.specs.Ternary.{Tern as PlainTern}
-use Rattle.fab_sim.specs.fab_simulation.specs.Simulation.{Simulates}
+use Rattle.fab_sim.specs.fab_simulation_Simulation.{Simulates}
 use Rattle.fab_simulate.proofs.Goings.{goes_from_new, has_simulation}
 use Rattle.fab_simulate.proofs.running.simulated.Goals as goal
 
