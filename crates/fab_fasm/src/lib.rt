@@ -16,5 +16,6 @@ mod value;
 
 pub use feature::Feature;
 pub use laws::lines_are_their_parts;
+pub use parts::parted;
 pub use printing::print_fasm;
 pub use reading::read_fasm;

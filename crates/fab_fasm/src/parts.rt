@@ -2,18 +2,11 @@
 
 ghost use Rattle.std.specs.Prelude.{◌≡◌, ◌==◌, false, not, option_map, position};
 ghost use Rattle.fab_lines.specs.Names.{begins_name, is_of_name};
-ghost use Rattle.fab_lines.specs.Parts.{is_blank};
 ghost use Rattle.fab_fasm.specs.Parts.{after_byte, has_return, is_annotated, is_bare, is_feature, is_of_feature, is_over, parted, run, tail_fault, unblanked};
 ghost use Rattle.fab_fasm.specs.Values.{is_of_value};
 
 use fab_base::Reason;
-use fab_lines::is_identifier;
-
-fn is_blank(byte: u8) -> bool
-    ensures { result ≡ is_blank byte }
-{
-    byte == b' ' || byte == b'\t'
-}
+use fab_lines::{is_blank, is_identifier};
 
 /// A text without the blanks and tabs in front.
 #[tactic(auto, unfolding(crate::specs::Parts::unblanked))]

@@ -1,18 +1,17 @@
 //! What the name of a feature says.
 
-ghost use Rattle.std.specs.Prelude.{◌≡◌, ◌==◌, nat_eq, option_map, position, slice_get};
+ghost use Rattle.std.specs.Prelude.{◌≡◌, nat_eq, option_map, slice_get};
 ghost use Rattle.std.specs.List.{list_any};
-ghost use Rattle.fab_fasm.specs.Parts.{parted};
-ghost use Rattle.fab_texts.specs.Places.{letter_of};
 ghost use Rattle.fab_features.specs.Said.{field_in, field_of, lut_field, mux_field, pair_in, said_in, said_of};
 ghost use Rattle.fab_features.specs.Wrong.{said_width};
 ghost use Rattle.fab_features.specs.inner.Matrices.{AreMatricesOf, IsMatrixOf};
 
 use crate::matrices::{Matrix, tile_with};
 use fab_fabric::Fabric;
+use fab_fasm::parted;
 use fab_kinds::Kind;
 use fab_model::{Bel, TileType};
-use fab_texts::place_at;
+use fab_texts::{letter_of, place_at};
 
 /// A field of the configuration bits of a BEL.
 #[derive(Clone, Copy, Debug)]
@@ -51,40 +50,6 @@ impl Said {
             Said::OfBel(field) => field.width,
             Said::OfPair(_) => 1,
         }
-    }
-}
-
-fn place(text: &[u8], byte: u8) -> Option<usize>
-    ensures { result ≡ position (λ other. other == byte) text.now }
-{
-    text.iter().position(|other| *other == byte)
-}
-
-// What stands before the first such byte, and what stands behind it.
-#[tactic(auto, unfolding(fab_fasm::specs::Parts::parted))]
-fn parted(text: &[u8], byte: u8) -> Option<(&[u8], &[u8])>
-    ensures { option_map (λ p. (p.0.now, p.1.now)) result ≡ parted byte text.now }
-{
-    let place = place(text, byte)?;
-    let (before, _) = text.split_at(place);
-    let (_, behind) = text.split_at(place + 1);
-    Some((before, behind))
-}
-
-// The number of the BEL of a letter.
-fn letter_of(bytes: &[u8]) -> Option<u32>
-    ensures { result ≡ letter_of bytes.now }
-{
-    match bytes {
-        [] => None,
-        [b] => {
-            if b'A' <= *b && *b <= b'Z' {
-                Some(u32::from(*b - b'A'))
-            } else {
-                None
-            }
-        }
-        [_first, _second, ..] => None,
     }
 }
 

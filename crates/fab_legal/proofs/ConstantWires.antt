@@ -10,8 +10,8 @@ use Rattle.fab_implementation.specs.fab_fabric.specs.Walks.{row_at}
 use Rattle.fab_implementation.specs.fab_fabric.specs.declared.fabric.joins.RowAt.{RowAt}
 use Rattle.fab_implementation.specs.fab_fabric.specs.declared.wire.Wire.{Wire}
 use Rattle.fab_implementation.specs.fab_fabric.proofs.Stepped.{row_spot, stand, standing_row}
-use Rattle.fab_legal.specs.Steps.{IsConstant}
-use Rattle.fab_legal.specs.inner.Keeping.{bit_drive, IsConstantRow}
+use Rattle.fab_legal.specs.Steps.{IsConstant, bit_drive}
+use Rattle.fab_legal.specs.inner.Keeping.{IsConstantRow}
 
 same_bit : (a b : Bool) (drive : PlainDrive) → drive ≡ bit_drive a → drive ≡ bit_drive b → a ≡ b
 same_bit true true drive first second = refl

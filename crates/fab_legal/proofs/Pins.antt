@@ -18,8 +18,8 @@ use Rattle.fab_implementation.specs.fab_fabric.proofs.Placed.{tile_inside}
 use Rattle.fab_implementation.specs.fab_fabric.specs.declared.wire.Site.{Site}
 use Rattle.fab_implementation.specs.fab_fabric.specs.declared.wire.Wire.{Wire}
 use Rattle.fab_implementation.specs.fab_netlist.specs.Plain.{IsAt}
-use Rattle.fab_legal.specs.Steps.{pin_wire}
-use Rattle.fab_legal.specs.inner.Keeping.{HasPin, port_number}
+use Rattle.fab_legal.specs.Steps.{pin_wire, HasPin}
+use Rattle.fab_legal.specs.inner.Keeping.{port_number}
 use Rattle.fab_legal.proofs.PortNumbers.{own_number}
 
 same_some : {X : Type 0} (x y : X) → Some x ≡ Some y → x ≡ y

@@ -1,5 +1,7 @@
 -- Which wire may drive which, and wires that are named by pins or are constant.
-use Rattle.std.specs.Prelude.{◌≡◌, ◌⊎◌, ℕ, true, false, Contains, Some}
+use Rattle.std.specs.Prelude.{◌≡◌, ◌⊎◌, ◌<◌, ℕ, Bool, true, false, Contains, Some, length}
+use Rattle.fab_kinds.specs.declared.kind.Kind.{Kind}
+use Rattle.fab_kinds.specs.Pins.{pin_names}
 use Rattle.fab_select.specs.declared.pair.Pair.{Pair}
 use Rattle.fab_implementation.specs.fab_model.specs.declared.tiles.WireRow.{WireRow}
 use Rattle.fab_implementation.specs.fab_model.specs.Rows.{is_jump, is_named}
@@ -7,10 +9,11 @@ use Rattle.fab_implementation.specs.fab_model.specs.Tiles.{PlainTile}
 use Rattle.fab_implementation.specs.fab_model.specs.Wires.{PlainWire, dest_of, pin_of}
 use Rattle.fab_implementation.specs.fab_model.specs.Grid.{PlainFabric, tile_at}
 use Rattle.fab_implementation.specs.fab_model.specs.Joins.{Stands}
-use Rattle.fab_implementation.specs.fab_model.specs.Drive.{PlainDrive, constant}
+use Rattle.fab_implementation.specs.fab_model.specs.Drive.{PlainDrive, zero_bit, one_bit, constant}
 use Rattle.fab_implementation.specs.fab_fabric.specs.Wires.{wire_index, numbered_wire, index_of, IsIndexOf, row_place, wire_join_to}
 use Rattle.fab_implementation.specs.fab_fabric.specs.declared.wire.Site.{Site}
 use Rattle.fab_implementation.specs.fab_fabric.specs.declared.wire.Wire.{Wire}
+use Rattle.fab_implementation.specs.OnFabric.{kind_at}
 
 -- a pair of the switch matrix of a tile leads from its input to its output
 pub record IsPaired (fabric : PlainFabric) (from to : Wire) : Type 0 where
@@ -34,9 +37,18 @@ pub record IsJoined (fabric : PlainFabric) (from to : Wire) : Type 0 where
 abbrev pub IsStep : PlainFabric → (from to : Wire) → Type 0
 IsStep fabric from to = IsPaired fabric from to ⊎ IsJoined fabric from to
 
+-- the site has the pin
+abbrev pub HasPin : PlainFabric → Site → (pin : ℕ) → Type 0
+HasPin fabric site pin = (kind : Kind) × (kind_at fabric site ≡ Some kind) × (pin < length (pin_names kind))
+
 -- the wire of a pin of a BEL; a pin's number counts the inputs first
 abbrev pub pin_wire : PlainFabric → Site → (pin : ℕ) → Wire
 pin_wire fabric site pin = numbered_wire (index_of fabric site.x site.y (pin_of site.bel pin))
+
+-- what a wire of a constant value has for its drive
+abbrev pub bit_drive : Bool → PlainDrive
+bit_drive true = one_bit
+bit_drive false = zero_bit
 
 -- a bit of a jump without a source, whose value its name tells: `VCC` is 1, any other is 0
 pub record IsConstant (fabric : PlainFabric) (value : PlainDrive) (wire : Wire) : Type 0 where

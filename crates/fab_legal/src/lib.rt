@@ -24,3 +24,4 @@ pub use laws::{broken_is_not_legal, packed_is_well_made, sinks_are_required};
 pub use legal::{Legal, check};
 pub use sinks::required;
 pub use texts::wire_text;
+pub use tiles::{constant_at, find_pin};

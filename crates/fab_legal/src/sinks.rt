@@ -7,9 +7,8 @@ ghost use Rattle.fab_kinds.specs.declared.kind.Kind.TheVariants as kinds;
 ghost use Rattle.fab_implementation.specs.OnFabric.{kind_at};
 ghost use Rattle.fab_legal.specs.WellMade.{IsWellMadePacked};
 ghost use Rattle.fab_legal.specs.Lines.{CellsHaveSites, PortsHavePads};
-ghost use Rattle.fab_legal.specs.Steps.{pin_wire};
+ghost use Rattle.fab_legal.specs.Steps.{pin_wire, HasPin};
 ghost use Rattle.fab_legal.specs.Sinks.{input_sinks, cell_sinks, cells_sinks, sinks};
-ghost use Rattle.fab_legal.specs.inner.Keeping.{HasPin};
 ghost use Rattle.fab_legal.specs.inner.Kept.{AreKept, HasKinds, site_at, in_sinks, outs_sinks, sinks_by};
 
 use crate::placed::{Placed, find_sites};

@@ -3,8 +3,8 @@
 ghost use Rattle.std.specs.Prelude.{◌≡◌, ◌<◌, ◌↔◌, Bool, Some, IfOk, MatchOption, option_copied};
 ghost use Rattle.fab_implementation.specs.fab_model.specs.Grid.{tile_at};
 ghost use Rattle.fab_implementation.specs.fab_fabric.specs.Fabric.{IsFabric, AreTiles, wire_count};
-ghost use Rattle.fab_legal.specs.Steps.{pin_wire, IsConstant};
-ghost use Rattle.fab_legal.specs.inner.Keeping.{bit_drive, IsConstantRow, HasPin};
+ghost use Rattle.fab_legal.specs.Steps.{pin_wire, IsConstant, bit_drive, HasPin};
+ghost use Rattle.fab_legal.specs.inner.Keeping.{IsConstantRow};
 
 use fab_base::Memory;
 use fab_implementation::fab_fabric::{Fabric, Site, Wire};

@@ -14,6 +14,6 @@ pub use cut::{first_line, last_line};
 pub use items::word_at;
 pub use joined::read_joined_lines;
 pub use names::{is_identifier, is_name, is_reserved, is_wire_name};
-pub use numbers::{capped_number, is_number};
+pub use numbers::{capped_number, has_only_digits, is_digit, is_number};
 pub use order::{LineReader, read_lines};
-pub use parts::{all_cells, place_or_end, trimmed, uncommented, without_empty};
+pub use parts::{all_cells, is_blank, place_or_end, trimmed, uncommented, without_empty};

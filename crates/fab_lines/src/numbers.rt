@@ -4,13 +4,15 @@ ghost use Rattle.std.specs.Prelude.{◌≡◌, None, Some, true, if◌then◌els
 ghost use Rattle.std.specs.List.{list_all};
 ghost use Rattle.fab_lines.specs.Numbers.{capped, is_digit, is_number, number_of};
 
-fn is_digit(byte: u8) -> bool
+/// Whether a byte is one of the digits `0` to `9`.
+pub fn is_digit(byte: u8) -> bool
     ensures { result ≡ is_digit byte }
 {
     b'0' <= byte && byte <= b'9'
 }
 
-fn has_only_digits(word: &[u8]) -> bool
+/// Whether each byte of a word is a digit; so it is of an empty word.
+pub fn has_only_digits(word: &[u8]) -> bool
     ensures { result ≡ list_all is_digit word.now }
 {
     word.iter().all(|byte| is_digit(*byte))

@@ -28,7 +28,8 @@ pub fn uncommented(line: &[u8]) -> &[u8]
     &line[..place_or_end(line, b'#')]
 }
 
-fn is_blank(byte: u8) -> bool
+/// Whether a byte is a blank or a tab.
+pub fn is_blank(byte: u8) -> bool
     ensures { result ≡ is_blank byte }
 {
     byte == b' ' || byte == b'\t'

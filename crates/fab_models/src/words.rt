@@ -2,10 +2,10 @@
 
 ghost use Rattle.std.specs.Prelude.{◌≡◌, ◌==◌, IfOk, drop, map, slice_index, take};
 ghost use Rattle.std.specs.List.{list_any};
-ghost use Rattle.fab_lines.specs.Parts.{is_blank};
 ghost use Rattle.fab_models.specs.Words.{arguments, is_foreign, is_of_word, is_passed, kind_of, kind_of_word, words};
 
 use fab_base::{Memory, Name};
+use fab_lines::is_blank;
 use std::alloc::Global;
 
 /// What a line is, by its first word.
@@ -43,12 +43,6 @@ fn is_of_word(byte: u8) -> bool
     ensures { result ≡ is_of_word byte }
 {
     b'!' <= byte && byte <= b'~'
-}
-
-fn is_blank(byte: u8) -> bool
-    ensures { result ≡ is_blank byte }
-{
-    byte == b' ' || byte == b'\t'
 }
 
 fn is_foreign(byte: u8) -> bool

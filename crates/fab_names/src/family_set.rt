@@ -15,6 +15,7 @@ ghost use Rattle.fab_names.specs.Names.{has_bit, meet};
 use crate::family::Family;
 use crate::places::Places;
 use fab_base::Memory;
+use fab_lines::is_digit;
 use std::alloc::Global;
 use std::marker::Model;
 
@@ -48,12 +49,6 @@ impl Model for Families {
     ghost view = { λ f. f.all.items };
 
     ghost invariant = { λ f. f.is_whole ≡ true → IsKept f.all.items (under f.bases.whole.keys.keys f.bases.whole.groups.items) (under f.bases.fronts.keys.keys f.bases.fronts.groups.items) f.bases.longest };
-}
-
-fn is_digit(byte: u8) -> bool
-    ensures { result ≡ is_digit byte }
-{
-    b'0' <= byte && byte <= b'9'
 }
 
 /// Where the digits at the end of a base begin.

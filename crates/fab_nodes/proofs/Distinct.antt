@@ -26,9 +26,8 @@ use Rattle.fab_legal.specs.Turns.{AreRight}
 use Rattle.fab_legal.specs.WellMade.{IsWellMadePacked, IsWellMadeCell, output_name, output_ports}
 use Rattle.fab_legal.specs.Lines.{sited, IsNew, HaveSites}
 use Rattle.fab_legal.specs.Legal.{ArePlaced}
-use Rattle.fab_legal.specs.Steps.{pin_wire}
+use Rattle.fab_legal.specs.Steps.{pin_wire, HasPin}
 use Rattle.fab_legal.specs.Sinks.{Sinks, site_of, input_sinks, latch_sinks, cell_sinks, cells_sinks, input_port_sinks, output_port_sinks, sinks}
-use Rattle.fab_legal.specs.inner.Keeping.{HasPin}
 use Rattle.fab_legal.proofs.Bindings.{differ_left, differ_right}
 use Rattle.fab_legal.proofs.Members.{in_either}
 use Rattle.fab_legal.proofs.SinkLaw.{in_flat, known_site}

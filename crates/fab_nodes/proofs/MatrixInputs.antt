@@ -29,9 +29,8 @@ use Rattle.fab_netlist.specs.Packed.{PlainPacked}
 use Rattle.fab_implementation.specs.Plain.{PlainImplementation}
 use Rattle.fab_implementation.specs.OnFabric.{kind_at}
 use Rattle.fab_legal.specs.Legal.{ArePlaced}
-use Rattle.fab_legal.specs.Steps.{IsPaired, IsJoined, IsConstant, pin_wire}
+use Rattle.fab_legal.specs.Steps.{IsPaired, IsJoined, IsConstant, pin_wire, HasPin}
 use Rattle.fab_legal.specs.Nets.{Net, zero_net, one_net, port_net, cell_net, IsRoot}
-use Rattle.fab_legal.specs.inner.Keeping.{HasPin}
 use Rattle.fab_legal.proofs.Pins.{is_tile_at, pin_parts}
 use Rattle.fab_ways.proofs.Lists.{none_some, mapped_some}
 use Rattle.fab_ways.proofs.InputPins.{IsInputPin, pin_index, kind_of_line}

@@ -16,6 +16,10 @@ net_of net = record { roots = net.roots.items; goals = goals_of net.sinks.items 
 abbrev pub nets_of : List demand.Net → List Net
 nets_of nets = map net_of nets
 
+-- as many nets as a design may have: those that are always 0 and always 1, and those of 16,384 inputs and as many cells
+abbrev pub most_routed_nets : ℕ
+most_routed_nets = 32770
+
 -- a list cut into parts of these lengths
 abbrev pub parts : (nodes lengths : List ℕ) → List (List ℕ)
 parts nodes [] = []

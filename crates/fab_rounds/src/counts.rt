@@ -3,6 +3,7 @@ ghost use Rattle.std.specs.Prelude.{◌≡◌, ℕ, ◌+◌, ◌*◌, ◌<◌, �
 ghost use Rattle.std.specs.List.{All};
 ghost use Rattle.fab_search.specs.Walks.{has};
 ghost use Rattle.fab_search.specs.Tables.{AreTables, IsCharged, count_of, users_of};
+ghost use Rattle.fab_rounds.specs.Plain.{most_routed_nets};
 ghost use Rattle.fab_rounds.specs.inner.Prices.{bit, ArePriced, IsPast};
 
 use fab_search::Tables;
@@ -11,7 +12,7 @@ use fab_search::Tables;
 pub(crate) fn price(past: u32, round: u32, others: u32) -> u64
     requires past { past ≤ 2064447 }
     requires round { round < 64 }
-    requires others { others ≤ 32770 }
+    requires others { others ≤ most_routed_nets }
     ensures { result ≡ (1 + past) * (1 + round * others) }
 {
     (1 + past as u64) * (1 + round as u64 * others as u64)
@@ -22,7 +23,7 @@ fn recount(tables: &mut Tables, past: &[u32], round: u32, node: u32, users: u32)
     requires tables { AreTables tables.old }
     requires past { IsPast past.now round tables.old }
     requires node { node < count_of tables.old }
-    requires few { users ≤ 32770 }
+    requires few { users ≤ most_routed_nets }
     requires priced { ArePriced past.now round tables.old }
     ensures tables { AreTables tables.new }
     ensures charged { IsCharged tables.old tables.new node users ((1 + slice_index past.now node) * (1 + round * users)) }
@@ -37,7 +38,7 @@ pub(crate) fn give_up(tables: &mut Tables, past: &[u32], round: u32, nodes: &[u3
     requires tables { AreTables tables.old }
     requires past { IsPast past.now round tables.old }
     requires nodes { All (λ w. w < count_of tables.old) nodes.now }
-    requires few { (w : ℕ) → users_of tables.old w ≤ 32770 }
+    requires few { (w : ℕ) → users_of tables.old w ≤ most_routed_nets }
     requires counted { (w : ℕ) → has nodes.now w ≡ true → 1 ≤ users_of tables.old w }
     requires priced { ArePriced past.now round tables.old }
     ensures tables { AreTables tables.new }
@@ -61,7 +62,7 @@ pub(crate) fn take_up(tables: &mut Tables, past: &[u32], round: u32, nodes: &[u3
     requires tables { AreTables tables.old }
     requires past { IsPast past.now round tables.old }
     requires nodes { All (λ w. w < count_of tables.old) nodes.now }
-    requires few { (w : ℕ) → users_of tables.old w < 32770 }
+    requires few { (w : ℕ) → users_of tables.old w < most_routed_nets }
     requires priced { ArePriced past.now round tables.old }
     ensures tables { AreTables tables.new }
     ensures count { count_of tables.new ≡ count_of tables.old }

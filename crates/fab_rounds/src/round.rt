@@ -4,7 +4,7 @@ ghost use Rattle.std.specs.List.{All};
 ghost use Rattle.fab_search.specs.Scene.{IsGraph, IsBound};
 ghost use Rattle.fab_search.specs.Tables.{AreTables, count_of, users_of};
 ghost use Rattle.fab_rounds.specs.Rounds.{IsRound, IsCutOff, users};
-ghost use Rattle.fab_rounds.specs.Plain.{nets_of, trees_of, IsInside};
+ghost use Rattle.fab_rounds.specs.Plain.{nets_of, trees_of, IsInside, most_routed_nets};
 ghost use Rattle.fab_rounds.specs.inner.Prices.{ArePriced, IsPast};
 
 use crate::counts::{give_up, price, take_up};
@@ -19,7 +19,7 @@ use std::alloc::Global;
 fn price_all(tables: &mut Tables, past: &[u32], round: u32)
     requires tables { AreTables tables.old }
     requires past { IsPast past.now round tables.old }
-    requires few { (w : ℕ) → users_of tables.old w ≤ 32770 }
+    requires few { (w : ℕ) → users_of tables.old w ≤ most_routed_nets }
     requires nodes { count_of tables.old < 2 ^ 32 }
     ensures tables { AreTables tables.new }
     ensures count { count_of tables.new ≡ count_of tables.old }
@@ -48,7 +48,7 @@ pub(crate) fn run_round<F: Field>(
     requires tables { AreTables tables.old }
     requires count { count_of tables.old ≡ (F.graph field.now).nodes }
     requires past { IsPast past.now round tables.old }
-    requires few { length nets.now ≤ 32770 }
+    requires few { length nets.now ≤ most_routed_nets }
     requires nets { All (IsInside (F.graph field.now).nodes) nets.now }
     requires old { length old.now ≡ length nets.now }
     requires inside { All (λ tree. All (λ w. w < (F.graph field.now).nodes) tree.nodes.items) old.now }

@@ -4,7 +4,7 @@ ghost use Rattle.std.specs.List.{All};
 ghost use Rattle.fab_search.specs.Scene.{IsGraph, IsBound};
 ghost use Rattle.fab_search.specs.Tables.{AreTables, count_of, users_of};
 ghost use Rattle.fab_rounds.specs.Rounds.{Run, IsCutOff, users, no_trees, last_trees};
-ghost use Rattle.fab_rounds.specs.Plain.{nets_of, trees_of, rounds_of, IsInside};
+ghost use Rattle.fab_rounds.specs.Plain.{nets_of, trees_of, rounds_of, IsInside, most_routed_nets};
 
 use crate::net::{CutOff, Net};
 use crate::round::run_round;
@@ -101,7 +101,7 @@ pub fn run_rounds<F: Field, P: Progress>(
     requires bound { IsBound (F.graph field.now) (F.rest field.now) }
     requires nodes { (F.graph field.now).nodes ≡ nodes }
     requires nets { All (IsInside (F.graph field.now).nodes) nets.now }
-    requires few { length nets.now ≤ 32770 }
+    requires few { length nets.now ≤ most_routed_nets }
     requires limit { limit ≤ 64 }
     ensures run { IfOk result (λ done. IfOk done (λ routed. Run (F.graph field.now) (nets_of nets.now) (rounds_of routed.rounds.items)
         (last_trees (no_trees (nets_of nets.now)) (rounds_of routed.rounds.items)))) }

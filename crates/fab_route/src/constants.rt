@@ -1,17 +1,16 @@
 //! The nodes whose wires are constant.
 
-ghost use Rattle.std.specs.Prelude.{◌≡◌, ◌<◌, ◌↔◌, ℕ, Bool, Some, IsTrue, IfOk, MatchOption, Contains};
+ghost use Rattle.std.specs.Prelude.{◌<◌, ◌↔◌, ℕ, IsTrue, IfOk, Contains};
 ghost use Rattle.fab_fabric.specs.Fabric.{wire_count};
 ghost use Rattle.fab_fabric.specs.Wires.{numbered_wire};
-ghost use Rattle.fab_legal.specs.Steps.{IsConstant};
-ghost use Rattle.fab_legal.specs.inner.Keeping.{bit_drive, IsConstantRow};
+ghost use Rattle.fab_legal.specs.Steps.{IsConstant, bit_drive};
 ghost use Rattle.fab_route.specs.Over.{IsOver};
 ghost use Rattle.fab_route.specs.Plain.{graph_of, numbering_of};
 
 use crate::nodes::Nodes;
 use fab_base::Memory;
 use fab_fabric::{Fabric, Wire};
-use fab_model::{Dir, WireRow};
+use fab_legal::constant_at;
 use std::alloc::Global;
 
 /// The nodes whose wires have a constant value, in order.
@@ -42,27 +41,5 @@ fn is_constant(fabric: &Fabric, wire: Wire, value: bool) -> bool
     match constant_at(fabric, wire) {
         Some(found) => found == value,
         None => false,
-    }
-}
-
-// The value of a wire, if it is constant.
-fn constant_at(fabric: &Fabric, wire: Wire) -> Option<bool>
-    requires { wire.0 < wire_count fabric.now }
-    ensures { (value : Bool) → (result ≡ Some value) ↔ IsConstant fabric.now (bit_drive value) wire }
-{
-    let (there, _) = fabric.dest_at(wire)?;
-    constant_of(fabric.row(there))
-}
-
-// The value of the bits of a row, if they are constant.
-fn constant_of(row: &WireRow) -> Option<bool>
-    ensures { MatchOption result ((value : Bool) → IsConstantRow row.now value → ⊥) (IsConstantRow row.now) }
-{
-    if row.dir != Dir::Jump || row.source.is_some() {
-        return None;
-    }
-    match &row.dest {
-        Some(name) => Some(name.bytes() == b"VCC".as_slice()),
-        None => Some(false),
     }
 }

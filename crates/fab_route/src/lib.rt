@@ -15,7 +15,6 @@ mod nets;
 mod nodes;
 mod numbers;
 mod order;
-mod pins;
 mod router;
 mod shared;
 mod sinks;

@@ -4,7 +4,7 @@ ghost use Rattle.std.specs.Prelude.{◌≡◌, ◌≤◌, IfOk, All, length, map
 ghost use Rattle.fab_fabric.specs.declared.wire.Wire.{Wire};
 ghost use Rattle.fab_legal.specs.Legal.{ArePlaced};
 ghost use Rattle.fab_legal.specs.WellMade.{IsWellMadePacked, IsNetId};
-ghost use Rattle.fab_rounds.specs.Plain.{goals_of, net_of, nets_of, IsInside};
+ghost use Rattle.fab_rounds.specs.Plain.{goals_of, net_of, nets_of, IsInside, most_routed_nets};
 ghost use Rattle.fab_rounds.specs.declared.net.Sink.{Sink};
 ghost use Rattle.fab_ways.specs.Routing.{sinks_of};
 ghost use Rattle.fab_nodes.specs.Nets.{AreGoals, AreNets, net_sinks};
@@ -39,7 +39,7 @@ pub(crate) fn nets_of(
     requires sinks { wire_groups sinks.now.items ≡ net_sinks fabric.now packed.now placed.now }
     ensures nets { IfOk result (λ nets. AreNets fabric.now packed.now placed.now (graph_of nodes.now) (numbering_of nodes.now) (nets_of nets.items)) }
     ensures inside { IfOk result (λ nets. All (IsInside (graph_of nodes.now).nodes) nets.items) }
-    ensures few { IfOk result (λ nets. length nets.items ≤ 32770) }
+    ensures few { IfOk result (λ nets. length nets.items ≤ most_routed_nets) }
 {
     fabric.is_well_made();
     let graph = Graph::new(alloc, fabric)?;

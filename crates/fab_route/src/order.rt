@@ -3,6 +3,7 @@
 ghost use Rattle.std.specs.Prelude.{◌≡◌, ◌<◌, ◌≤◌, length};
 ghost use Rattle.fab_netlist.specs.Plain.{IsAt};
 ghost use Rattle.fab_legal.specs.WellMade.{IsWellMadePacked, IsNetId};
+ghost use Rattle.fab_rounds.specs.Plain.{most_routed_nets};
 ghost use Rattle.fab_ways.specs.Routing.{nets};
 
 use fab_netlist::{NetId, Packed};
@@ -11,7 +12,7 @@ use fab_netlist::{NetId, Packed};
 pub(crate) fn net_count(packed: &Packed) -> usize
     requires { IsWellMadePacked packed.now }
     ensures count { result ≡ length (nets packed.now) }
-    ensures few { result ≤ 32770 }
+    ensures few { result ≤ most_routed_nets }
 {
     2 + packed.inputs.len() + packed.cells.len()
 }

@@ -1,10 +1,10 @@
 //! Where the nets of a placed design may begin.
 
 ghost use Rattle.std.specs.Prelude.{◌≡◌, ◌∷◌, [], IfOk, length};
-ghost use Rattle.fab_legal.specs.inner.Keeping.{AreSites, HasPin};
+ghost use Rattle.fab_legal.specs.inner.Keeping.{AreSites};
 ghost use Rattle.fab_legal.specs.Legal.{ArePlaced};
 ghost use Rattle.fab_legal.specs.Sinks.{packed_net};
-ghost use Rattle.fab_legal.specs.Steps.{pin_wire};
+ghost use Rattle.fab_legal.specs.Steps.{pin_wire, HasPin};
 ghost use Rattle.fab_legal.specs.WellMade.{IsWellMadePacked, IsNetId};
 ghost use Rattle.fab_route.specs.Over.{IsOver};
 ghost use Rattle.fab_route.specs.Plain.{node_of};
@@ -13,10 +13,10 @@ ghost use Rattle.fab_route.specs.inner.Wanted.{AreSources, AreRoots};
 use crate::constants::constants;
 use crate::lines::input_lines;
 use crate::nodes::Nodes;
-use crate::pins::find_pin;
 use fab_base::Memory;
 use fab_fabric::{Fabric, Site};
 use fab_implementation::Implementation;
+use fab_legal::find_pin;
 use fab_netlist::{NetId, Packed};
 use std::alloc::Global;
 

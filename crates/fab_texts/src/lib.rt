@@ -10,7 +10,7 @@ mod sections;
 mod words_seen;
 
 pub use order::{WordReader, read_words};
-pub use places::{PlaceAt, after_byte, place_at, site_of};
+pub use places::{PlaceAt, after_byte, letter_of, place_at, site_of};
 pub use printing::put_row;
 pub use rows::{entry_line, words_of};
 pub use sections::{Part, check_end, check_place, check_version, is_ending};

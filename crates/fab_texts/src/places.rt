@@ -1,17 +1,11 @@
 //! Places and sites as words.
 
 ghost use Rattle.std.specs.Prelude.{◌≡◌, option_map};
-ghost use Rattle.fab_lines.specs.Numbers.{is_digit};
 ghost use Rattle.fab_texts.specs.Places.{after_byte, letter_of, number_at, place_at, site_of};
 
 use fab_fabric::Site;
+use fab_lines::is_digit;
 use std::marker::Model;
-
-fn is_digit(byte: u8) -> bool
-    ensures { result ≡ is_digit byte }
-{
-    b'0' <= byte && byte <= b'9'
-}
 
 /// A number of one or two digits without a leading zero, and the bytes after it.
 fn number_at(bytes: &[u8]) -> Option<(u32, &[u8])>
@@ -52,7 +46,8 @@ pub fn after_byte(byte: u8, bytes: &[u8]) -> Option<&[u8]>
     }
 }
 
-fn letter_of(bytes: &[u8]) -> Option<u32>
+/// The number of the BEL of a letter: `A` is 0, and `Z` is 25.
+pub fn letter_of(bytes: &[u8]) -> Option<u32>
     ensures { result ≡ letter_of bytes.now }
 {
     match bytes {

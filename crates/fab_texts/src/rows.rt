@@ -6,14 +6,8 @@ ghost use Rattle.fab_lines.specs.Parts.{is_blank};
 ghost use Rattle.fab_texts.specs.Rows.{entry_line, rows_of, words};
 
 use fab_base::{MAX_FILE_BYTES, Memory};
-use fab_lines::{first_line, uncommented};
+use fab_lines::{first_line, is_blank, uncommented};
 use std::alloc::Global;
-
-fn is_blank(byte: u8) -> bool
-    ensures { result ≡ is_blank byte }
-{
-    byte == b' ' || byte == b'\t'
-}
 
 /// The words of a line: what blanks and tabs part, before the first `#`. The error comes where memory is refused.
 pub fn words_of(alloc: Global, line: &[u8]) -> Result<Vec<&[u8]>, Memory>

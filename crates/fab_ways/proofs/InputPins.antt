@@ -20,10 +20,9 @@ use Rattle.fab_legal.specs.Turns.{AreRight}
 use Rattle.fab_legal.specs.WellMade.{IsWellMadePacked, IsWellMadeCell}
 use Rattle.fab_legal.specs.Lines.{IsRightLine}
 use Rattle.fab_legal.specs.Legal.{ArePlaced}
-use Rattle.fab_legal.specs.Steps.{IsConstant, pin_wire}
+use Rattle.fab_legal.specs.Steps.{IsConstant, pin_wire, HasPin}
 use Rattle.fab_legal.specs.Nets.{Net, zero_net, one_net, port_net, cell_net, IsRoot}
 use Rattle.fab_legal.specs.Sinks.{Required, cell_input, latch_enable, latch_reset, input_released, output_shown, output_driven}
-use Rattle.fab_legal.specs.inner.Keeping.{HasPin}
 use Rattle.fab_legal.proofs.Pins.{pin_parts}
 
 -- the number of the wire of a pin

@@ -1,22 +1,10 @@
 //! Numbers as values of options.
 
 ghost use Rattle.std.specs.Prelude.{◌≡◌, ◌≤◌, option_copied};
-ghost use Rattle.std.specs.List.{list_all};
 ghost use Rattle.std.specs.Option.{ForSome};
-ghost use Rattle.fab_lines.specs.Numbers.{is_digit};
 ghost use Rattle.fab_words.specs.Numbers.{any_number, is_decimal, number_or, number_within, order_of, rounds_of, seed_of, size_of};
 
-fn is_digit(byte: u8) -> bool
-    ensures { result ≡ is_digit byte }
-{
-    b'0' <= byte && byte <= b'9'
-}
-
-fn has_only_digits(word: &[u8]) -> bool
-    ensures { result ≡ list_all is_digit word.now }
-{
-    word.iter().all(|byte| is_digit(*byte))
-}
+use fab_lines::has_only_digits;
 
 /// Whether the word is one to twenty decimal digits.
 fn is_decimal(word: &str) -> bool

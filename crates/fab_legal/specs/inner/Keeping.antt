@@ -8,6 +8,7 @@ use Rattle.fab_implementation.specs.fab_fabric.specs.declared.wire.Site.{Site}
 use Rattle.fab_implementation.specs.Plain.{Pad}
 use Rattle.fab_implementation.specs.OnFabric.{kind_at}
 use Rattle.fab_legal.specs.Turns.{AreRight, IsFirstWrongAt}
+use Rattle.fab_legal.specs.Steps.{bit_drive}
 use Rattle.fab_legal.specs.Lines.{named, IsRightLine, HaveSites}
 use Rattle.fab_bits.specs.Keys.{key_names}
 use Rattle.fab_legal.specs.Broken.{IsNamedBy}
@@ -84,14 +85,6 @@ HasPad declared sites pad = (port_number declared pad.0 < length declared) × (g
 
 -- ---- tiles
 
-abbrev pub bit_drive : Bool → PlainDrive
-bit_drive true = one_bit
-bit_drive false = zero_bit
-
 -- the bits of a row are constant
 abbrev pub IsConstantRow : WireRow → Bool → Type 0
 IsConstantRow row value = (is_jump row.dir ≡ true) × (is_named row.source ≡ false) × (constant row.dest ≡ bit_drive value)
-
--- the site has the pin
-abbrev pub HasPin : PlainFabric → Site → (pin : ℕ) → Type 0
-HasPin fabric site pin = (kind : Kind) × (kind_at fabric site ≡ Some kind) × (pin < length (pin_names kind))

@@ -10,8 +10,7 @@ use Rattle.fab_implementation.specs.fab_fabric.specs.declared.wire.Wire.{Wire}
 use Rattle.fab_implementation.specs.fab_netlist.specs.declared.net_id.NetId.{NetId}
 use Rattle.fab_implementation.specs.fab_netlist.specs.declared.net_id.NetId.TheVariants as ids
 use Rattle.fab_implementation.specs.Plain.{Edge, PlainTree}
-use Rattle.fab_legal.specs.Steps.{IsConstant, pin_wire}
-use Rattle.fab_legal.specs.inner.Keeping.{bit_drive}
+use Rattle.fab_legal.specs.Steps.{IsConstant, pin_wire, bit_drive}
 use Rattle.fab_legal.specs.inner.Kept.{site_at}
 use Rattle.fab_legal.specs.declared.placed.Placed.{Placed}
 use Rattle.fab_legal.specs.declared.nets.Root.{Root}

@@ -2,8 +2,7 @@ use Rattle.std.proofs.Common.{◌≡◌, ℕ, sym, ap, ◌∙◌, subst, arith}
 use Rattle.fab_fabric.specs.declared.wire.Wire.{Wire}
 use Rattle.std.proofs.lemmas.Bool.{false≢true}
 use Rattle.fab_fabric.specs.Wires.{numbered_wire}
-use Rattle.fab_legal.specs.Steps.{IsConstant}
-use Rattle.fab_legal.specs.inner.Keeping.{bit_drive}
+use Rattle.fab_legal.specs.Steps.{IsConstant, bit_drive}
 use Rattle.fab_route.specs.Plain.{numbering_of}
 use Rattle.fab_route.proofs.Joining.{node_low}
 use Rattle.fab_route.proofs.Stepped.{HaveFirst, found_more, found_less}

@@ -1,7 +1,6 @@
 use Rattle.std.proofs.Common.{ℕ, ◌<◌, ◌↔◌, Contains}
 use Rattle.fab_fabric.specs.Wires.{numbered_wire}
-use Rattle.fab_legal.specs.Steps.{IsConstant}
-use Rattle.fab_legal.specs.inner.Keeping.{bit_drive}
+use Rattle.fab_legal.specs.Steps.{IsConstant, bit_drive}
 use Rattle.fab_route.specs.Plain.{numbering_of}
 use Rattle.fab_route.proofs.constants.constants.Given as goal
 

@@ -1,6 +1,5 @@
 use Rattle.std.proofs.Common.{◌≡◌, ◌↔◌, Bool, Option, Some, subst}
-use Rattle.fab_legal.specs.Steps.{IsConstant}
-use Rattle.fab_legal.specs.inner.Keeping.{bit_drive}
+use Rattle.fab_legal.specs.Steps.{IsConstant, bit_drive}
 use Rattle.fab_route.proofs.Reaching.{value_told, no_value}
 use Rattle.fab_route.proofs.constants.is_constant.Goals as goal
 
