@@ -153,8 +153,12 @@ fn starts_of(alloc: Global, rows: &[WireRow]) -> Result<Vec<u64>, Memory>
     Ok(starts)
 }
 
-// The inputs of each of so many outputs, in the order of the pairs.
-fn inputs_by_output(alloc: Global, outputs: u32, pairs: &[Pair]) -> Result<Vec<Vec<u32>>, Memory>
+/// The inputs of each of so many outputs of a switch matrix, in the order of the pairs.
+pub fn inputs_by_output(
+    alloc: Global,
+    outputs: u32,
+    pairs: &[Pair],
+) -> Result<Vec<Vec<u32>>, Memory>
     requires { All (λ pair. pair.output < outputs) pairs.now }
     ensures { IfOk result (λ groups. (output : ℕ) → group_at groups.items output ≡ inputs_of nat_eq (map pair_numbers pairs.now) output) }
 {

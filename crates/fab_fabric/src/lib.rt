@@ -12,5 +12,6 @@ mod wire;
 pub use bits::Bits;
 pub use fab_model;
 pub use fabric::{Fabric, RowAt, place_name};
+pub use index::inputs_by_output;
 pub use laws::wires_are_numbered;
 pub use wire::{Drive, Site, Wire};

@@ -1,17 +1,15 @@
 //! The inputs of the outputs of switch matrices.
 
-ghost use Rattle.std.specs.Prelude.{◌≡◌, ◌<◌, ℕ, [], All, IfOk, length, map, nat_eq};
+ghost use Rattle.std.specs.Prelude.{◌≡◌, IfOk};
 ghost use Rattle.std.specs.Option.{MatchOption};
-ghost use Rattle.fab_select.specs.Selection.{inputs_of, in_order};
-ghost use Rattle.fab_model.specs.Tiles.{pair_numbers, matrix_names};
 ghost use Rattle.fab_model.specs.Grid.{tile_at};
 ghost use Rattle.fab_fabric.specs.Fabric.{IsFabric, AreTiles};
 ghost use Rattle.fab_bits.specs.Keys.{group_at};
 ghost use Rattle.fab_features.specs.inner.Matrices.{IsMatrixOf, AreMatricesOf};
 
 use fab_base::Memory;
-use fab_fabric::Fabric;
-use fab_model::{Pair, TileType};
+use fab_fabric::{Fabric, inputs_by_output};
+use fab_model::{TileType, outputs_in_order};
 use indexmap::IndexSet;
 use std::alloc::Global;
 
@@ -29,8 +27,8 @@ impl Matrix {
     pub fn of(alloc: Global, tile: &TileType) -> Result<Matrix, Memory>
         ensures { IfOk result (IsMatrixOf tile.now) }
     {
-        let inputs = grouped(alloc, tile.matrix_names(), tile.pairs())?;
-        let outputs = order_of(alloc, tile.pairs())?;
+        let inputs = inputs_by_output(alloc, tile.matrix_names(), tile.pairs())?;
+        let outputs = outputs_in_order(alloc, tile.pairs())?;
         Ok(Matrix { inputs, outputs })
     }
 
@@ -43,41 +41,6 @@ impl Matrix {
             None => &[],
         }
     }
-}
-
-// An empty group for each output.
-fn no_inputs(alloc: Global, outputs: u32) -> Result<Vec<Vec<u32>>, Memory>
-    ensures len { IfOk result (λ groups. length groups.items ≡ outputs) }
-    ensures groups { IfOk result (λ groups. (output : ℕ) → group_at groups.items output ≡ []) }
-{
-    let mut groups = Vec::new(alloc);
-    for _output in 0..outputs {
-        groups.push(Vec::new(alloc))?;
-    }
-    Ok(groups)
-}
-
-// The inputs of each of so many outputs, in the order of the pairs.
-fn grouped(alloc: Global, outputs: u32, pairs: &[Pair]) -> Result<Vec<Vec<u32>>, Memory>
-    requires { All (λ pair. pair.output < outputs) pairs.now }
-    ensures { IfOk result (λ groups. (output : ℕ) → group_at groups.items output ≡ inputs_of nat_eq (map pair_numbers pairs.now) output) }
-{
-    let mut groups = no_inputs(alloc, outputs)?;
-    for pair in pairs {
-        groups[pair.output as usize].push(pair.input)?;
-    }
-    Ok(groups)
-}
-
-// The outputs in the order of their first pairs.
-fn order_of(alloc: Global, pairs: &[Pair]) -> Result<IndexSet<u32>, Memory>
-    ensures { IfOk result (λ order. order.keys ≡ in_order nat_eq (map pair_numbers pairs.now)) }
-{
-    let mut order = IndexSet::new(alloc);
-    for pair in pairs {
-        order.insert(pair.output)?;
-    }
-    Ok(order)
 }
 
 /// The switch matrices of the tile types of a fabric.

@@ -50,7 +50,7 @@ pub fn fields_of(
     ensures { IfOk result (λ f. HasFields first (map pair_numbers pairs.now) f.order.keys f.fields.items f.bits) }
 {
     let counts = input_counts(alloc, outputs, pairs)?;
-    let order = order_of(alloc, pairs)?;
+    let order = outputs_in_order(alloc, pairs)?;
     let (fields, bits) = laid_out(alloc, first, order.as_slice(), &counts)?;
     Ok(Fields {
         order,
@@ -74,8 +74,8 @@ fn input_counts(alloc: Global, outputs: usize, pairs: &[Pair]) -> Result<Vec<u32
     Ok(counts)
 }
 
-// The outputs in the order of their first pairs.
-fn order_of(alloc: Global, pairs: &[Pair]) -> Result<IndexSet<u32>, Memory>
+/// The outputs of the pairs of a switch matrix, in the order of their first pairs.
+pub fn outputs_in_order(alloc: Global, pairs: &[Pair]) -> Result<IndexSet<u32>, Memory>
     ensures { IfOk result (λ order. order.keys ≡ in_order nat_eq (map pair_numbers pairs.now)) }
 {
     let mut order = IndexSet::new(alloc);

@@ -9,6 +9,7 @@ mod tiles;
 
 pub use fab_kinds;
 pub use fab_select::Pair;
+pub use fields::outputs_in_order;
 pub use laws::{
     constants_have_their_values, copied_wires_exist, drives_follow_joins, joins_are_found,
     joins_are_found_from_their_ends, joins_are_one_to_one, joins_have_both_ends,

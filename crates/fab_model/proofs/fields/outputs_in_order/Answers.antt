@@ -6,7 +6,7 @@ use Rattle.fab_select.specs.declared.pair.Pair.{Pair}
 use Rattle.fab_select.specs.Selection.{firsts}
 use Rattle.fab_select.proofs.Firsts.{firsts_push}
 use Rattle.fab_model.specs.Tiles.{pair_numbers}
-use Rattle.fab_model.proofs.fields.order_of.Goals as goal
+use Rattle.fab_model.proofs.fields.outputs_in_order.Goals as goal
 
 pub loop-pair-preserved : goal.loop-pair-preserved
 loop-pair-preserved c =
