@@ -33,7 +33,7 @@ Keeps fabric bits place parts = Leaves fabric bits place (λ shown. shown) parts
 abbrev pub Sets : PlainFabric → PlainBits → LatchPlace → (value : Bool) → List Part → Type 0
 Sets fabric bits place value parts = Leaves fabric bits place (λ shown. value) parts
 
-map_counted : {X Y : Type 0} (h : X → Y) (n : ℕ) (f : ℕ → X) → map h (counted n f) ≡ counted n (λ i. h (f i))
+pub map_counted : {X Y : Type 0} (h : X → Y) (n : ℕ) (f : ℕ → X) → map h (counted n f) ≡ counted n (λ i. h (f i))
 unfolding counted
 map_counted h zero f = refl
 map_counted h (suc n) f = ap (λ rest. h (f 0) ∷ rest) (map_counted h n (λ i. f (suc i)))
@@ -41,10 +41,10 @@ map_counted h (suc n) f = ap (λ rest. h (f 0) ∷ rest) (map_counted h n (λ i.
 -- ---- parts one after the other
 
 module _ (fabric : PlainFabric) (bits : PlainBits) (place : LatchPlace) where
-  none_keep : Keeps fabric bits place []
+  pub none_keep : Keeps fabric bits place []
   none_keep = record { returns = λ machine is. is; shows = λ machine held is. refl }
 
-  both_leave : (first second : Bool → Bool) (front back : List Part) → Leaves fabric bits place first front → Leaves fabric bits place second back →
+  pub both_leave : (first second : Bool → Bool) (front back : List Part) → Leaves fabric bits place first front → Leaves fabric bits place second back →
       Leaves fabric bits place (λ shown. second (first shown)) (front ++ back)
   both_leave first second front back one other =
       let front_words = map (part_word fabric bits) front in
@@ -64,14 +64,14 @@ module _ (fabric : PlainFabric) (bits : PlainBits) (place : LatchPlace) where
             ∙ ap second (one.shows machine held is);
       }
 
-  pieces_keep : (g : ℕ → List Part) (n : ℕ) (f : ℕ → ℕ) → ((i : ℕ) → i < n → Keeps fabric bits place (g (f i))) → Keeps fabric bits place (flat_map g (counted n f))
+  pub pieces_keep : (g : ℕ → List Part) (n : ℕ) (f : ℕ → ℕ) → ((i : ℕ) → i < n → Keeps fabric bits place (g (f i))) → Keeps fabric bits place (flat_map g (counted n f))
   unfolding counted
   pieces_keep g zero f each = none_keep
   pieces_keep g (suc n) f each =
       both_leave (λ shown. shown) (λ shown. shown) (g (f 0)) (flat_map g (counted n (λ i. f (suc i)))) (each 0 (omega arith)) (pieces_keep g n (λ i. f (suc i)) (λ i low. each (suc i) (omega arith)))
 
   -- one of the pieces sets the latch
-  pieces_set : (value : Bool) (g : ℕ → List Part) (n : ℕ) (f : ℕ → ℕ) (one : ℕ) → one < n → Sets fabric bits place value (g (f one)) →
+  pub pieces_set : (value : Bool) (g : ℕ → List Part) (n : ℕ) (f : ℕ → ℕ) (one : ℕ) → one < n → Sets fabric bits place value (g (f one)) →
       ((i : ℕ) → i < n → i ≢ one → Keeps fabric bits place (g (f i))) → Sets fabric bits place value (flat_map g (counted n f))
   unfolding counted
   pieces_set value g zero f one few sets others = absurd (omega arith)
@@ -97,7 +97,7 @@ own_bit fabric bits place = bit_at (frame_rows fabric bits place.x place.frame p
 
 module _ (fabric : PlainFabric) (bits : PlainBits) (place : LatchPlace) (is_fabric : IsFabric fabric) (within : IsLatchPlace fabric place) where
   module _ (x frame : ℕ) (in_columns : x < 32) (in_frames : frame < 20) where
-    frame_words : map (part_word fabric bits) (frame_parts fabric x frame) ≡ digits 32 (address_word x frame) ∷ counted fabric.rows (frame_rows fabric bits x frame)
+    pub frame_words : map (part_word fabric bits) (frame_parts fabric x frame) ≡ digits 32 (address_word x frame) ∷ counted fabric.rows (frame_rows fabric bits x frame)
     frame_words = ap (λ words. digits 32 (address_word x frame) ∷ words) (map_counted (part_word fabric bits) fabric.rows (λ y. of_row x y frame))
 
     open_if_own : (next : Machine) → HasFrame fabric.rows (digits 32 (address_word x frame)) (frame_rows fabric bits x frame) next → is_open next place ≡ is_own x frame place
@@ -149,11 +149,11 @@ module _ (fabric : PlainFabric) (bits : PlainBits) (place : LatchPlace) (is_fabr
   own_frame : is_own place.x place.frame place ≡ true
   own_frame = ap₂ (λ a b. a && b) (eq-eqb place.x place.x refl) (eq-eqb place.frame place.frame refl)
 
-  column_keeps : (x : ℕ) → x < 32 → x ≢ place.x → Keeps fabric bits place (column_parts fabric x)
+  pub column_keeps : (x : ℕ) → x < 32 → x ≢ place.x → Keeps fabric bits place (column_parts fabric x)
   column_keeps x low other =
       pieces_keep fabric bits place (frame_parts fabric x) 20 (λ frame. frame) (λ frame few. frame_keeps x frame low few (other_column x frame other))
 
-  column_sets : place.x < 32 → Sets fabric bits place (own_bit fabric bits place) (column_parts fabric place.x)
+  pub column_sets : place.x < 32 → Sets fabric bits place (own_bit fabric bits place) (column_parts fabric place.x)
   column_sets low =
       pieces_set fabric bits place (own_bit fabric bits place) (frame_parts fabric place.x) 20 (λ frame. frame) place.frame within.frame
       (frame_sets place.x place.frame low within.frame own_frame)

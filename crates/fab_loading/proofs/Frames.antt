@@ -8,7 +8,7 @@ use Rattle.fab_loading.proofs.Runs.{after_words, latch_after_words}
 use Rattle.fab_loading.proofs.Ticks.{address_tick, row_tick, turn_row, other_row}
 
 -- the loader before the words of the last rows
-record AwaitsRows (left : ℕ) (machine : Machine) : Type 0 where
+pub record AwaitsRows (left : ℕ) (machine : Machine) : Type 0 where
   pub state : machine.state ≡ 2
   pub count : machine.count ≡ left
   pub strobe : machine.strobe ≡ false
@@ -21,24 +21,24 @@ record HasRows (rows left : ℕ) (words : ℕ → Word) (machine next : Machine)
   pub kept : (row : ℕ) → row + left < rows → get_or next.rows row [] ≡ get_or machine.rows row []
   pub taken : (row place : ℕ) → place < left → row + left ≡ rows + place → get_or next.rows row [] ≡ words place
 
-abbrev with_last_row : (rows : ℕ) → Machine → Word → Machine
+abbrev pub with_last_row : (rows : ℕ) → Machine → Word → Machine
 with_last_row rows machine word = record machine { state = 1; strobe = true; rows = with_row rows machine word }
 
-abbrev with_next_row : (rows : ℕ) → Machine → Word → Machine
+abbrev pub with_next_row : (rows : ℕ) → Machine → Word → Machine
 with_next_row rows machine word = record machine { state = 2; count = (machine.count + 31) % 32; strobe = false; rows = with_row rows machine word }
 
 module _ (rows : ℕ) (machine : Machine) (word : Word) where
-  last_row : AwaitsRows 1 machine → tick rows machine true word ≡ with_last_row rows machine word
+  pub last_row : AwaitsRows 1 machine → tick rows machine true word ≡ with_last_row rows machine word
   last_row awaits =
       let last : nat_eq machine.count 1 ≡ true = eq-eqb machine.count 1 awaits.count in
       row_tick rows machine word awaits.state ∙ rw last refl
 
-  next_row : (left : ℕ) → AwaitsRows (suc (suc left)) machine → tick rows machine true word ≡ with_next_row rows machine word
+  pub next_row : (left : ℕ) → AwaitsRows (suc (suc left)) machine → tick rows machine true word ≡ with_next_row rows machine word
   next_row left awaits =
       let more : nat_eq machine.count 1 ≡ false = ne_eqb machine.count 1 (λ e. omega (arith, e, awaits.count)) in
       row_tick rows machine word awaits.state ∙ rw more refl
 
-  awaits_next : (left : ℕ) → rows < 32 → suc (suc left) ≤ rows → AwaitsRows (suc (suc left)) machine → AwaitsRows (suc left) (with_next_row rows machine word)
+  pub awaits_next : (left : ℕ) → rows < 32 → suc (suc left) ≤ rows → AwaitsRows (suc (suc left)) machine → AwaitsRows (suc left) (with_next_row rows machine word)
   awaits_next left few within awaits = record { state = refl; count = omega (arith, awaits.count); strobe = refl }
 
 -- ---- the loader
@@ -110,14 +110,14 @@ pub record HasFrame (rows : ℕ) (named : Word) (words : ℕ → Word) (next : M
   pub address : next.address ≡ named
   pub row_words : (row : ℕ) → row < rows → get_or next.rows row [] ≡ words row
 
-abbrev with_address : (rows : ℕ) → Machine → Word → Machine
+abbrev pub with_address : (rows : ℕ) → Machine → Word → Machine
 with_address rows machine word = record machine { state = 2; count = rows; address = word; strobe = false }
 
 module _ (rows : ℕ) (few : rows < 32) (some : 1 ≤ rows) (machine : Machine) (is : machine.state ≡ 1) (address : Word) (goes_on : get_or address end_bit false ≡ false) (words : ℕ → Word) where
-  address_taken : tick rows machine true address ≡ with_address rows machine address
+  pub address_taken : tick rows machine true address ≡ with_address rows machine address
   address_taken = address_tick rows machine address is ∙ rw goes_on refl
 
-  awaits_all : AwaitsRows rows (with_address rows machine address)
+  pub awaits_all : AwaitsRows rows (with_address rows machine address)
   awaits_all = record { state = refl; count = refl; strobe = refl }
 
   pub has_frame : HasFrame rows address words (after_words rows machine (address ∷ counted rows words))

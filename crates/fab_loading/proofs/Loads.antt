@@ -20,18 +20,18 @@ use Rattle.fab_loading.proofs.Columns.{part_word, own_bit, columns_set}
 
 -- ---- the words
 
-words_of_parts : (fabric : PlainFabric) (bits : PlainBits) (found : List Part) → map (digits 32) (map (word_of fabric bits) found) ≡ map (part_word fabric bits) found
+pub words_of_parts : (fabric : PlainFabric) (bits : PlainBits) (found : List Part) → map (digits 32) (map (word_of fabric bits) found) ≡ map (part_word fabric bits) found
 words_of_parts fabric bits [] = refl
 words_of_parts fabric bits (part ∷ found) = ap (λ words. part_word fabric bits part ∷ words) (words_of_parts fabric bits found)
 
-fixed_words : (fabric : PlainFabric) (bits : PlainBits) (words : List ℕ) → map (part_word fabric bits) (map fixed words) ≡ map (digits 32) words
+pub fixed_words : (fabric : PlainFabric) (bits : PlainBits) (words : List ℕ) → map (part_word fabric bits) (map fixed words) ≡ map (digits 32) words
 fixed_words fabric bits [] = refl
 fixed_words fabric bits (word ∷ words) = ap (λ rest. digits 32 word ∷ rest) (fixed_words fabric bits words)
 
-abbrev header_words : List Word
+abbrev pub header_words : List Word
 header_words = map (digits 32) header
 
-abbrev last_word : Word
+abbrev pub last_word : Word
 last_word = digits 32 waiting_word
 
 abbrev all_columns : PlainFabric → List Part
@@ -49,7 +49,7 @@ words_are fabric bits =
 
 -- ---- the bit of a latch
 
-own_bit_is : (fabric : PlainFabric) (bits : PlainBits) (place : LatchPlace) (number : ℕ) → place.bit < 32 →
+pub own_bit_is : (fabric : PlainFabric) (bits : PlainBits) (place : LatchPlace) (number : ℕ) → place.bit < 32 →
     bit_placed_at fabric place.x place.y place.frame place.bit ≡ Some number → own_bit fabric bits place ≡ bits place.x place.y number
 unfolding word_bit
 own_bit_is fabric bits place number low placed =

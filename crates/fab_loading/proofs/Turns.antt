@@ -10,18 +10,18 @@ use Rattle.fab_loading.specs.Streams.{stream_words, IsLoaded}
 use Rattle.fab_loading.proofs.Runs.{after_words, latch_after_words}
 use Rattle.fab_loading.proofs.Loads.{IsLoadedByWords, loaded_by_words}
 
-abbrev closed : Machine → Machine
+abbrev pub closed : Machine → Machine
 closed machine = record machine { strobe = false }
 
 -- A loader that had pauses, and one that had none: they are equal but for the strobe, which is 1 only where that of the other is.
-record IsLike (machine other : Machine) : Type 0 where
-  but_strobe : closed machine ≡ closed other
-  strobe : machine.strobe ≡ true → other.strobe ≡ true
+pub record IsLike (machine other : Machine) : Type 0 where
+  pub but_strobe : closed machine ≡ closed other
+  pub strobe : machine.strobe ≡ true → other.strobe ≡ true
 
 -- and a latch shows the same with both
-record ShowsLike (place : LatchPlace) (machine other : Machine) (held other_held : Bool) : Type 0 where
-  like : IsLike machine other
-  shows : latch_shows machine place held ≡ latch_shows other place other_held
+pub record ShowsLike (place : LatchPlace) (machine other : Machine) (held other_held : Bool) : Type 0 where
+  pub like : IsLike machine other
+  pub shows : latch_shows machine place held ≡ latch_shows other place other_held
 
 -- what a latch shows it goes on showing
 shows_again : (machine : Machine) (place : LatchPlace) (held : Bool) → latch_shows machine place (latch_shows machine place held) ≡ latch_shows machine place held
@@ -36,7 +36,7 @@ module _ (rows : ℕ) where
   same_word : (machine other : Machine) (offered : Word) → closed machine ≡ closed other → take_word rows machine offered ≡ take_word rows other offered
   same_word machine other offered same = ap (λ (m : Machine). take_word rows m offered) same
 
-  like_after : (machine other : Machine) (turns : List Turn) → IsLike machine other → IsLike (after_turns rows machine turns) (after_words rows other (words_of turns))
+  pub like_after : (machine other : Machine) (turns : List Turn) → IsLike machine other → IsLike (after_turns rows machine turns) (after_words rows other (words_of turns))
   like_after machine other [] like = like
   like_after machine other (word offered ∷ turns) like =
       let same = same_word machine other offered like.but_strobe in
@@ -46,7 +46,7 @@ module _ (rows : ℕ) where
       like_after (closed machine) other turns (record { but_strobe = like.but_strobe; strobe = λ is. absurd (false≢true is) })
   like_after machine other (other_clock ∷ turns) like = like_after machine other turns like
 
-  shows_like_after : (place : LatchPlace) (machine other : Machine) (held other_held : Bool) (turns : List Turn) → ShowsLike place machine other held other_held →
+  pub shows_like_after : (place : LatchPlace) (machine other : Machine) (held other_held : Bool) (turns : List Turn) → ShowsLike place machine other held other_held →
       latch_shows (after_turns rows machine turns) place (latch_after rows machine place held turns)
       ≡ latch_shows (after_words rows other (words_of turns)) place (latch_after_words rows other place other_held (words_of turns))
   shows_like_after place machine other held other_held [] like = like.shows

@@ -29,12 +29,16 @@ IsDerived (bit_of path e bit) = Unit {0}
 IsDerived (flop path clock next bit) = ⊥
 IsDerived (hold path gate e bit) = Unit {0}
 
--- The least set of declared points that holds these flip-flops, the stream, and each derived point all of whose reads it holds.
-pub data Within (text : List PlainModule) (flops : Point → Bool) : Point → Type 0 where
-  by_flop : {p : Point} → is_declared text p ≡ true → flops p ≡ true → Within text flops p
-  by_stream : {p : Point} → IsStream text p → Within text flops p
+-- The least set of declared points that holds these flip-flops, a stream, and each derived point all of whose reads it holds.
+pub data WithinBy (text : List PlainModule) (Stream : Point → Type 0) (flops : Point → Bool) : Point → Type 0 where
+  by_flop : {p : Point} → is_declared text p ≡ true → flops p ≡ true → WithinBy text Stream flops p
+  by_stream : {p : Point} → Stream p → WithinBy text Stream flops p
   by_reads : {p : Point} (d : Driver) → is_declared text p ≡ true → Drives text p d → IsDerived d →
-      ((q : Point) → reads text d q ≡ true → Within text flops q) → Within text flops p
+      ((q : Point) → reads text d q ≡ true → WithinBy text Stream flops q) → WithinBy text Stream flops p
+
+-- the same of the stream that carries words
+abbrev pub Within : List PlainModule → (flops : Point → Bool) → Point → Type 0
+Within text flops = WithinBy text (IsStream text) flops
 
 -- a flip-flop of the clock CLK whose next value reads points of a set alone
 pub record IsClosedAt (text : List PlainModule) (Has : Point → Type 0) (p : Point) : Type 0 where
@@ -47,12 +51,18 @@ pub record IsClosedAt (text : List PlainModule) (Has : Point → Type 0) (p : Po
   pub inside : (q : Point) → next_reads text (flop path clock next bit) q ≡ true → Has q
 
 -- flip-flops of CLK that read, for what they take, the set that they make alone
+abbrev pub IsClosedBy : List PlainModule → (Stream : Point → Type 0) → (flops : Point → Bool) → Type 0
+IsClosedBy text Stream flops = (p : Point) → flops p ≡ true → IsClosedAt text (WithinBy text Stream flops) p
+
 abbrev pub IsClosed : List PlainModule → (flops : Point → Bool) → Type 0
-IsClosed text flops = (p : Point) → flops p ≡ true → IsClosedAt text (Within text flops) p
+IsClosed text flops = IsClosedBy text (IsStream text) flops
 
 -- Some closed flip-flops lead to the point. The union of closed sets is closed, so these are the points of the greatest.
+abbrev pub IsLed : List PlainModule → (Stream : Point → Type 0) → Point → Type 0
+IsLed text Stream p = (flops : Point → Bool) × IsClosedBy text Stream flops × WithinBy text Stream flops p
+
 abbrev pub IsLoading : List PlainModule → Point → Type 0
-IsLoading text p = (flops : Point → Bool) × IsClosed text flops × Within text flops p
+IsLoading text p = IsLed text (IsStream text) p
 
 -- ---- loading
 

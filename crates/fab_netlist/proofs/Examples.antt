@@ -1,5 +1,5 @@
 -- The small netlists of the tests are well made.
-use Rattle.std.proofs.Common.{◌≡◌, ℕ, zero, suc, ◌≤◌, ◌%◌, ◌^◌, Bool, true, not, ◌&&◌, List, [], ◌∷◌, length, get_or, Contains, nat_eq, nat_lt, refl, sym, ap, ◌∙◌, inl, inr, arith, eqb-true}
+use Rattle.std.proofs.Common.{◌≡◌, ℕ, zero, suc, ◌≤◌, ◌%◌, ◌^◌, Bool, true, not, ◌&&◌, List, [], ◌∷◌, length, get_or, Contains, Some, None, nat_eq, nat_lt, refl, sym, ap, ◌∙◌, inl, inr, arith, eqb-true}
 use Rattle.std.specs.List.{list_any}
 use Rattle.std.proofs.lemmas.Bool.{cases_Bool, false≢true, ltb-true}
 use Rattle.fab_bits.specs.Bits.{same_bit}
@@ -58,8 +58,8 @@ made_by_tests : (netlist : PlainNetlist) → length netlist.nets ≤ 16384 →
     each (λ net. nat_lt net (length netlist.nets)) (driven netlist) ≡ true → each (λ net. nat_lt net (length netlist.nets)) (read netlist) ≡ true →
     each (λ (cover : PlainCover). nat_lt (length cover.inputs) 5) netlist.covers ≡ true → each repeats netlist.covers ≡ true → each (λ (latch : Latch). nat_lt latch.init 4) netlist.latches ≡ true →
     distinct (driven netlist) ≡ true → each (λ net. list_any (λ other. nat_eq other net) (driven netlist)) (read netlist) ≡ true →
-    ((j k : ℕ) (first second : ℕ) → IsAt (ports netlist) j first → IsAt (ports netlist) k second → name_of netlist first ≡ name_of netlist second → j ≡ k) → IsWellMade netlist
-made_by_tests netlist small drives reads four repeating initials once known differ = record {
+    ((j k : ℕ) (first second : ℕ) → IsAt (ports netlist) j first → IsAt (ports netlist) k second → name_of netlist first ≡ name_of netlist second → j ≡ k) → netlist.reset ≡ None → IsWellMade netlist
+made_by_tests netlist small drives reads four repeating initials once known differ unset = record {
   small = small;
   driven_below = λ net here. ltb-true net (length netlist.nets) (each_gives (λ net. nat_lt net (length netlist.nets)) (driven netlist) drives net here);
   read_below = λ net here. ltb-true net (length netlist.nets) (each_gives (λ net. nat_lt net (length netlist.nets)) (read netlist) reads net here);
@@ -70,6 +70,7 @@ made_by_tests netlist small drives reads four repeating initials once known diff
   initials = λ latch here. omega (arith, ltb-true latch.init 4 (each_gives (λ (z : Latch). nat_lt z.init 4) netlist.latches initials latch here));
   driven_once = distinct_once (driven netlist) once;
   read_driven = λ net here. any_number (driven netlist) net (each_gives (λ z. list_any (λ other. nat_eq other z) (driven netlist)) (read netlist) known net here);
+  reset_below = λ place is. (let e : None ≡ Some place = sym unset ∙ is in cc);
   ports_differ = differ;
 }
 
@@ -91,15 +92,15 @@ toggle_ports (suc (suc j)) k first second at_j at_k same = absurd (omega (arith,
 
 -- the toggle is well made
 pub toggle_made : IsWellMade toggle
-toggle_made = made_by_tests toggle (omega arith) refl refl refl refl refl refl refl toggle_ports
+toggle_made = made_by_tests toggle (omega arith) refl refl refl refl refl refl refl toggle_ports refl
 
 -- so is the toggle that is watched
 pub watched_made : IsWellMade watched
-watched_made = made_by_tests watched (omega arith) refl refl refl refl refl refl refl toggle_ports
+watched_made = made_by_tests watched (omega arith) refl refl refl refl refl refl refl toggle_ports refl
 
 -- so are the two covers that read each other
 pub round_made : IsWellMade round
-round_made = made_by_tests round (omega arith) refl refl refl refl refl refl refl (λ j k first second at_j at_k same. absurd (omega (arith, at_j.0)))
+round_made = made_by_tests round (omega arith) refl refl refl refl refl refl refl (λ j k first second at_j at_k same. absurd (omega (arith, at_j.0))) refl
 
 -- no cover of it reads a cover
 pub toggle_no_cycle : HasNoCycle toggle

@@ -19,3 +19,4 @@ pub mod Rooms
 pub mod Carried
 pub mod Examples
 pub mod RunLaw
+pub mod Resetting

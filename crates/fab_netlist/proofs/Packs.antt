@@ -211,8 +211,8 @@ abbrev the_cell : ℕ → List NetId → Option ℕ → PlainCell
 the_cell table inputs latch = record { table = table; inputs = inputs; latch = latch }
 
 -- a packed netlist of its parts
-abbrev the_packed : List PlainCell → List (List ℕ) → List (List ℕ × NetId) → PlainPacked
-the_packed cells inputs outputs = record { cells = cells; inputs = inputs; outputs = outputs }
+abbrev the_packed : List PlainCell → List (List ℕ) → List (List ℕ × NetId) → Option ℕ → PlainPacked
+the_packed cells inputs outputs reset = record { cells = cells; inputs = inputs; outputs = outputs; reset = reset }
 
 module _ (netlist : PlainNetlist) (made : IsWellMade netlist) where
   -- there are few ports
@@ -441,8 +441,8 @@ module _ (netlist : PlainNetlist) (made : IsWellMade netlist) where
       let outputs : map (λ net. (name_of netlist net, id_at table net)) netlist.outputs ≡ map (λ net. (name_of netlist net, net_of netlist net)) netlist.outputs =
       map_same (λ net. (name_of netlist net, id_at table net)) (λ net. (name_of netlist net, net_of netlist net)) netlist.outputs (λ net here.
       ap (λ id. (name_of netlist net, id)) (ids_alike net (output_below net here))) in
-      ap (λ (list : List PlainCell). the_packed list (map (name_of netlist) netlist.inputs) (map (λ net. (name_of netlist net, id_at table net)) netlist.outputs)) cells
-      ∙ ap (the_packed (map (cell_of netlist) (works netlist)) (map (name_of netlist) netlist.inputs)) outputs
+      ap (λ (list : List PlainCell). the_packed list (map (name_of netlist) netlist.inputs) (map (λ net. (name_of netlist net, id_at table net)) netlist.outputs) netlist.reset) cells
+      ∙ ap (λ (list : List (List ℕ × NetId)). the_packed (map (cell_of netlist) (works netlist)) (map (name_of netlist) netlist.inputs) list netlist.reset) outputs
     where
       -- outputs are nets
       output_below : (net : ℕ) → Contains netlist.outputs net → net < length netlist.nets

@@ -1,19 +1,29 @@
 -- A netlist without a cycle of covers has one run over each list of input vectors.
-use Rattle.std.proofs.Common.{◌≡◌, ℕ, Bool, List, [], ◌∷◌, map, refl, sym, subst}
+use Rattle.std.proofs.Common.{◌≡◌, ℕ, Bool, List, [], ◌∷◌, map, get_or, Option, Some, None, if◌then◌else◌, refl, sym, ap, ◌∙◌, subst}
 use Rattle.fab_netlist.specs.declared.netlist.Latch.{Latch}
 use Rattle.fab_netlist.specs.Plain.{PlainNetlist, bit_at}
 use Rattle.fab_netlist.specs.WellMade.{IsWellMade}
 use Rattle.fab_netlist.specs.Cycles.{HasNoCycle}
-use Rattle.fab_netlist.specs.Meaning.{IsRun, AgreeAlways, next_held}
+use Rattle.fab_netlist.specs.Meaning.{IsRun, AgreeAlways, first_value, reset_by, is_reset, next_held}
 use Rattle.fab_netlist.proofs.Meaning.{one_meaning}
 
 -- assignments that agree give the same next held values
-same_next : (a b : ℕ → Bool) → ((net : ℕ) → a net ≡ b net) → (latches : List Latch) → map (λ (latch : Latch). a latch.input) latches ≡ map (λ (latch : Latch). b latch.input) latches
-same_next a b agree [] = refl
-same_next a b agree (latch ∷ latches) =
+same_latches : (a b : ℕ → Bool) → ((net : ℕ) → a net ≡ b net) → (r : Bool) (latches : List Latch) →
+    map (λ (latch : Latch). if r then first_value latch else a latch.input) latches ≡ map (λ (latch : Latch). if r then first_value latch else b latch.input) latches
+same_latches a b agree r [] = refl
+same_latches a b agree r (latch ∷ latches) =
     let here : a latch.input ≡ b latch.input = agree latch.input in
-    let rest : map (λ (other : Latch). a other.input) latches ≡ map (λ (other : Latch). b other.input) latches = same_next a b agree latches in
-    cc
+    let rest = same_latches a b agree r latches in
+    λ j. (if r then first_value latch else here j) ∷ rest j
+
+same_reset : (a b : ℕ → Bool) → ((net : ℕ) → a net ≡ b net) → (inputs : List ℕ) (reset : Option ℕ) → reset_by inputs a reset ≡ reset_by inputs b reset
+same_reset a b agree inputs None = refl
+same_reset a b agree inputs (Some place) = agree (get_or inputs place 0)
+
+same_next : (netlist : PlainNetlist) (a b : ℕ → Bool) → ((net : ℕ) → a net ≡ b net) → next_held netlist a ≡ next_held netlist b
+same_next netlist a b agree =
+    same_latches a b agree (is_reset netlist a) netlist.latches
+    ∙ ap (λ r. map (λ (latch : Latch). if r then first_value latch else b latch.input) netlist.latches) (same_reset a b agree netlist.inputs netlist.reset)
 
 module _ (netlist : PlainNetlist) (made : IsWellMade netlist) (none : HasNoCycle netlist) where
   -- there is a run
@@ -33,5 +43,5 @@ module _ (netlist : PlainNetlist) (made : IsWellMade netlist) (none : HasNoCycle
   runs_agree held (given ∷ vectors) (a ∷ later) [] run_a run_b = absurd run_b
   runs_agree held (given ∷ vectors) (a ∷ later) (b ∷ rest) run_a run_b =
       let agree = (one_meaning netlist made none (bit_at given) (bit_at held)).1 a b run_a.0 run_b.0 in
-      let same : next_held netlist b ≡ next_held netlist a = sym (same_next a b agree netlist.latches) in
+      let same : next_held netlist b ≡ next_held netlist a = sym (same_next netlist a b agree) in
       (agree, runs_agree (next_held netlist a) vectors later rest run_a.1 (subst (λ (next : List Bool). IsRun netlist next vectors rest) same run_b.1))

@@ -1,5 +1,5 @@
 -- Small netlists that the tests use.
-use Rattle.std.specs.Prelude.{[], ◌∷◌, codes}
+use Rattle.std.specs.Prelude.{[], ◌∷◌, codes, None}
 use Rattle.fab_netlist.specs.Plain.{PlainNetlist}
 
 -- a latch that takes `e and not q`, and a cover whose output nothing reads
@@ -10,6 +10,7 @@ toggle = record {
   outputs = 1 ∷ [];
   covers = (record { line = 5; inputs = 0 ∷ 1 ∷ []; output = 2; table = 8738 }) ∷ (record { line = 7; inputs = 1 ∷ []; output = 3; table = 21845 }) ∷ [];
   latches = (record { input = 2; output = 1; init = 0 }) ∷ [];
+  reset = None;
 }
 
 -- two covers that read each other
@@ -20,6 +21,7 @@ round = record {
   outputs = [];
   covers = (record { line = 3; inputs = 1 ∷ []; output = 0; table = 43690 }) ∷ (record { line = 5; inputs = 0 ∷ []; output = 1; table = 43690 }) ∷ [];
   latches = [];
+  reset = None;
 }
 
 -- the toggle, where the cover whose output nothing reads reads what the latch takes
@@ -30,4 +32,5 @@ watched = record {
   outputs = 1 ∷ [];
   covers = (record { line = 5; inputs = 0 ∷ 1 ∷ []; output = 2; table = 8738 }) ∷ (record { line = 7; inputs = 2 ∷ []; output = 3; table = 21845 }) ∷ [];
   latches = (record { input = 2; output = 1; init = 3 }) ∷ [];
+  reset = None;
 }

@@ -2,6 +2,7 @@ pub mod Plain
 pub mod WellMade
 pub mod Cycles
 pub mod Meaning
+pub mod Resets
 pub mod Kept
 pub mod Packed
 pub mod Packing

@@ -1,6 +1,7 @@
 -- The values that the nets of a netlist have.
-use Rattle.std.specs.Prelude.{◌≡◌, ℕ, Bool, false, List, [], ◌∷◌, map, Contains}
+use Rattle.std.specs.Prelude.{◌≡◌, ℕ, Bool, false, List, [], ◌∷◌, map, Contains, Option, Some, None, get_or, nat_eq, if◌then◌else◌}
 use Rattle.fab_bits.specs.Bits.{number}
+use Rattle.fab_netlist.specs.declared.netlist.Latch.{Latch}
 use Rattle.fab_netlist.specs.Plain.{PlainCover, PlainNetlist, IsAt, bit_at}
 use Rattle.fab_netlist.specs.WellMade.{IsWellMade, times, driven, latch_outputs, table_bit}
 use Rattle.fab_netlist.specs.Cycles.{HasNoCycle}
@@ -16,9 +17,21 @@ pub record Meets (netlist : PlainNetlist) (given held now : ℕ → Bool) : Type
   pub inputs : (place net : ℕ) → IsAt netlist.inputs place net → now net ≡ given place
   pub others : (net : ℕ) → times net (driven netlist) ≡ 0 → now net ≡ false
 
--- what the latches hold next
+-- what a latch begins with: 2 and 3, any value, are 0
+abbrev pub first_value : Latch → Bool
+first_value latch = nat_eq latch.init 1
+
+abbrev pub reset_by : (inputs : List ℕ) → (ℕ → Bool) → (reset : Option ℕ) → Bool
+reset_by inputs now None = false
+reset_by inputs now (Some place) = now (get_or inputs place 0)
+
+-- whether the netlist has a reset port, and its net the value 1
+abbrev pub is_reset : PlainNetlist → (ℕ → Bool) → Bool
+is_reset netlist now = reset_by netlist.inputs now netlist.reset
+
+-- What the latches hold next: what they begin with where they are reset, and else what their inputs have.
 abbrev pub next_held : PlainNetlist → (ℕ → Bool) → List Bool
-next_held netlist now = map (λ latch. now latch.input) netlist.latches
+next_held netlist now = map (λ latch. if is_reset netlist now then first_value latch else now latch.input) netlist.latches
 
 -- A run from held values over input vectors: in each cycle the assignment of all nets.
 abbrev pub IsRun : PlainNetlist → (held : List Bool) → (vectors : List (List Bool)) → List (ℕ → Bool) → Type 0

@@ -12,3 +12,5 @@ pub record PlainPacked : Type 0 where
   pub cells : List PlainCell
   pub inputs : List (List ℕ)
   pub outputs : List (List ℕ × NetId)
+  -- the reset port, by its place among the inputs
+  pub reset : Option ℕ

@@ -94,6 +94,7 @@ packed netlist = record {
   cells = map (cell_of netlist) (works netlist);
   inputs = map (name_of netlist) netlist.inputs;
   outputs = map (λ net. (name_of netlist net, net_of netlist net)) netlist.outputs;
+  reset = netlist.reset;
 }
 
 -- what packing answers where there are so many sites of the two kinds

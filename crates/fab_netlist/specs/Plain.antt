@@ -1,5 +1,5 @@
 -- Netlists without where they lie in memory.
-use Rattle.std.specs.Prelude.{◌≡◌, ℕ, ◌<◌, Bool, false, List, [], length, get_or}
+use Rattle.std.specs.Prelude.{◌≡◌, ℕ, ◌<◌, Bool, false, List, [], length, get_or, Option}
 use Rattle.fab_netlist.specs.declared.netlist.Latch.{Latch}
 
 -- Nets are numbers. Bit i of the table is the value of the output where the inputs, the first as least significant, spell i.
@@ -15,6 +15,8 @@ pub record PlainNetlist : Type 0 where
   pub outputs : List ℕ
   pub covers : List PlainCover
   pub latches : List Latch
+  -- the reset port, by its place among the inputs
+  pub reset : Option ℕ
 
 -- something stands at a place of a list
 abbrev pub IsAt : {X : Type 0} → List X → (place : ℕ) → X → Type 0

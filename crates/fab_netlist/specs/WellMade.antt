@@ -1,5 +1,5 @@
 -- What holds of a netlist that was read and flattened.
-use Rattle.std.specs.Prelude.{◌≡◌, ℕ, ◌+◌, ◌<◌, ◌≤◌, ◌/◌, ◌%◌, ◌^◌, Bool, List, [], ◌∷◌, ◌++◌, map, length, Contains, if◌then◌else◌, nat_eq}
+use Rattle.std.specs.Prelude.{◌≡◌, ℕ, ◌+◌, ◌<◌, ◌≤◌, ◌/◌, ◌%◌, ◌^◌, Bool, List, [], ◌∷◌, ◌++◌, map, length, Contains, if◌then◌else◌, nat_eq, Some}
 use Rattle.std.specs.List.{flat_map}
 use Rattle.fab_netlist.specs.declared.netlist.Latch.{Latch}
 use Rattle.fab_netlist.specs.Plain.{PlainCover, PlainNetlist, IsAt, name_of}
@@ -47,4 +47,5 @@ pub record IsWellMade (netlist : PlainNetlist) : Type 0 where
   pub initials : (latch : Latch) → Contains netlist.latches latch → latch.init ≤ 3
   pub driven_once : (net : ℕ) → times net (driven netlist) ≤ 1
   pub read_driven : (net : ℕ) → Contains (read netlist) net → Contains (driven netlist) net
+  pub reset_below : (place : ℕ) → netlist.reset ≡ Some place → place < length netlist.inputs
   pub ports_differ : (j k : ℕ) (first second : ℕ) → IsAt (ports netlist) j first → IsAt (ports netlist) k second → name_of netlist first ≡ name_of netlist second → j ≡ k

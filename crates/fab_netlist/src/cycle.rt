@@ -1,10 +1,10 @@
 //! One cycle of a netlist.
 
-ghost use Rattle.std.specs.Prelude.{◌≡◌, ◌<◌, ◌≤◌, ◌^◌, Bool, length, map};
+ghost use Rattle.std.specs.Prelude.{◌≡◌, ◌<◌, ◌≤◌, ◌^◌, Bool, if◌then◌else◌, length, map};
 ghost use Rattle.std.specs.List.{All};
 ghost use Rattle.fab_bits.specs.Bits.{number};
 ghost use Rattle.fab_netlist.specs.Cycles.{HasNoCycle};
-ghost use Rattle.fab_netlist.specs.Meaning.{Meets, cover_value, next_held};
+ghost use Rattle.fab_netlist.specs.Meaning.{Meets, cover_value, first_value, is_reset, next_held};
 ghost use Rattle.fab_netlist.specs.inner.Passes.{IsWithin, asked, placed, taken};
 ghost use Rattle.fab_netlist.specs.Plain.{bit_at};
 ghost use Rattle.fab_netlist.specs.WellMade.{IsWellMade};
@@ -72,13 +72,37 @@ fn ask_in_turn(covers: &[Cover], places: &[u32], values: &mut [bool])
     }
 }
 
-fn hold(latches: &[Latch], values: &[bool], held: &mut [bool])
+/// Whether a netlist has a reset port, and its net the value 1.
+fn is_reset(netlist: &Netlist, values: &[bool]) -> bool
+    requires { length values.now ≡ length netlist.now.nets }
+    ensures { result ≡ is_reset netlist.now (bit_at values.now) }
+{
+    netlist.is_well_made();
+    match netlist.reset {
+        None => false,
+        Some(place) => values[netlist.inputs[place as usize] as usize],
+    }
+}
+
+/// The value that a latch takes, where latches are reset and where they are not.
+fn next_value(latch: &Latch, reset: bool, values: &[bool]) -> bool
+    requires { latch.now.input < length values.now }
+    ensures { result ≡ (if reset then first_value latch.now else bit_at values.now latch.now.input) }
+{
+    if reset {
+        latch.init == 1
+    } else {
+        values[latch.input as usize]
+    }
+}
+
+fn hold(latches: &[Latch], reset: bool, values: &[bool], held: &mut [bool])
     requires inputs { All (λ latch. latch.input < length values.now) latches.now }
     requires fits { length held.old ≡ length latches.now }
-    ensures { held.new ≡ map (λ latch. bit_at values.now latch.input) latches.now }
+    ensures { held.new ≡ map (λ latch. if reset then first_value latch else bit_at values.now latch.input) latches.now }
 {
     for (place, latch) in latches.iter().enumerate() {
-        held[place] = values[latch.input as usize];
+        held[place] = next_value(latch, reset, values);
     }
 }
 
@@ -98,5 +122,6 @@ pub fn step(netlist: &Netlist, inputs: &[bool], held: &mut [bool], values: &mut 
     place(&netlist.inputs, inputs, values);
     place_held(&netlist.latches, held, values);
     ask_in_turn(&netlist.covers, netlist.order(), values);
-    hold(&netlist.latches, values, held);
+    let reset = is_reset(netlist, values);
+    hold(&netlist.latches, reset, values, held);
 }

@@ -1,8 +1,11 @@
 //! Netlists after reading and flattening.
 
-ghost use Rattle.std.specs.Prelude.{◌≡◌, IfOk, MatchOption};
+ghost use Rattle.std.specs.Prelude.{◌≡◌, ◌<◌, length, IfOk, MatchOption, None, true, false};
+ghost use Rattle.std.specs.Str.{bytes_eq};
+ghost use Rattle.fab_netlist.specs.Plain.{name_of};
 ghost use Rattle.fab_netlist.specs.Cycles.{HasNoCycle, IsOneCycle};
 ghost use Rattle.fab_netlist.specs.inner.Order.{IsOrder};
+ghost use Rattle.fab_netlist.specs.Resets.{IsSetTo, reset_place};
 ghost use Rattle.fab_netlist.specs.WellMade.{IsWellMade};
 
 use crate::walk::find_order;
@@ -57,11 +60,12 @@ pub(crate) struct Parts {
 }
 
 impl Model for Parts {
+    ghost use Rattle.std.specs.Prelude.{None};
     ghost use Rattle.fab_netlist.specs.Plain.{PlainNetlist};
 
     ghost Value = { PlainNetlist };
 
-    ghost view = { λ parts. record { nets = parts.nets.items; inputs = parts.inputs.items; outputs = parts.outputs.items; covers = parts.covers.items; latches = parts.latches.items } };
+    ghost view = { λ parts. record { nets = parts.nets.items; inputs = parts.inputs.items; outputs = parts.outputs.items; covers = parts.covers.items; latches = parts.latches.items; reset = None } };
 }
 
 /// In what order the covers of a netlist may be asked.
@@ -87,6 +91,8 @@ pub struct Netlist {
     pub covers: Vec<Cover>,
     /// The latches; held values stand in their order.
     pub latches: Vec<Latch>,
+    /// The reset port, by its place among the input ports, where one is chosen.
+    pub reset: Option<u32>,
     order: Order,
 }
 
@@ -96,9 +102,9 @@ impl Model for Netlist {
 
     ghost Value = { PlainNetlist };
 
-    ghost view = { λ netlist. record { nets = netlist.nets.items; inputs = netlist.inputs.items; outputs = netlist.outputs.items; covers = netlist.covers.items; latches = netlist.latches.items } };
+    ghost view = { λ netlist. record { nets = netlist.nets.items; inputs = netlist.inputs.items; outputs = netlist.outputs.items; covers = netlist.covers.items; latches = netlist.latches.items; reset = netlist.reset } };
 
-    ghost invariant = { λ netlist. IsSound (record { nets = netlist.nets.items; inputs = netlist.inputs.items; outputs = netlist.outputs.items; covers = netlist.covers.items; latches = netlist.latches.items }) netlist.order };
+    ghost invariant = { λ netlist. IsSound (record { nets = netlist.nets.items; inputs = netlist.inputs.items; outputs = netlist.outputs.items; covers = netlist.covers.items; latches = netlist.latches.items; reset = netlist.reset }) netlist.order };
 }
 
 impl Netlist {
@@ -112,8 +118,8 @@ impl Netlist {
         covers: Vec<Cover>,
         latches: Vec<Latch>,
     ) -> Result<Netlist, Memory>
-        requires { IsWellMade (record { nets = nets.items; inputs = inputs.items; outputs = outputs.items; covers = covers.items; latches = latches.items }) }
-        ensures { IfOk result (λ netlist. netlist ≡ record { nets = nets.items; inputs = inputs.items; outputs = outputs.items; covers = covers.items; latches = latches.items }) }
+        requires { IsWellMade (record { nets = nets.items; inputs = inputs.items; outputs = outputs.items; covers = covers.items; latches = latches.items; reset = None }) }
+        ensures { IfOk result (λ netlist. netlist ≡ record { nets = nets.items; inputs = inputs.items; outputs = outputs.items; covers = covers.items; latches = latches.items; reset = None }) }
     {
         let parts = Parts {
             nets,
@@ -136,6 +142,7 @@ impl Netlist {
             outputs,
             covers,
             latches,
+            reset: None,
             order,
         })
     }
@@ -145,6 +152,42 @@ impl Netlist {
         ensures { IsWellMade self.now }
     {
         let _ = &self.nets;
+    }
+
+    /// Whether a net has a name.
+    fn is_named(&self, net: u32, port: &[u8]) -> bool
+        requires { net < length self.now.nets }
+        ensures { result ≡ bytes_eq port.now (name_of self.now net) }
+    {
+        port == self.nets[net as usize].bytes()
+    }
+
+    /// The place of the input port of a name.
+    fn place_of(&self, port: &[u8]) -> Option<u32>
+        ensures { result ≡ reset_place self.now port.now }
+    {
+        self.is_well_made();
+        for (place, net) in self.inputs.iter().enumerate() {
+            if self.is_named(*net, port) {
+                return Some(place as u32);
+            }
+        }
+        None
+    }
+
+    /// Chooses the input port of a name as the reset port: in a cycle in which it is 1 the latches take their initial values. It is false, and
+    /// nothing changes, where no input port has the name.
+    pub fn set_reset(&mut self, port: &[u8]) -> bool
+        ensures sets { IsSetTo self.old port.now result self.new }
+        ensures acyclic { HasNoCycle self.old → HasNoCycle self.new }
+    {
+        match self.place_of(port) {
+            None => false,
+            Some(place) => {
+                self.reset = Some(place);
+                true
+            }
+        }
     }
 
     /// The places of all covers, each behind those that it reads.

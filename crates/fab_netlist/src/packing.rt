@@ -46,6 +46,8 @@ pub struct Packed {
     pub inputs: Vec<Name>,
     /// The names of the output ports, with the nets that they show.
     pub outputs: Vec<(Name, NetId)>,
+    /// The reset port, by its place among the input ports.
+    pub reset: Option<u32>,
 }
 
 impl Model for Packed {
@@ -53,7 +55,7 @@ impl Model for Packed {
 
     ghost Value = { PlainPacked };
 
-    ghost view = { λ packed. record { cells = packed.cells.items; inputs = packed.inputs.items; outputs = packed.outputs.items } };
+    ghost view = { λ packed. record { cells = packed.cells.items; inputs = packed.inputs.items; outputs = packed.outputs.items; reset = packed.reset } };
 }
 
 /// The net that a cover's cell drives.
@@ -312,6 +314,7 @@ fn assemble(
         cells: cells(alloc, netlist, survey, &table)?,
         inputs: names(alloc, netlist, &netlist.inputs)?,
         outputs: shown(alloc, netlist, &table, &netlist.outputs)?,
+        reset: netlist.reset,
     })
 }
 

@@ -22,9 +22,9 @@ use Rattle.fab_use.specs.Design.{at_flip_flop, IsSourced, IsOfDesign, IsDesignPo
 use Rattle.fab_use.specs.Sources.{Source, HasSource, source_reads, source_value}
 use Rattle.fab_tern.specs.Shown.{Terns}
 use Rattle.fab_points.specs.Shown.{Shown}
-use Rattle.fab_points.specs.Laws.{DesignIsCovered, DesignIsDeclared, DesignIsListed, DesignSettlesBySources, RegistersTick, SourcesAreKnown, SourcesAgree}
+use Rattle.fab_points.specs.Laws.{DesignIsCovered, DesignIsDeclared, DesignIsListed, DesignSettlesBySources, DesignSettlesByShownSources, RegistersTick, SourcesAreKnown, SourcesAgree}
 use Rattle.fab_points.proofs.EachSource.{has_fabric, sources_show}
-use Rattle.fab_points.proofs.Loading.{loaded_is_known}
+use Rattle.fab_points.proofs.Loading.{shown_is_known, configured_show}
 use Rattle.fab_points.proofs.Boolean.{source_known, gives_source, settled_source, source_settles}
 use Rattle.fab_points.proofs.Covers.{route_sourced, cell_sourced}
 use Rattle.fab_points.proofs.ReadPoints.{pad_sourced, reads_covered, reads_few}
@@ -73,13 +73,13 @@ design_is_declared fabric text packed fixed implementation is are is_text made l
     source_declared fabric text packed fixed implementation are (has_fabric fabric text is is_text) legal p found.0 found.1
 design_is_declared fabric text packed fixed implementation is are is_text made legal p (inr loading) = loading_declared text p loading
 
-pub design_settles : PointsOfSoundTextsHaveOneDriver → DesignSettlesBySources
-design_settles one fabric text packed fixed implementation bits inputs held now is are is_text made legal configures configured loading = (holds, settles)
+pub design_settles_shown : PointsOfSoundTextsHaveOneDriver → DesignSettlesByShownSources
+design_settles_shown one fabric text packed fixed implementation bits inputs held now is are is_text made legal configures bits_show loading = (holds, settles)
   where
     shows : (p : Point) (s : Source) → HasSource fabric packed implementation p s → Shown text inputs held (λ q. known (now q)) p s
     shows p s source =
         sources_show fabric text packed fixed implementation bits inputs held (λ q. known (now q)) is are is_text made legal configures
-        (loaded_is_known fabric text bits inputs held now (λ q. known (now q)) is is_text configured loading (λ q is. refl)) p s source
+        (shown_is_known fabric text bits inputs held now (λ q. known (now q)) is is_text bits_show loading (λ q is. refl)) p s source
 
     holds : IsSettledOn (IsDesignPoint fabric text packed implementation) text inputs held now →
         (p : Point) (s : Source) → IsOfDesign fabric packed implementation p → HasSource fabric packed implementation p s → now p ≡ source_value inputs held now p s
@@ -103,6 +103,11 @@ design_settles one fabric text packed fixed implementation bits inputs held now 
         IsSettledOn (IsDesignPoint fabric text packed implementation) text inputs held now
     settles each p d (inl is_design) drives = by_source each p d is_design (cover p is_design) drives
     settles each p d (inr loads) drives = loading p d loads drives
+
+pub design_settles : PointsOfSoundTextsHaveOneDriver → DesignSettlesBySources
+design_settles one fabric text packed fixed implementation bits inputs held now is are is_text made legal configures configured loading =
+    design_settles_shown one fabric text packed fixed implementation bits inputs held now is are is_text made legal configures
+    (configured_show fabric text bits inputs held now is is_text configured loading) loading
 
 pub registers_tick : RegistersTick
 registers_tick fabric text packed fixed implementation held now after is are is_text legal number init site cell bound latched =

@@ -45,7 +45,10 @@ use Rattle.fab_use.proofs.fab_text_loads_Named.{config_stands, config_within}
 use Rattle.fab_use.proofs.fab_text_loads_Runs.{configured_shows}
 use Rattle.fab_tern.specs.Shown.{Terns}
 use Rattle.fab_points.specs.Known.{KnowsTile}
-use Rattle.fab_points.specs.Laws.{LoadedIsKnown}
+use Rattle.fab_use.specs.fab_drives_Points.{ShowsBits}
+use Rattle.fab_use.specs.fab_text_loads_Loads.{IsConfigured}
+use Rattle.fab_model.specs.Drive.{PlainBits}
+use Rattle.fab_points.specs.Laws.{LoadedIsKnown, ShownIsKnown}
 
 module _ (fabric : PlainFabric) (next : NextValues) (text : List PlainModule) (has : HasLoader fabric next text) (x y : ℕ) (tile : PlainTile) (there : tile_at fabric x y ≡ Some tile) where
   abbrev path : Path
@@ -215,8 +218,16 @@ has_loader fabric text is is_text =
     let text_is : text ≡ fabric_text fabric made = is_text.is ∙ ap (fabric_text fabric) loader.is in
     subst (HasLoader fabric loader.next) (sym text_is) (text_has_loader fabric loader.next is steps)
 
+pub shown_is_known : ShownIsKnown
+shown_is_known fabric text bits inputs held now t is is_text shows settled known_is x y tile there =
+    knows_tile fabric is_text.is_loader.next text (has_loader fabric text is is_text) x y tile there (bits x y) inputs held now (shows x y tile there) settled t known_is
+
+-- the latches of a configured text show its bits
+pub configured_show : (fabric : PlainFabric) (text : List PlainModule) (bits : PlainBits) (inputs held now : Assignment) → IsFabric fabric → IsFabricText fabric text →
+    IsConfigured fabric bits held → IsSettledOn (IsLoading text) text inputs held now → ShowsBits fabric bits now
+configured_show fabric text bits inputs held now is is_text configured settled =
+    configured_shows fabric is_text.is_loader.next text (has_loader fabric text is is_text) is bits inputs held now configured settled
+
 pub loaded_is_known : LoadedIsKnown
-loaded_is_known fabric text bits inputs held now t is is_text configured settled known_is x y tile there =
-    let next = is_text.is_loader.next in
-    let has = has_loader fabric text is is_text in
-    knows_tile fabric next text has x y tile there (bits x y) inputs held now (configured_shows fabric next text has is bits inputs held now configured settled x y tile there) settled t known_is
+loaded_is_known fabric text bits inputs held now t is is_text configured settled known_is =
+    shown_is_known fabric text bits inputs held now t is is_text (configured_show fabric text bits inputs held now is is_text configured settled) settled known_is

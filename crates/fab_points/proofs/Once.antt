@@ -24,20 +24,20 @@ use Rattle.fab_use.specs.fab_legal_WellMade.{IsWellMadePacked}
 use Rattle.fab_use.specs.fab_legal_Legal.{IsLegal}
 use Rattle.fab_load_runs.specs.Runs.{IsClockLow, LoadingIsDecided}
 use Rattle.fab_use.specs.fab_fabric_text_Texts.{IsFabricText}
-use Rattle.fab_use.specs.fab_text_loads_Loads.{IsConfigured, LoadsConfigurations}
+use Rattle.fab_use.specs.fab_text_loads_Loads.{LoadsConfigurations}
 use Rattle.fab_use.specs.Design.{IsSourced, IsOfDesign, IsDesignPoint}
 use Rattle.fab_use.specs.Configuring.{Configures}
 use Rattle.fab_use.specs.Headline as headline
 use Rattle.fab_use.specs.Sources as sources
 use Rattle.fab_use.specs.Sources.{Source, source_value, source_reads, HasSource}
 use Rattle.fab_points.specs.Known.{KnowsBits}
-use Rattle.fab_points.specs.Laws.{RanksDesign, RankedDesignSettlesOnce}
+use Rattle.fab_points.specs.Laws.{RanksDesign, RankedDesignSettlesOnce, WillShow, ShownDesignSettlesOnce}
 use Rattle.fab_points.proofs.EachSource.{sources_show}
-use Rattle.fab_points.proofs.Loading.{loaded_is_known}
+use Rattle.fab_points.proofs.Loading.{shown_is_known, configured_show}
 use Rattle.fab_points.proofs.Boolean.{settled_source}
 use Rattle.fab_points.proofs.ReadPoints.{reads_covered, reads_few}
 use Rattle.fab_points.proofs.Configuration.{configuration_point_loads}
-use Rattle.fab_points.proofs.Laws.{design_is_declared, design_settles, design_is_listed, sources_agree}
+use Rattle.fab_points.proofs.Laws.{design_is_declared, design_settles_shown, design_is_listed, sources_agree}
 
 -- what a source shows depends on what it reads alone
 map_same : (a b : Assignment) (qs : List Point) → All (λ q. a q ≡ b q) qs → map a qs ≡ map b qs
@@ -83,7 +83,7 @@ module _ (one : PointsOfSoundTextsHaveOneDriver) (decide : LoadingIsDecided) (sy
     (loads : (fabric : PlainFabric) (text : List PlainModule) → IsFabric fabric → IsFabricText fabric text → LoadsConfigurations fabric text) where
   module _ (fabric : PlainFabric) (text : List PlainModule) (packed : PlainPacked) (fixed : List Pad) (implementation : PlainImplementation) (bits : PlainBits) (inputs held : Assignment)
       (rank : Point → ℕ) (ranks : ℕ) (is : IsFabric fabric) (are : AreTiles fabric) (is_text : IsFabricText fabric text) (made : IsWellMadePacked packed)
-      (legal : IsLegal fabric packed fixed implementation) (configures : Configures fabric packed implementation bits) (configured : IsConfigured fabric bits held)
+      (legal : IsLegal fabric packed fixed implementation) (configures : Configures fabric packed implementation bits) (will_show : WillShow fabric text bits inputs held)
       (low : inputs (point [] clock_name 0) ≡ false) (ranked : RanksDesign fabric text packed implementation rank ranks) where
     abbrev Has : Point → Type 0
     Has p = IsDesignPoint fabric text packed implementation p
@@ -97,7 +97,7 @@ module _ (one : PointsOfSoundTextsHaveOneDriver) (decide : LoadingIsDecided) (sy
     by_sources : (now : Assignment) → IsSettledOn (IsLoading text) text inputs held now →
         (IsSettledOn Has text inputs held now → (p : Point) (s : Source) → Is p → HasSource fabric packed implementation p s → now p ≡ source_value inputs held now p s)
         × (((p : Point) (s : Source) → Is p → HasSource fabric packed implementation p s → now p ≡ source_value inputs held now p s) → IsSettledOn Has text inputs held now)
-    by_sources now loading = design_settles one fabric text packed fixed implementation bits inputs held now is are is_text made legal configures configured loading
+    by_sources now loading = design_settles_shown one fabric text packed fixed implementation bits inputs held now is are is_text made legal configures (will_show now loading) loading
 
     loading_part : (now : Assignment) → IsSettledOn Has text inputs held now → IsSettledOn (IsLoading text) text inputs held now
     loading_part now settled p d loads drives = settled p d (inr loads) drives
@@ -321,7 +321,7 @@ module _ (one : PointsOfSoundTextsHaveOneDriver) (decide : LoadingIsDecided) (sy
 
       new_sources : (p : Point) (s : Source) → Is p → HasSource fabric packed implementation p s → new p ≡ source_value inputs held new p s
       new_sources p s design source =
-          let knows : KnowsBits fabric bits (λ q. known (new q)) = loaded_is_known fabric text bits inputs held new (λ q. known (new q)) is is_text configured new_settles_loading (λ q loads. refl) in
+          let knows : KnowsBits fabric bits (λ q. known (new q)) = shown_is_known fabric text bits inputs held new (λ q. known (new q)) is is_text (will_show new new_settles_loading) new_settles_loading (λ q loads. refl) in
           elim (cases_Bool (loading p)) [
             | inl loads ↦ settled_source text inputs held new p s (reads_few fabric packed fixed implementation are legal made p s source)
                 (sources_show fabric text packed fixed implementation bits inputs held (λ q. known (new q)) is are is_text made legal configures knows p s source)
@@ -362,6 +362,11 @@ module _ (one : PointsOfSoundTextsHaveOneDriver) (decide : LoadingIsDecided) (sy
     pub design_once : headline.SettlesOnce Has text inputs held
     design_once = record { exists = at_least_one; once = at_most_once; ticks = one_tick }
 
+  pub shown_settles_once : ShownDesignSettlesOnce
+  shown_settles_once fabric text packed fixed implementation bits inputs held rank ranks is are is_text made legal configures will_show low ranked =
+      design_once fabric text packed fixed implementation bits inputs held rank ranks is are is_text made legal configures will_show low ranked
+
   pub ranked_settles_once : RankedDesignSettlesOnce
   ranked_settles_once fabric text packed fixed implementation bits inputs held rank ranks is are is_text made legal configures configured low ranked =
-      design_once fabric text packed fixed implementation bits inputs held rank ranks is are is_text made legal configures configured low ranked
+      design_once fabric text packed fixed implementation bits inputs held rank ranks is are is_text made legal configures
+      (λ now settled. configured_show fabric text bits inputs held now is is_text configured settled) low ranked

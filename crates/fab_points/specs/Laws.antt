@@ -17,6 +17,7 @@ use Rattle.fab_use.specs.fab_legal_WellMade.{IsWellMadePacked}
 use Rattle.fab_use.specs.fab_legal_Legal.{IsLegal}
 use Rattle.fab_prim.specs.Modules.{flip_flop_name}
 use Rattle.fab_use.specs.fab_fabric_text_Texts.{IsFabricText}
+use Rattle.fab_use.specs.fab_drives_Points.{ShowsBits}
 use Rattle.fab_use.specs.fab_text_loads_Loads.{IsConfigured}
 use Rattle.fab_tern.specs.Shown.{Terns, tern_shown}
 use Rattle.fab_use.specs.Sites.{bel_point}
@@ -43,6 +44,12 @@ LoadedIsKnown =
     (fabric : PlainFabric) (text : List PlainModule) (bits : PlainBits) (inputs held now : Assignment) (t : Terns) → IsFabric fabric → IsFabricText fabric text →
     IsConfigured fabric bits held → IsSettledOn (IsLoading text) text inputs held now → ((p : Point) → IsLoading text p → t p ≡ known (now p)) → KnowsBits fabric bits t
 
+-- Where the loading points are settled and known, and the latches show configuration bits, these are known where they are used.
+abbrev pub ShownIsKnown : Type 0
+ShownIsKnown =
+    (fabric : PlainFabric) (text : List PlainModule) (bits : PlainBits) (inputs held now : Assignment) (t : Terns) → IsFabric fabric → IsFabricText fabric text →
+    ShowsBits fabric bits now → IsSettledOn (IsLoading text) text inputs held now → ((p : Point) → IsLoading text p → t p ≡ known (now p)) → KnowsBits fabric bits t
+
 -- Each named point of a design is a loading point, or has a source that reads route, cell and pad points alone, four at most.
 abbrev pub DesignIsCovered : Type 0
 DesignIsCovered =
@@ -68,6 +75,15 @@ DesignSettlesBySources =
     (fabric : PlainFabric) (text : List PlainModule) (packed : PlainPacked) (fixed : List Pad) (implementation : PlainImplementation) (bits : PlainBits) (inputs held now : Assignment) →
     IsFabric fabric → AreTiles fabric → IsFabricText fabric text → IsWellMadePacked packed → IsLegal fabric packed fixed implementation → Configures fabric packed implementation bits →
     IsConfigured fabric bits held → IsSettledOn (IsLoading text) text inputs held now →
+    IsSettledOn (IsDesignPoint fabric text packed implementation) text inputs held now
+    ↔ ((p : Point) (s : Source) → IsOfDesign fabric packed implementation p → HasSource fabric packed implementation p s → now p ≡ source_value inputs held now p s)
+
+-- The same where the latches show such bits, whatever the loader does.
+abbrev pub DesignSettlesByShownSources : Type 0
+DesignSettlesByShownSources =
+    (fabric : PlainFabric) (text : List PlainModule) (packed : PlainPacked) (fixed : List Pad) (implementation : PlainImplementation) (bits : PlainBits) (inputs held now : Assignment) →
+    IsFabric fabric → AreTiles fabric → IsFabricText fabric text → IsWellMadePacked packed → IsLegal fabric packed fixed implementation → Configures fabric packed implementation bits →
+    ShowsBits fabric bits now → IsSettledOn (IsLoading text) text inputs held now →
     IsSettledOn (IsDesignPoint fabric text packed implementation) text inputs held now
     ↔ ((p : Point) (s : Source) → IsOfDesign fabric packed implementation p → HasSource fabric packed implementation p s → now p ≡ source_value inputs held now p s)
 
@@ -126,4 +142,16 @@ RankedDesignSettlesOnce =
     (fabric : PlainFabric) (text : List PlainModule) (packed : PlainPacked) (fixed : List Pad) (implementation : PlainImplementation) (bits : PlainBits) (inputs held : Assignment)
     (rank : Point → ℕ) (ranks : ℕ) → IsFabric fabric → AreTiles fabric → IsFabricText fabric text → IsWellMadePacked packed → IsLegal fabric packed fixed implementation →
     Configures fabric packed implementation bits → IsConfigured fabric bits held → inputs (point [] clock_name 0) ≡ false → RanksDesign fabric text packed implementation rank ranks →
+    SettlesOnce (IsDesignPoint fabric text packed implementation) text inputs held
+
+-- whatever the settled loading points are, the latches show these bits
+abbrev pub WillShow : PlainFabric → List PlainModule → PlainBits → (inputs held : Assignment) → Type 0
+WillShow fabric text bits inputs held = (now : Assignment) → IsSettledOn (IsLoading text) text inputs held now → ShowsBits fabric bits now
+
+-- The same where the latches show such bits, whatever the loader does.
+abbrev pub ShownDesignSettlesOnce : Type 0
+ShownDesignSettlesOnce =
+    (fabric : PlainFabric) (text : List PlainModule) (packed : PlainPacked) (fixed : List Pad) (implementation : PlainImplementation) (bits : PlainBits) (inputs held : Assignment)
+    (rank : Point → ℕ) (ranks : ℕ) → IsFabric fabric → AreTiles fabric → IsFabricText fabric text → IsWellMadePacked packed → IsLegal fabric packed fixed implementation →
+    Configures fabric packed implementation bits → WillShow fabric text bits inputs held → inputs (point [] clock_name 0) ≡ false → RanksDesign fabric text packed implementation rank ranks →
     SettlesOnce (IsDesignPoint fabric text packed implementation) text inputs held

@@ -8,10 +8,13 @@ ghost use Rattle.fab_points.specs.Laws.{
   DesignIsCovered,
   DesignIsDeclared,
   DesignIsListed,
+  DesignSettlesByShownSources,
   DesignSettlesBySources,
   LoadedIsKnown,
   RankedDesignSettlesOnce,
   RegistersTick,
+  ShownDesignSettlesOnce,
+  ShownIsKnown,
   SourcesAgree,
   SourcesAreKnown,
   SourcesAreOfDesign,
@@ -30,6 +33,11 @@ pub fn sources_show()
 /// Where loading points are settled over a configuration and known, the configuration bits are known where they are used.
 pub fn loaded_is_known()
     ensures { LoadedIsKnown }
+{}
+
+/// Where loading points are settled and known, and the latches show configuration bits, these are known where they are used.
+pub fn shown_is_known()
+    ensures { ShownIsKnown }
 {}
 
 /// A configuration goes with what the loading points hold.
@@ -64,6 +72,13 @@ pub fn design_settles_by_sources()
     points_of_sound_texts_have_one_driver();
 }
 
+/// The same where the latches show configuration bits, whatever the loader does.
+pub fn design_settles_by_shown_sources()
+    ensures { DesignSettlesByShownSources }
+{
+    points_of_sound_texts_have_one_driver();
+}
+
 /// Where what a source reads is known, so is what it shows.
 pub fn sources_are_known()
     ensures { SourcesAreKnown }
@@ -84,6 +99,15 @@ pub fn registers_tick()
 /// A design whose points are ranked by what their sources read has exactly one settled assignment, whatever the other points have.
 pub fn ranked_design_settles_once()
     ensures { RankedDesignSettlesOnce }
+{
+    points_of_sound_texts_have_one_driver();
+    loading_is_decided();
+    fabric_texts_load();
+}
+
+/// The same where the latches show configuration bits, whatever the loader does.
+pub fn shown_design_settles_once()
+    ensures { ShownDesignSettlesOnce }
 {
     points_of_sound_texts_have_one_driver();
     loading_is_decided();

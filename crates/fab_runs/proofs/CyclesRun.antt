@@ -44,7 +44,7 @@ module _ (s : Setting) where
           (All-cons ShowsThem i (j ∷ more) (instant_shows s i held next passes given latches ready feeds nets meets) rest.0, rest.1)
 
     -- ticks of CLK keep the configuration
-    ticks_configured : (instants : List Instant) (held after : Assignment) → All IsTick instants → AreInstants (Has s) s.text instants held after →
+    pub ticks_configured : (instants : List Instant) (held after : Assignment) → All IsTick instants → AreInstants (Has s) s.text instants held after →
         IsConfigured s.fabric s.bits held → IsConfigured s.fabric s.bits after
     ticks_configured [] held after fed same configured = same_configured s held after same configured
     ticks_configured (i ∷ more) held after fed (next, settled, low, ticks, run) configured =
@@ -56,7 +56,7 @@ module _ (s : Setting) where
   abbrev vectors : List Cycle → List (List Bool)
   vectors cycles = map (λ c. c.given) cycles
 
-  cycles_show : (cycles : List Cycle) (held after : Assignment) (latches : List Bool) (nows : List (ℕ → Bool)) → AreCycles (Has s) s.text s.netlist s.implementation cycles held after →
+  pub cycles_show : (cycles : List Cycle) (held after : Assignment) (latches : List Bool) (nows : List (ℕ → Bool)) → AreCycles (Has s) s.text s.netlist s.implementation cycles held after →
       IsRun s.netlist latches (vectors cycles) nows → Ready s held latches → EachShows s.netlist s.implementation cycles nows × ((last : List Bool) × Ready s after last)
   cycles_show [] held after latches [] same run ready = (tt, (latches, same_ready s held after latches same ready))
   cycles_show [] held after latches (nets ∷ later) same run ready = absurd run

@@ -63,6 +63,7 @@ packed_by netlist survey = record {
   cells = cells_by netlist survey (table_by netlist (nets_by netlist survey));
   inputs = map (name_of netlist) netlist.inputs;
   outputs = map (λ net. (name_of netlist net, id_at (table_by netlist (nets_by netlist survey)) net)) netlist.outputs;
+  reset = netlist.reset;
 }
 
 -- whether there are sites enough, or which kind is short
