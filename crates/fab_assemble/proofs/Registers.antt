@@ -8,7 +8,7 @@ use Rattle.fab_netlist.specs.Packed.{PlainCell}
 use Rattle.fab_implementation.specs.Plain.{PlainImplementation}
 use Rattle.fab_legal.specs.Sinks.{site_of}
 use Rattle.fab_state.specs.Plain.{Register}
-use Rattle.fab_settling.specs.fab_use_Registers.{register_of}
+use Rattle.fab_settling_laws.specs.fab_use_defs_Registers.{register_of}
 
 -- the flip-flops of cells that are numbered from 0
 abbrev registers_of : PlainImplementation → List PlainCell → List Register

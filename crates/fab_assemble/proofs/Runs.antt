@@ -14,11 +14,11 @@ use Rattle.fab_implementation.specs.Plain.{Pad, PlainImplementation}
 use Rattle.fab_legal.specs.WellMade.{IsWellMadePacked, PackedIsWellMade}
 use Rattle.fab_legal.specs.Legal.{IsLegal}
 use Rattle.fab_state.specs.Plain.{PlainState}
-use Rattle.fab_settling.specs.fab_fabric_text_Texts.{IsFabricText}
-use Rattle.fab_settling.specs.fab_use_Registers.{design_state}
-use Rattle.fab_settling.specs.fab_use_Configuring.{Configures}
-use Rattle.fab_settling.specs.fab_use_Headline.{RunsDesign, LegalDesignsRun}
-use Rattle.fab_settling.specs.Settling.{SettlesDesign, LegalDesignsSettle}
+use Rattle.fab_settling_laws.specs.fab_fabric_text_defs_Texts.{IsFabricText}
+use Rattle.fab_settling_laws.specs.fab_use_defs_Registers.{design_state}
+use Rattle.fab_settling_laws.specs.fab_use_defs_Configuring.{Configures}
+use Rattle.fab_settling_laws.specs.fab_use_defs_Headline.{RunsDesign, LegalDesignsRun}
+use Rattle.fab_settling_laws.specs.Settling.{SettlesDesign, LegalDesignsSettle}
 
 -- a netlist is packed where there is a site for each cell and each port
 packs : (netlist : PlainNetlist) → packing netlist (length (works netlist)) (length (ports netlist)) ≡ Ok (packed netlist)

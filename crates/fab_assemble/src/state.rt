@@ -2,7 +2,7 @@
 
 ghost use Rattle.std.specs.Prelude.{◌≡◌, IfOk, map, length, option_map, nat_eq};
 ghost use Rattle.std.specs.List.{filter_map, enumerate_from};
-ghost use Rattle.fab_settling.specs.fab_use_Registers.{bound_pad, register_of, design_state};
+ghost use Rattle.fab_settling_laws.specs.fab_use_defs_Registers.{bound_pad, register_of, design_state};
 ghost use Rattle.fab_assemble.specs.inner.Sites.{HoldSites, HoldPads, site_at_key};
 
 use fab_base::{Memory, Name};

@@ -7,7 +7,7 @@ use Rattle.fab_base.specs.declared.problem.Problem.{Problem}
 use Rattle.fab_base.specs.declared.problem.Problem.TheVariants as problems
 use Rattle.fab_base.specs.declared.words.Quantity.TheVariants as quantities
 use Rattle.fab_base.specs.declared.words.Reason.TheVariants as reasons
-use Rattle.fab_models.specs.Plain.{PlainModel}
+use Rattle.fab_blif_models.specs.Plain.{PlainModel}
 use Rattle.fab_netlist.specs.Cycles.{cycle_words}
 use Rattle.fab_netlist.specs.Plain.{cover_at}
 use Rattle.fab_instances.specs.Counting.{in_64_bits, instances}

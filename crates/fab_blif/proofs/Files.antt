@@ -4,8 +4,8 @@ use Rattle.fab_base.specs.declared.fault.Fault.{Fault}
 use Rattle.fab_base.specs.declared.fault.Fault.TheVariants as faults
 use Rattle.fab_lines.specs.Joined.{joined_lines}
 use Rattle.fab_lines.specs.Order.{IsFine}
-use Rattle.fab_models.specs.Judge.{judge}
-use Rattle.fab_models.specs.Plain.{PlainModel}
+use Rattle.fab_blif_models.specs.Judge.{judge}
+use Rattle.fab_blif_models.specs.Plain.{PlainModel}
 use Rattle.fab_netlist.specs.Cycles.{HasNoCycle, NamesCycle}
 use Rattle.fab_netlist.specs.Plain.{PlainNetlist}
 use Rattle.fab_lines.specs.Counts.{last_line}

@@ -2,9 +2,9 @@
 use Rattle.std.proofs.Common.{◌≡◌, ℕ, ◌+◌, ◌<◌, ◌≤◌, List, [], ◌∷◌, Option, Some, None, MatchOption, Bor, length, get_or, drop, map, sym, ap, ◌∙◌, arith}
 use Rattle.std.specs.List.{HoldsAt}
 use Rattle.std.proofs.lemmas.List.{get_or-map, get_or_past, length-map, drop_more, drop_all}
-use Rattle.fab_models.specs.declared.model.Model.{Model}
-use Rattle.fab_models.specs.declared.model.Statement.{Statement}
-use Rattle.fab_models.specs.Plain.{PlainStatement, PlainModel, plain_model, plain_models, plain_statement}
+use Rattle.fab_blif_models.specs.declared.model.Model.{Model}
+use Rattle.fab_blif_models.specs.declared.model.Statement.{Statement}
+use Rattle.fab_blif_models.specs.Plain.{PlainStatement, PlainModel, plain_model, plain_models, plain_statement}
 use Rattle.fab_instances.specs.Places.{no_model, statements_of}
 
 -- the lines of a model that is read

@@ -1,7 +1,7 @@
 -- The netlist of a file is well made.
 use Rattle.std.proofs.Common.{List, ℕ, ◌++◌, refl}
 use Rattle.fab_lines.specs.Joined.{joined_lines}
-use Rattle.fab_models.proofs.RulesOfLines.{spelled_keeps}
+use Rattle.fab_blif_models.proofs.RulesOfLines.{spelled_keeps}
 use Rattle.fab_netlist.specs.WellMade.{IsWellMade}
 use Rattle.fab_blif.specs.Blif.{IsBlif, design_in, models_in, netlist_in}
 use Rattle.fab_blif.specs.Clocks.{clock_uses, data_faults, first_use, is_clock, named_faults}

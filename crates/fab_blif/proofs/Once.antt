@@ -10,10 +10,10 @@ use Rattle.fab_base.specs.declared.words.Reason.TheVariants as reasons
 use Rattle.fab_lines.specs.Joined.{joined_lines}
 use Rattle.fab_lines.specs.Order.{IsFine}
 use Rattle.fab_lines.proofs.Judging.{fault_once}
-use Rattle.fab_models.specs.Judge.{judge}
-use Rattle.fab_models.specs.Plain.{PlainModel}
-use Rattle.fab_models.specs.Rules.{line_numbers}
-use Rattle.fab_models.proofs.LineOrder.{spelled_ascend}
+use Rattle.fab_blif_models.specs.Judge.{judge}
+use Rattle.fab_blif_models.specs.Plain.{PlainModel}
+use Rattle.fab_blif_models.specs.Rules.{line_numbers}
+use Rattle.fab_blif_models.proofs.LineOrder.{spelled_ascend}
 use Rattle.fab_instances.specs.Order.{BreaksFormals, IsFirstAgain, IsLeast, IsRecursive, IsUnknown, RefusesFormals, RefusesNames, RefusesRecursive, RefusesUnknown, construct, model_at}
 use Rattle.fab_instances.specs.Refusals.{RefusesModels}
 use Rattle.fab_blif.specs.declared.clocks.ClockFault.{ClockFault}

@@ -3,8 +3,8 @@ use Rattle.std.proofs.Common.{◌≡◌, ℕ, zero, suc, ◌<◌, List, [], ◌�
 use Rattle.std.specs.List.{All, AllPairs}
 use Rattle.std.proofs.lemmas.List.{get_or-map, length-map}
 use Rattle.std.proofs.lemmas.List.Elements.{All-contains, Contains-append_left, Contains-append_right, Contains-get_or}
-use Rattle.fab_models.specs.Plain.{PlainModel, PlainStatement, instance}
-use Rattle.fab_models.specs.Rules.{line_numbers}
+use Rattle.fab_blif_models.specs.Plain.{PlainModel, PlainStatement, instance}
+use Rattle.fab_blif_models.specs.Rules.{line_numbers}
 use Rattle.fab_instances.specs.Order.{IsInstanceLine}
 use Rattle.fab_instances.specs.Places.{statements_of}
 

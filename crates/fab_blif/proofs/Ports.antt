@@ -3,8 +3,8 @@ use Rattle.std.proofs.Common.{◌≡◌, ℕ, zero, suc, Bool, true, false, cond
 use Rattle.std.specs.List.{AllByRecursion as Each}
 use Rattle.std.proofs.lemmas.Grind.{flat_map-append}
 use Rattle.std.proofs.lemmas.List.{map-append}
-use Rattle.fab_models.specs.Plain.{PlainBody, PlainStatement, PlainModel, inputs, outputs, clock, cover, latch, instance}
-use Rattle.fab_models.specs.Rules.{declared_inputs, declared_outputs, input_names, output_names}
+use Rattle.fab_blif_models.specs.Plain.{PlainBody, PlainStatement, PlainModel, inputs, outputs, clock, cover, latch, instance}
+use Rattle.fab_blif_models.specs.Rules.{declared_inputs, declared_outputs, input_names, output_names}
 use Rattle.fab_blif.specs.declared.design.Use.{Use}
 use Rattle.fab_blif.specs.Flat.{PlainNet, PlainCopy, Placed, placed_inputs, placed_outputs, placed_clock, copied_clock, placed_cover, placed_latch, copy_in, clock_at, flat_lines, if_top, lines_at, lines_by, lines_of, net_in, of_model, top_copy}
 use Rattle.fab_instances.specs.Places.{place_of_model, statements_of}

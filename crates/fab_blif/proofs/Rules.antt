@@ -4,8 +4,8 @@ use Rattle.std.specs.List.{AllByRecursion as Each}
 use Rattle.std.proofs.lemmas.List.{length-map}
 use Rattle.fab_netlist.specs.declared.netlist.Latch.{Latch}
 use Rattle.fab_netlist.specs.Plain.{PlainCover}
-use Rattle.fab_models.specs.Plain.{PlainBody, PlainStatement, PlainModel, inputs, outputs, clock, cover, latch, instance}
-use Rattle.fab_models.specs.Rules.{AreModels, IsFineBody, Repeats}
+use Rattle.fab_blif_models.specs.Plain.{PlainBody, PlainStatement, PlainModel, inputs, outputs, clock, cover, latch, instance}
+use Rattle.fab_blif_models.specs.Rules.{AreModels, IsFineBody, Repeats}
 use Rattle.fab_blif.specs.Flat.{PlainNet, PlainCopy, Placed, placed_inputs, placed_outputs, placed_clock, copied_clock, placed_cover, placed_latch, copy_in, flat_lines, if_top, clock_at, lines_at, lines_by, lines_of, net_in, of_model, top_copy}
 use Rattle.fab_instances.specs.Places.{no_model, place_of_model, statements_of}
 use Rattle.fab_blif.specs.Design.{covers_by, latches_by, number_in}

@@ -1,7 +1,7 @@
 -- Frames in one another: the lines that are left in them, and how many steps they take.
 use Rattle.std.proofs.Common.{◌≡◌, ℕ, zero, suc, ◌+◌, ◌<◌, ◌≤◌, List, [], ◌∷◌, ◌++◌, length, drop, flat_map, Option, Some, None, option_map, refl, sym, ap, ◌∙◌, arith, append_assoc, append-nil, add_assoc}
 use Rattle.std.proofs.lemmas.List.Sums.{fold-append}
-use Rattle.fab_models.specs.Plain.{PlainBody, PlainStatement, PlainModel, inputs, outputs, clock, cover, latch, instance}
+use Rattle.fab_blif_models.specs.Plain.{PlainBody, PlainStatement, PlainModel, inputs, outputs, clock, cover, latch, instance}
 use Rattle.fab_instances.specs.Places.{place_of_model, statements_of}
 use Rattle.fab_blif.specs.Flat.{PlainCopy, Placed, copy_in, lines_at, lines_by, lines_of, of_model, top_copy}
 use Rattle.fab_blif.specs.Design.{PlainDesign}

@@ -9,8 +9,8 @@ use Rattle.fab_netlist.specs.declared.netlist.Latch.{Latch}
 use Rattle.fab_netlist.specs.Plain.{IsAt, PlainCover, PlainNetlist, name_of}
 use Rattle.fab_netlist.specs.WellMade.{IsWellMade, cover_outputs, driven, latch_inputs, latch_outputs, ports, read, times}
 use Rattle.fab_netlist.proofs.Counts.{at_mapped, driven_parts, times_joined}
-use Rattle.fab_models.specs.Plain.{PlainModel}
-use Rattle.fab_models.specs.Rules.{AreModels, IsModel, declared_inputs, declared_outputs}
+use Rattle.fab_blif_models.specs.Plain.{PlainModel}
+use Rattle.fab_blif_models.specs.Rules.{AreModels, IsModel, declared_inputs, declared_outputs}
 use Rattle.fab_blif.specs.declared.design.Use.{Use}
 use Rattle.fab_blif.specs.Flat.{PlainNet, Placed, placed_inputs, placed_outputs, placed_clock, copied_clock, placed_cover, placed_latch, net_eq, flat_lines}
 use Rattle.fab_instances.specs.Places.{no_model, statements_of}

@@ -2,7 +2,7 @@
 use Rattle.std.specs.Prelude.{ℕ, Bool, false, not, List, [], ◌∷◌, ◌++◌, map, filter, flat_map, option_to_list, option_and_then, position, slice_get, Option, Some, None, nat_eq}
 use Rattle.std.specs.List.{position_or_len}
 use Rattle.indexmap.specs.IndexSet.{insert_all}
-use Rattle.fab_models.specs.Plain.{PlainModel}
+use Rattle.fab_blif_models.specs.Plain.{PlainModel}
 use Rattle.fab_netlist.specs.declared.netlist.Latch.{Latch}
 use Rattle.fab_netlist.specs.Plain.{PlainCover, PlainNetlist}
 use Rattle.fab_blif.specs.declared.design.Use.{Use}

@@ -11,7 +11,7 @@ use Rattle.fab_blif.specs.declared.clocks.ClockFault.{ClockFault}
 use Rattle.fab_blif.specs.declared.clocks.WrongClock.{WrongClock}
 use Rattle.fab_blif.specs.declared.clocks.WrongClock.TheVariants as wrongs
 use Rattle.fab_blif.specs.declared.design.Use.{Use}
-use Rattle.fab_models.specs.Plain.{PlainModel}
+use Rattle.fab_blif_models.specs.Plain.{PlainModel}
 use Rattle.fab_blif.specs.Flat.{flat_lines}
 use Rattle.fab_blif.specs.Design.{PlainDesign, design_of}
 use Rattle.fab_blif.specs.Judged.{EachHasOne, drivers, inner_drivers, input_ports, undriven_line}

@@ -2,7 +2,7 @@
 
 ghost use Rattle.std.specs.Prelude.{◌≡◌, ◌++◌, ◌∷◌, [], Some, None, IfOk, OnOk, length, map, option_map, option_to_list};
 ghost use Rattle.indexmap.specs.IndexSet.{insert_all, insert_key};
-ghost use Rattle.fab_models.specs.Plain.{plain_body, plain_models};
+ghost use Rattle.fab_blif_models.specs.Plain.{plain_body, plain_models};
 ghost use Rattle.fab_blif.specs.Design.{number_in};
 ghost use Rattle.fab_blif.specs.Flat.{net_eq, net_in, clock_at, if_top, lines_by, placed_inputs, placed_outputs};
 ghost use Rattle.fab_blif.specs.inner.Walk.{plain_net, plain_nets, plain_clock, net_numbers, used_at, after_all, latch_next, with_control, with_cover, with_latch};
@@ -11,7 +11,7 @@ use crate::model_copy::ModelCopy;
 use crate::net::Net;
 use crate::parts::{DesignCover, DesignLatch};
 use fab_base::{Memory, Name};
-use fab_models::{Body, Statement};
+use fab_blif_models::{Body, Statement};
 use indexmap::IndexSet;
 use std::alloc::Global;
 use std::marker::Model;

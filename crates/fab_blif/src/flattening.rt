@@ -2,11 +2,11 @@
 
 ghost use Rattle.std.specs.Prelude.{◌≡◌, ◌≢◌, ◌<◌, ◌≤◌, Some, None, IfErr, IfOk, OnOk, length, map, option_and_then, position, slice_get};
 ghost use Rattle.fab_base.specs.declared.fault.Fault.TheVariants as faults;
-ghost use Rattle.fab_models.specs.Plain.{plain_models};
+ghost use Rattle.fab_blif_models.specs.Plain.{plain_models};
 ghost use Rattle.fab_blif.specs.Design.{data_inputs, design_of, flattened, is_number, netlist_of};
 ghost use Rattle.fab_blif.specs.Flat.{flat_lines, net_eq};
 ghost use Rattle.fab_instances.specs.Places.{model_names};
-ghost use Rattle.fab_models.specs.Rules.{AreModels};
+ghost use Rattle.fab_blif_models.specs.Rules.{AreModels};
 ghost use Rattle.fab_netlist.specs.WellMade.{most_nets, IsWellMade};
 ghost use Rattle.fab_instances.specs.Order.{NamesDiffer};
 ghost use Rattle.fab_instances.specs.Refusals.{AreFineModels};
@@ -21,8 +21,8 @@ use crate::net::Net;
 use crate::parts::{netlist_covers, netlist_latches, netlist_numbers};
 use crate::walk::take_all;
 use fab_base::{Fault, Memory, Name, Problem, Quantity};
+use fab_blif_models::Model;
 use fab_instances::index_models;
-use fab_models::Model;
 use fab_netlist::{MAX_NETS, Netlist};
 use indexmap::IndexSet;
 use std::alloc::Global;

@@ -9,8 +9,8 @@ ghost use Rattle.fab_netlist.specs.WellMade.{most_nets};
 
 use crate::flattening::flatten;
 use fab_base::{Fault, MAX_FILE_BYTES, Name};
+use fab_blif_models::read_models;
 use fab_lines::last_line;
-use fab_models::read_models;
 use fab_netlist::{Netlist, check_acyclic};
 use std::alloc::Global;
 

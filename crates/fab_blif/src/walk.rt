@@ -1,7 +1,7 @@
 //! Goes through the flattened text: from line to line of a model, and at an instance into its model.
 
 ghost use Rattle.std.specs.Prelude.{◌≡◌, ◌<◌, ◌+◌, ◌-◌, ◌∷◌, ◌++◌, ◌^◌, [], Some, None, IfOk, IfSome, OnOk, OnSome, MatchOption, length, map, drop, option_map};
-ghost use Rattle.fab_models.specs.Plain.{plain_body, plain_models, plain_statement};
+ghost use Rattle.fab_blif_models.specs.Plain.{plain_body, plain_models, plain_statement};
 ghost use Rattle.fab_blif.specs.Flat.{flat_lines, lines_by, top_copy};
 ghost use Rattle.fab_instances.specs.Places.{model_names, place_of_model, statements_of};
 ghost use Rattle.fab_blif.specs.inner.Walk.{after_all};
@@ -11,8 +11,8 @@ ghost use Rattle.fab_bits.specs.Keys.{key_names};
 use crate::design::Design;
 use crate::model_copy::{Joins, ModelCopy, push_line};
 use fab_base::Memory;
+use fab_blif_models::{Body, Model, Statement};
 use fab_instances::place_of;
-use fab_models::{Body, Model, Statement};
 use indexmap::{IndexMap, IndexSet};
 use std::alloc::Global;
 

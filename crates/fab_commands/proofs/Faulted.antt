@@ -19,9 +19,9 @@ use Rattle.fab_sampling.proofs.fab_flow_BitsOnce as bits
 use Rattle.fab_sampling.proofs.fab_flow_FlowedOnce.{one_flow_number, flow_not_both}
 use Rattle.fab_sampling.proofs.fab_flow_MappedOnce as mapping
 use Rattle.fab_sampling.proofs.fab_flow_Once as generating
-use Rattle.fab_sampling.specs.fab_simulate_Simulating.{simulation_files}
-use Rattle.fab_sampling.proofs.fab_simulate_Behind.{ready_of}
-use Rattle.fab_sampling.proofs.fab_simulate_SimulatedOnce as simulating
+use Rattle.fab_sampling.specs.fab_simulate_command_Simulating.{simulation_files}
+use Rattle.fab_sampling.proofs.fab_simulate_command_Behind.{ready_of}
+use Rattle.fab_sampling.proofs.fab_simulate_command_SimulatedOnce as simulating
 use Rattle.fab_designs.specs.Designs.{design_files}
 use Rattle.fab_list_files.proofs.Once.{one_refusal, not_both}
 use Rattle.fab_words.specs.Arguments.{IsUsage}

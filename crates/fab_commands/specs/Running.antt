@@ -17,7 +17,7 @@ use Rattle.fab_sampling.specs.fab_flow_Generating.{MakesFabric, MeetsGenerate, I
 use Rattle.fab_sampling.specs.fab_flow_Flowing.{flow_files, MakesFlow, MeetsFlow, IsReadyToFlow, HasFlowCause, flow_refusals}
 use Rattle.fab_sampling.specs.fab_flow_Mapping.{mapping_files, MakesMapping, MeetsMapping, IsReadyToMap, HasMappingCause, map_refusals}
 use Rattle.fab_sampling.specs.fab_flow_Matrix.{MakesMatrix, IsReadyForMatrix, HasMatrixCause, matrix_refusals}
-use Rattle.fab_sampling.specs.fab_simulate_Simulating.{simulation_files, MakesTrace, MeetsSimulation, IsReadyToSimulate, HasSimulateCause, simulate_refusals}
+use Rattle.fab_sampling.specs.fab_simulate_command_Simulating.{simulation_files, MakesTrace, MeetsSimulation, IsReadyToSimulate, HasSimulateCause, simulate_refusals}
 use Rattle.fab_sampling.specs.Sampling.{IsSummary}
 use Rattle.fab_list_files.specs.Sides.{MeetsPairs}
 use Rattle.fab_words.specs.declared.job.Job.{Job}

@@ -2,9 +2,9 @@
 use Rattle.std.proofs.Common.{◌≡◌, ℕ, zero, suc, ◌+◌, ◌<◌, ◌≤◌, true, false, List, [], ◌∷◌, ◌++◌, length, get_or, map, take, drop, refl, sym, ap, ap₂, ◌∙◌, arith}
 use Rattle.std.proofs.lemmas.Bool.{false≢true}
 use Rattle.std.proofs.lemmas.List.{drop_more}
-use Rattle.fab_systems.specs.Ternary.{Tern, no, yes, unknown}
-use Rattle.fab_solutions.specs.fab_tern_Operators.{tern_at, inverse, both, differs, each_tern, same_terns}
-use Rattle.fab_solutions.specs.fab_tern_Shown.{first_terns}
+use Rattle.fab_systems_laws.specs.Ternary.{Tern, no, yes, unknown}
+use Rattle.fab_solutions_laws.specs.fab_ternary_laws_Operators.{tern_at, inverse, both, differs, each_tern, same_terns}
+use Rattle.fab_solutions_laws.specs.fab_ternary_laws_Shown.{first_terns}
 use Rattle.fab_ternary.specs.declared.Tern.{Tern as Kept}
 use Rattle.fab_ternary.specs.declared.Tern.TheVariants.{No}
 use Rattle.fab_ternary.specs.Terns.{plain_tern, is_known, is_one}

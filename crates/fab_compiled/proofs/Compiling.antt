@@ -8,10 +8,10 @@ use Rattle.fab_values.specs.Declarations.{Declaration, bits_of, found_in, width}
 use Rattle.fab_values.specs.Evaluation.{expr_width, local_width, IsFit, AreFit}
 use Rattle.fab_values.specs.declared.names.Local.{Local}
 use Rattle.fab_values.proofs.Widths.{vector_found, index_small}
-use Rattle.fab_systems.specs.Ternary.{Tern, known}
-use Rattle.fab_solutions.specs.fab_tern_Operators.{tern_at, inverse, tern_operated, one_of, entry}
-use Rattle.fab_solutions.specs.fab_tern_Shown.{first_terns}
-use Rattle.fab_solutions.specs.fab_tern_Values.{tern_value}
+use Rattle.fab_systems_laws.specs.Ternary.{Tern, known}
+use Rattle.fab_solutions_laws.specs.fab_ternary_laws_Operators.{tern_at, inverse, tern_operated, one_of, entry}
+use Rattle.fab_solutions_laws.specs.fab_ternary_laws_Shown.{first_terns}
+use Rattle.fab_solutions_laws.specs.fab_ternary_laws_Values.{tern_value}
 use Rattle.fab_equations.proofs.Located.{found_within}
 use Rattle.fab_compiled.specs.declared.tree.Tree.{Tree, Const, Bits, Pick', Cat', Not', And', Or', Xor', Equal', Minus', Cond'}
 use Rattle.fab_compiled.specs.declared.compiler.Place.{Place}

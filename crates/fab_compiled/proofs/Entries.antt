@@ -2,12 +2,12 @@
 use Rattle.std.proofs.Common.{◌≡◌, ℕ, zero, suc, ◌+◌, ◌*◌, ◌^◌, ◌<◌, ◌≤◌, List, ◌∷◌, length, map, refl, sym, ap, ap₂, ◌∙◌, subst, arith, pow-suc}
 use Rattle.std.proofs.Math.Nat.{mul-le-mul_left}
 use Rattle.std.proofs.lemmas.Nat.{pow_pos}
-use Rattle.fab_systems.specs.Ternary.{Tern, no, yes, unknown}
+use Rattle.fab_systems_laws.specs.Ternary.{Tern, no, yes, unknown}
 use Rattle.fab_ternary.specs.declared.Tern.{Tern as Kept}
 use Rattle.fab_ternary.specs.declared.Tern.TheVariants.{No, Yes, Open}
 use Rattle.fab_ternary.specs.Terns.{plain_tern}
-use Rattle.fab_solutions.specs.fab_tern_Operators.{agreed, evens, odds, entry}
-use Rattle.fab_solutions.specs.fab_tern_Shown.{first_terns}
+use Rattle.fab_solutions_laws.specs.fab_ternary_laws_Operators.{agreed, evens, odds, entry}
+use Rattle.fab_solutions_laws.specs.fab_ternary_laws_Shown.{first_terns}
 
 evens_first : (n : ℕ) (f : ℕ → Tern) → evens (first_terns (2 * n) f) ≡ first_terns n (λ k. f (2 * k))
 evens_first zero f = refl

@@ -4,13 +4,13 @@ use Rattle.std.proofs.lemmas.Bool.{cases_eq}
 use Rattle.std.proofs.lemmas.List.{length-map, get_or-set_same, get_or-set_other}
 use Rattle.std.proofs.Math.ListN.{drop_of_length-le}
 use Rattle.fab_bits.specs.Bits.{number, digits, other_bit}
-use Rattle.fab_solutions.specs.fab_meaning_Value.{operated, bit_at}
+use Rattle.fab_solutions_laws.specs.fab_meaning_Value.{operated, bit_at}
 use Rattle.fab_syntax.specs.declared.tree.Op.TheVariants as ops
 use Rattle.fab_values.proofs.Evaluated.{borrow_at, bit_difference}
-use Rattle.fab_systems.specs.Ternary.{Tern, no, yes, unknown, known}
-use Rattle.fab_solutions.specs.fab_tern_Operators.{tern_at, inverse, both, differs, agreed, each_tern, same_terns, bools, minus_of, tern_operated, one_of}
-use Rattle.fab_solutions.specs.fab_tern_Shown.{first_terns}
-use Rattle.fab_solutions.proofs.fab_tern_Known.{known_at}
+use Rattle.fab_systems_laws.specs.Ternary.{Tern, no, yes, unknown, known}
+use Rattle.fab_solutions_laws.specs.fab_ternary_laws_Operators.{tern_at, inverse, both, differs, agreed, each_tern, same_terns, bools, minus_of, tern_operated, one_of}
+use Rattle.fab_solutions_laws.specs.fab_ternary_laws_Shown.{first_terns}
+use Rattle.fab_solutions_laws.proofs.fab_ternary_laws_Known.{known_at}
 use Rattle.fab_ternary.specs.declared.Tern.{Tern as Kept}
 use Rattle.fab_ternary.specs.declared.Tern.TheVariants.{No}
 use Rattle.fab_compiled.specs.declared.tree.Tree.{Tree}

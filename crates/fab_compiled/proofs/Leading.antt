@@ -1,10 +1,10 @@
 -- What is told of a bit of an expression, from what is told of its parts.
 use Rattle.std.proofs.Common.{◌≡◌, ℕ, zero, suc, ◌+◌, ◌-◌, ◌<◌, ◌≤◌, Bool, true, false, List, [], ◌∷◌, ◌++◌, length, slice_get, slice_index, Some, sym, ap, ◌∙◌, subst, arith}
-use Rattle.fab_systems.specs.Ternary.{no, yes, known, IsBelow}
-use Rattle.fab_systems.specs.Ternary.{Tern as PlainTern}
-use Rattle.fab_solutions.specs.fab_tern_Operators.{tern_at, one_of}
+use Rattle.fab_systems_laws.specs.Ternary.{no, yes, known, IsBelow}
+use Rattle.fab_systems_laws.specs.Ternary.{Tern as PlainTern}
+use Rattle.fab_solutions_laws.specs.fab_ternary_laws_Operators.{tern_at, one_of}
 use Rattle.fab_ternary.specs.declared.Tern.{Tern}
-use Rattle.fab_solutions.proofs.Orders.{under_at}
+use Rattle.fab_solutions_laws.proofs.Orders.{under_at}
 use Rattle.fab_compiled.specs.declared.leads.Lead.{Lead}
 use Rattle.fab_compiled.specs.declared.leads.Lead.TheVariants.{Known, Point, Own, Unmarked}
 use Rattle.fab_compiled.specs.declared.tree.Tree.{Tree, Bits}

@@ -2,12 +2,12 @@
 use Rattle.std.proofs.Common.{◌≡◌, ℕ, zero, suc, ◌+◌, Bool, true, false, List, [], ◌∷◌, length, map, Option, Some, None, option_map, refl, sym, ap, ◌∙◌, subst, arith, inl, inr}
 use Rattle.std.proofs.lemmas.Bool.{cases_Bool, false≢true}
 use Rattle.std.proofs.lemmas.List.{length-map, length-append}
-use Rattle.fab_solutions.specs.fab_meaning_Value.{operated}
+use Rattle.fab_solutions_laws.specs.fab_meaning_Value.{operated}
 use Rattle.fab_syntax.specs.declared.tree.Op.TheVariants as ops
 use Rattle.fab_values.proofs.Widths.{length_digits}
-use Rattle.fab_systems.specs.Ternary.{Tern, no, yes, unknown, known}
-use Rattle.fab_solutions.specs.fab_tern_Operators.{tern_at, inverse, both, either, differs, agreed, each_tern, bools, minus_of, one_of}
-use Rattle.fab_solutions.specs.fab_tern_Shown.{first_terns}
+use Rattle.fab_systems_laws.specs.Ternary.{Tern, no, yes, unknown, known}
+use Rattle.fab_solutions_laws.specs.fab_ternary_laws_Operators.{tern_at, inverse, both, either, differs, agreed, each_tern, bools, minus_of, one_of}
+use Rattle.fab_solutions_laws.specs.fab_ternary_laws_Shown.{first_terns}
 use Rattle.fab_compiled.specs.declared.tree.Tree.{Tree, Const, Bits, Pick', Cat', Not', And', Or', Xor', Equal', Minus', Cond'}
 use Rattle.fab_compiled.specs.Trees.{tree_width, tree_value, IsMade}
 use Rattle.fab_ternary.specs.Terns.{is_one}

@@ -8,5 +8,5 @@ pub mod Compiling
 pub mod Placed
 pub mod Evaluated
 pub use Rattle.fab_equations.proofs.Numbering as fab_equations_Numbering
-pub use Rattle.fab_solutions.proofs.Demanded as fab_solutions_Demanded
-pub use Rattle.fab_solutions.proofs.Orders as fab_solutions_Orders
+pub use Rattle.fab_solutions_laws.proofs.Demanded as fab_solutions_laws_Demanded
+pub use Rattle.fab_solutions_laws.proofs.Orders as fab_solutions_laws_Orders

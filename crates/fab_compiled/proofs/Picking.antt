@@ -2,9 +2,9 @@
 use Rattle.std.proofs.Common.{◌≡◌, ℕ, suc, ◌+◌, ◌-◌, ◌*◌, ◌^◌, ◌<◌, ◌≤◌, Bool, false, List, [], ◌∷◌, ◌++◌, length, drop, slice_get, Option, None, Some, MatchOption, refl, sym, ap, ap₂, ◌∙◌, subst, arith}
 use Rattle.std.proofs.lemmas.List.{drop_more, length-drop}
 use Rattle.std.proofs.Math.ListN.{drop_of_length-le}
-use Rattle.fab_systems.specs.Ternary.{no, yes, unknown, Tern as PlainTern}
-use Rattle.fab_solutions.specs.fab_tern_Operators.{tern_at, agreed, evens, odds, entry}
-use Rattle.fab_solutions.specs.fab_tern_Shown.{first_terns}
+use Rattle.fab_systems_laws.specs.Ternary.{no, yes, unknown, Tern as PlainTern}
+use Rattle.fab_solutions_laws.specs.fab_ternary_laws_Operators.{tern_at, agreed, evens, odds, entry}
+use Rattle.fab_solutions_laws.specs.fab_ternary_laws_Shown.{first_terns}
 use Rattle.fab_ternary.specs.declared.Tern.{Tern}
 use Rattle.fab_compiled.specs.declared.leads.Lead.{Lead}
 use Rattle.fab_compiled.specs.declared.leads.Lead.TheVariants.{Known, Point, Own, Unmarked}

@@ -3,12 +3,12 @@ use Rattle.std.proofs.Common.{◌≡◌, ℕ, ◌+◌, List, Option, None, Some,
 use Rattle.fab_syntax.specs.Declarations.{width_in}
 use Rattle.fab_syntax.specs.Plain.{PlainModule}
 use Rattle.fab_syntax.specs.Sound.{IsSound}
-use Rattle.fab_solutions.specs.fab_meaning_Points.{point, module_at}
+use Rattle.fab_solutions_laws.specs.fab_meaning_Points.{point, module_at}
 use Rattle.fab_values.specs.Declarations.{declarations, found_in, width}
 use Rattle.fab_values.specs.declared.names.Local.{Local}
-use Rattle.fab_systems.specs.Ternary.{Tern}
-use Rattle.fab_solutions.specs.fab_tern_Values.{tern_value}
-use Rattle.fab_solutions.specs.fab_tern_Shown.{Terns, first_terns, tern_names}
+use Rattle.fab_systems_laws.specs.Ternary.{Tern}
+use Rattle.fab_solutions_laws.specs.fab_ternary_laws_Values.{tern_value}
+use Rattle.fab_solutions_laws.specs.fab_ternary_laws_Shown.{Terns, first_terns, tern_names}
 use Rattle.fab_equations.specs.Instances.{Instance}
 use Rattle.fab_equations.specs.Numbering.{IsInstanceOfNumber, points_before}
 use Rattle.fab_equations.proofs.Numbering.{instances_stand}

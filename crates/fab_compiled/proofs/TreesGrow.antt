@@ -1,11 +1,11 @@
 -- What is known of the value of a compiled expression stays known where more is known of its places, and it depends on these places alone.
 use Rattle.std.proofs.Common.{◌≡◌, ℕ, zero, suc, ◌+◌, ◌^◌, ◌<◌, [], ◌∷◌, ◌++◌, map, refl, sym, ap, ap₂, ◌∙◌, arith}
 use Rattle.fab_syntax.specs.declared.tree.Op.TheVariants as ops
-use Rattle.fab_systems.specs.Ternary.{Tern, known, IsBelow}
-use Rattle.fab_solutions.specs.fab_tern_Operators.{tern_at, inverse, tern_operated, one_of, entry}
-use Rattle.fab_solutions.specs.fab_tern_Shown.{first_terns}
-use Rattle.fab_solutions.specs.Laws.{AreUnder}
-use Rattle.fab_solutions.proofs.Orders.{under_self, under_at, under_inverse, under_append, under_first, operated_grows, one_grows, entry_grows}
+use Rattle.fab_systems_laws.specs.Ternary.{Tern, known, IsBelow}
+use Rattle.fab_solutions_laws.specs.fab_ternary_laws_Operators.{tern_at, inverse, tern_operated, one_of, entry}
+use Rattle.fab_solutions_laws.specs.fab_ternary_laws_Shown.{first_terns}
+use Rattle.fab_solutions_laws.specs.Laws.{AreUnder}
+use Rattle.fab_solutions_laws.proofs.Orders.{under_self, under_at, under_inverse, under_append, under_first, operated_grows, one_grows, entry_grows}
 use Rattle.fab_compiled.specs.declared.tree.Tree.{Tree, Const, Bits, Pick', Cat', Not', And', Or', Xor', Equal', Minus', Cond'}
 use Rattle.fab_compiled.specs.Trees.{tree_value, IsMade, IsBelowPlace, EachPlace}
 use Rattle.fab_compiled.proofs.Lengths.{value_length}

@@ -6,9 +6,9 @@ use Rattle.fab_syntax.specs.Plain.{PlainExpr, PlainExprs}
 use Rattle.fab_values.specs.Declarations.{Declaration, bits_of, found_in, width}
 use Rattle.fab_values.specs.Evaluation.{expr_width, exprs_width}
 use Rattle.fab_values.specs.declared.names.Local.{Local}
-use Rattle.fab_systems.specs.Ternary.{Tern}
-use Rattle.fab_solutions.specs.fab_tern_Shown.{first_terns}
-use Rattle.fab_solutions.specs.fab_tern_Values.{tern_value, tern_concatenated}
+use Rattle.fab_systems_laws.specs.Ternary.{Tern}
+use Rattle.fab_solutions_laws.specs.fab_ternary_laws_Shown.{first_terns}
+use Rattle.fab_solutions_laws.specs.fab_ternary_laws_Values.{tern_value, tern_concatenated}
 use Rattle.fab_compiled.specs.declared.tree.Tree.{Tree, Const, Cat', And', Or', Xor', Equal', Minus'}
 use Rattle.fab_compiled.specs.declared.compiler.Place.{Place}
 use Rattle.fab_compiled.specs.Trees.{tree_value, tree_width, IsMade, IsBelowPlace}

@@ -2,9 +2,9 @@
 use Rattle.std.specs.Prelude.{ℕ, ◌+◌, ◌-◌, Bool, List, [], map}
 use Rattle.std.specs.List.{list_all}
 use Rattle.fab_syntax.specs.declared.tree.Op.TheVariants as ops
-use Rattle.fab_systems.specs.Ternary.{no}
-use Rattle.fab_systems.specs.Ternary.{Tern as PlainTern}
-use Rattle.fab_solutions.specs.fab_tern_Operators.{same_terns, tern_operated}
+use Rattle.fab_systems_laws.specs.Ternary.{no}
+use Rattle.fab_systems_laws.specs.Ternary.{Tern as PlainTern}
+use Rattle.fab_solutions_laws.specs.fab_ternary_laws_Operators.{same_terns, tern_operated}
 use Rattle.fab_ternary.specs.declared.Tern.{Tern}
 use Rattle.fab_compiled.specs.declared.tree.Tree.{Tree, Equal', Minus'}
 use Rattle.fab_ternary.specs.Terns.{is_known, is_one}

@@ -1,8 +1,8 @@
 -- Where a bit of an expression leads: what it has under every assignment that knows no less.
 use Rattle.std.specs.Prelude.{◌≡◌, ℕ, ◌+◌, ◌<◌, Bool, true, false, List, length, slice_get, slice_index, Some}
-use Rattle.fab_systems.specs.Ternary.{known, IsBelow}
-use Rattle.fab_systems.specs.Ternary.{Tern as PlainTern}
-use Rattle.fab_solutions.specs.fab_tern_Operators.{tern_at}
+use Rattle.fab_systems_laws.specs.Ternary.{known, IsBelow}
+use Rattle.fab_systems_laws.specs.Ternary.{Tern as PlainTern}
+use Rattle.fab_solutions_laws.specs.fab_ternary_laws_Operators.{tern_at}
 use Rattle.fab_compiled.specs.declared.leads.Lead.{Lead}
 use Rattle.fab_compiled.specs.declared.leads.Lead.TheVariants.{Known, Point, Own, Unmarked}
 use Rattle.fab_ternary.specs.declared.Tern.{Tern}

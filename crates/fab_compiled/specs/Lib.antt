@@ -5,5 +5,5 @@ pub mod Leading
 pub mod Compiling
 pub mod Values
 pub mod inner
-pub use Rattle.fab_solutions.specs.Solutions as fab_solutions_Solutions
-pub use Rattle.fab_solutions.specs.fab_tern_Shown as fab_tern_Shown
+pub use Rattle.fab_solutions_laws.specs.Solutions as fab_solutions_laws_Solutions
+pub use Rattle.fab_solutions_laws.specs.fab_ternary_laws_Shown as fab_ternary_laws_Shown

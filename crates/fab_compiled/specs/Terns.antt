@@ -1,7 +1,7 @@
 -- What the points of a text have.
 use Rattle.std.specs.Prelude.{ℕ, ◌<◌, List, length, slice_get, slice_index, Option, Some, None}
-use Rattle.fab_systems.specs.Ternary.{unknown}
-use Rattle.fab_systems.specs.Ternary.{Tern as PlainTern}
+use Rattle.fab_systems_laws.specs.Ternary.{unknown}
+use Rattle.fab_systems_laws.specs.Ternary.{Tern as PlainTern}
 use Rattle.fab_ternary.specs.declared.Tern.{Tern}
 use Rattle.fab_ternary.specs.Terns.{plain_tern}
 

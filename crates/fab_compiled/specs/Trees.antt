@@ -1,9 +1,9 @@
 -- Compiled expressions: their widths, and their ternary values where each place of an instance has one.
 use Rattle.std.specs.Prelude.{◌≡◌, ℕ, ◌+◌, ◌^◌, ◌<◌, ◌≤◌, List, [], ◌∷◌, ◌++◌, map, length}
 use Rattle.fab_syntax.specs.declared.tree.Op.TheVariants as ops
-use Rattle.fab_systems.specs.Ternary.{Tern, known}
-use Rattle.fab_solutions.specs.fab_tern_Operators.{tern_at, inverse, tern_operated, one_of, entry}
-use Rattle.fab_solutions.specs.fab_tern_Shown.{first_terns}
+use Rattle.fab_systems_laws.specs.Ternary.{Tern, known}
+use Rattle.fab_solutions_laws.specs.fab_ternary_laws_Operators.{tern_at, inverse, tern_operated, one_of, entry}
+use Rattle.fab_solutions_laws.specs.fab_ternary_laws_Shown.{first_terns}
 use Rattle.fab_compiled.specs.declared.tree.Tree.{Tree, Const, Bits, Pick', Cat', Not', And', Or', Xor', Equal', Minus', Cond'}
 
 abbrev pub tree_width : Tree → ℕ
@@ -47,7 +47,7 @@ IsBelowPlace bound (Equal' width p a q b) = IsBelowPlace bound a × IsBelowPlace
 IsBelowPlace bound (Minus' width p a q b) = IsBelowPlace bound a × IsBelowPlace bound b
 IsBelowPlace bound (Cond' p c q a r b) = IsBelowPlace bound c × IsBelowPlace bound a × IsBelowPlace bound b
 
--- the value of a tree; it is `tern_value` of `fab_tern` with places for names
+-- the value of a tree; it is `tern_value` of `fab_ternary_laws` with places for names
 abbrev pub tree_value : (at : ℕ → Tern) → Tree → List Tern
 tree_value at (Const bits) = map known bits.items
 tree_value at (Bits first count) = first_terns count (λ k. at (first + k))

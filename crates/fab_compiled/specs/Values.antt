@@ -2,10 +2,10 @@
 use Rattle.std.specs.Prelude.{◌≡◌, ℕ, ◌+◌, List}
 use Rattle.fab_syntax.specs.Plain.{PlainExpr, PlainModule}
 use Rattle.fab_syntax.specs.Sound.{IsSound}
-use Rattle.fab_solutions.specs.fab_meaning_Points.{Point}
+use Rattle.fab_solutions_laws.specs.fab_meaning_Points.{Point}
 use Rattle.fab_values.specs.Declarations.{declarations}
-use Rattle.fab_solutions.specs.fab_tern_Values.{tern_value}
-use Rattle.fab_solutions.specs.fab_tern_Shown.{Terns, tern_names}
+use Rattle.fab_solutions_laws.specs.fab_ternary_laws_Values.{tern_value}
+use Rattle.fab_solutions_laws.specs.fab_ternary_laws_Shown.{Terns, tern_names}
 use Rattle.fab_equations.specs.Equations.{IsPoint}
 use Rattle.fab_equations.specs.Instances.{Instance}
 use Rattle.fab_equations.specs.Numbering.{IsInstanceOfNumber, points_before}

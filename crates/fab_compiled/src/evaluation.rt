@@ -1,10 +1,10 @@
 //! The value of a compiled expression, bit by bit.
 
 ghost use Rattle.std.specs.Prelude.{◌≡◌, ◌+◌, ◌*◌, ◌^◌, ◌<◌, ◌≤◌, length, map, take};
-ghost use Rattle.fab_systems.specs.Ternary.{known as known_tern};
-ghost use Rattle.fab_solutions.specs.fab_meaning_Value.{bit_at};
-ghost use Rattle.fab_solutions.specs.fab_tern_Operators.{tern_at, entry as entry_of};
-ghost use Rattle.fab_solutions.specs.fab_tern_Shown.{first_terns};
+ghost use Rattle.fab_systems_laws.specs.Ternary.{known as known_tern};
+ghost use Rattle.fab_solutions_laws.specs.fab_meaning_Value.{bit_at};
+ghost use Rattle.fab_solutions_laws.specs.fab_ternary_laws_Operators.{tern_at, entry as entry_of};
+ghost use Rattle.fab_solutions_laws.specs.fab_ternary_laws_Shown.{first_terns};
 ghost use Rattle.fab_ternary.specs.Terns.{plain_tern};
 ghost use Rattle.fab_compiled.specs.Terns.{seen, IsView};
 ghost use Rattle.fab_compiled.specs.Trees.{tree_width, IsMade};

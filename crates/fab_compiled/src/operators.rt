@@ -1,8 +1,8 @@
 //! Operators of bits that may be unknown.
 
 ghost use Rattle.std.specs.Prelude.{◌≡◌};
-ghost use Rattle.fab_solutions.specs.fab_tern_Operators.{inverse as inverse_of, both as both_of, either as either_of, differs as differs_of, agreed as agreed_of};
-ghost use Rattle.fab_solutions.specs.fab_tern_Shown.{through as through_of};
+ghost use Rattle.fab_solutions_laws.specs.fab_ternary_laws_Operators.{inverse as inverse_of, both as both_of, either as either_of, differs as differs_of, agreed as agreed_of};
+ghost use Rattle.fab_solutions_laws.specs.fab_ternary_laws_Shown.{through as through_of};
 ghost use Rattle.fab_ternary.specs.Terns.{plain_tern};
 
 use fab_ternary::Tern;

@@ -1,7 +1,7 @@
 -- A point comes to be done.
 use Rattle.std.proofs.Common.{◌≡◌, ◌⊎◌, ℕ, ◌<◌, Bool, true, false, List, Some, length, sym, ap, ◌∙◌, subst, inl, inr, slice_get, slice_set, slice_index}
 use Rattle.std.proofs.lemmas.Bool.{cases_eq}
-use Rattle.fab_systems.specs.Ternary.{unknown}
+use Rattle.fab_systems_laws.specs.Ternary.{unknown}
 use Rattle.fab_compiled.specs.Leading.{PointTerns, IsMarked}
 use Rattle.fab_network.specs.declared.network.Clock.{Clock}
 use Rattle.fab_network.specs.declared.network.Drive.TheVariants.{Flop}

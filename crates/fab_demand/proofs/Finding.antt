@@ -1,8 +1,8 @@
 -- What a look at a drive finds.
 use Rattle.std.proofs.Common.{◌≡◌, ◌≢◌, ℕ, Bool, true, false, List, Option, Some, refl, sym, ap, ap₂, ◌∙◌, subst, slice_get}
-use Rattle.fab_systems.specs.Ternary.{no, yes, unknown, Tern as PlainTern}
+use Rattle.fab_systems_laws.specs.Ternary.{no, yes, unknown, Tern as PlainTern}
 use Rattle.fab_ternary.specs.declared.Tern.{Tern}
-use Rattle.fab_tern.specs.Shown.{through}
+use Rattle.fab_ternary_laws.specs.Shown.{through}
 use Rattle.fab_compiled.specs.declared.leads.Lead.{Lead}
 use Rattle.fab_compiled.specs.declared.leads.Lead.TheVariants.{Known, Point, Own, Unmarked}
 use Rattle.fab_compiled.specs.declared.tree.Tree.{Tree}

@@ -1,6 +1,6 @@
 -- What is known stays known where more is known.
 use Rattle.std.proofs.Common.{◌≡◌, ℕ, Option, None, Some, slice_get}
-use Rattle.fab_systems.specs.Ternary.{Tern, unknown}
+use Rattle.fab_systems_laws.specs.Ternary.{Tern, unknown}
 use Rattle.fab_compiled.specs.Leading.{PointTerns, AreAbove, AgreeOnMarked, IsMarked}
 use Rattle.fab_network.specs.declared.network.Clock.{Clock}
 use Rattle.fab_network.specs.declared.network.Drive.{Drive}

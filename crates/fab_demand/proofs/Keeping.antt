@@ -1,10 +1,10 @@
 -- What is given from cycle to cycle.
 use Rattle.std.proofs.Common.{◌≡◌, ◌≢◌, ℕ, List, Option, None, Some, refl, ap, ◌∙◌, slice_get}
-use Rattle.fab_systems.specs.Ternary.{no, IsBelow}
-use Rattle.fab_systems.specs.Ternary.{Tern as PlainTern}
-use Rattle.fab_systems.proofs.Order.{below_self}
+use Rattle.fab_systems_laws.specs.Ternary.{no, IsBelow}
+use Rattle.fab_systems_laws.specs.Ternary.{Tern as PlainTern}
+use Rattle.fab_systems_laws.proofs.Order.{below_self}
 use Rattle.fab_ternary.specs.declared.Tern.{Tern}
-use Rattle.fab_tern.specs.Shown.{through}
+use Rattle.fab_ternary_laws.specs.Shown.{through}
 use Rattle.fab_compiled.specs.Leading.{PointTerns}
 use Rattle.fab_network.specs.declared.network.Clock.{Clock}
 use Rattle.fab_network.specs.declared.network.Drive.{Drive}

@@ -5,7 +5,7 @@ use Rattle.std.proofs.lemmas.Bool.{cases_eq, cases_lt}
 use Rattle.std.proofs.lemmas.List.{get_or_append_left, get_or_push, get_or-take, map-id}
 use Rattle.std.proofs.lemmas.List.FromFn.{fill_by_all, get_or-range_with_len}
 use Rattle.std.specs.List.{range_with_len}
-use Rattle.fab_systems.specs.Ternary.{unknown}
+use Rattle.fab_systems_laws.specs.Ternary.{unknown}
 use Rattle.fab_ternary.specs.declared.Tern.TheVariants.{Open}
 use Rattle.fab_equations.proofs.Numbering.{some_there}
 use Rattle.fab_compiled.specs.Leading.{IsMarked}

@@ -4,12 +4,12 @@ use Rattle.std.proofs.Common.{slice_get, slice_index}
 use Rattle.std.specs.List.{range_with_len}
 use Rattle.std.proofs.lemmas.Bool.{lt-ltb, ltb-true}
 use Rattle.std.proofs.lemmas.List.FromFn.{get_or-range_with_len, length-range_with_len}
-use Rattle.fab_systems.specs.System.{AreListed}
-use Rattle.fab_systems.specs.Ternary.{unknown, IsBelow, IsMonotone, Tern as PlainTern}
-use Rattle.fab_systems.proofs.Order.{below_self, below_equal, below_both}
+use Rattle.fab_systems_laws.specs.System.{AreListed}
+use Rattle.fab_systems_laws.specs.Ternary.{unknown, IsBelow, IsMonotone, Tern as PlainTern}
+use Rattle.fab_systems_laws.proofs.Order.{below_self, below_equal, below_both}
 use Rattle.fab_ternary.specs.declared.Tern.{Tern}
-use Rattle.fab_network.proofs.fab_solutions_Demanded.{demanded_least}
-use Rattle.fab_network.proofs.fab_solutions_Orders.{through_grows}
+use Rattle.fab_network.proofs.fab_solutions_laws_Demanded.{demanded_least}
+use Rattle.fab_network.proofs.fab_solutions_laws_Orders.{through_grows}
 use Rattle.fab_compiled.specs.declared.tree.Tree.{Tree}
 use Rattle.fab_compiled.specs.Leading.{PointTerns, AreAbove, IsMarked}
 use Rattle.fab_compiled.specs.Terns.{seen}

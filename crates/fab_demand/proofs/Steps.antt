@@ -3,8 +3,8 @@ use Rattle.std.proofs.Common.{◌≡◌, ◌⊎◌, ℕ, ◌<◌, Bool, true, fa
 use Rattle.std.proofs.Common.{length-append, slice_get, slice_set, slice_index}
 use Rattle.std.proofs.lemmas.Bool.{cases_eq, cases_lt}
 use Rattle.std.proofs.lemmas.List.{append-nil, length-set}
-use Rattle.fab_systems.specs.Ternary.{known, unknown, IsBelow, Tern as PlainTern}
-use Rattle.fab_systems.proofs.Order.{below_equal, below_trans}
+use Rattle.fab_systems_laws.specs.Ternary.{known, unknown, IsBelow, Tern as PlainTern}
+use Rattle.fab_systems_laws.proofs.Order.{below_equal, below_trans}
 use Rattle.fab_ternary.specs.declared.Tern.{Tern}
 use Rattle.fab_ternary.specs.Terns.{plain_tern, is_known}
 use Rattle.fab_compiled.specs.declared.leads.Lead.TheVariants.{Known, Point, Own}

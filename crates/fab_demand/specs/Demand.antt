@@ -1,7 +1,7 @@
 -- When enough has been asked for.
 use Rattle.std.specs.Prelude.{◌≡◌, ◌≢◌, ◌⊎◌, ℕ, ◌<◌, Bool, false, List, [], Option, None, Some, length, slice_get, slice_index}
-use Rattle.fab_systems.specs.Ternary.{no, unknown, IsBelow}
-use Rattle.fab_systems.specs.Ternary.{Tern as PlainTern}
+use Rattle.fab_systems_laws.specs.Ternary.{no, unknown, IsBelow}
+use Rattle.fab_systems_laws.specs.Ternary.{Tern as PlainTern}
 use Rattle.fab_ternary.specs.declared.Tern.{Tern}
 use Rattle.fab_compiled.specs.Terns.{seen}
 use Rattle.fab_compiled.specs.Leading.{PointTerns, AreAbove, AgreeOnMarked, IsMarked}

@@ -1,6 +1,6 @@
 -- Laws of what has been asked for.
 use Rattle.std.specs.Prelude.{◌≡◌, ◌≢◌, ℕ, List, Some, slice_get}
-use Rattle.fab_systems.specs.Ternary.{IsBelow}
+use Rattle.fab_systems_laws.specs.Ternary.{IsBelow}
 use Rattle.fab_ternary.specs.declared.Tern.{Tern}
 use Rattle.fab_compiled.specs.Leading.{PointTerns}
 use Rattle.fab_compiled.specs.Terns.{seen}

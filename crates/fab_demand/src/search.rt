@@ -3,7 +3,7 @@
 ghost use Rattle.std.specs.Prelude.{◌≡◌, ◌-◌, ◌<◌, ◌≤◌, ◌^◌, ◌++◌, [], ◌∷◌, true, false, length, take, slice_get, slice_set, vec_capacity, IfOk};
 ghost use Rattle.std.specs.Prelude.{MatchOption, Some};
 ghost use Rattle.std.specs.List.{range_with_len};
-ghost use Rattle.fab_systems.specs.Ternary.{known as known_tern};
+ghost use Rattle.fab_systems_laws.specs.Ternary.{known as known_tern};
 ghost use Rattle.fab_ternary.specs.Terns.{plain_tern};
 ghost use Rattle.fab_compiled.specs.Leading.{IsMarked};
 ghost use Rattle.fab_network.specs.declared.network.Drive.TheVariants.{Flop};

@@ -3,7 +3,7 @@
 use crate::cases::{Case, Subject};
 use crate::words::{headed, put_names, put_number, put_word};
 use fab_base::{Fault, Memory, Name};
-use fab_models::{Body, Model, Statement, read_models};
+use fab_blif_models::{Body, Model, Statement, read_models};
 use std::alloc::Global;
 
 /// Each model is printed in a line, by the numbers of its lines and what they say.

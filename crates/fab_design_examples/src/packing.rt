@@ -5,8 +5,8 @@ use crate::netlists::shown;
 use crate::words::{put_cell_name, put_names, put_net, put_number};
 use fab_base::{Fault, Memory, Name, Place, Reason};
 use fab_blif::flatten;
+use fab_blif_models::read_models;
 use fab_lines::{capped_number, last_line};
-use fab_models::read_models;
 use fab_netlist::{Cell, NetId, Netlist, Packed, kept, pack};
 use std::alloc::Global;
 

@@ -3,9 +3,9 @@
 use crate::cases::{Case, Subject};
 use crate::words::{headed, put_number, put_word};
 use fab_base::{Fault, Memory, Name};
+use fab_blif_models::read_models;
 use fab_instances::{index_models, place_of, sides};
 use fab_lines::last_line;
-use fab_models::read_models;
 use indexmap::IndexSet;
 use std::alloc::Global;
 

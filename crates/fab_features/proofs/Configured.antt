@@ -30,8 +30,8 @@ use Rattle.fab_legal.specs.Legal.{IsLegal}
 use Rattle.fab_legal.specs.Steps.{IsStep}
 use Rattle.fab_legal.proofs.Lists.{same_at}
 use Rattle.fab_legal.proofs.PortNumbers.{place_in}
-use Rattle.fab_use.specs.Design.{IsBound}
-use Rattle.fab_use.specs.Configuring.{Configures, cell_bit}
+use Rattle.fab_use_defs.specs.Design.{IsBound}
+use Rattle.fab_use_defs.specs.Configuring.{Configures, cell_bit}
 use Rattle.fab_features.specs.Features.{place_among}
 use Rattle.fab_features.specs.inner.Adding.{Adds, SomeOf, IsCellOne, IsCellLine, IsSelectOne, IsTreeOne}
 use Rattle.fab_features.proofs.Fields.{bel_inside, one_bel, field_above, one_output}

@@ -18,10 +18,10 @@ use Rattle.fab_netlist.specs.Plain.{IsAt}
 use Rattle.fab_netlist.proofs.Members.{in_none, first_or_later, first_in, later_in, any_number}
 use Rattle.fab_legal.proofs.Members.{from_mapped}
 use Rattle.fab_legal.proofs.SinkLaw.{in_flat, into_flat}
-use Rattle.fab_use.proofs.fab_tile_drives_Members.{contains_counted}
+use Rattle.fab_use_defs.proofs.fab_tile_drives_laws_Members.{contains_counted}
 use Rattle.fab_fasm.specs.declared.feature.Feature.{Feature}
 use Rattle.fab_fasm.specs.Printing.{line_by_line}
-use Rattle.fab_use.specs.fab_fabric_text_Places.{PlacedTile, placed_at, column_tiles, placed_tiles}
+use Rattle.fab_use_defs.specs.fab_fabric_text_defs_Places.{PlacedTile, placed_at, column_tiles, placed_tiles}
 use Rattle.fab_features.specs.inner.Listing.{placed_tile}
 use Rattle.fab_features.proofs.Fields.{ordered}
 use Rattle.fab_features.proofs.Words.{of_all, passing_wire}

@@ -30,11 +30,11 @@ use Rattle.fab_legal.specs.Steps.{IsStep}
 use Rattle.fab_legal.proofs.Members.{in_either}
 use Rattle.fab_legal.proofs.SinkLaw.{in_flat, into_flat}
 use Rattle.fab_legal.proofs.Pins.{is_tile_at, tile_type, tile_of_kind}
-use Rattle.fab_use.proofs.fab_tile_drives_Members.{contains_at, contains_counted}
+use Rattle.fab_use_defs.proofs.fab_tile_drives_laws_Members.{contains_at, contains_counted}
 use Rattle.fab_fasm.specs.declared.feature.Feature.{Feature}
-use Rattle.fab_use.specs.fab_fabric_text_Places.{placed_tiles}
-use Rattle.fab_use.specs.fab_gen_tile_Words.{IsNamed}
-use Rattle.fab_use.specs.Configuring.{cell_bit}
+use Rattle.fab_use_defs.specs.fab_fabric_text_defs_Places.{placed_tiles}
+use Rattle.fab_use_defs.specs.fab_gen_tile_Words.{IsNamed}
+use Rattle.fab_use_defs.specs.Configuring.{cell_bit}
 use Rattle.fab_features.specs.Said.{said_of, field_of, bel_field, choice}
 use Rattle.fab_features.specs.Naming.{HasPrefixes}
 use Rattle.fab_features.specs.Features.{IsBitMapOf, Chooses}

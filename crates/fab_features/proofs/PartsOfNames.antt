@@ -19,7 +19,7 @@ use Rattle.fab_texts.specs.Places.{PlaceAt, place_at, letter_of}
 use Rattle.fab_texts.proofs.SiteLaws.{place_takes}
 use Rattle.fab_fasm.specs.Parts.{parted, TwoParts}
 use Rattle.fab_fasm.proofs.PartsFound.{parted_found}
-use Rattle.fab_use.specs.fab_gen_tile_Words.{IsNamed}
+use Rattle.fab_use_defs.specs.fab_gen_tile_Words.{IsNamed}
 use Rattle.fab_features.specs.Said.{said_of, said_in, first_of, field_in, field_of, pair_in, pair_of, number_in, TwoNumbers, bel_field, choice}
 use Rattle.fab_features.specs.Naming.{HasPrefixes}
 use Rattle.fab_features.specs.Design.{field_name, pair_name}

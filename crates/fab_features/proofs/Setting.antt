@@ -22,7 +22,7 @@ use Rattle.fab_implementation.specs.Plain.{Edge}
 use Rattle.fab_implementation.specs.OnFabric.{kind_at}
 use Rattle.fab_legal.proofs.Pins.{tile_of_kind}
 use Rattle.fab_legal.proofs.PortNumbers.{place_in}
-use Rattle.fab_use.specs.Configuring.{cell_bit}
+use Rattle.fab_use_defs.specs.Configuring.{cell_bit}
 use Rattle.fab_features.specs.Features.{place_among}
 use Rattle.fab_features.specs.inner.Adding.{Adds, IsOneOf, IsSiteOne, IsSelectOne, IsChoiceOne, IsEdgeOne}
 use Rattle.fab_features.specs.declared.ones.Ones.{Ones}

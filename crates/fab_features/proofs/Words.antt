@@ -20,8 +20,8 @@ use Rattle.fab_legal.proofs.Members.{in_either}
 use Rattle.fab_legal.proofs.SinkLaw.{in_flat}
 use Rattle.fab_fasm.proofs.Cutting.{differs}
 use Rattle.fab_texts.proofs.PrintedRows.{all_append}
-use Rattle.fab_use.proofs.fab_tile_drives_Members.{contains_at}
-use Rattle.fab_use.specs.fab_gen_tile_Words.{IsFreeName, IsNamed}
+use Rattle.fab_use_defs.proofs.fab_tile_drives_laws_Members.{contains_at}
+use Rattle.fab_use_defs.specs.fab_gen_tile_Words.{IsFreeName, IsNamed}
 use Rattle.fab_features.specs.Naming.{HasPrefixes}
 
 -- no byte of a word is a dot

@@ -12,7 +12,7 @@ use Rattle.fab_netlist.specs.Packed.{PlainCell, PlainPacked}
 use Rattle.fab_implementation.specs.Plain.{Edge, PlainImplementation}
 use Rattle.fab_fasm.specs.declared.feature.Feature.{Feature}
 use Rattle.fab_fasm.specs.Printing.{line_by_line}
-use Rattle.fab_use.specs.fab_fabric_text_Places.{PlacedTile, placed_tiles}
+use Rattle.fab_use_defs.specs.fab_fabric_text_defs_Places.{PlacedTile, placed_tiles}
 
 abbrev pub feature_of : (name : List ℕ) → (high low value : ℕ) → Feature
 feature_of name high low value = record { line = 0; name = name; high = high; low = low; value = value }

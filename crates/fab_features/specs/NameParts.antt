@@ -7,7 +7,7 @@ use Rattle.fab_model.specs.Grid.{PlainFabric, tile_at}
 use Rattle.fab_model.specs.Drive.{matrix_inputs}
 use Rattle.fab_fabric.specs.Fabric.{IsFabric, AreTiles}
 use Rattle.fab_fabric.specs.declared.wire.Site.{Site}
-use Rattle.fab_use.specs.fab_gen_tile_Words.{IsNamed}
+use Rattle.fab_use_defs.specs.fab_gen_tile_Words.{IsNamed}
 use Rattle.fab_features.specs.Said.{TwoNumbers, field_of, said_of, bel_field, choice}
 use Rattle.fab_features.specs.Design.{field_name, pair_name}
 use Rattle.fab_features.specs.Naming.{HasPrefixes}

@@ -14,7 +14,7 @@ use Rattle.fab_fabric.specs.Names.{place_name}
 use Rattle.fab_fabric.specs.declared.wire.Site.{Site}
 use Rattle.fab_fasm.specs.declared.feature.Feature.{Feature}
 use Rattle.fab_fasm.specs.Printing.{line_by_line}
-use Rattle.fab_use.specs.fab_fabric_text_Places.{PlacedTile, placed_tiles}
+use Rattle.fab_use_defs.specs.fab_fabric_text_defs_Places.{PlacedTile, placed_tiles}
 use Rattle.fab_features.specs.Design.{feature_of, field_name, site_in}
 
 -- the bits of a tile, by number

@@ -10,7 +10,7 @@ ghost use Rattle.fab_fabric.specs.Names.{place_name};
 ghost use Rattle.fab_implementation.specs.Plain.{Pad};
 ghost use Rattle.fab_implementation.specs.OnFabric.{HasWires};
 ghost use Rattle.fab_legal.specs.Legal.{IsLegal};
-ghost use Rattle.fab_use.specs.fab_fabric_text_Places.{column_tiles, placed_tiles};
+ghost use Rattle.fab_use_defs.specs.fab_fabric_text_defs_Places.{column_tiles, placed_tiles};
 ghost use Rattle.fab_features.specs.inner.Matrices.{AreMatricesOf, IsMatrixOf};
 ghost use Rattle.fab_features.specs.inner.Adding.{IsCellLine};
 ghost use Rattle.fab_features.specs.Design.{cell_features, cell_on, design_features, edge_into, feature_of, field_name, output_feature, site_features, tile_features};

@@ -10,7 +10,7 @@ ghost use Rattle.fab_model.specs.Grid.{tile_at};
 ghost use Rattle.fab_model.specs.Drive.{select_value};
 ghost use Rattle.fab_fabric.specs.Bits.{plain_bits};
 ghost use Rattle.fab_fabric.specs.Fabric.{IsFabric};
-ghost use Rattle.fab_use.specs.fab_fabric_text_Places.{column_tiles, placed_tiles};
+ghost use Rattle.fab_use_defs.specs.fab_fabric_text_defs_Places.{column_tiles, placed_tiles};
 ghost use Rattle.fab_features.specs.Design.{field_name};
 ghost use Rattle.fab_features.specs.inner.Listing.{Pushes, placed_tile};
 ghost use Rattle.fab_features.specs.inner.Matrices.{AreMatricesOf, IsMatrixOf};

@@ -33,20 +33,20 @@ use Rattle.fab_state.specs.Spelled.{HasLetters}
 use Rattle.fab_syntax.specs.Plain.{PlainModule}
 use Rattle.fab_fasm.specs.declared.feature.Feature.{Feature}
 use Rattle.fab_frames.specs.Stream.{stream}
-use Rattle.fab_assemble.specs.fab_fabric_text_Texts.{IsFabricText}
+use Rattle.fab_assemble.specs.fab_fabric_text_defs_Texts.{IsFabricText}
 use Rattle.fab_assemble.specs.fab_features_Design.{design_features}
 use Rattle.fab_assemble.specs.fab_features_Features.{IsBitMapOf}
 use Rattle.fab_assemble.specs.fab_features_Naming.{HasPrefixes}
 use Rattle.fab_gen_tile.specs.Words.{IsNamed}
 use Rattle.fab_read.specs.Fabrics.{SpellsFabric}
-use Rattle.fab_fabric_names.proofs.Prefixes.{ArePrefixed, prefixes_kept}
-use Rattle.fab_fabric_names.proofs.Blocks.{names_kept}
-use Rattle.fab_fabric_names.proofs.Readings.{spelled_keep}
+use Rattle.fab_fabric_names_laws.proofs.Prefixes.{ArePrefixed, prefixes_kept}
+use Rattle.fab_fabric_names_laws.proofs.Blocks.{names_kept}
+use Rattle.fab_fabric_names_laws.proofs.Readings.{spelled_keep}
 use Rattle.fab_outputs.specs.declared.storing.Output.{Output}
-use Rattle.fab_assemble.specs.fab_use_Configuring.{Configures}
-use Rattle.fab_assemble.specs.fab_use_Headline.{RunsDesign}
-use Rattle.fab_assemble.specs.fab_use_Registers.{bound_pad, design_state, register_of}
-use Rattle.fab_assemble.specs.fab_settling_Settling.{SettlesDesign}
+use Rattle.fab_assemble.specs.fab_use_defs_Configuring.{Configures}
+use Rattle.fab_assemble.specs.fab_use_defs_Headline.{RunsDesign}
+use Rattle.fab_assemble.specs.fab_use_defs_Registers.{bound_pad, design_state, register_of}
+use Rattle.fab_assemble.specs.fab_settling_laws_Settling.{SettlesDesign}
 use Rattle.fab_designs.specs.Designs.{PlainDesign, MeetsDesign, SpellsDesign}
 use Rattle.fab_designs.specs.Implementations.{MeetsImplementation, ReadsImplementation}
 use Rattle.fab_flow.specs.Assembling.{AssemblyFiles, Fits, HasAssembleCause, IsAssembly, IsReadyToAssemble, MeetsAssembly, RefusesAssembly, assemble_refusals, assembly_outputs, illegal, packing_for, short}

@@ -19,18 +19,18 @@ use Rattle.fab_implementation.specs.Plain.{Pad, PlainImplementation}
 use Rattle.fab_legal.specs.Legal.{IsLegal}
 use Rattle.fab_legal.proofs.NotLegal.{broken_is_not_legal}
 use Rattle.fab_legal.proofs.PackedMade.{packed_is_well_made}
-use Rattle.fab_ways.specs.Mapping.{IsMapping}
+use Rattle.fab_ways_laws.specs.Mapping.{IsMapping}
 use Rattle.fab_gen_tile.specs.Words.{IsNamed}
-use Rattle.fab_assemble.specs.fab_drives_Drives.{ShowsDrives}
-use Rattle.fab_assemble.specs.fab_text_loads_Loads.{LoadsConfigurations}
-use Rattle.fab_assemble.specs.fab_fabric_text_Texts.{IsFabricText}
+use Rattle.fab_assemble.specs.fab_drives_laws_Drives.{ShowsDrives}
+use Rattle.fab_assemble.specs.fab_text_loads_laws_Loads.{LoadsConfigurations}
+use Rattle.fab_assemble.specs.fab_fabric_text_defs_Texts.{IsFabricText}
 use Rattle.fab_assemble.specs.fab_features_Naming.{HasPrefixes}
 use Rattle.fab_impl.specs.Spelled.{implementation_text}
 use Rattle.fab_map.specs.Causes.{HasMapCause}
 use Rattle.fab_read.specs.Fabrics.{SpellsFabric}
-use Rattle.fab_fabric_names.proofs.Prefixes.{ArePrefixed, prefixes_kept}
-use Rattle.fab_fabric_names.proofs.Blocks.{names_kept}
-use Rattle.fab_fabric_names.proofs.Readings.{spelled_keep}
+use Rattle.fab_fabric_names_laws.proofs.Prefixes.{ArePrefixed, prefixes_kept}
+use Rattle.fab_fabric_names_laws.proofs.Blocks.{names_kept}
+use Rattle.fab_fabric_names_laws.proofs.Readings.{spelled_keep}
 use Rattle.fab_designs.specs.Designs.{PlainDesign, MeetsDesign, SpellsDesign}
 use Rattle.fab_outputs.specs.declared.storing.Output.{Output}
 use Rattle.fab_outputs.specs.Storing.{PlainOutput, Leaves, plain_output}

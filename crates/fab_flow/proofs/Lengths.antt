@@ -6,8 +6,8 @@ use Rattle.fab_syntax.specs.Spelling.{module_text, text_bytes}
 use Rattle.fab_prim.specs.Modules.{module_of_kind}
 use Rattle.fab_model.specs.Grid.{PlainFabric}
 use Rattle.fab_gen_loader.specs.Expressions.{loader_module}
-use Rattle.fab_assemble.specs.fab_fabric_text_Top.{top_module}
-use Rattle.fab_assemble.specs.fab_fabric_text_Text.{used_kinds, standing_types, tile_modules, fabric_text}
+use Rattle.fab_assemble.specs.fab_fabric_text_defs_Top.{top_module}
+use Rattle.fab_assemble.specs.fab_fabric_text_defs_Text.{used_kinds, standing_types, tile_modules, fabric_text}
 use Rattle.fab_flow.specs.Generating.{generated_text, text_length}
 
 -- the modules of two lists one behind the other

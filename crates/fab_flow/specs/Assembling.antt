@@ -23,11 +23,11 @@ use Rattle.fab_frames.specs.Bytes.{word_bytes}
 use Rattle.fab_frames.specs.Stream.{stream}
 use Rattle.fab_state.specs.Plain.{PlainState}
 use Rattle.fab_state.specs.Spelled.{state_text}
-use Rattle.fab_assemble.specs.fab_fabric_text_Texts.{IsFabricText}
-use Rattle.fab_assemble.specs.fab_use_Configuring.{Configures}
-use Rattle.fab_assemble.specs.fab_use_Headline.{RunsDesign}
-use Rattle.fab_assemble.specs.fab_use_Registers.{design_state}
-use Rattle.fab_assemble.specs.fab_settling_Settling.{SettlesDesign}
+use Rattle.fab_assemble.specs.fab_fabric_text_defs_Texts.{IsFabricText}
+use Rattle.fab_assemble.specs.fab_use_defs_Configuring.{Configures}
+use Rattle.fab_assemble.specs.fab_use_defs_Headline.{RunsDesign}
+use Rattle.fab_assemble.specs.fab_use_defs_Registers.{design_state}
+use Rattle.fab_assemble.specs.fab_settling_laws_Settling.{SettlesDesign}
 use Rattle.fab_assemble.specs.fab_features_Design.{design_features}
 use Rattle.fab_assemble.specs.fab_features_Features.{IsBitMapOf}
 use Rattle.fab_designs.specs.Designs.{DesignFiles, PlainDesign, design_files, SpellsDesign, MeetsDesign}

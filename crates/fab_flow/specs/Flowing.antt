@@ -10,16 +10,16 @@ use Rattle.fab_netlist.specs.Plain.{PlainNetlist}
 use Rattle.fab_netlist.specs.Packing.{packed}
 use Rattle.fab_implementation.specs.Plain.{Pad, PlainImplementation}
 use Rattle.fab_legal.specs.Legal.{IsLegal}
-use Rattle.fab_ways.specs.Mapping.{IsMapping}
+use Rattle.fab_ways_laws.specs.Mapping.{IsMapping}
 use Rattle.fab_files.specs.Files.{Event}
 use Rattle.fab_files.specs.Stages.{MeetsBehind, MeetsLast}
 use Rattle.fab_frames.specs.Stream.{stream}
-use Rattle.fab_assemble.specs.fab_drives_Drives.{ShowsDrives}
-use Rattle.fab_assemble.specs.fab_text_loads_Loads.{LoadsConfigurations}
-use Rattle.fab_assemble.specs.fab_fabric_text_Texts.{IsFabricText}
-use Rattle.fab_assemble.specs.fab_use_Headline.{RunsDesign}
-use Rattle.fab_assemble.specs.fab_use_Registers.{design_state}
-use Rattle.fab_assemble.specs.fab_settling_Settling.{SettlesDesign}
+use Rattle.fab_assemble.specs.fab_drives_laws_Drives.{ShowsDrives}
+use Rattle.fab_assemble.specs.fab_text_loads_laws_Loads.{LoadsConfigurations}
+use Rattle.fab_assemble.specs.fab_fabric_text_defs_Texts.{IsFabricText}
+use Rattle.fab_assemble.specs.fab_use_defs_Headline.{RunsDesign}
+use Rattle.fab_assemble.specs.fab_use_defs_Registers.{design_state}
+use Rattle.fab_assemble.specs.fab_settling_laws_Settling.{SettlesDesign}
 use Rattle.fab_impl.specs.Spelled.{implementation_text}
 use Rattle.fab_map.specs.Causes.{HasMapCause}
 use Rattle.fab_designs.specs.Designs.{DesignFiles, PlainDesign, design_files, SpellsDesign, MeetsDesign}

@@ -14,12 +14,12 @@ use Rattle.fab_files.specs.Files.{Event}
 use Rattle.fab_files.specs.Stages.{MeetsBehind, MeetsLast}
 use Rattle.fab_read.specs.Fabrics.{SpellsFabric, MeetsFabric}
 use Rattle.fab_prim.specs.Modules.{module_of_kind}
-use Rattle.fab_assemble.specs.fab_fabric_text_Top.{top_module}
-use Rattle.fab_assemble.specs.fab_fabric_text_Text.{used_kinds, standing_types, tile_modules}
-use Rattle.fab_assemble.specs.fab_drives_Drives.{ShowsDrives}
-use Rattle.fab_assemble.specs.fab_text_loads_Loads.{LoadsConfigurations}
-use Rattle.fab_assemble.specs.fab_fabric_text_Texts.{IsFabricText}
-pub use Rattle.fab_assemble.specs.fab_fabric_text_Texts.{generated_text}
+use Rattle.fab_assemble.specs.fab_fabric_text_defs_Top.{top_module}
+use Rattle.fab_assemble.specs.fab_fabric_text_defs_Text.{used_kinds, standing_types, tile_modules}
+use Rattle.fab_assemble.specs.fab_drives_laws_Drives.{ShowsDrives}
+use Rattle.fab_assemble.specs.fab_text_loads_laws_Loads.{LoadsConfigurations}
+use Rattle.fab_assemble.specs.fab_fabric_text_defs_Texts.{IsFabricText}
+pub use Rattle.fab_assemble.specs.fab_fabric_text_defs_Texts.{generated_text}
 use Rattle.fab_outputs.specs.Storing.{PlainOutput, output}
 use Rattle.fab_outputs.specs.Ending.{HasCause}
 

@@ -6,7 +6,7 @@ use Rattle.fab_desk.specs.Files.{Map}
 use Rattle.fab_netlist.specs.Packing.{packed}
 use Rattle.fab_implementation.specs.Plain.{PlainImplementation}
 use Rattle.fab_legal.specs.Legal.{IsLegal}
-use Rattle.fab_ways.specs.Mapping.{IsMapping}
+use Rattle.fab_ways_laws.specs.Mapping.{IsMapping}
 use Rattle.fab_files.specs.Files.{Event}
 use Rattle.fab_files.specs.Stages.{MeetsBehind, MeetsLast}
 use Rattle.fab_impl.specs.Spelled.{implementation_text}

@@ -9,9 +9,9 @@ ghost use Rattle.fab_base.specs.declared.problem.Problem.TheVariants as problems
 ghost use Rattle.fab_base.specs.declared.words.Quantity.TheVariants as quantities;
 ghost use Rattle.fab_syntax.specs.Spelling.{text_bytes};
 ghost use Rattle.fab_gen_tile.specs.Words.{IsNamed};
-ghost use Rattle.fab_assemble.specs.fab_drives_Drives.{ShowsDrives};
-ghost use Rattle.fab_assemble.specs.fab_text_loads_Loads.{LoadsConfigurations};
-ghost use Rattle.fab_assemble.specs.fab_fabric_text_Texts.{IsFabricText};
+ghost use Rattle.fab_assemble.specs.fab_drives_laws_Drives.{ShowsDrives};
+ghost use Rattle.fab_assemble.specs.fab_text_loads_laws_Loads.{LoadsConfigurations};
+ghost use Rattle.fab_assemble.specs.fab_fabric_text_defs_Texts.{IsFabricText};
 ghost use Rattle.fab_flow.specs.Generating.{generated_text, text_length, most_text_bytes, IsTooLong, MakesFabric, HasGenerateCause};
 ghost use Rattle.fab_outputs.specs.Storing.{IsDone, Leaves};
 

@@ -6,7 +6,7 @@ ghost use Rattle.fab_base.specs.declared.fault.Fault.TheVariants as faults;
 ghost use Rattle.fab_netlist.specs.Packing.{packed as packed_of};
 ghost use Rattle.fab_implementation.specs.OnFabric.{IsOnFabric};
 ghost use Rattle.fab_legal.specs.Legal.{IsLegal};
-ghost use Rattle.fab_ways.specs.Mapping.{IsMapping};
+ghost use Rattle.fab_ways_laws.specs.Mapping.{IsMapping};
 ghost use Rattle.fab_state.specs.Constraints.{AreFixings, data_ports};
 ghost use Rattle.fab_implementation.specs.Inputs.{InputsAreLines};
 ghost use Rattle.fab_designs.specs.Designs.{design_files};

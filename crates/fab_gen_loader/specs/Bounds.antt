@@ -3,7 +3,7 @@ use Rattle.std.specs.Prelude.{◌≤◌, max, false, length}
 use Rattle.std.specs.List.{All}
 use Rattle.fab_syntax.specs.Plain.{PlainItem, PlainModule, wire, reg, assign, latch, clocked, instance}
 use Rattle.fab_syntax.specs.Spelling.{module_text}
-use Rattle.fab_grammar.specs.Printable.{nested}
+use Rattle.fab_grammar_defs.specs.Printable.{nested}
 
 -- at most 100 brackets are open in one another in an expression of the item; an instance has no place in a loader
 abbrev pub IsShallow : PlainItem → Type 0

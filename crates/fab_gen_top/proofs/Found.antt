@@ -7,7 +7,7 @@ use Rattle.fab_model.specs.Cascade.{PlacedRow, placed_row, previous_row}
 use Rattle.fab_fabric.specs.declared.fabric.joins.RowAt.{RowAt}
 use Rattle.fab_fabric.specs.Walks.{place_of, placed_at, HasRow, FindsRow}
 use Rattle.fab_fabric.proofs.Stepped.{stand, row_spot}
-use Rattle.fab_text_loads.specs.fab_fabric_text_Top.{numbered_row}
+use Rattle.fab_text_loads_laws.specs.fab_fabric_text_defs_Top.{numbered_row}
 use Rattle.fab_gen_top.specs.declared.places.Place.{Place}
 use Rattle.fab_gen_top.specs.inner.Standing.{type_of, placed_of, IsPlaceOf}
 

@@ -16,8 +16,8 @@ use Rattle.fab_gen_tile.specs.TileModule.{is_on_side, matrix_output_names}
 use Rattle.fab_gen_tile.specs.MatrixModule.{numbered_outputs, matrix_module}
 use Rattle.fab_gen_tile.proofs.Counted.{counted_none}
 use Rattle.fab_gen_tile.proofs.Steps.{flat_last, placed_more}
-use Rattle.fab_text_loads.specs.fab_fabric_text_Places.{PlacedTile, placed_at, column_tiles}
-use Rattle.fab_text_loads.specs.fab_fabric_text_Text.{stands, matrix_modules}
+use Rattle.fab_text_loads_laws.specs.fab_fabric_text_defs_Places.{PlacedTile, placed_at, column_tiles}
+use Rattle.fab_text_loads_laws.specs.fab_fabric_text_defs_Text.{stands, matrix_modules}
 use Rattle.fab_gen_top.specs.declared.places.Place.{Place}
 use Rattle.fab_gen_top.specs.inner.Standing.{type_of, placed_of, IsPlaceOf}
 use Rattle.std.proofs.lemmas.Bool.{cases_Bool}

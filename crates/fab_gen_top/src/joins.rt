@@ -9,8 +9,8 @@ ghost use Rattle.fab_prim.specs.Ports.{top_inputs, top_outputs};
 ghost use Rattle.fab_fabric.specs.Walks.{placed_at, HasRow};
 ghost use Rattle.fab_gen_tile.specs.Names.{begin_name, end_name, pad_name, port_join};
 ghost use Rattle.fab_gen_tile.specs.Borders.{side_border};
-ghost use Rattle.fab_text_loads.specs.fab_fabric_text_Names.{begin_wire_name, pad_port_name};
-ghost use Rattle.fab_text_loads.specs.fab_fabric_text_Top.{end_value, numbered_row, row_joins, pad_joins, tile_joins, tile_instance};
+ghost use Rattle.fab_text_loads_laws.specs.fab_fabric_text_defs_Names.{begin_wire_name, pad_port_name};
+ghost use Rattle.fab_text_loads_laws.specs.fab_fabric_text_defs_Top.{end_value, numbered_row, row_joins, pad_joins, tile_joins, tile_instance};
 ghost use Rattle.fab_gen_top.specs.inner.Standing.{type_of, placed_of, IsPlaceOf};
 
 use crate::names::{begin_wire_name, column_strobe_name, pad_port_name, place_name, row_name};

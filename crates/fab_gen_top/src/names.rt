@@ -2,7 +2,7 @@
 
 ghost use Rattle.std.specs.Prelude.{◌≡◌, ◌++◌, IfOk, decimal};
 ghost use Rattle.fab_fabric.specs.Names.{place_name};
-ghost use Rattle.fab_text_loads.specs.fab_fabric_text_Names.{column_strobe_name, begin_wire_name, pad_port_name};
+ghost use Rattle.fab_text_loads_laws.specs.fab_fabric_text_defs_Names.{column_strobe_name, begin_wire_name, pad_port_name};
 ghost use Rattle.fab_gen_loader.specs.Loader.{row_port};
 
 use fab_base::{Memory, Name};

@@ -2,7 +2,7 @@
 
 ghost use Rattle.std.specs.Prelude.{◌≡◌, ◌<◌, ◌++◌, All, map, IfOk, OnOk};
 ghost use Rattle.fab_fabric.specs.Fabric.{IsFabric};
-ghost use Rattle.fab_text_loads.specs.fab_fabric_text_Places.{column_tiles, placed_tiles};
+ghost use Rattle.fab_text_loads_laws.specs.fab_fabric_text_defs_Places.{column_tiles, placed_tiles};
 ghost use Rattle.fab_gen_top.specs.inner.Standing.{type_of, placed_of, IsPlaceOf};
 
 use fab_base::Memory;

@@ -4,9 +4,9 @@ ghost use Rattle.std.specs.Prelude.{◌≡◌, ◌++◌, ◌∷◌, [], true, fa
 ghost use Rattle.std.specs.List.{flat_map, enumerate_from};
 ghost use Rattle.fab_meaning.specs.Ports.{scalar};
 ghost use Rattle.fab_prim.specs.Ports.{top_inputs, top_outputs};
-ghost use Rattle.fab_text_loads.specs.fab_fabric_text_Names.{pad_port_name};
-ghost use Rattle.fab_text_loads.specs.fab_fabric_text_Top.{pad_ports, tile_pads, top_ports};
-ghost use Rattle.fab_text_loads.specs.fab_fabric_text_Places.{placed_tiles};
+ghost use Rattle.fab_text_loads_laws.specs.fab_fabric_text_defs_Names.{pad_port_name};
+ghost use Rattle.fab_text_loads_laws.specs.fab_fabric_text_defs_Top.{pad_ports, tile_pads, top_ports};
+ghost use Rattle.fab_text_loads_laws.specs.fab_fabric_text_defs_Places.{placed_tiles};
 ghost use Rattle.fab_gen_top.specs.inner.Standing.{placed_of, IsPlaceOf};
 
 use crate::names::pad_port_name;

@@ -11,15 +11,15 @@ ghost use Rattle.fab_gen_tile.specs.TileModule.{matrix_output_names};
 ghost use Rattle.fab_gen_tile.specs.Words.{IsNamed};
 ghost use Rattle.fab_gen_loader.specs.Expressions.{loader_module};
 ghost use Rattle.fab_fabric.specs.Sites.{same_kind};
-ghost use Rattle.fab_text_loads.specs.fab_fabric_text_Text.{standing_types, used_kinds, matrix_modules, config_modules, tile_modules, fabric_text};
-ghost use Rattle.fab_drives.specs.Drives.{ShowsDrives};
-ghost use Rattle.fab_text_loads.specs.Loads.{LoadsConfigurations};
-ghost use Rattle.fab_text_loads.specs.fab_fabric_text_Texts.{IsFabricText};
+ghost use Rattle.fab_text_loads_laws.specs.fab_fabric_text_defs_Text.{standing_types, used_kinds, matrix_modules, config_modules, tile_modules, fabric_text};
+ghost use Rattle.fab_drives_laws.specs.Drives.{ShowsDrives};
+ghost use Rattle.fab_text_loads_laws.specs.Loads.{LoadsConfigurations};
+ghost use Rattle.fab_text_loads_laws.specs.fab_fabric_text_defs_Texts.{IsFabricText};
 ghost use Rattle.fab_gen_top.specs.inner.Standing.{type_of, AreStanding};
 
 use crate::top::top_module;
 use fab_base::Memory;
-use fab_drives::fabric_texts_show_drives;
+use fab_drives_laws::fabric_texts_show_drives;
 use fab_fabric::Fabric;
 use fab_gen_loader::loader_module;
 use fab_gen_tile::{config_module, tile_matrix_module, tile_module};
@@ -27,8 +27,8 @@ use fab_kinds::Kind;
 use fab_model::{Bel, TileType};
 use fab_prim::{IoPad, Lut4c, Mux8, Prim};
 use fab_syntax::{Module, Text};
-use fab_text_loads::fabric_texts_load;
-use fab_text_sound::fabric_texts_are_sound;
+use fab_text_loads_laws::fabric_texts_load;
+use fab_text_sound_laws::fabric_texts_are_sound;
 use std::alloc::Global;
 
 /// The whole text of a fabric: the primitives that it uses, the modules of its tile types that stand somewhere, the loader and the

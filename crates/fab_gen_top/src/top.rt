@@ -2,8 +2,8 @@
 
 ghost use Rattle.std.specs.Prelude.{◌≡◌, All, map, IfOk};
 ghost use Rattle.fab_syntax.specs.Plain.{plain_module, plain_item};
-ghost use Rattle.fab_text_loads.specs.fab_fabric_text_Places.{placed_tiles};
-ghost use Rattle.fab_text_loads.specs.fab_fabric_text_Top.{top_items, top_module};
+ghost use Rattle.fab_text_loads_laws.specs.fab_fabric_text_defs_Places.{placed_tiles};
+ghost use Rattle.fab_text_loads_laws.specs.fab_fabric_text_defs_Top.{top_items, top_module};
 ghost use Rattle.fab_gen_top.specs.inner.Standing.{placed_of, IsPlaceOf};
 
 use crate::joins::push_instances;

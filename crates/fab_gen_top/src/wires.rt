@@ -8,9 +8,9 @@ ghost use Rattle.fab_model.specs.Tiles.{counted};
 ghost use Rattle.fab_model.specs.Rows.{is_jump};
 ghost use Rattle.fab_gen_tile.specs.Names.{same_join};
 ghost use Rattle.fab_gen_tile.specs.Borders.{side_border};
-ghost use Rattle.fab_text_loads.specs.fab_fabric_text_Names.{column_strobe_name, begin_wire_name};
+ghost use Rattle.fab_text_loads_laws.specs.fab_fabric_text_defs_Names.{column_strobe_name, begin_wire_name};
 ghost use Rattle.fab_gen_loader.specs.Loader.{row_port};
-ghost use Rattle.fab_text_loads.specs.fab_fabric_text_Top.{loader_wires, loader_joins, loader_instance, names_column, column_strobes, row_begin_wires, tile_begin_wires};
+ghost use Rattle.fab_text_loads_laws.specs.fab_fabric_text_defs_Top.{loader_wires, loader_joins, loader_instance, names_column, column_strobes, row_begin_wires, tile_begin_wires};
 ghost use Rattle.fab_gen_top.specs.inner.Standing.{placed_of, IsPlaceOf};
 
 use crate::names::{begin_wire_name, column_strobe_name, row_name};

@@ -16,10 +16,10 @@ use Rattle.fab_netlist.specs.Plain.{IsAt}
 use Rattle.fab_legal.proofs.StepLaws.{type_there}
 use Rattle.fab_legal.proofs.Pins.{is_tile_at}
 use Rattle.fab_legal.proofs.Members.{from_mapped}
-use Rattle.fab_ways.specs.Edges.{outputs_of, swapped, turned_pairs, wire_at, join_after, ends_in, ends, join_before, origins_in, origins}
-use Rattle.fab_ways.proofs.Origins.{origins_are_there}
-use Rattle.fab_ways.proofs.Ends.{ends_are_there}
-use Rattle.fab_ways.proofs.Lists.{from_filter, from_firsts}
+use Rattle.fab_ways_laws.specs.Edges.{outputs_of, swapped, turned_pairs, wire_at, join_after, ends_in, ends, join_before, origins_in, origins}
+use Rattle.fab_ways_laws.proofs.Origins.{origins_are_there}
+use Rattle.fab_ways_laws.proofs.Ends.{ends_are_there}
+use Rattle.fab_ways_laws.proofs.Lists.{from_filter, from_firsts}
 use Rattle.fab_graph.specs.declared.outputs.Outputs.{Outputs}
 use Rattle.fab_graph.specs.inner.Outputs.{type_outputs, plain_outputs, HaveOutputs}
 use Rattle.fab_graph.proofs.Grouped.{tables_inside, table_there, inputs_of_table, group_there}

@@ -12,7 +12,7 @@ use Rattle.fab_model.specs.Tiles.{PlainTile, IsTile, counted, matrix_names, is_m
 use Rattle.fab_bits.specs.Keys.{group_at}
 use Rattle.fab_netlist.specs.Plain.{IsAt}
 use Rattle.fab_netlist.proofs.Counts.{at_mapped}
-use Rattle.fab_ways.specs.Edges.{outputs_of, swapped, turned_pairs}
+use Rattle.fab_ways_laws.specs.Edges.{outputs_of, swapped, turned_pairs}
 use Rattle.fab_fabric.proofs.Pairs.{inputs_named, passes_named}
 use Rattle.fab_graph.specs.declared.outputs.Outputs.{Outputs}
 use Rattle.fab_graph.specs.inner.Outputs.{plain_groups, type_outputs, plain_outputs, HaveOutputs}

@@ -13,8 +13,8 @@ use Rattle.indexmap.specs.IndexSet.{insert_key}
 use Rattle.fab_select.specs.declared.pair.Pair.{Pair}
 use Rattle.fab_netlist.proofs.Members.{mapped_in, any_by, any_gives}
 use Rattle.fab_legal.proofs.Members.{from_mapped}
-use Rattle.fab_ways.specs.Edges.{outputs_of, swapped, turned_pairs}
-use Rattle.fab_ways.proofs.Lists.{into_filter, from_filter, from_firsts, into_firsts}
+use Rattle.fab_ways_laws.specs.Edges.{outputs_of, swapped, turned_pairs}
+use Rattle.fab_ways_laws.proofs.Lists.{into_filter, from_filter, from_firsts, into_firsts}
 use Rattle.fab_graph.specs.inner.Scans.{turned_pair, pair_at, is_new}
 use Rattle.fab_graph.proofs.Grouped.{outputs_push}
 use Rattle.fab_graph.proofs.Edges.{outputs_within}

@@ -12,8 +12,8 @@ use Rattle.fab_netlist.proofs.Members.{in_none, in_left, in_right}
 use Rattle.fab_netlist.proofs.Stepping.{all_of}
 use Rattle.fab_legal.proofs.Members.{in_either, in_pushed, last_in, still_in, in_taken}
 use Rattle.fab_legal.specs.Steps.{IsStep}
-use Rattle.fab_ways.specs.Edges.{ends}
-use Rattle.fab_ways.proofs.Ends.{ends_are_steps}
+use Rattle.fab_ways_laws.specs.Edges.{ends}
+use Rattle.fab_ways_laws.proofs.Ends.{ends_are_steps}
 use Rattle.fab_graph.specs.Reach.{IsReached, starts, goes, is_marked}
 use Rattle.fab_graph.specs.inner.Search.{IsSearch, waiting_with}
 

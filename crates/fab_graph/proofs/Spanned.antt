@@ -7,7 +7,7 @@ use Rattle.fab_fabric.specs.Wires.{numbered_wire}
 use Rattle.fab_fabric.specs.declared.wire.Wire.{Wire}
 use Rattle.fab_fabric.proofs.Numbered.{wire_within}
 use Rattle.fab_legal.specs.Steps.{IsJoined}
-use Rattle.fab_ways.specs.Bounds.{wire_distance, JoinGoes, IsSpan}
+use Rattle.fab_ways_laws.specs.Bounds.{wire_distance, JoinGoes, IsSpan}
 use Rattle.fab_graph.specs.inner.Spans.{IsMost}
 
 module _ (fabric : PlainFabric) where

@@ -4,8 +4,8 @@ ghost use Rattle.std.specs.Prelude.{◌≡◌, ◌⊎◌, ◌<◌, ◌≤◌};
 ghost use Rattle.fab_fabric.specs.Fabric.{wire_count};
 ghost use Rattle.fab_fabric.specs.declared.wire.Wire.{Wire};
 ghost use Rattle.fab_legal.specs.Steps.{IsJoined};
-ghost use Rattle.fab_ways.specs.Edges.{place_of};
-ghost use Rattle.fab_ways.specs.Bounds.{wire_distance, JoinGoes, IsSpan, least_edges};
+ghost use Rattle.fab_ways_laws.specs.Edges.{place_of};
+ghost use Rattle.fab_ways_laws.specs.Bounds.{wire_distance, JoinGoes, IsSpan, least_edges};
 
 use fab_fabric::{Fabric, Wire};
 use std::marker::Model;

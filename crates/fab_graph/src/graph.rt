@@ -4,7 +4,7 @@ ghost use Rattle.std.specs.Prelude.{◌≡◌, ◌<◌, ℕ, Some, IfOk, IfSome,
 ghost use Rattle.fab_model.specs.Tiles.{PlainTile};
 ghost use Rattle.fab_model.specs.Grid.{tile_at};
 ghost use Rattle.fab_fabric.specs.Fabric.{AreTiles, wires_at, wire_count};
-ghost use Rattle.fab_ways.specs.Edges.{outputs_of, turned_pairs, ends, origins};
+ghost use Rattle.fab_ways_laws.specs.Edges.{outputs_of, turned_pairs, ends, origins};
 ghost use Rattle.fab_graph.specs.inner.Outputs.{HaveOutputs};
 
 use crate::outputs::{Outputs, type_outputs};
@@ -48,7 +48,7 @@ impl<'a> Model for Ends<'a> {
     ghost use Rattle.std.specs.Prelude.{◌++◌, ◌<◌, List, map, All, IfSome, option_to_list};
     ghost use Rattle.fab_fabric.specs.Fabric.{wires_at, wire_count};
     ghost use Rattle.fab_fabric.specs.declared.wire.Wire.{Wire};
-    ghost use Rattle.fab_ways.specs.Edges.{wire_at};
+    ghost use Rattle.fab_ways_laws.specs.Edges.{wire_at};
 
     ghost Value = { List Wire };
 

@@ -3,7 +3,7 @@
 ghost use Rattle.std.specs.Prelude.{◌≡◌, ◌<◌, ℕ, [], All, IfOk, OnOk, length, map, nat_eq};
 ghost use Rattle.indexmap.specs.IndexSet.{insert_key};
 ghost use Rattle.fab_bits.specs.Keys.{group_at};
-ghost use Rattle.fab_ways.specs.Edges.{outputs_of, swapped, turned_pairs};
+ghost use Rattle.fab_ways_laws.specs.Edges.{outputs_of, swapped, turned_pairs};
 ghost use Rattle.fab_graph.specs.inner.Outputs.{type_outputs, plain_outputs, HaveOutputs};
 
 use fab_base::Memory;

@@ -3,7 +3,7 @@
 ghost use Rattle.std.specs.Prelude.{◌≡◌, ◌↔◌, ◌<◌, ◌≤◌, ◌+◌, ℕ, true, false, [], All, IfOk, OnOk, ◌++◌, ◌∷◌, length, slice_set};
 ghost use Rattle.fab_fabric.specs.Fabric.{AreTiles, wire_count};
 ghost use Rattle.fab_fabric.specs.declared.wire.Wire.{Wire};
-ghost use Rattle.fab_ways.specs.Edges.{ends};
+ghost use Rattle.fab_ways_laws.specs.Edges.{ends};
 ghost use Rattle.fab_graph.specs.Reach.{IsReached, is_marked};
 ghost use Rattle.fab_graph.specs.inner.Search.{IsSearch, waiting_with, left_of};
 

@@ -6,7 +6,7 @@ ghost use Rattle.std.specs.Result.{MatchResult};
 ghost use Rattle.fab_model.specs.Tiles.{PlainTile};
 ghost use Rattle.fab_model.specs.Grid.{tile_at};
 ghost use Rattle.fab_fabric.specs.Fabric.{wires_at, wire_count};
-ghost use Rattle.fab_ways.specs.Edges.{outputs_of, turned_pairs, ends, origins};
+ghost use Rattle.fab_ways_laws.specs.Edges.{outputs_of, turned_pairs, ends, origins};
 ghost use Rattle.fab_graph.specs.inner.Scans.{turned_pair, is_new};
 
 use fab_fabric::{Fabric, Wire};

@@ -5,8 +5,8 @@ use Rattle.std.specs.Str.{bytes_eq}
 use Rattle.std.proofs.lemmas.Bool.{and_cases, and_from, and_left, and_right, cases_Bool, false≢true}
 use Rattle.std.proofs.lemmas.Grind.{common_steps}
 use Rattle.std.proofs.lemmas.List.{get_or_default, length-map, length-take-le, map_more}
-use Rattle.fab_models.specs.declared.model.Model.{Model}
-use Rattle.fab_models.specs.Plain.{PlainBody, PlainStatement, PlainModel, inputs, outputs, clock, cover, latch, instance, plain_model, plain_models, plain_statement}
+use Rattle.fab_blif_models.specs.declared.model.Model.{Model}
+use Rattle.fab_blif_models.specs.Plain.{PlainBody, PlainStatement, PlainModel, inputs, outputs, clock, cover, latch, instance, plain_model, plain_models, plain_statement}
 use Rattle.fab_instances.specs.Places.{model_names, place_of_model, statements_of}
 use Rattle.fab_instances.specs.Formals.{sides, HasPorts, SameNames, fits_before, fits_ports, formal_of, has_both, joins_at, joins_new, port_names}
 use Rattle.fab_instances.specs.Order.{BreaksFormals, IsLeastFound}

@@ -4,7 +4,7 @@ use Rattle.std.specs.Str.{bytes_eq}
 use Rattle.std.proofs.lemmas.Bool.{cases_Bool}
 use Rattle.std.proofs.lemmas.Grind.{common_steps}
 use Rattle.std.proofs.lemmas.List.Elements.{Contains-append_cases, Contains-append_left, Contains-append_right}
-use Rattle.fab_models.specs.Plain.{PlainBody, PlainStatement, PlainModel, inputs, outputs, clock, cover, latch, instance}
+use Rattle.fab_blif_models.specs.Plain.{PlainBody, PlainStatement, PlainModel, inputs, outputs, clock, cover, latch, instance}
 use Rattle.fab_instances.proofs.Members.{first_or_later, in_none}
 use Rattle.fab_instances.specs.Places.{model_names, place_of_model, statements_of}
 use Rattle.fab_instances.specs.Order.{IsInstanceLine, IsLeast, IsLeastFound, IsUnknown, NoLine}

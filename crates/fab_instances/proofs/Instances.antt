@@ -2,7 +2,7 @@
 use Rattle.std.proofs.Common.{◌≡◌, ℕ, zero, suc, ◌+◌, ◌<◌, ◌≤◌, Bool, List, [], ◌∷◌, map, length, get_or, replicate, Contains, Option, Some, None, refl, sym, ap, ◌∙◌, inl, arith}
 use Rattle.std.specs.List.{sum_by}
 use Rattle.std.proofs.lemmas.List.Sums.{sum_by-cons}
-use Rattle.fab_models.specs.Plain.{PlainStatement, PlainModel}
+use Rattle.fab_blif_models.specs.Plain.{PlainStatement, PlainModel}
 use Rattle.fab_instances.proofs.Members.{first_in, later_in}
 use Rattle.fab_instances.specs.Counting.{in_64_bits, instance_and, instances, instances_at, instances_in}
 use Rattle.fab_instances.specs.Places.{model_names, no_model, statements_of}

@@ -5,7 +5,7 @@ use Rattle.std.specs.Str.{bytes_eq}
 use Rattle.std.proofs.lemmas.Bool.{cases_Bool}
 use Rattle.std.proofs.lemmas.List.{length-map, map-append}
 use Rattle.indexmap.specs.IndexSet.{insert_key}
-use Rattle.fab_models.proofs.Sets.{any_of_names}
+use Rattle.fab_blif_models.proofs.Sets.{any_of_names}
 use Rattle.fab_bits.specs.Keys.{key_names}
 
 first_of_names : {A : Type 0} (name : List ℕ) (keys : List (Vec ℕ A)) → position_or_len (λ key. bytes_eq name key.items) keys ≡ position_or_len (bytes_eq name) (key_names keys)

@@ -5,7 +5,7 @@ use Rattle.std.specs.List.{list_all}
 use Rattle.std.specs.Str.{bytes_eq}
 use Rattle.std.proofs.lemmas.Bool.{cases_Bool, false≢true}
 use Rattle.std.proofs.lemmas.Grind.{common_steps}
-use Rattle.fab_models.specs.Plain.{PlainBody, PlainStatement, PlainModel, inputs, outputs, clock, cover, latch, instance}
+use Rattle.fab_blif_models.specs.Plain.{PlainBody, PlainStatement, PlainModel, inputs, outputs, clock, cover, latch, instance}
 use Rattle.fab_instances.proofs.Members.{first_or_later, in_none}
 use Rattle.fab_instances.specs.Places.{model_names, place_of_model, statements_of}
 use Rattle.fab_instances.specs.Order.{IsInstanceLine, IsLeast, IsLeastFound, IsRecursive, NoLine}

@@ -9,8 +9,8 @@ use Rattle.fab_base.specs.declared.fault.Fault.{Fault}
 use Rattle.fab_base.specs.declared.fault.Fault.TheVariants as faults
 use Rattle.fab_base.specs.declared.problem.Problem.TheVariants as problems
 use Rattle.fab_base.specs.declared.words.Reason.TheVariants as reasons
-use Rattle.fab_models.specs.declared.model.Model.{Model}
-use Rattle.fab_models.specs.Plain.{PlainModel, plain_model, plain_models}
+use Rattle.fab_blif_models.specs.declared.model.Model.{Model}
+use Rattle.fab_blif_models.specs.Plain.{PlainModel, plain_model, plain_models}
 use Rattle.fab_instances.specs.Places.{no_model, model_names}
 use Rattle.fab_instances.specs.Order.{is_again, model_at}
 

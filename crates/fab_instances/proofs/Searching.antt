@@ -8,8 +8,8 @@ use Rattle.std.proofs.lemmas.List.{get_or-set_same, get_or-set_other, get_or-map
 use Rattle.std.proofs.lemmas.List.Elements.{Contains-append_left, Contains-push, Contains-push_cases}
 use Rattle.std.proofs.lemmas.List.Sums.{sum_by-set}
 use Rattle.std.proofs.lemmas.Grind.{common_steps}
-use Rattle.fab_models.specs.declared.model.Model.{Model}
-use Rattle.fab_models.specs.Plain.{PlainBody, PlainStatement, PlainModel, inputs, outputs, clock, cover, latch, instance, plain_model, plain_models, plain_statement}
+use Rattle.fab_blif_models.specs.declared.model.Model.{Model}
+use Rattle.fab_blif_models.specs.Plain.{PlainBody, PlainStatement, PlainModel, inputs, outputs, clock, cover, latch, instance, plain_model, plain_models, plain_statement}
 use Rattle.fab_instances.proofs.Members.{first_or_later, in_none}
 use Rattle.fab_instances.specs.Places.{model_names, no_model, statements_of}
 use Rattle.fab_instances.specs.Uses.{inner_of, UsesAt, Uses, directly, through, IsUsed, IsMarked, MarksUses, MarksUsed, Marks, marked_unless, marked_at, marked_by, marked_all}

@@ -5,7 +5,7 @@ use Rattle.fab_base.specs.Reading.{fault_at}
 use Rattle.fab_base.specs.declared.fault.Fault.{Fault}
 use Rattle.fab_base.specs.declared.problem.Problem.TheVariants as problems
 use Rattle.fab_base.specs.declared.words.Quantity.TheVariants as quantities
-use Rattle.fab_models.specs.Plain.{PlainModel, PlainStatement}
+use Rattle.fab_blif_models.specs.Plain.{PlainModel, PlainStatement}
 use Rattle.fab_instances.specs.Places.{model_names, statements_of}
 use Rattle.fab_instances.specs.Uses.{inner_of}
 

@@ -2,7 +2,7 @@
 use Rattle.std.specs.Prelude.{◌≡◌, ℕ, zero, suc, ◌<◌, Bool, true, false, not, ◌&&◌, ◌+◌, List, [], ◌∷◌, map, take, drop, length, get_or, position, flat_map, nat_eq, nat_lt, Option, Some, None, option_map}
 use Rattle.std.specs.List.{list_any}
 use Rattle.std.specs.Str.{bytes_eq}
-use Rattle.fab_models.specs.Plain.{PlainBody, inputs, outputs, clock, PlainModel, PlainStatement}
+use Rattle.fab_blif_models.specs.Plain.{PlainBody, inputs, outputs, clock, PlainModel, PlainStatement}
 use Rattle.fab_instances.specs.Places.{statements_of}
 
 abbrev pub ports_by : PlainBody → List (List ℕ)

@@ -6,7 +6,7 @@ use Rattle.fab_base.specs.Reading.{fault_at}
 use Rattle.fab_base.specs.declared.fault.Fault.{Fault}
 use Rattle.fab_base.specs.declared.problem.Problem.TheVariants as problems
 use Rattle.fab_base.specs.declared.words.Reason.TheVariants as reasons
-use Rattle.fab_models.specs.Plain.{instance, PlainModel}
+use Rattle.fab_blif_models.specs.Plain.{instance, PlainModel}
 use Rattle.fab_instances.specs.Places.{no_model, model_names, place_of_model, statements_of}
 use Rattle.fab_instances.specs.Formals.{BreaksPorts, port_names}
 use Rattle.fab_instances.specs.Uses.{Found, IsUsed, Uses}

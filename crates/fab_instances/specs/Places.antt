@@ -1,7 +1,7 @@
 -- Models by their places in a file.
 use Rattle.std.specs.Prelude.{ℕ, List, [], map, get_or, position, Option}
 use Rattle.std.specs.Str.{bytes_eq}
-use Rattle.fab_models.specs.Plain.{PlainModel, PlainStatement}
+use Rattle.fab_blif_models.specs.Plain.{PlainModel, PlainStatement}
 
 abbrev pub no_model : PlainModel
 no_model = record { line = 0; name = []; statements = [] }

@@ -1,7 +1,7 @@
 -- What is judged of models before they are flattened.
 use Rattle.std.specs.Prelude.{◌⊎◌, ℕ, ◌≤◌, List}
 use Rattle.fab_base.specs.declared.fault.Fault.{Fault}
-use Rattle.fab_models.specs.Plain.{PlainModel}
+use Rattle.fab_blif_models.specs.Plain.{PlainModel}
 use Rattle.fab_instances.specs.Order.{BreaksFormals, IsRecursive, IsUnknown, NoLine, RefusesFormals, RefusesRecursive, RefusesUnknown}
 use Rattle.fab_instances.specs.Counting.{RefusesInstances, instances, most_instances}
 

@@ -2,7 +2,7 @@
 use Rattle.std.specs.Prelude.{◌≡◌, ◌⊎◌, ◌↔◌, ℕ, zero, suc, ◌++◌, Bool, true, false, if◌then◌else◌, nat_eq, nat_lt, List, [], ◌∷◌, Contains, fold, get_or, position, Option, Some, None}
 use Rattle.std.proofs.Math.ListN.{set}
 use Rattle.std.specs.Str.{bytes_eq}
-use Rattle.fab_models.specs.Plain.{PlainBody, instance, PlainModel, PlainStatement}
+use Rattle.fab_blif_models.specs.Plain.{PlainBody, instance, PlainModel, PlainStatement}
 use Rattle.fab_instances.specs.Places.{model_names, statements_of}
 use Rattle.fab_instances.specs.Formals.{fits_ports}
 

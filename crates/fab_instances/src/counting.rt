@@ -2,7 +2,7 @@
 
 ghost use Rattle.std.specs.Prelude.{◌≡◌, ◌<◌, ℕ, true, IfOk, length, map, slice_index};
 ghost use Rattle.std.specs.List.{sum_by};
-ghost use Rattle.fab_models.specs.Plain.{plain_models, plain_statement};
+ghost use Rattle.fab_blif_models.specs.Plain.{plain_models, plain_statement};
 ghost use Rattle.fab_instances.specs.Counting.{in_64_bits, instances, instances_at};
 ghost use Rattle.fab_instances.specs.Places.{model_names, statements_of};
 ghost use Rattle.fab_instances.specs.Uses.{IsMarked, MarksUsed};
@@ -13,7 +13,7 @@ use crate::ranks::is_ordered;
 use crate::soonest::is_marked;
 use crate::uses::instance_of;
 use fab_base::Memory;
-use fab_models::{Model, Statement};
+use fab_blif_models::{Model, Statement};
 use indexmap::IndexSet;
 use std::alloc::Global;
 

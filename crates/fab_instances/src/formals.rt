@@ -5,7 +5,7 @@ ghost use Rattle.fab_base.specs.Reading.{fault_at};
 ghost use Rattle.fab_base.specs.declared.fault.Fault.TheVariants as faults;
 ghost use Rattle.fab_base.specs.declared.problem.Problem.TheVariants as problems;
 ghost use Rattle.fab_base.specs.declared.words.Reason.TheVariants as reasons;
-ghost use Rattle.fab_models.specs.Plain.{plain_body, plain_models, plain_statement};
+ghost use Rattle.fab_blif_models.specs.Plain.{plain_body, plain_models, plain_statement};
 ghost use Rattle.fab_instances.specs.Places.{model_names};
 ghost use Rattle.fab_instances.specs.Formals.{HasPorts, SameNames, fits_ports, formal_of, joins_new, port_names, ports_by, sides};
 ghost use Rattle.fab_instances.specs.Order.{BreaksFormals, IsLeast, IsLeastFound, NoLine};
@@ -16,7 +16,7 @@ use crate::faults::malformed;
 use crate::names::{insert_bytes, insert_new, is_among, place_of};
 use crate::soonest::{lines_of, sooner};
 use fab_base::{Fault, Memory, Name, Reason};
-use fab_models::{Body, Model, Statement};
+use fab_blif_models::{Body, Model, Statement};
 use indexmap::IndexSet;
 use std::alloc::Global;
 

@@ -4,14 +4,14 @@ ghost use Rattle.std.specs.Prelude.{◌≡◌, ◌≢◌, ◌<◌, ◌∷◌, �
 ghost use Rattle.std.specs.List.{list_any};
 ghost use Rattle.std.specs.Str.{bytes_eq};
 ghost use Rattle.fab_base.specs.declared.fault.Fault.TheVariants as faults;
-ghost use Rattle.fab_models.specs.Plain.{plain_models};
+ghost use Rattle.fab_blif_models.specs.Plain.{plain_models};
 ghost use Rattle.fab_instances.specs.Places.{model_names};
 ghost use Rattle.fab_instances.specs.Order.{NamesDiffer, RefusesNames};
 ghost use Rattle.fab_bits.specs.Keys.{key_names};
 
 use crate::faults::malformed;
 use fab_base::{Fault, Memory, Name, Reason};
-use fab_models::Model;
+use fab_blif_models::Model;
 use indexmap::IndexSet;
 use std::alloc::Global;
 

@@ -8,7 +8,7 @@ ghost use Rattle.std.specs.Prelude.{◌≡◌, ◌<◌, ℕ, IfOk, slice_index, 
 
 use crate::uses::instance_of;
 use fab_base::Memory;
-use fab_models::Model;
+use fab_blif_models::Model;
 use indexmap::IndexSet;
 use std::alloc::Global;
 

@@ -2,7 +2,7 @@
 
 ghost use Rattle.std.specs.Prelude.{◌≡◌, true, length, map, option_map, slice_index};
 ghost use Rattle.std.specs.List.{list_all};
-ghost use Rattle.fab_models.specs.Plain.{plain_models, plain_statement};
+ghost use Rattle.fab_blif_models.specs.Plain.{plain_models, plain_statement};
 ghost use Rattle.fab_instances.specs.Places.{model_names};
 ghost use Rattle.fab_instances.specs.Order.{IsLeastFound, NoLine};
 ghost use Rattle.fab_instances.specs.inner.Ranks.{IsLevel, NeverFalls, level_in, stays};
@@ -13,7 +13,7 @@ use crate::names::place_of;
 use crate::soonest::{is_marked, sooner};
 use crate::uses::instance_of;
 use fab_base::Name;
-use fab_models::{Body, Model, Statement};
+use fab_blif_models::{Body, Model, Statement};
 use indexmap::IndexSet;
 
 fn rank_at(ranks: &[usize], place: usize) -> usize

@@ -6,7 +6,7 @@
 //! file to `recursive_of`, which needs none, but searches once for each used model.
 
 ghost use Rattle.std.specs.Prelude.{◌≡◌, ◌<◌, IfOk, IfSome, length, option_map};
-ghost use Rattle.fab_models.specs.Plain.{plain_models};
+ghost use Rattle.fab_blif_models.specs.Plain.{plain_models};
 ghost use Rattle.fab_instances.specs.Places.{model_names};
 ghost use Rattle.fab_instances.specs.Order.{IsLeastFound, IsRecursive};
 ghost use Rattle.fab_instances.specs.inner.Ranks.{IsRecursiveAt};
@@ -18,7 +18,7 @@ use crate::ranks::{never_falls, soonest_level};
 use crate::soonest::{is_marked, lines_of, sooner, soonest_instance};
 use crate::uses::uses;
 use fab_base::{Memory, Name};
-use fab_models::Model;
+use fab_blif_models::Model;
 use indexmap::IndexSet;
 use std::alloc::Global;
 

@@ -5,7 +5,7 @@ ghost use Rattle.fab_base.specs.Reading.{fault_at, IsFaultOr};
 ghost use Rattle.fab_base.specs.declared.fault.Fault.TheVariants as faults;
 ghost use Rattle.fab_base.specs.declared.problem.Problem.TheVariants as problems;
 ghost use Rattle.fab_base.specs.declared.words.Quantity.TheVariants as quantities;
-ghost use Rattle.fab_models.specs.Plain.{plain_models};
+ghost use Rattle.fab_blif_models.specs.Plain.{plain_models};
 ghost use Rattle.fab_instances.specs.Counting.{instances, most_instances, RefusesInstances};
 ghost use Rattle.fab_instances.specs.Places.{model_names};
 ghost use Rattle.fab_instances.specs.Order.{IsLeastFound, IsRecursive, IsUnknown, NamesDiffer, NoLine, RefusesNames, RefusesRecursive, RefusesUnknown};
@@ -22,7 +22,7 @@ use crate::recursion::recursion_of;
 use crate::soonest::{lines_of, soonest_unknown};
 use crate::uses::used_models;
 use fab_base::{Fault, Memory, Name, Problem, Quantity};
-use fab_models::Model;
+use fab_blif_models::Model;
 use indexmap::IndexSet;
 use std::alloc::Global;
 

@@ -1,13 +1,13 @@
 //! The lines of models, and the least one at which something is found.
 
 ghost use Rattle.std.specs.Prelude.{◌≡◌, ◌++◌, None, false, IfOk, OnOk, length, map, option_map, slice_index_or};
-ghost use Rattle.fab_models.specs.Plain.{plain_models, plain_statement};
+ghost use Rattle.fab_blif_models.specs.Plain.{plain_models, plain_statement};
 ghost use Rattle.fab_instances.specs.Uses.{instance_in, lines_before, sooner, soonest_of, unknown_in};
 ghost use Rattle.fab_bits.specs.Keys.{key_names};
 
 use crate::names::place_of;
 use fab_base::{Memory, Name};
-use fab_models::{Body, Model, Statement};
+use fab_blif_models::{Body, Model, Statement};
 use indexmap::IndexSet;
 use std::alloc::Global;
 

@@ -1,14 +1,14 @@
 //! Which models of a file are used.
 
 ghost use Rattle.std.specs.Prelude.{◌≡◌, ◌<◌, ℕ, [], IfOk, OnOk, IfSome, length, map};
-ghost use Rattle.fab_models.specs.Plain.{plain_body, plain_models, plain_statement};
+ghost use Rattle.fab_blif_models.specs.Plain.{plain_body, plain_models, plain_statement};
 ghost use Rattle.fab_instances.specs.Places.{model_names};
 ghost use Rattle.fab_instances.specs.Uses.{MarksUsed, MarksUses, inner_of, marked_all, marked_by};
 ghost use Rattle.fab_bits.specs.Keys.{key_names};
 
 use crate::names::place_of;
 use fab_base::Memory;
-use fab_models::{Body, Model, Statement};
+use fab_blif_models::{Body, Model, Statement};
 use indexmap::IndexSet;
 use std::alloc::Global;
 

@@ -27,18 +27,18 @@ use Rattle.fab_legal.proofs.Members.{in_either, from_mapped}
 use Rattle.fab_legal.proofs.Pins.{pin_within}
 use Rattle.fab_legal.proofs.PortNumbers.{known_number}
 use Rattle.fab_legal.proofs.SinkLaw.{sinks_within}
-use Rattle.fab_ways.specs.Placing.{same_net}
-use Rattle.fab_ways.specs.Routing.{Path, Paths, Walk, MayBegin, AreGrown, Run, wires_of, nets, sinks_of, others, negotiated}
-use Rattle.fab_ways.specs.Routing.Walk.{begins, goes}
-use Rattle.fab_ways.specs.Routing.Run.{begins as no_rounds, goes as one_more}
-use Rattle.fab_ways.specs.Trees.{edges_along, edges_of, by_line, trees_of}
-use Rattle.fab_ways.proofs.Bounded.{step_within, step_from_within}
-use Rattle.fab_ways.proofs.Grown.{each}
-use Rattle.fab_ways.proofs.InputPins.{kind_of_line}
-use Rattle.fab_ways.proofs.Legal.{HasLast}
-use Rattle.fab_ways.proofs.Lists.{from_filter}
-use Rattle.fab_ways.proofs.NetTrees.{net_known, from_trees}
-use Rattle.fab_ways.proofs.Walks.{in_has}
+use Rattle.fab_ways_laws.specs.Placing.{same_net}
+use Rattle.fab_ways_laws.specs.Routing.{Path, Paths, Walk, MayBegin, AreGrown, Run, wires_of, nets, sinks_of, others, negotiated}
+use Rattle.fab_ways_laws.specs.Routing.Walk.{begins, goes}
+use Rattle.fab_ways_laws.specs.Routing.Run.{begins as no_rounds, goes as one_more}
+use Rattle.fab_ways_laws.specs.Trees.{edges_along, edges_of, by_line, trees_of}
+use Rattle.fab_ways_laws.proofs.Bounded.{step_within, step_from_within}
+use Rattle.fab_ways_laws.proofs.Grown.{each}
+use Rattle.fab_ways_laws.proofs.InputPins.{kind_of_line}
+use Rattle.fab_ways_laws.proofs.Legal.{HasLast}
+use Rattle.fab_ways_laws.proofs.Lists.{from_filter}
+use Rattle.fab_ways_laws.proofs.NetTrees.{net_known, from_trees}
+use Rattle.fab_ways_laws.proofs.Walks.{in_has}
 use Rattle.fab_implementation.specs.Inputs.{NamesInput}
 use Rattle.fab_route.specs.Answers.{HasWire}
 

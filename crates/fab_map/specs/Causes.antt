@@ -9,8 +9,8 @@ use Rattle.fab_netlist.specs.Packed.{PlainPacked}
 use Rattle.fab_implementation.specs.Plain.{Pad, PlainTree, PlainImplementation}
 use Rattle.fab_legal.specs.Broken.{net_text, IsWireText}
 use Rattle.fab_legal.specs.Sinks.{packed_net}
-use Rattle.fab_ways.specs.Placing.{IsGoodPlacement}
-use Rattle.fab_ways.specs.Trees.{trees_of, with_trees}
+use Rattle.fab_ways_laws.specs.Placing.{IsGoodPlacement}
+use Rattle.fab_ways_laws.specs.Trees.{trees_of, with_trees}
 use Rattle.fab_route.specs.Answers.{IsCutOff, IsOverused}
 use Rattle.fab_impl.specs.Spelled.{implementation_text}
 

@@ -3,8 +3,8 @@
 ghost use Rattle.std.specs.Prelude.{◌≤◌, IfOk, IfErr};
 ghost use Rattle.fab_implementation.specs.OnFabric.{IsOnFabric};
 ghost use Rattle.fab_legal.specs.Legal.{IsLegal};
-ghost use Rattle.fab_ways.specs.Placing.{IsGoodPlacement};
-ghost use Rattle.fab_ways.specs.Mapping.{IsMapping};
+ghost use Rattle.fab_ways_laws.specs.Placing.{IsGoodPlacement};
+ghost use Rattle.fab_ways_laws.specs.Mapping.{IsMapping};
 ghost use Rattle.fab_implementation.specs.Inputs.{InputsAreLines};
 ghost use Rattle.fab_place.specs.Fixings.{AreFixed, Fits};
 ghost use Rattle.fab_map.specs.Causes.{HasMapCause};

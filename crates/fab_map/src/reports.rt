@@ -3,7 +3,7 @@
 ghost use Rattle.std.specs.Prelude.{◌≤◌, IfOk, IsErr};
 ghost use Rattle.fab_implementation.specs.OnFabric.{IsOnFabric};
 ghost use Rattle.fab_legal.specs.WellMade.{IsWellMadePacked};
-ghost use Rattle.fab_ways.specs.Placing.{IsGoodPlacement};
+ghost use Rattle.fab_ways_laws.specs.Placing.{IsGoodPlacement};
 ghost use Rattle.fab_route.specs.Answers.{IsCutOff, IsOverused, IsTrueFault, plain_rounds};
 ghost use Rattle.fab_map.specs.Causes.{HasMapCause};
 

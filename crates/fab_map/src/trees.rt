@@ -1,7 +1,7 @@
 //! Placements with trees.
 
 ghost use Rattle.std.specs.Prelude.{◌≡◌, ◌<◌, ◌-◌, [], length, get_or};
-ghost use Rattle.fab_ways.specs.Trees.{with_trees};
+ghost use Rattle.fab_ways_laws.specs.Trees.{with_trees};
 ghost use Rattle.fab_route.specs.Answers.{plain_rounds};
 
 use fab_implementation::{Implementation, Tree};

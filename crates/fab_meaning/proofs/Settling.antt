@@ -2,13 +2,13 @@
 use Rattle.std.proofs.Common.{◌≡◌, ◌≢◌, ℕ, ◌≤◌, Bool, true, false, List, [], ◌∷◌, length, All, refl, sym, ap, ◌∙◌, subst, inl, inr}
 use Rattle.std.proofs.lemmas.Bool.{cases_Bool, false≢true}
 use Rattle.fab_syntax.specs.Plain.{PlainModule}
-use Rattle.fab_systems.specs.System.{AgreeOn, ReadsOnly}
-use Rattle.fab_systems.specs.System.{IsSettledOn as IsSystemSettled}
-use Rattle.fab_systems.specs.Steps.{IsBlock, blocks_then}
-use Rattle.fab_systems.proofs.Rounds.{rounds}
-use Rattle.fab_systems.proofs.Runs.{Run}
-use Rattle.fab_systems.proofs.Solutions.{settled_by_rounds, settled_agree}
-use Rattle.fab_systems.proofs.States.{states_settle}
+use Rattle.fab_systems_laws.specs.System.{AgreeOn, ReadsOnly}
+use Rattle.fab_systems_laws.specs.System.{IsSettledOn as IsSystemSettled}
+use Rattle.fab_systems_laws.specs.Steps.{IsBlock, blocks_then}
+use Rattle.fab_systems_laws.proofs.Rounds.{rounds}
+use Rattle.fab_systems_laws.proofs.Runs.{Run}
+use Rattle.fab_systems_laws.proofs.Solutions.{settled_by_rounds, settled_agree}
+use Rattle.fab_systems_laws.proofs.States.{states_settle}
 use Rattle.fab_meaning.specs.Points.{Point, Driver, outside, copy, bit_of, flop, hold, Drives}
 use Rattle.fab_meaning.specs.Settled.{Assignment, shown, IsSettledOn}
 use Rattle.fab_meaning.specs.Runs.{kept}

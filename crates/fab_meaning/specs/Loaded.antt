@@ -2,8 +2,8 @@
 use Rattle.std.specs.Prelude.{◌≡◌, ◌≢◌, ◌⊎◌, ℕ, ◌≤◌, Bool, true, List, length}
 use Rattle.std.specs.List.{All}
 use Rattle.fab_syntax.specs.Plain.{PlainModule}
-use Rattle.fab_systems.specs.System.{AgreeOn}
-use Rattle.fab_systems.specs.Steps.{IsBlock, blocks_then}
+use Rattle.fab_systems_laws.specs.System.{AgreeOn}
+use Rattle.fab_systems_laws.specs.Steps.{IsBlock, blocks_then}
 use Rattle.fab_meaning.specs.Points.{Point, Driver}
 use Rattle.fab_meaning.specs.Settled.{Assignment, IsSettledOn}
 use Rattle.fab_meaning.specs.Runs.{clock_name}

@@ -2,8 +2,8 @@
 use Rattle.std.specs.Prelude.{◌≡◌, ℕ, ◌≤◌, Bool, true, false, List, length}
 use Rattle.std.specs.List.{All}
 use Rattle.fab_syntax.specs.Plain.{PlainModule}
-use Rattle.fab_systems.specs.System.{AgreeOn, IsRanked}
-use Rattle.fab_systems.specs.Steps.{IsBlock, blocks_then}
+use Rattle.fab_systems_laws.specs.System.{AgreeOn, IsRanked}
+use Rattle.fab_systems_laws.specs.Steps.{IsBlock, blocks_then}
 use Rattle.fab_meaning.specs.Points.{Point, Driver, outside, copy, bit_of, flop, hold, Drives}
 use Rattle.fab_meaning.specs.Settled.{Assignment, IsSettledOn}
 use Rattle.fab_meaning.specs.Runs.{clock_of, is_clock}

@@ -1,9 +1,9 @@
 -- What is kept for points.
 use Rattle.std.proofs.Common.{◌≡◌, ℕ, zero, suc, ◌+◌, ◌<◌, true, List, [], ◌∷◌, length, refl, sym, ap, ◌∙◌, subst, inl, inr, arith, slice_set}
 use Rattle.std.proofs.lemmas.Bool.{cases_eq}
-use Rattle.fab_systems.specs.Ternary.{no, yes, unknown, IsBelow}
-use Rattle.fab_systems.specs.Ternary.{Tern as PlainTern}
-use Rattle.fab_systems.proofs.Order.{below_equal}
+use Rattle.fab_systems_laws.specs.Ternary.{no, yes, unknown, IsBelow}
+use Rattle.fab_systems_laws.specs.Ternary.{Tern as PlainTern}
+use Rattle.fab_systems_laws.proofs.Order.{below_equal}
 use Rattle.fab_ternary.specs.declared.Tern.{Tern}
 use Rattle.fab_ternary.specs.declared.Tern.TheVariants.{No, Yes, Open}
 use Rattle.fab_ternary.specs.Terns.{plain_tern, is_known}

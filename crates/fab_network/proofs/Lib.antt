@@ -1,5 +1,5 @@
 pub mod Sources
 pub mod Kept
 pub mod Passing
-pub use Rattle.fab_compiled.proofs.fab_solutions_Demanded as fab_solutions_Demanded
-pub use Rattle.fab_compiled.proofs.fab_solutions_Orders as fab_solutions_Orders
+pub use Rattle.fab_compiled.proofs.fab_solutions_laws_Demanded as fab_solutions_laws_Demanded
+pub use Rattle.fab_compiled.proofs.fab_solutions_laws_Orders as fab_solutions_laws_Orders

@@ -1,8 +1,8 @@
 -- What is known of what a point shows stays known where more is known of all points.
 use Rattle.std.proofs.Common.{ℕ, ◌+◌, ◌-◌, ◌<◌, List, length, Option, Some, sym, subst, arith}
-use Rattle.fab_systems.specs.Ternary.{Tern, IsBelow}
-use Rattle.fab_systems.proofs.Order.{below_self}
-use Rattle.fab_compiled.proofs.fab_solutions_Orders.{under_at, through_grows}
+use Rattle.fab_systems_laws.specs.Ternary.{Tern, IsBelow}
+use Rattle.fab_systems_laws.proofs.Order.{below_self}
+use Rattle.fab_compiled.proofs.fab_solutions_laws_Orders.{under_at, through_grows}
 use Rattle.fab_compiled.proofs.fab_equations_Numbering.{some_there}
 use Rattle.fab_compiled.specs.declared.tree.Tree.{Tree}
 use Rattle.fab_compiled.specs.Trees.{tree_value}

@@ -2,4 +2,4 @@ pub mod Network
 pub mod Solved
 pub mod Passes
 pub mod Leading
-pub use Rattle.fab_compiled.specs.fab_solutions_Solutions as fab_solutions_Solutions
+pub use Rattle.fab_compiled.specs.fab_solutions_laws_Solutions as fab_solutions_laws_Solutions

@@ -1,7 +1,7 @@
 -- What points show, by numbers.
 use Rattle.std.specs.Prelude.{◌≡◌, ℕ, ◌<◌, ◌≤◌, List, Option, None, Some, length, slice_get}
-use Rattle.fab_systems.specs.Ternary.{Tern, unknown}
-use Rattle.fab_compiled.specs.fab_tern_Shown.{through}
+use Rattle.fab_systems_laws.specs.Ternary.{Tern, unknown}
+use Rattle.fab_compiled.specs.fab_ternary_laws_Shown.{through}
 use Rattle.fab_compiled.specs.declared.tree.Tree.{Tree}
 use Rattle.fab_compiled.specs.Trees.{tree_width, IsMade}
 use Rattle.fab_compiled.specs.Evaluation.{IsWithin}

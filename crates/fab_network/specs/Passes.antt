@@ -1,7 +1,7 @@
 -- Passes over points that are not known yet.
 use Rattle.std.specs.Prelude.{◌≡◌, ℕ, ◌+◌, ◌<◌, ◌≤◌, Bool, true, false, List, [], ◌∷◌, length, slice_index, slice_get, slice_set}
-use Rattle.fab_systems.specs.Ternary.{unknown, IsBelow}
-use Rattle.fab_systems.specs.Ternary.{Tern as PlainTern}
+use Rattle.fab_systems_laws.specs.Ternary.{unknown, IsBelow}
+use Rattle.fab_systems_laws.specs.Ternary.{Tern as PlainTern}
 use Rattle.fab_ternary.specs.declared.Tern.{Tern}
 use Rattle.fab_ternary.specs.declared.Tern.TheVariants.{No, Yes, Open}
 use Rattle.fab_ternary.specs.Terns.{plain_tern, is_known}

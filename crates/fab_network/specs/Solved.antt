@@ -1,7 +1,7 @@
 -- Solutions by the numbers of points: inputs and flip-flops have what is given to them, and each other point has what it shows.
 use Rattle.std.specs.Prelude.{◌≡◌, ℕ, ◌<◌, List, Option, None, Some, length, slice_get}
-use Rattle.fab_systems.specs.Ternary.{Tern, unknown, IsBelow}
-use Rattle.fab_compiled.specs.fab_tern_Shown.{through}
+use Rattle.fab_systems_laws.specs.Ternary.{Tern, unknown, IsBelow}
+use Rattle.fab_compiled.specs.fab_ternary_laws_Shown.{through}
 use Rattle.fab_compiled.specs.declared.tree.Tree.{Tree}
 use Rattle.fab_compiled.specs.Leading.{PointTerns}
 use Rattle.fab_network.specs.declared.network.Drive.{Drive}

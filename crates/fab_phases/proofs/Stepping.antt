@@ -3,8 +3,8 @@ use Rattle.std.proofs.Common.{◌≡◌, ◌⊎◌, ℕ, ◌+◌, ◌-◌, ◌<�
 use Rattle.std.specs.List.{slice_get}
 use Rattle.std.proofs.lemmas.Bool.{cases_lt}
 use Rattle.std.proofs.lemmas.Option.{slice_get_within}
-use Rattle.fab_systems.specs.Ternary.{unknown, IsBelow, Tern as PlainTern}
-use Rattle.fab_tern.specs.Shown.{through}
+use Rattle.fab_systems_laws.specs.Ternary.{unknown, IsBelow, Tern as PlainTern}
+use Rattle.fab_ternary_laws.specs.Shown.{through}
 use Rattle.fab_ternary.specs.declared.Tern.{Tern}
 use Rattle.fab_compiled.specs.Leading.{PointTerns, IsMarked}
 use Rattle.fab_network.specs.declared.network.Clock.TheVariants.{Loader}

@@ -2,8 +2,8 @@
 use Rattle.std.proofs.Common.{◌≡◌, ◌⊎◌, ℕ, ◌<◌, List, length, Some, refl, sym, ap, ◌∙◌, subst, inl, inr, slice_set}
 use Rattle.std.specs.List.{slice_get}
 use Rattle.std.proofs.lemmas.Bool.{cases_eq}
-use Rattle.fab_systems.specs.Ternary.{no, yes, unknown, Tern as PlainTern}
-use Rattle.fab_tern.specs.Shown.{through}
+use Rattle.fab_systems_laws.specs.Ternary.{no, yes, unknown, Tern as PlainTern}
+use Rattle.fab_ternary_laws.specs.Shown.{through}
 use Rattle.fab_ternary.specs.declared.Tern.{Tern}
 use Rattle.fab_ternary.specs.Terns.{plain_tern}
 use Rattle.fab_network.specs.declared.network.Clock.TheVariants.{Loader}

@@ -1,6 +1,6 @@
 -- A cycle of the design, by numbers.
 use Rattle.std.specs.Prelude.{◌≡◌, ◌≢◌, ℕ, Bool, List, Some, slice_get}
-use Rattle.fab_systems.specs.Ternary.{known, unknown}
+use Rattle.fab_systems_laws.specs.Ternary.{known, unknown}
 use Rattle.fab_ternary.specs.declared.Tern.{Tern}
 use Rattle.fab_compiled.specs.Leading.{PointTerns, IsMarked}
 use Rattle.fab_network.specs.declared.network.Clock.{Clock}

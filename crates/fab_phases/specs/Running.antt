@@ -1,6 +1,6 @@
 -- What a tick of UserCLK writes to points that stand for themselves.
 use Rattle.std.specs.Prelude.{◌≡◌, ℕ, ◌<◌, List, Option, Some, None, slice_get}
-use Rattle.fab_systems.specs.Ternary.{Tern as PlainTern}
+use Rattle.fab_systems_laws.specs.Ternary.{Tern as PlainTern}
 use Rattle.fab_ternary.specs.declared.Tern.{Tern}
 use Rattle.fab_compiled.specs.Terns.{seen}
 use Rattle.fab_compiled.specs.Leading.{PointTerns}

@@ -1,8 +1,8 @@
 -- How a word is loaded, by numbers.
 use Rattle.std.specs.Prelude.{◌≡◌, ◌⊎◌, ℕ, ◌+◌, ◌<◌, ◌≤◌, Bool, List, [], ◌∷◌, Some, slice_get}
 use Rattle.fab_bits.specs.Bits.{digits}
-use Rattle.fab_systems.specs.Ternary.{Tern as PlainTern}
-use Rattle.fab_systems.specs.Ternary.{known, unknown}
+use Rattle.fab_systems_laws.specs.Ternary.{Tern as PlainTern}
+use Rattle.fab_systems_laws.specs.Ternary.{known, unknown}
 use Rattle.fab_meaning.specs.Value.{bit_at}
 use Rattle.fab_ternary.specs.declared.Tern.{Tern}
 use Rattle.fab_compiled.specs.Leading.{PointTerns, IsMarked}

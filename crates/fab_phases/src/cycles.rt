@@ -1,7 +1,7 @@
 //! How the design runs, cycle by cycle.
 
 ghost use Rattle.std.specs.Prelude.{◌≡◌, ◌<◌, ◌≤◌, ◌^◌, ℕ, List, length, map, slice_get, Some};
-ghost use Rattle.fab_systems.specs.Ternary.{unknown};
+ghost use Rattle.fab_systems_laws.specs.Ternary.{unknown};
 ghost use Rattle.fab_ternary.specs.Terns.{plain_tern};
 ghost use Rattle.fab_compiled.specs.Leading.{PointTerns};
 ghost use Rattle.fab_compiled.specs.Terns.{seen, IsView};

@@ -9,12 +9,12 @@ use Rattle.fab_model.specs.Grid.{PlainFabric}
 use Rattle.fab_fabric.specs.declared.wire.Site.{Site}
 use Rattle.fab_netlist.specs.Packed.{PlainPacked}
 use Rattle.fab_implementation.specs.Plain.{PlainImplementation}
-use Rattle.fab_ways.specs.fab_legal_Turns.{AreRight}
-use Rattle.fab_ways.specs.fab_legal_Legal.{ArePlaced}
-use Rattle.fab_ways.specs.fab_legal_Lines.{named, IsRightLine}
-use Rattle.fab_ways.specs.fab_legal_Sinks.{site_of}
-use Rattle.fab_ways.proofs.fab_legal_Lists.{at_default}
-use Rattle.fab_ways.specs.Placing.{no_site, half_perimeter}
+use Rattle.fab_ways_laws.specs.fab_legal_Turns.{AreRight}
+use Rattle.fab_ways_laws.specs.fab_legal_Legal.{ArePlaced}
+use Rattle.fab_ways_laws.specs.fab_legal_Lines.{named, IsRightLine}
+use Rattle.fab_ways_laws.specs.fab_legal_Sinks.{site_of}
+use Rattle.fab_ways_laws.proofs.fab_legal_Lists.{at_default}
+use Rattle.fab_ways_laws.specs.Placing.{no_site, half_perimeter}
 use Rattle.fab_place.specs.declared.bounding.BoundingBox.{BoundingBox}
 use Rattle.fab_place.specs.inner.Boxes.{around, included, half, NamesOnce}
 use Rattle.fab_place.proofs.Finding.{site_found}

@@ -15,11 +15,11 @@ use Rattle.fab_netlist.specs.Plain.{IsAt}
 use Rattle.fab_netlist.specs.Packed.{PlainPacked}
 use Rattle.fab_netlist.proofs.Members.{mapped_in, parts_true, both_true}
 use Rattle.fab_implementation.specs.Plain.{Pad}
-use Rattle.fab_ways.specs.fab_legal_inner_Kept.{site_key}
-use Rattle.fab_ways.specs.fab_legal_Lines.{named}
-use Rattle.fab_ways.specs.fab_legal_WellMade.{output_name, ports}
-use Rattle.fab_ways.proofs.fab_legal_Lists.{same_at, cases_below}
-use Rattle.fab_ways.proofs.fab_legal_Members.{in_taken, stays_taken, last_taken}
+use Rattle.fab_ways_laws.specs.fab_legal_inner_Kept.{site_key}
+use Rattle.fab_ways_laws.specs.fab_legal_Lines.{named}
+use Rattle.fab_ways_laws.specs.fab_legal_WellMade.{output_name, ports}
+use Rattle.fab_ways_laws.proofs.fab_legal_Lists.{same_at, cases_below}
+use Rattle.fab_ways_laws.proofs.fab_legal_Members.{in_taken, stays_taken, last_taken}
 use Rattle.fab_place.specs.inner.Constraints.{IsPadOf, AreConstrained, site_by, same_key, HasNumbers, HasConstraints, pad_in}
 use Rattle.fab_place.proofs.Lines.{new_at}
 use Rattle.fab_place.proofs.Maps.{map_more, map_none}

@@ -5,20 +5,20 @@ use Rattle.std.specs.Prelude.{slice_index}
 use Rattle.std.specs.Str.{bytes_eq}
 use Rattle.std.proofs.lemmas.List.{get_or-map, length-map}
 use Rattle.std.proofs.lemmas.List.Sums.{sum_by-append, sum_by-cons}
-use Rattle.fab_board.specs.declared.board.Board.{Board}
-use Rattle.fab_board.specs.Boards.{column, row, cost as board_cost}
-use Rattle.fab_board.specs.Measured.{numbers_of, items_of}
-use Rattle.fab_board.specs.Spans.{spread as item_spread, least, greatest}
-use Rattle.fab_board.proofs.Extremes.{least_same, greatest_same}
+use Rattle.fab_annealing.specs.declared.board.Board.{Board}
+use Rattle.fab_annealing.specs.Boards.{column, row, cost as board_cost}
+use Rattle.fab_annealing.specs.Measured.{numbers_of, items_of}
+use Rattle.fab_annealing.specs.Spans.{spread as item_spread, least, greatest}
+use Rattle.fab_annealing.proofs.Extremes.{least_same, greatest_same}
 use Rattle.fab_model.specs.Tiles.{counted}
 use Rattle.fab_fabric.specs.declared.wire.Site.{Site}
 use Rattle.fab_netlist.specs.declared.net_id.NetId.{NetId}
 use Rattle.fab_netlist.specs.declared.net_id.NetId.TheVariants as ids
 use Rattle.fab_netlist.specs.Packed.{PlainCell, PlainPacked}
 use Rattle.fab_netlist.proofs.Members.{first_in, later_in, first_or_later}
-use Rattle.fab_ways.specs.fab_legal_WellMade.{IsNetId, IsWellMadePacked}
-use Rattle.fab_ways.specs.fab_legal_Sinks.{site_of}
-use Rattle.fab_ways.specs.Placing.{no_site, half_perimeter, cell_site, reader_sites, cost}
+use Rattle.fab_ways_laws.specs.fab_legal_WellMade.{IsNetId, IsWellMadePacked}
+use Rattle.fab_ways_laws.specs.fab_legal_Sinks.{site_of}
+use Rattle.fab_ways_laws.specs.Placing.{no_site, half_perimeter, cell_site, reader_sites, cost}
 use Rattle.fab_place.specs.Pins.{item_total, net_total, pin}
 use Rattle.fab_place.specs.Standing.{site_at, standing}
 use Rattle.fab_place.specs.inner.BoardOf.{IsBoardOf}

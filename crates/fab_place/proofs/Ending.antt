@@ -8,21 +8,21 @@ use Rattle.std.proofs.lemmas.List.{get_or_append_left, get_or-append_right, get_
 use Rattle.std.proofs.lemmas.List.Elements.{All-map, Contains-get_or}
 use Rattle.fab_kinds.specs.declared.kind.Kind.{Kind}
 use Rattle.fab_kinds.specs.declared.kind.Kind.TheVariants as kinds
-use Rattle.fab_board.specs.Boards.{is_locked, column, row, site_count, site_after as number_after, exchanged as exchanged_numbers, MayExchange as MayExchangeNumbers, cost as board_cost}
+use Rattle.fab_annealing.specs.Boards.{is_locked, column, row, site_count, site_after as number_after, exchanged as exchanged_numbers, MayExchange as MayExchangeNumbers, cost as board_cost}
 use Rattle.fab_model.specs.Grid.{PlainFabric}
 use Rattle.fab_fabric.specs.declared.wire.Site.{Site}
 use Rattle.fab_netlist.specs.Packed.{PlainPacked}
 use Rattle.fab_netlist.proofs.Members.{mapped_in}
 use Rattle.fab_implementation.specs.Plain.{Pad, PlainImplementation}
 use Rattle.fab_implementation.specs.OnFabric.{IsSite, kind_at, IsOnFabric}
-use Rattle.fab_ways.specs.fab_legal_WellMade.{output_name, output_ports, ports}
-use Rattle.fab_ways.specs.fab_legal_Lines.{IsCell, IsInput, IsOutput, HaveSites, sites as all_sites, ConstraintsHold}
-use Rattle.fab_ways.specs.fab_legal_Legal.{ArePlaced}
-use Rattle.fab_ways.proofs.fab_legal_Bindings.{differ_left, differ_right}
+use Rattle.fab_ways_laws.specs.fab_legal_WellMade.{output_name, output_ports, ports}
+use Rattle.fab_ways_laws.specs.fab_legal_Lines.{IsCell, IsInput, IsOutput, HaveSites, sites as all_sites, ConstraintsHold}
+use Rattle.fab_ways_laws.specs.fab_legal_Legal.{ArePlaced}
+use Rattle.fab_ways_laws.proofs.fab_legal_Bindings.{differ_left, differ_right}
 use Rattle.fab_fabric.specs.Sites.{sites_of_kind}
-use Rattle.fab_ways.specs.Sites.{same_site}
-use Rattle.fab_ways.specs.Placing.{no_site, site_after, exchanged, MayExchange, IsGoodPlacement, cost, placement_in_order}
-use Rattle.fab_ways.proofs.Lists.{in_counted, from_counted}
+use Rattle.fab_ways_laws.specs.Sites.{same_site}
+use Rattle.fab_ways_laws.specs.Placing.{no_site, site_after, exchanged, MayExchange, IsGoodPlacement, cost, placement_in_order}
+use Rattle.fab_ways_laws.proofs.Lists.{in_counted, from_counted}
 use Rattle.fab_place.specs.Fixings.{AreFixed, Fits}
 use Rattle.fab_place.specs.Pins.{item_total}
 use Rattle.fab_place.specs.Standing.{site_at, standing}

@@ -6,11 +6,11 @@ use Rattle.std.proofs.lemmas.Bool.Decides.{Decides-eqb}
 use Rattle.std.proofs.lemmas.List.{get_or-map, length-map, get_or_default}
 use Rattle.fab_fabric.specs.declared.wire.Site.{Site}
 use Rattle.fab_netlist.proofs.Members.{first_or_later, mapped_in, parts_true, both_true}
-use Rattle.fab_board.specs.Boards.{site_after as number_after}
-use Rattle.fab_ways.specs.fab_legal_Lines.{named, sited}
-use Rattle.fab_ways.specs.fab_legal_Sinks.{site_of}
-use Rattle.fab_ways.specs.Sites.{same_site}
-use Rattle.fab_ways.specs.Placing.{no_site, site_after}
+use Rattle.fab_annealing.specs.Boards.{site_after as number_after}
+use Rattle.fab_ways_laws.specs.fab_legal_Lines.{named, sited}
+use Rattle.fab_ways_laws.specs.fab_legal_Sinks.{site_of}
+use Rattle.fab_ways_laws.specs.Sites.{same_site}
+use Rattle.fab_ways_laws.specs.Placing.{no_site, site_after}
 use Rattle.fab_place.specs.Standing.{site_at}
 use Rattle.fab_place.proofs.Maps.{differs}
 use Rattle.fab_place.proofs.Once.{Once, once_at}

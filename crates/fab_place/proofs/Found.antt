@@ -5,8 +5,8 @@ use Rattle.std.proofs.lemmas.Bool.Decides.{eqb_tells}
 use Rattle.fab_model.specs.Tiles.{counted}
 use Rattle.fab_fabric.specs.declared.wire.Site.{Site}
 use Rattle.fab_netlist.specs.Packed.{PlainPacked}
-use Rattle.fab_ways.specs.fab_legal_Sinks.{site_of}
-use Rattle.fab_ways.specs.Placing.{cell_site}
+use Rattle.fab_ways_laws.specs.fab_legal_Sinks.{site_of}
+use Rattle.fab_ways_laws.specs.Placing.{cell_site}
 use Rattle.fab_place.specs.Standing.{site_at, standing}
 
 found_key : (n : ℕ) (key : ℕ → ℕ) (g : ℕ → Site) → ((i j : ℕ) → key i ≡ key j → i ≡ j) → (k : ℕ) → k < n → site_of nat_eq (counted n (λ i. (key i, g i))) (key k) ≡ g k

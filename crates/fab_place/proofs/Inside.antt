@@ -8,7 +8,7 @@ use Rattle.fab_model.specs.Tiles.{counted}
 use Rattle.fab_netlist.specs.declared.net_id.NetId.{NetId}
 use Rattle.fab_netlist.specs.declared.net_id.NetId.TheVariants as ids
 use Rattle.fab_netlist.specs.Packed.{PlainCell, PlainPacked}
-use Rattle.fab_ways.specs.fab_legal_WellMade.{IsNetId, IsWellMadeCell, IsWellMadePacked}
+use Rattle.fab_ways_laws.specs.fab_legal_WellMade.{IsNetId, IsWellMadeCell, IsWellMadePacked}
 use Rattle.fab_place.specs.declared.nets.Pin.{Pin}
 use Rattle.fab_place.specs.Pins.{IsNear, pin, pin_on, net_total, item_total, input_pins, cell_pins, reading_pins, output_pins, pins}
 

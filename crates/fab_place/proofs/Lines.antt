@@ -12,10 +12,10 @@ use Rattle.fab_netlist.specs.Plain.{IsAt}
 use Rattle.fab_netlist.specs.Packed.{PlainPacked}
 use Rattle.fab_implementation.specs.Plain.{Pad}
 use Rattle.fab_implementation.specs.OnFabric.{kind_at}
-use Rattle.fab_ways.specs.fab_legal_Turns.{AreRight}
-use Rattle.fab_ways.specs.fab_legal_WellMade.{output_name, output_ports, ports}
-use Rattle.fab_ways.specs.fab_legal_Lines.{named, sited, HaveSites, IsNew, sites as all_sites}
-use Rattle.fab_ways.proofs.Lists.{from_counted, in_counted}
+use Rattle.fab_ways_laws.specs.fab_legal_Turns.{AreRight}
+use Rattle.fab_ways_laws.specs.fab_legal_WellMade.{output_name, output_ports, ports}
+use Rattle.fab_ways_laws.specs.fab_legal_Lines.{named, sited, HaveSites, IsNew, sites as all_sites}
+use Rattle.fab_ways_laws.proofs.Lists.{from_counted, in_counted}
 use Rattle.fab_place.specs.Pins.{item_total}
 use Rattle.fab_place.specs.Standing.{site_at, input_lines, output_lines, standing}
 use Rattle.fab_place.proofs.Counting.{map_counted, counted_same, counted_split, counted_list, numbered_counted}

@@ -4,8 +4,8 @@ use Rattle.std.proofs.lemmas.Bool.{cases_eq}
 use Rattle.std.proofs.lemmas.List.{get_or_default}
 use Rattle.std.proofs.lemmas.List.Elements.{Contains-push, Contains-push_cases, Contains-append_left}
 use Rattle.std.specs.List.{All, Contains, slice_get}
-use Rattle.fab_board.specs.declared.nets.Nets.{Nets}
-use Rattle.fab_board.specs.Measured.{IsNets, numbers_of, items_of, nets_of, net_count, item_count}
+use Rattle.fab_annealing.specs.declared.nets.Nets.{Nets}
+use Rattle.fab_annealing.specs.Measured.{IsNets, numbers_of, items_of, nets_of, net_count, item_count}
 use Rattle.fab_place.specs.declared.nets.Pin.{Pin}
 use Rattle.fab_place.specs.Pins.{HavePins}
 

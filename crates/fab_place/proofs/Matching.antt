@@ -15,13 +15,13 @@ use Rattle.fab_netlist.specs.Packed.{PlainPacked}
 use Rattle.fab_netlist.proofs.Members.{any_by, any_gives}
 use Rattle.fab_implementation.specs.Plain.{Pad}
 use Rattle.fab_implementation.specs.OnFabric.{kind_at}
-use Rattle.fab_ways.specs.fab_legal_Lines.{named, sited}
-use Rattle.fab_ways.specs.fab_legal_Sinks.{site_of}
-use Rattle.fab_ways.specs.fab_legal_WellMade.{ports, IsWellMadePacked}
+use Rattle.fab_ways_laws.specs.fab_legal_Lines.{named, sited}
+use Rattle.fab_ways_laws.specs.fab_legal_Sinks.{site_of}
+use Rattle.fab_ways_laws.specs.fab_legal_WellMade.{ports, IsWellMadePacked}
 use Rattle.fab_fabric.specs.Sites.{sites_of_kind}
-use Rattle.fab_ways.specs.Sites.{same_site}
-use Rattle.fab_ways.specs.Placing.{no_site, is_fixed, pads_in_order, free_pads}
-use Rattle.fab_ways.proofs.Lists.{from_counted}
+use Rattle.fab_ways_laws.specs.Sites.{same_site}
+use Rattle.fab_ways_laws.specs.Placing.{no_site, is_fixed, pads_in_order, free_pads}
+use Rattle.fab_ways_laws.proofs.Lists.{from_counted}
 use Rattle.fab_place.specs.Fixings.{AreFixed}
 use Rattle.fab_place.specs.inner.Constraints.{IsPadOf, AreConstrained}
 use Rattle.fab_place.specs.inner.Starts.{is_taken, free_numbers, loose, numbers_in_order}

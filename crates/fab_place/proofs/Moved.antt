@@ -4,8 +4,8 @@ use Rattle.fab_model.specs.Tiles.{counted}
 use Rattle.fab_fabric.specs.declared.wire.Site.{Site}
 use Rattle.fab_netlist.specs.Packed.{PlainPacked}
 use Rattle.fab_implementation.specs.Plain.{Pad, PlainImplementation}
-use Rattle.fab_ways.specs.fab_legal_WellMade.{output_ports}
-use Rattle.fab_ways.specs.Placing.{moved}
+use Rattle.fab_ways_laws.specs.fab_legal_WellMade.{output_ports}
+use Rattle.fab_ways_laws.specs.Placing.{moved}
 use Rattle.fab_place.specs.Pins.{item_total}
 use Rattle.fab_place.specs.Standing.{site_at, standing}
 use Rattle.fab_place.proofs.Counting.{map_counted, counted_same}

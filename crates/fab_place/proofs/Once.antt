@@ -5,10 +5,10 @@ use Rattle.std.proofs.lemmas.Bool.{cases_Bool}
 use Rattle.std.proofs.lemmas.List.{get_or_default}
 use Rattle.std.proofs.lemmas.List.Elements.{Contains-append_cases}
 use Rattle.fab_model.specs.Tiles.{counted}
-use Rattle.fab_ways.proofs.fab_legal_Members.{from_mapped}
-use Rattle.fab_ways.proofs.fab_legal_SinkLaw.{in_flat}
+use Rattle.fab_ways_laws.proofs.fab_legal_Members.{from_mapped}
+use Rattle.fab_ways_laws.proofs.fab_legal_SinkLaw.{in_flat}
 use Rattle.fab_netlist.proofs.Members.{first_in, later_in}
-use Rattle.fab_ways.proofs.Lists.{from_counted, from_filter}
+use Rattle.fab_ways_laws.proofs.Lists.{from_counted, from_filter}
 
 abbrev pub Once : {X : Type 0} → List X → Type 0
 Once [] = Unit {0}

@@ -11,8 +11,8 @@ use Rattle.std.proofs.lemmas.Bool.Decides.{Decides-eqb}
 use Rattle.fab_model.specs.Tiles.{counted}
 use Rattle.fab_place.specs.inner.Starts.{is_number, is_taken, free_numbers, loose, numbers_in_order}
 use Rattle.fab_netlist.proofs.Members.{first_in, later_in, first_or_later, any_by, any_gives}
-use Rattle.fab_ways.proofs.fab_legal_Sets.{any_in, in_any}
-use Rattle.fab_ways.proofs.Lists.{from_filter, from_counted}
+use Rattle.fab_ways_laws.proofs.fab_legal_Sets.{any_in, in_any}
+use Rattle.fab_ways_laws.proofs.Lists.{from_filter, from_counted}
 use Rattle.fab_place.proofs.Listed.{counted_last}
 use Rattle.fab_place.proofs.Counting.{length_counted}
 use Rattle.fab_place.proofs.Once.{Once, once_filter, once_counted, once_at}

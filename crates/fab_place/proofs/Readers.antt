@@ -15,14 +15,14 @@ use Rattle.fab_netlist.specs.Plain.{IsAt}
 use Rattle.fab_netlist.specs.Packed.{PlainCell, PlainPacked}
 use Rattle.fab_netlist.proofs.Members.{first_in, first_or_later, in_none, in_left, in_right, mapped_in, any_by, any_gives}
 use Rattle.fab_implementation.specs.Plain.{Pad}
-use Rattle.fab_ways.specs.fab_legal_WellMade.{output_name, output_ports, IsNetId, IsWellMadeCell, IsWellMadePacked}
-use Rattle.fab_ways.specs.fab_legal_Lines.{named}
-use Rattle.fab_ways.specs.fab_legal_Sinks.{site_of}
-use Rattle.fab_ways.proofs.fab_legal_Bindings.{differ_left, differ_right}
-use Rattle.fab_ways.proofs.fab_legal_Members.{from_mapped}
-use Rattle.fab_ways.proofs.fab_legal_SinkLaw.{in_flat, into_flat}
-use Rattle.fab_ways.specs.Placing.{same_net, cell_site, reader_sites}
-use Rattle.fab_ways.proofs.Lists.{from_filter, into_filter, in_counted, from_counted}
+use Rattle.fab_ways_laws.specs.fab_legal_WellMade.{output_name, output_ports, IsNetId, IsWellMadeCell, IsWellMadePacked}
+use Rattle.fab_ways_laws.specs.fab_legal_Lines.{named}
+use Rattle.fab_ways_laws.specs.fab_legal_Sinks.{site_of}
+use Rattle.fab_ways_laws.proofs.fab_legal_Bindings.{differ_left, differ_right}
+use Rattle.fab_ways_laws.proofs.fab_legal_Members.{from_mapped}
+use Rattle.fab_ways_laws.proofs.fab_legal_SinkLaw.{in_flat, into_flat}
+use Rattle.fab_ways_laws.specs.Placing.{same_net, cell_site, reader_sites}
+use Rattle.fab_ways_laws.proofs.Lists.{from_filter, into_filter, in_counted, from_counted}
 use Rattle.fab_place.specs.declared.nets.Pin.{Pin}
 use Rattle.fab_place.specs.Pins.{pin, pin_on, input_pins, cell_pins, reading_pins, output_pins, pins}
 use Rattle.fab_place.specs.Standing.{site_at, standing}

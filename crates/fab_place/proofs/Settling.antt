@@ -4,17 +4,17 @@ use Rattle.std.specs.List.{All, AllPairs}
 use Rattle.std.specs.Option.{IfSome}
 use Rattle.std.proofs.lemmas.List.{get_or_default}
 use Rattle.fab_kinds.specs.declared.kind.Kind.TheVariants as kinds
-use Rattle.fab_board.specs.declared.board.Board.{Board}
-use Rattle.fab_board.specs.Boards.{IsBoard, IsPlaced}
+use Rattle.fab_annealing.specs.declared.board.Board.{Board}
+use Rattle.fab_annealing.specs.Boards.{IsBoard, IsPlaced}
 use Rattle.fab_model.specs.Grid.{PlainFabric}
 use Rattle.fab_fabric.specs.Fabric.{IsFabric}
 use Rattle.fab_fabric.specs.declared.wire.Site.{Site}
 use Rattle.fab_netlist.specs.Packed.{PlainPacked}
 use Rattle.fab_implementation.specs.Plain.{Pad, PlainImplementation}
 use Rattle.fab_implementation.specs.OnFabric.{IsOnFabric}
-use Rattle.fab_ways.specs.fab_legal_WellMade.{ports}
+use Rattle.fab_ways_laws.specs.fab_legal_WellMade.{ports}
 use Rattle.fab_fabric.specs.Sites.{sites_of_kind}
-use Rattle.fab_ways.specs.Placing.{IsGoodPlacement}
+use Rattle.fab_ways_laws.specs.Placing.{IsGoodPlacement}
 use Rattle.fab_place.specs.Fixings.{AreFixed, Fits}
 use Rattle.fab_place.specs.inner.Constraints.{AreConstrained}
 use Rattle.fab_place.specs.inner.Starts.{start_numbers}

@@ -18,11 +18,11 @@ use Rattle.fab_fabric.specs.declared.wire.Site.{Site}
 use Rattle.fab_fabric.proofs.Numbered.{tile_within}
 use Rattle.fab_netlist.proofs.Members.{mapped_in}
 use Rattle.fab_implementation.specs.OnFabric.{kind_at}
-use Rattle.fab_ways.proofs.fab_legal_Members.{from_mapped}
-use Rattle.fab_ways.proofs.fab_legal_Pins.{tile_of_kind, tile_type}
-use Rattle.fab_ways.proofs.fab_legal_SinkLaw.{in_flat, into_flat}
+use Rattle.fab_ways_laws.proofs.fab_legal_Members.{from_mapped}
+use Rattle.fab_ways_laws.proofs.fab_legal_Pins.{tile_of_kind, tile_type}
+use Rattle.fab_ways_laws.proofs.fab_legal_SinkLaw.{in_flat, into_flat}
 use Rattle.fab_fabric.specs.Sites.{same_kind, tile_sites, sites_of_kind}
-use Rattle.fab_ways.proofs.Lists.{from_filter, into_filter, in_counted, from_counted}
+use Rattle.fab_ways_laws.proofs.Lists.{from_filter, into_filter, in_counted, from_counted}
 use Rattle.fab_place.proofs.Counting.{length_counted, numbered_counted}
 use Rattle.fab_place.proofs.Once.{Once, once_counted, once_filter, once_map, once_pieces}
 

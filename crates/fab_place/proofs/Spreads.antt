@@ -3,10 +3,10 @@ use Rattle.std.proofs.Common.{◌≡◌, ℕ, ◌+◌, ◌-◌, List, [], ◌∷
 use Rattle.std.proofs.lemmas.List.{get_or-map, length-map}
 use Rattle.std.specs.List.{Contains}
 use Rattle.fab_fabric.specs.declared.wire.Site.{Site}
-use Rattle.fab_board.specs.Spans.{least, greatest, spread as item_spread}
-use Rattle.fab_board.proofs.Extremes.{least_below, least_reached, least_is, greatest_above, greatest_reached, greatest_is}
-use Rattle.fab_ways.proofs.fab_legal_Members.{from_mapped}
-use Rattle.fab_ways.specs.Placing.{spread, half_perimeter}
+use Rattle.fab_annealing.specs.Spans.{least, greatest, spread as item_spread}
+use Rattle.fab_annealing.proofs.Extremes.{least_below, least_reached, least_is, greatest_above, greatest_reached, greatest_is}
+use Rattle.fab_ways_laws.proofs.fab_legal_Members.{from_mapped}
+use Rattle.fab_ways_laws.specs.Placing.{spread, half_perimeter}
 
 -- the spread of numbers is that of themselves as places
 spread_of_numbers : (ns : List ℕ) → spread ns ≡ item_spread (λ n. n) ns

@@ -5,19 +5,19 @@ use Rattle.std.proofs.lemmas.Bool.{false≢true}
 use Rattle.std.proofs.lemmas.List.{get_or_append_left, get_or-append-add, get_or-map, get_or_default, length-map, length-append, length-replicate, take_at, drop_at}
 use Rattle.std.proofs.lemmas.List.Elements.{All-append, All-map, All-contains}
 use Rattle.fab_kinds.specs.declared.kind.Kind.TheVariants as kinds
-use Rattle.fab_board.specs.declared.board.Board.{Board}
-use Rattle.fab_board.specs.Boards.{IsBoard, IsPlaced, site_count}
+use Rattle.fab_annealing.specs.declared.board.Board.{Board}
+use Rattle.fab_annealing.specs.Boards.{IsBoard, IsPlaced, site_count}
 use Rattle.fab_model.specs.Tiles.{counted}
 use Rattle.fab_model.specs.Grid.{PlainFabric}
 use Rattle.fab_fabric.specs.Fabric.{IsFabric}
 use Rattle.fab_fabric.specs.declared.wire.Site.{Site}
 use Rattle.fab_netlist.specs.Packed.{PlainPacked}
 use Rattle.fab_implementation.specs.Plain.{Pad, PlainImplementation}
-use Rattle.fab_ways.specs.fab_legal_WellMade.{output_name, output_ports, ports}
-use Rattle.fab_ways.proofs.fab_legal_Members.{from_mapped}
+use Rattle.fab_ways_laws.specs.fab_legal_WellMade.{output_name, output_ports, ports}
+use Rattle.fab_ways_laws.proofs.fab_legal_Members.{from_mapped}
 use Rattle.fab_fabric.specs.Sites.{sites_of_kind}
-use Rattle.fab_ways.specs.Placing.{no_site, pads_in_order, free_pads, placement_in_order}
-use Rattle.fab_ways.proofs.Lists.{from_counted, from_filter}
+use Rattle.fab_ways_laws.specs.Placing.{no_site, pads_in_order, free_pads, placement_in_order}
+use Rattle.fab_ways_laws.proofs.Lists.{from_counted, from_filter}
 use Rattle.fab_place.specs.Fixings.{AreFixed, Fits}
 use Rattle.fab_place.specs.inner.Constraints.{AreConstrained}
 use Rattle.fab_place.specs.inner.Starts.{is_taken, free_numbers, loose, numbers_in_order, start_numbers}

@@ -5,8 +5,8 @@ use Rattle.fab_model.specs.Grid.{PlainFabric}
 use Rattle.fab_netlist.specs.Packed.{PlainPacked}
 use Rattle.fab_implementation.specs.Plain.{Pad}
 use Rattle.fab_implementation.specs.OnFabric.{kind_at}
-use Rattle.fab_ways.specs.fab_legal_WellMade.{ports, IsWellMadePacked}
-use Rattle.fab_ways.specs.fab_legal_Lines.{named, sited}
+use Rattle.fab_ways_laws.specs.fab_legal_WellMade.{ports, IsWellMadePacked}
+use Rattle.fab_ways_laws.specs.fab_legal_Lines.{named, sited}
 use Rattle.fab_fabric.specs.Sites.{sites_of_kind}
 
 -- data ports on IO sites of the fabric, of which none stands twice

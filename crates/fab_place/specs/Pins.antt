@@ -7,8 +7,8 @@ use Rattle.fab_netlist.specs.declared.net_id.NetId.{NetId}
 use Rattle.fab_netlist.specs.declared.net_id.NetId.TheVariants as ids
 use Rattle.fab_netlist.specs.Packed.{PlainCell, PlainPacked}
 use Rattle.fab_netlist.specs.WellMade.{most_nets}
-use Rattle.fab_board.specs.declared.nets.Nets.{Nets}
-use Rattle.fab_board.specs.Measured.{items_of}
+use Rattle.fab_annealing.specs.declared.nets.Nets.{Nets}
+use Rattle.fab_annealing.specs.Measured.{items_of}
 use Rattle.fab_place.specs.declared.nets.Pin.{Pin}
 
 -- ---- numbers of nets and items

@@ -7,7 +7,7 @@ use Rattle.fab_fabric.specs.declared.wire.Site.{Site}
 use Rattle.fab_netlist.specs.declared.net_id.NetId.{NetId}
 use Rattle.fab_netlist.specs.Packed.{PlainPacked}
 use Rattle.fab_implementation.specs.Plain.{Pad, PlainImplementation}
-use Rattle.fab_ways.specs.Placing.{no_site}
+use Rattle.fab_ways_laws.specs.Placing.{no_site}
 
 -- the site of an item
 abbrev pub site_at : List Site → (numbers : List ℕ) → (item : ℕ) → Site

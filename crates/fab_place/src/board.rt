@@ -1,14 +1,14 @@
 //! The board of a design.
 ghost use Rattle.std.specs.Prelude.{◌≡◌, ◌+◌, ◌<◌, ◌≤◌, ◌^◌, ◌++◌, false, IfOk, length, map, replicate, is_some};
-ghost use Rattle.fab_ways.specs.fab_legal_WellMade.{IsWellMadePacked};
-ghost use Rattle.fab_board.specs.Measured.{IsNets, net_count, item_count};
+ghost use Rattle.fab_ways_laws.specs.fab_legal_WellMade.{IsWellMadePacked};
+ghost use Rattle.fab_annealing.specs.Measured.{IsNets, net_count, item_count};
 ghost use Rattle.fab_place.specs.Pins.{net_total, item_total, pins, HavePins};
 ghost use Rattle.fab_place.specs.inner.BoardOf.{IsBoardOf};
 
 use crate::nets::nets_of;
 use crate::pins::pins_of;
 use fab_base::Memory;
-use fab_board::{Board, Nets};
+use fab_annealing::{Board, Nets};
 use fab_fabric::Site;
 use fab_netlist::Packed;
 use std::alloc::Global;

@@ -1,7 +1,7 @@
 //! The pads that constraints give to ports.
 ghost use Rattle.std.specs.Prelude.{◌≡◌, ◌≢◌, ◌<◌, ◌^◌, ◌++◌, IfOk, OnOk, AllPairs, length, map};
-ghost use Rattle.fab_ways.specs.fab_legal_Lines.{named};
-ghost use Rattle.fab_ways.specs.fab_legal_WellMade.{ports};
+ghost use Rattle.fab_ways_laws.specs.fab_legal_Lines.{named};
+ghost use Rattle.fab_ways_laws.specs.fab_legal_WellMade.{ports};
 ghost use Rattle.fab_place.specs.inner.Constraints.{AreConstrained, HasConstraints, HasNumbers, pad_in};
 
 use fab_base::{Memory, Name};

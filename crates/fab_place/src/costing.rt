@@ -3,11 +3,11 @@ ghost use Rattle.std.specs.Prelude.{◌≡◌, ◌≢◌, ◌<◌, ◌≤◌, �
 ghost use Rattle.std.specs.List.{enumerate_from, list_any};
 ghost use Rattle.std.specs.Str.{bytes_eq};
 ghost use Rattle.fab_netlist.specs.declared.net_id.NetId.TheVariants as ids;
-ghost use Rattle.fab_ways.specs.fab_legal_WellMade.{IsWellMadePacked};
-ghost use Rattle.fab_ways.specs.fab_legal_Legal.{ArePlaced};
-ghost use Rattle.fab_ways.specs.fab_legal_Lines.{named};
-ghost use Rattle.fab_ways.specs.fab_legal_Sinks.{site_of};
-ghost use Rattle.fab_ways.specs.Placing.{same_net, half_perimeter, cell_site, reader_sites, cost};
+ghost use Rattle.fab_ways_laws.specs.fab_legal_WellMade.{IsWellMadePacked};
+ghost use Rattle.fab_ways_laws.specs.fab_legal_Legal.{ArePlaced};
+ghost use Rattle.fab_ways_laws.specs.fab_legal_Lines.{named};
+ghost use Rattle.fab_ways_laws.specs.fab_legal_Sinks.{site_of};
+ghost use Rattle.fab_ways_laws.specs.Placing.{same_net, half_perimeter, cell_site, reader_sites, cost};
 ghost use Rattle.fab_place.specs.inner.Boxes.{included, NamesOnce};
 ghost use Rattle.fab_netlist.specs.WellMade.{most_nets};
 

@@ -1,10 +1,10 @@
 //! Nets by the pins that they have.
 ghost use Rattle.std.specs.Prelude.{◌≡◌, ◌≢◌, ℕ, ◌<◌, ◌≤◌, ◌++◌, IfOk, OnOk, All, [], ◌∷◌, length, slice_get};
-ghost use Rattle.fab_board.specs.Measured.{IsNets, item_count, net_count, numbers_of};
+ghost use Rattle.fab_annealing.specs.Measured.{IsNets, item_count, net_count, numbers_of};
 ghost use Rattle.fab_place.specs.Pins.{HavePins};
 
 use fab_base::Memory;
-use fab_board::Nets;
+use fab_annealing::Nets;
 use std::alloc::Global;
 
 /// An item that a net has.

@@ -2,7 +2,7 @@
 ghost use Rattle.std.specs.Prelude.{◌≡◌, ◌≤◌, ◌+◌, ◌<◌, ◌++◌, IfOk, OnOk, All, length};
 ghost use Rattle.std.specs.List.{flat_map};
 ghost use Rattle.fab_netlist.specs.Packed.{PlainCell};
-ghost use Rattle.fab_ways.specs.fab_legal_WellMade.{IsWellMadePacked};
+ghost use Rattle.fab_ways_laws.specs.fab_legal_WellMade.{IsWellMadePacked};
 ghost use Rattle.fab_place.specs.Pins.{IsNear, pin_on, input_pins, cell_pins, reading_pins, output_pins, pins};
 ghost use Rattle.fab_netlist.specs.WellMade.{most_nets};
 

@@ -3,7 +3,7 @@ ghost use Rattle.std.specs.Prelude.{◌≡◌, ◌++◌, IfOk, OnOk};
 ghost use Rattle.fab_kinds.specs.declared.kind.Kind.TheVariants as kinds;
 ghost use Rattle.fab_implementation.specs.OnFabric.{IsOnFabric};
 ghost use Rattle.fab_fabric.specs.Sites.{sites_of_kind};
-ghost use Rattle.fab_ways.specs.Placing.{IsGoodPlacement};
+ghost use Rattle.fab_ways_laws.specs.Placing.{IsGoodPlacement};
 ghost use Rattle.fab_place.specs.Fixings.{AreFixed, Fits};
 ghost use Rattle.fab_place.specs.inner.BoardOf.{IsSettled};
 
@@ -13,7 +13,7 @@ use crate::implementation::implementation_of;
 use crate::sites::sites_of_kind;
 use crate::start::start_of;
 use fab_base::Memory;
-use fab_board::settled;
+use fab_annealing::settled;
 use fab_fabric::{Fabric, Site};
 use fab_implementation::{Fixed, Implementation};
 use fab_kinds::Kind;

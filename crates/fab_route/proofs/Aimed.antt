@@ -11,9 +11,9 @@ use Rattle.fab_netlist.specs.Plain.{IsAt}
 use Rattle.fab_netlist.proofs.Members.{mapped_in}
 use Rattle.fab_legal.specs.Steps.{IsPaired, IsJoined}
 use Rattle.fab_legal.proofs.Members.{from_mapped, taken_more}
-use Rattle.fab_ways.specs.Edges.{origins}
-use Rattle.fab_ways.proofs.Origins.{origins_are_steps}
-use Rattle.fab_nodes.proofs.MatrixInputs.{pair_input}
+use Rattle.fab_ways_laws.specs.Edges.{origins}
+use Rattle.fab_ways_laws.proofs.Origins.{origins_are_steps}
+use Rattle.fab_nodes_laws.proofs.MatrixInputs.{pair_input}
 use Rattle.fab_route.specs.Plain.{PlainNodes, graph_of, numbering_of, node_of}
 use Rattle.fab_route.specs.Over.{IsOver, IsBefore}
 

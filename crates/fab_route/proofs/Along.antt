@@ -4,9 +4,9 @@ use Rattle.std.proofs.lemmas.List.{append_assoc}
 use Rattle.std.proofs.Math.Seq.{drop-cons, drop-length}
 use Rattle.fab_fabric.specs.Wires.{numbered_wire}
 use Rattle.fab_implementation.specs.Plain.{Edge}
-use Rattle.fab_ways.specs.Trees.{edges_along}
-use Rattle.fab_nodes.specs.Nodes.{Numbering}
-use Rattle.fab_nodes.specs.Nets.{wires_along}
+use Rattle.fab_ways_laws.specs.Trees.{edges_along}
+use Rattle.fab_nodes_laws.specs.Nodes.{Numbering}
+use Rattle.fab_nodes_laws.specs.Nets.{wires_along}
 use Rattle.fab_route.specs.Plain.{hop_edges}
 
 module _ (numbering : Numbering) where

@@ -12,13 +12,13 @@ use Rattle.fab_netlist.proofs.Counts.{at_mapped}
 use Rattle.fab_legal.specs.WellMade.{IsWellMadePacked}
 use Rattle.fab_legal.proofs.Lists.{at_default}
 use Rattle.fab_legal.proofs.Members.{taken_more}
-use Rattle.fab_ways.specs.Placing.{same_net}
-use Rattle.fab_ways.specs.Routing.{nets, sinks_of}
-use Rattle.fab_ways.proofs.Legal.{same_net_is}
+use Rattle.fab_ways_laws.specs.Placing.{same_net}
+use Rattle.fab_ways_laws.specs.Routing.{nets, sinks_of}
+use Rattle.fab_ways_laws.proofs.Legal.{same_net_is}
 use Rattle.fab_implementation.specs.Plain.{PlainImplementation}
 use Rattle.fab_model.specs.Grid.{PlainFabric}
-use Rattle.fab_nodes.specs.Nets.{net_sinks}
-use Rattle.fab_nodes.proofs.NetSinks.{mapped_at}
+use Rattle.fab_nodes_laws.specs.Nets.{net_sinks}
+use Rattle.fab_nodes_laws.proofs.NetSinks.{mapped_at}
 use Rattle.fab_route.specs.inner.Wanted.{wire_groups, sinks_among}
 use Rattle.fab_route.proofs.Places.{one_place}
 

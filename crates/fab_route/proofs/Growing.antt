@@ -6,11 +6,11 @@ use Rattle.fab_netlist.specs.declared.net_id.NetId.{NetId}
 use Rattle.fab_netlist.specs.Plain.{IsAt}
 use Rattle.fab_implementation.specs.Plain.{Edge, PlainTree}
 use Rattle.fab_legal.proofs.Members.{taken_more}
-use Rattle.fab_rounds.specs.Plain.{parts}
-use Rattle.fab_rounds.specs.Rounds.{Paths}
-use Rattle.fab_ways.specs.Trees.{edges_along, edges_of, tree_with, trees_for}
-use Rattle.fab_nodes.specs.Nodes.{Numbering}
-use Rattle.fab_nodes.specs.Nets.{wires_along, wire_paths, wire_trees}
+use Rattle.fab_pathfinder.specs.Plain.{parts}
+use Rattle.fab_pathfinder.specs.Rounds.{Paths}
+use Rattle.fab_ways_laws.specs.Trees.{edges_along, edges_of, tree_with, trees_for}
+use Rattle.fab_nodes_laws.specs.Nodes.{Numbering}
+use Rattle.fab_nodes_laws.specs.Nets.{wires_along, wire_paths, wire_trees}
 
 -- ---- the walks of a tree
 

@@ -8,9 +8,9 @@ use Rattle.fab_model.specs.Grid.{PlainFabric}
 use Rattle.std.proofs.lemmas.List.Elements.{All-contains}
 use Rattle.fab_fabric.specs.Fabric.{IsFabric}
 use Rattle.fab_legal.proofs.Lists.{at_default}
-use Rattle.fab_nodes.proofs.NetSinks.{mapped_at}
-use Rattle.fab_search.specs.Walks.{Graph}
-use Rattle.fab_search.specs.Scene.{IsGraph, IsBound}
+use Rattle.fab_nodes_laws.proofs.NetSinks.{mapped_at}
+use Rattle.fab_astar.specs.Walks.{Graph}
+use Rattle.fab_astar.specs.Scene.{IsGraph, IsBound}
 use Rattle.fab_route.specs.declared.classes.Place.{Place}
 use Rattle.fab_route.specs.declared.hops.Hop.{Hop}
 use Rattle.fab_route.specs.declared.window.Window.{Window}

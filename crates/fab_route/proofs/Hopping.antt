@@ -8,7 +8,7 @@ use Rattle.std.proofs.lemmas.List.Elements.{All-weaker, All-contains}
 use Rattle.fab_netlist.proofs.Counts.{at_mapped}
 use Rattle.fab_legal.proofs.Lists.{cases_below}
 use Rattle.fab_legal.proofs.Members.{still_in, last_in}
-use Rattle.fab_search.specs.Walks.{Graph}
+use Rattle.fab_astar.specs.Walks.{Graph}
 use Rattle.fab_route.specs.declared.classes.Place.{Place}
 use Rattle.fab_route.specs.declared.hops.Hop.{Hop}
 use Rattle.fab_route.specs.inner.Guided.{no_place, place_at, hop_between, hops_to, HasHop, HaveHops, KeepHops}

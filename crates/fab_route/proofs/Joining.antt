@@ -15,7 +15,7 @@ use Rattle.fab_fabric.specs.declared.fabric.joins.RowAt.{RowAt}
 use Rattle.fab_fabric.proofs.Numbered.{some_wire, wire_within}
 use Rattle.fab_fabric.proofs.Joined.{are_rows, join_departs}
 use Rattle.fab_legal.specs.Steps.{IsJoined}
-use Rattle.fab_ways.proofs.Lists.{none_some, mapped_some}
+use Rattle.fab_ways_laws.proofs.Lists.{none_some, mapped_some}
 use Rattle.fab_route.specs.inner.Owners.{IsWireOf}
 use Rattle.fab_route.specs.Over.{IsOver}
 use Rattle.fab_route.specs.Plain.{PlainNodes, graph_of, numbering_of}

@@ -14,7 +14,7 @@ use Rattle.fab_netlist.specs.Plain.{IsAt}
 use Rattle.fab_netlist.proofs.Members.{in_none}
 use Rattle.fab_legal.specs.Steps.{IsJoined}
 use Rattle.fab_legal.proofs.Members.{in_pushed, still_in, last_in, in_taken, stays_taken, last_taken}
-use Rattle.fab_ways.specs.Edges.{ends}
+use Rattle.fab_ways_laws.specs.Edges.{ends}
 use Rattle.fab_route.specs.inner.Numbers.{AreTargets, Adds, AreFlat}
 use Rattle.fab_route.proofs.Numbered.{last_of, before_last, one_longer}
 

@@ -22,8 +22,8 @@ use Rattle.fab_legal.proofs.Members.{from_mapped}
 use Rattle.fab_legal.proofs.Once.{before_in, known_thing}
 use Rattle.fab_legal.proofs.PortNumbers.{known_number, name_at, same_name}
 use Rattle.fab_implementation.specs.OnFabric.{kind_at}
-use Rattle.fab_ways.proofs.InputPins.{kind_of_line}
-use Rattle.fab_nodes.proofs.NetSinks.{mapped_at}
+use Rattle.fab_ways_laws.proofs.InputPins.{kind_of_line}
+use Rattle.fab_nodes_laws.proofs.NetSinks.{mapped_at}
 use Rattle.fab_route.specs.inner.Wanted.{input_lines}
 
 abbrev name_of : Pad → List ℕ

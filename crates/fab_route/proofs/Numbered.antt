@@ -5,7 +5,7 @@ use Rattle.std.proofs.lemmas.List.{length-append, get_or_append_left}
 use Rattle.std.proofs.Math.Seq.{get_or-append_seam}
 use Rattle.fab_model.specs.Grid.{PlainFabric}
 use Rattle.fab_fabric.specs.Wires.{numbered_wire}
-use Rattle.fab_nodes.specs.Nodes.{IsMatrixInput}
+use Rattle.fab_nodes_laws.specs.Nodes.{IsMatrixInput}
 use Rattle.fab_route.specs.inner.Numbers.{AreNumbered}
 
 -- one item more

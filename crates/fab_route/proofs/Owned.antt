@@ -9,7 +9,7 @@ use Rattle.fab_netlist.specs.Plain.{IsAt}
 use Rattle.fab_netlist.proofs.Members.{in_none, number_any, any_number}
 use Rattle.fab_legal.proofs.Lists.{cases_below}
 use Rattle.fab_legal.proofs.Members.{in_taken, stays_taken, last_taken}
-use Rattle.fab_rounds.specs.Rounds.{Paths, nodes_of, tree_at}
+use Rattle.fab_pathfinder.specs.Rounds.{Paths, nodes_of, tree_at}
 use Rattle.fab_route.specs.declared.shared.Owners.{Owners}
 use Rattle.fab_route.specs.inner.Owners.{AreFirst, HasNode, no_owners, owners_at, AreOwners, noted_in, noted, IsNoted}
 

@@ -9,8 +9,8 @@ use Rattle.fab_netlist.specs.Plain.{IsAt}
 use Rattle.fab_netlist.specs.Packed.{PlainPacked}
 use Rattle.fab_legal.specs.WellMade.{IsWellMadePacked, IsNetId}
 use Rattle.fab_legal.specs.Sinks.{packed_net}
-use Rattle.fab_ways.specs.Routing.{nets}
-use Rattle.fab_ways.proofs.NetTrees.{nets_apart}
+use Rattle.fab_ways_laws.specs.Routing.{nets}
+use Rattle.fab_ways_laws.proofs.NetTrees.{nets_apart}
 use Rattle.fab_graph.proofs.Grouped.{length_counted, get_or_counted}
 
 module _ (packed : PlainPacked) where

@@ -15,8 +15,8 @@ use Rattle.fab_legal.specs.Legal.{ArePlaced}
 use Rattle.fab_legal.specs.Nets.{Net, port_net, cell_net, IsRoot}
 use Rattle.fab_legal.specs.Steps.{pin_wire}
 use Rattle.fab_legal.proofs.Once.{one_site}
-use Rattle.fab_nodes.specs.Nodes.{IsMatrixInput}
-use Rattle.fab_nodes.proofs.MatrixInputs.{root_input}
+use Rattle.fab_nodes_laws.specs.Nodes.{IsMatrixInput}
+use Rattle.fab_nodes_laws.proofs.MatrixInputs.{root_input}
 use Rattle.fab_route.specs.Plain.{PlainNodes, numbering_of, node_of}
 use Rattle.fab_route.specs.Over.{IsOver}
 use Rattle.fab_route.specs.inner.Wanted.{IsRootNode, AreRoots}

@@ -9,12 +9,12 @@ use Rattle.fab_fabric.specs.declared.wire.Wire.{Wire}
 use Rattle.fab_fabric.proofs.Numbered.{wire_within, some_wire}
 use Rattle.fab_netlist.proofs.Stepping.{all_of}
 use Rattle.fab_legal.specs.Steps.{IsPaired, IsJoined}
-use Rattle.fab_search.specs.Scene.{IsGraph}
-use Rattle.fab_ways.specs.Edges.{ends}
-use Rattle.fab_ways.proofs.Ends.{ends_are_steps}
-use Rattle.fab_ways.proofs.Origins.{to_join}
-use Rattle.fab_nodes.specs.Nodes.{IsMatrixInput, IsHop, AreNodes}
-use Rattle.fab_nodes.proofs.MatrixInputs.{driven_or_input, join_driven, join_input}
+use Rattle.fab_astar.specs.Scene.{IsGraph}
+use Rattle.fab_ways_laws.specs.Edges.{ends}
+use Rattle.fab_ways_laws.proofs.Ends.{ends_are_steps}
+use Rattle.fab_ways_laws.proofs.Origins.{to_join}
+use Rattle.fab_nodes_laws.specs.Nodes.{IsMatrixInput, IsHop, AreNodes}
+use Rattle.fab_nodes_laws.proofs.MatrixInputs.{driven_or_input, join_driven, join_input}
 use Rattle.fab_route.specs.inner.Numbers.{AreNumbered, AreBefore, AreFlat}
 use Rattle.fab_route.proofs.Numbered.{last_of, before_last}
 use Rattle.fab_route.specs.Over.{IsOver}

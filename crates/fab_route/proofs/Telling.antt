@@ -20,27 +20,27 @@ use Rattle.fab_legal.specs.Legal.{ArePlaced}
 use Rattle.fab_legal.specs.Sinks.{packed_net}
 use Rattle.fab_legal.specs.Steps.{IsJoined, IsPaired}
 use Rattle.fab_legal.specs.WellMade.{IsWellMadePacked}
-use Rattle.fab_search.specs.Walks.{Graph}
-use Rattle.fab_rounds.specs.declared.tree.Tree.{Tree}
-use Rattle.fab_rounds.specs.declared.tree.Round.{Round}
-use Rattle.fab_rounds.specs.declared.rounds.Routed.{Routed}
-use Rattle.fab_rounds.specs.Plain as plain
-use Rattle.fab_rounds.specs.Plain.{paths_of, rounds_of}
-use Rattle.fab_rounds.specs.Rounds as rounds
-use Rattle.fab_rounds.specs.Rounds.{Paths, nodes_of, tree_at, net_at, HasWalk, no_trees, last_trees}
-use Rattle.fab_rounds.proofs.Parts.{nodes_of-parts}
-use Rattle.fab_rounds.proofs.Running.{last_trees-at}
-use Rattle.fab_ways.specs.Routing.{has, wires_of, users, nets, sinks_of}
-use Rattle.fab_ways.specs.Routing.Walk.{goes}
-use Rattle.fab_ways.specs.Trees.{trees_of, by_line}
-use Rattle.fab_ways.proofs.Walks.{has_in, in_has}
-use Rattle.fab_nodes.specs.Nodes.{Numbering, AreNodes}
-use Rattle.fab_nodes.specs.Nets.{AreGoals, AreNets, wire_trees, net_sinks}
-use Rattle.fab_nodes.proofs.Trees.{HasOutput, IsWireTree, no_wires, ArePins, node_held, output_held}
-use Rattle.fab_nodes.proofs.WalkLaw.{walk_of}
-use Rattle.fab_nodes.proofs.Users.{AreWireTrees, used_low, node_users, output_users, IsNodeWire, as_input, as_output, shared_kind}
-use Rattle.fab_nodes.proofs.NetSinks.{nets_across}
-use Rattle.fab_nodes.proofs.Runs.{IsWiredRun, run_wired, node_runs_are_runs, cut_off_has_no_walk}
+use Rattle.fab_astar.specs.Walks.{Graph}
+use Rattle.fab_pathfinder.specs.declared.tree.Tree.{Tree}
+use Rattle.fab_pathfinder.specs.declared.tree.Round.{Round}
+use Rattle.fab_pathfinder.specs.declared.rounds.Routed.{Routed}
+use Rattle.fab_pathfinder.specs.Plain as plain
+use Rattle.fab_pathfinder.specs.Plain.{paths_of, rounds_of}
+use Rattle.fab_pathfinder.specs.Rounds as rounds
+use Rattle.fab_pathfinder.specs.Rounds.{Paths, nodes_of, tree_at, net_at, HasWalk, no_trees, last_trees}
+use Rattle.fab_pathfinder.proofs.Parts.{nodes_of-parts}
+use Rattle.fab_pathfinder.proofs.Running.{last_trees-at}
+use Rattle.fab_ways_laws.specs.Routing.{has, wires_of, users, nets, sinks_of}
+use Rattle.fab_ways_laws.specs.Routing.Walk.{goes}
+use Rattle.fab_ways_laws.specs.Trees.{trees_of, by_line}
+use Rattle.fab_ways_laws.proofs.Walks.{has_in, in_has}
+use Rattle.fab_nodes_laws.specs.Nodes.{Numbering, AreNodes}
+use Rattle.fab_nodes_laws.specs.Nets.{AreGoals, AreNets, wire_trees, net_sinks}
+use Rattle.fab_nodes_laws.proofs.Trees.{HasOutput, IsWireTree, no_wires, ArePins, node_held, output_held}
+use Rattle.fab_nodes_laws.proofs.WalkLaw.{walk_of}
+use Rattle.fab_nodes_laws.proofs.Users.{AreWireTrees, used_low, node_users, output_users, IsNodeWire, as_input, as_output, shared_kind}
+use Rattle.fab_nodes_laws.proofs.NetSinks.{nets_across}
+use Rattle.fab_nodes_laws.proofs.Runs.{IsWiredRun, run_wired, node_runs_are_runs, cut_off_has_no_walk}
 use Rattle.fab_route.specs.Answers.{AreRouted, IsReached, IsCutOff, HasWire, AreFirstTwo, IsOverused}
 use Rattle.fab_route.specs.inner.Owners.{AreFirst, HasNode, owners_at, AreOwners, IsTwice, IsWireOf, IsSharedBy, IsLeastShared}
 use Rattle.fab_route.specs.Over.{IsOver}

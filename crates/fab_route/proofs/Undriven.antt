@@ -15,8 +15,8 @@ use Rattle.fab_fabric.proofs.Numbered.{one_wire, some_item, wired_within, wires_
 use Rattle.fab_netlist.specs.Plain.{IsAt}
 use Rattle.fab_netlist.proofs.Counts.{at_mapped}
 use Rattle.fab_legal.proofs.StepLaws.{type_there}
-use Rattle.fab_nodes.specs.Nodes.{IsMatrixInput}
-use Rattle.fab_nodes.proofs.MatrixInputs.{is_driven}
+use Rattle.fab_nodes_laws.specs.Nodes.{IsMatrixInput}
+use Rattle.fab_nodes_laws.proofs.MatrixInputs.{is_driven}
 use Rattle.fab_route.specs.inner.Numbers.{HaveDriven}
 
 module _ (fabric : PlainFabric) (tables : List (Vec Bool Global)) (x y number place : ℕ) (few : number < wires_at fabric x y) (have : HaveDriven fabric.types tables) (found : Option ℕ) (is_fabric : IsFabric fabric)

@@ -18,17 +18,17 @@ use Rattle.fab_legal.specs.Legal.{ArePlaced}
 use Rattle.fab_legal.specs.WellMade.{IsWellMadePacked}
 use Rattle.fab_legal.proofs.Lists.{cases_below}
 use Rattle.fab_legal.proofs.Members.{taken_more}
-use Rattle.fab_search.specs.Walks.{Graph}
-use Rattle.fab_rounds.specs.declared.net.Net as demand
-use Rattle.fab_rounds.specs.declared.net.Sink.{Sink}
-use Rattle.fab_rounds.specs.Plain.{goals_of, net_of, nets_of, IsInside}
-use Rattle.fab_rounds.specs.Rounds.{net_at}
-use Rattle.fab_ways.specs.Routing.{nets, sinks_of}
-use Rattle.fab_ways.proofs.InputPins.{input_index}
-use Rattle.fab_nodes.specs.Nodes.{Numbering}
-use Rattle.fab_nodes.specs.Nets.{AreGoals, AreNets}
-use Rattle.fab_nodes.proofs.MatrixInputs.{unjoined_pin}
-use Rattle.fab_nodes.proofs.NetSinks.{sink_is_pin}
+use Rattle.fab_astar.specs.Walks.{Graph}
+use Rattle.fab_pathfinder.specs.declared.net.Net as demand
+use Rattle.fab_pathfinder.specs.declared.net.Sink.{Sink}
+use Rattle.fab_pathfinder.specs.Plain.{goals_of, net_of, nets_of, IsInside}
+use Rattle.fab_pathfinder.specs.Rounds.{net_at}
+use Rattle.fab_ways_laws.specs.Routing.{nets, sinks_of}
+use Rattle.fab_ways_laws.proofs.InputPins.{input_index}
+use Rattle.fab_nodes_laws.specs.Nodes.{Numbering}
+use Rattle.fab_nodes_laws.specs.Nets.{AreGoals, AreNets}
+use Rattle.fab_nodes_laws.proofs.MatrixInputs.{unjoined_pin}
+use Rattle.fab_nodes_laws.proofs.NetSinks.{sink_is_pin}
 use Rattle.fab_route.specs.Plain.{PlainNodes, graph_of, numbering_of}
 use Rattle.fab_route.specs.Over.{IsBefore}
 use Rattle.fab_route.specs.inner.Wanted.{IsUnjoined, IsNetFor}

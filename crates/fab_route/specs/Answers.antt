@@ -7,8 +7,8 @@ use Rattle.fab_netlist.specs.Plain.{IsAt}
 use Rattle.fab_netlist.specs.Packed.{PlainPacked}
 use Rattle.fab_implementation.specs.Plain.{PlainTree, PlainImplementation}
 use Rattle.fab_legal.specs.Sinks.{packed_net}
-use Rattle.fab_ways.specs.Routing.{Path, Paths, Walk, MayBegin, Run, LeavesShared, has, wires_of, users, nets, sinks_of}
-use Rattle.fab_ways.specs.Trees.{trees_of}
+use Rattle.fab_ways_laws.specs.Routing.{Path, Paths, Walk, MayBegin, Run, LeavesShared, has, wires_of, users, nets, sinks_of}
+use Rattle.fab_ways_laws.specs.Trees.{trees_of}
 use Rattle.fab_route.specs.declared.router.RouteFault.{RouteFault}
 use Rattle.fab_route.specs.declared.router.RouteFault.TheVariants as faults
 

@@ -5,8 +5,8 @@ use Rattle.fab_fabric.specs.Fabric.{wire_count}
 use Rattle.fab_fabric.specs.Wires.{numbered_wire}
 use Rattle.fab_fabric.specs.declared.wire.Wire.{Wire}
 use Rattle.fab_legal.specs.Steps.{IsPaired}
-use Rattle.fab_search.specs.Scene.{IsGraph}
-use Rattle.fab_nodes.specs.Nodes.{AreNodes, IsMatrixInput}
+use Rattle.fab_astar.specs.Scene.{IsGraph}
+use Rattle.fab_nodes_laws.specs.Nodes.{AreNodes, IsMatrixInput}
 use Rattle.fab_route.specs.Plain.{PlainNodes, graph_of, numbering_of, node_of}
 
 -- They are what the laws of routing over nodes ask for, and searches too. A matrix input has the node whose wire it is.

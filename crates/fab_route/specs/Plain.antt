@@ -3,8 +3,8 @@ use Rattle.std.specs.Prelude.{◌≡◌, ◌≤◌, ◌<◌, ◌+◌, ◌^◌, �
 use Rattle.fab_fabric.specs.Wires.{numbered_wire}
 use Rattle.fab_fabric.specs.declared.wire.Wire.{Wire}
 use Rattle.fab_implementation.specs.Plain.{Edge}
-use Rattle.fab_search.specs.Walks.{Graph}
-use Rattle.fab_nodes.specs.Nodes.{Numbering}
+use Rattle.fab_astar.specs.Walks.{Graph}
+use Rattle.fab_nodes_laws.specs.Nodes.{Numbering}
 
 pub record PlainNodes : Type 0 where
   -- the wire of each node, and the output that is joined to it

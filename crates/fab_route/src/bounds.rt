@@ -2,7 +2,7 @@
 
 ghost use Rattle.std.specs.Prelude.{◌≡◌, ◌<◌, ◌≤◌, ◌*◌, ◌^◌, ℕ, IfOk, All, length, map, slice_index};
 ghost use Rattle.std.specs.Bool.{OnTrue};
-ghost use Rattle.fab_search.specs.Scene.{IsGraph, IsBound};
+ghost use Rattle.fab_astar.specs.Scene.{IsGraph, IsBound};
 ghost use Rattle.fab_route.specs.inner.Guided.{IsWindow, IsWithin, AreTested, AreTestedTables, AreConsistent, spot_of, left_from};
 ghost use Rattle.fab_route.specs.Over.{IsOver};
 ghost use Rattle.fab_route.specs.Plain.{graph_of};
@@ -16,7 +16,7 @@ use crate::tested::is_tested;
 use crate::window::Window;
 use fab_base::Memory;
 use fab_fabric::{Fabric, Wire};
-use fab_rounds::{Net, Sink};
+use fab_pathfinder::{Net, Sink};
 use std::alloc::Global;
 use std::marker::Model;
 

@@ -4,7 +4,7 @@ ghost use Rattle.std.specs.Prelude.{◌≡◌, ◌<◌, ◌++◌, ◌↔◌, IsT
 ghost use Rattle.std.specs.List.{flat_map};
 ghost use Rattle.fab_model.specs.Tiles.{tile_wires, row_wires, bel_wires, is_matrix_output};
 ghost use Rattle.fab_fabric.specs.Fabric.{wire_count};
-ghost use Rattle.fab_nodes.specs.Nodes.{IsMatrixInput};
+ghost use Rattle.fab_nodes_laws.specs.Nodes.{IsMatrixInput};
 ghost use Rattle.fab_route.specs.inner.Numbers.{HaveDriven};
 
 use fab_base::Memory;

@@ -5,7 +5,7 @@ ghost use Rattle.fab_route.specs.Plain.{graph_of};
 
 use crate::bounds::Bounds;
 use crate::nodes::Nodes;
-use fab_search::Field;
+use fab_astar::Field;
 use std::marker::Model;
 
 /// Nodes with bounds.

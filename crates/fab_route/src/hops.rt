@@ -3,13 +3,13 @@
 ghost use Rattle.std.specs.Prelude.{◌≡◌, ◌<◌, ◌≤◌, ℕ, IsTrue, ◌↔◌, IfOk, OnOk, All, length, Contains};
 ghost use Rattle.fab_route.specs.inner.Guided.{IsWindow, IsWithin, place_at, HasHop, HaveHops, KeepHops};
 ghost use Rattle.fab_route.specs.Plain.{graph_of};
-ghost use Rattle.fab_search.specs.Scene.{IsGraph};
+ghost use Rattle.fab_astar.specs.Scene.{IsGraph};
 
 use crate::classes::Place;
 use crate::nodes::Nodes;
 use crate::window::Window;
 use fab_base::Memory;
-use fab_search::Field;
+use fab_astar::Field;
 use std::alloc::Global;
 
 /// From a class so many tiles across and down, which are 32 where nothing changes.

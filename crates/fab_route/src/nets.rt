@@ -4,10 +4,10 @@ ghost use Rattle.std.specs.Prelude.{◌≡◌, ◌≤◌, IfOk, All, length, map
 ghost use Rattle.fab_fabric.specs.declared.wire.Wire.{Wire};
 ghost use Rattle.fab_legal.specs.Legal.{ArePlaced};
 ghost use Rattle.fab_legal.specs.WellMade.{IsWellMadePacked, IsNetId};
-ghost use Rattle.fab_rounds.specs.Plain.{goals_of, net_of, nets_of, IsInside, most_routed_nets};
-ghost use Rattle.fab_rounds.specs.declared.net.Sink.{Sink};
-ghost use Rattle.fab_ways.specs.Routing.{sinks_of};
-ghost use Rattle.fab_nodes.specs.Nets.{AreGoals, AreNets, net_sinks};
+ghost use Rattle.fab_pathfinder.specs.Plain.{goals_of, net_of, nets_of, IsInside, most_routed_nets};
+ghost use Rattle.fab_pathfinder.specs.declared.net.Sink.{Sink};
+ghost use Rattle.fab_ways_laws.specs.Routing.{sinks_of};
+ghost use Rattle.fab_nodes_laws.specs.Nets.{AreGoals, AreNets, net_sinks};
 ghost use Rattle.fab_route.specs.Over.{IsOver};
 ghost use Rattle.fab_route.specs.Plain.{graph_of, numbering_of};
 ghost use Rattle.fab_route.specs.inner.Wanted.{wire_groups, IsUnjoined, AreSources, IsNetFor};
@@ -21,7 +21,7 @@ use fab_fabric::{Fabric, Wire};
 use fab_graph::Graph;
 use fab_implementation::Implementation;
 use fab_netlist::{NetId, Packed};
-use fab_rounds::{Net, Sink};
+use fab_pathfinder::{Net, Sink};
 use std::alloc::Global;
 
 /// The nets in order, where these are the sinks of each.

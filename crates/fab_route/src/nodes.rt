@@ -8,7 +8,7 @@ use crate::numbers::{number_inputs, outputs_before};
 use crate::targets::targets;
 use fab_base::Memory;
 use fab_fabric::{Fabric, Wire};
-use fab_search::Field;
+use fab_astar::Field;
 use std::alloc::Global;
 use std::marker::Model;
 

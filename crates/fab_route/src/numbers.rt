@@ -5,7 +5,7 @@ ghost use Rattle.fab_fabric.specs.Fabric.{wire_count, AreTiles};
 ghost use Rattle.fab_fabric.specs.Wires.{numbered_wire};
 ghost use Rattle.fab_fabric.specs.declared.wire.Wire.{Wire};
 ghost use Rattle.fab_legal.specs.Steps.{IsJoined};
-ghost use Rattle.fab_nodes.specs.Nodes.{IsMatrixInput};
+ghost use Rattle.fab_nodes_laws.specs.Nodes.{IsMatrixInput};
 ghost use Rattle.fab_route.specs.inner.Numbers.{AreNumbered, AreBefore};
 
 use crate::driven::{driven, is_input};

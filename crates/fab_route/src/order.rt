@@ -3,8 +3,8 @@
 ghost use Rattle.std.specs.Prelude.{◌≡◌, ◌<◌, ◌≤◌, length};
 ghost use Rattle.fab_netlist.specs.Plain.{IsAt};
 ghost use Rattle.fab_legal.specs.WellMade.{IsWellMadePacked, IsNetId};
-ghost use Rattle.fab_rounds.specs.Plain.{most_routed_nets};
-ghost use Rattle.fab_ways.specs.Routing.{nets};
+ghost use Rattle.fab_pathfinder.specs.Plain.{most_routed_nets};
+ghost use Rattle.fab_ways_laws.specs.Routing.{nets};
 
 use fab_netlist::{NetId, Packed};
 

@@ -5,10 +5,10 @@ ghost use Rattle.fab_implementation.specs.Plain.{Pad};
 ghost use Rattle.fab_legal.specs.Legal.{ArePlaced, IsLegal};
 ghost use Rattle.fab_legal.specs.Lines.{ConstraintsHold};
 ghost use Rattle.fab_legal.specs.WellMade.{IsWellMadePacked};
-ghost use Rattle.fab_rounds.specs.Plain.{nets_of};
-ghost use Rattle.fab_rounds.specs.Rounds.{IsCutOff};
-ghost use Rattle.fab_ways.specs.Trees.{with_trees};
-ghost use Rattle.fab_nodes.specs.Nets.{AreNets, net_sinks};
+ghost use Rattle.fab_pathfinder.specs.Plain.{nets_of};
+ghost use Rattle.fab_pathfinder.specs.Rounds.{IsCutOff};
+ghost use Rattle.fab_ways_laws.specs.Trees.{with_trees};
+ghost use Rattle.fab_nodes_laws.specs.Nets.{AreNets, net_sinks};
 ghost use Rattle.fab_route.specs.Answers.{AreRouted, IsTrueFault};
 ghost use Rattle.fab_route.specs.Over.{IsOver};
 ghost use Rattle.fab_route.specs.Plain.{graph_of, numbering_of};
@@ -29,7 +29,7 @@ use fab_fabric::{Fabric, Wire};
 use fab_implementation::{Implementation, Tree};
 use fab_netlist::{NetId, Packed};
 use fab_progress::{Progress, Silent};
-use fab_rounds::{CutOff, Net, Routed as Run, run_rounds};
+use fab_pathfinder::{CutOff, Net, Routed as Run, run_rounds};
 use std::alloc::Global;
 
 /// The trees of a routed design.

@@ -2,7 +2,7 @@
 
 ghost use Rattle.std.specs.Prelude.{◌≡◌, ◌⊎◌, ◌+◌, ◌<◌, ◌≤◌, ℕ, Some, IfOk, IfSome, length};
 ghost use Rattle.std.specs.List.{All};
-ghost use Rattle.fab_rounds.specs.Plain.{trees_of};
+ghost use Rattle.fab_pathfinder.specs.Plain.{trees_of};
 ghost use Rattle.fab_route.specs.Over.{IsOver};
 ghost use Rattle.fab_route.specs.inner.Owners.{AreOwners, IsNoted, noted, IsWireOf, IsLeastShared};
 ghost use Rattle.fab_route.specs.Plain.{graph_of};
@@ -11,7 +11,7 @@ ghost use Rattle.fab_route.specs.inner.Told.{AreLow};
 use crate::nodes::Nodes;
 use fab_base::Memory;
 use fab_fabric::{Fabric, Wire};
-use fab_rounds::Tree;
+use fab_pathfinder::Tree;
 use std::alloc::Global;
 
 /// The first two trees that have a node, by their places.

@@ -3,8 +3,8 @@
 ghost use Rattle.std.specs.Prelude.{◌≡◌, ℕ, [], IfOk, All, length, map, slice_index_or};
 ghost use Rattle.fab_legal.specs.WellMade.{IsWellMadePacked, IsNetId};
 ghost use Rattle.fab_legal.specs.Legal.{ArePlaced};
-ghost use Rattle.fab_ways.specs.Routing.{nets};
-ghost use Rattle.fab_nodes.specs.Nets.{net_sinks};
+ghost use Rattle.fab_ways_laws.specs.Routing.{nets};
+ghost use Rattle.fab_nodes_laws.specs.Nets.{net_sinks};
 ghost use Rattle.fab_route.specs.inner.Wanted.{wire_groups, sinks_among};
 
 use crate::order::{net_count, place_of};

@@ -3,7 +3,7 @@
 ghost use Rattle.std.specs.Prelude.{◌≡◌, ◌<◌, ◌++◌, [], ℕ, IfOk, OnOk, All, length, slice_index};
 ghost use Rattle.fab_fabric.specs.Fabric.{wire_count};
 ghost use Rattle.fab_fabric.specs.Wires.{numbered_wire};
-ghost use Rattle.fab_ways.specs.Edges.{ends};
+ghost use Rattle.fab_ways_laws.specs.Edges.{ends};
 ghost use Rattle.fab_route.specs.inner.Numbers.{Adds, AreFlat};
 
 use fab_base::Memory;

@@ -3,9 +3,9 @@
 ghost use Rattle.std.specs.Prelude.{◌≡◌, ◌<◌, ◌++◌, IfOk, OnOk, All, map};
 ghost use Rattle.fab_fabric.specs.declared.wire.Wire.{Wire};
 ghost use Rattle.fab_legal.specs.WellMade.{IsWellMadePacked, IsNetId};
-ghost use Rattle.fab_rounds.specs.Plain.{paths_of, trees_of, rounds_of};
-ghost use Rattle.fab_ways.specs.Trees.{by_line, edges_of, tree_with};
-ghost use Rattle.fab_nodes.specs.Nets.{wire_paths};
+ghost use Rattle.fab_pathfinder.specs.Plain.{paths_of, trees_of, rounds_of};
+ghost use Rattle.fab_ways_laws.specs.Trees.{by_line, edges_of, tree_with};
+ghost use Rattle.fab_nodes_laws.specs.Nets.{wire_paths};
 ghost use Rattle.fab_route.specs.Answers.{plain_rounds};
 ghost use Rattle.fab_route.specs.Plain.{graph_of, numbering_of};
 ghost use Rattle.fab_route.specs.inner.Told.{net_names, told_trees, AreLow, AreLowRounds};
@@ -18,7 +18,7 @@ use fab_base::Memory;
 use fab_fabric::Wire;
 use fab_implementation::{Implementation, Tree};
 use fab_netlist::{NetId, Packed};
-use fab_rounds::{Round, Tree as Walks};
+use fab_pathfinder::{Round, Tree as Walks};
 use std::alloc::Global;
 
 /// The names of all nets in trees, where these are the lines that name input ports.

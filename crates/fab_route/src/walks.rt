@@ -2,8 +2,8 @@
 
 ghost use Rattle.std.specs.Prelude.{◌≡◌, ◌<◌, ◌++◌, ◌∷◌, [], ℕ, OnOk, All};
 ghost use Rattle.fab_fabric.specs.Wires.{numbered_wire};
-ghost use Rattle.fab_ways.specs.Trees.{edges_along};
-ghost use Rattle.fab_nodes.specs.Nets.{wires_along};
+ghost use Rattle.fab_ways_laws.specs.Trees.{edges_along};
+ghost use Rattle.fab_nodes_laws.specs.Nets.{wires_along};
 ghost use Rattle.fab_route.specs.Plain.{graph_of, numbering_of, hop_edges};
 
 use crate::nodes::Nodes;

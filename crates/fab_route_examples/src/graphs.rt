@@ -3,7 +3,7 @@
 
 ghost use Rattle.std.specs.Prelude.{◌<◌};
 ghost use Rattle.fab_fabric.specs.Fabric.{wire_count};
-ghost use Rattle.fab_ways.specs.Bounds.{IsSpan};
+ghost use Rattle.fab_ways_laws.specs.Bounds.{IsSpan};
 
 use crate::shown::{put_text, put_wire};
 use crate::verdicts::put_verdict;

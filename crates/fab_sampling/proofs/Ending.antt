@@ -7,11 +7,11 @@ use Rattle.fab_desk.specs.Files.{Map}
 use Rattle.fab_desk.specs.Memory.{map_of}
 use Rattle.fab_files.specs.Files.{Event, refuses}
 use Rattle.fab_outputs.specs.Ending.{HasCause}
-use Rattle.fab_sample_runs.specs.fab_flow_Flowing.{HasFlowCause, IsReadyToFlow, MeetsFlow}
-use Rattle.fab_sample_runs.proofs.fab_flow_FlowedOnce.{flow_not_both}
+use Rattle.fab_sample_runs_laws.specs.fab_flow_Flowing.{HasFlowCause, IsReadyToFlow, MeetsFlow}
+use Rattle.fab_sample_runs_laws.proofs.fab_flow_FlowedOnce.{flow_not_both}
 use Rattle.fab_draws.specs.Draws.{draws_of}
-use Rattle.fab_sample_runs.specs.fab_sample_designs_Ready.{SamplesAreReady}
-use Rattle.fab_sample_runs.specs.Commands.{names, rounds}
+use Rattle.fab_sample_runs_laws.specs.fab_sample_designs_laws_Ready.{SamplesAreReady}
+use Rattle.fab_sample_runs_laws.specs.Commands.{names, rounds}
 use Rattle.fab_sampling.specs.declared.outcome.Outcome.{Outcome}
 use Rattle.fab_sampling.specs.declared.outcome.Outcome.TheVariants.{Unmapped}
 use Rattle.fab_sampling.specs.declared.run.Run.{Run}

@@ -8,7 +8,7 @@ use Rattle.fab_model.specs.Grid.{PlainFabric}
 use Rattle.fab_syntax.specs.Spelling.{text_bytes}
 use Rattle.fab_netlist.specs.Packing.{packed}
 use Rattle.fab_netlist.specs.Packed.{PlainPacked}
-use Rattle.fab_ways.specs.Placing.{cost}
+use Rattle.fab_ways_laws.specs.Placing.{cost}
 use Rattle.fab_implementation.specs.Plain.{PlainImplementation}
 use Rattle.fab_legal.specs.Legal.{ArePlaced}
 use Rattle.fab_legal.specs.WellMade.{IsWellMadePacked}
@@ -21,13 +21,13 @@ use Rattle.fab_designs.specs.Designs.{PlainDesign, SpellsDesign}
 use Rattle.fab_designs.specs.Implementations.{ReadsImplementation}
 use Rattle.fab_designs.proofs.Judged.{design_is_judged}
 use Rattle.fab_outputs.specs.Storing.{IsDone, PlainOutput, with_outputs}
-use Rattle.fab_sample_runs.specs.fab_flow_Generating.{generated_text}
-use Rattle.fab_sample_runs.specs.fab_flow_Flowing.{MakesFlow, flow_outputs}
-use Rattle.fab_sample_runs.proofs.fab_stored_flow_HandedOut.{found_is, given_out}
-use Rattle.fab_sample_runs.specs.fab_spelled_designs_Laws.{IsSound, LegalDesignsAreSpelled, SpelledDesignsAreSound}
+use Rattle.fab_sample_runs_laws.specs.fab_flow_Generating.{generated_text}
+use Rattle.fab_sample_runs_laws.specs.fab_flow_Flowing.{MakesFlow, flow_outputs}
+use Rattle.fab_sample_runs_laws.proofs.fab_stored_flow_laws_HandedOut.{found_is, given_out}
+use Rattle.fab_sample_runs_laws.specs.fab_spelled_designs_laws_Laws.{IsSound, LegalDesignsAreSpelled, SpelledDesignsAreSound}
 use Rattle.fab_draws.specs.Draws.{draws_of}
-use Rattle.fab_sample_runs.specs.Commands.{names, rounds}
-use Rattle.fab_sample_runs.specs.Laws.{SampleImplementationsAreShort}
+use Rattle.fab_sample_runs_laws.specs.Commands.{names, rounds}
+use Rattle.fab_sample_runs_laws.specs.Laws.{SampleImplementationsAreShort}
 use Rattle.fab_sampling.specs.declared.run.Run.{Run}
 use Rattle.fab_sampling.specs.inner.Running.{files_of, HasFlowed, IsNew}
 use Rattle.fab_sampling.proofs.Texts.{is_text}

@@ -1,9 +1,9 @@
 -- The names of a sample's files, as the code has them.
 use Rattle.std.proofs.Common.{◌≡◌, ◌<◌, ℕ, List, codes, None, subst, arith}
 use Rattle.fab_designs.specs.Designs.{DesignFiles, design_files}
-use Rattle.fab_sample_runs.specs.fab_flow_Flowing.{FlowFiles, flow_files}
-use Rattle.fab_sample_runs.specs.fab_simulate_Simulating.{SimulationFiles, simulation_files}
-use Rattle.fab_sample_runs.specs.Commands.{names, simulated}
+use Rattle.fab_sample_runs_laws.specs.fab_flow_Flowing.{FlowFiles, flow_files}
+use Rattle.fab_sample_runs_laws.specs.fab_simulate_command_Simulating.{SimulationFiles, simulation_files}
+use Rattle.fab_sample_runs_laws.specs.Commands.{names, simulated}
 
 pub design_named : (P : DesignFiles → Type 0) (fabric blif : List ℕ) → fabric ≡ codes "sample.csv" → blif ≡ codes "sample.blif" → P (design_files fabric blif None) → P names.design
 design_named P fabric blif f b p = subst (λ (n : List ℕ). P (design_files n (codes "sample.blif") None)) f (subst (λ (n : List ℕ). P (design_files fabric n None)) b p)

@@ -5,7 +5,7 @@ use Rattle.fab_designs.specs.Designs.{SpellsDesign}
 use Rattle.fab_sampling.specs.declared.outcome.Outcome.{Outcome}
 use Rattle.fab_sampling.specs.declared.run.Run.{Run}
 use Rattle.fab_sampling.specs.inner.Running.{files_of, IsNew}
-use Rattle.fab_sample_runs.specs.Commands.{names}
+use Rattle.fab_sample_runs_laws.specs.Commands.{names}
 use Rattle.fab_sampling.specs.Sampling.{ComesTo, IsSummary}
 use Rattle.fab_sampling.specs.Summary.{summary_text}
 

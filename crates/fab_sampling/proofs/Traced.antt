@@ -5,14 +5,14 @@ use Rattle.fab_base.specs.declared.fault.Fault.TheVariants as faults
 use Rattle.fab_desk.specs.Files.{Map}
 use Rattle.fab_desk.specs.Memory.{map_of}
 use Rattle.fab_netlist.specs.Packing.{packed}
-use Rattle.fab_ways.specs.Placing.{cost}
+use Rattle.fab_ways_laws.specs.Placing.{cost}
 use Rattle.fab_outputs.specs.Storing.{IsDone, with_outputs}
-use Rattle.fab_sample_runs.specs.fab_simulate_Simulating.{HasSimulateCause, IsReadyToSimulate, MakesTrace, MeetsSimulation, simulate_refusals}
-use Rattle.fab_sample_runs.proofs.fab_simulate_SimulatedOnce.{not_both}
-use Rattle.fab_simulated_flow.specs.Laws.{FlowFilesSimulate}
+use Rattle.fab_sample_runs_laws.specs.fab_simulate_command_Simulating.{HasSimulateCause, IsReadyToSimulate, MakesTrace, MeetsSimulation, simulate_refusals}
+use Rattle.fab_sample_runs_laws.proofs.fab_simulate_command_SimulatedOnce.{not_both}
+use Rattle.fab_simulated_flow_laws.specs.Laws.{FlowFilesSimulate}
 use Rattle.fab_draws.specs.Draws.{draws_of}
-use Rattle.fab_sample_runs.specs.Commands.{rounds, simulated, names}
-use Rattle.fab_sample_runs.specs.Laws.{SamplesSimulate}
+use Rattle.fab_sample_runs_laws.specs.Commands.{rounds, simulated, names}
+use Rattle.fab_sample_runs_laws.specs.Laws.{SamplesSimulate}
 use Rattle.fab_sampling.specs.declared.run.Run.{Run}
 use Rattle.fab_sampling.specs.inner.Running.{files_of, HasFlowed, HasTraced}
 use Rattle.fab_sampling.specs.Sampling.{IsMapped}

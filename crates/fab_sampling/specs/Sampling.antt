@@ -4,16 +4,16 @@ use Rattle.fab_base.specs.declared.fault.Fault.{Fault}
 use Rattle.fab_base.specs.declared.fault.Fault.TheVariants as faults
 use Rattle.fab_desk.specs.Files.{Map}
 use Rattle.fab_netlist.specs.Packing.{packed}
-use Rattle.fab_ways.specs.Placing.{cost}
+use Rattle.fab_ways_laws.specs.Placing.{cost}
 use Rattle.fab_designs.specs.Designs.{PlainDesign, SpellsDesign}
 use Rattle.fab_outputs.specs.Storing.{PlainOutput, output, with_outputs}
-use Rattle.fab_sample_runs.specs.fab_flow_Flowing.{FailsToFlow, MakesFlow}
-use Rattle.fab_sample_runs.specs.fab_simulate_Simulating.{MakesTrace}
-use Rattle.fab_simulated_flow.specs.Laws.{TracesNetlist}
+use Rattle.fab_sample_runs_laws.specs.fab_flow_Flowing.{FailsToFlow, MakesFlow}
+use Rattle.fab_sample_runs_laws.specs.fab_simulate_command_Simulating.{MakesTrace}
+use Rattle.fab_simulated_flow_laws.specs.Laws.{TracesNetlist}
 use Rattle.fab_sample.specs.declared.file.File.{File}
 use Rattle.fab_draws.specs.Draws.{draws_of}
 use Rattle.fab_sample.specs.Files.{sample_files}
-use Rattle.fab_sample_runs.specs.Commands.{names, rounds, simulated}
+use Rattle.fab_sample_runs_laws.specs.Commands.{names, rounds, simulated}
 use Rattle.fab_sampling.specs.Summary.{edge_count, summary_text}
 use Rattle.fab_sampling.specs.declared.outcome.Outcome.{Outcome}
 use Rattle.fab_sampling.specs.declared.outcome.Outcome.TheVariants.{Mapped, Unmapped}

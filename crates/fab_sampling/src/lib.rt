@@ -10,7 +10,7 @@ mod sampling;
 mod shelf;
 mod stocking;
 
-pub use fab_sample_runs::{
+pub use fab_sample_runs_laws::{
     do_assemble, do_bits, do_features, do_flow, do_generate, do_map, do_matrix, do_simulate,
 };
 pub use sampling::summary;

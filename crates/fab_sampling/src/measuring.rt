@@ -3,7 +3,7 @@
 ghost use Rattle.std.specs.Prelude.{◌≡◌, length, sum_by, IfOk};
 ghost use Rattle.fab_desk.specs.Memory.{map_of};
 ghost use Rattle.fab_netlist.specs.Packing.{packed as packed_of};
-ghost use Rattle.fab_ways.specs.Placing.{cost as cost_of};
+ghost use Rattle.fab_ways_laws.specs.Placing.{cost as cost_of};
 ghost use Rattle.fab_sampling.specs.inner.Running.{HasFlowed};
 ghost use Rattle.fab_sampling.specs.Summary.{edge_count};
 
@@ -14,7 +14,7 @@ use fab_designs::read_implementation;
 use fab_implementation::{Implementation, Tree};
 use fab_netlist::{Netlist, Packed, pack};
 use fab_place::cost;
-use fab_sample_runs::{
+use fab_sample_runs_laws::{
     legal_designs_are_spelled, sample_implementations_are_short, spelled_designs_are_sound,
 };
 use std::alloc::Global;

@@ -4,7 +4,7 @@ ghost use Rattle.std.specs.Prelude.{◌≡◌, ◌≢◌, ◌≤◌, IfErr, IfOk
 ghost use Rattle.fab_base.specs.declared.fault.Fault.TheVariants as faults;
 ghost use Rattle.fab_desk.specs.Memory.{map_of};
 ghost use Rattle.fab_designs.specs.Designs.{SpellsDesign};
-ghost use Rattle.fab_sample_runs.specs.Commands.{names};
+ghost use Rattle.fab_sample_runs_laws.specs.Commands.{names};
 ghost use Rattle.fab_sampling.specs.inner.Running.{files_of, EndsFlow, HasFlowed, IsNew, HasTraced};
 ghost use Rattle.fab_sampling.specs.Sampling.{sample_map, ComesTo};
 ghost use Rattle.fab_sampling.specs.declared.outcome.Outcome.TheVariants.{Unmapped};
@@ -17,10 +17,10 @@ use crate::stocking::stocked;
 use fab_base::{Fault, Memory, Name};
 use fab_designs::{Design, read_design};
 use fab_progress::{Progress, Silent};
-use fab_sample_runs::{
+use fab_sample_runs_laws::{
     do_flow, do_simulate, sample_designs_are_read, samples_are_ready, samples_simulate,
 };
-use fab_simulated_flow::flow_files_simulate;
+use fab_simulated_flow_laws::flow_files_simulate;
 use std::alloc::Global;
 
 /// A sample: its size and its seed, the design that its files spell, and these files with what commands made of them.

@@ -3,26 +3,26 @@ use Rattle.std.proofs.Common.{◌≡◌, ℕ, true, false, List, map, Some, if�
 use Rattle.std.specs.List.{slice_get}
 use Rattle.std.proofs.lemmas.Option.{slice_get_within, slice_get-get_or, get_or_from_slice_get}
 use Rattle.fab_syntax.specs.Plain.{PlainModule}
-use Rattle.fab_systems.specs.Ternary.{no, yes, unknown, known}
-use Rattle.fab_systems.specs.Ternary.{Tern as PlainTern}
+use Rattle.fab_systems_laws.specs.Ternary.{no, yes, unknown, known}
+use Rattle.fab_systems_laws.specs.Ternary.{Tern as PlainTern}
 use Rattle.fab_meaning.specs.Points.{Point, outside, Drives}
 use Rattle.fab_meaning.specs.Reads.{is_declared}
 use Rattle.fab_meaning.specs.Settled.{Assignment}
 use Rattle.fab_implementation.specs.Plain.{Pad}
 use Rattle.fab_prim.specs.Ports.{top_name}
 use Rattle.fab_state.specs.Plain.{PlainState}
-use Rattle.fab_tern.specs.Shown.{Terns}
+use Rattle.fab_ternary_laws.specs.Shown.{Terns}
 use Rattle.fab_ternary.specs.Terns.{is_known, is_one}
 use Rattle.fab_equations.specs.Equations.{IsPoint}
 use Rattle.fab_equations.proofs.Numbering.{some_there}
-use Rattle.fab_ordering.specs.fab_use_Sites.{top_point}
+use Rattle.fab_ordering_laws.specs.fab_use_defs_Sites.{top_point}
 use Rattle.fab_phases.specs.Cycles.{IsIn}
 use Rattle.fab_phases.proofs.Lists.{get_mapped, get_of_mapped}
 use Rattle.fab_state_points.specs.Entries.{entry_point, in_entries, HasEntry}
 use Rattle.fab_state_points.specs.declared.entry.Entry.{Entry}
 use Rattle.fab_state_points.specs.declared.entry.Entry.TheVariants as entries
 use Rattle.fab_state_points.specs.Standing.{AreAt}
-use Rattle.fab_ordering.specs.Ordered.{IsNamedInput}
+use Rattle.fab_ordering_laws.specs.Ordered.{IsNamedInput}
 use Rattle.fab_sim.proofs.Numbers.{line_at}
 use Rattle.fab_sim.proofs.Points.{input_drives, one_point}
 

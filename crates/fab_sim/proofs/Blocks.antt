@@ -8,8 +8,8 @@ use Rattle.fab_draws.specs.Draws.{after, behind, word_at}
 use Rattle.fab_draws.specs.Shuffled.{shuffled}
 use Rattle.fab_draws.proofs.Drawing.{words_behind}
 use Rattle.fab_syntax.specs.Plain.{PlainModule}
-use Rattle.fab_systems.specs.Ternary.{no, yes, unknown, known}
-use Rattle.fab_systems.specs.Ternary.{Tern as PlainTern}
+use Rattle.fab_systems_laws.specs.Ternary.{no, yes, unknown, known}
+use Rattle.fab_systems_laws.specs.Ternary.{Tern as PlainTern}
 use Rattle.fab_meaning.specs.Sound.{PointsOfSoundTextsHaveOneDriver}
 use Rattle.fab_state.specs.Plain.{PlainState}
 use Rattle.fab_ternary.specs.declared.Tern.{Tern}
@@ -23,7 +23,7 @@ use Rattle.fab_wiring.proofs.Solved.{is_point}
 use Rattle.fab_stepping.specs.Activating.{AreActivated, AreApart, HasChanged}
 use Rattle.fab_stepping.specs.Boards.{IsBoardOf}
 use Rattle.fab_stepping.proofs.Standing.{activated_states, AreStepped}
-use Rattle.fab_ordering.specs.Ordered.{Moment, ChangesKnown, IsOrderedBlock}
+use Rattle.fab_ordering_laws.specs.Ordered.{Moment, ChangesKnown, IsOrderedBlock}
 use Rattle.fab_state_points.specs.Standing.{StandsAt}
 use Rattle.fab_sim.specs.Making.{IsNetworkOf}
 use Rattle.fab_sim.specs.Stepper.{AreFreeInputs, Stands}

@@ -7,7 +7,7 @@ use Rattle.std.proofs.Common.{length-set}
 use Rattle.std.proofs.lemmas.List.{length-replicate, take-append-le, take_all}
 use Rattle.std.proofs.lemmas.Option.{slice_get_within}
 use Rattle.fab_syntax.specs.Plain.{PlainModule}
-use Rattle.fab_systems.specs.Ternary.{no, unknown}
+use Rattle.fab_systems_laws.specs.Ternary.{no, unknown}
 use Rattle.fab_ternary.specs.declared.Tern.{Tern}
 use Rattle.fab_ternary.specs.declared.Tern.TheVariants.{No, Yes, Open}
 use Rattle.fab_compiled.specs.Leading.{PointTerns}

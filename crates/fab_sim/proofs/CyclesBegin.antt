@@ -7,7 +7,7 @@ use Rattle.fab_syntax.specs.Plain.{PlainModule}
 use Rattle.fab_meaning.specs.Activation.{State}
 use Rattle.fab_meaning.specs.Sound.{PointsOfSoundTextsHaveOneDriver}
 use Rattle.fab_state.specs.Plain.{PlainState}
-use Rattle.fab_solutions.specs.Laws.{LeastSolutionsExist}
+use Rattle.fab_solutions_laws.specs.Laws.{LeastSolutionsExist}
 use Rattle.fab_ternary.specs.declared.Tern.{Tern}
 use Rattle.fab_equations.specs.Instances.{points}
 use Rattle.fab_compiled.specs.Terns.{seen}
@@ -23,7 +23,7 @@ use Rattle.fab_stepping.specs.Drawing as by_number
 use Rattle.fab_stepping.specs.Standing.{StandsFor}
 use Rattle.fab_stepping.proofs.Leaving.{solved_by, IsSolvedBy}
 use Rattle.fab_stepping.proofs.Reading.{leads_seen}
-use Rattle.fab_ordering.specs.Ordered.{Moment, IsBegun, IsFreeInput}
+use Rattle.fab_ordering_laws.specs.Ordered.{Moment, IsBegun, IsFreeInput}
 use Rattle.fab_sim.specs.Making.{IsNetworkOf}
 use Rattle.fab_sim.specs.Stepper.{AreFreeInputs, Stands}
 use Rattle.fab_sim.specs.declared.stepper.Stepper.{Stepper}

@@ -2,10 +2,10 @@
 use Rattle.std.proofs.Common.{◌≡◌, ◌≢◌, ℕ, Bool, List, Option, None, Some, map, length, if◌then◌else◌, refl, sym, ap, subst, ◌∙◌, inl, inr}
 use Rattle.std.specs.List.{slice_get}
 use Rattle.fab_syntax.specs.Plain.{PlainModule}
-use Rattle.fab_systems.specs.Ternary.{Tern, no, known}
+use Rattle.fab_systems_laws.specs.Ternary.{Tern, no, known}
 use Rattle.fab_meaning.specs.Points.{Point, Driver, outside, copy, bit_of, flop, hold, Drives, IsStored}
 use Rattle.fab_meaning.specs.Runs.{user_clock_name}
-use Rattle.fab_tern.specs.Shown.{Terns}
+use Rattle.fab_ternary_laws.specs.Shown.{Terns}
 use Rattle.fab_state.specs.Plain.{PlainState}
 use Rattle.fab_equations.specs.Equations.{IsPoint}
 use Rattle.fab_equations.proofs.Numbering.{same_value}
@@ -22,7 +22,7 @@ use Rattle.fab_network.specs.Solved.{IsLeast}
 use Rattle.fab_demand.specs.Asked.{Asked}
 use Rattle.fab_wiring.specs.Given.{IsGivenTo, given_at, given_tern, left_by, left_tern, ticks_at}
 use Rattle.fab_wiring.specs.Laws.{LeastByNumber, LeftByNumber, NumbersHaveTerns}
-use Rattle.fab_ordering.specs.fab_simulation_Simulation.{given, IsCycle}
+use Rattle.fab_ordering_laws.specs.fab_simulation_laws_Simulation.{given, IsCycle}
 use Rattle.fab_phases.specs.Cycles.{IsFed, IsIn, IsRunningAt, IsTicked}
 use Rattle.fab_sim.specs.Machine.{IsAt}
 use Rattle.fab_sim.specs.declared.machine.Machine.{Machine}

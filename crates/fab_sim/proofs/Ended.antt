@@ -6,7 +6,7 @@ use Rattle.std.proofs.lemmas.Bool.{cases_eq}
 use Rattle.fab_equations.proofs.Placing.{get_set_other, get_set_same}
 use Rattle.fab_draws.specs.Draws.{word_at}
 use Rattle.fab_syntax.specs.Plain.{PlainModule}
-use Rattle.fab_systems.specs.Ternary.{known}
+use Rattle.fab_systems_laws.specs.Ternary.{known}
 use Rattle.fab_meaning.specs.Sound.{PointsOfSoundTextsHaveOneDriver}
 use Rattle.fab_implementation.specs.Plain.{Pad}
 use Rattle.fab_state.specs.Plain.{PlainState}
@@ -14,12 +14,12 @@ use Rattle.fab_ternary.specs.declared.Tern.{Tern}
 use Rattle.fab_ternary.specs.Terns.{is_one}
 use Rattle.fab_equations.specs.Instances.{points}
 use Rattle.fab_compiled.specs.Leading.{PointTerns}
-use Rattle.fab_ordering.specs.fab_use_Sites.{top_point}
+use Rattle.fab_ordering_laws.specs.fab_use_defs_Sites.{top_point}
 use Rattle.fab_network.specs.Passes.{kept_tern}
 use Rattle.fab_state_points.specs.Standing.{StandsAt}
 use Rattle.fab_stepping.specs.Boards.{IsBoardOf, IsTicked, LeadToThemselves}
 use Rattle.fab_stepping.proofs.Leaving.{ticked_state, IsTickedState}
-use Rattle.fab_ordering.specs.Ordered.{Moment, IsEnd}
+use Rattle.fab_ordering_laws.specs.Ordered.{Moment, IsEnd}
 use Rattle.fab_stepping.specs.Activating.{AreApart}
 use Rattle.fab_network.specs.declared.network.Network.{Network}
 use Rattle.fab_sim.specs.Making.{IsNetworkOf}

@@ -5,13 +5,13 @@ use Rattle.std.proofs.lemmas.Bool.{cases_Bool}
 use Rattle.std.proofs.lemmas.Option.{slice_get_within}
 use Rattle.fab_draws.specs.Draws.{is_one as is_set, word_at}
 use Rattle.fab_syntax.specs.Plain.{PlainModule}
-use Rattle.fab_systems.specs.Ternary.{no, known}
+use Rattle.fab_systems_laws.specs.Ternary.{no, known}
 use Rattle.fab_meaning.specs.Points.{Point, Driver, outside, copy, bit_of, flop, hold, IsStored}
 use Rattle.fab_meaning.specs.Reads.{is_declared}
 use Rattle.fab_meaning.specs.Settled.{Assignment}
 use Rattle.fab_meaning.specs.Sound.{PointsOfSoundTextsHaveOneDriver}
 use Rattle.fab_state.specs.Plain.{PlainState}
-use Rattle.fab_tern.specs.Shown.{Terns}
+use Rattle.fab_ternary_laws.specs.Shown.{Terns}
 use Rattle.fab_ternary.specs.declared.Tern.{Tern}
 use Rattle.fab_ternary.specs.Terns.{is_known, is_one}
 use Rattle.fab_equations.specs.Instances.{points}
@@ -20,7 +20,7 @@ use Rattle.fab_equations.proofs.Numbering.{same_value, some_there}
 use Rattle.fab_compiled.specs.declared.tree.Tree.{Tree}
 use Rattle.fab_equations.proofs.Points.{declared_are_points}
 use Rattle.fab_compiled.specs.Values.{AreByNumber}
-use Rattle.fab_ordering.specs.fab_simulation_Simulation.{given}
+use Rattle.fab_ordering_laws.specs.fab_simulation_laws_Simulation.{given}
 use Rattle.fab_network.specs.declared.network.Clock.{Clock}
 use Rattle.fab_network.specs.declared.network.Source.{Source}
 use Rattle.fab_network.specs.declared.network.Drive.{Drive}
@@ -32,7 +32,7 @@ use Rattle.fab_wiring.proofs.Solved.{is_point}
 use Rattle.fab_phases.specs.Cycles.{IsFed}
 use Rattle.fab_stepping.specs.Drawing.{marked_before}
 use Rattle.fab_stepping.specs.Drawing as by_number
-use Rattle.fab_ordering.specs.Ordered.{Moment, IsFreeInput, IsNamedInput}
+use Rattle.fab_ordering_laws.specs.Ordered.{Moment, IsFreeInput, IsNamedInput}
 use Rattle.fab_sim.specs.Stepper.{Stands}
 use Rattle.fab_sim.specs.declared.stepper.Stepper.{Stepper}
 use Rattle.fab_sim.proofs.Blocks.{known_is, one_bit}

@@ -21,7 +21,7 @@ use Rattle.fab_wiring.specs.Clocks.{IsClockAt}
 use Rattle.fab_phases.specs.Cycles.{IsIn}
 use Rattle.fab_state_points.specs.Standing.{StandsAt}
 use Rattle.fab_state_points.specs.declared.points.StatePoints.{StatePoints}
-use Rattle.fab_ordering.specs.Ordered.{IsFreeInput, IsNamedInput}
+use Rattle.fab_ordering_laws.specs.Ordered.{IsFreeInput, IsNamedInput}
 use Rattle.fab_sim.specs.Making.{AreLoadingPoints, IsNetworkOf}
 use Rattle.fab_sim.specs.inner.Rooms.{free_by, IsUnmarked, IsUnmarkedAt}
 use Rattle.fab_sim.specs.Stepper.{AreFreeInputs}

@@ -5,7 +5,7 @@ use Rattle.fab_draws.specs.Draws.{is_one}
 use Rattle.fab_meaning.specs.Points.{Point}
 use Rattle.fab_meaning.specs.Settled.{Assignment}
 use Rattle.fab_stepping.specs.Drawing.{marked_before}
-use Rattle.fab_ordering.specs.Ordered.{AreDrawn, none, passes, takes}
+use Rattle.fab_ordering_laws.specs.Ordered.{AreDrawn, none, passes, takes}
 
 -- the marks of points tell a set, and its points have the words of their places
 pub record AreMarkedSo (draws : ℕ → ℕ) (Has : Point → Type 0) (values : Assignment) (mark : Bool) (ps : List Point) (marks : List Bool) (first : ℕ) : Type 0 where

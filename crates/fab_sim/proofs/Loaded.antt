@@ -7,7 +7,7 @@ use Rattle.std.proofs.lemmas.Option.{slice_get_within}
 use Rattle.fab_bits.specs.Bits.{digits}
 use Rattle.fab_syntax.specs.Plain.{PlainModule}
 use Rattle.fab_syntax.specs.declared.tree.Shape.TheVariants.{Scalar, Vector}
-use Rattle.fab_systems.specs.Ternary.{Tern, no, yes, known}
+use Rattle.fab_systems_laws.specs.Ternary.{Tern, no, yes, known}
 use Rattle.fab_meaning.specs.Value.{bit_at}
 use Rattle.fab_meaning.specs.Points.{Point, point, Driver, outside, copy, bit_of, flop, hold, Drives, IsStored}
 use Rattle.fab_meaning.specs.Settled.{Assignment, IsSettledOn}
@@ -15,9 +15,9 @@ use Rattle.fab_meaning.specs.Reads.{is_declared}
 use Rattle.fab_meaning.specs.Runs.{AreClocksLow, clock_name, clock_of, IsRunOn, kept, Moment, Ticks}
 use Rattle.fab_meaning.specs.Loading.{IsClosed, IsDerived, IsLoading, IsStream, OffersWord, OfferWords, Within, by_flop, by_stream, by_reads, write_data_name, write_strobe_name}
 use Rattle.fab_meaning.specs.Sound.{PointsOfSoundTextsHaveOneDriver}
-use Rattle.fab_tern.specs.Shown.{Terns}
-use Rattle.fab_solutions.specs.Solutions.{Solves as SolvesText, tern_kept}
-use Rattle.fab_solutions.specs.Laws.{LeastSolutionsExist}
+use Rattle.fab_ternary_laws.specs.Shown.{Terns}
+use Rattle.fab_solutions_laws.specs.Solutions.{Solves as SolvesText, tern_kept}
+use Rattle.fab_solutions_laws.specs.Laws.{LeastSolutionsExist}
 use Rattle.fab_equations.specs.Instances.{points}
 use Rattle.fab_equations.specs.Equations.{IsPoint}
 use Rattle.fab_equations.proofs.Points.{declared_are_points}
@@ -32,9 +32,9 @@ use Rattle.fab_wiring.specs.Wiring.{clock_called, IsDriveOf}
 use Rattle.fab_wiring.specs.Given.{IsGivenTo, left_by, left_tern}
 use Rattle.fab_wiring.specs.Laws.{LeastByNumber, LeftByNumber, NumbersHaveTerns, PointsHaveTerns, SolutionsByNumber}
 use Rattle.fab_wiring.proofs.Solved.{is_point}
-use Rattle.fab_ordering.proofs.fab_drives_Apart.{told_apart}
-use Rattle.fab_ordering.specs.fab_simulation_Simulation.{zeros}
-use Rattle.fab_ordering.specs.fab_simulation_Laws.{AreKnown, LoadingIsKept, LoadingIsKnown}
+use Rattle.fab_ordering_laws.proofs.fab_drives_laws_Apart.{told_apart}
+use Rattle.fab_ordering_laws.specs.fab_simulation_laws_Simulation.{zeros}
+use Rattle.fab_ordering_laws.specs.fab_simulation_laws_Laws.{AreKnown, LoadingIsKept, LoadingIsKnown}
 use Rattle.fab_phases.specs.Loading.{IsSolvable}
 use Rattle.fab_phases.specs.Words.{AreLoadSteps, IsLoadStep, word_bit}
 use Rattle.fab_state_points.specs.Standing.{HasStream, IsStreamAt}

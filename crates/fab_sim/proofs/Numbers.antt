@@ -7,7 +7,7 @@ use Rattle.std.proofs.lemmas.List.{length-map}
 use Rattle.std.proofs.lemmas.Option.{slice_get_within, get_or_from_slice_get}
 use Rattle.fab_syntax.specs.Plain.{PlainModule}
 use Rattle.fab_syntax.specs.Sound.{IsSound}
-use Rattle.fab_systems.specs.Ternary.{Tern, no, known}
+use Rattle.fab_systems_laws.specs.Ternary.{Tern, no, known}
 use Rattle.fab_meaning.specs.Points.{Point, flop}
 use Rattle.fab_meaning.specs.Reads.{same_point}
 use Rattle.fab_meaning.proofs.Dependence.{same_point_refl, same_point_is}
@@ -17,7 +17,7 @@ use Rattle.fab_prim.specs.Modules.{flip_flop_name}
 use Rattle.fab_texts.specs.Places.{IsWritable}
 use Rattle.fab_state.specs.Plain.{Register, PlainState}
 use Rattle.fab_state.specs.Spelled.{AreApart, sites}
-use Rattle.fab_tern.specs.Shown.{Terns}
+use Rattle.fab_ternary_laws.specs.Shown.{Terns}
 use Rattle.fab_equations.specs.Instances.{points}
 use Rattle.fab_equations.specs.Equations.{IsPoint}
 use Rattle.fab_equations.proofs.Numbering.{some_there}
@@ -26,8 +26,8 @@ use Rattle.fab_compiled.specs.Leading.{PointTerns}
 use Rattle.fab_compiled.specs.Values.{AreByNumber}
 use Rattle.fab_network.specs.declared.network.Drive.TheVariants.{Given}
 use Rattle.fab_network.specs.declared.network.Network.{Network}
-use Rattle.fab_ordering.specs.fab_use_Sites.{bel_point, top_point}
-use Rattle.fab_ordering.specs.fab_simulation_Simulation.{given, shown_at, with_registers}
+use Rattle.fab_ordering_laws.specs.fab_use_defs_Sites.{bel_point, top_point}
+use Rattle.fab_ordering_laws.specs.fab_simulation_laws_Simulation.{given, shown_at, with_registers}
 use Rattle.fab_phases.specs.Cycles.{AreOnce, IsIn}
 use Rattle.fab_phases.specs.Running.{AreNumbers}
 use Rattle.fab_phases.proofs.Lists.{get_mapped, get_of_mapped}

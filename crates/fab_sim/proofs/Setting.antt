@@ -2,7 +2,7 @@
 use Rattle.std.proofs.Common.{◌≡◌, ℕ, zero, suc, ◌+◌, ◌<◌, Bool, false, List, length, refl, ap, subst, ◌∙◌, slice_set}
 use Rattle.std.specs.List.{slice_get}
 use Rattle.fab_bits.specs.Bits.{digits}
-use Rattle.fab_systems.specs.Ternary.{known, unknown}
+use Rattle.fab_systems_laws.specs.Ternary.{known, unknown}
 use Rattle.fab_meaning.specs.Value.{bit_at}
 use Rattle.fab_ternary.specs.declared.Tern.{Tern}
 use Rattle.fab_ternary.specs.declared.Tern.TheVariants.{No}

@@ -8,8 +8,8 @@ use Rattle.fab_prim.specs.Ports.{top_name}
 use Rattle.fab_prim.specs.Modules.{flip_flop_name}
 use Rattle.fab_gen_tile.specs.Names.{letter}
 use Rattle.fab_texts.specs.Places.{IsWritable}
-use Rattle.fab_ordering.proofs.fab_drives_Places.{digits_of, same_digits, same_place}
-use Rattle.fab_ordering.specs.fab_use_Sites.{bel_point, top_point}
+use Rattle.fab_ordering_laws.proofs.fab_drives_laws_Places.{digits_of, same_digits, same_place}
+use Rattle.fab_ordering_laws.specs.fab_use_defs_Sites.{bel_point, top_point}
 
 place_parts : (x y : ℕ) (rest : List ℕ) → place_name x y ++ rest ≡ 88 ∷ (decimal x ++ 89 ∷ (decimal y ++ rest))
 place_parts x y rest = search (append_assoc)

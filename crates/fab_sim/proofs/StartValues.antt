@@ -5,13 +5,13 @@ use Rattle.std.proofs.lemmas.Bool.{cases_Bool}
 use Rattle.std.proofs.lemmas.Option.{slice_get_within}
 use Rattle.fab_draws.specs.Draws.{is_one as is_set, word_at}
 use Rattle.fab_syntax.specs.Plain.{PlainModule}
-use Rattle.fab_systems.specs.Ternary.{no, known}
+use Rattle.fab_systems_laws.specs.Ternary.{no, known}
 use Rattle.fab_meaning.specs.Points.{Point, Driver, Drives, IsStored}
 use Rattle.fab_meaning.specs.Settled.{Assignment}
 use Rattle.fab_meaning.specs.Loading.{IsLoading, IsStream}
-use Rattle.fab_load_runs.specs.Runs.{Decides, LoadingIsDecided}
+use Rattle.fab_load_runs_laws.specs.Runs.{Decides, LoadingIsDecided}
 use Rattle.fab_state.specs.Plain.{PlainState}
-use Rattle.fab_tern.specs.Shown.{Terns}
+use Rattle.fab_ternary_laws.specs.Shown.{Terns}
 use Rattle.fab_ternary.specs.declared.Tern.{Tern}
 use Rattle.fab_ternary.specs.Terns.{is_known, is_one}
 use Rattle.fab_equations.specs.Instances.{points}
@@ -19,7 +19,7 @@ use Rattle.fab_equations.specs.Equations.{IsPoint}
 use Rattle.fab_equations.proofs.Numbering.{some_there}
 use Rattle.fab_equations.proofs.Points.{declared_are_points}
 use Rattle.fab_compiled.specs.Values.{AreByNumber}
-use Rattle.fab_ordering.specs.fab_simulation_Simulation.{IsLoaded, with_registers}
+use Rattle.fab_ordering_laws.specs.fab_simulation_laws_Simulation.{IsLoaded, with_registers}
 use Rattle.fab_network.specs.Passes.{kept_tern}
 use Rattle.fab_wiring.proofs.Numbered.{points_have_terns}
 use Rattle.fab_wiring.proofs.Solved.{is_point}

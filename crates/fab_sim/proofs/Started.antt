@@ -4,11 +4,11 @@ use Rattle.std.specs.List.{slice_get}
 use Rattle.std.proofs.lemmas.Bool.{cases_lt}
 use Rattle.std.proofs.lemmas.Option.{slice_get_within}
 use Rattle.fab_syntax.specs.Plain.{PlainModule}
-use Rattle.fab_systems.specs.Ternary.{known, no, unknown}
+use Rattle.fab_systems_laws.specs.Ternary.{known, no, unknown}
 use Rattle.fab_meaning.specs.Points.{Point, Driver, Drives, IsStored}
 use Rattle.fab_meaning.specs.Settled.{Assignment}
 use Rattle.fab_meaning.specs.Loading.{IsLoading}
-use Rattle.fab_tern.specs.Shown.{Terns}
+use Rattle.fab_ternary_laws.specs.Shown.{Terns}
 use Rattle.fab_state.specs.Plain.{PlainState}
 use Rattle.fab_equations.specs.Instances.{points}
 use Rattle.fab_equations.specs.Equations.{IsPoint}
@@ -16,7 +16,7 @@ use Rattle.fab_equations.proofs.Numbering.{some_there}
 use Rattle.fab_compiled.specs.Leading.{PointTerns}
 use Rattle.fab_network.specs.declared.network.Drive.TheVariants.{Given}
 use Rattle.fab_network.specs.declared.network.Network.{Network}
-use Rattle.fab_ordering.specs.fab_simulation_Simulation.{with_registers}
+use Rattle.fab_ordering_laws.specs.fab_simulation_laws_Simulation.{with_registers}
 use Rattle.fab_phases.specs.Lists.{Each}
 use Rattle.fab_phases.specs.Cycles.{IsIn}
 use Rattle.fab_sim.specs.inner.Starting.{IsSetOut, IsUnnamed}

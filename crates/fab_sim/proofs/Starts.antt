@@ -5,14 +5,14 @@ use Rattle.std.proofs.lemmas.Bool.{false≢true}
 use Rattle.std.proofs.lemmas.Option.{slice_get_within}
 use Rattle.fab_draws.specs.Draws.{is_one as is_set, word_at}
 use Rattle.fab_syntax.specs.Plain.{PlainModule}
-use Rattle.fab_systems.specs.Ternary.{known}
+use Rattle.fab_systems_laws.specs.Ternary.{known}
 use Rattle.fab_meaning.specs.Points.{Point, Driver, Drives, point, outside, copy, bit_of, flop, hold, module_at}
 use Rattle.fab_meaning.specs.Reads.{is_declared, reads}
 use Rattle.fab_meaning.specs.Settled.{Assignment, shown, IsSettledOn}
 use Rattle.fab_meaning.specs.Loading.{IsClosed, IsLoading, IsStream, Within, by_flop, by_reads, by_stream}
-use Rattle.fab_load_runs.specs.Runs.{LoadingIsDecided, HasClocks, IsClockLow, RunsExist}
+use Rattle.fab_load_runs_laws.specs.Runs.{LoadingIsDecided, HasClocks, IsClockLow, RunsExist}
 use Rattle.fab_state.specs.Plain.{PlainState, Register}
-use Rattle.fab_tern.specs.Shown.{Terns}
+use Rattle.fab_ternary_laws.specs.Shown.{Terns}
 use Rattle.fab_ternary.specs.declared.Tern.{Tern}
 use Rattle.fab_ternary.specs.Terns.{is_known, is_one}
 use Rattle.fab_equations.specs.Instances.{points}
@@ -20,7 +20,7 @@ use Rattle.fab_equations.specs.Equations.{IsPoint}
 use Rattle.fab_equations.proofs.Numbering.{some_there}
 use Rattle.fab_equations.proofs.Points.{declared_are_points}
 use Rattle.fab_compiled.specs.Values.{AreByNumber}
-use Rattle.fab_ordering.specs.fab_simulation_Simulation.{IsLoaded, with_registers}
+use Rattle.fab_ordering_laws.specs.fab_simulation_laws_Simulation.{IsLoaded, with_registers}
 use Rattle.fab_network.specs.Passes.{kept_tern}
 use Rattle.fab_wiring.proofs.Numbered.{points_have_terns}
 use Rattle.fab_wiring.proofs.Solved.{is_point}
@@ -50,9 +50,9 @@ use Rattle.fab_meaning.proofs.SoundTexts.{sound_drives_once}
 use Rattle.std.proofs.lemmas.List.Elements.{All-cons, All-nil}
 use Rattle.std.proofs.Common.{[], ◌∷◌}
 use Rattle.std.proofs.lemmas.Option.{slice_get-get_or, get_or_from_slice_get}
-use Rattle.fab_solutions.specs.Laws.{LeastSolutionsExist}
-use Rattle.fab_ordering.specs.fab_simulation_Laws.{LoadingIsKnown}
-use Rattle.fab_ordering.specs.fab_use_Sites.{bel_point}
+use Rattle.fab_solutions_laws.specs.Laws.{LeastSolutionsExist}
+use Rattle.fab_ordering_laws.specs.fab_simulation_laws_Laws.{LoadingIsKnown}
+use Rattle.fab_ordering_laws.specs.fab_use_defs_Sites.{bel_point}
 use Rattle.fab_prim.specs.Modules.{flip_flop_name}
 use Rattle.fab_state_points.specs.Entries.{entry_point, register_entries}
 use Rattle.fab_state_points.specs.declared.entry.Entry.TheVariants as entries
@@ -62,8 +62,8 @@ use Rattle.fab_stepping.specs.declared.board.Board.{Board}
 use Rattle.fab_stepping.specs.Standing.{StandsFor}
 use Rattle.fab_stepping.proofs.Leaving.{solved_by, IsSolvedBy}
 use Rattle.fab_stepping.proofs.Reading.{leads_seen}
-use Rattle.fab_ordering.specs.Ordered.{Moment, IsNamedRegister, IsStart}
-use Rattle.fab_ordering.proofs.fab_simulation_Loading.{within_declared}
+use Rattle.fab_ordering_laws.specs.Ordered.{Moment, IsNamedRegister, IsStart}
+use Rattle.fab_ordering_laws.proofs.fab_simulation_laws_Loading.{within_declared}
 
 -- what drives a loading point reads loading points
 reads_within : (text : List PlainModule) → IsSound text → (flops : Point → Bool) → IsClosed text flops → (p : Point) → Within text flops p → (d : Driver) → Drives text p d →

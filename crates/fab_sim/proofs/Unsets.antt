@@ -1,7 +1,7 @@
 -- A machine and memory make a stepper that is to be set.
 use Rattle.std.proofs.Common.{◌≡◌, ℕ, Bool, List, Vec, Global, length, sym, ap, ◌∙◌, subst, arith}
 use Rattle.fab_syntax.specs.Plain.{PlainModule}
-use Rattle.fab_tern.specs.Shown.{Terns}
+use Rattle.fab_ternary_laws.specs.Shown.{Terns}
 use Rattle.fab_state.specs.Plain.{PlainState}
 use Rattle.fab_ternary.specs.declared.Tern.{Tern}
 use Rattle.fab_network.specs.declared.network.Network.{Network}

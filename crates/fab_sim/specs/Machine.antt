@@ -1,10 +1,10 @@
 -- What a machine keeps of a text and a state, before words are loaded and from then on.
 use Rattle.std.specs.Prelude.{◌≡◌, ℕ, Bool, List, length, map, slice_get, Some}
 use Rattle.fab_syntax.specs.Plain.{PlainModule}
-use Rattle.fab_systems.specs.Ternary.{no}
+use Rattle.fab_systems_laws.specs.Ternary.{no}
 use Rattle.fab_meaning.specs.Points.{Point, Driver, Drives, IsStored}
 use Rattle.fab_meaning.specs.Runs.{user_clock_name}
-use Rattle.fab_tern.specs.Shown.{Terns}
+use Rattle.fab_ternary_laws.specs.Shown.{Terns}
 use Rattle.fab_state.specs.Plain.{PlainState}
 use Rattle.fab_equations.specs.Instances.{points}
 use Rattle.fab_equations.specs.Equations.{IsPoint}
@@ -12,7 +12,7 @@ use Rattle.fab_compiled.specs.Leading.{PointTerns}
 use Rattle.fab_network.specs.declared.network.Drive.TheVariants.{Given}
 use Rattle.fab_network.specs.Passes.{kept_tern}
 use Rattle.fab_wiring.specs.Clocks.{IsClockAt}
-use Rattle.fab_ordering.specs.fab_simulation_Simulation.{with_registers}
+use Rattle.fab_ordering_laws.specs.fab_simulation_laws_Simulation.{with_registers}
 use Rattle.fab_phases.specs.Words.{IsLoadingAt}
 use Rattle.fab_phases.specs.Cycles.{IsIn, IsRunningAt}
 use Rattle.fab_state_points.specs.Standing.{StandsAt}

@@ -3,7 +3,7 @@ use Rattle.std.specs.Prelude.{◌≡◌, ◌≢◌, ◌⊎◌, ◌↔◌, ℕ, �
 use Rattle.fab_syntax.specs.Plain.{PlainModule}
 use Rattle.fab_syntax.specs.Sound.{IsSound}
 use Rattle.fab_sound.specs.Narrow.{AreNarrow}
-use Rattle.fab_systems.specs.Ternary.{no, yes, unknown}
+use Rattle.fab_systems_laws.specs.Ternary.{no, yes, unknown}
 use Rattle.fab_meaning.specs.Points.{Point, Driver, Drives, IsStored}
 use Rattle.fab_meaning.specs.Loading.{IsLoading}
 use Rattle.fab_equations.specs.Instances.{points}

@@ -5,11 +5,11 @@ use Rattle.fab_syntax.specs.Plain.{PlainModule}
 use Rattle.fab_meaning.specs.Points.{Point}
 use Rattle.fab_equations.specs.Instances.{points}
 use Rattle.fab_equations.specs.Equations.{IsPoint}
-use Rattle.fab_tern.specs.Shown.{Terns}
+use Rattle.fab_ternary_laws.specs.Shown.{Terns}
 use Rattle.fab_state.specs.Plain.{PlainState}
 use Rattle.fab_network.specs.Passes.{kept_tern}
-use Rattle.fab_ordering.specs.Ordered.{Moment, IsFreeInput}
-use Rattle.fab_ordering.specs.fab_simulation_Simulation.{IsLoaded}
+use Rattle.fab_ordering_laws.specs.Ordered.{Moment, IsFreeInput}
+use Rattle.fab_ordering_laws.specs.fab_simulation_laws_Simulation.{IsLoaded}
 use Rattle.fab_state_points.specs.Standing.{StandsAt}
 use Rattle.fab_stepping.specs.Activating.{AreApart}
 use Rattle.fab_stepping.specs.Boards.{IsBoardOf}

@@ -7,6 +7,6 @@ mod starting;
 mod stepper;
 mod stepping;
 
-pub use fab_ordering::simulations_exist;
+pub use fab_ordering_laws::simulations_exist;
 pub use machine::Machine;
 pub use stepper::Stepper;

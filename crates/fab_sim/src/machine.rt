@@ -2,13 +2,13 @@
 
 ghost use Rattle.std.specs.Prelude.{◌≡◌, List, length, map, IfOk, IfErr};
 ghost use Rattle.fab_bits.specs.Bits.{digits};
-ghost use Rattle.fab_systems.specs.Ternary.{Tern as PlainTern};
+ghost use Rattle.fab_systems_laws.specs.Ternary.{Tern as PlainTern};
 ghost use Rattle.fab_syntax.specs.Plain.{PlainModule, plain_text};
 ghost use Rattle.fab_ternary.specs.Terns.{plain_tern};
-ghost use Rattle.fab_tern.specs.Shown.{Terns};
+ghost use Rattle.fab_ternary_laws.specs.Shown.{Terns};
 ghost use Rattle.fab_state.specs.Plain.{PlainState};
 ghost use Rattle.fab_state_points.specs.Standing.{IsRefusedState};
-ghost use Rattle.fab_ordering.specs.fab_simulation_Simulation.{IsCycle, IsLoaded, with_registers};
+ghost use Rattle.fab_ordering_laws.specs.fab_simulation_laws_Simulation.{IsCycle, IsLoaded, with_registers};
 ghost use Rattle.fab_sim.specs.Once.{StandsOnce};
 
 use crate::making::{clock_of, machine_of, values_of};
@@ -19,9 +19,9 @@ use fab_equations::Equations;
 use fab_load_points::{loading_points, registers_among};
 use fab_meaning::laws::points_of_sound_texts_have_one_driver;
 use fab_network::Network;
-use fab_ordering::loading_is_known;
+use fab_ordering_laws::loading_is_known;
 use fab_phases::{Loading, ask_for_run, cycle, load_words};
-use fab_solutions::least_solutions;
+use fab_solutions_laws::least_solutions;
 use fab_state::State;
 use fab_state_points::{StatePoints, state_points};
 use fab_ternary::Tern;

@@ -3,7 +3,7 @@
 ghost use Rattle.std.specs.Prelude.{◌≡◌, ◌<◌, ℕ, Bool, List, Some, length, slice_get, IfOk};
 ghost use Rattle.fab_draws.specs.Draws.{generator_of};
 ghost use Rattle.fab_syntax.specs.Plain.{PlainModule};
-ghost use Rattle.fab_tern.specs.Shown.{Terns};
+ghost use Rattle.fab_ternary_laws.specs.Shown.{Terns};
 ghost use Rattle.fab_state.specs.Plain.{PlainState};
 ghost use Rattle.fab_network.specs.declared.network.Drive.{Drive as PlainDrive};
 ghost use Rattle.fab_phases.specs.Running.{AreNumbers};

@@ -22,9 +22,9 @@ use Rattle.fab_equations.specs.declared.driver.Driver.{Driver}
 use Rattle.fab_equations.specs.declared.driver.Driver.TheVariants.{Outside, Same, Value, Flop, Hold}
 use Rattle.fab_equations.proofs.Numbering.{some_there}
 use Rattle.fab_equations.proofs.Paths.{top_path}
-use Rattle.fab_use.specs.fab_fabric_text_Names.{pad_port_name}
+use Rattle.fab_use_defs.specs.fab_fabric_text_defs_Names.{pad_port_name}
 use Rattle.fab_prim.specs.Modules.{flip_flop_name}
-use Rattle.fab_use.specs.Sites.{bel_point}
+use Rattle.fab_use_defs.specs.Sites.{bel_point}
 use Rattle.fab_state_points.specs.Finding.{AreBits, IsClocked, IsDeclared, IsFoundFlop, IsFoundName, IsInstanceAt}
 use Rattle.fab_state_points.specs.Entries.{IsFoundEntry}
 use Rattle.fab_state_points.specs.declared.entry.Entry.TheVariants as entries

@@ -11,7 +11,7 @@ use Rattle.fab_prim.specs.Modules.{flip_flop_name}
 use Rattle.fab_implementation.specs.Plain.{Pad}
 use Rattle.fab_state.specs.Plain.{Register, PlainState}
 use Rattle.fab_equations.specs.Equations.{IsPoint}
-use Rattle.fab_use.specs.Sites.{bel_point, top_point}
+use Rattle.fab_use_defs.specs.Sites.{bel_point, top_point}
 use Rattle.fab_state_points.specs.Finding.{IsClocked, IsDeclared}
 use Rattle.fab_state_points.specs.declared.entry.Entry.{Entry}
 use Rattle.fab_state_points.specs.declared.entry.Entry.TheVariants as entries

@@ -5,7 +5,7 @@ ghost use Rattle.fab_syntax.specs.Plain.{plain_text};
 ghost use Rattle.fab_meaning.specs.Points.{Path, Point};
 ghost use Rattle.fab_equations.specs.Instances.{points};
 ghost use Rattle.fab_equations.specs.Equations.{IsPoint};
-ghost use Rattle.fab_use.specs.fab_fabric_text_Names.{pad_port_name};
+ghost use Rattle.fab_use_defs.specs.fab_fabric_text_defs_Names.{pad_port_name};
 ghost use Rattle.fab_syntax.specs.declared.tree.Shape.TheVariants.{Scalar};
 ghost use Rattle.fab_state_points.specs.Finding.{IsClocked, IsFoundFlop, IsFoundName, IsInstanceAt};
 ghost use Rattle.fab_state_points.specs.Entries.{IsFoundEntry};

@@ -2,7 +2,7 @@
 
 ghost use Rattle.std.specs.Prelude.{◌≡◌, IfOk};
 ghost use Rattle.fab_fabric.specs.Names.{place_name};
-ghost use Rattle.fab_use.specs.fab_fabric_text_Names.{pad_port_name};
+ghost use Rattle.fab_use_defs.specs.fab_fabric_text_defs_Names.{pad_port_name};
 ghost use Rattle.fab_gen_tile.specs.Names.{bel_instance_name};
 
 use fab_base::Memory;

@@ -5,7 +5,7 @@ use Rattle.std.proofs.lemmas.Bool.{cases_eq}
 use Rattle.std.proofs.lemmas.List.{length-set}
 use Rattle.std.proofs.lemmas.Option.{slice_get_within}
 use Rattle.rand_pcg.specs.Lcg.{Lcg}
-use Rattle.fab_systems.specs.Ternary.{known}
+use Rattle.fab_systems_laws.specs.Ternary.{known}
 use Rattle.fab_ternary.specs.declared.Tern.{Tern}
 use Rattle.fab_ternary.specs.Terns.{plain_tern}
 use Rattle.fab_network.specs.Passes.{kept_tern}

@@ -5,18 +5,18 @@ use Rattle.std.proofs.lemmas.Bool.{false≢true}
 use Rattle.fab_syntax.specs.Plain.{PlainModule}
 use Rattle.fab_syntax.specs.Sound.{IsSound}
 use Rattle.fab_sound.specs.Narrow.{AreNarrow}
-use Rattle.fab_systems.specs.Ternary.{Tern, known}
-use Rattle.fab_systems.proofs.Order.{below_both}
+use Rattle.fab_systems_laws.specs.Ternary.{Tern, known}
+use Rattle.fab_systems_laws.proofs.Order.{below_both}
 use Rattle.fab_meaning.specs.Points.{Point, Driver, outside, copy, bit_of, flop, hold, Drives, IsStored}
 use Rattle.fab_meaning.specs.Settled.{Assignment}
 use Rattle.fab_meaning.specs.Reads.{is_declared}
 use Rattle.fab_meaning.specs.Runs.{clock_of, is_clock, kept, user_clock_name}
 use Rattle.fab_meaning.specs.Activation.{State}
 use Rattle.fab_meaning.specs.Sound.{PointsOfSoundTextsHaveOneDriver}
-use Rattle.fab_tern.specs.Shown.{Terns}
-use Rattle.fab_tern.proofs.Drivers.{driver_known}
-use Rattle.fab_solutions.specs.Solutions.{tern_kept, IsLeastSolution}
-use Rattle.fab_solutions.specs.Laws.{LeastSolutionsExist}
+use Rattle.fab_ternary_laws.specs.Shown.{Terns}
+use Rattle.fab_ternary_laws.proofs.Drivers.{driver_known}
+use Rattle.fab_solutions_laws.specs.Solutions.{tern_kept, IsLeastSolution}
+use Rattle.fab_solutions_laws.specs.Laws.{LeastSolutionsExist}
 use Rattle.fab_equations.specs.Instances.{points}
 use Rattle.fab_equations.specs.Equations.{IsPoint}
 use Rattle.fab_compiled.specs.declared.tree.Tree.{Tree}

@@ -3,9 +3,9 @@ use Rattle.std.proofs.Common.{◌≡◌, ℕ, ◌+◌, ◌<◌, true, List, Opti
 use Rattle.std.specs.List.{slice_get}
 use Rattle.std.proofs.lemmas.Bool.{cases_eq}
 use Rattle.fab_equations.proofs.Numbering.{some_there}
-use Rattle.fab_systems.specs.Ternary.{IsBelow}
-use Rattle.fab_systems.specs.Ternary.{Tern as PlainTern}
-use Rattle.fab_systems.proofs.Order.{below_self, below_equal}
+use Rattle.fab_systems_laws.specs.Ternary.{IsBelow}
+use Rattle.fab_systems_laws.specs.Ternary.{Tern as PlainTern}
+use Rattle.fab_systems_laws.proofs.Order.{below_self, below_equal}
 use Rattle.fab_ternary.specs.declared.Tern.{Tern}
 use Rattle.fab_ternary.specs.Terns.{is_known, plain_tern}
 use Rattle.fab_compiled.specs.Terns.{seen}

@@ -5,15 +5,15 @@ use Rattle.std.proofs.lemmas.Bool.{cases_Bool, cases_eq}
 use Rattle.std.proofs.lemmas.Option.{slice_get_within}
 use Rattle.fab_syntax.specs.Plain.{PlainModule}
 use Rattle.fab_syntax.specs.Sound.{IsSound}
-use Rattle.fab_systems.specs.Ternary.{known, Tern as PlainTern}
+use Rattle.fab_systems_laws.specs.Ternary.{known, Tern as PlainTern}
 use Rattle.fab_meaning.specs.Points.{Point, Driver, outside, copy, bit_of, flop, hold, Drives, IsStored}
 use Rattle.fab_meaning.specs.Settled.{Assignment, shown}
 use Rattle.fab_meaning.specs.Reads.{is_declared, same_point}
 use Rattle.fab_meaning.specs.Activation.{State, activate, held_after, IsActivation, IsStep, AreSteps}
 use Rattle.fab_meaning.specs.Sound.{HasOneDriver, PointsOfSoundTextsHaveOneDriver}
 use Rattle.fab_meaning.proofs.Dependence.{same_point_refl, same_point_is}
-use Rattle.fab_tern.specs.Shown.{tern_shown, through}
-use Rattle.fab_tern.proofs.Drivers.{driver_known}
+use Rattle.fab_ternary_laws.specs.Shown.{tern_shown, through}
+use Rattle.fab_ternary_laws.proofs.Drivers.{driver_known}
 use Rattle.fab_equations.specs.Instances.{points}
 use Rattle.fab_equations.specs.Equations.{IsPoint}
 use Rattle.fab_equations.proofs.Numbering.{same_value, some_there}

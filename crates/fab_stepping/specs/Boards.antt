@@ -1,7 +1,7 @@
 -- What points have and what is held, by the numbers of the points.
 use Rattle.std.specs.Prelude.{◌≡◌, ℕ, ◌<◌, ◌≤◌, ◌^◌, Bool, true, List, length, slice_get, slice_index, Some}
-use Rattle.fab_systems.specs.Ternary.{unknown}
-use Rattle.fab_systems.specs.Ternary.{Tern as PlainTern}
+use Rattle.fab_systems_laws.specs.Ternary.{unknown}
+use Rattle.fab_systems_laws.specs.Ternary.{Tern as PlainTern}
 use Rattle.fab_compiled.specs.Leading.{PointTerns}
 use Rattle.fab_compiled.specs.Terns.{seen}
 use Rattle.fab_ternary.specs.declared.Tern.{Tern}

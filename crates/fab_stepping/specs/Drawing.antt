@@ -1,6 +1,6 @@
 -- Values that are drawn.
 use Rattle.std.specs.Prelude.{◌≡◌, ℕ, zero, suc, Bool, true, false, List, [], ◌∷◌, length, slice_get, Some}
-use Rattle.fab_systems.specs.Ternary.{known}
+use Rattle.fab_systems_laws.specs.Ternary.{known}
 use Rattle.fab_ternary.specs.declared.Tern.{Tern}
 use Rattle.fab_network.specs.Passes.{kept_tern}
 use Rattle.fab_draws.specs.Draws.{is_one}

@@ -1,7 +1,7 @@
 -- Boards that stand for states of a text.
 use Rattle.std.specs.Prelude.{◌≡◌, ℕ, List}
 use Rattle.fab_syntax.specs.Plain.{PlainModule}
-use Rattle.fab_systems.specs.Ternary.{known}
+use Rattle.fab_systems_laws.specs.Ternary.{known}
 use Rattle.fab_meaning.specs.Points.{Point, Driver, Drives, IsStored}
 use Rattle.fab_meaning.specs.Activation.{State}
 use Rattle.fab_equations.specs.Equations.{IsPoint}

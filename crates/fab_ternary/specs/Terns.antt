@@ -1,7 +1,7 @@
 -- Bits that may be unknown, as plain ternary values.
 use Rattle.std.specs.Prelude.{Bool, true, false}
-use Rattle.fab_systems.specs.Ternary.{no, yes, unknown}
-use Rattle.fab_systems.specs.Ternary.{Tern as PlainTern}
+use Rattle.fab_systems_laws.specs.Ternary.{no, yes, unknown}
+use Rattle.fab_systems_laws.specs.Ternary.{Tern as PlainTern}
 use Rattle.fab_ternary.specs.declared.Tern.{Tern}
 use Rattle.fab_ternary.specs.declared.Tern.TheVariants.{No, Yes, Open}
 

@@ -2,7 +2,7 @@
 #![tactic(auto)]
 
 ghost use Rattle.std.specs.Prelude.{◌≡◌, not};
-ghost use Rattle.fab_systems.specs.Ternary.{known as known_tern};
+ghost use Rattle.fab_systems_laws.specs.Ternary.{known as known_tern};
 ghost use Rattle.fab_ternary.specs.Terns.{is_known, is_one, plain_tern};
 
 /// A bit that is 0, 1 or not known.

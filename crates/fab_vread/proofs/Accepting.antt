@@ -8,9 +8,9 @@ use Rattle.fab_tokens.specs.declared.token.Token.{Token}
 use Rattle.fab_tokens.specs.declared.token.Token.TheVariants.{Identifier, Keyword, Number, Constant, Operator, Arrow, Mark, Unknown}
 use Rattle.fab_tokens.specs.Told.{tokens_of}
 use Rattle.fab_tokens.proofs.Cut.{spelled_told}
-use Rattle.fab_grammar.specs.Grammar.{Modules, SpellsText}
-use Rattle.fab_grammar.specs.Printable.{IsPrintableText}
-use Rattle.fab_grammar.proofs.Printed.{texts_form}
+use Rattle.fab_grammar_defs.specs.Grammar.{Modules, SpellsText}
+use Rattle.fab_grammar_defs.specs.Printable.{IsPrintableText}
+use Rattle.fab_grammar_defs.proofs.Printed.{texts_form}
 use Rattle.fab_vread.specs.declared.places.Header.TheVariants as headers
 use Rattle.fab_vread.specs.declared.places.Declaration.TheVariants as declarations
 use Rattle.fab_vread.specs.declared.places.Process.TheVariants as processes

@@ -7,8 +7,8 @@ use Rattle.fab_base.specs.Reading.{Gives}
 use Rattle.fab_syntax.specs.declared.tree.Text.{Text}
 use Rattle.fab_syntax.specs.Plain.{PlainModule, plain_text}
 use Rattle.fab_syntax.specs.Spelling.{text_bytes}
-use Rattle.fab_grammar.specs.Grammar.{SpellsText}
-use Rattle.fab_grammar.specs.Printable.{IsPrintableText}
+use Rattle.fab_grammar_defs.specs.Grammar.{SpellsText}
+use Rattle.fab_grammar_defs.specs.Printable.{IsPrintableText}
 use Rattle.fab_vread.specs.inner.Machine.{read_of}
 use Rattle.fab_vread.specs.Refusals.{IsVerilogRefusal}
 use Rattle.fab_vread.proofs.Accepting.{read_spelled, spelled_read, printed_read}

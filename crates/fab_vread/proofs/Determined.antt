@@ -9,7 +9,7 @@ use Rattle.fab_base.specs.declared.problem.Problem.TheVariants as problems
 use Rattle.fab_base.specs.declared.words.Quantity.TheVariants as quantities
 use Rattle.fab_tokens.specs.declared.token.Token.{Token}
 use Rattle.fab_tokens.specs.Scanning.{Lexeme}
-use Rattle.fab_grammar.specs.Grammar.{Modules}
+use Rattle.fab_grammar_defs.specs.Grammar.{Modules}
 use Rattle.fab_vread.specs.Refusals.{tokens_in, BeginsWithin, BeginsText, AreText, IsWrong, lacking, unfit, IsAbove, deep, wide, first_wide, UpTo, FirstRefusal, by_token, by_end, by_limit}
 
 -- ---- two ways to part a list

@@ -6,8 +6,8 @@ use Rattle.fab_syntax.specs.Plain as trees
 use Rattle.fab_syntax.specs.Plain.{PlainExpr, PlainExprs, plain_exprs}
 use Rattle.fab_tokens.specs.declared.token.Token.{Token}
 use Rattle.fab_tokens.specs.declared.token.Token.TheVariants.{Identifier, Keyword, Number, Constant, Operator, Arrow, Mark, Unknown}
-use Rattle.fab_grammar.specs.Grammar as grammar
-use Rattle.fab_grammar.specs.Grammar.{Operand, Expression, Expressions}
+use Rattle.fab_grammar_defs.specs.Grammar as grammar
+use Rattle.fab_grammar_defs.specs.Grammar.{Operand, Expression, Expressions}
 use Rattle.fab_vread.specs.declared.expressions.Over.{Over}
 use Rattle.fab_vread.specs.declared.places.Purpose.{Purpose}
 use Rattle.fab_vread.specs.inner.Expressions as steps

@@ -7,7 +7,7 @@ use Rattle.fab_syntax.specs.Plain.{PlainExpr, PlainJoin, PlainItem, PlainModule}
 use Rattle.fab_tokens.specs.declared.token.Keyword.TheVariants.{Endmodule, If, Posedge}
 use Rattle.fab_tokens.specs.declared.token.Token.{Token}
 use Rattle.fab_tokens.specs.declared.token.Token.TheVariants.{Identifier, Keyword, Number, Arrow, Mark}
-use Rattle.fab_grammar.specs.Grammar.{Expression, Range, Ports, PortList, Joins, JoinList, Items, Modules}
+use Rattle.fab_grammar_defs.specs.Grammar.{Expression, Range, Ports, PortList, Joins, JoinList, Items, Modules}
 use Rattle.fab_vread.specs.declared.places.Kind.{Kind}
 use Rattle.fab_vread.specs.declared.places.Kind.TheVariants as kinds
 use Rattle.fab_vread.specs.declared.places.Header.{Header}

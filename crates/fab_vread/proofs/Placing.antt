@@ -10,8 +10,8 @@ use Rattle.fab_syntax.specs.Plain as trees
 use Rattle.fab_syntax.specs.Plain.{PlainExpr, PlainJoin, PlainItem, PlainModule}
 use Rattle.fab_tokens.specs.declared.token.Token.{Token}
 use Rattle.fab_tokens.specs.declared.token.Token.TheVariants.{Identifier, Number, Mark}
-use Rattle.fab_grammar.specs.Grammar as grammar
-use Rattle.fab_grammar.specs.Grammar.{Expression, Range, APort, Ports, PortList, AJoin, Joins, JoinList, AnItem, Items, AModule, Modules}
+use Rattle.fab_grammar_defs.specs.Grammar as grammar
+use Rattle.fab_grammar_defs.specs.Grammar.{Expression, Range, APort, Ports, PortList, AJoin, Joins, JoinList, AnItem, Items, AModule, Modules}
 use Rattle.fab_vread.specs.declared.expressions.Over.{Over}
 use Rattle.fab_vread.specs.declared.places.Kind.{Kind}
 use Rattle.fab_vread.specs.declared.places.Kind.TheVariants as kinds

@@ -6,9 +6,9 @@ use Rattle.fab_syntax.specs.Plain as trees
 use Rattle.fab_syntax.specs.Plain.{PlainExpr, PlainExprs, PlainJoin, PlainItem, PlainModule}
 use Rattle.fab_tokens.specs.declared.token.Token.{Token}
 use Rattle.fab_tokens.specs.Spelled.{Spells, Part, Tail, blank, line_end, comment, block, token, AreParts, IsToken, tokens_in}
-use Rattle.fab_grammar.specs.Grammar as grammar
-use Rattle.fab_grammar.specs.Grammar.{Operand, Expression, Expressions, Range, APort, Ports, PortList, AJoin, Joins, JoinList, AnItem, Items, AModule, Modules, SpellsText}
-use Rattle.fab_grammar.specs.Printable.{nested, nested_parts, HasPart, IsWritten, AreWritten, IsPrintable, IsShape, ArePorts, AreJoins, IsItem, AreItems, IsModule, IsPrintableText}
+use Rattle.fab_grammar_defs.specs.Grammar as grammar
+use Rattle.fab_grammar_defs.specs.Grammar.{Operand, Expression, Expressions, Range, APort, Ports, PortList, AJoin, Joins, JoinList, AnItem, Items, AModule, Modules, SpellsText}
+use Rattle.fab_grammar_defs.specs.Printable.{nested, nested_parts, HasPart, IsWritten, AreWritten, IsPrintable, IsShape, ArePorts, AreJoins, IsItem, AreItems, IsModule, IsPrintableText}
 
 -- ---- tokens
 

@@ -5,7 +5,7 @@ use Rattle.fab_base.specs.declared.problem.Problem.{Problem}
 use Rattle.fab_syntax.specs.Plain.{PlainModule}
 use Rattle.fab_tokens.specs.declared.token.Token.{Token}
 use Rattle.fab_tokens.specs.declared.token.Token.TheVariants.{Identifier, Keyword, Number, Constant, Operator, Arrow, Mark, Unknown}
-use Rattle.fab_grammar.specs.Grammar.{Modules}
+use Rattle.fab_grammar_defs.specs.Grammar.{Modules}
 use Rattle.fab_vread.specs.declared.places.Header.TheVariants as headers
 use Rattle.fab_vread.specs.declared.places.Place.TheVariants as places
 use Rattle.fab_vread.specs.declared.expressions.Over.{Over}

@@ -7,8 +7,8 @@ use Rattle.fab_syntax.specs.Plain as trees
 use Rattle.fab_syntax.specs.Plain.{PlainExpr, PlainExprs, plain_exprs}
 use Rattle.fab_tokens.specs.declared.token.Token.{Token}
 use Rattle.fab_tokens.specs.declared.token.Token.TheVariants.{Identifier, Keyword, Number, Constant, Operator, Arrow, Mark, Unknown}
-use Rattle.fab_grammar.specs.Grammar as grammar
-use Rattle.fab_grammar.specs.Grammar.{Operand, Expression, Expressions}
+use Rattle.fab_grammar_defs.specs.Grammar as grammar
+use Rattle.fab_grammar_defs.specs.Grammar.{Operand, Expression, Expressions}
 use Rattle.fab_vread.specs.declared.expressions.Over.{Over}
 use Rattle.fab_vread.specs.inner.Expressions as steps
 use Rattle.fab_vread.specs.inner.Expressions.{PlainLevel, Spot, Before, Opened, Behind, level, nothing, negation, left, test, choice, parenthesis, brace, index, wanting, named, select, high, colon, low, after, operand, branch, whole, going, ended, completed, kept, Stepped, Shown, Effect, is_this_mark, taken, after_behind, after_single, after_whole, with_over, after_wanting, after_operand, wanting_mark, close, close_by, close_brace}

@@ -4,7 +4,7 @@ use Rattle.fab_base.specs.declared.problem.Problem.{Problem}
 use Rattle.fab_syntax.specs.Plain.{PlainModule}
 use Rattle.fab_tokens.specs.declared.token.Token.{Token}
 use Rattle.fab_tokens.specs.declared.token.Token.TheVariants.{Identifier, Keyword, Number, Constant, Operator, Arrow, Mark, Unknown}
-use Rattle.fab_grammar.specs.Grammar.{Modules}
+use Rattle.fab_grammar_defs.specs.Grammar.{Modules}
 use Rattle.fab_vread.specs.declared.expressions.Over.{Over}
 use Rattle.fab_vread.specs.declared.expressions.Over.TheVariants as overs
 use Rattle.fab_vread.specs.inner.Machine.{Machine, limit, first_machine, after_token, is_done, at_start}

@@ -8,7 +8,7 @@ use Rattle.fab_tokens.specs.declared.token.Keyword.{Keyword as Word}
 use Rattle.fab_tokens.specs.declared.token.Keyword.TheVariants.{Module, Endmodule, Input, Output, Wire, Reg, Assign, Always, If, Posedge}
 use Rattle.fab_tokens.specs.declared.token.Token.{Token}
 use Rattle.fab_tokens.specs.declared.token.Token.TheVariants.{Identifier, Keyword, Number, Constant, Operator, Arrow, Mark, Unknown}
-use Rattle.fab_grammar.specs.Words.{is_foreign}
+use Rattle.fab_grammar_defs.specs.Words.{is_foreign}
 use Rattle.fab_vread.specs.declared.expressions.Over.{Over}
 use Rattle.fab_vread.specs.declared.places.Kind.TheVariants as kinds
 use Rattle.fab_vread.specs.declared.places.Header.TheVariants as headers

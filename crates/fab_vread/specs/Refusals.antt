@@ -15,8 +15,8 @@ use Rattle.fab_tokens.specs.declared.scanner.Scan.{Scan}
 use Rattle.fab_tokens.specs.declared.scanner.Scan.TheVariants as scans
 use Rattle.fab_tokens.specs.declared.scanner.Step.{Step}
 use Rattle.fab_tokens.specs.Scanning.{Lexeme, after_byte, at_end}
-use Rattle.fab_grammar.specs.Words.{is_foreign}
-use Rattle.fab_grammar.specs.Grammar.{Modules}
+use Rattle.fab_grammar_defs.specs.Words.{is_foreign}
+use Rattle.fab_grammar_defs.specs.Grammar.{Modules}
 
 -- ---- tokens with their lines
 

@@ -5,8 +5,8 @@ ghost use Rattle.fab_syntax.specs.Plain.{PlainModule};
 ghost use Rattle.fab_base.specs.declared.problem.Problem.{Problem};
 ghost use Rattle.fab_tokens.specs.Scanning.{Lexeme};
 ghost use Rattle.fab_tokens.specs.Told.{tokens_of};
-ghost use Rattle.fab_grammar.specs.Grammar.{SpellsText};
-ghost use Rattle.fab_grammar.specs.Printable.{IsPrintableText};
+ghost use Rattle.fab_grammar_defs.specs.Grammar.{SpellsText};
+ghost use Rattle.fab_grammar_defs.specs.Printable.{IsPrintableText};
 ghost use Rattle.fab_vread.specs.Refusals.{FirstRefusal, lexemes_of, tokens_in};
 
 /// A tree that bytes spell within the reader's bounds is printable: so whatever is read can be printed, and read again.

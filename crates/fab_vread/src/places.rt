@@ -2,7 +2,7 @@
 
 ghost use Rattle.std.specs.Prelude.{◌≡◌};
 ghost use Rattle.fab_base.specs.Reading.{Answers};
-ghost use Rattle.fab_grammar.specs.Words.{is_foreign};
+ghost use Rattle.fab_grammar_defs.specs.Words.{is_foreign};
 ghost use Rattle.fab_vread.specs.inner.Expressions.{refused};
 ghost use Rattle.fab_vread.specs.inner.Places.{name_of, on_mark, begin_on, foreign_or, port_start, header_move, high_move, declaration_move, item_name, item_move, edge_move, process_move, joins_move, move_of};
 
@@ -154,7 +154,7 @@ fn begin_on(token: &Token, mark: u8, purpose: Purpose) -> Result<Move, Problem>
     }
 }
 
-#[tactic(auto, unfolding(fab_grammar::specs::Words::is_foreign))]
+#[tactic(auto, unfolding(fab_grammar_defs::specs::Words::is_foreign))]
 fn is_foreign(word: &[u8]) -> bool
     ensures { result ≡ is_foreign word.now }
 {

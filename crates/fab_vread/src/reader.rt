@@ -7,8 +7,8 @@ ghost use Rattle.fab_base.specs.declared.fault.Fault.TheVariants as faults;
 ghost use Rattle.fab_base.specs.Reading.{Fails, Gives};
 ghost use Rattle.fab_syntax.specs.Plain.{PlainModule, plain_text};
 ghost use Rattle.fab_syntax.specs.Spelling.{text_bytes};
-ghost use Rattle.fab_grammar.specs.Grammar.{SpellsText};
-ghost use Rattle.fab_grammar.specs.Printable.{IsPrintableText};
+ghost use Rattle.fab_grammar_defs.specs.Grammar.{SpellsText};
+ghost use Rattle.fab_grammar_defs.specs.Printable.{IsPrintableText};
 ghost use Rattle.fab_vread.specs.Refusals.{IsVerilogRefusal};
 
 use crate::parser::put;

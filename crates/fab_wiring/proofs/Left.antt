@@ -5,9 +5,9 @@ use Rattle.std.proofs.lemmas.Slice.Eq.{bytes_eq-Decides}
 use Rattle.fab_syntax.specs.Plain.{PlainModule}
 use Rattle.fab_meaning.specs.Points.{Point, Driver, outside, copy, bit_of, flop, hold, IsStored}
 use Rattle.fab_meaning.specs.Runs.{clock_name, user_clock_name, clock_of, is_clock}
-use Rattle.fab_systems.specs.Ternary.{Tern}
-use Rattle.fab_tern.specs.Shown.{Terns}
-use Rattle.fab_network.specs.fab_solutions_Solutions.{tern_kept}
+use Rattle.fab_systems_laws.specs.Ternary.{Tern}
+use Rattle.fab_ternary_laws.specs.Shown.{Terns}
+use Rattle.fab_network.specs.fab_solutions_laws_Solutions.{tern_kept}
 use Rattle.fab_equations.specs.Equations.{IsPoint}
 use Rattle.fab_equations.proofs.Points.{points_are_declared}
 use Rattle.fab_compiled.specs.declared.tree.Tree.{Tree}

@@ -4,8 +4,8 @@ use Rattle.std.proofs.lemmas.Bool.{cases_Bool}
 use Rattle.fab_meaning.specs.Points.{Point}
 use Rattle.fab_meaning.specs.Reads.{same_point}
 use Rattle.fab_meaning.proofs.Dependence.{same_point_refl, same_point_is}
-use Rattle.fab_systems.specs.Ternary.{Tern, unknown}
-use Rattle.fab_tern.specs.Shown.{Terns}
+use Rattle.fab_systems_laws.specs.Ternary.{Tern, unknown}
+use Rattle.fab_ternary_laws.specs.Shown.{Terns}
 use Rattle.fab_equations.specs.Instances.{points}
 use Rattle.fab_equations.proofs.Points.{points_differ}
 use Rattle.fab_compiled.specs.Leading.{PointTerns}

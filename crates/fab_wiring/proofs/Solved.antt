@@ -5,9 +5,9 @@ use Rattle.fab_syntax.specs.Plain.{PlainModule}
 use Rattle.fab_syntax.specs.Sound.{IsSound}
 use Rattle.fab_meaning.specs.Points.{Point, Driver, outside, copy, bit_of, flop, hold, Drives}
 use Rattle.fab_meaning.specs.Sound.{PointsOfSoundTextsHaveOneDriver}
-use Rattle.fab_systems.specs.Ternary.{Tern, IsBelow}
-use Rattle.fab_tern.specs.Shown.{Terns, through}
-use Rattle.fab_network.specs.fab_solutions_Solutions.{tern_given, Solves as SolvesText, IsLeastSolution}
+use Rattle.fab_systems_laws.specs.Ternary.{Tern, IsBelow}
+use Rattle.fab_ternary_laws.specs.Shown.{Terns, through}
+use Rattle.fab_network.specs.fab_solutions_laws_Solutions.{tern_given, Solves as SolvesText, IsLeastSolution}
 use Rattle.fab_equations.specs.Instances.{points}
 use Rattle.fab_equations.specs.Equations.{IsPoint}
 use Rattle.fab_equations.proofs.Numbering.{some_there}

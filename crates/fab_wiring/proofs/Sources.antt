@@ -3,10 +3,10 @@ use Rattle.std.proofs.Common.{◌≡◌, ℕ, ◌+◌, ◌-◌, ◌≤◌, List,
 use Rattle.fab_syntax.specs.Plain.{PlainExpr, PlainModule}
 use Rattle.fab_syntax.specs.Sound.{IsSound}
 use Rattle.fab_meaning.specs.Points.{Path, Driver, outside, copy, bit_of, flop, hold}
-use Rattle.fab_systems.specs.Ternary.{Tern}
-use Rattle.fab_tern.specs.Operators.{tern_at}
-use Rattle.fab_tern.specs.Values.{tern_value}
-use Rattle.fab_tern.specs.Shown.{tern_names}
+use Rattle.fab_systems_laws.specs.Ternary.{Tern}
+use Rattle.fab_ternary_laws.specs.Operators.{tern_at}
+use Rattle.fab_ternary_laws.specs.Values.{tern_value}
+use Rattle.fab_ternary_laws.specs.Shown.{tern_names}
 use Rattle.fab_values.specs.Declarations.{declarations, bits_of}
 use Rattle.fab_equations.specs.Instances.{Instance, points}
 use Rattle.fab_equations.specs.Numbering.{IsInstanceOfNumber, points_before}

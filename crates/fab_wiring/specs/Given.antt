@@ -3,8 +3,8 @@ use Rattle.std.specs.Prelude.{◌≡◌, ℕ, Bool, true, false, List, Option, N
 use Rattle.fab_syntax.specs.Plain.{PlainModule}
 use Rattle.fab_meaning.specs.Points.{Point, Driver, outside, copy, bit_of, flop, hold, Drives}
 use Rattle.fab_meaning.specs.Runs.{clock_name, user_clock_name}
-use Rattle.fab_systems.specs.Ternary.{Tern}
-use Rattle.fab_tern.specs.Shown.{Terns}
+use Rattle.fab_systems_laws.specs.Ternary.{Tern}
+use Rattle.fab_ternary_laws.specs.Shown.{Terns}
 use Rattle.fab_equations.specs.Equations.{IsPoint}
 use Rattle.fab_compiled.specs.declared.tree.Tree.{Tree}
 use Rattle.fab_compiled.specs.Leading.{PointTerns}

@@ -4,8 +4,8 @@ use Rattle.fab_syntax.specs.Plain.{PlainModule}
 use Rattle.fab_syntax.specs.Sound.{IsSound}
 use Rattle.fab_meaning.specs.Points.{Point, Driver, Drives, IsStored}
 use Rattle.fab_meaning.specs.Reads.{is_declared}
-use Rattle.fab_tern.specs.Shown.{Terns}
-use Rattle.fab_network.specs.fab_solutions_Solutions.{Solves as SolvesText, IsLeastSolution, tern_kept}
+use Rattle.fab_ternary_laws.specs.Shown.{Terns}
+use Rattle.fab_network.specs.fab_solutions_laws_Solutions.{Solves as SolvesText, IsLeastSolution, tern_kept}
 use Rattle.fab_equations.specs.Instances.{points}
 use Rattle.fab_equations.specs.Equations.{IsPoint}
 use Rattle.fab_compiled.specs.declared.tree.Tree.{Tree}

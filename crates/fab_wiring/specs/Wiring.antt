@@ -4,9 +4,9 @@ use Rattle.std.specs.Str.{bytes_eq}
 use Rattle.fab_syntax.specs.Plain.{PlainExpr, PlainModule}
 use Rattle.fab_meaning.specs.Points.{Path, Point, Driver, outside, copy, bit_of, flop, hold, Drives}
 use Rattle.fab_meaning.specs.Runs.{clock_name, user_clock_name, clock_of}
-use Rattle.fab_tern.specs.Operators.{tern_at}
-use Rattle.fab_tern.specs.Values.{tern_value}
-use Rattle.fab_tern.specs.Shown.{Terns, tern_names}
+use Rattle.fab_ternary_laws.specs.Operators.{tern_at}
+use Rattle.fab_ternary_laws.specs.Values.{tern_value}
+use Rattle.fab_ternary_laws.specs.Shown.{Terns, tern_names}
 use Rattle.fab_equations.specs.Equations.{IsPoint}
 use Rattle.fab_compiled.specs.declared.tree.Tree.{Tree}
 use Rattle.fab_compiled.specs.Leading.{PointTerns}

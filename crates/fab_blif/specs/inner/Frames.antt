@@ -1,6 +1,6 @@
 -- Copies of models that are gone through, in one another, the outermost first.
 use Rattle.std.specs.Prelude.{ℕ, zero, suc, ◌+◌, ◌-◌, ◌≤◌, List, [], ◌∷◌, ◌++◌, length, map, take, drop, flat_map, option_map, Option, Some, None}
-use Rattle.fab_models.specs.Plain.{PlainBody, PlainModel, instance}
+use Rattle.fab_blif_models.specs.Plain.{PlainBody, PlainModel, instance}
 use Rattle.fab_instances.specs.Places.{place_of_model, statements_of}
 use Rattle.fab_blif.specs.declared.walk.Frame.{Frame}
 use Rattle.fab_blif.specs.declared.walk.Instance.{Instance}

@@ -14,7 +14,7 @@ use Rattle.fab_implementation.specs.OnFabric.{kind_at}
 use Rattle.fab_netlist.specs.Plain.{IsAt}
 use Rattle.fab_netlist.specs.WellMade.{table_bit}
 use Rattle.fab_netlist.specs.Packed.{PlainCell, PlainPacked}
-use Rattle.fab_use.specs.Configuring.{cell_bit}
+use Rattle.fab_use_defs.specs.Configuring.{cell_bit}
 use Rattle.fab_features.specs.Features.{place_among}
 use Rattle.fab_features.specs.declared.ones.Ones.{Ones}
 use Rattle.fab_features.specs.declared.said.Choice.{Choice}

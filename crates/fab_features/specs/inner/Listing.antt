@@ -5,7 +5,7 @@ use Rattle.fab_model.specs.Tiles.{PlainTile}
 use Rattle.fab_model.specs.Grid.{PlainFabric}
 pub use Rattle.fab_fabric.specs.Drive.{site_at}
 use Rattle.fab_fabric.specs.declared.wire.Site.{Site}
-use Rattle.fab_use.specs.fab_fabric_text_Places.{PlacedTile}
+use Rattle.fab_use_defs.specs.fab_fabric_text_defs_Places.{PlacedTile}
 use Rattle.fab_implementation.specs.Plain.{Edge}
 use Rattle.fab_fasm.specs.declared.feature.Feature.{Feature}
 use Rattle.fab_fasm.specs.Printing.{line_by_line}

@@ -2,8 +2,8 @@
 use Rattle.std.specs.Prelude.{◌≡◌, ◌<◌, ℕ, Bool, false, List, [], length, slice_index_or, Some}
 use Rattle.fab_model.specs.Tiles.{PlainTile, bare_tile}
 use Rattle.fab_model.specs.Grid.{PlainFabric, tile_at}
-use Rattle.fab_text_loads.specs.fab_fabric_text_Places.{PlacedTile}
-use Rattle.fab_text_loads.specs.fab_fabric_text_Text.{stands}
+use Rattle.fab_text_loads_laws.specs.fab_fabric_text_defs_Places.{PlacedTile}
+use Rattle.fab_text_loads_laws.specs.fab_fabric_text_defs_Text.{stands}
 use Rattle.fab_gen_top.specs.declared.places.Place.{Place}
 
 -- the type of a number

@@ -1,7 +1,7 @@
 -- The outputs that pairs join to the inputs of a tile, as they are kept.
 use Rattle.std.specs.Prelude.{◌≡◌, ℕ, Bool, List, Vec, map, length}
 use Rattle.fab_model.specs.Tiles.{PlainTile, counted, matrix_names}
-use Rattle.fab_ways.specs.Edges.{outputs_of, turned_pairs}
+use Rattle.fab_ways_laws.specs.Edges.{outputs_of, turned_pairs}
 use Rattle.fab_graph.specs.declared.outputs.Outputs.{Outputs}
 
 -- the groups of outputs without where they lie in memory

@@ -2,7 +2,7 @@
 use Rattle.std.specs.Prelude.{ℕ, Bool, true, false, ◌&&◌, not, List, take, slice_index_or, nat_eq}
 use Rattle.std.specs.List.{list_any}
 use Rattle.fab_select.specs.declared.pair.Pair.{Pair}
-use Rattle.fab_ways.specs.Edges.{swapped, outputs_of, turned_pairs}
+use Rattle.fab_ways_laws.specs.Edges.{swapped, outputs_of, turned_pairs}
 
 abbrev pub turned_pair : (turned : Bool) → Pair → Pair
 turned_pair false pair = pair

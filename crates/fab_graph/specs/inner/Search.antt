@@ -3,7 +3,7 @@ use Rattle.std.specs.Prelude.{◌≡◌, ◌⊎◌, ℕ, ◌+◌, Bool, true, no
 use Rattle.fab_model.specs.Grid.{PlainFabric}
 use Rattle.fab_fabric.specs.Fabric.{wire_count}
 use Rattle.fab_fabric.specs.declared.wire.Wire.{Wire}
-use Rattle.fab_ways.specs.Edges.{ends}
+use Rattle.fab_ways_laws.specs.Edges.{ends}
 use Rattle.fab_graph.specs.Reach.{IsReached, is_marked}
 
 -- the wires that wait, where one more is marked

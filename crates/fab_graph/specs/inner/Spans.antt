@@ -4,7 +4,7 @@ use Rattle.fab_model.specs.Grid.{PlainFabric}
 use Rattle.fab_fabric.specs.Wires.{numbered_wire}
 use Rattle.fab_fabric.specs.declared.wire.Wire.{Wire}
 use Rattle.fab_legal.specs.Steps.{IsJoined}
-use Rattle.fab_ways.specs.Bounds.{wire_distance, JoinGoes}
+use Rattle.fab_ways_laws.specs.Bounds.{wire_distance, JoinGoes}
 
 -- the greatest wire_distance over the joins of the first n wires
 pub record IsMost (fabric : PlainFabric) (n most : ℕ) : Type 0 where

@@ -1,7 +1,7 @@
 -- Instances of a model in itself, and ranks of models.
 use Rattle.std.specs.Prelude.{◌≡◌, ◌⊎◌, ◌≤◌, ℕ, Bool, true, not, if◌then◌else◌, nat_lt, List, get_or, position, Option, Some, None}
 use Rattle.std.specs.Str.{bytes_eq}
-use Rattle.fab_models.specs.Plain.{PlainBody, PlainModel, PlainStatement, instance}
+use Rattle.fab_blif_models.specs.Plain.{PlainBody, PlainModel, PlainStatement, instance}
 use Rattle.fab_instances.specs.Places.{place_of_model}
 use Rattle.fab_instances.specs.Order.{IsInstanceLine}
 use Rattle.fab_instances.specs.Uses.{Found, inner_of, IsUsed, Uses, UsesAt}

@@ -1,7 +1,7 @@
 -- What a tick writes to flip-flops and latches, one after the other.
 use Rattle.std.specs.Prelude.{◌≡◌, ◌⊎◌, ℕ, ◌<◌, Bool, List, Some, length, slice_get}
-use Rattle.fab_systems.specs.Ternary.{Tern as PlainTern}
-use Rattle.fab_tern.specs.Shown.{through}
+use Rattle.fab_systems_laws.specs.Ternary.{Tern as PlainTern}
+use Rattle.fab_ternary_laws.specs.Shown.{through}
 use Rattle.fab_ternary.specs.declared.Tern.{Tern}
 use Rattle.fab_compiled.specs.Leading.{PointTerns, IsMarked}
 use Rattle.fab_network.specs.declared.network.Clock.TheVariants.{Loader}

@@ -3,10 +3,10 @@ use Rattle.std.specs.Prelude.{◌≡◌, ℕ, ◌≤◌, false, List, ◌++◌, 
 use Rattle.fab_fabric.specs.declared.wire.Site.{Site}
 use Rattle.fab_netlist.specs.Packed.{PlainPacked}
 use Rattle.fab_implementation.specs.Plain.{Pad}
-use Rattle.fab_board.specs.declared.board.Board.{Board}
-use Rattle.fab_board.specs.Measured.{IsNets, net_count, item_count}
-use Rattle.fab_board.specs.Boards.{IsPlaced, IsOptimal, Keeps, cost}
-use Rattle.fab_ways.specs.fab_legal_WellMade.{ports}
+use Rattle.fab_annealing.specs.declared.board.Board.{Board}
+use Rattle.fab_annealing.specs.Measured.{IsNets, net_count, item_count}
+use Rattle.fab_annealing.specs.Boards.{IsPlaced, IsOptimal, Keeps, cost}
+use Rattle.fab_ways_laws.specs.fab_legal_WellMade.{ports}
 use Rattle.fab_place.specs.Pins.{net_total, item_total, pins, HavePins}
 use Rattle.fab_place.specs.inner.Constraints.{AreConstrained}
 use Rattle.fab_place.specs.inner.Starts.{start_numbers}

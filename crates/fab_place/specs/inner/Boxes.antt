@@ -2,7 +2,7 @@
 use Rattle.std.specs.Prelude.{ℕ, ◌+◌, ◌-◌, ◌≢◌, AllPairs, max, min}
 use Rattle.fab_fabric.specs.declared.wire.Site.{Site}
 use Rattle.fab_implementation.specs.Plain.{PlainImplementation}
-use Rattle.fab_ways.specs.fab_legal_Lines.{named}
+use Rattle.fab_ways_laws.specs.fab_legal_Lines.{named}
 use Rattle.fab_place.specs.declared.bounding.BoundingBox.{BoundingBox}
 
 -- the box of one site, and the least box around a box and a site

@@ -7,7 +7,7 @@ use Rattle.indexmap.specs.IndexMap.{IndexMap, get_by}
 use Rattle.fab_fabric.specs.declared.wire.Site.{Site}
 use Rattle.fab_netlist.specs.Plain.{IsAt}
 use Rattle.fab_implementation.specs.Plain.{Pad}
-use Rattle.fab_ways.specs.fab_legal_inner_Kept.{site_key}
+use Rattle.fab_ways_laws.specs.fab_legal_inner_Kept.{site_key}
 
 -- ---- what constraints give
 

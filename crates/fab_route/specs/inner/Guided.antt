@@ -2,8 +2,8 @@
 use Rattle.std.specs.Prelude.{◌≡◌, ℕ, ◌+◌, ◌-◌, ◌*◌, ◌<◌, ◌≤◌, List, Vec, [], map, length, slice_index, slice_index_or, Contains}
 use Rattle.std.specs.List.{All}
 use Rattle.fab_model.specs.Grid.{PlainFabric}
-use Rattle.fab_search.specs.Walks.{Graph}
-pub use Rattle.fab_nodes.specs.Tables.{away}
+use Rattle.fab_astar.specs.Walks.{Graph}
+pub use Rattle.fab_nodes_laws.specs.Tables.{away}
 use Rattle.fab_route.specs.declared.classes.Place.{Place}
 use Rattle.fab_route.specs.declared.hops.Hop.{Hop}
 use Rattle.fab_route.specs.declared.window.Window.{Window}

@@ -5,8 +5,8 @@ use Rattle.fab_model.specs.Grid.{PlainFabric}
 use Rattle.fab_fabric.specs.Wires.{numbered_wire}
 use Rattle.fab_fabric.specs.declared.wire.Wire.{Wire}
 use Rattle.fab_legal.specs.Steps.{IsJoined}
-use Rattle.fab_ways.specs.Edges.{ends}
-use Rattle.fab_nodes.specs.Nodes.{IsMatrixInput}
+use Rattle.fab_ways_laws.specs.Edges.{ends}
+use Rattle.fab_nodes_laws.specs.Nodes.{IsMatrixInput}
 
 -- for each tile type whether its switch matrix drives its wires
 abbrev pub HaveDriven : {A : Type 0} → List PlainTile → List (Vec Bool A) → Type 0

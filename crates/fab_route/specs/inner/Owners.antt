@@ -3,7 +3,7 @@ use Rattle.std.specs.Prelude.{◌≡◌, ◌⊎◌, ℕ, ◌<◌, ◌≤◌, Lis
 use Rattle.fab_model.specs.Grid.{PlainFabric}
 use Rattle.fab_fabric.specs.Wires.{numbered_wire}
 use Rattle.fab_legal.specs.Steps.{IsJoined}
-use Rattle.fab_rounds.specs.Rounds.{Paths, nodes_of, tree_at}
+use Rattle.fab_pathfinder.specs.Rounds.{Paths, nodes_of, tree_at}
 use Rattle.fab_route.specs.Plain.{PlainNodes, numbering_of}
 use Rattle.fab_route.specs.declared.shared.Owners.{Owners}
 use Rattle.fab_route.specs.declared.shared.Shared.{Shared}

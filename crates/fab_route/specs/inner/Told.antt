@@ -3,16 +3,16 @@ use Rattle.std.specs.Prelude.{◌≡◌, ℕ, ◌<◌, ◌≤◌, List, map, All
 use Rattle.fab_netlist.specs.declared.net_id.NetId.{NetId}
 use Rattle.fab_netlist.specs.Packed.{PlainPacked}
 use Rattle.fab_implementation.specs.Plain.{PlainTree, PlainImplementation}
-use Rattle.fab_rounds.specs.declared.tree.Tree.{Tree}
-use Rattle.fab_rounds.specs.declared.tree.Round.{Round}
-use Rattle.fab_rounds.specs.declared.rounds.Routed.{Routed}
-use Rattle.fab_rounds.specs.Plain.{rounds_of}
-use Rattle.fab_rounds.specs.Rounds.{Net, Paths, Run, users, no_trees, last_trees}
-use Rattle.fab_search.specs.Walks.{Graph}
-use Rattle.fab_ways.specs.Routing.{nets}
-use Rattle.fab_ways.specs.Trees.{trees_for, by_line}
-use Rattle.fab_nodes.specs.Nodes.{Numbering}
-use Rattle.fab_nodes.specs.Nets.{wire_trees}
+use Rattle.fab_pathfinder.specs.declared.tree.Tree.{Tree}
+use Rattle.fab_pathfinder.specs.declared.tree.Round.{Round}
+use Rattle.fab_pathfinder.specs.declared.rounds.Routed.{Routed}
+use Rattle.fab_pathfinder.specs.Plain.{rounds_of}
+use Rattle.fab_pathfinder.specs.Rounds.{Net, Paths, Run, users, no_trees, last_trees}
+use Rattle.fab_astar.specs.Walks.{Graph}
+use Rattle.fab_ways_laws.specs.Routing.{nets}
+use Rattle.fab_ways_laws.specs.Trees.{trees_for, by_line}
+use Rattle.fab_nodes_laws.specs.Nodes.{Numbering}
+use Rattle.fab_nodes_laws.specs.Nets.{wire_trees}
 
 -- the names that nets have in trees
 abbrev pub net_names : PlainPacked → PlainImplementation → List NetId

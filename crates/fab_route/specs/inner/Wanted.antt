@@ -13,10 +13,10 @@ use Rattle.fab_legal.specs.Nets.{IsRoot}
 use Rattle.fab_legal.specs.Nets as legal
 use Rattle.fab_legal.specs.Sinks.{packed_net}
 use Rattle.fab_legal.specs.Steps.{IsJoined}
-use Rattle.fab_rounds.specs.Rounds.{Net}
-use Rattle.fab_ways.specs.Placing.{same_net}
-use Rattle.fab_ways.specs.Routing.{sinks_of}
-use Rattle.fab_nodes.specs.Nets.{AreGoals}
+use Rattle.fab_pathfinder.specs.Rounds.{Net}
+use Rattle.fab_ways_laws.specs.Placing.{same_net}
+use Rattle.fab_ways_laws.specs.Routing.{sinks_of}
+use Rattle.fab_nodes_laws.specs.Nets.{AreGoals}
 use Rattle.fab_route.specs.Plain.{PlainNodes, graph_of, numbering_of}
 use Rattle.fab_route.specs.declared.sources.Sources.{Sources}
 

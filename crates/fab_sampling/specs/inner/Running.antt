@@ -6,10 +6,10 @@ use Rattle.fab_desk.specs.Files.{Map}
 use Rattle.fab_desk.specs.Memory.{map_of}
 use Rattle.fab_designs.specs.Designs.{PlainDesign, SpellsDesign}
 use Rattle.fab_outputs.specs.Storing.{PlainOutput, with_outputs}
-use Rattle.fab_sample_runs.specs.fab_flow_Flowing.{MakesFlow}
-use Rattle.fab_sample_runs.specs.fab_simulate_Simulating.{MakesTrace}
-use Rattle.fab_simulated_flow.specs.Laws.{TracesNetlist}
-use Rattle.fab_sample_runs.specs.Commands.{names, rounds, simulated}
+use Rattle.fab_sample_runs_laws.specs.fab_flow_Flowing.{MakesFlow}
+use Rattle.fab_sample_runs_laws.specs.fab_simulate_command_Simulating.{MakesTrace}
+use Rattle.fab_simulated_flow_laws.specs.Laws.{TracesNetlist}
+use Rattle.fab_sample_runs_laws.specs.Commands.{names, rounds, simulated}
 use Rattle.fab_sampling.specs.Sampling.{IsUnmapped, sample_map}
 use Rattle.fab_sampling.specs.declared.run.Run.{Run}
 

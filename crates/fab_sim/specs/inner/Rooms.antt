@@ -1,7 +1,7 @@
 -- The memory of a stepper.
 use Rattle.std.specs.Prelude.{◌≡◌, ◌≢◌, ℕ, ◌<◌, Bool, false, not, List, Option, Some, length, slice_get}
 use Rattle.fab_syntax.specs.Plain.{PlainModule}
-use Rattle.fab_systems.specs.Ternary.{no}
+use Rattle.fab_systems_laws.specs.Ternary.{no}
 use Rattle.fab_equations.specs.Instances.{points}
 use Rattle.fab_state.specs.Plain.{PlainState}
 use Rattle.fab_network.specs.declared.network.Drive.{Drive}

@@ -1,6 +1,6 @@
 -- What is given to a machine that starts to run.
 use Rattle.std.specs.Prelude.{◌≡◌, ◌≢◌, ◌⊎◌, ℕ, ◌+◌, ◌<◌, ◌≤◌, Bool, List, Some, slice_get}
-use Rattle.fab_systems.specs.Ternary.{no, unknown, known}
+use Rattle.fab_systems_laws.specs.Ternary.{no, unknown, known}
 use Rattle.fab_compiled.specs.Leading.{PointTerns}
 use Rattle.fab_phases.specs.Lists.{Each}
 use Rattle.fab_phases.specs.Cycles.{IsIn}

@@ -1,14 +1,14 @@
 -- A stepper that is made but for its values.
 use Rattle.std.specs.Prelude.{◌≡◌, ℕ, ◌<◌, Bool, List, length, map}
 use Rattle.fab_syntax.specs.Plain.{PlainModule}
-use Rattle.fab_systems.specs.Ternary.{no}
+use Rattle.fab_systems_laws.specs.Ternary.{no}
 use Rattle.fab_meaning.specs.Points.{Point, Driver, Drives, IsStored}
-use Rattle.fab_tern.specs.Shown.{Terns}
+use Rattle.fab_ternary_laws.specs.Shown.{Terns}
 use Rattle.fab_equations.specs.Instances.{points}
 use Rattle.fab_equations.specs.Equations.{IsPoint}
 use Rattle.fab_state.specs.Plain.{PlainState}
 use Rattle.fab_network.specs.Passes.{kept_tern}
-use Rattle.fab_ordering.specs.fab_simulation_Simulation.{IsLoaded, with_registers}
+use Rattle.fab_ordering_laws.specs.fab_simulation_laws_Simulation.{IsLoaded, with_registers}
 use Rattle.fab_state_points.specs.Standing.{StandsAt}
 use Rattle.fab_stepping.specs.Boards.{IsBoardOf, LeadToThemselves}
 use Rattle.fab_sim.specs.Once.{StandsOnce}

@@ -23,7 +23,7 @@ use Rattle.fab_vread.specs.declared.places.Place.{Place}
 use Rattle.fab_vread.specs.declared.places.Place.TheVariants as places
 use Rattle.fab_vread.specs.declared.places.Move.{Move}
 use Rattle.fab_vread.specs.declared.places.Move.TheVariants as moves
-use Rattle.fab_grammar.specs.Words.{is_foreign}
+use Rattle.fab_grammar_defs.specs.Words.{is_foreign}
 use Rattle.fab_vread.specs.inner.Expressions.{refused, is_this_mark}
 
 abbrev pub to : Place → Result Move Problem

@@ -1,8 +1,8 @@
 use Rattle.std.proofs.Common.{ap, ◌∙◌, subst}
 use Rattle.fab_fabric.specs.Bits.{plain_bits}
 use Rattle.fab_implementation.specs.Plain.{PlainImplementation}
-use Rattle.fab_settling.specs.fab_use_Configuring.{Configures}
-use Rattle.fab_settling.specs.fab_use_Registers.{design_state}
+use Rattle.fab_settling_laws.specs.fab_use_defs_Configuring.{Configures}
+use Rattle.fab_settling_laws.specs.fab_use_defs_Registers.{design_state}
 use Rattle.fab_assemble.proofs.Runs.{packed_made, assembled_runs, assembled_settles}
 use Rattle.fab_assemble.proofs.assembly.assemble.Goals as goal
 

@@ -1,5 +1,5 @@
 use Rattle.std.proofs.Common.{◌≡◌, map, take}
-use Rattle.fab_settling.specs.fab_use_Registers.{bound_pad}
+use Rattle.fab_settling_laws.specs.fab_use_defs_Registers.{bound_pad}
 use Rattle.fab_assemble.proofs.state.output_pads.Given as goal
 
 abbrev pub invariant-loop-port : goal.invariant-loop-port

@@ -1,6 +1,6 @@
 use Rattle.std.proofs.Common.{◌≡◌, take}
 use Rattle.std.specs.List.{filter_map, enumerate_from}
-use Rattle.fab_settling.specs.fab_use_Registers.{register_of}
+use Rattle.fab_settling_laws.specs.fab_use_defs_Registers.{register_of}
 use Rattle.fab_assemble.proofs.state.registers.Given as goal
 
 abbrev pub invariant-loop-number : goal.invariant-loop-number

@@ -1,5 +1,5 @@
 use Rattle.std.proofs.Common.{◌≡◌, ◌∙◌, rules}
-use Rattle.fab_models.specs.Plain.{plain_models}
+use Rattle.fab_blif_models.specs.Plain.{plain_models}
 use Rattle.fab_blif.specs.Flat.{flat_lines}
 use Rattle.fab_blif.specs.inner.Walk.{after_all, nothing}
 use Rattle.fab_blif.proofs.Designed.{designed}

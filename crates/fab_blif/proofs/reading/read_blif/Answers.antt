@@ -2,7 +2,7 @@ use Rattle.std.proofs.Common.{◌≢◌, ◌∙◌, ap, inl, sym, arith}
 use Rattle.std.proofs.lemmas.List.{length-map}
 use Rattle.std.proofs.lemmas.Result.{err_from_is_err_and}
 use Rattle.fab_base.specs.declared.fault.Fault.TheVariants as faults
-use Rattle.fab_models.specs.Plain.{plain_model, plain_models}
+use Rattle.fab_blif_models.specs.Plain.{plain_model, plain_models}
 use Rattle.fab_blif.specs.Blif.{RefusesBlif}
 use Rattle.fab_blif.specs.Design.{flattened}
 use Rattle.fab_blif.proofs.Excluded.{not_refused, reads_unless}

@@ -1,6 +1,6 @@
 use Rattle.std.proofs.Common.{◌≡◌, ◌∙◌, ◌∷◌, ◌+◌, [], sym, ap, subst, drop, List, MatchOption, map, Bor}
-use Rattle.fab_models.specs.declared.model.Statement.{Statement}
-use Rattle.fab_models.specs.Plain.{PlainStatement, plain_models, plain_statement}
+use Rattle.fab_blif_models.specs.declared.model.Statement.{Statement}
+use Rattle.fab_blif_models.specs.Plain.{PlainStatement, plain_models, plain_statement}
 use Rattle.fab_instances.specs.Places.{statements_of}
 use Rattle.fab_blif.proofs.Lines.{line_met, statements_met}
 use Rattle.fab_blif.proofs.walk.next_line.Goals as goal

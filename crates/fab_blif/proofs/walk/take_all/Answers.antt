@@ -1,7 +1,7 @@
 use Rattle.std.proofs.Common.{◌≡◌, ◌<◌, ◌+◌, ◌-◌, ◌∙◌, [], rules, sym, ap, subst, arith, List, ℕ, length}
 use Rattle.std.proofs.lemmas.List.{length-map}
-use Rattle.fab_models.specs.declared.model.Model.{Model}
-use Rattle.fab_models.specs.Plain.{PlainStatement, plain_model, plain_models, plain_statement}
+use Rattle.fab_blif_models.specs.declared.model.Model.{Model}
+use Rattle.fab_blif_models.specs.Plain.{PlainStatement, plain_model, plain_models, plain_statement}
 use Rattle.fab_blif.specs.Flat.{Placed, flat_lines}
 use Rattle.fab_blif.specs.inner.Walk.{after_all}
 use Rattle.fab_blif.specs.inner.Frames.{PlainFrame, advanced, deep_in, entered, plain_frame, stack_lines, with_frames}

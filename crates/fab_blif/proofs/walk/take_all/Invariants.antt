@@ -1,5 +1,5 @@
 use Rattle.std.proofs.Common.{◌≡◌}
-use Rattle.fab_models.specs.Plain.{plain_models}
+use Rattle.fab_blif_models.specs.Plain.{plain_models}
 use Rattle.fab_blif.specs.Flat.{flat_lines}
 use Rattle.fab_blif.specs.inner.Walk.{after_all}
 use Rattle.fab_blif.specs.inner.Frames.{stack_lines}

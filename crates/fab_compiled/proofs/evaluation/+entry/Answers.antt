@@ -1,5 +1,5 @@
 use Rattle.std.proofs.Common.{length, ap₂, ◌∙◌, arith}
-use Rattle.fab_solutions.specs.fab_tern_Operators.{agreed}
+use Rattle.fab_solutions_laws.specs.fab_ternary_laws_Operators.{agreed}
 use Rattle.fab_compiled.specs.Terns.{seen}
 use Rattle.fab_compiled.proofs.Entries.{room_left, no_entry, yes_entry, open_entry}
 use Rattle.fab_compiled.proofs.evaluation.+entry.Goals as goal

@@ -3,9 +3,9 @@ use Rattle.std.proofs.lemmas.List.{length-map, length-set}
 use Rattle.fab_bits.specs.Bits.{other_bit}
 use Rattle.fab_syntax.specs.declared.tree.Op.TheVariants as ops
 use Rattle.fab_values.proofs.Evaluated.{borrow_at, borrowed, borrow_more, taken, kept, xor_is}
-use Rattle.fab_systems.specs.Ternary.{unknown, known}
-use Rattle.fab_systems.specs.Ternary.{Tern as PlainTern}
-use Rattle.fab_solutions.specs.fab_tern_Operators.{tern_at, inverse, both, either, differs, agreed, tern_operated}
+use Rattle.fab_systems_laws.specs.Ternary.{unknown, known}
+use Rattle.fab_systems_laws.specs.Ternary.{Tern as PlainTern}
+use Rattle.fab_solutions_laws.specs.fab_ternary_laws_Operators.{tern_at, inverse, both, either, differs, agreed, tern_operated}
 use Rattle.fab_ternary.specs.Terns.{plain_tern, is_one}
 use Rattle.fab_compiled.specs.declared.tree.Tree.{Tree}
 use Rattle.fab_compiled.specs.Terns.{seen}

@@ -1,5 +1,5 @@
 use Rattle.std.proofs.Common.{◌≡◌, ◌<◌, ◌≤◌, ℕ, true, false, drop, get_or, length}
-use Rattle.fab_solutions.specs.fab_tern_Operators.{tern_at, same_terns}
+use Rattle.fab_solutions_laws.specs.fab_ternary_laws_Operators.{tern_at, same_terns}
 use Rattle.fab_values.proofs.Evaluated.{borrow_at}
 use Rattle.fab_ternary.specs.declared.Tern.TheVariants.{No}
 use Rattle.fab_ternary.specs.Terns.{plain_tern, is_known}

@@ -1,5 +1,5 @@
 use Rattle.std.proofs.Common.{◌≡◌, ◌-◌, ◌<◌, length, sym, ap, ◌∙◌, subst}
-use Rattle.fab_solutions.specs.fab_tern_Operators.{tern_at}
+use Rattle.fab_solutions_laws.specs.fab_ternary_laws_Operators.{tern_at}
 use Rattle.fab_compiled.specs.declared.tree.Tree.{Tree}
 use Rattle.fab_compiled.specs.Trees.{tree_value, tree_width, IsMade}
 use Rattle.fab_compiled.specs.Evaluation.{value_seen, IsWithin}

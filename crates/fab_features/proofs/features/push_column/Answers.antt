@@ -2,7 +2,7 @@ use Rattle.std.proofs.Common.{◌≡◌, Option, Some, None, ◌++◌, ap}
 use Rattle.std.specs.List.{flat_map, filter_map}
 use Rattle.std.specs.Option.{option_map}
 use Rattle.fab_model.specs.Tiles.{PlainTile, counted}
-use Rattle.fab_use.specs.fab_fabric_text_Places.{placed_at}
+use Rattle.fab_use_defs.specs.fab_fabric_text_defs_Places.{placed_at}
 use Rattle.fab_legal.proofs.Pins.{is_tile_at}
 use Rattle.fab_features.specs.Design.{tile_features}
 use Rattle.fab_features.specs.inner.Listing.{placed_tile}

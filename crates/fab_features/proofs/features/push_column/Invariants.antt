@@ -1,6 +1,6 @@
 use Rattle.std.specs.List.{flat_map, filter_map}
 use Rattle.fab_model.specs.Tiles.{counted}
-use Rattle.fab_use.specs.fab_fabric_text_Places.{placed_at}
+use Rattle.fab_use_defs.specs.fab_fabric_text_defs_Places.{placed_at}
 use Rattle.fab_features.specs.Design.{tile_features}
 use Rattle.fab_features.specs.inner.Listing.{Pushes}
 use Rattle.fab_features.proofs.features.push_column.Given as goal

@@ -1,7 +1,7 @@
 use Rattle.std.proofs.Common.{◌++◌}
 use Rattle.std.specs.List.{flat_map}
 use Rattle.fab_model.specs.Tiles.{counted}
-use Rattle.fab_use.specs.fab_fabric_text_Places.{column_tiles}
+use Rattle.fab_use_defs.specs.fab_fabric_text_defs_Places.{column_tiles}
 use Rattle.fab_features.specs.Design.{tile_features}
 use Rattle.fab_features.proofs.Pushed.{none_listed, lists_more, pushes_both, pushes_same}
 use Rattle.fab_features.proofs.features.push_columns.Goals as goal

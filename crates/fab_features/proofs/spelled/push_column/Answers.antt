@@ -3,7 +3,7 @@ use Rattle.std.specs.List.{flat_map, filter_map}
 use Rattle.std.specs.Option.{option_map}
 use Rattle.fab_model.specs.Tiles.{PlainTile, counted}
 use Rattle.fab_fabric.specs.Bits.{plain_bits}
-use Rattle.fab_use.specs.fab_fabric_text_Places.{placed_at}
+use Rattle.fab_use_defs.specs.fab_fabric_text_defs_Places.{placed_at}
 use Rattle.fab_features.specs.inner.Listing.{placed_tile}
 use Rattle.fab_features.specs.Spelled.{place_spells, tile_spells}
 use Rattle.fab_features.proofs.Pushed.{none_filtered, some_counted, none_counted, pushes_both, pushes_same}

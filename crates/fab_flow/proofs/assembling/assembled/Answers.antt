@@ -3,9 +3,9 @@ use Rattle.std.proofs.lemmas.Result.{err_from_is_err_and}
 use Rattle.fab_base.specs.declared.fault.Fault.{Fault}
 use Rattle.fab_base.specs.declared.fault.Fault.TheVariants as faults
 use Rattle.fab_syntax.specs.Plain.{PlainModule}
-use Rattle.fab_assemble.specs.fab_fabric_text_Texts.{IsFabricText}
-use Rattle.fab_assemble.specs.fab_use_Headline.{RunsDesign}
-use Rattle.fab_assemble.specs.fab_settling_Settling.{SettlesDesign}
+use Rattle.fab_assemble.specs.fab_fabric_text_defs_Texts.{IsFabricText}
+use Rattle.fab_assemble.specs.fab_use_defs_Headline.{RunsDesign}
+use Rattle.fab_assemble.specs.fab_settling_laws_Settling.{SettlesDesign}
 use Rattle.fab_fabric.specs.Bits.{plain_bits}
 use Rattle.fab_gen_tile.specs.Words.{IsNamed}
 use Rattle.fab_assemble.specs.fab_features_Features.{IsBitMapOf}

@@ -3,9 +3,9 @@ use Rattle.std.proofs.lemmas.Result.{IfErr-weaker, IfOk-weaker, err_from_is_err_
 use Rattle.fab_base.specs.declared.fault.Fault.TheVariants as faults
 use Rattle.fab_syntax.specs.Spelling.{text_bytes}
 use Rattle.fab_gen_tile.specs.Words.{IsNamed}
-use Rattle.fab_assemble.specs.fab_drives_Drives.{ShowsDrives}
-use Rattle.fab_assemble.specs.fab_text_loads_Loads.{LoadsConfigurations}
-use Rattle.fab_assemble.specs.fab_fabric_text_Texts.{IsFabricText}
+use Rattle.fab_assemble.specs.fab_drives_laws_Drives.{ShowsDrives}
+use Rattle.fab_assemble.specs.fab_text_loads_laws_Loads.{LoadsConfigurations}
+use Rattle.fab_assemble.specs.fab_fabric_text_defs_Texts.{IsFabricText}
 use Rattle.fab_designs.specs.Designs.{PlainDesign}
 use Rattle.fab_outputs.specs.Storing.{plain_output}
 use Rattle.fab_flow.specs.Generating.{generated_text, text_length, most_text_bytes, IsTooLong}

@@ -1,6 +1,6 @@
 use Rattle.std.proofs.Common.{subst}
 use Rattle.std.proofs.lemmas.Result.{IfOk-weaker}
-use Rattle.fab_assemble.specs.fab_drives_Drives.{ShowsDrives}
+use Rattle.fab_assemble.specs.fab_drives_laws_Drives.{ShowsDrives}
 use Rattle.fab_flow.proofs.generating.printed_text.Goals as goal
 
 pub returns-clause-drives : goal.returns-clause-drives

@@ -2,7 +2,7 @@ use Rattle.std.proofs.Common.{◌≡◌, ◌++◌, map}
 use Rattle.fab_model.specs.Tiles.{counted}
 use Rattle.fab_syntax.specs.Plain.{plain_join}
 use Rattle.fab_gen_tile.specs.Names.{port_join, begin_name}
-use Rattle.fab_text_loads.specs.fab_fabric_text_Names.{begin_wire_name}
+use Rattle.fab_text_loads_laws.specs.fab_fabric_text_defs_Names.{begin_wire_name}
 use Rattle.fab_syntax.specs.Plain.{variable}
 use Rattle.fab_gen_top.proofs.joins.push_begin_joins.Given as goal
 

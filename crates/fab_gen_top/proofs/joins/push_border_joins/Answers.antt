@@ -5,8 +5,8 @@ use Rattle.fab_model.specs.Cascade.{PlacedRow}
 use Rattle.fab_model.specs.Tiles.{counted}
 use Rattle.fab_gen_tile.specs.Names.{begin_name, end_name, port_join}
 use Rattle.fab_gen_tile.specs.Borders.{side_border}
-use Rattle.fab_text_loads.specs.fab_fabric_text_Names.{begin_wire_name}
-use Rattle.fab_text_loads.specs.fab_fabric_text_Top.{end_value}
+use Rattle.fab_text_loads_laws.specs.fab_fabric_text_defs_Names.{begin_wire_name}
+use Rattle.fab_text_loads_laws.specs.fab_fabric_text_defs_Top.{end_value}
 use Rattle.fab_fabric.specs.Walks.{placed_at}
 use Rattle.fab_gen_top.proofs.Found.{has_row, found_stands, previous_found}
 use Rattle.fab_gen_top.proofs.joins.push_border_joins.Goals as goal

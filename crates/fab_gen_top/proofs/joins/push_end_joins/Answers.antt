@@ -2,7 +2,7 @@ use Rattle.std.proofs.Common.{ℕ, ◌∙◌, ap, map}
 use Rattle.std.proofs.lemmas.List.{map_push}
 use Rattle.fab_syntax.specs.Plain.{PlainJoin, plain_join}
 use Rattle.fab_gen_tile.specs.Names.{port_join, end_name}
-use Rattle.fab_text_loads.specs.fab_fabric_text_Top.{end_value}
+use Rattle.fab_text_loads_laws.specs.fab_fabric_text_defs_Top.{end_value}
 use Rattle.fab_fabric.specs.Walks.{placed_at}
 use Rattle.fab_gen_tile.proofs.Counted.{none_behind, items_more}
 use Rattle.fab_gen_top.proofs.joins.push_end_joins.Goals as goal

@@ -2,7 +2,7 @@ use Rattle.std.proofs.Common.{◌++◌, ◌∙◌, ap, sym, map, take, arith}
 use Rattle.std.specs.List.{flat_map, enumerate_from}
 use Rattle.fab_syntax.specs.Plain.{plain_join}
 use Rattle.fab_model.specs.declared.tiles.Bel.{Bel}
-use Rattle.fab_text_loads.specs.fab_fabric_text_Top.{pad_joins}
+use Rattle.fab_text_loads_laws.specs.fab_fabric_text_defs_Top.{pad_joins}
 use Rattle.fab_gen_tile.proofs.Steps.{behind, flat_placed_more}
 use Rattle.fab_gen_top.proofs.joins.push_pads_joins.Goals as goal
 

@@ -1,7 +1,7 @@
 use Rattle.std.proofs.Common.{◌≡◌, ◌++◌, map, take}
 use Rattle.std.specs.List.{flat_map, enumerate_from}
 use Rattle.fab_syntax.specs.Plain.{plain_join}
-use Rattle.fab_text_loads.specs.fab_fabric_text_Top.{pad_joins}
+use Rattle.fab_text_loads_laws.specs.fab_fabric_text_defs_Top.{pad_joins}
 use Rattle.fab_gen_top.proofs.joins.push_pads_joins.Given as goal
 
 -- those so far

@@ -3,7 +3,7 @@ use Rattle.std.proofs.lemmas.Option.{slice_get_read}
 use Rattle.std.specs.List.{flat_map, enumerate_from}
 use Rattle.fab_syntax.specs.Plain.{plain_join}
 use Rattle.fab_model.specs.declared.tiles.WireRow.{WireRow}
-use Rattle.fab_text_loads.specs.fab_fabric_text_Top.{row_joins}
+use Rattle.fab_text_loads_laws.specs.fab_fabric_text_defs_Top.{row_joins}
 use Rattle.fab_gen_top.specs.inner.Standing.{placed_of}
 use Rattle.fab_gen_tile.proofs.Steps.{behind, flat_placed_more}
 use Rattle.fab_gen_top.proofs.joins.push_rows_joins.Goals as goal

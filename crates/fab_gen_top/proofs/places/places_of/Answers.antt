@@ -1,6 +1,6 @@
 use Rattle.std.proofs.Common.{◌∙◌, ◌++◌, ap, sym, map, subst, All, List, arith}
 use Rattle.std.specs.List.{flat_map}
-use Rattle.fab_text_loads.specs.fab_fabric_text_Places.{column_tiles}
+use Rattle.fab_text_loads_laws.specs.fab_fabric_text_defs_Places.{column_tiles}
 use Rattle.fab_gen_tile.proofs.Counted.{counted_none}
 use Rattle.fab_gen_top.specs.declared.places.Place.{Place}
 use Rattle.fab_gen_top.specs.inner.Standing.{placed_of, IsPlaceOf}

@@ -1,7 +1,7 @@
 use Rattle.std.proofs.Common.{◌≡◌, All, map}
 use Rattle.std.specs.List.{flat_map}
 use Rattle.fab_model.specs.Tiles.{counted}
-use Rattle.fab_text_loads.specs.fab_fabric_text_Places.{column_tiles}
+use Rattle.fab_text_loads_laws.specs.fab_fabric_text_defs_Places.{column_tiles}
 use Rattle.fab_gen_top.specs.inner.Standing.{placed_of, IsPlaceOf}
 use Rattle.fab_gen_top.proofs.places.places_of.Given as goal
 

@@ -1,7 +1,7 @@
 use Rattle.std.proofs.Common.{◌≡◌, ◌++◌, All, map}
 use Rattle.std.specs.List.{filter_map}
 use Rattle.fab_model.specs.Tiles.{counted}
-use Rattle.fab_text_loads.specs.fab_fabric_text_Places.{placed_at}
+use Rattle.fab_text_loads_laws.specs.fab_fabric_text_defs_Places.{placed_at}
 use Rattle.fab_gen_top.specs.inner.Standing.{placed_of, IsPlaceOf}
 use Rattle.fab_gen_top.proofs.places.push_column.Given as goal
 

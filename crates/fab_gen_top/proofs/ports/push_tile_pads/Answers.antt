@@ -1,7 +1,7 @@
 use Rattle.std.proofs.Common.{◌++◌, ◌∙◌, ap, sym, take, arith}
 use Rattle.std.specs.List.{flat_map, enumerate_from}
 use Rattle.fab_model.specs.declared.tiles.Bel.{Bel}
-use Rattle.fab_text_loads.specs.fab_fabric_text_Top.{pad_ports}
+use Rattle.fab_text_loads_laws.specs.fab_fabric_text_defs_Top.{pad_ports}
 use Rattle.fab_gen_tile.proofs.Steps.{behind, flat_placed_more}
 use Rattle.fab_gen_top.proofs.ports.push_tile_pads.Goals as goal
 

@@ -1,6 +1,6 @@
 use Rattle.std.proofs.Common.{◌≡◌, ◌++◌, take}
 use Rattle.std.specs.List.{flat_map, enumerate_from}
-use Rattle.fab_text_loads.specs.fab_fabric_text_Top.{pad_ports}
+use Rattle.fab_text_loads_laws.specs.fab_fabric_text_defs_Top.{pad_ports}
 use Rattle.fab_gen_top.proofs.ports.push_tile_pads.Given as goal
 
 -- those so far

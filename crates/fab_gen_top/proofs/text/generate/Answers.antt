@@ -7,9 +7,9 @@ use Rattle.fab_prim.specs.Modules.{module_of_kind}
 use Rattle.fab_gen_loader.specs.Loader.{IsLoader}
 use Rattle.fab_gen_loader.specs.Bounds.{IsSmall}
 use Rattle.fab_gen_loader.specs.Expressions.{loader_module}
-use Rattle.fab_text_loads.specs.fab_fabric_text_Top.{top_module}
-use Rattle.fab_text_loads.specs.fab_fabric_text_Text.{used_kinds, standing_types, tile_modules}
-use Rattle.fab_drives.specs.Drives.{ShowsDrives}
+use Rattle.fab_text_loads_laws.specs.fab_fabric_text_defs_Top.{top_module}
+use Rattle.fab_text_loads_laws.specs.fab_fabric_text_defs_Text.{used_kinds, standing_types, tile_modules}
+use Rattle.fab_drives_laws.specs.Drives.{ShowsDrives}
 use Rattle.fab_syntax.specs.Sound.{IsSound}
 use Rattle.fab_gen_top.specs.inner.Standing.{type_of}
 use Rattle.fab_gen_top.proofs.text.generate.Goals as goal

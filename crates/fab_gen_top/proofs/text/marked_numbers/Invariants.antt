@@ -1,6 +1,6 @@
 use Rattle.std.proofs.Common.{◌≡◌, ◌<◌, All, length, map, filter, take}
 use Rattle.std.specs.List.{enumerate_from}
-use Rattle.fab_text_loads.specs.fab_fabric_text_Text.{stands}
+use Rattle.fab_text_loads_laws.specs.fab_fabric_text_defs_Text.{stands}
 use Rattle.fab_gen_top.specs.inner.Standing.{type_of}
 use Rattle.fab_gen_top.proofs.text.marked_numbers.Given as goal
 

@@ -4,7 +4,7 @@ use Rattle.std.proofs.lemmas.Result.{on_ok_weaker}
 use Rattle.fab_kinds.specs.declared.kind.Kind.TheVariants as kinds
 use Rattle.fab_syntax.specs.Plain.{plain_module}
 use Rattle.fab_fabric.specs.Sites.{same_kind}
-use Rattle.fab_text_loads.specs.fab_fabric_text_Text.{is_used}
+use Rattle.fab_text_loads_laws.specs.fab_fabric_text_defs_Text.{is_used}
 use Rattle.fab_gen_top.proofs.Steps.{primitive_if, kinds_used}
 use Rattle.fab_gen_top.proofs.text.push_primitives.Goals as goal
 

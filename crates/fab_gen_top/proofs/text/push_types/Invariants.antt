@@ -1,7 +1,7 @@
 use Rattle.std.proofs.Common.{◌≡◌, ◌++◌, map, take}
 use Rattle.std.specs.List.{flat_map}
 use Rattle.fab_syntax.specs.Plain.{plain_module}
-use Rattle.fab_text_loads.specs.fab_fabric_text_Text.{tile_modules}
+use Rattle.fab_text_loads_laws.specs.fab_fabric_text_defs_Text.{tile_modules}
 use Rattle.fab_gen_top.specs.inner.Standing.{type_of}
 use Rattle.fab_gen_top.proofs.text.push_types.Given as goal
 

@@ -3,7 +3,7 @@ use Rattle.fab_model.specs.Tiles.{counted}
 use Rattle.fab_syntax.specs.Plain.{plain_item}
 use Rattle.fab_syntax.specs.declared.tree.Shape.TheVariants.{Vector}
 use Rattle.fab_syntax.specs.Plain.{wire}
-use Rattle.fab_text_loads.specs.fab_fabric_text_Names.{column_strobe_name}
+use Rattle.fab_text_loads_laws.specs.fab_fabric_text_defs_Names.{column_strobe_name}
 use Rattle.fab_gen_top.proofs.wires.push_strobe_wires.Given as goal
 
 -- those so far

@@ -1,7 +1,7 @@
 use Rattle.std.proofs.Common.{ℕ, ◌∙◌, ap, map}
 use Rattle.std.proofs.lemmas.List.{map_push}
 use Rattle.fab_syntax.specs.Plain.{PlainItem, plain_item}
-use Rattle.fab_text_loads.specs.fab_fabric_text_Top.{column_strobes}
+use Rattle.fab_text_loads_laws.specs.fab_fabric_text_defs_Top.{column_strobes}
 use Rattle.fab_gen_tile.proofs.Counted.{none_behind, items_more}
 use Rattle.fab_gen_top.proofs.wires.push_strobes.Goals as goal
 

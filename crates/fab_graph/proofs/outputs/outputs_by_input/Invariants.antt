@@ -1,6 +1,6 @@
 use Rattle.std.proofs.Common.{◌≡◌, ℕ, length, take}
 use Rattle.fab_bits.specs.Keys.{group_at}
-use Rattle.fab_ways.specs.Edges.{outputs_of}
+use Rattle.fab_ways_laws.specs.Edges.{outputs_of}
 use Rattle.fab_graph.proofs.outputs.outputs_by_input.Given as goal
 
 -- the groups are those of the pairs so far

@@ -1,5 +1,5 @@
 use Rattle.std.proofs.Common.{◌≡◌, ◌≤◌, length, take}
-use Rattle.fab_ways.specs.Edges.{outputs_of, turned_pairs}
+use Rattle.fab_ways_laws.specs.Edges.{outputs_of, turned_pairs}
 use Rattle.fab_graph.proofs.scans.nth_end.Given as goal
 
 abbrev pub invariant-loop-place : goal.invariant-loop-place

@@ -1,6 +1,6 @@
 use Rattle.std.proofs.Common.{ℕ, List, ap, false}
 use Rattle.fab_select.specs.declared.pair.Pair.{Pair}
-use Rattle.fab_ways.specs.Edges.{outputs_of, turned_pairs, wire_at, ends}
+use Rattle.fab_ways_laws.specs.Edges.{outputs_of, turned_pairs, wire_at, ends}
 use Rattle.fab_graph.proofs.Edges.{edges_are}
 use Rattle.fab_graph.proofs.Scanned.{scan_ok, scan_err, end_within}
 use Rattle.fab_graph.proofs.scans.successors.Goals as goal

@@ -1,6 +1,6 @@
 use Rattle.std.proofs.Common.{◌≡◌, ◌<◌, ℕ, get_or}
 use Rattle.std.specs.List.{sum_by}
-use Rattle.fab_models.specs.Plain.{plain_models}
+use Rattle.fab_blif_models.specs.Plain.{plain_models}
 use Rattle.fab_instances.specs.Counting.{in_64_bits, instances_at}
 use Rattle.fab_instances.specs.Places.{model_names, statements_of}
 use Rattle.fab_instances.specs.Uses.{IsMarked}

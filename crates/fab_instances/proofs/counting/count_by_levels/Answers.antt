@@ -1,6 +1,6 @@
 use Rattle.std.proofs.Common.{◌≡◌, ◌∙◌, ℕ, List, length, replicate, sym, ap, arith, get_or, rules, add-one}
 use Rattle.std.proofs.lemmas.List.{length-map}
-use Rattle.fab_models.specs.Plain.{plain_model, plain_models}
+use Rattle.fab_blif_models.specs.Plain.{plain_model, plain_models}
 use Rattle.fab_instances.specs.Counting.{in_64_bits, instances_in}
 use Rattle.fab_bits.specs.Keys.{key_names}
 use Rattle.fab_instances.proofs.Instances.{levels_counted, more_counted, none_counted}

@@ -1,4 +1,4 @@
-use Rattle.fab_models.specs.Plain.{plain_models}
+use Rattle.fab_blif_models.specs.Plain.{plain_models}
 use Rattle.fab_instances.proofs.Instances.{AreCounts}
 use Rattle.fab_instances.proofs.counting.count_by_levels.Given as goal
 

@@ -1,6 +1,6 @@
 use Rattle.std.proofs.Common.{◌∙◌, ◌<◌, ℕ, List, length, sym, ap, arith, get_or}
 use Rattle.std.proofs.lemmas.List.{length-map}
-use Rattle.fab_models.specs.Plain.{plain_model, plain_models}
+use Rattle.fab_blif_models.specs.Plain.{plain_model, plain_models}
 use Rattle.fab_instances.proofs.Instances.{counted_all}
 use Rattle.fab_instances.proofs.counting.count_instances.Goals as goal
 

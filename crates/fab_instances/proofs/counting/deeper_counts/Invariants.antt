@@ -1,6 +1,6 @@
 use Rattle.std.proofs.Common.{◌≡◌, get_or, map, take}
 use Rattle.std.specs.List.{sum_by}
-use Rattle.fab_models.specs.Plain.{plain_models}
+use Rattle.fab_blif_models.specs.Plain.{plain_models}
 use Rattle.fab_instances.specs.Counting.{in_64_bits, instances_at}
 use Rattle.fab_bits.specs.Keys.{key_names}
 use Rattle.fab_instances.proofs.counting.deeper_counts.Given as goal

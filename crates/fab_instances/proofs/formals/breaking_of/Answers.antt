@@ -1,8 +1,8 @@
 use Rattle.std.proofs.Common.{◌≡◌, ◌∙◌, Bor, None, ap, map, length, option_map, subst, sym}
 use Rattle.std.proofs.lemmas.List.{length-map}
 use Rattle.std.proofs.lemmas.Result.{IfOk-weaker}
-use Rattle.fab_models.specs.declared.model.Statement.{Statement}
-use Rattle.fab_models.specs.Plain.{plain_model, plain_models, plain_statement}
+use Rattle.fab_blif_models.specs.declared.model.Statement.{Statement}
+use Rattle.fab_blif_models.specs.Plain.{plain_model, plain_models, plain_statement}
 use Rattle.fab_instances.specs.Formals.{HasPorts}
 use Rattle.fab_instances.specs.Order.{BreaksFormals, IsLeastFound}
 use Rattle.fab_instances.specs.Uses.{breaking_in, lines_before, soonest_of}

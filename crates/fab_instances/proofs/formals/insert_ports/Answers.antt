@@ -1,6 +1,6 @@
 use Rattle.std.proofs.Common.{◌++◌, OnOk, List, ℕ, sym, subst}
-use Rattle.fab_models.specs.declared.model.Body.{Body}
-use Rattle.fab_models.specs.Plain.{plain_body}
+use Rattle.fab_blif_models.specs.declared.model.Body.{Body}
+use Rattle.fab_blif_models.specs.Plain.{plain_body}
 use Rattle.fab_instances.specs.Formals.{SameNames, ports_by}
 use Rattle.fab_bits.specs.Keys.{key_names}
 use Rattle.fab_instances.proofs.formals.insert_ports.Goals as goal

@@ -1,4 +1,4 @@
-use Rattle.fab_models.specs.Plain.{PlainStatement, plain_statement}
+use Rattle.fab_blif_models.specs.Plain.{PlainStatement, plain_statement}
 use Rattle.fab_instances.specs.Formals.{ports_by}
 use Rattle.fab_bits.specs.Keys.{key_names}
 use Rattle.fab_instances.proofs.Naming.{same_held}

@@ -1,5 +1,5 @@
 use Rattle.std.proofs.Common.{map, take}
-use Rattle.fab_models.specs.Plain.{plain_statement}
+use Rattle.fab_blif_models.specs.Plain.{plain_statement}
 use Rattle.fab_instances.specs.Formals.{SameNames, port_names}
 use Rattle.fab_bits.specs.Keys.{key_names}
 use Rattle.fab_instances.proofs.formals.ports_of.Given as goal

@@ -1,5 +1,5 @@
 use Rattle.std.proofs.Common.{◌≡◌, length, map, take}
-use Rattle.fab_models.specs.Plain.{plain_models}
+use Rattle.fab_blif_models.specs.Plain.{plain_models}
 use Rattle.fab_instances.specs.Formals.{HasPorts}
 use Rattle.fab_bits.specs.Keys.{key_names}
 use Rattle.fab_instances.proofs.formals.ports_of_models.Given as goal

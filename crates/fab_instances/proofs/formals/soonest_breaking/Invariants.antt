@@ -1,5 +1,5 @@
 use Rattle.std.proofs.Common.{◌≡◌, None, map, option_map, take}
-use Rattle.fab_models.specs.Plain.{plain_statement}
+use Rattle.fab_blif_models.specs.Plain.{plain_statement}
 use Rattle.fab_instances.specs.Uses.{breaking_in, soonest_of}
 use Rattle.fab_bits.specs.Keys.{key_names}
 use Rattle.fab_instances.proofs.formals.soonest_breaking.Given as goal

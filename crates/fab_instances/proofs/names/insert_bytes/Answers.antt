@@ -3,7 +3,7 @@ use Rattle.std.specs.Str.{bytes_eq}
 use Rattle.std.specs.List.{list_any}
 use Rattle.fab_bits.specs.Keys.{key_names}
 use Rattle.fab_instances.proofs.Keys.{names_of_insert}
-use Rattle.fab_models.proofs.Sets.{any_of_names}
+use Rattle.fab_blif_models.proofs.Sets.{any_of_names}
 use Rattle.fab_instances.proofs.names.insert_bytes.Goals as goal
 
 pub returns-clause-added : goal.returns-clause-added

@@ -1,5 +1,5 @@
 use Rattle.std.proofs.Common.{◌∙◌}
-use Rattle.fab_models.proofs.Sets.{any_of_names}
+use Rattle.fab_blif_models.proofs.Sets.{any_of_names}
 use Rattle.fab_instances.proofs.names.is_among.Goals as goal
 
 pub returns : goal.returns

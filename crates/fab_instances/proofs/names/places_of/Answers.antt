@@ -2,7 +2,7 @@ use Rattle.std.proofs.Common.{◌≡◌, ◌∙◌, true, false, inr, rules}
 use Rattle.std.specs.List.{list_any}
 use Rattle.std.specs.Str.{bytes_eq}
 use borrow.Author.Count.{below_more}
-use Rattle.fab_models.specs.Plain.{plain_models}
+use Rattle.fab_blif_models.specs.Plain.{plain_models}
 use Rattle.fab_instances.specs.Order.{is_again}
 use Rattle.fab_bits.specs.Keys.{key_names}
 use Rattle.fab_instances.proofs.Order.{again_here, fault_named, names_more, not_new, was_new, within_plain}

@@ -1,5 +1,5 @@
 use Rattle.std.proofs.Common.{◌≡◌, ℕ, ◌<◌, false, take}
-use Rattle.fab_models.specs.Plain.{plain_models}
+use Rattle.fab_blif_models.specs.Plain.{plain_models}
 use Rattle.fab_instances.specs.Places.{model_names}
 use Rattle.fab_instances.specs.Order.{is_again}
 use Rattle.fab_bits.specs.Keys.{key_names}

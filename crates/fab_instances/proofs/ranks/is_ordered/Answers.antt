@@ -1,6 +1,6 @@
 use Rattle.std.proofs.Common.{ℕ, Bor, ◌∙◌, ap, not}
 use Rattle.fab_base.specs.declared.name.Name.{Name}
-use Rattle.fab_models.specs.Plain.{plain_models}
+use Rattle.fab_blif_models.specs.Plain.{plain_models}
 use Rattle.fab_instances.specs.inner.Ranks.{IsLevel}
 use Rattle.fab_instances.proofs.Levels.{none_found_of}
 use Rattle.fab_instances.proofs.ranks.is_ordered.Goals as goal

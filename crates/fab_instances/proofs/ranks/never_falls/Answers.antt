@@ -1,6 +1,6 @@
 use Rattle.std.proofs.Common.{◌≡◌, ◌∙◌, arith, length, sym}
 use Rattle.std.proofs.lemmas.List.{length-map}
-use Rattle.fab_models.specs.Plain.{plain_model, plain_models}
+use Rattle.fab_blif_models.specs.Plain.{plain_model, plain_models}
 use Rattle.fab_instances.proofs.Levels.{all_tested}
 use Rattle.fab_instances.proofs.ranks.never_falls.Goals as goal
 

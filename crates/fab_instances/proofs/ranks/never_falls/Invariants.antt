@@ -1,5 +1,5 @@
 use Rattle.std.proofs.Common.{◌<◌, ℕ}
-use Rattle.fab_models.specs.Plain.{plain_models}
+use Rattle.fab_blif_models.specs.Plain.{plain_models}
 use Rattle.fab_instances.specs.Uses.{IsMarked}
 use Rattle.fab_instances.proofs.Levels.{AllStay}
 use Rattle.fab_instances.proofs.ranks.never_falls.Given as goal

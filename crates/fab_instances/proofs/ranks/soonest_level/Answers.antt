@@ -1,7 +1,7 @@
 use Rattle.std.proofs.Common.{◌≡◌, ◌∙◌, ℕ, Bor, false, true, ap, arith, length, map, option_map, rules, sym}
 use Rattle.std.proofs.lemmas.List.{length-map}
 use Rattle.fab_base.specs.declared.name.Name.{Name}
-use Rattle.fab_models.specs.Plain.{plain_model, plain_models, plain_statement}
+use Rattle.fab_blif_models.specs.Plain.{plain_model, plain_models, plain_statement}
 use Rattle.fab_instances.specs.inner.Ranks.{level_in}
 use Rattle.fab_instances.specs.Uses.{soonest_of}
 use Rattle.fab_bits.specs.Keys.{key_names}

@@ -1,5 +1,5 @@
 use Rattle.std.proofs.Common.{option_map}
-use Rattle.fab_models.specs.Plain.{plain_models}
+use Rattle.fab_blif_models.specs.Plain.{plain_models}
 use Rattle.fab_instances.proofs.Levels.{Levels}
 use Rattle.fab_instances.proofs.ranks.soonest_level.Given as goal
 

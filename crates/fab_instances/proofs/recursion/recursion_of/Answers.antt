@@ -1,7 +1,7 @@
 use Rattle.std.proofs.Common.{ℕ, Bor, Option, subst}
 use Rattle.std.specs.Option.{IfSome}
 use Rattle.fab_base.specs.declared.name.Name.{Name}
-use Rattle.fab_models.specs.Plain.{plain_models}
+use Rattle.fab_blif_models.specs.Plain.{plain_models}
 use Rattle.fab_instances.specs.Order.{IsRecursive}
 use Rattle.fab_instances.proofs.Levels.{least_recursive, none_recursive}
 use Rattle.fab_instances.proofs.recursion.recursion_of.Goals as goal

@@ -1,7 +1,7 @@
 use Rattle.std.proofs.Common.{◌≡◌, ◌∙◌, Bool, Bor, List, ap, map, length, sym}
 use Rattle.std.proofs.lemmas.List.{length-map}
-use Rattle.fab_models.specs.declared.model.Statement.{Statement}
-use Rattle.fab_models.specs.Plain.{plain_model, plain_models, plain_statement}
+use Rattle.fab_blif_models.specs.declared.model.Statement.{Statement}
+use Rattle.fab_blif_models.specs.Plain.{plain_model, plain_models, plain_statement}
 use Rattle.fab_instances.specs.Uses.{lines_before}
 use Rattle.fab_bits.specs.Keys.{key_names}
 use Rattle.fab_instances.proofs.Recursions.{recursive_found}

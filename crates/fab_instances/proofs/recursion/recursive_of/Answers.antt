@@ -1,6 +1,6 @@
 use Rattle.std.proofs.Common.{◌≡◌, ◌∙◌, false, arith, length, rules, sym}
 use Rattle.std.proofs.lemmas.List.{length-map}
-use Rattle.fab_models.specs.Plain.{plain_model, plain_models}
+use Rattle.fab_blif_models.specs.Plain.{plain_model, plain_models}
 use Rattle.fab_instances.proofs.Recursions.{recursions_done, recursions_more, recursions_skipped}
 use Rattle.fab_instances.proofs.recursion.recursive_of.Goals as goal
 

@@ -1,5 +1,5 @@
 use Rattle.std.proofs.Common.{option_map}
-use Rattle.fab_models.specs.Plain.{plain_models}
+use Rattle.fab_blif_models.specs.Plain.{plain_models}
 use Rattle.fab_instances.proofs.Recursions.{Recursions}
 use Rattle.fab_instances.proofs.recursion.recursive_of.Given as goal
 

@@ -1,5 +1,5 @@
 use Rattle.std.proofs.Common.{◌≡◌, map}
-use Rattle.fab_models.specs.Plain.{plain_models, plain_statement}
+use Rattle.fab_blif_models.specs.Plain.{plain_models, plain_statement}
 use Rattle.fab_instances.specs.Uses.{lines_before}
 use Rattle.fab_instances.proofs.soonest.lines_of.Given as goal
 

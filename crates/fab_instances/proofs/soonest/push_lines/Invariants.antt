@@ -1,5 +1,5 @@
 use Rattle.std.proofs.Common.{◌≡◌, ◌++◌, map, take}
-use Rattle.fab_models.specs.Plain.{plain_statement}
+use Rattle.fab_blif_models.specs.Plain.{plain_statement}
 use Rattle.fab_instances.proofs.soonest.push_lines.Given as goal
 
 abbrev pub invariant-loop-statement : goal.invariant-loop-statement

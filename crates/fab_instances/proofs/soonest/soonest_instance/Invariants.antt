@@ -1,5 +1,5 @@
 use Rattle.std.proofs.Common.{◌≡◌, None, map, option_map, take}
-use Rattle.fab_models.specs.Plain.{plain_statement}
+use Rattle.fab_blif_models.specs.Plain.{plain_statement}
 use Rattle.fab_instances.specs.Uses.{soonest_of, instance_in}
 use Rattle.fab_bits.specs.Keys.{key_names}
 use Rattle.fab_instances.proofs.soonest.soonest_instance.Given as goal

@@ -1,5 +1,5 @@
 use Rattle.std.proofs.Common.{◌≡◌, map, take}
-use Rattle.fab_models.specs.Plain.{plain_statement}
+use Rattle.fab_blif_models.specs.Plain.{plain_statement}
 use Rattle.fab_instances.specs.Uses.{marked_all}
 use Rattle.fab_bits.specs.Keys.{key_names}
 use Rattle.fab_instances.proofs.uses.mark_instances.Given as goal

@@ -2,7 +2,7 @@ use Rattle.std.proofs.Common.{◌≡◌, ◌∙◌, ◌<◌, ◌+◌, ℕ, false
 use Rattle.std.specs.List.{count_by}
 use Rattle.std.specs.Vec.{with_items}
 use Rattle.std.proofs.lemmas.List.{length-map, with_items_is}
-use Rattle.fab_models.specs.Plain.{plain_model, plain_models, plain_statement}
+use Rattle.fab_blif_models.specs.Plain.{plain_model, plain_models, plain_statement}
 use Rattle.fab_instances.specs.Places.{statements_of}
 use Rattle.fab_instances.specs.Uses.{Marks, marked_all}
 use Rattle.fab_bits.specs.Keys.{key_names}

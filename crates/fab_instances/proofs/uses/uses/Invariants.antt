@@ -1,6 +1,6 @@
 use Rattle.std.proofs.Common.{◌+◌, not, length}
 use Rattle.std.specs.List.{count_by}
-use Rattle.fab_models.specs.Plain.{plain_models}
+use Rattle.fab_blif_models.specs.Plain.{plain_models}
 use Rattle.fab_instances.proofs.Searching.{Searched}
 use Rattle.fab_instances.proofs.uses.uses.Given as goal
 

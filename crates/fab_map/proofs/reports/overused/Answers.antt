@@ -2,7 +2,7 @@ use Rattle.std.proofs.Common.{◌-◌, Vec, Global, length, ap, ◌∙◌, arith
 use Rattle.std.proofs.lemmas.List.{length-map}
 use Rattle.fab_implementation.specs.Plain.{PlainTree, PlainImplementation}
 use Rattle.fab_impl.specs.Spelled.{implementation_text}
-use Rattle.fab_ways.specs.Trees.{trees_of}
+use Rattle.fab_ways_laws.specs.Trees.{trees_of}
 use Rattle.fab_route.specs.Answers.{plain_rounds}
 use Rattle.fab_map.proofs.Reached.{first_known, second_known, shared_there, reached_is, reached_on_fabric, reached_inputs}
 use Rattle.fab_map.proofs.reports.overused.Goals as goal

@@ -1,5 +1,5 @@
 use Rattle.std.proofs.Common.{refl}
-use Rattle.fab_systems.specs.Steps.{blocks_then}
+use Rattle.fab_systems_laws.specs.Steps.{blocks_then}
 use Rattle.fab_meaning.proofs.Settling.{steps_settle}
 use Rattle.fab_meaning.proofs.SingleDrivers.{one_driver}
 use Rattle.fab_meaning.proofs.UserSteps.{steps_beside}

@@ -1,5 +1,5 @@
 use Rattle.std.proofs.Common.{◌∙◌}
-use Rattle.fab_systems.proofs.Order.{below_trans}
+use Rattle.fab_systems_laws.proofs.Order.{below_trans}
 use Rattle.fab_network.specs.Passes.{kept_tern, Scene, IsFurther}
 use Rattle.fab_network.proofs.Passing.{both_further}
 use Rattle.fab_network.proofs.passes.settle.Goals as goal

@@ -1,7 +1,7 @@
 use Rattle.std.proofs.Common.{◌≡◌, ℕ, ◌<◌}
 use Rattle.std.specs.List.{slice_get}
 use Rattle.std.proofs.Common.{Some}
-use Rattle.fab_systems.specs.Ternary.{unknown}
+use Rattle.fab_systems_laws.specs.Ternary.{unknown}
 use Rattle.fab_network.specs.Passes.{kept_tern}
 use Rattle.fab_phases.specs.Cycles.{IsIn}
 use Rattle.fab_phases.proofs.cycles.open.Given as goal

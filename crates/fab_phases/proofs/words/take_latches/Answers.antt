@@ -1,7 +1,7 @@
 use Rattle.std.proofs.Common.{length, ap, sym, ◌∙◌, arith, get_or, ◌<◌}
 use Rattle.std.proofs.lemmas.Option.{slice_get-get_or}
-use Rattle.fab_systems.specs.Ternary.{Tern as PlainTern}
-use Rattle.fab_tern.specs.Shown.{through}
+use Rattle.fab_systems_laws.specs.Ternary.{Tern as PlainTern}
+use Rattle.fab_ternary_laws.specs.Shown.{through}
 use Rattle.fab_ternary.specs.declared.Tern.TheVariants.{No}
 use Rattle.fab_ternary.specs.Terns.{plain_tern}
 use Rattle.fab_phases.proofs.Ticking.{eval_at, fit_at, kept_get, latch_step, latches_done, no_latch}

@@ -2,7 +2,7 @@ use Rattle.std.proofs.Common.{◌≡◌, ◌++◌, ◌∙◌, List, Option, ℕ,
 use Rattle.fab_netlist.specs.declared.net_id.NetId.{NetId}
 use Rattle.fab_netlist.specs.Packed.{PlainPacked}
 use Rattle.fab_implementation.specs.Plain.{Pad}
-use Rattle.fab_ways.specs.fab_legal_WellMade.{ports}
+use Rattle.fab_ways_laws.specs.fab_legal_WellMade.{ports}
 use Rattle.fab_place.specs.inner.Constraints.{HasConstraints, pad_in}
 use Rattle.fab_place.proofs.Constrained.{all_found, are_constrained}
 use Rattle.fab_place.proofs.constraints.constrained_pads.Goals as goal

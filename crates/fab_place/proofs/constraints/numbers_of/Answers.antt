@@ -1,7 +1,7 @@
 use Rattle.std.proofs.Common.{List, get_or, refl, subst, arith}
 use Rattle.fab_fabric.specs.declared.wire.Site.{Site}
-use Rattle.fab_ways.proofs.fab_legal_Lists.{at_default}
-use Rattle.fab_ways.specs.Placing.{no_site}
+use Rattle.fab_ways_laws.proofs.fab_legal_Lists.{at_default}
+use Rattle.fab_ways_laws.specs.Placing.{no_site}
 use Rattle.fab_place.proofs.Constrained.{AreNumbered, numbers_more}
 use Rattle.fab_place.proofs.Linked.{take_past}
 use Rattle.fab_place.proofs.constraints.numbers_of.Goals as goal

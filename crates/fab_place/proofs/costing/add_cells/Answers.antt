@@ -3,8 +3,8 @@ use Rattle.std.specs.List.{list_any}
 use Rattle.fab_fabric.specs.declared.wire.Site.{Site}
 use Rattle.fab_netlist.specs.declared.net_id.NetId.{NetId}
 use Rattle.fab_netlist.specs.Packed.{PlainCell}
-use Rattle.fab_ways.specs.fab_legal_Sinks.{site_of}
-use Rattle.fab_ways.specs.Placing.{same_net}
+use Rattle.fab_ways_laws.specs.fab_legal_Sinks.{site_of}
+use Rattle.fab_ways_laws.specs.Placing.{same_net}
 use Rattle.fab_place.specs.inner.Boxes.{included}
 use Rattle.fab_place.proofs.Boxed.{box_stays, box_grows}
 use Rattle.fab_place.proofs.costing.add_cells.Goals as goal

@@ -1,8 +1,8 @@
 use Rattle.std.proofs.Common.{◌≡◌, fold, take, nat_eq}
 use Rattle.std.specs.List.{list_any}
 use Rattle.fab_netlist.specs.Packed.{PlainCell}
-use Rattle.fab_ways.specs.fab_legal_Sinks.{site_of}
-use Rattle.fab_ways.specs.Placing.{same_net}
+use Rattle.fab_ways_laws.specs.fab_legal_Sinks.{site_of}
+use Rattle.fab_ways_laws.specs.Placing.{same_net}
 use Rattle.fab_place.specs.inner.Boxes.{included}
 use Rattle.fab_place.proofs.Listed.{kept_from}
 use Rattle.fab_place.proofs.costing.add_cells.Given as goal

@@ -2,8 +2,8 @@ use Rattle.std.proofs.Common.{◌∙◌, Bool, List, ℕ, sym, ap}
 use Rattle.std.specs.Str.{bytes_eq}
 use Rattle.fab_fabric.specs.declared.wire.Site.{Site}
 use Rattle.fab_netlist.specs.declared.net_id.NetId.{NetId}
-use Rattle.fab_ways.specs.fab_legal_Sinks.{site_of}
-use Rattle.fab_ways.specs.Placing.{same_net}
+use Rattle.fab_ways_laws.specs.fab_legal_Sinks.{site_of}
+use Rattle.fab_ways_laws.specs.Placing.{same_net}
 use Rattle.fab_place.specs.inner.Boxes.{included}
 use Rattle.fab_place.proofs.Boxed.{list_stays, list_grows}
 use Rattle.fab_place.proofs.costing.add_outputs.Goals as goal

@@ -1,8 +1,8 @@
 use Rattle.std.proofs.Common.{◌≡◌, ℕ, List, filter, fold, map, take}
 use Rattle.std.specs.Str.{bytes_eq}
 use Rattle.fab_netlist.specs.declared.net_id.NetId.{NetId}
-use Rattle.fab_ways.specs.fab_legal_Sinks.{site_of}
-use Rattle.fab_ways.specs.Placing.{same_net}
+use Rattle.fab_ways_laws.specs.fab_legal_Sinks.{site_of}
+use Rattle.fab_ways_laws.specs.Placing.{same_net}
 use Rattle.fab_place.specs.inner.Boxes.{included}
 use Rattle.fab_place.proofs.costing.add_outputs.Given as goal
 

@@ -1,7 +1,7 @@
 use Rattle.std.proofs.Common.{ℕ, nat_eq}
 use Rattle.std.proofs.lemmas.Bool.Decides.{Decides-eqb}
 use Rattle.fab_fabric.specs.declared.wire.Site.{Site}
-use Rattle.fab_ways.specs.Placing.{no_site}
+use Rattle.fab_ways_laws.specs.Placing.{no_site}
 use Rattle.fab_place.proofs.Boxed.{line_here}
 use Rattle.fab_place.proofs.costing.cell_site.Goals as goal
 

@@ -4,8 +4,8 @@ use Rattle.fab_fabric.specs.declared.wire.Site.{Site}
 use Rattle.fab_netlist.specs.declared.net_id.NetId.TheVariants as ids
 use Rattle.fab_netlist.specs.Packed.{PlainCell}
 use Rattle.fab_implementation.specs.Plain.{PlainImplementation}
-use Rattle.fab_ways.specs.fab_legal_Sinks.{site_of}
-use Rattle.fab_ways.specs.Placing.{half_perimeter, cell_site, reader_sites}
+use Rattle.fab_ways_laws.specs.fab_legal_Sinks.{site_of}
+use Rattle.fab_ways_laws.specs.Placing.{half_perimeter, cell_site, reader_sites}
 use Rattle.fab_place.proofs.Boxed.{sum_more}
 use Rattle.fab_place.proofs.costing.cells_cost.Goals as goal
 

@@ -2,7 +2,7 @@ use Rattle.std.proofs.Common.{◌≡◌, ◌≤◌, ◌*◌, ◌∷◌, ℕ, tak
 use Rattle.std.specs.List.{enumerate_from, sum_by}
 use Rattle.fab_netlist.specs.declared.net_id.NetId.TheVariants as ids
 use Rattle.fab_netlist.specs.Packed.{PlainCell}
-use Rattle.fab_ways.specs.Placing.{half_perimeter, cell_site, reader_sites}
+use Rattle.fab_ways_laws.specs.Placing.{half_perimeter, cell_site, reader_sites}
 use Rattle.fab_place.proofs.costing.cells_cost.Given as goal
 
 abbrev pub invariant-loop-number : goal.invariant-loop-number

@@ -5,8 +5,8 @@ use Rattle.fab_fabric.specs.declared.wire.Site.{Site}
 use Rattle.fab_netlist.specs.declared.net_id.NetId.{NetId}
 use Rattle.fab_netlist.specs.Packed.{PlainCell, PlainPacked}
 use Rattle.fab_implementation.specs.Plain.{Pad, PlainImplementation}
-use Rattle.fab_ways.specs.fab_legal_Sinks.{site_of}
-use Rattle.fab_ways.specs.Placing.{same_net}
+use Rattle.fab_ways_laws.specs.fab_legal_Sinks.{site_of}
+use Rattle.fab_ways_laws.specs.Placing.{same_net}
 use Rattle.fab_place.specs.declared.bounding.BoundingBox.{BoundingBox}
 use Rattle.fab_place.specs.inner.Boxes.{around, included}
 use Rattle.fab_place.proofs.Boxed.{half_both}

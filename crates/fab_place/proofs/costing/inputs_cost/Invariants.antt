@@ -2,8 +2,8 @@ use Rattle.std.proofs.Common.{◌≡◌, ◌≤◌, ◌*◌, ◌∷◌, ℕ, Lis
 use Rattle.std.specs.List.{enumerate_from, sum_by}
 use Rattle.std.specs.Str.{bytes_eq}
 use Rattle.fab_netlist.specs.declared.net_id.NetId.TheVariants as ids
-use Rattle.fab_ways.specs.fab_legal_Sinks.{site_of}
-use Rattle.fab_ways.specs.Placing.{half_perimeter, reader_sites}
+use Rattle.fab_ways_laws.specs.fab_legal_Sinks.{site_of}
+use Rattle.fab_ways_laws.specs.Placing.{half_perimeter, reader_sites}
 use Rattle.fab_place.proofs.costing.inputs_cost.Given as goal
 
 abbrev pub invariant-loop-number : goal.invariant-loop-number

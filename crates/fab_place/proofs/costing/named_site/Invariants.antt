@@ -1,6 +1,6 @@
 use Rattle.std.proofs.Common.{◌≡◌, drop}
 use Rattle.std.specs.Str.{bytes_eq}
-use Rattle.fab_ways.specs.fab_legal_Sinks.{site_of}
+use Rattle.fab_ways_laws.specs.fab_legal_Sinks.{site_of}
 use Rattle.fab_place.proofs.costing.named_site.Given as goal
 
 abbrev pub invariant-loop-line : goal.invariant-loop-line

@@ -1,5 +1,5 @@
 use Rattle.std.proofs.Common.{◌≡◌, drop, nat_eq}
-use Rattle.fab_ways.specs.fab_legal_Sinks.{site_of}
+use Rattle.fab_ways_laws.specs.fab_legal_Sinks.{site_of}
 use Rattle.fab_place.proofs.costing.numbered_site.Given as goal
 
 abbrev pub invariant-loop-line : goal.invariant-loop-line

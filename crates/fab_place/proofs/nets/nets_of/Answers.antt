@@ -1,6 +1,6 @@
 use Rattle.std.proofs.Common.{◌≡◌, ◌+◌, ◌++◌, ◌∷◌, [], List, refl, ◌∙◌, subst, get_or, take, arith}
 use Rattle.std.proofs.lemmas.List.{take_more}
-use Rattle.fab_board.specs.declared.nets.Nets.{Nets}
+use Rattle.fab_annealing.specs.declared.nets.Nets.{Nets}
 use Rattle.fab_place.specs.declared.nets.Pin.{Pin}
 use Rattle.fab_place.proofs.Linked.{AreListed, net_of, item_of, take_past, none_listed, listed_more, made_nets, made_pins}
 use Rattle.fab_place.proofs.nets.nets_of.Goals as goal

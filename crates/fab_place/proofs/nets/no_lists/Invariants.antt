@@ -1,6 +1,6 @@
 use Rattle.std.proofs.Common.{◌≡◌, ℕ, [], length}
 use Rattle.std.specs.List.{slice_get}
-use Rattle.fab_board.specs.Measured.{numbers_of}
+use Rattle.fab_annealing.specs.Measured.{numbers_of}
 use Rattle.fab_place.proofs.nets.no_lists.Given as goal
 
 abbrev pub invariant-loop-list : goal.invariant-loop-list

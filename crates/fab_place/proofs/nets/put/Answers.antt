@@ -1,5 +1,5 @@
 use Rattle.std.proofs.Common.{◌++◌, ◌∷◌, [], ℕ, List, ◌∙◌, ap}
-use Rattle.fab_board.proofs.Kept.{numbers_read}
+use Rattle.fab_annealing.proofs.Kept.{numbers_read}
 use Rattle.fab_place.proofs.Linked.{numbers_here, numbers_there}
 use Rattle.fab_place.proofs.nets.put.Goals as goal
 

@@ -3,7 +3,7 @@ use Rattle.std.specs.List.{All}
 use Rattle.std.specs.Option.{IfSome}
 use Rattle.std.proofs.lemmas.Grind.{common_steps}
 use Rattle.fab_fabric.specs.declared.wire.Site.{Site}
-use Rattle.fab_board.specs.Boards.{IsPlaced, Keeps, cost}
+use Rattle.fab_annealing.specs.Boards.{IsPlaced, Keeps, cost}
 use Rattle.fab_place.specs.inner.Starts.{start_numbers}
 use Rattle.fab_place.specs.inner.BoardOf.{IsBoardOf}
 use Rattle.fab_place.proofs.Settling.{few_luts, few_pads, pads_apart, pads_inside, board_good, start_placed}

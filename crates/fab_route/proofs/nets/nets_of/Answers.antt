@@ -1,9 +1,9 @@
 use Rattle.std.proofs.Common.{ℕ, List, Vec, Global, map, sym, ap, ◌∙◌, subst, arith}
 use Rattle.fab_model.specs.Grid.{PlainFabric}
 use Rattle.fab_legal.specs.Sinks.{packed_net}
-use Rattle.fab_rounds.specs.Plain.{goals_of}
-use Rattle.fab_ways.proofs.NetTrees.{net_known}
-use Rattle.fab_nodes.specs.Nets.{AreGoals}
+use Rattle.fab_pathfinder.specs.Plain.{goals_of}
+use Rattle.fab_ways_laws.proofs.NetTrees.{net_known}
+use Rattle.fab_nodes_laws.specs.Nets.{AreGoals}
 use Rattle.std.specs.List.{All}
 use Rattle.fab_route.specs.Plain.{graph_of, numbering_of}
 use Rattle.fab_route.specs.inner.Wanted.{IsUnjoined, AreRoots}

@@ -1,6 +1,6 @@
 use Rattle.std.proofs.Common.{map, take}
-use Rattle.fab_rounds.specs.Plain.{goals_of}
-use Rattle.fab_nodes.specs.Nets.{AreGoals}
+use Rattle.fab_pathfinder.specs.Plain.{goals_of}
+use Rattle.fab_nodes_laws.specs.Nets.{AreGoals}
 use Rattle.fab_route.specs.Plain.{graph_of, numbering_of}
 use Rattle.fab_route.proofs.Wanting.{number}
 use Rattle.fab_route.proofs.nets.sinks_to.Given as goal

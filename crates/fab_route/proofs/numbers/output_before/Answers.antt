@@ -1,7 +1,7 @@
 use Rattle.std.proofs.Common.{sym, ap, ◌∙◌}
 use Rattle.std.proofs.lemmas.Option.{same_Some}
 use Rattle.fab_fabric.specs.declared.wire.Wire.{Wire}
-use Rattle.fab_ways.proofs.Lists.{none_some}
+use Rattle.fab_ways_laws.proofs.Lists.{none_some}
 use Rattle.fab_route.proofs.Tabled.{joined_output}
 use Rattle.fab_route.proofs.numbers.output_before.Goals as goal
 

@@ -3,7 +3,7 @@ use Rattle.fab_netlist.specs.declared.net_id.NetId.{NetId}
 use Rattle.fab_netlist.specs.Packed.{PlainPacked}
 use Rattle.fab_netlist.specs.Plain.{IsAt}
 use Rattle.fab_legal.specs.WellMade.{IsNetId}
-use Rattle.fab_ways.specs.Routing.{nets}
+use Rattle.fab_ways_laws.specs.Routing.{nets}
 use Rattle.fab_route.proofs.Places.{in_at, cell_at}
 use Rattle.fab_route.proofs.order.place_of.Goals as goal
 

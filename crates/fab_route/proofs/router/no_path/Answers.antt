@@ -3,9 +3,9 @@ use Rattle.std.proofs.lemmas.List.{length-map}
 use Rattle.fab_netlist.specs.Plain.{IsAt}
 use Rattle.fab_netlist.proofs.Counts.{at_mapped}
 use Rattle.fab_legal.proofs.Lists.{at_read}
-use Rattle.fab_rounds.specs.Plain.{nets_of}
-use Rattle.fab_rounds.specs.Rounds.{net_at}
-use Rattle.fab_ways.specs.Routing.{sinks_of}
+use Rattle.fab_pathfinder.specs.Plain.{nets_of}
+use Rattle.fab_pathfinder.specs.Rounds.{net_at}
+use Rattle.fab_ways_laws.specs.Routing.{sinks_of}
 use Rattle.fab_route.specs.Plain.{graph_of, numbering_of}
 use Rattle.fab_route.proofs.Grouping.{group_is}
 use Rattle.fab_route.proofs.Wanting.{number}

@@ -1,7 +1,7 @@
 use Rattle.std.proofs.Common.{◌-◌, ℕ, List, Option, not, map, sym, ap, ◌∙◌, subst, arith}
-use Rattle.fab_rounds.specs.declared.tree.Round.{Round}
-use Rattle.fab_rounds.specs.Plain.{nets_of, trees_of, rounds_of}
-use Rattle.fab_rounds.specs.Rounds.{Paths}
+use Rattle.fab_pathfinder.specs.declared.tree.Round.{Round}
+use Rattle.fab_pathfinder.specs.Plain.{nets_of, trees_of, rounds_of}
+use Rattle.fab_pathfinder.specs.Rounds.{Paths}
 use Rattle.fab_route.specs.declared.shared.Shared.{Shared}
 use Rattle.fab_route.specs.inner.Owners.{IsLeastShared}
 use Rattle.fab_route.specs.Plain.{graph_of, numbering_of}

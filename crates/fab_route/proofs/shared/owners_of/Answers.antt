@@ -1,9 +1,9 @@
 use Rattle.std.proofs.Common.{[], get_or, ap, sym, ◌∙◌}
-use Rattle.fab_rounds.specs.declared.tree.Tree.{Tree}
-use Rattle.fab_rounds.specs.Rounds.{nodes_of}
-use Rattle.fab_rounds.specs.Plain.{paths_of, trees_of}
+use Rattle.fab_pathfinder.specs.declared.tree.Tree.{Tree}
+use Rattle.fab_pathfinder.specs.Rounds.{nodes_of}
+use Rattle.fab_pathfinder.specs.Plain.{paths_of, trees_of}
 use Rattle.fab_legal.proofs.Lists.{at_default}
-use Rattle.fab_nodes.proofs.NetSinks.{mapped_at}
+use Rattle.fab_nodes_laws.proofs.NetSinks.{mapped_at}
 use Rattle.fab_route.proofs.Owned.{owned_more}
 use Rattle.fab_route.proofs.Telling.{tree_nodes}
 use Rattle.fab_route.proofs.shared.owners_of.Goals as goal

@@ -1,5 +1,5 @@
 use Rattle.std.proofs.Common.{◌≡◌, length}
-use Rattle.fab_rounds.specs.Plain.{trees_of}
+use Rattle.fab_pathfinder.specs.Plain.{trees_of}
 use Rattle.fab_route.specs.inner.Owners.{AreOwners}
 use Rattle.fab_route.proofs.shared.owners_of.Given as goal
 

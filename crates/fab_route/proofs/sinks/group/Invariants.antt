@@ -1,5 +1,5 @@
 use Rattle.std.proofs.Common.{◌≡◌, length, take}
-use Rattle.fab_ways.specs.Routing.{nets}
+use Rattle.fab_ways_laws.specs.Routing.{nets}
 use Rattle.fab_route.proofs.Grouping.{AreGrouped}
 use Rattle.fab_route.proofs.sinks.group.Given as goal
 

@@ -1,7 +1,7 @@
 use Rattle.std.proofs.Common.{◌<◌, ◌∙◌, ap, sym, subst, ℕ, List}
 use Rattle.fab_model.specs.Grid.{PlainFabric}
 use Rattle.fab_fabric.specs.Fabric.{wire_count}
-use Rattle.fab_ways.specs.Edges.{ends}
+use Rattle.fab_ways_laws.specs.Edges.{ends}
 use Rattle.fab_route.specs.inner.Numbers.{Adds}
 use Rattle.std.proofs.Common.{take, ◌+◌}
 use Rattle.fab_route.proofs.Leading.{joined_added, unjoined_added, end_within}

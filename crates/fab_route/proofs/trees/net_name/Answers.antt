@@ -2,7 +2,7 @@ use Rattle.std.proofs.Common.{sym, ap, ◌∙◌, subst}
 use Rattle.fab_netlist.specs.declared.net_id.NetId.{NetId}
 use Rattle.fab_netlist.specs.declared.net_id.NetId.TheVariants as ids
 use Rattle.fab_legal.specs.WellMade.{IsNetId}
-use Rattle.fab_ways.specs.Trees.{by_line}
+use Rattle.fab_ways_laws.specs.Trees.{by_line}
 use Rattle.fab_route.proofs.Naming.{line_listed}
 use Rattle.fab_route.proofs.trees.net_name.Goals as goal
 

@@ -1,4 +1,4 @@
-use Rattle.fab_ways.proofs.NetTrees.{net_known}
+use Rattle.fab_ways_laws.proofs.NetTrees.{net_known}
 use Rattle.fab_route.proofs.trees.net_names.Goals as goal
 
 pub net_name-requires-clause-known : goal.net_name-requires-clause-known

@@ -1,5 +1,5 @@
 use Rattle.std.proofs.Common.{◌≡◌, map, take}
-use Rattle.fab_rounds.specs.Plain.{rounds_of}
+use Rattle.fab_pathfinder.specs.Plain.{rounds_of}
 use Rattle.fab_route.specs.Answers.{plain_rounds}
 use Rattle.fab_route.specs.Plain.{numbering_of}
 use Rattle.fab_route.specs.inner.Told.{told_trees}

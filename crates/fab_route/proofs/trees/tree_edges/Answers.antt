@@ -2,9 +2,9 @@ use Rattle.std.proofs.Common.{◌≡◌, ◌<◌, ◌+◌, ◌-◌, ◌++◌, �
 use Rattle.std.proofs.lemmas.List.{length-map}
 use Rattle.fab_fabric.specs.declared.wire.Wire.{Wire}
 use Rattle.fab_legal.proofs.Lists.{at_default}
-use Rattle.fab_ways.specs.Trees.{edges_along}
-use Rattle.fab_nodes.specs.Nets.{wires_along}
-use Rattle.fab_nodes.proofs.NetSinks.{mapped_at}
+use Rattle.fab_ways_laws.specs.Trees.{edges_along}
+use Rattle.fab_nodes_laws.specs.Nets.{wires_along}
+use Rattle.fab_nodes_laws.proofs.NetSinks.{mapped_at}
 use Rattle.std.proofs.lemmas.List.{get_or_default}
 use Rattle.fab_route.specs.Plain.{numbering_of}
 use Rattle.fab_route.proofs.Growing.{walk_more, all_walks, sum_more}

@@ -2,9 +2,9 @@ use Rattle.std.proofs.Common.{◌<◌, [], Global, map, length, get_or, sym, ap,
 use Rattle.std.proofs.lemmas.List.{length-map, get_or_default}
 use Rattle.fab_netlist.specs.declared.net_id.NetId.TheVariants as ids
 use Rattle.fab_legal.proofs.Lists.{at_read}
-use Rattle.fab_rounds.specs.declared.tree.Tree.{Tree}
-use Rattle.fab_rounds.specs.Plain.{paths_of, trees_of}
-use Rattle.fab_nodes.proofs.NetSinks.{mapped_at}
+use Rattle.fab_pathfinder.specs.declared.tree.Tree.{Tree}
+use Rattle.fab_pathfinder.specs.Plain.{paths_of, trees_of}
+use Rattle.fab_nodes_laws.proofs.NetSinks.{mapped_at}
 use Rattle.fab_route.specs.Plain.{numbering_of}
 use Rattle.fab_route.specs.inner.Wanted.{wire_groups}
 use Rattle.fab_route.proofs.Growing.{tree_more, all_trees}

@@ -1,4 +1,4 @@
-use Rattle.fab_rounds.specs.Plain.{trees_of}
+use Rattle.fab_pathfinder.specs.Plain.{trees_of}
 use Rattle.fab_route.specs.Plain.{numbering_of}
 use Rattle.fab_route.specs.inner.Wanted.{wire_groups}
 use Rattle.fab_route.proofs.Growing.{HaveTrees}

@@ -4,7 +4,7 @@ use Rattle.fab_desk.specs.Files.{Map}
 use Rattle.fab_desk.specs.Memory.{map_of}
 use Rattle.fab_designs.specs.Designs.{DesignFiles, PlainDesign, SpellsDesign}
 use Rattle.fab_draws.specs.Draws.{draws_of}
-use Rattle.fab_sample_runs.specs.Commands.{names}
+use Rattle.fab_sample_runs_laws.specs.Commands.{names}
 use Rattle.fab_sampling.specs.Sampling.{sample_map}
 use Rattle.fab_sampling.proofs.Named.{design_named}
 use Rattle.fab_sampling.proofs.Told.{sample_told}

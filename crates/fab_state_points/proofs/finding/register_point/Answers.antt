@@ -4,7 +4,7 @@ use Rattle.fab_syntax.specs.declared.tree.Shape.TheVariants.{Scalar}
 use Rattle.fab_meaning.specs.Points.{Path}
 use Rattle.fab_values.specs.declared.names.Role.TheVariants.{Reg}
 use Rattle.fab_prim.specs.Modules.{flip_flop_name}
-use Rattle.fab_use.specs.Sites.{bel_point}
+use Rattle.fab_use_defs.specs.Sites.{bel_point}
 use Rattle.fab_fabric.specs.Names.{place_name}
 use Rattle.fab_gen_tile.specs.Names.{bel_instance_name}
 use Rattle.fab_state_points.specs.Finding.{IsFoundName}

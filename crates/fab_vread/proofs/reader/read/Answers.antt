@@ -5,8 +5,8 @@ use Rattle.fab_base.specs.declared.fault.Fault.TheVariants as faults
 use Rattle.fab_base.specs.Reading.{Gives}
 use Rattle.fab_syntax.specs.declared.tree.Text.{Text}
 use Rattle.fab_syntax.specs.Plain.{plain_text}
-use Rattle.fab_grammar.specs.Grammar.{SpellsText}
-use Rattle.fab_grammar.specs.Printable.{IsPrintableText}
+use Rattle.fab_grammar_defs.specs.Grammar.{SpellsText}
+use Rattle.fab_grammar_defs.specs.Printable.{IsPrintableText}
 use Rattle.fab_vread.specs.Refusals.{IsVerilogRefusal}
 use Rattle.fab_vread.proofs.Feeding.{either_way}
 use Rattle.fab_vread.proofs.reader.read.Goals as goal

@@ -1,6 +1,6 @@
 use Rattle.std.proofs.Common.{◌≡◌, ◌∙◌, [], OnOk, sym, ap, subst, option_map, option_to_list}
-use Rattle.fab_models.specs.Plain.{plain_body}
-use Rattle.fab_models.specs.declared.model.Body.{Body}
+use Rattle.fab_blif_models.specs.Plain.{plain_body}
+use Rattle.fab_blif_models.specs.declared.model.Body.{Body}
 use Rattle.fab_blif.specs.Design.{PlainDesign}
 use Rattle.fab_blif.specs.Flat.{net_in, lines_by}
 use Rattle.fab_blif.specs.inner.Walk.{after_all, with_control}

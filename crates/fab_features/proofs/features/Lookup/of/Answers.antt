@@ -5,7 +5,7 @@ use Rattle.fab_fabric.specs.Fabric.{wire_count}
 use Rattle.fab_fabric.specs.declared.wire.Site.{Site}
 use Rattle.fab_implementation.specs.Plain.{Edge, PlainTree, PlainImplementation}
 use Rattle.fab_kinds.specs.declared.kind.Kind.TheVariants as kinds
-use Rattle.fab_use.proofs.fab_tile_drives_Endings.{all_flat_map}
+use Rattle.fab_use_defs.proofs.fab_tile_drives_laws_Endings.{all_flat_map}
 use Rattle.fab_features.specs.inner.Listing.{Keyed, HoldsFirsts, edge_key, line_key, IsNear}
 use Rattle.fab_features.proofs.Tables.{sites_fit, site_near, grid_near, index_fits}
 use Rattle.fab_features.proofs.features.Lookup.of.Goals as goal

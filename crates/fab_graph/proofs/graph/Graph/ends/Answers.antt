@@ -1,7 +1,7 @@
 use Rattle.std.proofs.Common.{◌<◌, ◌∙◌, All, ap, subst}
 use Rattle.fab_model.specs.Grid.{PlainFabric}
 use Rattle.fab_fabric.specs.Fabric.{wire_count}
-use Rattle.fab_ways.specs.Edges.{ends}
+use Rattle.fab_ways_laws.specs.Edges.{ends}
 use Rattle.fab_graph.proofs.Edges.{edges_are, edges_within}
 use Rattle.fab_graph.proofs.graph.Graph.ends.Goals as goal
 

@@ -1,6 +1,6 @@
 use Rattle.std.proofs.Common.{◌∙◌, ap}
 use Rattle.fab_model.specs.Grid.{PlainFabric}
-use Rattle.fab_ways.specs.Edges.{origins}
+use Rattle.fab_ways_laws.specs.Edges.{origins}
 use Rattle.fab_graph.proofs.Edges.{origins_are}
 use Rattle.fab_graph.proofs.graph.Graph.origins.Goals as goal
 

@@ -1,5 +1,5 @@
 use Rattle.std.proofs.Common.{◌∙◌, ap}
-use Rattle.fab_ways.specs.Edges.{turned_pairs}
+use Rattle.fab_ways_laws.specs.Edges.{turned_pairs}
 use Rattle.fab_graph.proofs.Grouped.{table_is, turned_named}
 use Rattle.fab_graph.proofs.outputs.Outputs.of.Goals as goal
 

@@ -9,7 +9,7 @@ use Rattle.fab_implementation.specs.Plain.{Pad, PlainImplementation}
 use Rattle.fab_legal.specs.Sinks.{packed_net}
 use Rattle.fab_legal.specs.Steps.{pin_wire}
 use Rattle.fab_legal.specs.WellMade.{IsNetId}
-use Rattle.fab_ways.proofs.InputPins.{kind_of_line}
+use Rattle.fab_ways_laws.proofs.InputPins.{kind_of_line}
 use Rattle.fab_route.specs.Plain.{node_of}
 use Rattle.fab_route.specs.inner.Wanted.{AreRoots}
 use Rattle.fab_route.proofs.Naming.{line_low, line_there, line_listed, pad_kind}

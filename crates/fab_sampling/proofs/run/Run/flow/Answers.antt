@@ -2,8 +2,8 @@ use Rattle.std.proofs.Common.{◌<◌, IfErr, OnOk, Some, refl, inl}
 use Rattle.std.proofs.lemmas.Result.{IfErr-weaker, err_from_is_err_and, on_ok_weaker}
 use Rattle.fab_desk.specs.Memory.{map_of}
 use Rattle.fab_outputs.specs.Storing.{IsDone}
-use Rattle.fab_sample_runs.specs.fab_flow_Flowing.{FlowFiles, HasFlowCause, MakesFlow}
-use Rattle.fab_sample_runs.specs.Commands.{rounds}
+use Rattle.fab_sample_runs_laws.specs.fab_flow_Flowing.{FlowFiles, HasFlowCause, MakesFlow}
+use Rattle.fab_sample_runs_laws.specs.Commands.{rounds}
 use Rattle.fab_sampling.proofs.Ending.{flow_ends}
 use Rattle.fab_sampling.proofs.Flowed.{has_flowed}
 use Rattle.fab_sampling.proofs.Named.{flow_named, never}

@@ -1,7 +1,7 @@
 use Rattle.std.proofs.Common.{◌∙◌, sym, subst}
 use Rattle.fab_desk.specs.Files.{Map}
 use Rattle.fab_designs.specs.Designs.{SpellsDesign}
-use Rattle.fab_sample_runs.specs.Commands.{names}
+use Rattle.fab_sample_runs_laws.specs.Commands.{names}
 use Rattle.fab_sampling.proofs.run.Run.new.Goals as goal
 
 pub returns-clause-new : goal.returns-clause-new

@@ -1,7 +1,7 @@
 use Rattle.std.proofs.Common.{◌<◌, None, Some}
 use Rattle.fab_desk.specs.Memory.{map_of}
 use Rattle.fab_outputs.specs.Storing.{IsDone}
-use Rattle.fab_sample_runs.specs.fab_simulate_Simulating.{HasSimulateCause, MakesTrace, SimulationFiles}
+use Rattle.fab_sample_runs_laws.specs.fab_simulate_command_Simulating.{HasSimulateCause, MakesTrace, SimulationFiles}
 use Rattle.fab_sampling.proofs.Named.{never, simulation_named}
 use Rattle.fab_sampling.proofs.Traced.{simulate_ends, traced}
 use Rattle.fab_sampling.proofs.run.Run.simulate.Goals as goal

@@ -4,7 +4,7 @@ use Rattle.std.specs.Vec.{with_items}
 use Rattle.std.proofs.lemmas.List.{with_items_is}
 use Rattle.fab_ternary.specs.declared.Tern.{Tern}
 use Rattle.fab_network.specs.Passes.{kept_tern}
-use Rattle.fab_ordering.specs.fab_simulation_Simulation.{zeros}
+use Rattle.fab_ordering_laws.specs.fab_simulation_laws_Simulation.{zeros}
 use Rattle.fab_phases.specs.Words.{AreLoadSteps, IsLoadingAt}
 use Rattle.fab_phases.specs.Cycles.{IsRunningAt}
 use Rattle.fab_state_points.specs.Entries.{in_entries, out_entries, register_entries}

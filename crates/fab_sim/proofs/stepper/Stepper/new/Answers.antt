@@ -1,7 +1,7 @@
 use Rattle.std.proofs.Common.{Bool, Vec, Global, ap, ◌∙◌, subst}
 use Rattle.rand_pcg.specs.Lcg.{Lcg}
 use Rattle.fab_draws.specs.Draws.{word_at}
-use Rattle.fab_ordering.specs.Ordered.{IsStart, Moment}
+use Rattle.fab_ordering_laws.specs.Ordered.{IsStart, Moment}
 use Rattle.fab_sim.specs.Stepper.{Stands}
 use Rattle.fab_sim.proofs.Unsets.{unset_so}
 use Rattle.fab_sim.proofs.stepper.Stepper.new.Goals as goal

@@ -1,0 +1,256 @@
+//! Simulated annealing: random exchanges, of which those that raise the cost are taken the more seldom the colder it is.
+ghost use Rattle.std.specs.Prelude.{◌≡◌, ◌<◌, ◌≤◌, OnOk, IfSome, length, true};
+ghost use Rattle.fab_annealing.specs.Boards.{IsBoard, Keeps, site_count, is_second};
+ghost use Rattle.fab_annealing.specs.inner.Standing.{IsKept, HasLots};
+
+use crate::board::Board;
+use crate::lots::Lots;
+use crate::placement::Placement;
+use crate::telling::tell_step;
+use fab_progress::Progress;
+use rand_core::SeedableRng;
+use rand_core::utils::NextWord;
+use rand_pcg::Lcg64Xsh32;
+use std::alloc::AllocError;
+
+/// The temperature of each step in 1/65,536, and how wide the window of its moves is between one tile and a quarter of the
+/// board, in 1/256.
+const STEPS: [(u32, u32); 40] = [
+    (196608, 256),
+    (182373, 238),
+    (169168, 221),
+    (156920, 206),
+    (145558, 191),
+    (135019, 177),
+    (125243, 163),
+    (116175, 151),
+    (107764, 139),
+    (99961, 128),
+    (92724, 118),
+    (86010, 108),
+    (79783, 99),
+    (74006, 90),
+    (68648, 82),
+    (63677, 74),
+    (59067, 67),
+    (54790, 60),
+    (50823, 54),
+    (47143, 48),
+    (43730, 42),
+    (40564, 36),
+    (37627, 31),
+    (34903, 27),
+    (32375, 22),
+    (30031, 18),
+    (27857, 14),
+    (25840, 10),
+    (23969, 6),
+    (22234, 3),
+    (20624, 0),
+    (19131, 0),
+    (17745, 0),
+    (16461, 0),
+    (15269, 0),
+    (14163, 0),
+    (13138, 0),
+    (12187, 0),
+    (11304, 0),
+    (10486, 0),
+];
+
+/// How many steps there are.
+const STEP_COUNT: u32 = 40;
+
+/// How many exchanges a step tries for each item that there is. The items are drawn.
+const TRIES: u32 = 40;
+
+/// How often a tile is drawn for an exchange.
+const DRAWS: u32 = 8;
+
+/// What a step of the annealing goes by.
+#[derive(Clone, Copy)]
+struct Step {
+    temperature: u32,
+    /// How far an item may go in each direction.
+    window: u32,
+    /// The greatest column and the greatest row.
+    last_column: u32,
+    last_row: u32,
+    ghost narrow: { window ≤ 8 },
+    ghost few_columns: { last_column ≤ 31 },
+    ghost few_rows: { last_row ≤ 31 },
+}
+
+/// A random number below a bound.
+fn below(random: &mut Lcg64Xsh32, bound: u32) -> u32
+    requires { 0 < bound }
+    ensures { result < bound }
+{
+    random.next_word() % bound
+}
+
+/// By how much a try may raise the cost: the temperature times minus the binary logarithm of a random number below 1, whose
+/// bits are given.
+fn allowed(temperature: u32, bits: u32) -> u64
+    ensures { result < 4294967296 }
+{
+    let zeros = bits.leading_zeros().saturating_add(1);
+    let rest = bits.checked_shl(zeros).unwrap_or(0) / 65536;
+    let logarithm = zeros.saturating_mul(65536).saturating_sub(rest);
+    u64::from(temperature).saturating_mul(u64::from(logarithm)) / 4294967296
+}
+
+/// A random place not far from another, and not beyond the last.
+fn draw_near(random: &mut Lcg64Xsh32, place: u32, window: u32, last: u32) -> u32
+    requires place { place ≤ 31 }
+    requires last { last ≤ 31 }
+    ensures { result ≤ 31 }
+{
+    let low = place.saturating_sub(window);
+    let high = place.saturating_add(window).min(last).max(low);
+    low + below(random, high - low + 1)
+}
+
+/// A random site in a tile not far from that of a site, and of the same kind; none where the tile has none.
+fn draw_in_tile(
+    board: &Board,
+    lots: &Lots,
+    random: &mut Lcg64Xsh32,
+    from: u32,
+    step: Step,
+) -> Option<u32>
+    requires board { IsBoard board.now }
+    requires lots { HasLots board.now lots.now }
+    requires from { from < site_count board.now }
+    ensures inside { IfSome result (λ site. site < site_count board.now) }
+    ensures kind { IfSome result (λ site. is_second board.now site ≡ is_second board.now from) }
+{
+    let second = board.is_second(from);
+    let column = draw_near(random, board.column(from), step.window, step.last_column);
+    let row = draw_near(random, board.row(from), step.window, step.last_row);
+    let lot = lots.at(second, column, row);
+    let count = lot.len();
+    if count == 0 {
+        return None;
+    }
+    let place = random.next_word() as usize % count;
+    Some(lot[place])
+}
+
+/// A random site of the kind of a site, not far from it. Sites of the second kind stand in few tiles, so a tile without one is drawn again.
+fn draw_site(
+    board: &Board,
+    lots: &Lots,
+    random: &mut Lcg64Xsh32,
+    from: u32,
+    step: Step,
+) -> Option<u32>
+    requires board { IsBoard board.now }
+    requires lots { HasLots board.now lots.now }
+    requires from { from < site_count board.now }
+    ensures inside { IfSome result (λ site. site < site_count board.now) }
+    ensures kind { IfSome result (λ site. is_second board.now site ≡ is_second board.now from) }
+{
+    for _draw in 0..DRAWS {
+        if let Some(site) = draw_in_tile(board, lots, random, from, step) {
+            return Some(site);
+        }
+    }
+    None
+}
+
+/// Tries one random exchange.
+#[tactic(auto, using(crate::proofs::Falling::keeps_refl))]
+fn try_random(
+    placement: &mut Placement,
+    board: &Board,
+    lots: &Lots,
+    random: &mut Lcg64Xsh32,
+    step: Step,
+) -> Result<(), AllocError>
+    requires board { IsBoard board.now }
+    requires kept { IsKept board.now placement.old }
+    requires lots { HasLots board.now lots.now }
+    requires some { 0 < length board.now.locked.items }
+    ensures kept { OnOk result (IsKept board.now placement.new) }
+    ensures keeps { OnOk result (Keeps board.now placement.old.sites.items placement.new.sites.items) }
+{
+    let item = below(random, board.locked.len() as u32);
+    if board.locked[item as usize] {
+        return Ok(());
+    }
+    let from = placement.site_of(item);
+    let Some(site) = draw_site(board, lots, random, from, step) else {
+        return Ok(());
+    };
+    if !placement.is_loose(board, item, site) {
+        return Ok(());
+    }
+    let most = placement.cost() + allowed(step.temperature, random.next_word());
+    let _taken = placement.exchange_below(board, item, site, most)?;
+    Ok(())
+}
+
+/// Makes the tries of one step.
+fn anneal_at(
+    placement: &mut Placement,
+    board: &Board,
+    lots: &Lots,
+    random: &mut Lcg64Xsh32,
+    step: Step,
+) -> Result<(), AllocError>
+    requires board { IsBoard board.now }
+    requires kept { IsKept board.now placement.old }
+    requires lots { HasLots board.now lots.now }
+    requires some { 0 < length board.now.locked.items }
+    ensures kept { OnOk result (IsKept board.now placement.new) }
+    ensures keeps { OnOk result (Keeps board.now placement.old.sites.items placement.new.sites.items) }
+{
+    for _try in 0..TRIES * board.locked.len() as u32 {
+        try_random(placement, board, lots, random, step)?;
+    }
+    Ok(())
+}
+
+/// Goes through all steps, with random numbers from a seed.
+pub fn anneal<P: Progress>(
+    progress: &mut P,
+    placement: &mut Placement,
+    board: &Board,
+    lots: &Lots,
+    seed: u64,
+) -> Result<(), AllocError>
+    requires board { IsBoard board.now }
+    requires kept { IsKept board.now placement.old }
+    requires lots { HasLots board.now lots.now }
+    ensures kept { OnOk result (IsKept board.now placement.new) }
+    ensures keeps { OnOk result (Keeps board.now placement.old.sites.items placement.new.sites.items) }
+{
+    if board.locked.is_empty() {
+        return Ok(());
+    }
+    let last_column = last_of(&board.columns);
+    let last_row = last_of(&board.rows);
+    let widest = last_column.max(last_row) / 4;
+    let mut random = Lcg64Xsh32::seed_from_u64(seed);
+    let mut done: u32 = 0;
+    for (temperature, share) in STEPS {
+        let step = Step {
+            temperature,
+            window: 1 + (widest.saturating_mul(share) / 256).min(7),
+            last_column,
+            last_row,
+        };
+        anneal_at(placement, board, lots, &mut random, step)?;
+        done = done.saturating_add(1);
+        tell_step(progress, placement, done, STEP_COUNT);
+    }
+    Ok(())
+}
+
+/// The greatest of some places.
+fn last_of(places: &[u32]) -> u32
+    ensures { result ≤ 31 }
+{
+    places.iter().copied().max().unwrap_or(0).min(31)
+}

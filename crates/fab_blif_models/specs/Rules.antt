@@ -1,0 +1,47 @@
+-- What holds of all models that are read.
+use Rattle.std.specs.Prelude.{◌≡◌, ℕ, ◌<◌, ◌≤◌, ◌/◌, ◌%◌, ◌^◌, List, [], ◌∷◌, ◌++◌, length, map, nat_eq}
+use Rattle.std.specs.List.{All, AllByRecursion, AllPairs, count_by, flat_map}
+use Rattle.std.specs.Str.{bytes_eq}
+use Rattle.fab_blif_models.specs.Plain.{PlainBody, inputs, outputs, cover, latch, PlainStatement, PlainModel}
+
+-- the table of a cover of so many inputs is repeated over those that the cover does not have
+abbrev pub Repeats : (table width : ℕ) → Type 0
+Repeats table width = (place : ℕ) → place < 16 → nat_eq (table / 2 ^ place % 2) 1 ≡ nat_eq (table / 2 ^ (place % 2 ^ width) % 2) 1
+
+-- a cover has at most four inputs, and an initial value is at most 3
+abbrev pub IsFineBody : PlainBody → Type 0
+IsFineBody (cover ins output table) = (length ins ≤ 4) × Repeats table (length ins)
+IsFineBody (latch input output control initial) = initial ≤ 3
+IsFineBody _ = Unit {0}
+
+abbrev pub input_names : PlainBody → List (List ℕ)
+input_names (inputs names) = names
+input_names _ = []
+
+abbrev pub output_names : PlainBody → List (List ℕ)
+output_names (outputs names) = names
+output_names _ = []
+
+-- the ports that `.inputs` and `.outputs` declare
+abbrev pub declared_inputs : List PlainStatement → List (List ℕ)
+declared_inputs statements = flat_map (λ statement. input_names statement.body) statements
+
+abbrev pub declared_outputs : List PlainStatement → List (List ℕ)
+declared_outputs statements = flat_map (λ statement. output_names statement.body) statements
+
+-- The lines of a model are fine, and `.inputs` and `.outputs` declare no port twice, nor one as both.
+pub record IsModel (model : PlainModel) : Type 0 where
+  pub bodies : AllByRecursion (λ statement. IsFineBody statement.body) model.statements
+  pub ports : (name : List ℕ) → count_by (bytes_eq name) (declared_inputs model.statements ++ declared_outputs model.statements) ≤ 1
+
+abbrev pub AreModels : List PlainModel → Type 0
+AreModels models = AllByRecursion IsModel models
+
+-- the numbers of the lines that begin models or are their statements, in the order of the models
+abbrev pub line_numbers : List PlainModel → List ℕ
+line_numbers models = flat_map (λ model. model.line ∷ map (λ statement. statement.line) model.statements) models
+
+-- These lines ascend, no two the same, and stand in a file of so many lines.
+pub record LinesAscend (models : List PlainModel) (count : ℕ) : Type 0 where
+  pub ascend : AllPairs (λ before after. before < after) (line_numbers models)
+  pub within : All (λ line. (1 ≤ line) × (line ≤ count)) (line_numbers models)

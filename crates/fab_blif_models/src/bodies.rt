@@ -1,0 +1,220 @@
+//! What the lines of a model say, and the models so far.
+
+ghost use Rattle.std.specs.Prelude.{◌≡◌, ◌++◌, ◌∷◌, [], map, option_map, IfOk, OnOk};
+ghost use Rattle.fab_blif_models.specs.inner.Following.{pushed, retabled, with_body, with_statements, with_table, models_after};
+ghost use Rattle.fab_lines.specs.Items.{with_last};
+ghost use Rattle.fab_blif_models.specs.Plain.{plain_body, plain_model, plain_models, plain_statement};
+ghost use Rattle.fab_blif_models.specs.Spelled.{body_of, buffer_of, control_of, cover_of, initial_of, inner_words, instance_of, latch_of};
+
+use crate::cover::table_by;
+use crate::judging::{has_initial, has_type};
+use crate::model::{Body, Model, Statement};
+use crate::words::{Kind, names_of, words_from, words_up_to};
+use fab_base::{Memory, Name};
+use fab_lines::word_at;
+use std::alloc::Global;
+
+/// The table of a buffer: 1 where its input is 1.
+const BUFFER_TABLE: u16 = 0xAAAA;
+
+fn control_of(alloc: Global, words: &[&[u8]]) -> Result<Option<Name>, Memory>
+    ensures { IfOk result (λ name. name ≡ control_of (map (λ w. w.now) words.now)) }
+{
+    let control = word_at(words, 4);
+    if !has_type(words.len()) || control == b"NIL".as_slice() {
+        return Ok(None);
+    }
+    Ok(Some(Name::of(alloc, control)?))
+}
+
+fn initial_of(words: &[&[u8]]) -> u8
+    ensures { result ≡ initial_of (map (λ w. w.now) words.now) }
+{
+    if !has_initial(words.len()) {
+        return 3;
+    }
+    match word_at(words, words.len().saturating_sub(1)) {
+        [] => 0,
+        [digit, ..] => digit.saturating_sub(b'0'),
+    }
+}
+
+/// The words between the first and the last.
+fn inner_words<'a, 'b>(words: &'a [&'b [u8]]) -> &'a [&'b [u8]]
+    ensures { map (λ w. w.now) result.now ≡ inner_words (map (λ w. w.now) words.now) }
+{
+    words_up_to(words_from(words, 1), words.len().saturating_sub(2))
+}
+
+fn cover_of(alloc: Global, words: &[&[u8]]) -> Result<Body, Memory>
+    ensures { IfOk result (λ body. plain_body body ≡ cover_of (map (λ w. w.now) words.now) 0) }
+{
+    let inputs = names_of(alloc, inner_words(words))?;
+    let output = Name::of(alloc, word_at(words, words.len().saturating_sub(1)))?;
+    Ok(Body::Cover {
+        inputs,
+        output,
+        table: 0,
+    })
+}
+
+fn latch_of(alloc: Global, words: &[&[u8]]) -> Result<Body, Memory>
+    ensures { IfOk result (λ body. plain_body body ≡ latch_of (map (λ w. w.now) words.now)) }
+{
+    Ok(Body::Latch {
+        input: Name::of(alloc, word_at(words, 1))?,
+        output: Name::of(alloc, word_at(words, 2))?,
+        control: control_of(alloc, words)?,
+        initial: initial_of(words),
+    })
+}
+
+fn buffer_of(alloc: Global, words: &[&[u8]]) -> Result<Body, Memory>
+    ensures { IfOk result (λ body. plain_body body ≡ buffer_of (map (λ w. w.now) words.now)) }
+{
+    let mut inputs = Vec::new(alloc);
+    inputs.push(Name::of(alloc, word_at(words, 1))?)?;
+    Ok(Body::Cover {
+        inputs,
+        output: Name::of(alloc, word_at(words, 2))?,
+        table: BUFFER_TABLE,
+    })
+}
+
+/// What a line says, a cover as yet without rows.
+fn body_of(alloc: Global, kind: Kind, words: &[&[u8]]) -> Result<Option<Body>, Memory>
+    ensures { IfOk result (λ body. option_map plain_body body ≡ body_of kind (map (λ w. w.now) words.now) []) }
+{
+    let body = match kind {
+        Kind::Inputs => Body::Inputs(names_of(alloc, words_from(words, 1))?),
+        Kind::Outputs => Body::Outputs(names_of(alloc, words_from(words, 1))?),
+        Kind::Clock => Body::Clock(Name::of(alloc, word_at(words, 1))?),
+        Kind::Names => cover_of(alloc, words)?,
+        Kind::Latch => latch_of(alloc, words)?,
+        Kind::Instance => instance_of(alloc, words)?,
+        Kind::Buffer => buffer_of(alloc, words)?,
+        _ => return Ok(None),
+    };
+    Ok(Some(body))
+}
+
+fn instance_of(alloc: Global, words: &[&[u8]]) -> Result<Body, Memory>
+    ensures { IfOk result (λ body. plain_body body ≡ instance_of (map (λ w. w.now) words.now)) }
+{
+    let model = Name::of(alloc, word_at(words, 1))?;
+    let joins = names_of(alloc, words_from(words, 2))?;
+    Ok(Body::Instance(model, joins))
+}
+
+/// Puts a statement at the end of the last model.
+fn push_statement(models: &mut Vec<Model>, number: u32, body: Body) -> Result<(), Memory>
+    ensures { OnOk result (plain_models models.new.items ≡ pushed number (plain_body body) (plain_models models.old.items)) }
+{
+    let Some(last) = models.pop() else {
+        return Ok(());
+    };
+    let Model {
+        line,
+        name,
+        mut statements,
+    } = last;
+    statements.push(Statement { line: number, body })?;
+    models.push(Model {
+        line,
+        name,
+        statements,
+    })?;
+    Ok(())
+}
+
+/// A statement with this table, where it is a cover.
+fn with_table(statement: Statement, table: u16) -> Statement
+    ensures { plain_statement result ≡ with_table table (plain_statement statement) }
+{
+    let Statement { line, body } = statement;
+    let body = match body {
+        Body::Cover { inputs, output, .. } => Body::Cover {
+            inputs,
+            output,
+            table,
+        },
+        other => other,
+    };
+    Statement { line, body }
+}
+
+/// Gives the last statement a table.
+fn set_last(statements: &mut Vec<Statement>, table: u16) -> Result<(), Memory>
+    ensures { OnOk result (map plain_statement statements.new.items ≡ with_last (with_table table) (map plain_statement statements.old.items)) }
+{
+    let Some(last) = statements.pop() else {
+        return Ok(());
+    };
+    statements.push(with_table(last, table))?;
+    Ok(())
+}
+
+/// Gives the last statement of the last model a table.
+fn set_table(models: &mut Vec<Model>, table: u16) -> Result<(), Memory>
+    ensures { OnOk result (plain_models models.new.items ≡ retabled table (plain_models models.old.items)) }
+{
+    let Some(last) = models.pop() else {
+        return Ok(());
+    };
+    let Model {
+        line,
+        name,
+        mut statements,
+    } = last;
+    set_last(&mut statements, table)?;
+    models.push(Model {
+        line,
+        name,
+        statements,
+    })?;
+    Ok(())
+}
+
+/// Follows a line of this kind that is not refused, where the open cover has these rows.
+pub fn follow(
+    models: &mut Vec<Model>,
+    alloc: Global,
+    number: u32,
+    rows: (Option<bool>, u16),
+    kind: Kind,
+    words: &[&[u8]],
+) -> Result<(), Memory>
+    ensures { OnOk result (plain_models models.new.items ≡ models_after (plain_models models.old.items) number rows.0 rows.1 kind (map (λ w. w.now) words.now)) }
+{
+    match kind {
+        Kind::Model => push_model(models, alloc, number, word_at(words, 1)),
+        Kind::Row => set_table(models, table_by(rows.0, rows.1)),
+        _ => push_body(models, number, body_of(alloc, kind, words)?),
+    }
+}
+
+fn push_model(
+    models: &mut Vec<Model>,
+    alloc: Global,
+    number: u32,
+    name: &[u8],
+) -> Result<(), Memory>
+    ensures { OnOk result (plain_models models.new.items ≡ plain_models models.old.items ++ record { line = number; name = name.now; statements = [] } ∷ []) }
+{
+    let name = Name::of(alloc, name)?;
+    models.push(Model {
+        line: number,
+        name,
+        statements: Vec::new(alloc),
+    })?;
+    Ok(())
+}
+
+fn push_body(models: &mut Vec<Model>, number: u32, body: Option<Body>) -> Result<(), Memory>
+    ensures { OnOk result (plain_models models.new.items ≡ with_body number (option_map plain_body body) (plain_models models.old.items)) }
+{
+    match body {
+        Some(body) => push_statement(models, number, body),
+        None => Ok(()),
+    }
+}

@@ -1,9 +1,0 @@
-use Rattle.fab_board.specs.Boards.{Keeps}
-use Rattle.fab_board.specs.inner.Standing.{IsKept}
-use Rattle.fab_board.proofs.annealing.anneal_at.Given as goal
-
-abbrev pub invariant-loop-try : goal.invariant-loop-try
-invariant-loop-try l = record {
-  kept : IsKept l.board l.placement;
-  keeps : Keeps l.board l.fn.placement.sites.items l.placement.sites.items;
-}

@@ -1,5 +1,0 @@
-use Rattle.fab_drives.proofs.Fabrics.{fabric_shows_drives}
-use Rattle.fab_drives.proofs.fabric_texts_show_drives.Goals as goal
-
-pub returns : goal.returns
-returns c = fabric_shows_drives

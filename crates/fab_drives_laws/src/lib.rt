@@ -1,0 +1,28 @@
+//! The law of drives: in a fabric's text each wire has the value of what drives it.
+#![tactic(auto)]
+
+ghost use Rattle.std.specs.Prelude.{◌≡◌, ◌≢◌, AllPairs};
+ghost use Rattle.fab_syntax.specs.Plain.{PlainModule};
+ghost use Rattle.fab_fabric_text_defs.specs.fab_model_Grid.{PlainFabric};
+ghost use Rattle.fab_fabric_text_defs.specs.fab_fabric_Fabric.{AreTiles, IsFabric};
+ghost use Rattle.fab_fabric_text_defs.specs.fab_gen_loader_Loader.{loader_module_name};
+ghost use Rattle.fab_fabric_text_defs.specs.Text.{fabric_text};
+ghost use Rattle.fab_fabric_text_defs.specs.Top.{top_module};
+ghost use Rattle.fab_drives_laws.specs.Drives.{ShowsDrives};
+ghost use Rattle.fab_drives_laws.specs.Examples.{declared_names, small_fabric, small_top_names, ShowsCrossing};
+
+/// In the text of a fabric, with any loader, each wire has the value of what drives it under the configuration bits.
+pub fn fabric_texts_show_drives()
+    ensures { (fabric : PlainFabric) (loader : PlainModule) → IsFabric fabric → AreTiles fabric → loader.name ≡ loader_module_name →
+        ShowsDrives fabric (fabric_text fabric loader) }
+{}
+
+/// A small fabric keeps all that the law asks for, and so a wire of it has the value of one of the tile beside it. The ports and wires of its
+/// top have the names that they should have, and no two of them one name.
+pub fn small_fabric_shows_drives()
+    ensures fabric { IsFabric small_fabric }
+    ensures tiles { AreTiles small_fabric }
+    ensures crosses { (loader : PlainModule) → loader.name ≡ loader_module_name → ShowsCrossing (fabric_text small_fabric loader) }
+    ensures names { declared_names (top_module small_fabric) ≡ small_top_names }
+    ensures apart { AllPairs (λ first second. first ≢ second) small_top_names }
+{}

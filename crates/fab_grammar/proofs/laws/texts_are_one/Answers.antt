@@ -1,5 +1,0 @@
-use Rattle.fab_grammar.proofs.Once.{text_once}
-use Rattle.fab_grammar.proofs.laws.texts_are_one.Goals as goal
-
-pub returns : goal.returns
-returns c = text_once

@@ -1,5 +1,0 @@
-use Rattle.fab_load_runs.proofs.Sound.{decided}
-use Rattle.fab_load_runs.proofs.loading_is_decided.Goals as goal
-
-pub returns : goal.returns
-returns c text sound = decided text sound

@@ -1,5 +1,0 @@
-use Rattle.fab_nodes.proofs.Runs.{node_runs_are_runs}
-use Rattle.fab_nodes.proofs.node_runs_are_runs.Goals as goal
-
-pub returns : goal.returns
-returns c = node_runs_are_runs

@@ -1,0 +1,37 @@
+//! What an ordered simulation shows of the text of a fabric that is loaded with a legal implementation: what the netlist says, whatever is drawn. The
+//! function does nothing: its contract is the law.
+#![tactic(auto)]
+
+ghost use Rattle.fab_ordered_designs_laws.specs.Laws.{LegalDesignsSimulateInOrder};
+
+use fab_meaning::laws::{loaded_points_stay, points_of_sound_texts_have_one_driver};
+use fab_netlist::one_run;
+pub use fab_simulated_designs_laws::legal_designs_simulate;
+use fab_simulated_designs_laws::{
+    configuration_goes, design_is_declared, design_is_listed, design_settles_by_sources,
+    loaded_is_known, loading_is_known, ranked_design_settles_once, registers_tick,
+    sources_are_known,
+};
+use fab_solutions_laws::drivers_grow;
+use fab_text_loads_laws::fabric_texts_load;
+
+/// An ordered simulation of a legal implementation shows a run of its netlist, each cycle settles, and then all points of the design stand at the
+/// values of the least solution, which knows them.
+pub fn legal_designs_simulate_in_order()
+    ensures { LegalDesignsSimulateInOrder }
+{
+    fabric_texts_load();
+    configuration_goes();
+    design_is_declared();
+    design_is_listed();
+    design_settles_by_sources();
+    registers_tick();
+    ranked_design_settles_once();
+    one_run();
+    points_of_sound_texts_have_one_driver();
+    loaded_is_known();
+    sources_are_known();
+    loading_is_known();
+    loaded_points_stay();
+    drivers_grow();
+}

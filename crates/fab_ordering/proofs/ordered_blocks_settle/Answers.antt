@@ -1,5 +1,0 @@
-use Rattle.fab_ordering.proofs.Cycles.{ordered_blocks_settle as they_settle}
-use Rattle.fab_ordering.proofs.ordered_blocks_settle.Goals as goal
-
-pub returns : goal.returns
-returns c = they_settle c.loaded_points_stay.ensures c.loading_is_known.ensures.known c.drivers_grow.ensures.grow c.drivers_grow.ensures.fit

@@ -1,5 +1,0 @@
-use Rattle.fab_parts_sound.proofs.Fitting.{fitting_is_sound}
-use Rattle.fab_parts_sound.proofs.fitting_texts_are_sound.Goals as goal
-
-pub returns : goal.returns
-returns c = fitting_is_sound

@@ -1,0 +1,7 @@
+pub mod Fits
+pub use Rattle.fab_tile_drives_laws.specs.fab_gen_tile_Borders as fab_gen_tile_Borders
+pub use Rattle.fab_tile_drives_laws.specs.fab_gen_tile_ConfigModule as fab_gen_tile_ConfigModule
+pub use Rattle.fab_tile_drives_laws.specs.fab_gen_tile_MatrixModule as fab_gen_tile_MatrixModule
+pub use Rattle.fab_tile_drives_laws.specs.fab_gen_tile_Names as fab_gen_tile_Names
+pub use Rattle.fab_tile_drives_laws.specs.fab_gen_tile_TileModule as fab_gen_tile_TileModule
+pub use Rattle.fab_tile_drives_laws.specs.fab_gen_tile_Words as fab_gen_tile_Words

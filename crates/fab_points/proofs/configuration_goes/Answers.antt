@@ -1,5 +1,0 @@
-use Rattle.fab_points.proofs.Configured.{configuration_goes}
-use Rattle.fab_points.proofs.configuration_goes.Goals as goal
-
-pub returns : goal.returns
-returns c = configuration_goes

@@ -1,5 +1,0 @@
-use Rattle.fab_points.proofs.Sourced.{sources_are_of_design}
-use Rattle.fab_points.proofs.sources_are_of_design.Goals as goal
-
-pub returns : goal.returns
-returns c = sources_are_of_design

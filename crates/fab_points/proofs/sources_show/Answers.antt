@@ -1,5 +1,0 @@
-use Rattle.fab_points.proofs.EachSource.{sources_show}
-use Rattle.fab_points.proofs.sources_show.Goals as goal
-
-pub returns : goal.returns
-returns c = sources_show

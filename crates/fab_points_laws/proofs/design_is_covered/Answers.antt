@@ -1,0 +1,5 @@
+use Rattle.fab_points_laws.proofs.Laws.{design_is_covered}
+use Rattle.fab_points_laws.proofs.design_is_covered.Goals as goal
+
+pub returns : goal.returns
+returns c = design_is_covered

@@ -1,5 +1,0 @@
-use Rattle.fab_runs.proofs.Feeding.{fed_designs_run}
-use Rattle.fab_runs.proofs.fed_designs_run.Goals as goal
-
-pub returns : goal.returns
-returns c = fed_designs_run

@@ -1,0 +1,21 @@
+pub mod Carrying
+pub mod Ranking
+pub mod Feeding
+pub use Rattle.fab_points_laws.specs.fab_drives_laws_Drives as fab_drives_laws_Drives
+pub use Rattle.fab_points_laws.specs.fab_fabric_text_defs_Names as fab_fabric_text_defs_Names
+pub use Rattle.fab_points_laws.specs.fab_fabric_text_defs_Text as fab_fabric_text_defs_Text
+pub use Rattle.fab_points_laws.specs.fab_fabric_text_defs_Texts as fab_fabric_text_defs_Texts
+pub use Rattle.fab_points_laws.specs.fab_fabric_text_defs_Top as fab_fabric_text_defs_Top
+pub use Rattle.fab_points_laws.specs.fab_legal_Legal as fab_legal_Legal
+pub use Rattle.fab_points_laws.specs.Known as fab_points_laws_Known
+pub use Rattle.fab_points_laws.specs.Laws as fab_points_laws_Laws
+pub use Rattle.fab_points_laws.specs.Shown as fab_points_laws_Shown
+pub use Rattle.fab_points_laws.specs.fab_text_loads_laws_Loads as fab_text_loads_laws_Loads
+pub use Rattle.fab_points_laws.specs.fab_tile_drives_laws_Stands as fab_tile_drives_laws_Stands
+pub use Rattle.fab_points_laws.specs.fab_use_defs_Configuring as fab_use_defs_Configuring
+pub use Rattle.fab_points_laws.specs.fab_use_defs_Cycles as fab_use_defs_Cycles
+pub use Rattle.fab_points_laws.specs.fab_use_defs_Design as fab_use_defs_Design
+pub use Rattle.fab_points_laws.specs.fab_use_defs_Headline as fab_use_defs_Headline
+pub use Rattle.fab_points_laws.specs.fab_use_defs_Registers as fab_use_defs_Registers
+pub use Rattle.fab_points_laws.specs.fab_use_defs_Sites as fab_use_defs_Sites
+pub use Rattle.fab_points_laws.specs.fab_use_defs_Sources as fab_use_defs_Sources

@@ -1,4 +1,0 @@
-pub mod Designs
-pub mod Ready
-pub use Rattle.fab_sample_sizes.proofs.fab_sample_fabrics_Assembled as fab_sample_fabrics_Assembled
-pub use Rattle.fab_sample_sizes.proofs.fab_sample_fabrics_Blocks as fab_sample_fabrics_Blocks

@@ -1,7 +1,0 @@
-use Rattle.std.proofs.Common.{sym}
-use Rattle.fab_search.specs.declared.tables.Node.{Node}
-use Rattle.fab_search.proofs.Reading.{read}
-use Rattle.fab_search.proofs.tables.Tables.price.Goals as goal
-
-pub returns : goal.returns
-returns c = sym (read (λ (n : Node). n.price) c.args.self.now.nodes.items c.args.node c.index.result.now c.requires c.index.ensures)

@@ -1,0 +1,27 @@
+//! A text that is loaded with a legal implementation settles under every interleaving: where its points are activated one by one, in any order,
+//! and the rest of the text does what it likes, it runs its netlist. The function does nothing: its contract is the law.
+#![tactic(auto)]
+
+ghost use Rattle.fab_settling_laws.specs.Settling.{LegalDesignsSettle};
+
+use fab_netlist::one_run;
+pub use fab_runs_laws::legal_designs_run;
+use fab_runs_laws::{
+    configuration_goes, design_is_declared, design_is_listed, design_settles_by_sources,
+    fabric_texts_load, ranked_design_settles_once, registers_tick,
+};
+
+/// In each text of a fabric that is loaded with the bitstream of a legal implementation, as many blocks of activations as there are design points
+/// give each of them the value of the headline, and cycle by cycle the pads show what the netlist says.
+pub fn legal_designs_settle()
+    ensures { LegalDesignsSettle }
+{
+    fabric_texts_load();
+    configuration_goes();
+    design_is_declared();
+    design_is_listed();
+    design_settles_by_sources();
+    registers_tick();
+    ranked_design_settles_once();
+    one_run();
+}

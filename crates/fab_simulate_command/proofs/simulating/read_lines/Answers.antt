@@ -1,0 +1,35 @@
+use Rattle.std.proofs.Common.{◌≡◌, ◌<◌, Ok, Some, refl}
+use Rattle.std.proofs.lemmas.Result.{IfOk-weaker, IfErr-weaker, err_from_is_err_and}
+use Rattle.fab_desk.specs.Files.{Map}
+use Rattle.fab_files.specs.Files.{MeetsFile, handed_out}
+use Rattle.fab_files.specs.Stages.{of_file, of_bytes}
+use Rattle.fab_files.proofs.Causes.{cause_weaker, text_cause}
+use Rattle.fab_simulate_command.specs.Simulating.{MeetsStimulus}
+use Rattle.fab_simulate_command.proofs.Stimulated.{lines_are_full, stimulus_is_spelled}
+use Rattle.fab_simulate_command.proofs.simulating.read_lines.Goals as goal
+
+pub returns-in_err-bytes-clause-cause : goal.returns-in_err-bytes-clause-cause
+returns-in_err-bytes-clause-cause g c =
+    let residual = err_from_is_err_and c.from_residual.result c.from_residual.ensures.1 in
+    let told = g.D.Desk.told c.args.desk.now in
+    let rose = g.D.Desk.reads c.args.desk.now < g.D.Desk.reads c.fetch.new.desk in
+    let file = c.args.file.now in
+    rw (residual.1, residual.2) (cause_weaker told told rose rose (λ files. MeetsFile files file) (λ files. MeetsStimulus files file c.args.state.now) c.in_err-bytes.field-0.0
+    refl (λ r. r) (λ files is event met. of_file met) c.in_err-bytes.ensures.cause)
+
+pub returns-clause-spelled : goal.returns-clause-spelled
+returns-clause-spelled g c = λ files is.
+    let found : handed_out files c.args.file.now ≡ Ok c.deref.result.now = rw c.deref.ensures.value (c.in_ok-bytes.ensures.found files is) in
+    stimulus_is_spelled files c.args.file.now c.args.state.now c.deref.result.now c.read_stimulus.result found c.read_stimulus.ensures.spells c.read_stimulus.ensures.says
+
+pub returns-clause-full : goal.returns-clause-full
+returns-clause-full g c = IfOk-weaker c.read_stimulus.result _ _ (λ lines spelled. lines_are_full c.args.state.now lines _ spelled) c.read_stimulus.ensures.spells
+
+pub returns-clause-cause : goal.returns-clause-cause
+returns-clause-cause g c =
+    let told = g.D.Desk.told c.args.desk.now in
+    let rose = g.D.Desk.reads c.args.desk.now < g.D.Desk.reads c.fetch.new.desk in
+    let file = c.args.file.now in
+    let found : (files : Map) → told ≡ Some files → handed_out files file ≡ Ok c.deref.result.now = λ files is. rw c.deref.ensures.value (c.in_ok-bytes.ensures.found files is) in
+    IfErr-weaker c.read_stimulus.result _ _
+    (λ fault refused. text_cause told rose (λ files. MeetsStimulus files file c.args.state.now) fault refused (λ files is why. of_bytes (found files is) why)) c.read_stimulus.ensures.refusal

@@ -1,6 +1,0 @@
-use Rattle.fab_solutions.proofs.Demanded.{demanded_least}
-use Rattle.fab_solutions.proofs.demanded_is_least.Goals as goal
-
-pub returns : goal.returns
-returns g c has demanded points show listed monotone t w settled least inside below suffice =
-    demanded_least has demanded points show listed monotone t w settled least inside below suffice

@@ -1,5 +1,0 @@
-use Rattle.fab_solutions.proofs.Drivers.{given_shown}
-use Rattle.fab_solutions.proofs.given_is_shown.Goals as goal
-
-pub returns : goal.returns
-returns c text inputs held t p d = given_shown text inputs held t p d

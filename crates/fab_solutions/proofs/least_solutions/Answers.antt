@@ -1,5 +1,0 @@
-use Rattle.fab_solutions.proofs.Drivers.{least_solutions_exist, least_solutions_agree}
-use Rattle.fab_solutions.proofs.least_solutions.Goals as goal
-
-pub returns : goal.returns
-returns c = record { exist = least_solutions_exist; agree = least_solutions_agree }

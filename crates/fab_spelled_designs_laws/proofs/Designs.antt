@@ -1,0 +1,108 @@
+-- What the laws of fabrics, of netlists and of legal implementations say together of a design that files spell.
+use Rattle.std.proofs.Common.{◌≡◌, ◌<◌, ◌++◌, ℕ, true, All, List, [], ◌∷◌, map, sym, ap, subst, ◌∙◌, arith}
+use Rattle.std.specs.List.{AllByRecursion as Each, filter, list_all}
+use Rattle.std.proofs.lemmas.Bool.{and_parts}
+use Rattle.std.proofs.lemmas.List.{map-append}
+use Rattle.std.proofs.lemmas.List.Elements.{All-from_recursion, All-map, recursion_from_All}
+use Rattle.std.proofs.lemmas.Simd.{map-map}
+use Rattle.fab_desk.specs.Files.{Map}
+use Rattle.fab_fabric.specs.Fabric.{AreTiles, IsFabric}
+use Rattle.fab_netlist.specs.Kept.{is_kept}
+use Rattle.fab_netlist.specs.Packed.{PlainCell}
+use Rattle.fab_netlist.specs.Packing.{Work, cell_of, net_of, of_cover, of_latch, others, packed, pair, works}
+use Rattle.fab_netlist.specs.Plain.{PlainCover, PlainNetlist, name_of}
+use Rattle.fab_netlist.specs.WellMade.{IsWellMade, ports}
+use Rattle.fab_implementation.specs.Plain.{PlainImplementation}
+use Rattle.fab_legal.specs.Legal.{IsLegal}
+use Rattle.fab_legal.specs.WellMade.{IsWellMadePacked, output_name, ports as design_ports}
+use Rattle.fab_legal.proofs.PackedMade.{packed_made}
+use Rattle.fab_state.specs.Spelled as states
+use Rattle.fab_designs.specs.fab_impl_Spelled as texts
+use Rattle.fab_fasm.specs.Printing as lines
+use Rattle.fab_features.specs.Design.{design_features}
+use Rattle.fab_texts.specs.Printed.{ends_line, is_last_word, is_word}
+use Rattle.fab_texts.specs.Rows.{Word}
+use Rattle.fab_features.specs.fab_use_defs_Registers.{design_state}
+use Rattle.fab_blif.proofs.Each.{each_joined, each_kept, each_mapped, each_weaker}
+use Rattle.fab_blif.proofs.Netlists.{netlist_is_well_made}
+use Rattle.fab_designs.specs.Designs.{DesignFiles, PlainDesign, SpellsDesign}
+use Rattle.fab_port_names_laws.proofs.Named.{ports_are_words}
+use Rattle.fab_port_names_laws.proofs.SmallTables.{tables_are_small}
+use Rattle.fab_spelled_fabrics_laws.proofs.Whole.{spelled_fabric, spelled_tiles, spelled_words}
+use Rattle.fab_spelled_designs_laws.proofs.Apart.{each_tested}
+use Rattle.fab_spelled_designs_laws.proofs.States.{state_spelled}
+use Rattle.fab_spelled_designs_laws.proofs.Implementations.{implementation_spelled}
+use Rattle.fab_spelled_designs_laws.proofs.Features.{features_spelled}
+
+abbrev IsLast : Word → Type 0
+IsLast word = is_last_word word ≡ true
+
+-- the ports of a packed netlist have the names of the nets
+ports_are : (netlist : PlainNetlist) → design_ports (packed netlist) ≡ map (name_of netlist) (ports netlist)
+ports_are netlist =
+    ap (λ (outputs : List Word). map (name_of netlist) netlist.inputs ++ outputs) (map-map output_name (λ net. (name_of netlist net, net_of netlist net)) netlist.outputs)
+    ∙ sym (map-append (name_of netlist) netlist.inputs netlist.outputs)
+
+port_words : (netlist : PlainNetlist) → All (λ net. IsLast (name_of netlist net)) (ports netlist) → All IsLast (design_ports (packed netlist))
+port_words netlist all = subst (All IsLast) (sym (ports_are netlist)) (All-map IsLast (name_of netlist) (ports netlist) all)
+
+all_words : (names : List Word) → All IsLast names → list_all is_word names ≡ true
+all_words names all =
+    each_tested is_word names (each_weaker IsLast (λ name. is_word name ≡ true) (λ name last. (and_parts (is_word name) (ends_line name) last).0) names (recursion_from_All IsLast names all))
+
+-- ---- tables
+
+abbrev HasSmallTable : PlainCell → Type 0
+HasSmallTable cell = cell.table < 65536
+
+each_number : (P : ℕ → Type 0) (all : (n : ℕ) → P n) (numbers : List ℕ) → Each P numbers
+each_number P all [] = tt
+each_number P all (n ∷ numbers) = (all n, each_number P all numbers)
+
+-- a cell has the table of its cover, or that which passes its input on
+small_cells : (netlist : PlainNetlist) → Each (λ cover. cover.table < 65536) netlist.covers → All HasSmallTable (packed netlist).cells
+small_cells netlist covers =
+    let kept = filter (is_kept netlist) netlist.covers in
+    let lone = others netlist 0 netlist.latches in
+    let paired : PlainCover → Work = λ cover. of_cover cover (pair netlist cover) in
+    let works_small : Each (λ work. HasSmallTable (cell_of netlist work)) (works netlist) =
+    each_joined (λ work. HasSmallTable (cell_of netlist work)) (map paired kept) (map of_latch lone)
+    (each_mapped (λ work. HasSmallTable (cell_of netlist work)) paired kept (each_kept (λ (cover : PlainCover). cover.table < 65536) (is_kept netlist) netlist.covers covers))
+    (each_mapped (λ work. HasSmallTable (cell_of netlist work)) of_latch lone (each_number (λ place. HasSmallTable (cell_of netlist (of_latch place))) (λ place. omega arith) lone)) in
+    All-from_recursion HasSmallTable (packed netlist).cells (each_mapped HasSmallTable (cell_of netlist) (works netlist) works_small)
+
+-- ---- the design
+
+module _ (files : Map) (names : DesignFiles) (design : PlainDesign) (spelled : SpellsDesign files names design) where
+  pub fabric_is : IsFabric design.fabric
+  fabric_is = spelled_fabric files names.fabric design.fabric spelled.fabric
+
+  pub tiles_are : AreTiles design.fabric
+  tiles_are = spelled_tiles files names.fabric design.fabric spelled.fabric
+
+  pub netlist_made : IsWellMade design.netlist
+  netlist_made = subst IsWellMade (sym spelled.netlist.spelled.1) (netlist_is_well_made spelled.netlist.bytes spelled.netlist.spelled.0)
+
+  pub design_made : IsWellMadePacked (packed design.netlist)
+  design_made = packed_made design.netlist netlist_made
+
+  pub names_are : All IsLast (design_ports (packed design.netlist))
+  names_are =
+      port_words design.netlist (subst (λ (netlist : PlainNetlist). All (λ net. IsLast (name_of netlist net)) (ports netlist)) (sym spelled.netlist.spelled.1)
+      (ports_are_words spelled.netlist.bytes spelled.netlist.spelled.0))
+
+  tables_small : All HasSmallTable (packed design.netlist).cells
+  tables_small =
+      small_cells design.netlist (subst (λ (netlist : PlainNetlist). Each (λ cover. cover.table < 65536) netlist.covers) (sym spelled.netlist.spelled.1) (tables_are_small spelled.netlist.bytes))
+
+  module _ (implementation : PlainImplementation) (legal : IsLegal design.fabric (packed design.netlist) design.fixed implementation) where
+    pub has_state : states.HasSpelling (design_state (packed design.netlist) implementation)
+    has_state = state_spelled design.fabric fabric_is (packed design.netlist) design_made design.fixed implementation legal (all_words (design_ports (packed design.netlist)) names_are)
+
+    pub has_text : texts.HasSpelling design.fabric implementation
+    has_text =
+        implementation_spelled design.fabric fabric_is tiles_are (spelled_words files names.fabric design.fabric spelled.fabric) (packed design.netlist) design_made names_are design.fixed implementation legal
+
+    pub has_lines : All lines.HasSpelling (design_features design.fabric (packed design.netlist) implementation)
+    has_lines =
+        features_spelled design.fabric fabric_is tiles_are (spelled_words files names.fabric design.fabric spelled.fabric) (packed design.netlist) tables_small design.fixed implementation legal

@@ -1,0 +1,34 @@
+-- What is printed of a design that files spell is read back.
+use Rattle.std.specs.Prelude.{All}
+use Rattle.fab_desk.specs.Files.{Map}
+use Rattle.fab_fabric.specs.Fabric.{AreTiles, IsFabric}
+use Rattle.fab_netlist.specs.Packing.{packed}
+use Rattle.fab_netlist.specs.WellMade.{IsWellMade}
+use Rattle.fab_implementation.specs.Plain.{PlainImplementation}
+use Rattle.fab_legal.specs.Legal.{IsLegal}
+use Rattle.fab_state.specs.Spelled as states
+use Rattle.fab_designs.specs.fab_impl_Spelled as texts
+use Rattle.fab_fasm.specs.Printing as lines
+use Rattle.fab_features.specs.Design.{design_features}
+use Rattle.fab_features.specs.fab_use_defs_Registers.{design_state}
+use Rattle.fab_designs.specs.Designs.{DesignFiles, PlainDesign, SpellsDesign}
+
+-- a fabric with its tiles, and a netlist that is well made
+pub record IsSound (design : PlainDesign) : Type 0 where
+  pub fabric : IsFabric design.fabric
+  pub tiles : AreTiles design.fabric
+  pub netlist : IsWellMade design.netlist
+
+abbrev pub SpelledDesignsAreSound : Type 0
+SpelledDesignsAreSound = (files : Map) (names : DesignFiles) (design : PlainDesign) → SpellsDesign files names design → IsSound design
+
+-- The text of an implementation can spell it, that of its state the state, and each feature of it has a line that can spell it.
+pub record IsSpelled (design : PlainDesign) (implementation : PlainImplementation) : Type 0 where
+  pub text : texts.HasSpelling design.fabric implementation
+  pub state : states.HasSpelling (design_state (packed design.netlist) implementation)
+  pub features : All lines.HasSpelling (design_features design.fabric (packed design.netlist) implementation)
+
+abbrev pub LegalDesignsAreSpelled : Type 0
+LegalDesignsAreSpelled =
+    (files : Map) (names : DesignFiles) (design : PlainDesign) (implementation : PlainImplementation) → SpellsDesign files names design →
+    IsLegal design.fabric (packed design.netlist) design.fixed implementation → IsSpelled design implementation

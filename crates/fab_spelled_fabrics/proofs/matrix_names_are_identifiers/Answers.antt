@@ -1,5 +1,0 @@
-use Rattle.fab_spelled_fabrics.proofs.Whole.{spelled_words}
-use Rattle.fab_spelled_fabrics.proofs.matrix_names_are_identifiers.Goals as goal
-
-pub returns : goal.returns
-returns c = spelled_words

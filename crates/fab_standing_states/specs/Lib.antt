@@ -1,2 +1,0 @@
-pub mod Laws
-pub use Rattle.fab_points.specs.fab_use_Registers as fab_use_Registers

@@ -1,0 +1,2 @@
+pub mod Laws
+pub use Rattle.fab_points_laws.specs.fab_use_defs_Registers as fab_use_defs_Registers

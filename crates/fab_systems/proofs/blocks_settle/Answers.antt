@@ -1,5 +1,0 @@
-use Rattle.fab_systems.proofs.Moves.{moves_settle}
-use Rattle.fab_systems.proofs.blocks_settle.Goals as goal
-
-pub returns : goal.returns
-returns g c has given reads rank ranks next ranked only = moves_settle has given next reads rank ranks ranked only

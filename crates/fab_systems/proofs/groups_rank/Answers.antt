@@ -1,6 +1,0 @@
-use Rattle.fab_systems.proofs.Groups.{grouped_rank}
-use Rattle.fab_systems.proofs.groups_rank.Goals as goal
-
-pub returns : goal.returns
-returns g c has given reads rank ranks fine fine_given fine_reads group place places ranked grouped =
-    grouped_rank has given reads rank ranks fine fine_given fine_reads group place places ranked grouped

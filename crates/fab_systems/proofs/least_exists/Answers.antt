@@ -1,6 +1,0 @@
-use Rattle.std.proofs.Common.{length}
-use Rattle.fab_systems.proofs.Least.{round, rounds_least}
-use Rattle.fab_systems.proofs.least_exists.Goals as goal
-
-pub returns : goal.returns
-returns g c has points show listed monotone old = (round has show old (length points), rounds_least has show old monotone points listed)

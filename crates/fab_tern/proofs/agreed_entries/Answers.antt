@@ -1,5 +1,0 @@
-use Rattle.fab_tern.proofs.Picks.{agreed_entry}
-use Rattle.fab_tern.proofs.agreed_entries.Goals as goal
-
-pub returns : goal.returns
-returns c bits index b all = agreed_entry bits index b all

@@ -1,5 +1,0 @@
-use Rattle.fab_tern.proofs.Picks.{chain_picks}
-use Rattle.fab_tern.proofs.chains_pick.Goals as goal
-
-pub returns : goal.returns
-returns c names terns configured low width i first inputs long room = chain_picks names terns configured low width i first inputs long room

@@ -1,6 +1,0 @@
-use Rattle.fab_tern.proofs.Ranks.{all_known}
-use Rattle.fab_tern.proofs.known_ranks.Goals as goal
-
-pub returns : goal.returns
-returns g c has given reads rank ranks show next t a ranked_here at_given shows solves settled =
-    all_known has given reads rank ranks show next t a ranked_here at_given shows solves settled

@@ -1,5 +1,0 @@
-use Rattle.fab_tern.proofs.Known.{known_value}
-use Rattle.fab_tern.proofs.known_values.Goals as goal
-
-pub returns : goal.returns
-returns c names terns e h = known_value names terns e h

@@ -1,0 +1,238 @@
+-- While no word is written, a configured text holds what it holds.
+use Rattle.std.proofs.Common.{◌≡◌, ℕ, Bool, true, false, List, [], ◌∷◌, cond, refl, sym, ap, ◌∙◌, subst, inl, inr, arith, Option, Some, None, All, Contains}
+use Rattle.std.specs.Str.{bytes_eq}
+use Rattle.std.proofs.lemmas.Bool.{cases_Bool}
+use Rattle.std.proofs.lemmas.Slice.Eq.{bytes_eq-Decides}
+use Rattle.std.proofs.lemmas.List.Elements.{All-head, All-tail, All-contains}
+use Rattle.fab_syntax.specs.Plain.{PlainExpr, PlainItem, PlainModule, wire, reg, assign, latch, clocked, instance}
+use Rattle.fab_syntax.specs.Declarations.{module_named, is_input_of}
+use Rattle.fab_meaning.specs.Value.{value, bit_at}
+use Rattle.fab_meaning.specs.Points.{Path, Point, point, Driver, outside, copy, bit_of, flop, hold, JoinDrives, ItemDrives, Drives, module_at}
+use Rattle.fab_meaning.specs.Reads.{is_declared}
+use Rattle.fab_meaning.specs.Settled.{Assignment, names_at, IsSettledOn}
+use Rattle.fab_meaning.specs.Runs.{clock_name, clock_of, is_clock, Ticks, Moment, IsRunOn}
+use Rattle.fab_meaning.specs.Loading.{IsDerived, Within, by_flop, by_stream, by_reads, IsClosed, IsLoading}
+use Rattle.fab_drives_laws.specs.fab_model_Grid.{PlainFabric}
+use Rattle.fab_drives_laws.specs.fab_model_Drive.{PlainBits}
+use Rattle.fab_drives_laws.specs.fab_fabric_Fabric.{IsFabric}
+use Rattle.fab_drives_laws.specs.fab_gen_tile_Names.{latch_name}
+use Rattle.fab_drives_laws.specs.fab_gen_tile_ConfigModule.{config_module}
+use Rattle.fab_drives_laws.specs.fab_gen_loader_Loader.{NextValues, loader_of, state_name, strobe_register_name, machine_at}
+use Rattle.fab_drives_laws.proofs.fab_gen_loader_Widths.{state_width}
+use Rattle.fab_drives_laws.proofs.fab_tile_drives_laws_Driven.{declared_at}
+use Rattle.fab_drives_laws.proofs.fab_tile_drives_laws_Latches.{latch_width}
+use Rattle.fab_loading_laws.specs.Latches.{latch_shows}
+use Rattle.fab_loading_laws.specs.Streams.{TicksKeepMachines}
+use Rattle.fab_text_loads_laws.specs.Points.{loader_path, config_path, in_loader}
+use Rattle.fab_text_loads_laws.specs.Loads.{IsConfigured, IsQuiet}
+use Rattle.fab_text_loads_laws.proofs.Declared.{bit_below}
+use Rattle.fab_text_loads_laws.proofs.Loader.{HasLoader, strobe_register_width, register_names}
+use Rattle.fab_text_loads_laws.proofs.Named.{config_stands, named_are_loading}
+use Rattle.fab_text_loads_laws.proofs.Settled.{latch_place, latch_point}
+use Rattle.fab_text_loads_laws.proofs.Ticks.{Stays, registers_stay}
+use Rattle.fab_text_loads_laws.proofs.Runs.{HasLatch, has_latch, latch_loads, latch_now, latch_ticks}
+use Rattle.fab_text_loads_laws.proofs.Parts.{part_at, latch_of_tile}
+use Rattle.fab_text_loads_laws.proofs.Clocks.{flop_of_loader}
+
+-- ---- which item a flip-flop and a latch are
+
+-- a process of the module at a path drives the point
+record IsFlopItem (text : List PlainModule) (p : Point) (path : Path) (clock : List ℕ) : Type 0 where
+  here : PlainModule
+  target : List ℕ
+  e : PlainExpr
+  stands : module_at text path ≡ Some here
+  there : Contains here.items (clocked clock target e)
+  at : p ≡ point path target p.bit
+
+record IsLatchItem (text : List PlainModule) (p : Point) (path : Path) : Type 0 where
+  here : PlainModule
+  target : List ℕ
+  gate : PlainExpr
+  e : PlainExpr
+  stands : module_at text path ≡ Some here
+  there : Contains here.items (latch target gate e)
+  at : p ≡ point path target p.bit
+
+-- an instance drives no flip-flop and no latch
+join_is_wire : (path : Path) (i : List ℕ) (input : Bool) (port : List ℕ) (to : Option PlainExpr) (p : Point) (d : Driver) → JoinDrives path i input port to p d →
+    (Waits : Driver → Type 0) → ((e : PlainExpr) (bit : ℕ) → Waits (bit_of path e bit) → ⊥) → ((other : Point) → Waits (copy other) → ⊥) → Waits d → ⊥
+join_is_wire path i input port None p d drives Waits no_wire no_copy waits = drives
+join_is_wire path i true port (Some e) p d drives Waits no_wire no_copy waits = no_wire e p.bit (subst Waits drives.1 waits)
+join_is_wire path i false port (Some e) p d drives Waits no_wire no_copy waits = no_copy (point (i ∷ path) port p.bit) (subst Waits drives.3 waits)
+
+abbrev IsFlopDriver : Driver → Type 0
+IsFlopDriver (flop path clock next bit) = Unit {0}
+IsFlopDriver outside = ⊥
+IsFlopDriver (copy other) = ⊥
+IsFlopDriver (bit_of path e bit) = ⊥
+IsFlopDriver (hold path gate e bit) = ⊥
+
+abbrev IsHoldDriver : Driver → Type 0
+IsHoldDriver (hold path gate e bit) = Unit {0}
+IsHoldDriver outside = ⊥
+IsHoldDriver (copy other) = ⊥
+IsHoldDriver (bit_of path e bit) = ⊥
+IsHoldDriver (flop path clock next bit) = ⊥
+
+-- of each item
+module _ (text : List PlainModule) (p : Point) (path : Path) (here : PlainModule) (stands : module_at text path ≡ Some here) where
+  flop_of_item : (item : PlainItem) (own : Path) (clock : List ℕ) (next : PlainExpr) (bit : ℕ) → Contains here.items item → ItemDrives text path item p (flop own clock next bit) →
+      IsFlopItem text p own clock
+  flop_of_item (wire shape name) own clock next bit there drives = absurd drives
+  flop_of_item (reg shape name) own clock next bit there drives = absurd drives
+  flop_of_item (assign target e) own clock next bit there drives = absurd (subst IsFlopDriver drives.1 tt)
+  flop_of_item (latch target gate e) own clock next bit there drives = absurd (subst IsFlopDriver drives.1 tt)
+  flop_of_item (clocked other target e) own clock next bit there drives =
+      let is : flop own clock next bit ≡ flop path other e p.bit = drives.1 in
+      let same_path : own ≡ path = cc in
+      let same_clock : clock ≡ other = cc in
+      record {
+        here = here;
+        target = target;
+        e = e;
+        stands = ap (module_at text) same_path ∙ stands;
+        there = subst (λ c. Contains here.items (clocked c target e)) (sym same_clock) there;
+        at = drives.0 ∙ ap (λ path. point path target p.bit) (sym same_path);
+      }
+  flop_of_item (instance module_name i joins) own clock next bit there drives =
+      absurd (join_is_wire path i (is_input_of (module_named text module_name) drives.0.port) drives.0.port drives.0.to p (flop own clock next bit) drives.2
+      IsFlopDriver (λ e bit is. is) (λ other is. is) tt)
+
+  latch_of_item : (item : PlainItem) (own : Path) (gate data_value : PlainExpr) (bit : ℕ) → Contains here.items item → ItemDrives text path item p (hold own gate data_value bit) →
+      IsLatchItem text p own
+  latch_of_item (wire shape name) own gate data_value bit there drives = absurd drives
+  latch_of_item (reg shape name) own gate data_value bit there drives = absurd drives
+  latch_of_item (assign target e) own gate data_value bit there drives = absurd (subst IsHoldDriver drives.1 tt)
+  latch_of_item (clocked clock target e) own gate data_value bit there drives = absurd (subst IsHoldDriver drives.1 tt)
+  latch_of_item (latch target other e) own gate data_value bit there drives =
+      let is : hold own gate data_value bit ≡ hold path other e p.bit = drives.1 in
+      let same_path : own ≡ path = cc in
+      record {
+        here = here;
+        target = target;
+        gate = other;
+        e = e;
+        stands = ap (module_at text) same_path ∙ stands;
+        there = there;
+        at = drives.0 ∙ ap (λ path. point path target p.bit) (sym same_path);
+      }
+  latch_of_item (instance module_name i joins) own gate data_value bit there drives =
+      absurd (join_is_wire path i (is_input_of (module_named text module_name) drives.0.port) drives.0.port drives.0.to p (hold own gate data_value bit) drives.2
+      IsHoldDriver (λ e bit is. is) (λ other is. is) tt)
+
+flop_item : (text : List PlainModule) (p : Point) (path : Path) (clock : List ℕ) (next : PlainExpr) (bit : ℕ) → Drives text p (flop path clock next bit) → IsFlopItem text p path clock
+flop_item text p path clock next bit (inl driven) = absurd (subst IsFlopDriver driven.is tt)
+flop_item text p path clock next bit (inr driven) = flop_of_item text p driven.path driven.module_here driven.stands driven.item path clock next bit driven.holds driven.drives
+
+latch_item : (text : List PlainModule) (p : Point) (path : Path) (gate data_value : PlainExpr) (bit : ℕ) → Drives text p (hold path gate data_value bit) → IsLatchItem text p path
+latch_item text p path gate data_value bit (inl driven) = absurd (subst IsHoldDriver driven.is tt)
+latch_item text p path gate data_value bit (inr driven) = latch_of_item text p driven.path driven.module_here driven.stands driven.item path gate data_value bit driven.holds driven.drives
+
+-- ---- a tick
+
+-- a point that is within is declared
+within_declared : (text : List PlainModule) (flops : Point → Bool) (p : Point) → Within text flops p → is_declared text p ≡ true
+within_declared text flops p (by_flop declared is) = declared
+within_declared text flops p (by_stream stream) = stream.declared
+within_declared text flops p (by_reads d declared drives derived reads) = declared
+
+module _ (fabric : PlainFabric) (next : NextValues) (text : List PlainModule) (has : HasLoader fabric next text) (is : IsFabric fabric) (keeps : TicksKeepMachines) (bits : PlainBits) where
+  module _ (moment : Moment) (held now after : Assignment) (configured : IsConfigured fabric bits held) (quiet : IsQuiet moment)
+      (settled : IsSettledOn (IsLoading text) text moment.inputs held now) (ticks : Ticks (IsLoading text) text moment.clock held now after) where
+    -- a register of the loader at a tick of CLK
+    register_stays : (name : List ℕ) (bit : ℕ) → moment.clock ≡ clock_name → Contains (register_names fabric.rows) name → is_declared text (point loader_path name bit) ≡ true →
+        after (point loader_path name bit) ≡ held (point loader_path name bit)
+    register_stays name bit clock listed declared =
+        let loader = loader_of fabric.rows next in
+        let ticks_here : Ticks (IsLoading text) text clock_name held now after = subst (λ clock. Ticks (IsLoading text) text clock held now after) clock ticks in
+        All-contains (Stays fabric next text has is keeps moment.inputs held now after settled ticks_here (quiet clock) configured.strobe) (register_names fabric.rows) name
+        (registers_stay fabric next text has is keeps moment.inputs held now after settled ticks_here (quiet clock) configured.strobe) listed bit
+        (bit_below text loader_path loader name bit has.stands declared)
+
+    flop_stays : (p : Point) (path : Path) (clock : List ℕ) (e : PlainExpr) (bit : ℕ) → is_declared text p ≡ true → IsLoading text p → Drives text p (flop path clock e bit) →
+        clock_of text path clock ≡ Some clock_name → after p ≡ held p
+    flop_stays p path clock e bit declared loading drives clocks =
+        let kept_is : after p ≡ cond (bytes_eq clock_name moment.clock) (bit_at (value (names_at text now path) e) bit) (held p) =
+        ticks p (flop path clock e bit) loading drives
+        ∙ ap (λ found. cond (is_clock moment.clock found) (bit_at (value (names_at text now path) e) bit) (held p)) clocks in
+        elim (cases_Bool (bytes_eq clock_name moment.clock)) [
+          | inl ticked ↦ (
+              let item = flop_item text p path clock e bit drives in
+              let found = flop_of_loader fabric next text has is path item.here clock item.target item.e (part_at fabric next text has path item.here item.stands) item.there clocks in
+              let same : p ≡ point loader_path item.target p.bit = item.at ∙ ap (λ path. point path item.target p.bit) found.0 in
+              ap after same
+              ∙ register_stays item.target p.bit (sym ((bytes_eq-Decides clock_name moment.clock).0 ticked)) found.1 (subst (λ q. is_declared text q ≡ true) same declared)
+              ∙ ap held (sym same))
+          | inr idle ↦ kept_is ∙ ap (λ b. cond b (bit_at (value (names_at text now path) e) bit) (held p)) idle
+        ]
+
+    -- the strobe is 0, so that a latch shows what it holds
+    closed_latch : (x y number : ℕ) → HasLatch fabric x y number → after (latch_point x y number) ≡ held (latch_point x y number)
+    closed_latch x y number found =
+        let place = latch_place x y found.tile number in
+        let machine = machine_at held loader_path fabric.rows in
+        latch_ticks fabric next text has is x y number found moment.clock held now after ticks
+        ∙ latch_now fabric next text has is x y number found moment.inputs held now settled
+        ∙ ap (λ strobe. latch_shows (record machine { strobe = strobe }) place (held (latch_point x y number))) configured.strobe
+
+    latch_stays : (p : Point) (path : Path) (gate e : PlainExpr) (bit : ℕ) → is_declared text p ≡ true → Drives text p (hold path gate e bit) → after p ≡ held p
+    latch_stays p path gate e bit declared drives =
+        let item = latch_item text p path gate e bit drives in
+        let found = latch_of_tile fabric next text has path item.here item.target item.gate item.e (part_at fabric next text has path item.here item.stands) item.there in
+        let x = found.0 in
+        let y = found.1 in
+        let tile = found.2 in
+        let number = found.3 in
+        let few = found.5 in
+        let named : p ≡ point (config_path x y) (latch_name number) p.bit = item.at ∙ (λ j. point (found.6 j) (found.7 j) p.bit) in
+        let below = bit_below text (config_path x y) (config_module tile) (latch_name number) p.bit (config_stands fabric next text has x y tile found.4 (omega (arith, few)))
+        (subst (λ q. is_declared text q ≡ true) named declared) in
+        let first : p.bit ≡ 0 = omega (arith, below, latch_width tile number few) in
+        let same : p ≡ latch_point x y number = named ∙ ap (λ bit. point (config_path x y) (latch_name number) bit) first in
+        ap after same ∙ closed_latch x y number (has_latch fabric next text has is x y tile number found.4 few) ∙ ap held (sym same)
+
+    derived_stays : (p : Point) (d : Driver) → is_declared text p ≡ true → IsLoading text p → Drives text p d → IsDerived d → after p ≡ held p
+    derived_stays p outside declared loading drives derived = absurd derived
+    derived_stays p (copy other) declared loading drives derived = ticks p (copy other) loading drives
+    derived_stays p (bit_of path e bit) declared loading drives derived = ticks p (bit_of path e bit) loading drives
+    derived_stays p (flop path clock e bit) declared loading drives derived = absurd derived
+    derived_stays p (hold path gate e bit) declared loading drives derived = latch_stays p path gate e bit declared drives
+
+    within_stays : (flops : Point → Bool) → IsClosed text flops → (p : Point) → Within text flops p → IsLoading text p → after p ≡ held p
+    within_stays flops closed p (by_flop declared is) loading =
+        let at = closed p is in
+        flop_stays p at.path at.clock at.next at.bit declared loading at.drives at.clocked
+    within_stays flops closed p (by_stream stream) loading = ticks p outside loading (inl stream.input)
+    within_stays flops closed p (by_reads d declared drives derived reads) loading = derived_stays p d declared loading drives derived
+
+    one_stays : (p : Point) → IsLoading text p → after p ≡ held p
+    one_stays p loading = within_stays loading.0 loading.1 p loading.2 loading
+
+  -- ---- a run
+
+  -- what holds the same is configured as well
+  still_configured : (held after : Assignment) → IsConfigured fabric bits held → ((p : Point) → IsLoading text p → after p ≡ held p) → IsConfigured fabric bits after
+  still_configured held after configured same =
+      let loader = loader_of fabric.rows next in
+      let in_loader_loads : (name : List ℕ) (bit : ℕ) → is_declared text (point loader_path name bit) ≡ true → IsLoading text (point loader_path name bit) =
+      λ name bit declared. named_are_loading fabric next text has (point loader_path name bit) (in_loader refl) declared in
+      record {
+        state = λ bit few. same (point loader_path state_name bit)
+            (in_loader_loads state_name bit (declared_at text loader_path loader state_name bit has.stands (omega (arith, few, state_width fabric.rows next))))
+            ∙ configured.state bit few;
+        strobe = same (point loader_path strobe_register_name 0)
+            (in_loader_loads strobe_register_name 0 (declared_at text loader_path loader strobe_register_name 0 has.stands (omega (arith, strobe_register_width fabric.rows next))))
+            ∙ configured.strobe;
+        latches = λ x y tile there number few. same (latch_point x y number)
+            (latch_loads fabric next text has is x y number (has_latch fabric next text has is x y tile number there few))
+            ∙ configured.latches x y tile there number few;
+      }
+
+  pub configuration_stays : (moments : List Moment) (held after : Assignment) → IsConfigured fabric bits held → All IsQuiet moments → IsRunOn (IsLoading text) text moments held after →
+      (p : Point) → IsLoading text p → after p ≡ held p
+  configuration_stays [] held after configured quiet run p loading = run p loading
+  configuration_stays (moment ∷ moments) held after configured quiet (now, between, settled, low, ticks, rest) p loading =
+      let stay = one_stays moment held now between configured (All-head IsQuiet moment moments quiet) settled ticks in
+      configuration_stays moments between after (still_configured held between configured stay) (All-tail IsQuiet moment moments quiet) rest p loading
+      ∙ stay p loading

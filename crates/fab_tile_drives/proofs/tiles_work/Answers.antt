@@ -1,5 +1,0 @@
-use Rattle.fab_tile_drives.proofs.Together.{tile_works}
-use Rattle.fab_tile_drives.proofs.tiles_work.Goals as goal
-
-pub returns : goal.returns
-returns c = tile_works

@@ -1,9 +1,0 @@
-use Rattle.fab_tiles_sound.proofs.ClockUse.{tile_clocks}
-use Rattle.fab_tiles_sound.proofs.Fitting.{tile_fits}
-use Rattle.fab_tiles_sound.proofs.tiles_fit.Goals as goal
-
-pub returns-clause-fits : goal.returns-clause-fits
-returns-clause-fits c = tile_fits
-
-pub returns-clause-clocks : goal.returns-clause-clocks
-returns-clause-clocks c = λ text tile port has. tile_clocks text tile has port

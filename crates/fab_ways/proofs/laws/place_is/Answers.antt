@@ -1,5 +1,0 @@
-use Rattle.fab_ways.proofs.Ends.{place_is}
-use Rattle.fab_ways.proofs.laws.place_is.Goals as goal
-
-pub returns : goal.returns
-returns c = place_is

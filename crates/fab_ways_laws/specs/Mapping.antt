@@ -1,0 +1,20 @@
+-- What a mapping of a packed design onto a fabric is.
+use Rattle.std.specs.Prelude.{◌≡◌, ℕ, ◌<◌, ◌≤◌, List, length}
+use Rattle.fab_legal.specs.fab_model.specs.Grid.{PlainFabric}
+use Rattle.fab_legal.specs.fab_netlist.specs.Packed.{PlainPacked}
+use Rattle.fab_legal.specs.fab_implementation.specs.Plain.{Pad, PlainImplementation}
+use Rattle.fab_ways_laws.specs.Placing.{IsGoodPlacement}
+use Rattle.fab_ways_laws.specs.Routing.{Paths, Run, LeavesShared}
+use Rattle.fab_ways_laws.specs.Trees.{trees_of, with_trees}
+
+-- a good placement with the last trees of a run on it, of at least one round and at most the allowed number, that leaves no wire shared
+pub record IsMapping (fabric : PlainFabric) (packed : PlainPacked) (fixed : List Pad) (allowed : ℕ) (implementation : PlainImplementation) : Type 0 where
+  pub placement : PlainImplementation
+  pub good : IsGoodPlacement fabric packed fixed placement
+  pub rounds : List (List Paths)
+  pub last : List Paths
+  pub run : Run fabric packed placement rounds last
+  pub some_rounds : 0 < length rounds
+  pub few_rounds : length rounds ≤ allowed
+  pub unshared : LeavesShared last → ⊥
+  pub is : implementation ≡ with_trees placement (trees_of packed placement last)
