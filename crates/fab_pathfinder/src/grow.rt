@@ -9,8 +9,8 @@ ghost use Rattle.fab_pathfinder.specs.Plain.{goals_of, paths_of, IsInside};
 
 use crate::net::Net;
 use crate::tree::Tree;
-use fab_base::Memory;
 use fab_astar::{Field, Tables, least_walk};
+use fab_base::Memory;
 use std::alloc::Global;
 
 /// Grows the tree of a net, sink by sink; an `Err` is the number of the first sink that no walk comes to.

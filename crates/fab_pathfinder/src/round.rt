@@ -11,8 +11,8 @@ use crate::counts::{give_up, price, take_up};
 use crate::grow::grow;
 use crate::net::{CutOff, Net};
 use crate::tree::Tree;
-use fab_base::Memory;
 use fab_astar::{Field, Tables};
+use fab_base::Memory;
 use std::alloc::Global;
 
 /// Sets each node's price for a round.

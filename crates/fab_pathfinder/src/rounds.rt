@@ -9,9 +9,9 @@ ghost use Rattle.fab_pathfinder.specs.Plain.{nets_of, trees_of, rounds_of, IsIns
 use crate::net::{CutOff, Net};
 use crate::round::run_round;
 use crate::tree::{Round, Tree};
+use fab_astar::{Field, Tables};
 use fab_base::Memory;
 use fab_progress::{Progress, Step};
-use fab_astar::{Field, Tables};
 use std::alloc::Global;
 
 /// A run, and the least node that its last round leaves in two trees.

@@ -7,8 +7,8 @@ ghost use Rattle.fab_place.specs.inner.BoardOf.{IsBoardOf};
 
 use crate::nets::nets_of;
 use crate::pins::pins_of;
-use fab_base::Memory;
 use fab_annealing::{Board, Nets};
+use fab_base::Memory;
 use fab_fabric::Site;
 use fab_netlist::Packed;
 use std::alloc::Global;

@@ -3,8 +3,8 @@ ghost use Rattle.std.specs.Prelude.{◌≡◌, ◌≢◌, ℕ, ◌<◌, ◌≤�
 ghost use Rattle.fab_annealing.specs.Measured.{IsNets, item_count, net_count, numbers_of};
 ghost use Rattle.fab_place.specs.Pins.{HavePins};
 
-use fab_base::Memory;
 use fab_annealing::Nets;
+use fab_base::Memory;
 use std::alloc::Global;
 
 /// An item that a net has.

@@ -3,7 +3,9 @@
 
 ghost use Rattle.fab_ready_flow_laws.specs.Laws.{FlowFilesAreReady};
 
-use fab_short_texts_laws::{bitstreams_are_short, fabric_texts_have_streams, legal_states_have_entries};
+use fab_short_texts_laws::{
+    bitstreams_are_short, fabric_texts_have_streams, legal_states_have_entries,
+};
 pub use fab_short_texts_laws::{legal_implementations_are_short, legal_states_are_short};
 pub use fab_simulate_command::do_simulate;
 pub use fab_spelled_designs_laws::{legal_designs_are_spelled, spelled_designs_are_sound};

@@ -8,8 +8,8 @@ ghost use Rattle.fab_astar.specs.Scene.{IsGraph};
 use crate::classes::Place;
 use crate::nodes::Nodes;
 use crate::window::Window;
-use fab_base::Memory;
 use fab_astar::Field;
+use fab_base::Memory;
 use std::alloc::Global;
 
 /// From a class so many tiles across and down, which are 32 where nothing changes.

@@ -6,9 +6,9 @@ ghost use Rattle.fab_route.specs.Plain.{graph_of, numbering_of, node_of};
 
 use crate::numbers::{number_inputs, outputs_before};
 use crate::targets::targets;
+use fab_astar::Field;
 use fab_base::Memory;
 use fab_fabric::{Fabric, Wire};
-use fab_astar::Field;
 use std::alloc::Global;
 use std::marker::Model;
 

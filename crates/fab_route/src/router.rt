@@ -28,8 +28,8 @@ use fab_base::Memory;
 use fab_fabric::{Fabric, Wire};
 use fab_implementation::{Implementation, Tree};
 use fab_netlist::{NetId, Packed};
-use fab_progress::{Progress, Silent};
 use fab_pathfinder::{CutOff, Net, Routed as Run, run_rounds};
+use fab_progress::{Progress, Silent};
 use std::alloc::Global;
 
 /// The trees of a routed design.
