@@ -38,6 +38,7 @@ fn bare_trees(alloc: Global, count: usize) -> Result<Vec<Tree>, Memory>
 }
 
 /// The nodes that stand in several trees: the least of them, and how many there are.
+#[derive(Drop)]
 struct Shared {
     least: Option<u32>,
     count: usize,
