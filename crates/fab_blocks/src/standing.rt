@@ -5,7 +5,7 @@ use fab_base::Name;
 
 /// The block that is open.
 #[derive(Debug, Drop)]
-pub enum Mode {
+pub enum OpenBlock {
     /// None is, but perhaps that of the parameters.
     Outside,
     /// The grid.
