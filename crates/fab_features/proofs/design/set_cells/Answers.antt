@@ -24,6 +24,6 @@ loop-line-preserved c =
       adds =
           more_of (IsCellOne fabric packed) c.args.cells.now l.line-index line (plain_bits c.args.bits.now) (plain_bits l.bits) (plain_bits c.set_cell.new.bits)
           (at_default c.args.cells.now l.line-index none c.loop-line-test.true) l.invariant.adds
-          (same_added (plain_bits l.bits) (plain_bits c.set_cell.new.bits) (IsSiteOne fabric line.1 cell) (IsCellOne fabric packed line) (λ x y bit one. (cell, at, one))
+          (same_added (plain_bits l.bits) (plain_bits c.set_cell.new.bits) (IsSiteOne fabric c.is_some.result line.1 cell) (IsCellOne fabric packed line) (λ x y bit one. (cell, at, one))
           (λ x y bit one. subst (λ (k : PlainCell). IsSiteOne fabric line.1 k x y bit) (same_at packed.cells line.0 one.0 cell one.1 at) one.2) c.set_cell.ensures.adds);
     }
