@@ -270,7 +270,8 @@ fn push_cell(
         site,
         b"SET_NORESET",
         loads_high(resets, cell),
-    )
+    )?;
+    Ok(())
 }
 
 // Adds the lines of the first BELs of a tile.
