@@ -71,7 +71,7 @@ module _ (inner outer : List PlainModule) (i : List ℕ) (stands : StandsIn inne
   shown_inside inputs held now p (bit_of path e bit) place = ap (λ bits. bit_at bits bit) (value_inside now path place e)
   shown_inside inputs held now p (flop path clock next bit) place = refl
   shown_inside inputs held now p (hold path gate e bit) place =
-      ap₂ (λ open bits. if bit_at open 0 then bit_at bits bit else held (inside i p)) (value_inside now path place gate) (value_inside now path place e)
+      ap₂ (λ gate_bits bits. if bit_at gate_bits 0 then bit_at bits bit else held (inside i p)) (value_inside now path place gate) (value_inside now path place e)
 
   pub kept_inside : (clock : List ℕ) → IsSameClock inner outer i clock → (held now : Assignment) (p : Point) (d : Driver) → HasPlace inner d →
       kept outer clock held now (inside i p) (lifted i d) ≡ kept inner clock (within i held) (within i now) p d
