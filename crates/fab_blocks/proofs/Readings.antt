@@ -136,24 +136,24 @@ begin_room reading name h =
 pub begin_has_room : (reading : PlainReading) (holder : PlainHolder) (cells : List (List ℕ)) → begin_problem reading holder cells ≡ None → HasRoom reading.types (cell_at cells 1) []
 begin_has_room reading holder cells fine =
     let parts = no_problem (begin_reason reading holder cells) (begin_limit reading (cell_at cells 1)) fine in
-    let fresh = among_names (cell_at cells 1) reading.types (open_name reading.open) ∙ (begin_facts reading holder cells parts.0).0 in
+    let fresh = among_names (cell_at cells 1) reading.types (open_name reading.begun) ∙ (begin_facts reading holder cells parts.0).0 in
     record {
       fresh = none_called (cell_at cells 1) reading.types (first_of_either _ _ fresh);
       room = begin_room reading (cell_at cells 1) parts.1;
       few_bels = omega arith;
     }
 
-outside_of : (open : OpenBlock) (reading : PlainReading) (holder : PlainHolder) → open ≡ reading.open → stands reading holder places.Outside ≡ true → open ≡ blocks.Outside
+outside_of : (begun : OpenBlock) (reading : PlainReading) (holder : PlainHolder) → begun ≡ reading.begun → stands reading holder places.Outside ≡ true → begun ≡ blocks.Outside
 unfolding stands is_place
 outside_of blocks.Outside reading holder is h = refl
 outside_of blocks.Grid reading holder is h = absurd (let e = ap (λ (m : OpenBlock). is_place (place_in m reading.parameters holder.is_fabric) places.Outside) is ∙ h in cc)
 outside_of (blocks.Tile block) reading holder is h = absurd (let e = ap (λ (m : OpenBlock). is_place (place_in m reading.parameters holder.is_fabric) places.Outside) is ∙ h in cc)
 
 -- and no other block is open
-pub begin_outside : (reading : PlainReading) (holder : PlainHolder) (cells : List (List ℕ)) → begin_problem reading holder cells ≡ None → reading.open ≡ blocks.Outside
+pub begin_outside : (reading : PlainReading) (holder : PlainHolder) (cells : List (List ℕ)) → begin_problem reading holder cells ≡ None → reading.begun ≡ blocks.Outside
 begin_outside reading holder cells fine =
     let parts = no_problem (begin_reason reading holder cells) (begin_limit reading (cell_at cells 1)) fine in
-    outside_of reading.open reading holder refl (begin_facts reading holder cells parts.0).1
+    outside_of reading.begun reading holder refl (begin_facts reading holder cells parts.0).1
 
 -- one tile more
 pub names_more : (types : List PlainTile) (tile : PlainTile) → AllPairs (λ (first second : PlainTile). first.name ≢ second.name) types → All (λ (t : PlainTile). t.name ≢ tile.name) types
@@ -165,37 +165,37 @@ names_more types tile apart fresh = all_pairs_push (λ (first second : PlainTile
 for_some : {X : Type 0} (P : X → Type 0) (x : X) → P x → ForSome (Some x) P
 for_some P x p y is = subst P (some_same x y is) p
 
-has_lines : (open : OpenBlock) (lines : List PlainGridLine) → 1 ≤ length lines → HasLines open lines
+has_lines : (begun : OpenBlock) (lines : List PlainGridLine) → 1 ≤ length lines → HasLines begun lines
 has_lines blocks.Grid lines some = tt
 has_lines blocks.Outside lines some = some
 has_lines (blocks.Tile block) lines some = some
 
 -- with other lines in the grid
 pub sound_lines : (reading : PlainReading) (lines : List PlainGridLine) → IsReading reading → IsGrid lines → 1 ≤ length lines
-    → IsReading (record { types = reading.types; grid = Some lines; parameters = reading.parameters; open = reading.open })
+    → IsReading (record { types = reading.types; grid = Some lines; parameters = reading.parameters; begun = reading.begun })
 sound_lines reading lines sound grid some = record {
   names = sound.names;
   few_types = sound.few_types;
   few_bels = sound.few_bels;
   room = sound.room;
   grid = for_some IsGrid lines grid;
-  lines = for_some (HasLines reading.open) lines (has_lines reading.open lines some);
+  lines = for_some (HasLines reading.begun) lines (has_lines reading.begun lines some);
 }
 
 -- with the block of a tile that is open
-pub sound_open : (reading : PlainReading) (block : PlainBlock) → IsReading reading → reading.open ≡ blocks.Outside → HasRoom reading.types block.name block.bels → IsReading (with_open_block reading (blocks.Tile block))
+pub sound_open : (reading : PlainReading) (block : PlainBlock) → IsReading reading → reading.begun ≡ blocks.Outside → HasRoom reading.types block.name block.bels → IsReading (with_open_block reading (blocks.Tile block))
 sound_open reading block sound outside room = record {
   names = sound.names;
   few_types = sound.few_types;
   few_bels = sound.few_bels;
   room = room;
   grid = sound.grid;
-  lines = subst (λ (open : OpenBlock). ForSome reading.grid (HasLines open)) outside sound.lines;
+  lines = subst (λ (begun : OpenBlock). ForSome reading.grid (HasLines begun)) outside sound.lines;
 }
 
 -- when the block of a tile has ended
-pub sound_closed : (reading : PlainReading) (block : PlainBlock) (open : OpenBlock) → IsReading reading → reading.open ≡ blocks.Tile block → open ≡ blocks.Outside → IsReading (with_open_block reading open)
-sound_closed reading block open sound was outside = record {
+pub sound_closed : (reading : PlainReading) (block : PlainBlock) (begun : OpenBlock) → IsReading reading → reading.begun ≡ blocks.Tile block → begun ≡ blocks.Outside → IsReading (with_open_block reading begun)
+sound_closed reading block begun sound was outside = record {
   names = sound.names;
   few_types = sound.few_types;
   few_bels = sound.few_bels;
@@ -205,9 +205,9 @@ sound_closed reading block open sound was outside = record {
 }
 
 -- with one tile more
-pub sound_type : (reading : PlainReading) (types : List PlainTile) (tile : PlainTile) → IsReading reading → reading.open ≡ blocks.Outside → HasRoom reading.types tile.name tile.bels → types ≡ reading.types ++ tile ∷ []
-    → IsReading (record { types = types; grid = reading.grid; parameters = reading.parameters; open = reading.open })
-sound_type reading types tile sound outside room is = subst (λ (now : List PlainTile). IsReading (record { types = now; grid = reading.grid; parameters = reading.parameters; open = reading.open })) (sym is) (record {
+pub sound_type : (reading : PlainReading) (types : List PlainTile) (tile : PlainTile) → IsReading reading → reading.begun ≡ blocks.Outside → HasRoom reading.types tile.name tile.bels → types ≡ reading.types ++ tile ∷ []
+    → IsReading (record { types = types; grid = reading.grid; parameters = reading.parameters; begun = reading.begun })
+sound_type reading types tile sound outside room is = subst (λ (now : List PlainTile). IsReading (record { types = now; grid = reading.grid; parameters = reading.parameters; begun = reading.begun })) (sym is) (record {
   names = names_more reading.types tile sound.names room.fresh;
   few_types = omega (arith, room.room, length-append reading.types (tile ∷ []));
   few_bels = All-push (λ (t : PlainTile). length t.bels ≤ 26) reading.types tile sound.few_bels room.few_bels;

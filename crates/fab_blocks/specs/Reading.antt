@@ -23,10 +23,10 @@ pub record PlainReading : Type 0 where
   pub grid : Option (List PlainGridLine)
   pub parameters : Parameters
   -- the grid or the tile block that is open
-  pub open : OpenBlock
+  pub begun : OpenBlock
 
 abbrev pub start : PlainReading
-start = record { types = []; grid = None; parameters = parts.Absent; open = blocks.Outside }
+start = record { types = []; grid = None; parameters = parts.Absent; begun = blocks.Outside }
 
 -- Where a row stands: its file, whether that is a fabric file or is included in one (else it holds tiles alone), whether the block that is open, if one is, was begun in this
 -- file, and how many INCLUDE rows may still be opened.
@@ -50,7 +50,7 @@ place_in blocks.Outside parts.Open true = places.Parameters
 place_in blocks.Outside _ _ = places.Outside
 
 abbrev pub place_of : PlainReading → (is_fabric : Bool) → Place
-place_of reading is_fabric = place_in reading.open reading.parameters is_fabric
+place_of reading is_fabric = place_in reading.begun reading.parameters is_fabric
 
 abbrev pub is_inside : Place → Bool
 is_inside places.Outside = false
@@ -64,21 +64,21 @@ open_name _ = []
 
 -- the names of all tiles so far, also of one whose block is open
 abbrev pub tile_names : PlainReading → List (List ℕ)
-tile_names reading = map (λ tile. tile.name) reading.types ++ open_name reading.open
+tile_names reading = map (λ tile. tile.name) reading.types ++ open_name reading.begun
 
 -- ---- one row more
 
 abbrev pub with_open_block : PlainReading → OpenBlock → PlainReading
-with_open_block reading open = record { types = reading.types; grid = reading.grid; parameters = reading.parameters; open = open }
+with_open_block reading begun = record { types = reading.types; grid = reading.grid; parameters = reading.parameters; begun = begun }
 
 abbrev pub with_grid : PlainReading → List PlainGridLine → OpenBlock → PlainReading
-with_grid reading lines open = record { types = reading.types; grid = Some lines; parameters = reading.parameters; open = open }
+with_grid reading lines begun = record { types = reading.types; grid = Some lines; parameters = reading.parameters; begun = begun }
 
 abbrev pub with_parameters : PlainReading → Parameters → PlainReading
-with_parameters reading parameters = record { types = reading.types; grid = reading.grid; parameters = parameters; open = reading.open }
+with_parameters reading parameters = record { types = reading.types; grid = reading.grid; parameters = parameters; begun = reading.begun }
 
 abbrev pub with_type : PlainReading → PlainTile → PlainReading
-with_type reading tile = record { types = reading.types ++ tile ∷ []; grid = reading.grid; parameters = reading.parameters; open = reading.open }
+with_type reading tile = record { types = reading.types ++ tile ∷ []; grid = reading.grid; parameters = reading.parameters; begun = reading.begun }
 
 -- ---- what holds of every reading
 
@@ -108,6 +108,6 @@ pub record IsReading (reading : PlainReading) : Type 0 where
   pub names : AllPairs (λ first second. first.name ≢ second.name) reading.types
   pub few_types : length reading.types ≤ 64
   pub few_bels : All (λ tile. length tile.bels ≤ 26) reading.types
-  pub room : HasRoomFor reading.types reading.open
+  pub room : HasRoomFor reading.types reading.begun
   pub grid : ForSome reading.grid IsGrid
-  pub lines : ForSome reading.grid (HasLines reading.open)
+  pub lines : ForSome reading.grid (HasLines reading.begun)

@@ -89,7 +89,7 @@ abbrev pub line_problem : List PlainGridLine → (cells : List (List ℕ)) → O
 line_problem lines cells = problem_of (line_reason lines cells) (line_limit lines cells)
 
 abbrev pub with_line : PlainReading → PlainHolder → PlainRow → PlainReading
-with_line reading holder row = with_grid reading (lines_of reading ++ record { file = holder.file; line = row.line; cells = row.cells } ∷ []) reading.open
+with_line reading holder row = with_grid reading (lines_of reading ++ record { file = holder.file; line = row.line; cells = row.cells } ∷ []) reading.begun
 
 unfoldable pub grid_line : PlainReading → PlainHolder → PlainRow → Result Step Problem
 grid_line reading holder row = judged (line_problem (lines_of reading) row.cells) (with_line reading holder row, said.Taken)
@@ -144,7 +144,7 @@ handed_out reading _ _ = malformed reasons.Block
 
 unfoldable pub end_tile : PlainReading → PlainHolder → (cells : List (List ℕ)) → Result Step Problem
 end_tile reading holder cells =
-    if not (length cells == 1) then malformed reasons.Row else handed_out reading reading.open holder.is_own
+    if not (length cells == 1) then malformed reasons.Row else handed_out reading reading.begun holder.is_own
 
 -- ---- other rows, by where they stand
 
@@ -170,7 +170,7 @@ say reading holder rows.ParametersBegin row = begin_parameters reading holder ro
 say reading holder rows.ParametersEnd row = end_parameters reading holder row.cells
 say reading holder rows.TileBegin row = begin_tile reading holder row.cells
 say reading holder rows.TileEnd row = end_tile reading holder row.cells
-say reading holder word row = row_in reading reading.open holder word row
+say reading holder word row = row_in reading reading.begun holder word row
 
 -- A row has cells.
 unfoldable pub said_of : PlainReading → PlainHolder → PlainRow → Result Step Problem
@@ -178,5 +178,5 @@ said_of reading holder row = if length row.cells == 0 then malformed reasons.Row
 
 -- where a block is handed out, no other is open, and its tile may come to those that were read
 abbrev pub HasRoomIfEnded : PlainReading → Said → Type 0
-HasRoomIfEnded reading (said.EndsTile block) = (reading.open ≡ blocks.Outside) × HasRoom reading.types block.name block.bels
+HasRoomIfEnded reading (said.EndsTile block) = (reading.begun ≡ blocks.Outside) × HasRoom reading.types block.name block.bels
 HasRoomIfEnded reading _ = Unit {0}

@@ -25,7 +25,7 @@ pub struct Reading {
     types: Vec<TileType>,
     grid: Option<Vec<GridLine>>,
     parameters: Parameters,
-    open: OpenBlock,
+    begun: OpenBlock,
 }
 
 impl Model for Reading {
@@ -34,9 +34,9 @@ impl Model for Reading {
 
     ghost Value = { PlainReading };
 
-    ghost view = { λ r. record { types = r.types.items; grid = option_map (λ lines. lines.items) r.grid; parameters = r.parameters; open = r.open } };
+    ghost view = { λ r. record { types = r.types.items; grid = option_map (λ lines. lines.items) r.grid; parameters = r.parameters; begun = r.begun } };
 
-    ghost invariant = { λ r. IsReading (record { types = r.types.items; grid = option_map (λ lines. lines.items) r.grid; parameters = r.parameters; open = r.open }) };
+    ghost invariant = { λ r. IsReading (record { types = r.types.items; grid = option_map (λ lines. lines.items) r.grid; parameters = r.parameters; begun = r.begun }) };
 }
 
 impl Reading {
@@ -48,14 +48,14 @@ impl Reading {
             types: Vec::new(alloc),
             grid: None,
             parameters: Parameters::Absent,
-            open: OpenBlock::Outside,
+            begun: OpenBlock::Outside,
         }
     }
 
     pub(crate) fn place(&self, is_fabric: bool) -> Place
         ensures { result ≡ place_of self.now is_fabric }
     {
-        match &self.open {
+        match &self.begun {
             OpenBlock::Grid => Place::Grid,
             OpenBlock::Tile(_) => Place::Tile,
             OpenBlock::Outside => {
@@ -90,7 +90,7 @@ impl Reading {
 
     /// Adds a tile whose block has ended. After an error the reading is of no more use.
     pub fn push_tile(&mut self, tile: TileType) -> Result<(), Memory>
-        requires outside { self.old.open ≡ blocks.Outside }
+        requires outside { self.old.begun ≡ blocks.Outside }
         requires room { HasRoom self.old.types tile.name tile.bels }
         ensures { OnOk result (self.new ≡ with_type self.old tile) }
     {

@@ -42,7 +42,7 @@ module _ (P Q : PlainTile → Type 0) (keeps : Keeps P Q) where
 
   record IsKeptReading (reading : PlainReading) : Type 0 where
     pub types : All Q reading.types
-    pub open_block : IsOpenKept reading.open
+    pub open_block : IsOpenKept reading.begun
 
   -- the block that a row hands out
   abbrev IsKeptSaid : Said → Type 0
@@ -143,8 +143,8 @@ module _ (P Q : PlainTile → Type 0) (keeps : Keeps P Q) where
         let reason = (no_problem (begin_reason before holder cells) (begin_limit before (cell_at cells 1)) fine).0 in
         (passed (is_tile_name (cell_at cells 1)) _ _ (passed (length cells == 2) _ _ reason).1).0
 
-    with_open : (open : OpenBlock) → IsOpenKept open → IsKeptReading (with_open_block before open)
-    with_open open open_kept = record { types = kept.types; open_block = open_kept }
+    with_open : (begun : OpenBlock) → IsOpenKept begun → IsKeptReading (with_open_block before begun)
+    with_open begun open_kept = record { types = kept.types; open_block = open_kept }
 
     said_step : (says : Result Said Problem) → OnSaid says → OnStep (with_said before says)
     said_step (Ok says) plain = (kept, plain)
@@ -188,7 +188,7 @@ module _ (P Q : PlainTile → Type 0) (keeps : Keeps P Q) where
     tile_begins cells = judged_when (begin_problem before holder cells) (with_open_block before (blocks.Tile (new_block (cell_at cells 1)))) (λ fine.
         with_open (blocks.Tile (new_block (cell_at cells 1))) (keeps.new (cell_at cells 1) (begun_name cells fine)))
 
-    block_out : (open : OpenBlock) (own : Bool) → IsOpenKept open → OnStep (handed_out before open own)
+    block_out : (begun : OpenBlock) (own : Bool) → IsOpenKept begun → OnStep (handed_out before begun own)
     block_out (blocks.Tile block) true open_kept = (with_open blocks.Outside tt, open_kept)
     block_out (blocks.Tile block) false open_kept = tt
     block_out blocks.Grid own open_kept = tt
@@ -196,9 +196,9 @@ module _ (P Q : PlainTile → Type 0) (keeps : Keeps P Q) where
 
     tile_ends : (cells : List (List ℕ)) → OnStep (end_tile before holder cells)
     unfolding end_tile
-    tile_ends cells = either OnStep (not (length cells == 1)) _ _ tt (block_out before.open holder.is_own kept.open_block)
+    tile_ends cells = either OnStep (not (length cells == 1)) _ _ tt (block_out before.begun holder.is_own kept.open_block)
 
-    standing : (open : OpenBlock) (word : Word) (row : PlainRow) → IsOpenKept open → OnStep (row_in before open holder word row)
+    standing : (begun : OpenBlock) (word : Word) (row : PlainRow) → IsOpenKept begun → OnStep (row_in before begun holder word row)
     unfolding row_in
     standing blocks.Grid word row open_kept = a_line row
     standing (blocks.Tile block) word row open_kept = block_step (block_row block holder word row.cells) (in_block holder block open_kept word row.cells)
@@ -212,7 +212,7 @@ module _ (P Q : PlainTile → Type 0) (keeps : Keeps P Q) where
     by_word words.ParametersEnd row = parameters_end row.cells
     by_word words.TileBegin row = tile_begins row.cells
     by_word words.TileEnd row = tile_ends row.cells
-    by_word word row = standing before.open word row kept.open_block
+    by_word word row = standing before.begun word row kept.open_block
 
     of_row : (row : PlainRow) → OnStep (said_of before holder row)
     unfolding said_of

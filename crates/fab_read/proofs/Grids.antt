@@ -76,13 +76,13 @@ alike (first ∷ lines) grid = λ k d below. by_place k d below
     by_place (suc k) d below = sym (grid.alike zero (suc k) d (omega arith) below)
 
 -- a grid that has ended has lines
-lines_there : (open : OpenBlock) (parameters : Parameters) (lines : List PlainGridLine) → is_inside (place_in open parameters true) ≡ false → HasLines open lines → 1 ≤ length lines
+lines_there : (begun : OpenBlock) (parameters : Parameters) (lines : List PlainGridLine) → is_inside (place_in begun parameters true) ≡ false → HasLines begun lines → 1 ≤ length lines
 lines_there blocks.Grid parameters lines closed has = absurd cc
 lines_there (blocks.Tile block) parameters lines closed has = has
 lines_there blocks.Outside parameters lines closed has = has
 
-pub some_lines : (reading : PlainReading) (lines : List PlainGridLine) → IsReading reading → is_inside (place_in reading.open reading.parameters true) ≡ false → reading.grid ≡ Some lines → 1 ≤ length lines
-some_lines reading lines sound closed is = lines_there reading.open reading.parameters lines closed (sound.lines lines is)
+pub some_lines : (reading : PlainReading) (lines : List PlainGridLine) → IsReading reading → is_inside (place_in reading.begun reading.parameters true) ≡ false → reading.grid ≡ Some lines → 1 ≤ length lines
+some_lines reading lines sound closed is = lines_there reading.begun reading.parameters lines closed (sound.lines lines is)
 
 -- ---- a fabric
 

@@ -119,9 +119,9 @@ module _ (holder : PlainHolder) where
 -- ---- rows that begin and end blocks
 
 -- only a fabric file stands in the block of parameters
-fabric_there : (open : OpenBlock) (parameters : Parameters) (fabric : Bool) → is_place (place_in open parameters fabric) places.Parameters ≡ true → fabric ≡ true
+fabric_there : (begun : OpenBlock) (parameters : Parameters) (fabric : Bool) → is_place (place_in begun parameters fabric) places.Parameters ≡ true → fabric ≡ true
 unfolding is_place
-fabric_there open parameters true there = refl
+fabric_there begun parameters true there = refl
 fabric_there blocks.Outside parts.Open false there = absurd cc
 fabric_there blocks.Outside parts.Absent false there = absurd cc
 fabric_there blocks.Outside parts.Ended false there = absurd cc
@@ -174,7 +174,7 @@ module _ (before : PlainReading) (holder : PlainHolder) where
   unfolding begin_tile
   tile_begins cells = judged_step _ _ refl
 
-  block_out : (open : OpenBlock) (own : Bool) → OnStep before holder (handed_out before open own)
+  block_out : (begun : OpenBlock) (own : Bool) → OnStep before holder (handed_out before begun own)
   block_out (blocks.Tile block) true = (refl, tt)
   block_out (blocks.Tile block) false = tt
   block_out blocks.Grid own = tt
@@ -182,7 +182,7 @@ module _ (before : PlainReading) (holder : PlainHolder) where
 
   tile_ends : (cells : List (List ℕ)) → OnStep before holder (end_tile before holder cells)
   unfolding end_tile
-  tile_ends cells = either (OnStep before holder) (not (length cells == 1)) _ _ tt (block_out before.open holder.is_own)
+  tile_ends cells = either (OnStep before holder) (not (length cells == 1)) _ _ tt (block_out before.begun holder.is_own)
 
   by_place : (there : Bool) (word : Word) (cells : List (List ℕ)) → (there ≡ true → holder.is_fabric ≡ true) → OnSaid holder (if there then inner_parameter holder word cells else outer_row holder word cells)
   by_place true word cells fabric = in_parameters holder word cells (fabric refl)
@@ -190,9 +190,9 @@ module _ (before : PlainReading) (holder : PlainHolder) where
 
   outside : (word : Word) (cells : List (List ℕ)) → OnSaid holder (if stands before holder places.Parameters then inner_parameter holder word cells else outer_row holder word cells)
   unfolding stands
-  outside word cells = by_place (is_place (place_of before holder.is_fabric) places.Parameters) word cells (λ t. fabric_there before.open before.parameters holder.is_fabric t)
+  outside word cells = by_place (is_place (place_of before holder.is_fabric) places.Parameters) word cells (λ t. fabric_there before.begun before.parameters holder.is_fabric t)
 
-  standing : (open : OpenBlock) (word : Word) (row : PlainRow) → OnStep before holder (row_in before open holder word row)
+  standing : (begun : OpenBlock) (word : Word) (row : PlainRow) → OnStep before holder (row_in before begun holder word row)
   unfolding row_in
   standing blocks.Grid word row = a_line row
   standing (blocks.Tile block) word row = block_step (block_row block holder word row.cells) (in_block holder block word row.cells)
@@ -206,7 +206,7 @@ module _ (before : PlainReading) (holder : PlainHolder) where
   by_word words.ParametersEnd row = parameters_end row.cells
   by_word words.TileBegin row = tile_begins row.cells
   by_word words.TileEnd row = tile_ends row.cells
-  by_word word row = standing before.open word row
+  by_word word row = standing before.begun word row
 
   of_row : (row : PlainRow) → OnStep before holder (said_of before holder row)
   unfolding said_of

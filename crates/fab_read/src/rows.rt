@@ -45,7 +45,7 @@ fn end_tile<D: Desk>(
     end: &End,
     block: Block,
 ) -> Result<(), Fault>
-    requires outside { reading.old.open ≡ blocks.Outside }
+    requires outside { reading.old.begun ≡ blocks.Outside }
     requires room { HasRoom reading.old.types block.name block.bels }
     ensures told { D.told desk.new ≡ D.told desk.old }
     ensures writes { D.writes desk.new ≡ D.writes desk.old }

@@ -216,10 +216,10 @@ module _ (before : PlainReading) (holder : PlainHolder) (sound : IsReading befor
       sound_open before (new_block (cell_at cells 1)) sound (begin_outside before holder cells fine) (begin_has_room before holder cells fine))
 
   -- the block that is open
-  room_of : (open : OpenBlock) → before.open ≡ open → HasRoomFor before.types open
-  room_of open is = subst (HasRoomFor before.types) is sound.room
+  room_of : (begun : OpenBlock) → before.begun ≡ begun → HasRoomFor before.types begun
+  room_of begun is = subst (HasRoomFor before.types) is sound.room
 
-  block_out : (open : OpenBlock) (own : Bool) → before.open ≡ open → OnStep (handed_out before open own)
+  block_out : (begun : OpenBlock) (own : Bool) → before.begun ≡ begun → OnStep (handed_out before begun own)
   block_out (blocks.Tile block) true is = (sound_closed before block blocks.Outside sound is refl, (refl, room_of (blocks.Tile block) is))
   block_out (blocks.Tile block) false is = tt
   block_out blocks.Grid own is = tt
@@ -227,9 +227,9 @@ module _ (before : PlainReading) (holder : PlainHolder) (sound : IsReading befor
 
   tile_ends : (cells : List (List ℕ)) → OnStep (end_tile before holder cells)
   unfolding end_tile
-  tile_ends cells = either OnStep (not (length cells == 1)) _ _ tt (block_out before.open holder.is_own refl)
+  tile_ends cells = either OnStep (not (length cells == 1)) _ _ tt (block_out before.begun holder.is_own refl)
 
-  block_step : (block : PlainBlock) (is : before.open ≡ blocks.Tile block) (few : length block.bels ≤ 26) (says : Result (PlainBlock × Said) Problem) → OnBlock holder block few says → OnStep (with_block before says)
+  block_step : (block : PlainBlock) (is : before.begun ≡ blocks.Tile block) (few : length block.bels ≤ 26) (says : Result (PlainBlock × Said) Problem) → OnBlock holder block few says → OnStep (with_block before says)
   block_step block is few (Ok step) on = (
     record {
       names = sound.names;
@@ -237,13 +237,13 @@ module _ (before : PlainReading) (holder : PlainHolder) (sound : IsReading befor
       few_bels = sound.few_bels;
       room = room_of_next before.types block step.0 (room_of (blocks.Tile block) is) on.0.0 on.0.1;
       grid = sound.grid;
-      lines = λ lines there. subst (λ (open : OpenBlock). HasLines open lines) is (sound.lines lines there);
+      lines = λ lines there. subst (λ (begun : OpenBlock). HasLines begun lines) is (sound.lines lines there);
     },
     plain_room (with_open_block before (blocks.Tile step.0)) step.1 on.1,
   )
   block_step block is few (Err problem) on = tt
 
-  standing : (open : OpenBlock) (word : Word) (row : PlainRow) → before.open ≡ open → 0 < length row.cells → OnStep (row_in before open holder word row)
+  standing : (begun : OpenBlock) (word : Word) (row : PlainRow) → before.begun ≡ begun → 0 < length row.cells → OnStep (row_in before begun holder word row)
   unfolding row_in
   standing blocks.Grid word row is some = a_line row some
   standing (blocks.Tile block) word row is some =
@@ -259,7 +259,7 @@ module _ (before : PlainReading) (holder : PlainHolder) (sound : IsReading befor
   by_word words.ParametersEnd row some = parameters_end row.cells
   by_word words.TileBegin row some = tile_begins row.cells
   by_word words.TileEnd row some = tile_ends row.cells
-  by_word word row some = standing before.open word row refl some
+  by_word word row some = standing before.begun word row refl some
 
   by_cells : (row : PlainRow) (none : Bool) (problem : Problem) → (length row.cells == 0) ≡ none → OnStep (if none then Err problem else say before holder (word_of (cell_at row.cells 0)) row)
   by_cells row true problem is = tt

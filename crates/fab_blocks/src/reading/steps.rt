@@ -81,7 +81,7 @@ impl Reading {
             return Err(Problem::Malformed(Reason::Block));
         }
         self.grid = Some(Vec::new(alloc));
-        self.open = OpenBlock::Grid;
+        self.begun = OpenBlock::Grid;
         Ok(Said::Taken)
     }
 
@@ -108,7 +108,7 @@ impl Reading {
         if self.lacks_lines() {
             return Err(Problem::Malformed(Reason::Grid));
         }
-        self.open = OpenBlock::Outside;
+        self.begun = OpenBlock::Outside;
         Ok(Said::Taken)
     }
 
@@ -167,9 +167,9 @@ impl Reading {
     }
 
     fn is_open_name(&self, name: &[u8]) -> bool
-        ensures { result ≡ list_any (bytes_eq name.now) (open_name self.now.open) }
+        ensures { result ≡ list_any (bytes_eq name.now) (open_name self.now.begun) }
     {
-        match &self.open {
+        match &self.begun {
             OpenBlock::Tile(block) => name == block.name().bytes(),
             OpenBlock::Outside | OpenBlock::Grid => false,
         }
@@ -180,8 +180,8 @@ impl Reading {
         ensures { result ≡ is_among (tile_names self.now) name.now }
     {
         let ended = has_type(&self.types, name);
-        let open = self.is_open_name(name);
-        either(ended, open)
+        let begun = self.is_open_name(name);
+        either(ended, begun)
     }
 
     #[tactic(auto, unfolding(crate::specs::Saying::begin_reason))]
@@ -237,7 +237,7 @@ impl Reading {
             return Err(problem);
         }
         let name = Name::of(alloc, cell_at(cells, 1))?;
-        self.open = OpenBlock::Tile(Block::new(alloc, name));
+        self.begun = OpenBlock::Tile(Block::new(alloc, name));
         Ok(Said::Taken)
     }
 
@@ -252,10 +252,10 @@ impl Reading {
         if !holder.is_own {
             return Err(Problem::Malformed(Reason::Block));
         }
-        match mem::replace(&mut self.open, OpenBlock::Outside) {
+        match mem::replace(&mut self.begun, OpenBlock::Outside) {
             OpenBlock::Tile(block) => Ok(Said::EndsTile(block)),
             other => {
-                self.open = other;
+                self.begun = other;
                 Err(Problem::Malformed(Reason::Block))
             }
         }
@@ -270,14 +270,14 @@ impl Reading {
         word: Word,
         cells: &[Name],
     ) -> Result<Said, Problem>
-        requires outside { self.old.open ≡ blocks.Outside }
+        requires outside { self.old.begun ≡ blocks.Outside }
         requires room { HasRoom self.old.types old.name old.bels }
         ensures plain { IfOk result IsPlain }
         ensures said { Answers (λ said. (self.new, said)) result (with_block self.old (block_row old holder.now word cells.now)) }
     {
         let mut block = old;
         let said = block_row(&mut block, alloc, holder, word, cells)?;
-        self.open = OpenBlock::Tile(block);
+        self.begun = OpenBlock::Tile(block);
         Ok(said)
     }
 
@@ -309,11 +309,11 @@ impl Reading {
     ) -> Result<Said, Problem>
         requires { 0 < length row.now.cells }
         ensures plain { IfOk result IsPlain }
-        ensures said { Answers (λ said. (self.new, said)) result (row_in self.old self.old.open holder.now word row.now) }
+        ensures said { Answers (λ said. (self.new, said)) result (row_in self.old self.old.begun holder.now word row.now) }
     {
-        match mem::replace(&mut self.open, OpenBlock::Outside) {
+        match mem::replace(&mut self.begun, OpenBlock::Outside) {
             OpenBlock::Grid => {
-                self.open = OpenBlock::Grid;
+                self.begun = OpenBlock::Grid;
                 self.grid_line(alloc, holder, row)
             }
             OpenBlock::Tile(block) => self.tile_row(alloc, block, holder, word, &row.cells),

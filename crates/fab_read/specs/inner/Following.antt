@@ -71,4 +71,4 @@ abbrev pub IsSaid : (before : PlainReading) (holder : PlainHolder) (after : Plai
 IsSaid before holder after said.Taken = after.types ≡ before.types
 IsSaid before holder after (said.Includes file) = (after.types ≡ before.types) × (1 ≤ holder.left)
 IsSaid before holder after (said.NamesTiles file) = (after.types ≡ before.types) × (holder.is_fabric ≡ true)
-IsSaid before holder after (said.EndsTile block) = (after.types ≡ before.types) × (after.open ≡ blocks.Outside) × HasRoom after.types block.name block.bels
+IsSaid before holder after (said.EndsTile block) = (after.types ≡ before.types) × (after.begun ≡ blocks.Outside) × HasRoom after.types block.name block.bels

@@ -10,16 +10,21 @@ mod shown;
 mod verdicts;
 
 use cases::put_cases;
-use fab_desk::{FileDesk, OutSink};
+use fab_desk::{Desk, Sink};
 use fab_examples::Stop;
 use graphs::put_graph;
+use std::alloc::Global;
 
-fn main(rt: HostRuntime) -> Result<(), Stop> {
-    let alloc = rt.alloc();
-    let mut desk = FileDesk::new(&rt);
-    let mut out = OutSink::new(&rt);
+/// Puts what is made of each case of small graphs and routed designs, in the order of their files.
+///
+/// `Stop` comes where a file of the cases is not there or not as it should be, and where nothing can be put.
+pub fn put_route_examples<D: Desk, S: Sink>(
+    alloc: Global,
+    desk: &mut D,
+    out: &mut S,
+) -> Result<(), Stop> {
     for fabric in ["duo", "pair", "turn", "far", "six"] {
-        put_graph(alloc, &mut desk, &mut out, fabric)?;
+        put_graph(alloc, desk, out, fabric)?;
     }
-    put_cases(alloc, &mut desk, &mut out, "routes.cases")
+    put_cases(alloc, desk, out, "routes.cases")
 }

@@ -22,7 +22,7 @@ use designs::run_design;
 use entries::print_entries;
 use fab_base::Name;
 use fab_blif::read_blif;
-use fab_desk::{Desk, FileDesk, OutSink, Sink};
+use fab_desk::{Desk, Sink};
 use fab_examples::{Stop, fetch};
 use fab_fabric::Fabric;
 use fab_small_fabric::small_fabric;
@@ -100,14 +100,18 @@ fn print_legal<D: Desk, S: Sink>(
     Ok(())
 }
 
-fn main(rt: HostRuntime) -> Result<(), Stop> {
-    let alloc = rt.alloc();
-    let mut desk = FileDesk::new(&rt);
-    let mut out = OutSink::new(&rt);
+/// Puts what is made of each case of the texts of designs, in the order of their files.
+///
+/// `Stop` comes where a file of the cases is not there or not as it should be, and where nothing can be put.
+pub fn put_design_examples<D: Desk, S: Sink>(
+    alloc: Global,
+    desk: &mut D,
+    out: &mut S,
+) -> Result<(), Stop> {
     let fabric = small_fabric(alloc)?;
-    print_designs(alloc, &mut desk, &mut out)?;
-    print_blif(alloc, &mut desk, &mut out)?;
-    print_cases(alloc, &mut desk, &mut out, &Features, "fasm.cases")?;
-    print_texts(alloc, &mut desk, &mut out, &fabric)?;
-    print_legal(alloc, &mut desk, &mut out, &fabric)
+    print_designs(alloc, desk, out)?;
+    print_blif(alloc, desk, out)?;
+    print_cases(alloc, desk, out, &Features, "fasm.cases")?;
+    print_texts(alloc, desk, out, &fabric)?;
+    print_legal(alloc, desk, out, &fabric)
 }

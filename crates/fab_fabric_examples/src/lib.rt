@@ -1,5 +1,5 @@
 //! Fabrics from their files to their bitstreams: words and texts, switch lists and fabrics with the files that they name, and what is asked of
-//! fabrics that were read. All cases stand in files beside the program.
+//! fabrics that were read. All cases stand in files beside the program that runs them.
 #![tactic(auto)]
 
 mod asked;
@@ -16,8 +16,9 @@ mod wires;
 mod words;
 
 use cases::{Subject, print_cases};
-use fab_desk::{FileDesk, OutSink};
+use fab_desk::{Desk, Sink};
 use fab_examples::Stop;
+use std::alloc::Global;
 
 /// The files of cases, and what each is read as.
 const FILES: [(&str, Subject); 14] = [
@@ -37,12 +38,16 @@ const FILES: [(&str, Subject); 14] = [
     ("streams.cases", Subject::Asked),
 ];
 
-fn main(rt: HostRuntime) -> Result<(), Stop> {
-    let alloc = rt.alloc();
-    let mut desk = FileDesk::new(&rt);
-    let mut out = OutSink::new(&rt);
+/// Puts what is made of each case of fabrics from their files to their bitstreams, in the order of their files.
+///
+/// `Stop` comes where a file of the cases is not there or not as it should be, and where nothing can be put.
+pub fn put_fabric_examples<D: Desk, S: Sink>(
+    alloc: Global,
+    desk: &mut D,
+    out: &mut S,
+) -> Result<(), Stop> {
     for (file, subject) in &FILES {
-        print_cases(alloc, &mut desk, &mut out, file, *subject)?;
+        print_cases(alloc, desk, out, file, *subject)?;
     }
     Ok(())
 }
