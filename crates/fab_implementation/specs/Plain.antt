@@ -1,8 +1,10 @@
 -- Implementations without where they lie in memory.
-use Rattle.std.specs.Prelude.{ℕ, List, map}
+use Rattle.std.specs.Prelude.{ℕ, List, [], map, Option, get_or}
+use Rattle.std.specs.Option.{option_map}
 use Rattle.fab_fabric.specs.declared.wire.Site.{Site}
 use Rattle.fab_fabric.specs.declared.wire.Wire.{Wire}
 use Rattle.fab_netlist.specs.declared.net_id.NetId.{NetId}
+use Rattle.fab_netlist.specs.Packed.{PlainPacked}
 
 -- a wire and one that it drives
 abbrev pub Edge : Type 0
@@ -26,3 +28,9 @@ pub record PlainImplementation : Type 0 where
   pub ins : List Pad
   pub outs : List Pad
   pub trees : List PlainTree
+  -- the name of the reset port
+  pub reset : Option (List ℕ)
+
+-- the name of the reset port of a packed design
+abbrev pub reset_name : PlainPacked → Option (List ℕ)
+reset_name packed = option_map (λ place. get_or packed.inputs place []) packed.reset

@@ -31,6 +31,8 @@ pub struct Implementation {
     /// The IO sites of output ports.
     pub outs: Vec<(Name, Site)>,
     pub trees: Vec<Tree>,
+    /// The input port that resets the latches of the design, if it has such a port.
+    pub reset: Option<Name>,
 }
 
 impl Model for Implementation {
@@ -38,7 +40,7 @@ impl Model for Implementation {
 
     ghost Value = { PlainImplementation };
 
-    ghost view = { λ it. record { cells = it.cells.items; ins = it.ins.items; outs = it.outs.items; trees = it.trees.items } };
+    ghost view = { λ it. record { cells = it.cells.items; ins = it.ins.items; outs = it.outs.items; trees = it.trees.items; reset = it.reset } };
 }
 
 /// The IO sites on which constrained ports have to stand.

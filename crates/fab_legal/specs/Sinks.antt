@@ -20,13 +20,18 @@ use Rattle.fab_legal.specs.Nets.{Net, zero_net, one_net, net_among}
 abbrev pub packed_net : PlainPacked → NetId → Net
 packed_net packed net = net_among packed.inputs net
 
+-- the net that resets latches: that of the reset port, and that of zeros without one
+abbrev pub reset_id : Option ℕ → NetId
+reset_id None = ids.Zero
+reset_id (Some place) = ids.In place
+
 pub data Required (fabric : PlainFabric) (packed : PlainPacked) (implementation : PlainImplementation) : Net → Wire → Type 0 where
   cell_input : {number pin : ℕ} {site : Site} {cell : PlainCell} {net : NetId} → Contains implementation.cells (number, site) → IsAt packed.cells number cell
       → IsAt cell.inputs pin net → Required fabric packed implementation (packed_net packed net) (pin_wire fabric site pin)
   latch_enable : {number init : ℕ} {site : Site} {cell : PlainCell} → Contains implementation.cells (number, site) → IsAt packed.cells number cell
       → cell.latch ≡ Some init → Required fabric packed implementation one_net (pin_wire fabric site lut_en)
   latch_reset : {number init : ℕ} {site : Site} {cell : PlainCell} → Contains implementation.cells (number, site) → IsAt packed.cells number cell
-      → cell.latch ≡ Some init → Required fabric packed implementation zero_net (pin_wire fabric site lut_sr)
+      → cell.latch ≡ Some init → Required fabric packed implementation (packed_net packed (reset_id packed.reset)) (pin_wire fabric site lut_sr)
   input_released : {port : List ℕ} {site : Site} → Contains implementation.ins (port, site) → Required fabric packed implementation zero_net (pin_wire fabric site pad_t)
   output_shown : {port : List ℕ} {site : Site} {net : NetId} → Contains implementation.outs (port, site) → Contains packed.outputs (port, net)
       → Required fabric packed implementation (packed_net packed net) (pin_wire fabric site pad_i)
@@ -47,17 +52,17 @@ abbrev pub input_sinks : PlainFabric → Site → (pin : ℕ) → List NetId →
 input_sinks fabric site pin [] = []
 input_sinks fabric site pin (net ∷ nets) = (net, pin_wire fabric site pin) ∷ input_sinks fabric site (pin + 1) nets
 
-abbrev pub latch_sinks : PlainFabric → Site → Option ℕ → Sinks
-latch_sinks fabric site None = []
-latch_sinks fabric site (Some init) = (ids.One, pin_wire fabric site lut_en) ∷ (ids.Zero, pin_wire fabric site lut_sr) ∷ []
+abbrev pub latch_sinks : PlainFabric → Site → (reset : NetId) → Option ℕ → Sinks
+latch_sinks fabric site reset None = []
+latch_sinks fabric site reset (Some init) = (ids.One, pin_wire fabric site lut_en) ∷ (reset, pin_wire fabric site lut_sr) ∷ []
 
-abbrev pub cell_sinks : PlainFabric → Site → PlainCell → Sinks
-cell_sinks fabric site cell = input_sinks fabric site lut_i0 cell.inputs ++ latch_sinks fabric site cell.latch
+abbrev pub cell_sinks : PlainFabric → Site → (reset : NetId) → PlainCell → Sinks
+cell_sinks fabric site reset cell = input_sinks fabric site lut_i0 cell.inputs ++ latch_sinks fabric site reset cell.latch
 
 -- cells from this number on, each at its site
-abbrev pub cells_sinks : PlainFabric → (site_at : ℕ → Site) → (number : ℕ) → List PlainCell → Sinks
-cells_sinks fabric site_at number [] = []
-cells_sinks fabric site_at number (cell ∷ cells) = cell_sinks fabric (site_at number) cell ++ cells_sinks fabric site_at (number + 1) cells
+abbrev pub cells_sinks : PlainFabric → (site_at : ℕ → Site) → (reset : NetId) → (number : ℕ) → List PlainCell → Sinks
+cells_sinks fabric site_at reset number [] = []
+cells_sinks fabric site_at reset number (cell ∷ cells) = cell_sinks fabric (site_at number) reset cell ++ cells_sinks fabric site_at reset (number + 1) cells
 
 abbrev pub input_port_sinks : PlainFabric → (site_at : List ℕ → Site) → List ℕ → Sinks
 input_port_sinks fabric site_at port = (ids.Zero, pin_wire fabric (site_at port) pad_t) ∷ []
@@ -68,7 +73,7 @@ output_port_sinks fabric site_at output = (output.1, pin_wire fabric (site_at ou
 -- for each cell its input pins, and with a latch EN and SR; for each input port T of its pad; for each output port I and T
 abbrev pub sinks : PlainFabric → PlainPacked → PlainImplementation → Sinks
 sinks fabric packed implementation =
-    cells_sinks fabric (site_of nat_eq implementation.cells) 0 packed.cells
+    cells_sinks fabric (site_of nat_eq implementation.cells) (reset_id packed.reset) 0 packed.cells
     ++ (flat_map (input_port_sinks fabric (site_of bytes_eq implementation.ins)) packed.inputs
     ++ flat_map (output_port_sinks fabric (site_of bytes_eq implementation.outs)) packed.outputs)
 

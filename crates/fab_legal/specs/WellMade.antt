@@ -35,6 +35,7 @@ pub record IsWellMadePacked (packed : PlainPacked) : Type 0 where
   pub few_ports : length packed.inputs + length packed.outputs ≤ most_nets
   pub cells : All (IsWellMadeCell packed) packed.cells
   pub nets : All (λ output. IsNetId packed output.1) packed.outputs
+  pub reset_below : (place : ℕ) → packed.reset ≡ Some place → place < length packed.inputs
   pub ports_differ : AllPairs (λ first second. first ≢ second) (ports packed)
 
 -- what packing gives of a netlist is well made

@@ -1,5 +1,6 @@
 -- Where a site of a fabric stands in the text: the instance of its tile, and in that the instance of its BEL.
 use Rattle.std.specs.Prelude.{ℕ, List, []}
+use Rattle.fab_meaning.specs.Ports.{config_name}
 use Rattle.fab_meaning.specs.Points.{Path, Point, point}
 use Rattle.fab_model.specs.Tiles.{PlainTile}
 use Rattle.fab_model.specs.Wires.{pin_of}
@@ -16,6 +17,10 @@ site_path site = place_path site.x site.y
 -- a point of one bit in its BEL, as a port, a wire or a register there
 abbrev pub bel_point : Site → (name : List ℕ) → Point
 bel_point site name = point (bel_path (site_path site) site.bel) name 0
+
+-- the configuration bit that a reset loads
+abbrev pub reset_bit : Site → Point
+reset_bit site = point (bel_path (site_path site) site.bel) config_name 18
 
 -- a port of a pad as a port of the tile
 abbrev pub port_point : Site → (port : List ℕ) → Point

@@ -8,7 +8,7 @@ use Rattle.fab_implementation.specs.fab_netlist.specs.declared.net_id.NetId.{Net
 use Rattle.fab_implementation.specs.fab_netlist.specs.declared.net_id.NetId.TheVariants as ids
 use Rattle.fab_implementation.specs.OnFabric.{kind_at}
 use Rattle.fab_legal.specs.Steps.{pin_wire}
-use Rattle.fab_legal.specs.Sinks.{Sinks, cells_sinks}
+use Rattle.fab_legal.specs.Sinks.{Sinks, reset_id, cells_sinks}
 use Rattle.fab_bits.specs.Keys.{key_names}
 use Rattle.fab_implementation.specs.fab_fabric.specs.declared.wire.Site.{Site}
 use Rattle.fab_implementation.specs.fab_netlist.specs.WellMade.{most_nets}
@@ -81,7 +81,7 @@ outs_sinks fabric site_of_number number (output ∷ outputs) = out_sinks fabric 
 
 abbrev pub sinks_by : PlainFabric → PlainPacked → Placed → Sinks
 sinks_by fabric packed placed =
-    cells_sinks fabric (site_at placed.cells.items) 0 packed.cells
+    cells_sinks fabric (site_at placed.cells.items) (reset_id packed.reset) 0 packed.cells
     ++ (flat_map (in_sinks fabric) placed.ins.sites.items ++ outs_sinks fabric (site_at placed.outs.sites.items) 0 packed.outputs)
 
 -- the sites are of the kinds that cells and ports need, and as many
