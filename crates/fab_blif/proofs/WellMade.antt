@@ -338,9 +338,13 @@ module _ (models : List PlainModel) (given : AreModels models) where
     initials = λ (made : Latch) here. of_member (λ (one : Latch). one.init ≤ 3) design.latches made (fine_latches nets text (fine_text models given)) here;
     driven_once = each_once once;
     read_driven = λ (net : ℕ) here. (let fine = of_member IsFineReader (read netlist) net (fine_readers driven_all unread) here in driven_net net (not_false (is_driven design net) fine.0) fine.1);
+    reset_below = λ place is. absurd (some_none place is);
     ports_differ = ports_apart;
   }
     where
+      some_none : (place : ℕ) → None ≡ Some place → ⊥
+      some_none place is = cc
+
       not_false : (b : Bool) → not b ≡ false → b ≡ true
       not_false true is = refl
       not_false false is = absurd (false≢true (sym is))

@@ -109,7 +109,7 @@ is_number (Some other) number = nat_eq other number
 abbrev pub data_inputs : (clock : Option ℕ) → List Use → List ℕ
 data_inputs clock ports = filter (λ net. not (is_number clock net)) (map (λ port. port.net) ports)
 
--- The netlist of a design.
+-- The netlist of a design. A text names no reset port.
 abbrev pub netlist_of : PlainDesign → PlainNetlist
 netlist_of design = record {
   nets = map (λ net. net.name) design.nets;
@@ -117,6 +117,7 @@ netlist_of design = record {
   outputs = map (λ port. port.net) design.outputs;
   covers = design.covers;
   latches = design.latches;
+  reset = None;
 }
 
 -- the netlist of models

@@ -12,16 +12,16 @@ use Rattle.std.proofs.lemmas.Slice.Eq.{bytes_eq-Decides}
 use Rattle.fab_base.specs.declared.problem.Problem.{Problem}
 use Rattle.fab_base.specs.declared.words.Reason.{Reason}
 use Rattle.fab_model.specs.Tiles.{PlainTile}
-use Rattle.fab_blocks.specs.declared.mode.Mode.{Mode}
-use Rattle.fab_blocks.specs.declared.mode.Mode.TheVariants as modes
-use Rattle.fab_blocks.specs.declared.mode.Place.TheVariants as places
-use Rattle.fab_blocks.specs.declared.mode.Said.{Said}
-use Rattle.fab_blocks.specs.declared.mode.Said.TheVariants as said
+use Rattle.fab_blocks.specs.declared.standing.OpenBlock.{OpenBlock}
+use Rattle.fab_blocks.specs.declared.standing.OpenBlock.TheVariants as blocks
+use Rattle.fab_blocks.specs.declared.standing.Place.TheVariants as places
+use Rattle.fab_blocks.specs.declared.standing.Said.{Said}
+use Rattle.fab_blocks.specs.declared.standing.Said.TheVariants as said
 use Rattle.fab_blocks.specs.Blocks.{PlainBlock, new_block}
 use Rattle.fab_blocks.specs.Inner.{IsPlain}
 use Rattle.fab_blocks.specs.Cells.{problem_of, is_tile_name, cell_at}
 use Rattle.fab_lines.specs.Items.{is_among}
-use Rattle.fab_blocks.specs.Reading.{PlainReading, PlainHolder, PlainGridLine, HasRoom, IsGrid, IsReading, tile_names, open_name, place_in, HasLines, HasRoomFor, with_mode}
+use Rattle.fab_blocks.specs.Reading.{PlainReading, PlainHolder, PlainGridLine, HasRoom, IsGrid, IsReading, tile_names, open_name, place_in, HasLines, HasRoomFor, with_open_block}
 use Rattle.fab_blocks.specs.Saying.{line_reason, line_limit, line_problem, fits_grid, is_grid_cell, begin_reason, begin_limit, begin_problem, stands, is_place, HasRoomIfEnded}
 
 -- ---- tests that are passed
@@ -136,24 +136,24 @@ begin_room reading name h =
 pub begin_has_room : (reading : PlainReading) (holder : PlainHolder) (cells : List (List ℕ)) → begin_problem reading holder cells ≡ None → HasRoom reading.types (cell_at cells 1) []
 begin_has_room reading holder cells fine =
     let parts = no_problem (begin_reason reading holder cells) (begin_limit reading (cell_at cells 1)) fine in
-    let fresh = among_names (cell_at cells 1) reading.types (open_name reading.mode) ∙ (begin_facts reading holder cells parts.0).0 in
+    let fresh = among_names (cell_at cells 1) reading.types (open_name reading.begun) ∙ (begin_facts reading holder cells parts.0).0 in
     record {
       fresh = none_called (cell_at cells 1) reading.types (first_of_either _ _ fresh);
       room = begin_room reading (cell_at cells 1) parts.1;
       few_bels = omega arith;
     }
 
-outside_of : (mode : Mode) (reading : PlainReading) (holder : PlainHolder) → mode ≡ reading.mode → stands reading holder places.Outside ≡ true → mode ≡ modes.Outside
+outside_of : (begun : OpenBlock) (reading : PlainReading) (holder : PlainHolder) → begun ≡ reading.begun → stands reading holder places.Outside ≡ true → begun ≡ blocks.Outside
 unfolding stands is_place
-outside_of modes.Outside reading holder is h = refl
-outside_of modes.Grid reading holder is h = absurd (let e = ap (λ (m : Mode). is_place (place_in m reading.parameters holder.is_fabric) places.Outside) is ∙ h in cc)
-outside_of (modes.Tile block) reading holder is h = absurd (let e = ap (λ (m : Mode). is_place (place_in m reading.parameters holder.is_fabric) places.Outside) is ∙ h in cc)
+outside_of blocks.Outside reading holder is h = refl
+outside_of blocks.Grid reading holder is h = absurd (let e = ap (λ (m : OpenBlock). is_place (place_in m reading.parameters holder.is_fabric) places.Outside) is ∙ h in cc)
+outside_of (blocks.Tile block) reading holder is h = absurd (let e = ap (λ (m : OpenBlock). is_place (place_in m reading.parameters holder.is_fabric) places.Outside) is ∙ h in cc)
 
 -- and no other block is open
-pub begin_outside : (reading : PlainReading) (holder : PlainHolder) (cells : List (List ℕ)) → begin_problem reading holder cells ≡ None → reading.mode ≡ modes.Outside
+pub begin_outside : (reading : PlainReading) (holder : PlainHolder) (cells : List (List ℕ)) → begin_problem reading holder cells ≡ None → reading.begun ≡ blocks.Outside
 begin_outside reading holder cells fine =
     let parts = no_problem (begin_reason reading holder cells) (begin_limit reading (cell_at cells 1)) fine in
-    outside_of reading.mode reading holder refl (begin_facts reading holder cells parts.0).1
+    outside_of reading.begun reading holder refl (begin_facts reading holder cells parts.0).1
 
 -- one tile more
 pub names_more : (types : List PlainTile) (tile : PlainTile) → AllPairs (λ (first second : PlainTile). first.name ≢ second.name) types → All (λ (t : PlainTile). t.name ≢ tile.name) types
@@ -165,49 +165,49 @@ names_more types tile apart fresh = all_pairs_push (λ (first second : PlainTile
 for_some : {X : Type 0} (P : X → Type 0) (x : X) → P x → ForSome (Some x) P
 for_some P x p y is = subst P (some_same x y is) p
 
-has_lines : (mode : Mode) (lines : List PlainGridLine) → 1 ≤ length lines → HasLines mode lines
-has_lines modes.Grid lines some = tt
-has_lines modes.Outside lines some = some
-has_lines (modes.Tile block) lines some = some
+has_lines : (begun : OpenBlock) (lines : List PlainGridLine) → 1 ≤ length lines → HasLines begun lines
+has_lines blocks.Grid lines some = tt
+has_lines blocks.Outside lines some = some
+has_lines (blocks.Tile block) lines some = some
 
 -- with other lines in the grid
 pub sound_lines : (reading : PlainReading) (lines : List PlainGridLine) → IsReading reading → IsGrid lines → 1 ≤ length lines
-    → IsReading (record { types = reading.types; grid = Some lines; parameters = reading.parameters; mode = reading.mode })
+    → IsReading (record { types = reading.types; grid = Some lines; parameters = reading.parameters; begun = reading.begun })
 sound_lines reading lines sound grid some = record {
   names = sound.names;
   few_types = sound.few_types;
   few_bels = sound.few_bels;
   room = sound.room;
   grid = for_some IsGrid lines grid;
-  lines = for_some (HasLines reading.mode) lines (has_lines reading.mode lines some);
+  lines = for_some (HasLines reading.begun) lines (has_lines reading.begun lines some);
 }
 
 -- with the block of a tile that is open
-pub sound_open : (reading : PlainReading) (block : PlainBlock) → IsReading reading → reading.mode ≡ modes.Outside → HasRoom reading.types block.name block.bels → IsReading (with_mode reading (modes.Tile block))
+pub sound_open : (reading : PlainReading) (block : PlainBlock) → IsReading reading → reading.begun ≡ blocks.Outside → HasRoom reading.types block.name block.bels → IsReading (with_open_block reading (blocks.Tile block))
 sound_open reading block sound outside room = record {
   names = sound.names;
   few_types = sound.few_types;
   few_bels = sound.few_bels;
   room = room;
   grid = sound.grid;
-  lines = subst (λ (mode : Mode). ForSome reading.grid (HasLines mode)) outside sound.lines;
+  lines = subst (λ (begun : OpenBlock). ForSome reading.grid (HasLines begun)) outside sound.lines;
 }
 
 -- when the block of a tile has ended
-pub sound_closed : (reading : PlainReading) (block : PlainBlock) (mode : Mode) → IsReading reading → reading.mode ≡ modes.Tile block → mode ≡ modes.Outside → IsReading (with_mode reading mode)
-sound_closed reading block mode sound was outside = record {
+pub sound_closed : (reading : PlainReading) (block : PlainBlock) (begun : OpenBlock) → IsReading reading → reading.begun ≡ blocks.Tile block → begun ≡ blocks.Outside → IsReading (with_open_block reading begun)
+sound_closed reading block begun sound was outside = record {
   names = sound.names;
   few_types = sound.few_types;
   few_bels = sound.few_bels;
   room = subst (HasRoomFor reading.types) (sym outside) tt;
   grid = sound.grid;
-  lines = λ lines is. subst (λ (m : Mode). HasLines m lines) (sym outside) (subst (λ (m : Mode). HasLines m lines) was (sound.lines lines is));
+  lines = λ lines is. subst (λ (m : OpenBlock). HasLines m lines) (sym outside) (subst (λ (m : OpenBlock). HasLines m lines) was (sound.lines lines is));
 }
 
 -- with one tile more
-pub sound_type : (reading : PlainReading) (types : List PlainTile) (tile : PlainTile) → IsReading reading → reading.mode ≡ modes.Outside → HasRoom reading.types tile.name tile.bels → types ≡ reading.types ++ tile ∷ []
-    → IsReading (record { types = types; grid = reading.grid; parameters = reading.parameters; mode = reading.mode })
-sound_type reading types tile sound outside room is = subst (λ (now : List PlainTile). IsReading (record { types = now; grid = reading.grid; parameters = reading.parameters; mode = reading.mode })) (sym is) (record {
+pub sound_type : (reading : PlainReading) (types : List PlainTile) (tile : PlainTile) → IsReading reading → reading.begun ≡ blocks.Outside → HasRoom reading.types tile.name tile.bels → types ≡ reading.types ++ tile ∷ []
+    → IsReading (record { types = types; grid = reading.grid; parameters = reading.parameters; begun = reading.begun })
+sound_type reading types tile sound outside room is = subst (λ (now : List PlainTile). IsReading (record { types = now; grid = reading.grid; parameters = reading.parameters; begun = reading.begun })) (sym is) (record {
   names = names_more reading.types tile sound.names room.fresh;
   few_types = omega (arith, room.room, length-append reading.types (tile ∷ []));
   few_bels = All-push (λ (t : PlainTile). length t.bels ≤ 26) reading.types tile sound.few_bels room.few_bels;

@@ -11,8 +11,8 @@ use Rattle.fab_paths.specs.Paths.{stem, is_path, resolved}
 use Rattle.fab_model.specs.declared.tiles.Dir.{Dir}
 use Rattle.fab_blocks.specs.declared.words.Word.{Word}
 use Rattle.fab_blocks.specs.declared.words.Word.TheVariants as rows
-use Rattle.fab_blocks.specs.declared.mode.Said.{Said}
-use Rattle.fab_blocks.specs.declared.mode.Said.TheVariants as said
+use Rattle.fab_blocks.specs.declared.standing.Said.{Said}
+use Rattle.fab_blocks.specs.declared.standing.Said.TheVariants as said
 use Rattle.fab_blocks.specs.Cells.{first_problem, cell_at}
 use Rattle.fab_blocks.specs.Blocks.{PlainBlock, with_row, with_matrix}
 use Rattle.fab_blocks.specs.Rows.{WireCells, row_of, wire_problem, kind_of, bel_problem, matrix_problem, with_bel_of}

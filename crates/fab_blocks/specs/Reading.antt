@@ -3,12 +3,12 @@ use Rattle.std.specs.Prelude.{◌≡◌, ◌≢◌, ◌≤◌, ◌<◌, ℕ, Boo
 use Rattle.std.specs.Option.{ForSome}
 use Rattle.fab_model.specs.declared.tiles.Bel.{Bel}
 use Rattle.fab_model.specs.Tiles.{PlainTile}
-use Rattle.fab_blocks.specs.declared.mode.Mode.{Mode}
-use Rattle.fab_blocks.specs.declared.mode.Mode.TheVariants as modes
-use Rattle.fab_blocks.specs.declared.mode.Parameters.{Parameters}
-use Rattle.fab_blocks.specs.declared.mode.Parameters.TheVariants as parts
-use Rattle.fab_blocks.specs.declared.mode.Place.{Place}
-use Rattle.fab_blocks.specs.declared.mode.Place.TheVariants as places
+use Rattle.fab_blocks.specs.declared.standing.OpenBlock.{OpenBlock}
+use Rattle.fab_blocks.specs.declared.standing.OpenBlock.TheVariants as blocks
+use Rattle.fab_blocks.specs.declared.standing.Parameters.{Parameters}
+use Rattle.fab_blocks.specs.declared.standing.Parameters.TheVariants as parts
+use Rattle.fab_blocks.specs.declared.standing.Place.{Place}
+use Rattle.fab_blocks.specs.declared.standing.Place.TheVariants as places
 
 -- a line of the grid: where it stands, and its cells
 pub record PlainGridLine : Type 0 where
@@ -23,10 +23,10 @@ pub record PlainReading : Type 0 where
   pub grid : Option (List PlainGridLine)
   pub parameters : Parameters
   -- the grid or the tile block that is open
-  pub mode : Mode
+  pub begun : OpenBlock
 
 abbrev pub start : PlainReading
-start = record { types = []; grid = None; parameters = parts.Absent; mode = modes.Outside }
+start = record { types = []; grid = None; parameters = parts.Absent; begun = blocks.Outside }
 
 -- Where a row stands: its file, whether that is a fabric file or is included in one (else it holds tiles alone), whether the block that is open, if one is, was begun in this
 -- file, and how many INCLUDE rows may still be opened.
@@ -43,14 +43,14 @@ is_open_block parts.Open = true
 is_open_block _ = false
 
 -- A file of tiles may be named inside the parameter block, and stands outside of it.
-abbrev pub place_in : Mode → Parameters → (is_fabric : Bool) → Place
-place_in modes.Grid parameters is_fabric = places.Grid
-place_in (modes.Tile block) parameters is_fabric = places.Tile
-place_in modes.Outside parts.Open true = places.Parameters
-place_in modes.Outside _ _ = places.Outside
+abbrev pub place_in : OpenBlock → Parameters → (is_fabric : Bool) → Place
+place_in blocks.Grid parameters is_fabric = places.Grid
+place_in (blocks.Tile block) parameters is_fabric = places.Tile
+place_in blocks.Outside parts.Open true = places.Parameters
+place_in blocks.Outside _ _ = places.Outside
 
 abbrev pub place_of : PlainReading → (is_fabric : Bool) → Place
-place_of reading is_fabric = place_in reading.mode reading.parameters is_fabric
+place_of reading is_fabric = place_in reading.begun reading.parameters is_fabric
 
 abbrev pub is_inside : Place → Bool
 is_inside places.Outside = false
@@ -58,27 +58,27 @@ is_inside _ = true
 
 -- ---- names of tiles
 
-abbrev pub open_name : Mode → List (List ℕ)
-open_name (modes.Tile block) = block.name ∷ []
+abbrev pub open_name : OpenBlock → List (List ℕ)
+open_name (blocks.Tile block) = block.name ∷ []
 open_name _ = []
 
 -- the names of all tiles so far, also of one whose block is open
 abbrev pub tile_names : PlainReading → List (List ℕ)
-tile_names reading = map (λ tile. tile.name) reading.types ++ open_name reading.mode
+tile_names reading = map (λ tile. tile.name) reading.types ++ open_name reading.begun
 
 -- ---- one row more
 
-abbrev pub with_mode : PlainReading → Mode → PlainReading
-with_mode reading mode = record { types = reading.types; grid = reading.grid; parameters = reading.parameters; mode = mode }
+abbrev pub with_open_block : PlainReading → OpenBlock → PlainReading
+with_open_block reading begun = record { types = reading.types; grid = reading.grid; parameters = reading.parameters; begun = begun }
 
-abbrev pub with_grid : PlainReading → List PlainGridLine → Mode → PlainReading
-with_grid reading lines mode = record { types = reading.types; grid = Some lines; parameters = reading.parameters; mode = mode }
+abbrev pub with_grid : PlainReading → List PlainGridLine → OpenBlock → PlainReading
+with_grid reading lines begun = record { types = reading.types; grid = Some lines; parameters = reading.parameters; begun = begun }
 
 abbrev pub with_parameters : PlainReading → Parameters → PlainReading
-with_parameters reading parameters = record { types = reading.types; grid = reading.grid; parameters = parameters; mode = reading.mode }
+with_parameters reading parameters = record { types = reading.types; grid = reading.grid; parameters = parameters; begun = reading.begun }
 
 abbrev pub with_type : PlainReading → PlainTile → PlainReading
-with_type reading tile = record { types = reading.types ++ tile ∷ []; grid = reading.grid; parameters = reading.parameters; mode = reading.mode }
+with_type reading tile = record { types = reading.types ++ tile ∷ []; grid = reading.grid; parameters = reading.parameters; begun = reading.begun }
 
 -- ---- what holds of every reading
 
@@ -88,8 +88,8 @@ pub record HasRoom (types : List PlainTile) (name : List ℕ) (bels : List Bel) 
   pub room : length types < 64
   pub few_bels : length bels ≤ 26
 
-abbrev pub HasRoomFor : List PlainTile → Mode → Type 0
-HasRoomFor types (modes.Tile block) = HasRoom types block.name block.bels
+abbrev pub HasRoomFor : List PlainTile → OpenBlock → Type 0
+HasRoomFor types (blocks.Tile block) = HasRoom types block.name block.bels
 HasRoomFor types _ = Unit {0}
 
 -- the lines of the grid are alike
@@ -100,14 +100,14 @@ pub record IsGrid (lines : List PlainGridLine) : Type 0 where
   pub alike : AllPairs (λ first second. length first.cells ≡ length second.cells) lines
 
 -- only a grid whose block is open may have no line
-abbrev pub HasLines : Mode → List PlainGridLine → Type 0
-HasLines modes.Grid lines = Unit {0}
+abbrev pub HasLines : OpenBlock → List PlainGridLine → Type 0
+HasLines blocks.Grid lines = Unit {0}
 HasLines _ lines = 1 ≤ length lines
 
 pub record IsReading (reading : PlainReading) : Type 0 where
   pub names : AllPairs (λ first second. first.name ≢ second.name) reading.types
   pub few_types : length reading.types ≤ 64
   pub few_bels : All (λ tile. length tile.bels ≤ 26) reading.types
-  pub room : HasRoomFor reading.types reading.mode
+  pub room : HasRoomFor reading.types reading.begun
   pub grid : ForSome reading.grid IsGrid
-  pub lines : ForSome reading.grid (HasLines reading.mode)
+  pub lines : ForSome reading.grid (HasLines reading.begun)

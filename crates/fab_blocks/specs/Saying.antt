@@ -10,20 +10,20 @@ use Rattle.fab_lines.specs.Order.{judged}
 use Rattle.fab_rows.specs.Rows.{PlainRow}
 use Rattle.fab_blocks.specs.declared.words.Word.{Word}
 use Rattle.fab_blocks.specs.declared.words.Word.TheVariants as rows
-use Rattle.fab_blocks.specs.declared.mode.Mode.{Mode}
-use Rattle.fab_blocks.specs.declared.mode.Mode.TheVariants as modes
-use Rattle.fab_blocks.specs.declared.mode.Parameters.{Parameters}
-use Rattle.fab_blocks.specs.declared.mode.Parameters.TheVariants as parts
-use Rattle.fab_blocks.specs.declared.mode.Place.{Place}
-use Rattle.fab_blocks.specs.declared.mode.Place.TheVariants as places
-use Rattle.fab_blocks.specs.declared.mode.Said.{Said}
-use Rattle.fab_blocks.specs.declared.mode.Said.TheVariants as said
+use Rattle.fab_blocks.specs.declared.standing.OpenBlock.{OpenBlock}
+use Rattle.fab_blocks.specs.declared.standing.OpenBlock.TheVariants as blocks
+use Rattle.fab_blocks.specs.declared.standing.Parameters.{Parameters}
+use Rattle.fab_blocks.specs.declared.standing.Parameters.TheVariants as parts
+use Rattle.fab_blocks.specs.declared.standing.Place.{Place}
+use Rattle.fab_blocks.specs.declared.standing.Place.TheVariants as places
+use Rattle.fab_blocks.specs.declared.standing.Said.{Said}
+use Rattle.fab_blocks.specs.declared.standing.Said.TheVariants as said
 use Rattle.fab_blocks.specs.Cells.{is_null, is_tile_name, long_of, long_problem, problem_of, cell_at}
 use Rattle.fab_lines.specs.Items.{is_among}
 use Rattle.fab_blocks.specs.Words.{word_of}
 use Rattle.fab_blocks.specs.Blocks.{PlainBlock, new_block}
 use Rattle.fab_blocks.specs.Inner.{malformed, outer_row, inner_parameter, block_row}
-use Rattle.fab_blocks.specs.Reading.{PlainReading, HasRoom, PlainGridLine, PlainHolder, place_of, tile_names, with_mode, with_grid, with_parameters}
+use Rattle.fab_blocks.specs.Reading.{PlainReading, HasRoom, PlainGridLine, PlainHolder, place_of, tile_names, with_open_block, with_grid, with_parameters}
 
 -- what a row says, and what was read then
 abbrev pub Step : Type 0
@@ -50,7 +50,7 @@ unfoldable pub begin_grid : PlainReading → PlainHolder → (cells : List (List
 begin_grid reading holder cells =
     if not (length cells == 1) then malformed reasons.Row
     else if not (may_begin reading holder (is_some reading.grid)) then malformed reasons.Block
-    else Ok (with_grid reading [] modes.Grid, said.Taken)
+    else Ok (with_grid reading [] blocks.Grid, said.Taken)
 
 abbrev pub lines_of : PlainReading → List PlainGridLine
 lines_of reading = unwrap_or reading.grid []
@@ -61,7 +61,7 @@ end_grid reading holder cells =
     if not (length cells == 1) then malformed reasons.Row
     else if not (stands reading holder places.Grid && holder.is_own) then malformed reasons.Block
     else if length (lines_of reading) == 0 then malformed reasons.Grid
-    else Ok (with_mode reading modes.Outside, said.Taken)
+    else Ok (with_open_block reading blocks.Outside, said.Taken)
 
 -- a cell names a tile, or the place is empty
 unfoldable pub is_grid_cell : List ℕ → Bool
@@ -89,7 +89,7 @@ abbrev pub line_problem : List PlainGridLine → (cells : List (List ℕ)) → O
 line_problem lines cells = problem_of (line_reason lines cells) (line_limit lines cells)
 
 abbrev pub with_line : PlainReading → PlainHolder → PlainRow → PlainReading
-with_line reading holder row = with_grid reading (lines_of reading ++ record { file = holder.file; line = row.line; cells = row.cells } ∷ []) reading.mode
+with_line reading holder row = with_grid reading (lines_of reading ++ record { file = holder.file; line = row.line; cells = row.cells } ∷ []) reading.begun
 
 unfoldable pub grid_line : PlainReading → PlainHolder → PlainRow → Result Step Problem
 grid_line reading holder row = judged (line_problem (lines_of reading) row.cells) (with_line reading holder row, said.Taken)
@@ -135,16 +135,16 @@ begin_problem reading holder cells = problem_of (begin_reason reading holder cel
 unfoldable pub begin_tile : PlainReading → PlainHolder → (cells : List (List ℕ)) → Result Step Problem
 begin_tile reading holder cells =
     judged (begin_problem reading holder cells)
-    (with_mode reading (modes.Tile (new_block (cell_at cells 1))), said.Taken)
+    (with_open_block reading (blocks.Tile (new_block (cell_at cells 1))), said.Taken)
 
 -- the block that is open is handed out, in the file in which it began
-abbrev pub handed_out : PlainReading → Mode → (is_own : Bool) → Result Step Problem
-handed_out reading (modes.Tile block) true = Ok (with_mode reading modes.Outside, said.EndsTile block)
+abbrev pub handed_out : PlainReading → OpenBlock → (is_own : Bool) → Result Step Problem
+handed_out reading (blocks.Tile block) true = Ok (with_open_block reading blocks.Outside, said.EndsTile block)
 handed_out reading _ _ = malformed reasons.Block
 
 unfoldable pub end_tile : PlainReading → PlainHolder → (cells : List (List ℕ)) → Result Step Problem
 end_tile reading holder cells =
-    if not (length cells == 1) then malformed reasons.Row else handed_out reading reading.mode holder.is_own
+    if not (length cells == 1) then malformed reasons.Row else handed_out reading reading.begun holder.is_own
 
 -- ---- other rows, by where they stand
 
@@ -153,13 +153,13 @@ with_said reading (Ok says) = Ok (reading, says)
 with_said reading (Err problem) = Err problem
 
 abbrev pub with_block : PlainReading → Result (PlainBlock × Said) Problem → Result Step Problem
-with_block reading (Ok step) = Ok (with_mode reading (modes.Tile step.0), step.1)
+with_block reading (Ok step) = Ok (with_open_block reading (blocks.Tile step.0), step.1)
 with_block reading (Err problem) = Err problem
 
-unfoldable pub row_in : PlainReading → Mode → PlainHolder → Word → PlainRow → Result Step Problem
-row_in reading modes.Grid holder word row = grid_line reading holder row
-row_in reading (modes.Tile block) holder word row = with_block reading (block_row block holder word row.cells)
-row_in reading modes.Outside holder word row =
+unfoldable pub row_in : PlainReading → OpenBlock → PlainHolder → Word → PlainRow → Result Step Problem
+row_in reading blocks.Grid holder word row = grid_line reading holder row
+row_in reading (blocks.Tile block) holder word row = with_block reading (block_row block holder word row.cells)
+row_in reading blocks.Outside holder word row =
     with_said reading (if stands reading holder places.Parameters then inner_parameter holder word row.cells else outer_row holder word row.cells)
 
 -- the words that begin and end blocks keep their meaning everywhere
@@ -170,7 +170,7 @@ say reading holder rows.ParametersBegin row = begin_parameters reading holder ro
 say reading holder rows.ParametersEnd row = end_parameters reading holder row.cells
 say reading holder rows.TileBegin row = begin_tile reading holder row.cells
 say reading holder rows.TileEnd row = end_tile reading holder row.cells
-say reading holder word row = row_in reading reading.mode holder word row
+say reading holder word row = row_in reading reading.begun holder word row
 
 -- A row has cells.
 unfoldable pub said_of : PlainReading → PlainHolder → PlainRow → Result Step Problem
@@ -178,5 +178,5 @@ said_of reading holder row = if length row.cells == 0 then malformed reasons.Row
 
 -- where a block is handed out, no other is open, and its tile may come to those that were read
 abbrev pub HasRoomIfEnded : PlainReading → Said → Type 0
-HasRoomIfEnded reading (said.EndsTile block) = (reading.mode ≡ modes.Outside) × HasRoom reading.types block.name block.bels
+HasRoomIfEnded reading (said.EndsTile block) = (reading.begun ≡ blocks.Outside) × HasRoom reading.types block.name block.bels
 HasRoomIfEnded reading _ = Unit {0}

@@ -12,7 +12,7 @@ ghost use Rattle.fab_blocks.specs.Rows.{bel_problem, bel_problem_of, bel_reason,
 
 use crate::bel::{is_matrix_file, is_prefix, kind_of, may_lack_prefix, pins_of};
 use crate::cells::{is_path, long_of};
-use crate::mode::Said;
+use crate::standing::Said;
 use crate::wire::{Cells, Wire, has_numbers, has_sides, leads_on, wire_of};
 use fab_base::{Memory, Name, Problem, Quantity, Reason};
 use fab_kinds::Kind;

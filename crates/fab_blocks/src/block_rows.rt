@@ -8,7 +8,7 @@ use crate::block::Block;
 use crate::cells::cell_at;
 use crate::holder::Holder;
 use crate::inner::{foreign_row, include_row};
-use crate::mode::Said;
+use crate::standing::Said;
 use crate::wire::Cells;
 use crate::words::Word;
 use fab_base::{Name, Problem, Reason};

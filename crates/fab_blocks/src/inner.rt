@@ -6,7 +6,7 @@ ghost use Rattle.fab_blocks.specs.Inner.{IsPlain, depth_problem, file_named, for
 
 use crate::cells::{cell_at, is_path};
 use crate::holder::Holder;
-use crate::mode::Said;
+use crate::standing::Said;
 use crate::words::Word;
 use fab_base::{Memory, Name, Problem, Quantity, Reason};
 use fab_paths::resolve;

@@ -10,13 +10,13 @@ mod cells;
 mod grid;
 mod holder;
 mod inner;
-mod mode;
 mod reading;
+mod standing;
 mod wire;
 mod words;
 
 pub use block::Block;
 pub use grid::GridLine;
 pub use holder::Holder;
-pub use mode::Said;
 pub use reading::Reading;
+pub use standing::Said;

@@ -2,14 +2,14 @@
 
 ghost use Rattle.std.specs.Prelude.{◌≡◌, OnOk, IfOk, option_map};
 ghost use Rattle.fab_base.specs.Reading.{Answers};
-ghost use Rattle.fab_blocks.specs.declared.mode.Mode.TheVariants as modes;
+ghost use Rattle.fab_blocks.specs.declared.standing.OpenBlock.TheVariants as blocks;
 ghost use Rattle.fab_blocks.specs.Reading.{HasRoom, IsReading, is_inside, place_of, start, with_type};
 ghost use Rattle.fab_blocks.specs.Saying.{HasRoomIfEnded, said_of};
 
 use crate::cells::cell_at;
 use crate::grid::GridLine;
 use crate::holder::Holder;
-use crate::mode::{Mode, Parameters, Place, Said};
+use crate::standing::{OpenBlock, Parameters, Place, Said};
 use crate::words::word_of;
 use fab_base::{Memory, Problem, Reason};
 use fab_model::TileType;
@@ -25,7 +25,7 @@ pub struct Reading {
     types: Vec<TileType>,
     grid: Option<Vec<GridLine>>,
     parameters: Parameters,
-    mode: Mode,
+    begun: OpenBlock,
 }
 
 impl Model for Reading {
@@ -34,9 +34,9 @@ impl Model for Reading {
 
     ghost Value = { PlainReading };
 
-    ghost view = { λ r. record { types = r.types.items; grid = option_map (λ lines. lines.items) r.grid; parameters = r.parameters; mode = r.mode } };
+    ghost view = { λ r. record { types = r.types.items; grid = option_map (λ lines. lines.items) r.grid; parameters = r.parameters; begun = r.begun } };
 
-    ghost invariant = { λ r. IsReading (record { types = r.types.items; grid = option_map (λ lines. lines.items) r.grid; parameters = r.parameters; mode = r.mode }) };
+    ghost invariant = { λ r. IsReading (record { types = r.types.items; grid = option_map (λ lines. lines.items) r.grid; parameters = r.parameters; begun = r.begun }) };
 }
 
 impl Reading {
@@ -48,17 +48,17 @@ impl Reading {
             types: Vec::new(alloc),
             grid: None,
             parameters: Parameters::Absent,
-            mode: Mode::Outside,
+            begun: OpenBlock::Outside,
         }
     }
 
     pub(crate) fn place(&self, is_fabric: bool) -> Place
         ensures { result ≡ place_of self.now is_fabric }
     {
-        match &self.mode {
-            Mode::Grid => Place::Grid,
-            Mode::Tile(_) => Place::Tile,
-            Mode::Outside => {
+        match &self.begun {
+            OpenBlock::Grid => Place::Grid,
+            OpenBlock::Tile(_) => Place::Tile,
+            OpenBlock::Outside => {
                 if self.parameters == Parameters::Open && is_fabric {
                     Place::Parameters
                 } else {
@@ -90,7 +90,7 @@ impl Reading {
 
     /// Adds a tile whose block has ended. After an error the reading is of no more use.
     pub fn push_tile(&mut self, tile: TileType) -> Result<(), Memory>
-        requires outside { self.old.mode ≡ modes.Outside }
+        requires outside { self.old.begun ≡ blocks.Outside }
         requires room { HasRoom self.old.types tile.name tile.bels }
         ensures { OnOk result (self.new ≡ with_type self.old tile) }
     {

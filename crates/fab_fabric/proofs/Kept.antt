@@ -2,10 +2,11 @@
 use Rattle.std.proofs.Common.{◌≡◌, ℕ, zero, suc, ◌+◌, ◌/◌, ◌<◌, ◌≤◌, List, [], ◌∷◌, ◌++◌, All, Option, length, get_or, slice_get, refl, sym, ap, ◌∙◌, arith, subst, Some, inl, inr}
 use Rattle.std.proofs.lemmas.Bool.{cases_lt}
 use Rattle.std.proofs.lemmas.Option.{same_Some, slice_get_within, slice_get_read, slice_get-get_or}
+use Rattle.fab_model.specs.declared.mode.Mode.{Mode}
 use Rattle.fab_model.specs.Tiles.{PlainTile, IsTile}
 use Rattle.fab_model.specs.Grid.{PlainFabric}
 use Rattle.fab_fabric.specs.declared.index.TileIndex.{TileIndex}
-use Rattle.fab_fabric.specs.Fabric.{fabric_of, IsFabric, wire_count}
+use Rattle.fab_fabric.specs.Fabric.{fabric_of, in_mode, IsFabric, wire_count}
 use Rattle.fab_fabric.specs.inner.Index.{HasIndex, HaveIndexes, HasFirsts, IsIndexed}
 
 -- what is kept of the first types
@@ -47,18 +48,35 @@ have_all types indexes n all have number tile is = have number tile (omega (arit
 pub all_tiles : (types : List PlainTile) (indexes : List TileIndex) → HaveIndexes types indexes → All IsTile types
 all_tiles types indexes have k d few = (have k (get_or types k d) (slice_get-get_or types k d few)).2.is_tile
 
+-- what a fabric promises does not look at what keeps its configuration
+pub is_fabric_in : (mode : Mode) (fabric : PlainFabric) → IsFabric fabric → IsFabric (in_mode mode fabric)
+is_fabric_in mode fabric is = record {
+  some_columns = is.some_columns;
+  few_columns = is.few_columns;
+  some_rows = is.some_rows;
+  few_rows = is.few_rows;
+  places = is.places;
+  numbers = is.numbers;
+  few_types = is.few_types;
+  names = is.names;
+  few_bels = is.few_bels;
+  tables = is.tables;
+  few_wires = is.few_wires;
+}
+
 -- a new fabric keeps what belongs to it
-pub new_is_indexed : (types types2 : List PlainTile) (columns len : ℕ) (grid grid2 : List (Option ℕ)) (indexes : List TileIndex) (firsts : List ℕ) (wires : ℕ) →
+pub new_is_indexed : (types types2 : List PlainTile) (columns len : ℕ) (grid grid2 : List (Option ℕ)) (mode : Mode) (indexes : List TileIndex) (firsts : List ℕ) (wires : ℕ) →
     types2 ≡ types → grid2 ≡ grid → len ≡ length grid → IsFabric (fabric_of types columns grid) → HaveIndexes types2 indexes → All IsTile types2 →
     HasFirsts (fabric_of types2 columns grid2) firsts → wires ≡ wire_count (fabric_of types2 columns grid2) →
-    IsIndexed (record { types = types; columns = columns; rows = len / columns; grid = grid }) indexes firsts wires
-new_is_indexed types types2 columns len grid grid2 indexes firsts wires types_are grid_is len_is is kept tiles numbered counted =
-    let P : ℕ → Type 0 = λ len. IsIndexed (record { types = types; columns = columns; rows = len / columns; grid = grid }) indexes firsts wires in
+    IsIndexed (record { types = types; columns = columns; rows = len / columns; grid = grid; mode = mode }) indexes firsts wires
+new_is_indexed types types2 columns len grid grid2 mode indexes firsts wires types_are grid_is len_is is kept tiles numbered counted =
+    let P : ℕ → Type 0 = λ len. IsIndexed (record { types = types; columns = columns; rows = len / columns; grid = grid; mode = mode }) indexes firsts wires in
     let same : fabric_of types2 columns grid2 ≡ fabric_of types columns grid = λ j. fabric_of (types_are j) columns (grid_is j) in
+    let numbered_same : HasFirsts (fabric_of types columns grid) firsts = subst (λ (f : PlainFabric). HasFirsts f firsts) same numbered in
     subst P (sym len_is) (record {
-      is_fabric = is;
+      is_fabric = is_fabric_in mode (fabric_of types columns grid) is;
       are_tiles = subst (λ (ts : List PlainTile). All IsTile ts) types_are tiles;
       indexed = subst (λ (ts : List PlainTile). HaveIndexes ts indexes) types_are kept;
-      numbered = subst (λ (f : PlainFabric). HasFirsts f firsts) same numbered;
+      numbered = record { as_many = numbered_same.as_many; each = numbered_same.each };
       all_wires = counted ∙ ap wire_count same;
     })

@@ -1,14 +1,20 @@
 -- What tables promise of a fabric.
 use Rattle.std.specs.Prelude.{◌≡◌, ◌≢◌, ◌<◌, ◌≤◌, ℕ, ◌*◌, ◌/◌, All, AllPairs, List, length, Option, Some, None}
 use Rattle.std.specs.Option.{option_map_or}
+use Rattle.fab_model.specs.declared.mode.Mode.{Mode}
+use Rattle.fab_model.specs.declared.mode.Mode.TheVariants as modes
 use Rattle.fab_model.specs.Tiles.{PlainTile, IsTile, matrix_names}
 use Rattle.fab_model.specs.Tables.{HasTable}
 use Rattle.fab_model.specs.Grid.{PlainFabric, tile_at}
 use Rattle.fab_fabric.specs.Sums.{sum_to}
 
--- the fabric of these types with so many columns, whose grid lists the places row by row
+-- the fabric of these types with so many columns, whose grid lists the places row by row; frames keep its configuration
 abbrev pub fabric_of : (types : List PlainTile) → (columns : ℕ) → (grid : List (Option ℕ)) → PlainFabric
-fabric_of types columns grid = record { types = types; columns = columns; rows = length grid / columns; grid = grid }
+fabric_of types columns grid = record { types = types; columns = columns; rows = length grid / columns; grid = grid; mode = modes.Frames }
+
+-- a fabric whose configuration is kept in this mode
+abbrev pub in_mode : Mode → PlainFabric → PlainFabric
+in_mode mode fabric = record fabric { mode = mode }
 
 -- ---- how many wires there are
 

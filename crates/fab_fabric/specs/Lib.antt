@@ -4,6 +4,7 @@ pub mod Wires
 pub mod Bits
 pub mod Names
 pub mod Sites
+pub mod Places
 pub mod Drive
 pub mod Walks
 pub mod Examples

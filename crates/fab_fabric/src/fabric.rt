@@ -7,7 +7,7 @@ ghost use Rattle.fab_model.specs.Tiles.{IsTile, matrix_names};
 ghost use Rattle.fab_model.specs.Wires.{PlainWire, HasWire, wire_number};
 ghost use Rattle.fab_model.specs.Grid.{PlainFabric, tile_at};
 ghost use Rattle.fab_fabric.specs.Sums.{sum_to};
-ghost use Rattle.fab_fabric.specs.Fabric.{fabric_of, IsFabric, AreTiles, wires_at, wire_count};
+ghost use Rattle.fab_fabric.specs.Fabric.{fabric_of, in_mode, IsFabric, AreTiles, wires_at, wire_count};
 ghost use Rattle.fab_fabric.specs.Wires.{wire_index, numbered_wire, index_of, IsIndexOf};
 ghost use Rattle.fab_fabric.specs.Bits.{bits_at};
 ghost use Rattle.fab_fabric.specs.inner.Index.{plain_wire, place_wires, HasIndex, HaveIndexes, HasFirsts};
@@ -20,14 +20,14 @@ mod names;
 use crate::index::{TileIndex, TileWire};
 use crate::wire::{Site, Wire};
 use fab_base::Memory;
-use fab_model::TileType;
 use fab_model::fab_kinds::Kind;
+use fab_model::{Mode, TileType};
 pub use joins::RowAt;
 pub use names::place_name;
 use std::alloc::Global;
 use std::marker::Model;
 
-/// A fabric: its tile types, and which of them stands at each place of its grid.
+/// A fabric: its tile types, which of them stands at each place of its grid, and what keeps its configuration.
 #[derive(Debug, Drop)]
 pub struct Fabric {
     types: Vec<TileType>,
@@ -35,6 +35,7 @@ pub struct Fabric {
     rows: u32,
     // row by row, from the top
     grid: Vec<Option<u32>>,
+    mode: Mode,
     // what is kept of each type
     indexes: Vec<TileIndex>,
     // the number of the first wire of each place, column by column
@@ -48,16 +49,16 @@ impl Model for Fabric {
 
     ghost Value = { PlainFabric };
 
-    ghost view = { λ fabric. record { types = fabric.types.items; columns = fabric.columns; rows = fabric.rows; grid = fabric.grid.items } };
+    ghost view = { λ fabric. record { types = fabric.types.items; columns = fabric.columns; rows = fabric.rows; grid = fabric.grid.items; mode = fabric.mode } };
 
     ghost invariant = { λ fabric. IsIndexed
-        (record { types = fabric.types.items; columns = fabric.columns; rows = fabric.rows; grid = fabric.grid.items })
+        (record { types = fabric.types.items; columns = fabric.columns; rows = fabric.rows; grid = fabric.grid.items; mode = fabric.mode })
         fabric.indexes.items fabric.firsts.items fabric.wires };
 }
 
 impl Fabric {
-    /// The fabric of these types, with so many columns. The grid lists its places row by row from the top; a place has the
-    /// number of a type or is empty.
+    /// The fabric of these types, with so many columns, whose configuration frames keep. The grid lists its places row by row
+    /// from the top; a place has the number of a type or is empty.
     pub fn new(
         alloc: Global,
         types: Vec<TileType>,
@@ -67,6 +68,20 @@ impl Fabric {
         requires { IsFabric (fabric_of types.items columns grid.items) }
         ensures { IfOk result (λ fabric. fabric ≡ fabric_of types.items columns grid.items) }
     {
+        Fabric::with_mode(alloc, types, columns, grid, Mode::Frames)
+    }
+
+    /// The fabric of these types, columns and places whose configuration is kept in this mode.
+    pub fn with_mode(
+        alloc: Global,
+        types: Vec<TileType>,
+        columns: u32,
+        grid: Vec<Option<u32>>,
+        mode: Mode,
+    ) -> Result<Fabric, Memory>
+        requires { IsFabric (fabric_of types.items columns grid.items) }
+        ensures { IfOk result (λ fabric. fabric ≡ in_mode mode (fabric_of types.items columns grid.items)) }
+    {
         let rows = (grid.len() / columns as usize) as u32;
         let indexes = indexes_of(alloc, &types)?;
         let (firsts, wires) = firsts_of(alloc, &types, columns, rows, &grid)?;
@@ -75,6 +90,7 @@ impl Fabric {
             columns,
             rows,
             grid,
+            mode,
             indexes,
             firsts,
             wires,
@@ -117,6 +133,13 @@ impl Fabric {
         ensures { result.now ≡ self.now.grid }
     {
         &self.grid
+    }
+
+    /// What keeps its configuration.
+    pub fn mode(&self) -> Mode
+        ensures { result ≡ self.now.mode }
+    {
+        self.mode
     }
 
     /// How many wires it has.

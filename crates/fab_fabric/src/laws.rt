@@ -1,9 +1,10 @@
 //! What follows from the definitions alone.
 
 ghost use Rattle.std.specs.Prelude.{◌≡◌, ◌<◌, ℕ};
+ghost use Rattle.fab_model.specs.declared.mode.Mode.{Mode};
 ghost use Rattle.fab_model.specs.Grid.{PlainFabric};
 ghost use Rattle.fab_model.specs.Wires.{PlainWire, HasWire};
-ghost use Rattle.fab_fabric.specs.Fabric.{IsFabric, wires_at, wire_count};
+ghost use Rattle.fab_fabric.specs.Fabric.{in_mode, IsFabric, wires_at, wire_count};
 ghost use Rattle.fab_fabric.specs.Wires.{wire_index, index_of, IsIndexOf};
 
 /// The numbers below the number of wires and the matrix name numbers of all tiles are one to one, and so are these numbers
@@ -20,4 +21,9 @@ pub fn wires_are_numbered()
         IsIndexOf fabric index x y plain → IsIndexOf fabric index x2 y2 plain2 → (x ≡ x2) × (y ≡ y2) × (plain ≡ plain2) }
     ensures some_wire { (fabric : PlainFabric) (index : ℕ) → index < wire_count fabric →
         (x : ℕ) × (y : ℕ) × (plain : PlainWire) × IsIndexOf fabric index x y plain }
+{}
+
+/// What is promised of a fabric holds of it in each mode.
+pub fn fabrics_have_each_mode()
+    ensures { (mode : Mode) (fabric : PlainFabric) → IsFabric fabric → IsFabric (in_mode mode fabric) }
 {}

@@ -13,5 +13,5 @@ pub use bits::Bits;
 pub use fab_model;
 pub use fabric::{Fabric, RowAt, place_name};
 pub use index::inputs_by_output;
-pub use laws::wires_are_numbered;
+pub use laws::{fabrics_have_each_mode, wires_are_numbered};
 pub use wire::{Drive, Site, Wire};

@@ -11,17 +11,17 @@ use Rattle.fab_model.specs.Grid.{PlainFabric}
 use Rattle.fab_model.specs.Tiles.{PlainTile}
 use Rattle.fab_read.specs.fab_blocks_words_Word.{Word}
 use Rattle.fab_read.specs.fab_blocks_words_Word_TheVariants as words
-use Rattle.fab_read.specs.fab_blocks_mode_Mode.{Mode}
-use Rattle.fab_read.specs.fab_blocks_mode_Mode_TheVariants as modes
-use Rattle.fab_read.specs.fab_blocks_mode_Parameters_TheVariants as parts
-use Rattle.fab_read.specs.fab_blocks_mode_Place_TheVariants as places
-use Rattle.fab_read.specs.fab_blocks_mode_Said.{Said}
-use Rattle.fab_read.specs.fab_blocks_mode_Said_TheVariants as said
+use Rattle.fab_read.specs.fab_blocks_standing_OpenBlock.{OpenBlock}
+use Rattle.fab_read.specs.fab_blocks_standing_OpenBlock_TheVariants as blocks
+use Rattle.fab_read.specs.fab_blocks_standing_Parameters_TheVariants as parts
+use Rattle.fab_read.specs.fab_blocks_standing_Place_TheVariants as places
+use Rattle.fab_read.specs.fab_blocks_standing_Said.{Said}
+use Rattle.fab_read.specs.fab_blocks_standing_Said_TheVariants as said
 use Rattle.fab_read.specs.fab_blocks_Blocks.{PlainBlock, bare, new_block, with_row, with_matrix}
 use Rattle.fab_read.specs.fab_blocks_Cells.{first_problem, cell_at, is_tile_name}
 use Rattle.fab_read.specs.fab_blocks_Inner.{foreign_row, value_problem, parameter_row, path_problem, depth_problem, include_row, tiles_row, outer_row, inner_parameter, beside, wire_cells, wire_row, bel_row, matrix_row, block_row, file_named}
 use Rattle.fab_read.specs.fab_blocks_Rows.{WireCells, row_of, wire_problem, kind_of, bel_problem, matrix_problem, with_bel_of}
-use Rattle.fab_read.specs.fab_blocks_Reading.{PlainReading, PlainHolder, start, with_mode, with_grid, with_parameters, with_type}
+use Rattle.fab_read.specs.fab_blocks_Reading.{PlainReading, PlainHolder, start, with_open_block, with_grid, with_parameters, with_type}
 use Rattle.fab_read.specs.fab_blocks_Saying.{Step, stands, may_begin, lines_of, line_problem, with_line, parameters_begun, begin_problem, begin_reason, begin_limit, begin_grid, end_grid, grid_line, begin_parameters, end_parameters, begin_tile, handed_out, end_tile, with_said, with_block, row_in, say, said_of}
 use Rattle.fab_read.specs.fab_blocks_Words.{word_of}
 use Rattle.fab_read.proofs.fab_blocks_Readings.{passed, no_problem}
@@ -36,13 +36,13 @@ either P false x y p q = q
 module _ (P Q : PlainTile → Type 0) (keeps : Keeps P Q) where
   -- ---- what is to be kept
 
-  abbrev IsOpenKept : Mode → Type 0
-  IsOpenKept (modes.Tile block) = P (bare block)
+  abbrev IsOpenKept : OpenBlock → Type 0
+  IsOpenKept (blocks.Tile block) = P (bare block)
   IsOpenKept _ = Unit {0}
 
   record IsKeptReading (reading : PlainReading) : Type 0 where
     pub types : All Q reading.types
-    pub open_block : IsOpenKept reading.mode
+    pub open_block : IsOpenKept reading.begun
 
   -- the block that a row hands out
   abbrev IsKeptSaid : Said → Type 0
@@ -143,27 +143,27 @@ module _ (P Q : PlainTile → Type 0) (keeps : Keeps P Q) where
         let reason = (no_problem (begin_reason before holder cells) (begin_limit before (cell_at cells 1)) fine).0 in
         (passed (is_tile_name (cell_at cells 1)) _ _ (passed (length cells == 2) _ _ reason).1).0
 
-    with_open : (mode : Mode) → IsOpenKept mode → IsKeptReading (with_mode before mode)
-    with_open mode open_kept = record { types = kept.types; open_block = open_kept }
+    with_open : (begun : OpenBlock) → IsOpenKept begun → IsKeptReading (with_open_block before begun)
+    with_open begun open_kept = record { types = kept.types; open_block = open_kept }
 
     said_step : (says : Result Said Problem) → OnSaid says → OnStep (with_said before says)
     said_step (Ok says) plain = (kept, plain)
     said_step (Err problem) plain = tt
 
     block_step : (says : Result (PlainBlock × Said) Problem) → OnBlock says → OnStep (with_block before says)
-    block_step (Ok step) on = (with_open (modes.Tile step.0) on.0, on.1)
+    block_step (Ok step) on = (with_open (blocks.Tile step.0) on.0, on.1)
     block_step (Err problem) on = tt
 
     grid_begins : (cells : List (List ℕ)) → OnStep (begin_grid before holder cells)
     unfolding begin_grid
     grid_begins cells =
-        let begun : OnStep (Ok (with_grid before [] modes.Grid, said.Taken)) = (record { types = kept.types; open_block = tt }, tt) in
+        let begun : OnStep (Ok (with_grid before [] blocks.Grid, said.Taken)) = (record { types = kept.types; open_block = tt }, tt) in
         either OnStep (not (length cells == 1)) _ _ tt (either OnStep (not (may_begin before holder (is_some before.grid))) _ _ tt begun)
 
     grid_ends : (cells : List (List ℕ)) → OnStep (end_grid before holder cells)
     unfolding end_grid
     grid_ends cells =
-        let done : OnStep (Ok (with_mode before modes.Outside, said.Taken)) = (with_open modes.Outside tt, tt) in
+        let done : OnStep (Ok (with_open_block before blocks.Outside, said.Taken)) = (with_open blocks.Outside tt, tt) in
         either OnStep (not (length cells == 1)) _ _ tt
         (either OnStep (not (stands before holder places.Grid && holder.is_own)) _ _ tt (either OnStep (length (lines_of before) == 0) _ _ tt done))
 
@@ -185,24 +185,24 @@ module _ (P Q : PlainTile → Type 0) (keeps : Keeps P Q) where
 
     tile_begins : (cells : List (List ℕ)) → OnStep (begin_tile before holder cells)
     unfolding begin_tile
-    tile_begins cells = judged_when (begin_problem before holder cells) (with_mode before (modes.Tile (new_block (cell_at cells 1)))) (λ fine.
-        with_open (modes.Tile (new_block (cell_at cells 1))) (keeps.new (cell_at cells 1) (begun_name cells fine)))
+    tile_begins cells = judged_when (begin_problem before holder cells) (with_open_block before (blocks.Tile (new_block (cell_at cells 1)))) (λ fine.
+        with_open (blocks.Tile (new_block (cell_at cells 1))) (keeps.new (cell_at cells 1) (begun_name cells fine)))
 
-    block_out : (mode : Mode) (own : Bool) → IsOpenKept mode → OnStep (handed_out before mode own)
-    block_out (modes.Tile block) true open_kept = (with_open modes.Outside tt, open_kept)
-    block_out (modes.Tile block) false open_kept = tt
-    block_out modes.Grid own open_kept = tt
-    block_out modes.Outside own open_kept = tt
+    block_out : (begun : OpenBlock) (own : Bool) → IsOpenKept begun → OnStep (handed_out before begun own)
+    block_out (blocks.Tile block) true open_kept = (with_open blocks.Outside tt, open_kept)
+    block_out (blocks.Tile block) false open_kept = tt
+    block_out blocks.Grid own open_kept = tt
+    block_out blocks.Outside own open_kept = tt
 
     tile_ends : (cells : List (List ℕ)) → OnStep (end_tile before holder cells)
     unfolding end_tile
-    tile_ends cells = either OnStep (not (length cells == 1)) _ _ tt (block_out before.mode holder.is_own kept.open_block)
+    tile_ends cells = either OnStep (not (length cells == 1)) _ _ tt (block_out before.begun holder.is_own kept.open_block)
 
-    standing : (mode : Mode) (word : Word) (row : PlainRow) → IsOpenKept mode → OnStep (row_in before mode holder word row)
+    standing : (begun : OpenBlock) (word : Word) (row : PlainRow) → IsOpenKept begun → OnStep (row_in before begun holder word row)
     unfolding row_in
-    standing modes.Grid word row open_kept = a_line row
-    standing (modes.Tile block) word row open_kept = block_step (block_row block holder word row.cells) (in_block holder block open_kept word row.cells)
-    standing modes.Outside word row open_kept = said_step _ (either OnSaid (stands before holder places.Parameters) _ _ (in_parameters holder word row.cells) (outer holder word row.cells))
+    standing blocks.Grid word row open_kept = a_line row
+    standing (blocks.Tile block) word row open_kept = block_step (block_row block holder word row.cells) (in_block holder block open_kept word row.cells)
+    standing blocks.Outside word row open_kept = said_step _ (either OnSaid (stands before holder places.Parameters) _ _ (in_parameters holder word row.cells) (outer holder word row.cells))
 
     by_word : (word : Word) (row : PlainRow) → OnStep (say before holder word row)
     unfolding say
@@ -212,7 +212,7 @@ module _ (P Q : PlainTile → Type 0) (keeps : Keeps P Q) where
     by_word words.ParametersEnd row = parameters_end row.cells
     by_word words.TileBegin row = tile_begins row.cells
     by_word words.TileEnd row = tile_ends row.cells
-    by_word word row = standing before.mode word row kept.open_block
+    by_word word row = standing before.begun word row kept.open_block
 
     of_row : (row : PlainRow) → OnStep (said_of before holder row)
     unfolding said_of

@@ -1,11 +1,11 @@
 pub mod Names
-pub mod Places
 pub mod Top
 pub mod Text
 pub mod Texts
 pub use Rattle.fab_fabric.specs.Examples as fab_fabric_Examples
 pub use Rattle.fab_fabric.specs.Fabric as fab_fabric_Fabric
 pub use Rattle.fab_fabric.specs.Names as fab_fabric_Names
+pub use Rattle.fab_fabric.specs.Places as Places
 pub use Rattle.fab_fabric.specs.Sites as fab_fabric_Sites
 pub use Rattle.fab_fabric.specs.Sums as fab_fabric_Sums
 pub use Rattle.fab_fabric.specs.Wires as fab_fabric_Wires

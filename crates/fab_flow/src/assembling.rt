@@ -50,16 +50,18 @@ pub(crate) fn packed_design(alloc: Global, design: &Design) -> Result<Packed, Fa
     pack(alloc, &design.netlist, luts, pads)
 }
 
-/// Packs a design, and assembles an implementation of it.
+/// Assembles an implementation of a packed design.
 fn assembled(
     alloc: Global,
     design: &Design,
+    packed: &Packed,
     implementation: Implementation,
 ) -> Result<Assembled, Fault>
+    requires packed { packed.now ≡ packed_of design.now.netlist }
+    requires fits { Fits design.now.fabric design.now.netlist }
     requires no_cycle { HasNoCycle design.now.netlist }
     requires on_fabric { IsOnFabric design.now.fabric implementation }
     requires lines { InputsAreLines implementation }
-    ensures fits { OnOk result (Fits design.now.fabric design.now.netlist) }
     ensures legal { OnOk result (IsLegal design.now.fabric (packed_of design.now.netlist) design.now.fixed implementation) }
     ensures features { IfOk result (λ it. it.features.items ≡ design_features design.now.fabric (packed_of design.now.netlist) implementation) }
     ensures configures { IfOk result (λ it. Configures design.now.fabric (packed_of design.now.netlist) implementation (plain_bits it.bits)) }
@@ -70,12 +72,11 @@ fn assembled(
     ensures settles { IfOk result (λ it. (text : List PlainModule) → IsFabricText design.now.fabric text → SettlesDesign design.now.fabric text design.now.netlist implementation it.words.items) }
     ensures refused { IfErr result (λ fault. (fault ≡ faults.Memory) ⊎ RefusesAssembly design.now implementation fault) }
 {
-    let packed = packed_design(alloc, design)?;
     let made = assemble(
         alloc,
         &design.fabric,
         &design.netlist,
-        &packed,
+        packed,
         &design.fixed,
         implementation,
     );
@@ -101,8 +102,32 @@ fn outputs_of(alloc: Global, assembled: &Assembled, base: &Name) -> Result<Vec<O
     Ok(outputs)
 }
 
-/// What is stored of an implementation of a design, where it is legal and its fabric has sites enough.
+/// What is stored of an implementation of a packed design, where it is legal.
 pub(crate) fn assembly(
+    alloc: Global,
+    design: &Design,
+    packed: &Packed,
+    implementation: Implementation,
+    base: &Name,
+) -> Result<Vec<Output>, Fault>
+    requires packed { packed.now ≡ packed_of design.now.netlist }
+    requires fits { Fits design.now.fabric design.now.netlist }
+    requires no_cycle { HasNoCycle design.now.netlist }
+    requires on_fabric { IsOnFabric design.now.fabric implementation }
+    requires lines { InputsAreLines implementation }
+    ensures legal { OnOk result (IsLegal design.now.fabric (packed_of design.now.netlist) design.now.fixed implementation) }
+    ensures made { IfOk result (λ outputs. All IsNamed design.now.fabric.types → All HasPrefixes design.now.fabric.types
+        → IsAssembly design.now.fabric design.now.netlist implementation base.now (map plain_output outputs.items)) }
+    ensures names { IsUtf8 base.now → IfOk result (λ outputs. All (λ output. IsUtf8 output.name) outputs.items) }
+    ensures refused { IfErr result (λ fault. (fault ≡ faults.Memory) ⊎ RefusesAssembly design.now implementation fault) }
+{
+    design.fabric.is_well_made();
+    let assembled = assembled(alloc, design, packed, implementation)?;
+    Ok(outputs_of(alloc, &assembled, base)?)
+}
+
+/// What is stored of an implementation of a design, where it is legal and its fabric has sites enough.
+fn packed_assembly(
     alloc: Global,
     design: &Design,
     implementation: Implementation,
@@ -118,9 +143,8 @@ pub(crate) fn assembly(
     ensures names { IsUtf8 base.now → IfOk result (λ outputs. All (λ output. IsUtf8 output.name) outputs.items) }
     ensures refused { IfErr result (λ fault. (fault ≡ faults.Memory) ⊎ RefusesAssembly design.now implementation fault) }
 {
-    design.fabric.is_well_made();
-    let assembled = assembled(alloc, design, implementation)?;
-    Ok(outputs_of(alloc, &assembled, base)?)
+    let packed = packed_design(alloc, design)?;
+    assembly(alloc, design, &packed, implementation, base)
 }
 
 /// Reads a design and an implementation of it, and stores what a device is given: the features in BASE.fasm, the
@@ -148,6 +172,6 @@ pub fn do_assemble<D: Desk, P: Progress>(
     let design = read_design(alloc, desk, progress, fabric, blif, pcf)?;
     progress.tell(Step::Reading(implementation));
     let read = read_implementation(alloc, desk, implementation, &design.fabric)?;
-    let outputs = assembly(alloc, &design, read, base)?;
+    let outputs = packed_assembly(alloc, &design, read, base)?;
     store_all(alloc, desk, progress, &outputs)
 }

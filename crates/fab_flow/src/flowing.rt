@@ -17,7 +17,7 @@ ghost use Rattle.fab_flow.specs.Flowing.{EndsFlow, HasFlowCause, IsFlow, MakesFl
 ghost use Rattle.fab_flow.specs.Generating.{text_length, most_text_bytes};
 ghost use Rattle.fab_outputs.specs.Storing.{IsDone, Leaves, PlainOutput, plain_output};
 
-use crate::assembling::assembly;
+use crate::assembling::{assembly, packed_design};
 use crate::generating::fabric_text;
 use crate::mapping::mapped_design;
 use fab_base::{Fault, Memory, Name};
@@ -25,6 +25,7 @@ use fab_designs::{Design, read_design};
 use fab_desk::Desk;
 use fab_impl::print_impl;
 use fab_legal::Implementation;
+use fab_netlist::Packed;
 use fab_outputs::{Output, put_output, store_all};
 use fab_progress::Progress;
 use std::alloc::Global;
@@ -52,10 +53,12 @@ fn with_sources(
 fn all_outputs(
     alloc: Global,
     design: &Design,
+    packed: &Packed,
     text: Vec<u8>,
     implementation: Implementation,
     base: &Name,
 ) -> Result<Vec<Output>, Fault>
+    requires packed { packed.now ≡ packed_of design.now.netlist }
     requires no_cycle { HasNoCycle design.now.netlist }
     requires fits { Fits design.now.fabric design.now.netlist }
     requires legal { IsLegal design.now.fabric (packed_of design.now.netlist) design.now.fixed implementation }
@@ -70,7 +73,7 @@ fn all_outputs(
     // what holds of every netlist is a clause of this call
     design.netlist.is_well_made();
     let printed = print_impl(alloc, &design.fabric, &implementation)?;
-    let assembled = assembly(alloc, design, implementation, base)?;
+    let assembled = assembly(alloc, design, packed, implementation, base)?;
     Ok(with_sources(alloc, text, printed, assembled, base)?)
 }
 
@@ -96,8 +99,9 @@ fn flowed<P: Progress>(
     ensures ends { IfErr result (EndsFlow name.now design.now rounds) }
 {
     let text = fabric_text(alloc, name, &design.fabric)?;
-    let implementation = mapped_design(alloc, progress, design, seed, rounds)?;
-    all_outputs(alloc, design, text, implementation, base)
+    let packed = packed_design(alloc, design)?;
+    let implementation = mapped_design(alloc, progress, design, &packed, seed, rounds)?;
+    all_outputs(alloc, design, &packed, text, implementation, base)
 }
 
 /// Reads a design, places and routes it in at most so many rounds, and stores all that it comes to: the text of the

@@ -21,22 +21,25 @@ use fab_desk::Desk;
 use fab_impl::print_impl;
 use fab_implementation::Implementation;
 use fab_map::map_with_progress;
+use fab_netlist::Packed;
 use fab_outputs::{Output, one_output, store_all};
 use fab_progress::Progress;
 use std::alloc::Global;
 
-/// Packs a design, and maps it.
+/// Maps a packed design.
 pub(crate) fn mapped_design<P: Progress>(
     alloc: Global,
     progress: &mut P,
     design: &Design,
+    packed: &Packed,
     seed: u64,
     rounds: u32,
 ) -> Result<Implementation, Fault>
+    requires packed { packed.now ≡ packed_of design.now.netlist }
+    requires fits { Fits design.now.fabric design.now.netlist }
     requires fixings { AreFixings design.now.fabric (data_ports design.now.netlist) design.now.fixed }
     requires some { 1 ≤ rounds }
     requires few { rounds ≤ 64 }
-    ensures fits { OnOk result (Fits design.now.fabric design.now.netlist) }
     ensures mapping { IfOk result (IsMapping design.now.fabric (packed_of design.now.netlist) design.now.fixed rounds) }
     ensures legal { IfOk result (IsLegal design.now.fabric (packed_of design.now.netlist) design.now.fixed) }
     ensures on_fabric { IfOk result (IsOnFabric design.now.fabric) }
@@ -45,12 +48,11 @@ pub(crate) fn mapped_design<P: Progress>(
 {
     // what holds of every netlist is a clause of this call
     design.netlist.is_well_made();
-    let packed = packed_design(alloc, design)?;
     map_with_progress(
         alloc,
         progress,
         &design.fabric,
-        &packed,
+        packed,
         &design.fixed,
         seed,
         rounds,
@@ -74,7 +76,8 @@ fn mapping<P: Progress>(
     ensures names { IsUtf8 out.now → IfOk result (λ outputs. All (λ output. IsUtf8 output.name) outputs.items) }
     ensures cause { IfErr result (EndsUnmapped design.now rounds) }
 {
-    let implementation = mapped_design(alloc, progress, design, seed, rounds)?;
+    let packed = packed_design(alloc, design)?;
+    let implementation = mapped_design(alloc, progress, design, &packed, seed, rounds)?;
     let text = print_impl(alloc, &design.fabric, &implementation)?;
     Ok(one_output(alloc, out, text)?)
 }

@@ -1,5 +1,5 @@
 -- A text whose lines are those of an implementation is read as that implementation.
-use Rattle.std.proofs.Common.{◌≡◌, ◌≤◌, List, [], ◌∷◌, ◌++◌, map, All, Option, Some, Ok, refl, sym, ap, ◌∙◌, arith, append_assoc, append-nil, codes}
+use Rattle.std.proofs.Common.{◌≡◌, ◌≤◌, List, [], ◌∷◌, ◌++◌, map, All, Option, Some, None, Ok, refl, sym, ap, ◌∙◌, arith, append_assoc, append-nil, codes}
 use Rattle.std.specs.List.{AllByRecursion, flat_map}
 use Rattle.std.proofs.lemmas.List.Concat.{flat_map-cons}
 use Rattle.std.proofs.lemmas.List.Elements.{recursion_from_All}
@@ -169,4 +169,6 @@ module _ (fabric : PlainFabric) (is : IsFabric fabric) (all : AreTiles fabric) w
   spelled_is_read rows it spells =
       let end = of_items (Some parts.End) it.cells it.ins it.outs it.trees in
       let read = taken_fine (known fabric) take (λ (k : Known). cut_short k.last) (keeps fabric) rows end (ap (taken take (known fabric [])) spells.lines ∙ lines_taken it rows spells) in
-      (record { fine = read.0; ends = ap (λ (k : Known). cut_short k.last) (sym read.1) }, ap implementation_of read.1)
+      let without : it ≡ implementation_of end =
+          ap (λ (reset : Option Word). let i : PlainImplementation = record { cells = it.cells; ins = it.ins; outs = it.outs; trees = it.trees; reset = reset } in i) spells.nameable.no_reset in
+      (record { fine = read.0; ends = ap (λ (k : Known). cut_short k.last) (sym read.1) }, without ∙ ap implementation_of read.1)

@@ -317,5 +317,5 @@ whole_spells fabric rows whole =
     let stands = text_stands fabric rows whole.fine in
     record {
       lines = holds.lines ∙ whole_so_far old.last (so_many old.fabric (implementation_of old)) whole.ends ∙ ap (λ (f : PlainFabric). implementation_lines f (implementation_of old)) stands.same;
-      nameable = record { on_fabric = is_on_fabric fabric old stands; cells = holds.cells; nets = holds.nets };
+      nameable = record { on_fabric = is_on_fabric fabric old stands; cells = holds.cells; nets = holds.nets; no_reset = refl };
     }

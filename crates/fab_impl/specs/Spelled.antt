@@ -1,5 +1,5 @@
 -- Which implementation a text spells.
-use Rattle.std.specs.Prelude.{◌≡◌, ℕ, ◌≤◌, true, List, [], ◌∷◌, ◌++◌, map, codes, slice_index_or, Some}
+use Rattle.std.specs.Prelude.{◌≡◌, ℕ, ◌≤◌, true, List, [], ◌∷◌, ◌++◌, map, codes, slice_index_or, Some, None}
 use Rattle.std.specs.List.{AllByRecursion, flat_map, list_all}
 use Rattle.fab_lines.specs.Order.{Format, IsWhole}
 use Rattle.fab_model.specs.Grid.{PlainFabric}
@@ -65,11 +65,12 @@ IsNamed ins nets.One = Unit {0}
 IsNamed ins (nets.In place) = first_place ins (slice_index_or (ports_of ins) place []) ≡ Some place
 IsNamed ins (nets.Cell cell) = cell ≤ most_cell
 
--- the fabric has its sites and wires, and its cells and nets can be named
+-- the fabric has its sites and wires, its cells and nets can be named, and it has no reset port, for which there is no line
 pub record IsNameable (fabric : PlainFabric) (it : PlainImplementation) : Type 0 where
   pub on_fabric : IsOnFabric fabric it
   pub cells : AllByRecursion (λ cell. cell.0 ≤ most_cell) it.cells
   pub nets : AllByRecursion (λ tree. IsNamed it.ins tree.net) it.trees
+  pub no_reset : it.reset ≡ None
 
 -- The lines of a text that hold a word are those of the implementation, and its sites, wires, cells and nets can be named.
 pub record Spells (fabric : PlainFabric) (rows : List PlainRow) (it : PlainImplementation) : Type 0 where
@@ -85,7 +86,7 @@ pub record HasSpelling (fabric : PlainFabric) (it : PlainImplementation) : Type 
 -- ---- the refusals of texts
 
 abbrev pub implementation_of : Known → PlainImplementation
-implementation_of old = record { cells = old.cells; ins = old.ins; outs = old.outs; trees = old.trees }
+implementation_of old = record { cells = old.cells; ins = old.ins; outs = old.outs; trees = old.trees; reset = None }
 
 abbrev pub implementation_format : PlainFabric → Format PlainRow
 implementation_format fabric = text_format (known fabric) take (λ old. cut_short old.last)

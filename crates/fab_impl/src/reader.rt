@@ -166,6 +166,7 @@ impl<'a> Known<'a> {
             ins: ins.into_vec(),
             outs,
             trees,
+            reset: None,
         })
     }
 }

@@ -176,6 +176,7 @@ module _ (netlist : PlainNetlist) (made : IsWellMade netlist) where
         omega (arith, inputs, outputs, few_ports netlist made, length-append netlist.inputs netlist.outputs);
     cells = cells_made;
     nets = all_of (λ output. IsNetId design output.1) design.outputs (λ output here. let from = from_mapped shown netlist.outputs output here in subst (λ (o : List ℕ × NetId). IsNetId design o.1) from.2 (net_known from.0));
+    reset_below = λ place is. let inputs = length-map netlist.inputs (name_of netlist) in omega (arith, inputs, made.reset_below place is);
     ports_differ = subst (λ (names : List (List ℕ)). AllPairs (λ first second. first ≢ second) names) (sym port_names) differ;
   }
 

@@ -23,7 +23,7 @@ use Rattle.fab_legal.specs.WellMade.{IsNetId, IsWellMadeCell, IsWellMadePacked, 
 use Rattle.fab_legal.specs.Lines.{named, HaveSites, IsCell, IsInput, IsOutput, CellsHaveSites, PortsHavePads}
 use Rattle.fab_legal.specs.Steps.{pin_wire}
 use Rattle.fab_legal.specs.Nets.{Net}
-use Rattle.fab_legal.specs.Sinks.{Required, cell_input, latch_enable, latch_reset, input_released, output_shown, output_driven, Sinks, packed_net, site_of, input_sinks, latch_sinks, cell_sinks, cells_sinks, input_port_sinks, output_port_sinks, sinks, named_sink, SinksAreRequired}
+use Rattle.fab_legal.specs.Sinks.{Required, cell_input, latch_enable, latch_reset, input_released, output_shown, output_driven, Sinks, packed_net, reset_id, site_of, input_sinks, latch_sinks, cell_sinks, cells_sinks, input_port_sinks, output_port_sinks, sinks, named_sink, SinksAreRequired}
 use Rattle.fab_legal.proofs.Members.{in_either, from_mapped}
 use Rattle.fab_legal.proofs.Pins.{pin_within}
 use Rattle.fab_legal.proofs.Once.{known_thing, one_site}
@@ -96,32 +96,35 @@ module _ (fabric : PlainFabric) where
       later_in (other, pin_wire fabric site pin) (input_sinks fabric site (pin + 1) nets) (net, pin_wire fabric site at)
       (into_inputs site (pin + 1) nets j at net (omega (arith, there.0), there.1) (omega (arith, is)))
 
-  in_cells : (site_at : ℕ → Site) (k : ℕ) (cells : List PlainCell) (s : NetId × Wire) → Contains (cells_sinks fabric site_at k cells) s →
-      (j : ℕ) × (cell : PlainCell) × IsAt cells j cell × Contains (cell_sinks fabric (site_at (k + j)) cell) s
-  in_cells site_at k [] s here = absurd (in_none s here)
-  in_cells site_at k (cell ∷ cells) s here =
-      elim (in_either (cell_sinks fabric (site_at k) cell) (cells_sinks fabric site_at (k + 1) cells) s here) [
-        | inl now ↦ (let e : k ≡ k + 0 = omega arith in (0, cell, (omega arith, refl), subst (λ (n : ℕ). Contains (cell_sinks fabric (site_at n) cell) s) e now))
+  in_cells : (site_at : ℕ → Site) (reset : NetId) (k : ℕ) (cells : List PlainCell) (s : NetId × Wire) → Contains (cells_sinks fabric site_at reset k cells) s →
+      (j : ℕ) × (cell : PlainCell) × IsAt cells j cell × Contains (cell_sinks fabric (site_at (k + j)) reset cell) s
+  in_cells site_at reset k [] s here = absurd (in_none s here)
+  in_cells site_at reset k (cell ∷ cells) s here =
+      elim (in_either (cell_sinks fabric (site_at k) reset cell) (cells_sinks fabric site_at reset (k + 1) cells) s here) [
+        | inl now ↦ (let e : k ≡ k + 0 = omega arith in (0, cell, (omega arith, refl), subst (λ (n : ℕ). Contains (cell_sinks fabric (site_at n) reset cell) s) e now))
         | inr later ↦ (
-            let found = in_cells site_at (k + 1) cells s later in
+            let found = in_cells site_at reset (k + 1) cells s later in
             let e : k + 1 + found.0 ≡ k + suc found.0 = omega arith in
-            (suc found.0, found.1, (omega (arith, found.2.0), found.2.1), subst (λ (n : ℕ). Contains (cell_sinks fabric (site_at n) found.1) s) e found.3))
+            (suc found.0, found.1, (omega (arith, found.2.0), found.2.1), subst (λ (n : ℕ). Contains (cell_sinks fabric (site_at n) reset found.1) s) e found.3))
       ]
 
-  into_cells : (site_at : ℕ → Site) (k : ℕ) (cells : List PlainCell) (j at : ℕ) (cell : PlainCell) (s : NetId × Wire) → IsAt cells j cell → at ≡ k + j →
-      Contains (cell_sinks fabric (site_at at) cell) s → Contains (cells_sinks fabric site_at k cells) s
-  into_cells site_at k [] j at cell s there is here = absurd (omega (arith, there.0))
-  into_cells site_at k (other ∷ cells) zero at cell s there is here =
+  into_cells : (site_at : ℕ → Site) (reset : NetId) (k : ℕ) (cells : List PlainCell) (j at : ℕ) (cell : PlainCell) (s : NetId × Wire) → IsAt cells j cell → at ≡ k + j →
+      Contains (cell_sinks fabric (site_at at) reset cell) s → Contains (cells_sinks fabric site_at reset k cells) s
+  into_cells site_at reset k [] j at cell s there is here = absurd (omega (arith, there.0))
+  into_cells site_at reset k (other ∷ cells) zero at cell s there is here =
       let e : at ≡ k = omega (arith, is) in
-      in_left (cell_sinks fabric (site_at k) other) (cells_sinks fabric site_at (k + 1) cells) s
-      (subst (λ (n : ℕ). Contains (cell_sinks fabric (site_at n) other) s) e (subst (λ (c : PlainCell). Contains (cell_sinks fabric (site_at at) c) s) (sym there.1) here))
-  into_cells site_at k (other ∷ cells) (suc j) at cell s there is here =
-      in_right (cell_sinks fabric (site_at k) other) (cells_sinks fabric site_at (k + 1) cells) s
-      (into_cells site_at (k + 1) cells j at cell s (omega (arith, there.0), there.1) (omega (arith, is)) here)
+      in_left (cell_sinks fabric (site_at k) reset other) (cells_sinks fabric site_at reset (k + 1) cells) s
+      (subst (λ (n : ℕ). Contains (cell_sinks fabric (site_at n) reset other) s) e (subst (λ (c : PlainCell). Contains (cell_sinks fabric (site_at at) reset c) s) (sym there.1) here))
+  into_cells site_at reset k (other ∷ cells) (suc j) at cell s there is here =
+      in_right (cell_sinks fabric (site_at k) reset other) (cells_sinks fabric site_at reset (k + 1) cells) s
+      (into_cells site_at reset (k + 1) cells j at cell s (omega (arith, there.0), there.1) (omega (arith, is)) here)
 
 -- ---- both directions
 
 module _ (fabric : PlainFabric) (packed : PlainPacked) (i : PlainImplementation) (cells : CellsHaveSites fabric packed i) (ports : PortsHavePads fabric packed i) where
+  abbrev reset_net : NetId
+  reset_net = reset_id packed.reset
+
   abbrev IsOne : Net × Wire → Type 0
   IsOne s = Required fabric packed i s.0 s.1
 
@@ -129,22 +132,22 @@ module _ (fabric : PlainFabric) (packed : PlainPacked) (i : PlainImplementation)
   cell_site number known = known_site nat_eq Decides-eqb fabric kinds.Lut4c (IsCell packed) i.cells cells number known
 
   latch_required : (number : ℕ) (cell : PlainCell) (site : Site) (latch : Option ℕ) (s : NetId × Wire) → IsAt packed.cells number cell → Contains i.cells (number, site) → cell.latch ≡ latch →
-      Contains (latch_sinks fabric site latch) s → IsOne (named_sink packed s)
+      Contains (latch_sinks fabric site reset_net latch) s → IsOne (named_sink packed s)
   latch_required number cell site None s at there is here = absurd (in_none s here)
   latch_required number cell site (Some init) s at there is here =
-      elim (first_or_later (ids.One, pin_wire fabric site 6) ((ids.Zero, pin_wire fabric site 5) ∷ []) s here) [
+      elim (first_or_later (ids.One, pin_wire fabric site 6) ((reset_net, pin_wire fabric site 5) ∷ []) s here) [
         | inl enable ↦ subst (λ (t : NetId × Wire). IsOne (named_sink packed t)) enable (latch_enable there at is)
-        | inr later ↦ elim (first_or_later (ids.Zero, pin_wire fabric site 5) [] s later) [
+        | inr later ↦ elim (first_or_later (reset_net, pin_wire fabric site 5) [] s later) [
           | inl reset ↦ subst (λ (t : NetId × Wire). IsOne (named_sink packed t)) reset (latch_reset there at is)
           | inr none ↦ absurd (in_none s none)
         ]
       ]
 
-  cell_required : (number : ℕ) (cell : PlainCell) (s : NetId × Wire) → IsAt packed.cells number cell → Contains (cell_sinks fabric (site_of nat_eq i.cells number) cell) s → IsOne (named_sink packed s)
+  cell_required : (number : ℕ) (cell : PlainCell) (s : NetId × Wire) → IsAt packed.cells number cell → Contains (cell_sinks fabric (site_of nat_eq i.cells number) reset_net cell) s → IsOne (named_sink packed s)
   cell_required number cell s at here =
       let site = site_of nat_eq i.cells number in
       let there = cell_site number at.0 in
-      elim (in_either (input_sinks fabric site 0 cell.inputs) (latch_sinks fabric site cell.latch) s here) [
+      elim (in_either (input_sinks fabric site 0 cell.inputs) (latch_sinks fabric site reset_net cell.latch) s here) [
         | inl input ↦ (
             let found = in_inputs fabric site 0 cell.inputs s input in
             let e : found.0 ≡ 0 + found.0 = omega arith in
@@ -175,7 +178,7 @@ module _ (fabric : PlainFabric) (packed : PlainPacked) (i : PlainImplementation)
       ]
 
   abbrev cell_part : Sinks
-  cell_part = cells_sinks fabric (site_of nat_eq i.cells) 0 packed.cells
+  cell_part = cells_sinks fabric (site_of nat_eq i.cells) reset_net 0 packed.cells
 
   abbrev input_part : Sinks
   input_part = flat_map (input_port_sinks fabric (site_of bytes_eq i.ins)) packed.inputs
@@ -187,9 +190,9 @@ module _ (fabric : PlainFabric) (packed : PlainPacked) (i : PlainImplementation)
   sink_required s here =
       elim (in_either cell_part (input_part ++ output_part) s here) [
         | inl in_cell ↦ (
-            let found = in_cells fabric (site_of nat_eq i.cells) 0 packed.cells s in_cell in
+            let found = in_cells fabric (site_of nat_eq i.cells) reset_net 0 packed.cells s in_cell in
             let e : 0 + found.0 ≡ found.0 = omega arith in
-            cell_required found.0 found.1 s found.2 (subst (λ (n : ℕ). Contains (cell_sinks fabric (site_of nat_eq i.cells n) found.1) s) e found.3))
+            cell_required found.0 found.1 s found.2 (subst (λ (n : ℕ). Contains (cell_sinks fabric (site_of nat_eq i.cells n) reset_net found.1) s) e found.3))
         | inr in_port ↦ elim (in_either input_part output_part s in_port) [
           | inl in_input ↦ (let found = in_flat (input_port_sinks fabric (site_of bytes_eq i.ins)) packed.inputs s in_input in input_required found.0 s found.1 found.2)
           | inr in_output ↦ (let found = in_flat (output_port_sinks fabric (site_of bytes_eq i.outs)) packed.outputs s in_output in output_required found.0 s found.1 found.2)
@@ -197,24 +200,28 @@ module _ (fabric : PlainFabric) (packed : PlainPacked) (i : PlainImplementation)
       ]
 
   -- the nets of sinks exist
-  latch_known : (site : Site) (latch : Option ℕ) (s : NetId × Wire) → Contains (latch_sinks fabric site latch) s → IsNetId packed s.0
-  latch_known site None s here = absurd (in_none s here)
-  latch_known site (Some init) s here =
-      elim (first_or_later (ids.One, pin_wire fabric site 6) ((ids.Zero, pin_wire fabric site 5) ∷ []) s here) [
+  reset_known : IsWellMadePacked packed → (reset : Option ℕ) → packed.reset ≡ reset → IsNetId packed (reset_id reset)
+  reset_known made None is = tt
+  reset_known made (Some place) is = made.reset_below place is
+
+  latch_known : IsWellMadePacked packed → (site : Site) (latch : Option ℕ) (s : NetId × Wire) → Contains (latch_sinks fabric site reset_net latch) s → IsNetId packed s.0
+  latch_known made site None s here = absurd (in_none s here)
+  latch_known made site (Some init) s here =
+      elim (first_or_later (ids.One, pin_wire fabric site 6) ((reset_net, pin_wire fabric site 5) ∷ []) s here) [
         | inl enable ↦ subst (λ (t : NetId × Wire). IsNetId packed t.0) enable tt
-        | inr later ↦ elim (first_or_later (ids.Zero, pin_wire fabric site 5) [] s later) [
-          | inl reset ↦ subst (λ (t : NetId × Wire). IsNetId packed t.0) reset tt
+        | inr later ↦ elim (first_or_later (reset_net, pin_wire fabric site 5) [] s later) [
+          | inl reset ↦ subst (λ (t : NetId × Wire). IsNetId packed t.0) reset (reset_known made packed.reset refl)
           | inr none ↦ absurd (in_none s none)
         ]
       ]
 
-  cell_known : (site : Site) (cell : PlainCell) (s : NetId × Wire) → All (IsNetId packed) cell.inputs → Contains (cell_sinks fabric site cell) s → IsNetId packed s.0
-  cell_known site cell s nets here =
-      elim (in_either (input_sinks fabric site 0 cell.inputs) (latch_sinks fabric site cell.latch) s here) [
+  cell_known : IsWellMadePacked packed → (site : Site) (cell : PlainCell) (s : NetId × Wire) → All (IsNetId packed) cell.inputs → Contains (cell_sinks fabric site reset_net cell) s → IsNetId packed s.0
+  cell_known made site cell s nets here =
+      elim (in_either (input_sinks fabric site 0 cell.inputs) (latch_sinks fabric site reset_net cell.latch) s here) [
         | inl input ↦ (
             let found = in_inputs fabric site 0 cell.inputs s input in
             subst (λ (t : NetId × Wire). IsNetId packed t.0) found.3 (subst (λ (n : NetId). IsNetId packed n) found.2.1 (nets found.0 found.1 found.2.0)))
-        | inr latch ↦ latch_known site cell.latch s latch
+        | inr latch ↦ latch_known made site cell.latch s latch
       ]
 
   output_known : (output : List ℕ × NetId) (site : Site) (s : NetId × Wire) → IsNetId packed output.1 → Contains ((output.1, pin_wire fabric site 0) ∷ (ids.One, pin_wire fabric site 1) ∷ []) s → IsNetId packed s.0
@@ -231,9 +238,9 @@ module _ (fabric : PlainFabric) (packed : PlainPacked) (i : PlainImplementation)
   sink_known made s here =
       elim (in_either cell_part (input_part ++ output_part) s here) [
         | inl in_cell ↦ (
-            let found = in_cells fabric (site_of nat_eq i.cells) 0 packed.cells s in_cell in
+            let found = in_cells fabric (site_of nat_eq i.cells) reset_net 0 packed.cells s in_cell in
             let well = subst (λ (c : PlainCell). IsWellMadeCell packed c) found.2.1 (made.cells found.0 found.1 found.2.0) in
-            cell_known (site_of nat_eq i.cells (0 + found.0)) found.1 s well.nets found.3)
+            cell_known made (site_of nat_eq i.cells (0 + found.0)) found.1 s well.nets found.3)
         | inr in_port ↦ elim (in_either input_part output_part s in_port) [
           | inl in_input ↦ (
               let found = in_flat (input_port_sinks fabric (site_of bytes_eq i.ins)) packed.inputs s in_input in
@@ -267,18 +274,18 @@ module _ (fabric : PlainFabric) (packed : PlainPacked) (i : PlainImplementation)
   listed : (s : NetId × Wire) → Contains (sinks fabric packed i) s → Contains (map (named_sink packed) (sinks fabric packed i)) (named_sink packed s)
   listed s here = mapped_in (named_sink packed) (sinks fabric packed i) s here
 
-  of_cell : (number : ℕ) (site : Site) (cell : PlainCell) (s : NetId × Wire) → Contains i.cells (number, site) → IsAt packed.cells number cell → Contains (cell_sinks fabric site cell) s →
+  of_cell : (number : ℕ) (site : Site) (cell : PlainCell) (s : NetId × Wire) → Contains i.cells (number, site) → IsAt packed.cells number cell → Contains (cell_sinks fabric site reset_net cell) s →
       Contains (sinks fabric packed i) s
   of_cell number site cell s there at here =
       let same : site ≡ site_of nat_eq i.cells number = sym (site_is nat_eq Decides-eqb fabric kinds.Lut4c (IsCell packed) i.cells cells number site there) in
       in_left cell_part (input_part ++ output_part) s
-      (into_cells fabric (site_of nat_eq i.cells) 0 packed.cells number number cell s at (omega arith) (subst (λ (t : Site). Contains (cell_sinks fabric t cell) s) same here))
+      (into_cells fabric (site_of nat_eq i.cells) reset_net 0 packed.cells number number cell s at (omega arith) (subst (λ (t : Site). Contains (cell_sinks fabric t reset_net cell) s) same here))
 
   of_latch : (number : ℕ) (site : Site) (cell : PlainCell) (init : ℕ) (s : NetId × Wire) → Contains i.cells (number, site) → IsAt packed.cells number cell → cell.latch ≡ Some init →
-      Contains (latch_sinks fabric site (Some init)) s → Contains (sinks fabric packed i) s
+      Contains (latch_sinks fabric site reset_net (Some init)) s → Contains (sinks fabric packed i) s
   of_latch number site cell init s there at latch here =
       of_cell number site cell s there at
-      (in_right (input_sinks fabric site 0 cell.inputs) (latch_sinks fabric site cell.latch) s (subst (λ (l : Option ℕ). Contains (latch_sinks fabric site l) s) (sym latch) here))
+      (in_right (input_sinks fabric site 0 cell.inputs) (latch_sinks fabric site reset_net cell.latch) s (subst (λ (l : Option ℕ). Contains (latch_sinks fabric site reset_net l) s) (sym latch) here))
 
   of_output : (output : List ℕ × NetId) (site : Site) (s : NetId × Wire) → Contains i.outs (output.0, site) → Contains packed.outputs output →
       Contains ((output.1, pin_wire fabric site 0) ∷ (ids.One, pin_wire fabric site 1) ∷ []) s → Contains (sinks fabric packed i) s
@@ -291,14 +298,14 @@ module _ (fabric : PlainFabric) (packed : PlainPacked) (i : PlainImplementation)
   pub required_sink : (net : Net) (wire : Wire) → Required fabric packed i net wire → Contains (map (named_sink packed) (sinks fabric packed i)) (net, wire)
   required_sink net wire (cell_input {number} {pin} {site} {cell} {net = input} there at at_pin) =
       listed (input, pin_wire fabric site pin) (of_cell number site cell (input, pin_wire fabric site pin) there at
-      (in_left (input_sinks fabric site 0 cell.inputs) (latch_sinks fabric site cell.latch) (input, pin_wire fabric site pin) (into_inputs fabric site 0 cell.inputs pin pin input at_pin (omega arith))))
+      (in_left (input_sinks fabric site 0 cell.inputs) (latch_sinks fabric site reset_net cell.latch) (input, pin_wire fabric site pin) (into_inputs fabric site 0 cell.inputs pin pin input at_pin (omega arith))))
   required_sink net wire (latch_enable {number} {init} {site} {cell} there at latch) =
       listed (ids.One, pin_wire fabric site 6) (of_latch number site cell init (ids.One, pin_wire fabric site 6) there at latch
-      (first_in (ids.One, pin_wire fabric site 6) ((ids.Zero, pin_wire fabric site 5) ∷ []) (ids.One, pin_wire fabric site 6) refl))
+      (first_in (ids.One, pin_wire fabric site 6) ((reset_net, pin_wire fabric site 5) ∷ []) (ids.One, pin_wire fabric site 6) refl))
   required_sink net wire (latch_reset {number} {init} {site} {cell} there at latch) =
-      listed (ids.Zero, pin_wire fabric site 5) (of_latch number site cell init (ids.Zero, pin_wire fabric site 5) there at latch
-      (later_in (ids.One, pin_wire fabric site 6) ((ids.Zero, pin_wire fabric site 5) ∷ []) (ids.Zero, pin_wire fabric site 5)
-      (first_in (ids.Zero, pin_wire fabric site 5) [] (ids.Zero, pin_wire fabric site 5) refl)))
+      listed (reset_net, pin_wire fabric site 5) (of_latch number site cell init (reset_net, pin_wire fabric site 5) there at latch
+      (later_in (ids.One, pin_wire fabric site 6) ((reset_net, pin_wire fabric site 5) ∷ []) (reset_net, pin_wire fabric site 5)
+      (first_in (reset_net, pin_wire fabric site 5) [] (reset_net, pin_wire fabric site 5) refl)))
   required_sink net wire (input_released {port} {site} there) =
       let same : site ≡ site_of bytes_eq i.ins port = sym (site_is bytes_eq bytes_eq-Decides fabric kinds.Io (IsInput packed) i.ins ports.ins port site there) in
       listed (ids.Zero, pin_wire fabric site 1) (in_right cell_part (input_part ++ output_part) (ids.Zero, pin_wire fabric site 1) (in_left input_part output_part (ids.Zero, pin_wire fabric site 1)

@@ -20,7 +20,7 @@ use Rattle.fab_implementation.specs.Plain.{Pad, PlainImplementation}
 use Rattle.fab_legal.specs.WellMade.{IsWellMadePacked, output_name, output_ports}
 use Rattle.fab_legal.specs.Lines.{HaveSites, IsCell, IsInput, IsOutput, CellsHaveSites, PortsHavePads}
 use Rattle.fab_legal.specs.Steps.{pin_wire}
-use Rattle.fab_legal.specs.Sinks.{Sinks, site_of, input_sinks, cell_sinks, cells_sinks, input_port_sinks, output_port_sinks, sinks}
+use Rattle.fab_legal.specs.Sinks.{Sinks, reset_id, site_of, input_sinks, cell_sinks, cells_sinks, input_port_sinks, output_port_sinks, sinks}
 use Rattle.fab_legal.specs.inner.Keeping.{AreSites, port_number, numbered_pad}
 use Rattle.fab_legal.specs.inner.Kept.{AreKept, HasKinds, site_at, in_sinks, out_sinks, outs_sinks, sinks_by}
 use Rattle.fab_legal.specs.declared.placed.Placed.{Placed}
@@ -39,12 +39,12 @@ input_push fabric site pin (other ∷ nets) net =
     let e : pin + 1 + length nets ≡ pin + length (other ∷ nets) = omega arith in
     ap (λ (rest : Sinks). (other, pin_wire fabric site pin) ∷ rest) (input_push fabric site (pin + 1) nets net ∙ ap (λ (p : ℕ). input_sinks fabric site (pin + 1) nets ++ (net, pin_wire fabric site p) ∷ []) e)
 
-cells_push : (fabric : PlainFabric) (f : ℕ → Site) (k : ℕ) (cells : List PlainCell) (cell : PlainCell) → cells_sinks fabric f k (cells ++ cell ∷ []) ≡ cells_sinks fabric f k cells ++ cell_sinks fabric (f (k + length cells)) cell
-cells_push fabric f k [] cell = let e : k ≡ k + 0 = omega arith in append-none (cell_sinks fabric (f k) cell) ∙ ap (λ (n : ℕ). cell_sinks fabric (f n) cell) e
-cells_push fabric f k (other ∷ cells) cell =
+cells_push : (fabric : PlainFabric) (f : ℕ → Site) (reset : NetId) (k : ℕ) (cells : List PlainCell) (cell : PlainCell) → cells_sinks fabric f reset k (cells ++ cell ∷ []) ≡ cells_sinks fabric f reset k cells ++ cell_sinks fabric (f (k + length cells)) reset cell
+cells_push fabric f reset k [] cell = let e : k ≡ k + 0 = omega arith in append-none (cell_sinks fabric (f k) reset cell) ∙ ap (λ (n : ℕ). cell_sinks fabric (f n) reset cell) e
+cells_push fabric f reset k (other ∷ cells) cell =
     let e : k + 1 + length cells ≡ k + length (other ∷ cells) = omega arith in
-    ap (λ (rest : Sinks). cell_sinks fabric (f k) other ++ rest) (cells_push fabric f (k + 1) cells cell ∙ ap (λ (n : ℕ). cells_sinks fabric f (k + 1) cells ++ cell_sinks fabric (f n) cell) e)
-    ∙ sym (append_assoc (cell_sinks fabric (f k) other) (cells_sinks fabric f (k + 1) cells) (cell_sinks fabric (f (k + length (other ∷ cells))) cell))
+    ap (λ (rest : Sinks). cell_sinks fabric (f k) reset other ++ rest) (cells_push fabric f reset (k + 1) cells cell ∙ ap (λ (n : ℕ). cells_sinks fabric f reset (k + 1) cells ++ cell_sinks fabric (f n) reset cell) e)
+    ∙ sym (append_assoc (cell_sinks fabric (f k) reset other) (cells_sinks fabric f reset (k + 1) cells) (cell_sinks fabric (f (k + length (other ∷ cells))) reset cell))
 
 outs_push : (fabric : PlainFabric) (f : ℕ → Site) (k : ℕ) (outs : List (List ℕ × NetId)) (out : List ℕ × NetId) → outs_sinks fabric f k (outs ++ out ∷ []) ≡ outs_sinks fabric f k outs ++ out_sinks fabric (f (k + length outs)) out
 outs_push fabric f k [] out = let e : k ≡ k + 0 = omega arith in append-none (out_sinks fabric (f k) out) ∙ ap (λ (n : ℕ). out_sinks fabric (f n) out) e
@@ -59,11 +59,11 @@ behind {X} old now new more rest first second = second ∙ ap (λ (l : List X). 
 
 -- ---- the same sinks by names
 
-cells_same : (fabric : PlainFabric) (f g : ℕ → Site) (k : ℕ) (cells : List PlainCell) → ((n : ℕ) → n < k + length cells → f n ≡ g n) → cells_sinks fabric f k cells ≡ cells_sinks fabric g k cells
-cells_same fabric f g k [] same = refl
-cells_same fabric f g k (cell ∷ cells) same =
-    ap (λ (s : Site). cell_sinks fabric s cell ++ cells_sinks fabric f (k + 1) cells) (same k (omega arith))
-    ∙ ap (λ (rest : Sinks). cell_sinks fabric (g k) cell ++ rest) (cells_same fabric f g (k + 1) cells (λ n below. same n (omega (arith, below))))
+cells_same : (fabric : PlainFabric) (f g : ℕ → Site) (reset : NetId) (k : ℕ) (cells : List PlainCell) → ((n : ℕ) → n < k + length cells → f n ≡ g n) → cells_sinks fabric f reset k cells ≡ cells_sinks fabric g reset k cells
+cells_same fabric f g reset k [] same = refl
+cells_same fabric f g reset k (cell ∷ cells) same =
+    ap (λ (s : Site). cell_sinks fabric s reset cell ++ cells_sinks fabric f reset (k + 1) cells) (same k (omega arith))
+    ∙ ap (λ (rest : Sinks). cell_sinks fabric (g k) reset cell ++ rest) (cells_same fabric f g reset (k + 1) cells (λ n below. same n (omega (arith, below))))
 
 ins_same : (fabric : PlainFabric) (f : List ℕ → Site) (names : List (List ℕ)) (sites : List Site) → length sites ≡ length names →
     ((n : ℕ) (name : List ℕ) (site : Site) → IsAt names n name → IsAt sites n site → f name ≡ site) → flat_map (input_port_sinks fabric f) names ≡ flat_map (in_sinks fabric) sites
@@ -111,29 +111,30 @@ module _ (fabric : PlainFabric) (packed : PlainPacked) (i : PlainImplementation)
 
   pub sinks_are : sinks_by fabric packed placed ≡ sinks fabric packed i
   sinks_are =
-      let first : cells_sinks fabric (site_at placed.cells.items) 0 packed.cells ≡ cells_sinks fabric (site_of nat_eq i.cells) 0 packed.cells =
-      cells_same fabric (site_at placed.cells.items) (site_of nat_eq i.cells) 0 packed.cells (λ n below. sym (cell_site n (omega (arith, below)))) in
+      let reset = reset_id packed.reset in
+      let first : cells_sinks fabric (site_at placed.cells.items) reset 0 packed.cells ≡ cells_sinks fabric (site_of nat_eq i.cells) reset 0 packed.cells =
+      cells_same fabric (site_at placed.cells.items) (site_of nat_eq i.cells) reset 0 packed.cells (λ n below. sym (cell_site n (omega (arith, below)))) in
       let second : flat_map (in_sinks fabric) placed.ins.sites.items ≡ flat_map (input_port_sinks fabric (site_of bytes_eq i.ins)) packed.inputs =
       sym (ins_same fabric (site_of bytes_eq i.ins) packed.inputs placed.ins.sites.items kept.ins.sites_are.as_many in_site) in
       let third : outs_sinks fabric (site_at placed.outs.sites.items) 0 packed.outputs ≡ flat_map (output_port_sinks fabric (site_of bytes_eq i.outs)) packed.outputs =
       sym (outs_same fabric (site_of bytes_eq i.outs) (site_at placed.outs.sites.items) 0 packed.outputs (λ n out at. out_site n out at ∙ ap (site_at placed.outs.sites.items) (plus n))) in
       ap (λ (l : Sinks). l ++ (flat_map (in_sinks fabric) placed.ins.sites.items ++ outs_sinks fabric (site_at placed.outs.sites.items) 0 packed.outputs)) first
-      ∙ ap (λ (l : Sinks). cells_sinks fabric (site_of nat_eq i.cells) 0 packed.cells ++ (l ++ outs_sinks fabric (site_at placed.outs.sites.items) 0 packed.outputs)) second
-      ∙ ap (λ (l : Sinks). cells_sinks fabric (site_of nat_eq i.cells) 0 packed.cells ++ (flat_map (input_port_sinks fabric (site_of bytes_eq i.ins)) packed.inputs ++ l)) third
+      ∙ ap (λ (l : Sinks). cells_sinks fabric (site_of nat_eq i.cells) reset 0 packed.cells ++ (l ++ outs_sinks fabric (site_at placed.outs.sites.items) 0 packed.outputs)) second
+      ∙ ap (λ (l : Sinks). cells_sinks fabric (site_of nat_eq i.cells) reset 0 packed.cells ++ (flat_map (input_port_sinks fabric (site_of bytes_eq i.ins)) packed.inputs ++ l)) third
     where
       plus : (n : ℕ) → n ≡ 0 + n
       plus n = omega arith
 
 -- ---- loops
 
-pub cells_step : (fabric : PlainFabric) (f : ℕ → Site) (cells : List PlainCell) (n : ℕ) (cell : PlainCell) (old now new : Sinks) → IsAt cells n cell → now ≡ old ++ cells_sinks fabric f 0 (take n cells) →
-    new ≡ now ++ cell_sinks fabric (f n) cell → new ≡ old ++ cells_sinks fabric f 0 (take (n + 1) cells)
-cells_step fabric f cells n cell old now new at so_far is =
+pub cells_step : (fabric : PlainFabric) (f : ℕ → Site) (reset : NetId) (cells : List PlainCell) (n : ℕ) (cell : PlainCell) (old now new : Sinks) → IsAt cells n cell → now ≡ old ++ cells_sinks fabric f reset 0 (take n cells) →
+    new ≡ now ++ cell_sinks fabric (f n) reset cell → new ≡ old ++ cells_sinks fabric f reset 0 (take (n + 1) cells)
+cells_step fabric f reset cells n cell old now new at so_far is =
     let count : 0 + length (take n cells) ≡ n = omega (arith, at.0, length-take-le n cells (omega (arith, at.0))) in
-    behind old now new (cells_sinks fabric f 0 (take n cells)) (cell_sinks fabric (f n) cell) so_far is
+    behind old now new (cells_sinks fabric f reset 0 (take n cells)) (cell_sinks fabric (f n) reset cell) so_far is
     ∙ ap (λ (l : Sinks). old ++ l)
-    (sym (ap (cells_sinks fabric f 0) (taken_more cells n cell at) ∙ cells_push fabric f 0 (take n cells) cell
-    ∙ ap (λ (m : ℕ). cells_sinks fabric f 0 (take n cells) ++ cell_sinks fabric (f m) cell) count))
+    (sym (ap (cells_sinks fabric f reset 0) (taken_more cells n cell at) ∙ cells_push fabric f reset 0 (take n cells) cell
+    ∙ ap (λ (m : ℕ). cells_sinks fabric f reset 0 (take n cells) ++ cell_sinks fabric (f m) reset cell) count))
 
 pub outs_step : (fabric : PlainFabric) (f : ℕ → Site) (outs : List (List ℕ × NetId)) (n : ℕ) (out : List ℕ × NetId) (old now first new : Sinks) → IsAt outs n out → now ≡ old ++ outs_sinks fabric f 0 (take n outs) →
     first ≡ now ++ (out.1, pin_wire fabric (f n) 0) ∷ [] → new ≡ first ++ (ids.One, pin_wire fabric (f n) 1) ∷ [] → new ≡ old ++ outs_sinks fabric f 0 (take (n + 1) outs)

@@ -8,7 +8,7 @@ ghost use Rattle.fab_implementation.specs.OnFabric.{kind_at};
 ghost use Rattle.fab_legal.specs.WellMade.{IsWellMadePacked};
 ghost use Rattle.fab_legal.specs.Lines.{CellsHaveSites, PortsHavePads};
 ghost use Rattle.fab_legal.specs.Steps.{pin_wire, HasPin};
-ghost use Rattle.fab_legal.specs.Sinks.{input_sinks, cell_sinks, cells_sinks, sinks};
+ghost use Rattle.fab_legal.specs.Sinks.{input_sinks, reset_id, cell_sinks, cells_sinks, sinks};
 ghost use Rattle.fab_legal.specs.inner.Kept.{AreKept, HasKinds, site_at, in_sinks, outs_sinks, sinks_by};
 
 use crate::placed::{Placed, find_sites};
@@ -44,6 +44,16 @@ fn put_sink(
     Ok(())
 }
 
+// The net that resets latches, where the reset port has this place among the inputs.
+fn reset_id(reset: Option<u32>) -> NetId
+    ensures { result ≡ reset_id reset }
+{
+    match reset {
+        None => NetId::Zero,
+        Some(place) => NetId::In(place),
+    }
+}
+
 // The input pins of a cell.
 fn put_inputs(
     alloc: Global,
@@ -68,16 +78,17 @@ fn put_cell(
     sinks: &mut Vec<(NetId, Wire)>,
     fabric: &Fabric,
     site: Site,
+    reset: NetId,
     cell: &Cell,
 ) -> Result<(), Memory>
     requires lut { kind_at fabric.now site ≡ Some kinds.Lut4c }
     requires few { length cell.now.inputs ≤ 4 }
-    ensures { OnOk result (sinks.new.items ≡ sinks.old.items ++ cell_sinks fabric.now site cell.now) }
+    ensures { OnOk result (sinks.new.items ≡ sinks.old.items ++ cell_sinks fabric.now site reset cell.now) }
 {
     put_inputs(alloc, sinks, fabric, site, &cell.inputs)?;
     if cell.latch.is_some() {
         put_sink(alloc, sinks, fabric, NetId::One, site, LUT_ENABLE)?;
-        put_sink(alloc, sinks, fabric, NetId::Zero, site, LUT_RESET)?;
+        put_sink(alloc, sinks, fabric, reset, site, LUT_RESET)?;
     }
     Ok(())
 }
@@ -87,15 +98,16 @@ fn put_cells(
     sinks: &mut Vec<(NetId, Wire)>,
     fabric: &Fabric,
     sites: &[Site],
+    reset: NetId,
     cells: &[Cell],
 ) -> Result<(), Memory>
     requires luts { All (λ site. kind_at fabric.now site ≡ Some kinds.Lut4c) sites.now }
     requires as_many { length sites.now ≡ length cells.now }
     requires few { All (λ cell. length cell.inputs ≤ 4) cells.now }
-    ensures { OnOk result (sinks.new.items ≡ sinks.old.items ++ cells_sinks fabric.now (site_at sites.now) 0 cells.now) }
+    ensures { OnOk result (sinks.new.items ≡ sinks.old.items ++ cells_sinks fabric.now (site_at sites.now) reset 0 cells.now) }
 {
     for (number, cell) in cells.iter().enumerate() {
-        put_cell(alloc, sinks, fabric, sites[number], cell)?;
+        put_cell(alloc, sinks, fabric, sites[number], reset, cell)?;
     }
     Ok(())
 }
@@ -145,7 +157,14 @@ pub fn sinks_of(
     ensures { IfOk result (λ found. found.items ≡ sinks_by fabric.now packed.now placed.now) }
 {
     let mut sinks = Vec::new(alloc);
-    put_cells(alloc, &mut sinks, fabric, &placed.cells, &packed.cells)?;
+    put_cells(
+        alloc,
+        &mut sinks,
+        fabric,
+        &placed.cells,
+        reset_id(packed.reset),
+        &packed.cells,
+    )?;
     put_ins(alloc, &mut sinks, fabric, &placed.ins.sites)?;
     put_outs(
         alloc,
@@ -158,9 +177,9 @@ pub fn sinks_of(
 }
 
 /// The wires that the nets of a design have to reach, with their nets, where a design is placed: for each cell by number its
-/// input pins from I0, and with a latch EN in the net of ones and SR in that of zeros; for each input port in declared order T
-/// of its pad in the net of zeros; for each output port I of its pad in the port's net, and T in that of ones. Nets are named
-/// by the numbers of inputs and cells of the design.
+/// input pins from I0, and with a latch EN in the net of ones and SR in that of the reset port, or in that of zeros without
+/// one; for each input port in declared order T of its pad in the net of zeros; for each output port I of its pad in the port's
+/// net, and T in that of ones. Nets are named by the numbers of inputs and cells of the design.
 pub fn required(
     alloc: Global,
     fabric: &Fabric,

@@ -6,7 +6,7 @@ use Rattle.std.proofs.lemmas.Option.{slice_get_within}
 use Rattle.fab_syntax.specs.Plain.{PlainModule}
 use Rattle.fab_syntax.specs.Sound.{IsSound}
 use Rattle.fab_meaning.specs.Points.{Point, point}
-use Rattle.fab_meaning.specs.Loading.{Within, IsLoading}
+use Rattle.fab_meaning.specs.Loading.{IsStream, Within, IsLoading}
 use Rattle.fab_meaning.proofs.Loaded.{within_more}
 use Rattle.fab_equations.specs.Instances.{points}
 use Rattle.fab_equations.specs.Equations.{IsPoint, IsDriven}
@@ -93,7 +93,7 @@ module _ (text : List PlainModule) (sound : IsSound text) where
     loaded l =
         let part = l.0 in
         let all : Within text c.scene.all p = within_declared text part c.scene.all (λ q there h. c.greatest part l.1 q there h) p l.2 in
-        within_more text c.scene.all c.scene.left c.same (point p.path p.name 0)
+        within_more text (IsStream text) c.scene.all c.scene.left c.same (point p.path p.name 0)
         (all_bits text sound c.scene.all c.scene.alike p 0 (first_declared text sound p (point_declared text sound is.0 p is.1)) all)
 
     pub rightly : (inside : Bool) → slice_get statuses name ≡ Some (told inside) → IsRightly inside (IsLoading text p)

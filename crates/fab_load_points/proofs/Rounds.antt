@@ -13,7 +13,7 @@ use Rattle.fab_syntax.specs.Plain.{PlainExpr, PlainModule}
 use Rattle.fab_syntax.specs.Sound.{IsSound}
 use Rattle.fab_meaning.specs.Points.{Path, Point, point, Driver, flop, Drives}
 use Rattle.fab_meaning.specs.Reads.{is_declared, same_path, expression_reads, next_reads}
-use Rattle.fab_meaning.specs.Loading.{Within, by_flop, by_stream, by_reads}
+use Rattle.fab_meaning.specs.Loading.{IsStream, Within, by_flop, by_stream, by_reads}
 use Rattle.fab_meaning.proofs.Loaded.{within_more}
 use Rattle.fab_equations.specs.Instances.{points}
 use Rattle.fab_equations.specs.Equations.{IsPoint, IsSource}
@@ -318,7 +318,7 @@ module _ (text : List PlainModule) (sound : IsSound text) where
               | inl same ↦ (let bit = bit_from f.name p p (subst (λ k. StandsFor text k p) same.0 stands) refl refl in
                   let gone : left_now p ≡ false = left_false p bit in
                   flop_outside text scene_now p (flop l.path l.clock l.next p.bit) (flop_drives f l p bit) tt gone)
-              | inr apart ↦ (λ inside. search.outside name p stands apart.1 (within_more text left_now round.scene.left (λ q h. (left_parts q h).0) p inside))
+              | inr apart ↦ (λ inside. search.outside name p stands apart.1 (within_more text (IsStream text) left_now round.scene.left (λ q h. (left_parts q h).0) p inside))
             ];
         flops = λ name p stands h.
             let parts = left_parts p h in

@@ -6,7 +6,7 @@ use Rattle.fab_syntax.specs.Declarations.{width_in}
 use Rattle.fab_meaning.specs.Points.{Point, point, outside, module_at}
 use Rattle.fab_meaning.specs.Settled.{Assignment, IsSettledOn}
 use Rattle.fab_meaning.specs.Runs.{clock_name, AreClocksLow, Moment, IsRunOn}
-use Rattle.fab_meaning.specs.Loading.{IsStream, by_stream, IsClosed, IsLoading, OffersWord, OfferWords, Loads, IsSameStream, AreAlike, write_strobe_name, write_data_name}
+use Rattle.fab_meaning.specs.Loading.{IsStream, by_stream, IsClosed, IsLoading, OffersWord, offered, OfferWords, Loads, IsSameStream, AreAlike, write_strobe_name, write_data_name}
 use Rattle.fab_meaning.proofs.Loaded.{runs_agree}
 
 -- no flip-flops are closed, and so the stream is always among the loading points
@@ -65,5 +65,5 @@ module _ (text : List PlainModule) (wide_clock : width_in (module_at text []) cl
   pub loads_agree : (words : List (List Bool)) (held other_held after other_after : Assignment) → ((p : Point) → IsLoading text p → held p ≡ other_held p) →
       Loads text words held after → Loads text words other_held other_after → (p : Point) → IsLoading text p → after p ≡ other_after p
   loads_agree words held other_held after other_after same a b =
-      runs_agree text a.moments b.moments held other_held after other_after
-      (words_alike words a.moments b.moments held other_held after other_after a.offers b.offers a.run b.run) same a.run b.run
+      runs_agree text (IsStream text) (λ p is. is.input) a.moments b.moments held other_held after other_after
+      (words_alike (offered text words) a.moments b.moments held other_held after other_after a.offers b.offers a.run b.run) same a.run b.run

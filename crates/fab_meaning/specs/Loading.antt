@@ -1,6 +1,6 @@
 -- The points that loading sets, and what loading is.
-use Rattle.std.specs.Prelude.{◌≡◌, ◌≢◌, ◌⊎◌, ℕ, Bool, true, ◌||◌, List, [], ◌∷◌, Some, codes}
-use Rattle.std.specs.List.{All}
+use Rattle.std.specs.Prelude.{◌≡◌, ◌≢◌, ◌⊎◌, ℕ, Bool, true, ◌||◌, List, [], ◌∷◌, map, reverse, Some, if◌then◌else◌, nat_eq, codes}
+use Rattle.std.specs.List.{All, flat_map}
 use Rattle.fab_syntax.specs.Plain.{PlainExpr, PlainModule}
 use Rattle.fab_meaning.specs.Value.{bit_at}
 use Rattle.fab_syntax.specs.Declarations.{width_in}
@@ -15,11 +15,24 @@ write_strobe_name = codes "WriteStrobe"
 abbrev pub write_data_name : List ℕ
 write_data_name = codes "WriteData"
 
--- the inputs of the top that carry words
-pub record IsStream (text : List PlainModule) (p : Point) : Type 0 where
+-- one of these names
+abbrev pub IsOneOf : (names : List (List ℕ)) → List ℕ → Type 0
+IsOneOf [] name = ⊥
+IsOneOf (last ∷ []) name = name ≡ last
+IsOneOf (first ∷ second ∷ names) name = (name ≡ first) ⊎ IsOneOf (second ∷ names) name
+
+-- the inputs of the top with these names
+pub record IsStreamOf (text : List PlainModule) (names : List (List ℕ)) (p : Point) : Type 0 where
   pub input : IsDrivenOutside text p outside
   pub declared : is_declared text p ≡ true
-  pub named : (p.name ≡ clock_name) ⊎ ((p.name ≡ write_strobe_name) ⊎ (p.name ≡ write_data_name))
+  pub named : IsOneOf names p.name
+
+abbrev pub stream_names : List (List ℕ)
+stream_names = clock_name ∷ write_strobe_name ∷ write_data_name ∷ []
+
+-- the inputs that carry words
+abbrev pub IsStream : List PlainModule → Point → Type 0
+IsStream text p = IsStreamOf text stream_names p
 
 -- a driver whose value other points decide, and what a latch holds
 abbrev pub IsDerived : Driver → Type 0
@@ -71,6 +84,18 @@ pub record OffersWord (word : List Bool) (inputs : Assignment) : Type 0 where
   pub strobe : inputs (point [] write_strobe_name 0) ≡ true
   pub bits : (bit : ℕ) → inputs (point [] write_data_name bit) ≡ bit_at word bit
 
+-- the bits of a word one by one, the last first
+abbrev pub single_bits : List Bool → List (List Bool)
+single_bits word = map (λ bit. bit ∷ []) (reverse word)
+
+-- what an input of a width is offered for words, tick by tick: the words, or where it has one bit alone their bits
+abbrev pub offered_at : (width : ℕ) → (words : List (List Bool)) → List (List Bool)
+offered_at width words = if nat_eq width 1 then flat_map single_bits words else words
+
+-- what WriteData of a text is offered
+abbrev pub offered : List PlainModule → (words : List (List Bool)) → List (List Bool)
+offered text words = offered_at (width_in (module_at text []) write_data_name) words
+
 -- one tick of CLK for each word, while the inputs offer it
 abbrev pub OfferWords : List (List Bool) → List Moment → Type 0
 OfferWords [] [] = Unit {0}
@@ -81,7 +106,7 @@ OfferWords (word ∷ words) (moment ∷ moments) = OffersWord word moment.inputs
 -- loading words, from what flip-flops and latches of the loading points hold at first to what they hold at last
 pub record Loads (text : List PlainModule) (words : List (List Bool)) (held after : Assignment) : Type 0 where
   pub moments : List Moment
-  pub offers : OfferWords words moments
+  pub offers : OfferWords (offered text words) moments
   pub run : IsRunOn (IsLoading text) text moments held after
 
 -- ---- laws
@@ -89,44 +114,68 @@ pub record Loads (text : List PlainModule) (words : List (List Bool)) (held afte
 -- Two closed sets of flip-flops are one closed set together.
 abbrev pub UnionIsClosed : Type 0
 UnionIsClosed =
-    (text : List PlainModule) (some others : Point → Bool) → IsClosed text some → IsClosed text others → IsClosed text (λ p. some p || others p)
+    (text : List PlainModule) (names : List (List ℕ)) (some others : Point → Bool) →
+    IsClosedBy text (IsStreamOf text names) some → IsClosedBy text (IsStreamOf text names) others → IsClosedBy text (IsStreamOf text names) (λ p. some p || others p)
 
 -- What flip-flops lead to, more of them lead to.
 abbrev pub WithinGrows : Type 0
 WithinGrows =
-    (text : List PlainModule) (some all : Point → Bool) → ((p : Point) → some p ≡ true → all p ≡ true) → (p : Point) → Within text some p → Within text all p
+    (text : List PlainModule) (names : List (List ℕ)) (some all : Point → Bool) → ((p : Point) → some p ≡ true → all p ≡ true) →
+    (p : Point) → WithinBy text (IsStreamOf text names) some p → WithinBy text (IsStreamOf text names) all p
+
+abbrev pub IsSameOn : (Stream : Point → Type 0) → (inputs later : Assignment) → Type 0
+IsSameOn Stream inputs later = (p : Point) → Stream p → inputs p ≡ later p
 
 abbrev pub IsSameStream : List PlainModule → (inputs later : Assignment) → Type 0
-IsSameStream text inputs later = (p : Point) → IsStream text p → inputs p ≡ later p
+IsSameStream text = IsSameOn (IsStream text)
 
 -- a moment with a stream at whose end another clock than CLK ticks
-pub record IsIdle (text : List PlainModule) (inputs : Assignment) (moment : Moment) : Type 0 where
-  pub stream : IsSameStream text inputs moment.inputs
+pub record IsIdleOn (Stream : Point → Type 0) (inputs : Assignment) (moment : Moment) : Type 0 where
+  pub stream : IsSameOn Stream inputs moment.inputs
   pub other : moment.clock ≢ clock_name
 
--- Ticks of other clocks than CLK change no loading point, while the stream stays.
+abbrev pub IsIdle : List PlainModule → (inputs : Assignment) → Moment → Type 0
+IsIdle text = IsIdleOn (IsStream text)
+
+-- Ticks of other clocks than CLK change no point that a stream leads to, while the stream stays.
+abbrev pub PointsStay : List PlainModule → (Stream : Point → Type 0) → Type 0
+PointsStay text Stream =
+    (moments : List Moment) (inputs later held after now last : Assignment) →
+    All (IsIdleOn Stream inputs) moments → IsRunOn (IsLed text Stream) text moments held after →
+    IsSettledOn (IsLed text Stream) text inputs held now → IsSettledOn (IsLed text Stream) text later after last → IsSameOn Stream inputs later →
+    (p : Point) → IsLed text Stream p → now p ≡ last p
+
+abbrev pub LedPointsStay : Type 0
+LedPointsStay = (text : List PlainModule) (names : List (List ℕ)) → PointsStay text (IsStreamOf text names)
+
+-- so with the stream of words
 abbrev pub LoadingPointsStay : Type 0
-LoadingPointsStay =
-    (text : List PlainModule) (moments : List Moment) (inputs later held after now last : Assignment) →
-    All (IsIdle text inputs) moments → IsRunOn (IsLoading text) text moments held after →
-    IsSettledOn (IsLoading text) text inputs held now → IsSettledOn (IsLoading text) text later after last → IsSameStream text inputs later →
-    (p : Point) → IsLoading text p → now p ≡ last p
+LoadingPointsStay = (text : List PlainModule) → PointsStay text (IsStream text)
 
 -- moment by moment the same clock ticks, and the stream is the same
-abbrev pub AreAlike : List PlainModule → (moments others : List Moment) → Type 0
-AreAlike text [] [] = Unit {0}
-AreAlike text [] (other ∷ others) = ⊥
-AreAlike text (moment ∷ moments) [] = ⊥
-AreAlike text (moment ∷ moments) (other ∷ others) =
-    (moment.clock ≡ other.clock) × IsSameStream text moment.inputs other.inputs × AreAlike text moments others
+abbrev pub AreAlikeOn : (Stream : Point → Type 0) → (moments others : List Moment) → Type 0
+AreAlikeOn Stream [] [] = Unit {0}
+AreAlikeOn Stream [] (other ∷ others) = ⊥
+AreAlikeOn Stream (moment ∷ moments) [] = ⊥
+AreAlikeOn Stream (moment ∷ moments) (other ∷ others) =
+    (moment.clock ≡ other.clock) × IsSameOn Stream moment.inputs other.inputs × AreAlikeOn Stream moments others
 
--- What the loading points hold at first and the stream decide what they hold at last; nothing else of the text matters.
+abbrev pub AreAlike : List PlainModule → (moments others : List Moment) → Type 0
+AreAlike text = AreAlikeOn (IsStream text)
+
+-- What the points that a stream leads to hold at first and the stream decide what they hold at last; nothing else of the text matters.
+abbrev pub RunsAgree : List PlainModule → (Stream : Point → Type 0) → Type 0
+RunsAgree text Stream =
+    (moments others : List Moment) (held other_held after other_after : Assignment) → AreAlikeOn Stream moments others →
+    ((p : Point) → IsLed text Stream p → held p ≡ other_held p) →
+    IsRunOn (IsLed text Stream) text moments held after → IsRunOn (IsLed text Stream) text others other_held other_after →
+    (p : Point) → IsLed text Stream p → after p ≡ other_after p
+
+abbrev pub LedRunsAgree : Type 0
+LedRunsAgree = (text : List PlainModule) (names : List (List ℕ)) → RunsAgree text (IsStreamOf text names)
+
 abbrev pub LoadingRunsAgree : Type 0
-LoadingRunsAgree =
-    (text : List PlainModule) (moments others : List Moment) (held other_held after other_after : Assignment) → AreAlike text moments others →
-    ((p : Point) → IsLoading text p → held p ≡ other_held p) →
-    IsRunOn (IsLoading text) text moments held after → IsRunOn (IsLoading text) text others other_held other_after →
-    (p : Point) → IsLoading text p → after p ≡ other_after p
+LoadingRunsAgree = (text : List PlainModule) → RunsAgree text (IsStream text)
 
 -- So what the words loaded are, and what the loading points hold at first, decide what they hold at last.
 abbrev pub LoadsAgree : Type 0

@@ -1,7 +1,7 @@
 //! Laws of texts. Each function does nothing: its contract is the law, for the proofs of crates above.
 
 ghost use Rattle.fab_meaning.specs.Loaded.{LoadedBlocksSettle, LoadedPointsStay};
-ghost use Rattle.fab_meaning.specs.Loading.{LoadingPointsStay, LoadingRunsAgree, LoadsAgree, UnionIsClosed, WithinGrows};
+ghost use Rattle.fab_meaning.specs.Loading.{LedPointsStay, LedRunsAgree, LoadingPointsStay, LoadingRunsAgree, LoadsAgree, UnionIsClosed, WithinGrows};
 ghost use Rattle.fab_meaning.specs.Ranked.{BlocksSettleOnTexts, TextsSettleOnce};
 ghost use Rattle.fab_meaning.specs.Sound.{EachPointHasOneDriver, PointsOfSoundTextsHaveOneDriver, SoundTextsDriveOnce};
 
@@ -33,9 +33,19 @@ pub fn loading_runs_agree()
     ensures words { LoadsAgree }
 {}
 
+/// So it is with any stream: what the points hold to which it leads is decided by what they held at first and the stream.
+pub fn led_runs_agree()
+    ensures { LedRunsAgree }
+{}
+
 /// Ticks of other clocks than `CLK` change no loading point, while the stream stays.
 pub fn loading_points_stay()
     ensures { LoadingPointsStay }
+{}
+
+/// Nor do they change a point to which any other stream leads, while that stays.
+pub fn led_points_stay()
+    ensures { LedPointsStay }
 {}
 
 /// A ranked set of points with one driver each has exactly one settled assignment for every value of the other points.

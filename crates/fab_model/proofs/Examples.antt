@@ -3,6 +3,7 @@ use Rattle.std.proofs.Common.{◌≡◌, ℕ, Bool, true, false, List, [], ◌�
 use Rattle.std.proofs.lemmas.List.Elements.{All-cons, All-nil}
 use Rattle.fab_select.specs.declared.pair.Pair.{Pair}
 use Rattle.fab_kinds.specs.fab_bits.specs.Widths.{select_width}
+use Rattle.fab_model.specs.declared.mode.Mode.TheVariants as modes
 use Rattle.fab_model.specs.declared.tiles.Dir.TheVariants as dirs
 use Rattle.fab_model.specs.declared.tiles.WireRow.{WireRow}
 use Rattle.fab_model.specs.Tiles.{PlainTile, counted}
@@ -31,6 +32,7 @@ column = record {
   columns = 1;
   rows = 6;
   grid = Some 0 ∷ Some 1 ∷ Some 1 ∷ Some 1 ∷ Some 1 ∷ Some 1 ∷ [];
+  mode = modes.Frames;
 }
 
 goes_four_tiles : join_to column (at 5) 1 ≡ Some (at 1, 1)
@@ -78,6 +80,7 @@ one_tile = record {
   columns = 1;
   rows = 1;
   grid = Some 0 ∷ [];
+  mode = modes.Frames;
 }
 
 abbrev all_bits : Bool → ℕ → ℕ → ℕ → Bool

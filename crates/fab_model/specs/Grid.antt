@@ -1,5 +1,6 @@
--- A fabric as plain data: its tile types and which of them stands at each place.
+-- A fabric as plain data: its tile types, which of them stands at each place, and what keeps its configuration.
 use Rattle.std.specs.Prelude.{ℕ, ◌+◌, ◌*◌, ◌&&◌, List, All, Option, Some, None, slice_get, nat_lt, if◌then◌else◌}
+use Rattle.fab_model.specs.declared.mode.Mode.{Mode}
 use Rattle.fab_model.specs.Rows.{IsWireRow}
 use Rattle.fab_model.specs.Tiles.{PlainTile}
 
@@ -9,6 +10,7 @@ pub record PlainFabric : Type 0 where
   pub rows : ℕ
   -- row by row, from the top; a place has the number of a type or is empty
   pub grid : List (Option ℕ)
+  pub mode : Mode
 
 abbrev pub numbered_type : List PlainTile → Option (Option ℕ) → Option PlainTile
 numbered_type types None = None

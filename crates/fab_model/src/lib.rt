@@ -4,6 +4,7 @@
 
 mod fields;
 mod laws;
+mod mode;
 mod numbering;
 mod tiles;
 
@@ -16,4 +17,5 @@ pub use laws::{
     matrix_outputs_copy_their_inputs, matrix_outputs_copy_what_is_selected, no_wire_copies_itself,
     output_pins_are_of_their_bels, walks_turn_round, wires_have_numbers,
 };
+pub use mode::Mode;
 pub use tiles::{Bel, Dir, FrameTable, TileType, WireRow};

@@ -1,10 +1,64 @@
 -- A netlist with a reset port reads as it does without.
-use Rattle.std.proofs.Common.{◌≡◌, ℕ, ◌<◌, List, [], ◌∷◌, Contains, Some, length, subst}
-use Rattle.fab_netlist.specs.Plain.{PlainNetlist}
-use Rattle.fab_netlist.specs.WellMade.{IsWellMade}
-use Rattle.fab_netlist.specs.Resets.{with_reset}
+use Rattle.std.proofs.Common.{◌≡◌, ℕ, ◌<◌, ◌≤◌, true, false, List, [], ◌∷◌, ◌++◌, Contains, Option, Some, None, length, get_or, map, nat_lt, if◌then◌else◌, refl, sym, ap, ◌∙◌, subst, arith}
+use Rattle.std.specs.List.{position_or_len}
+use Rattle.std.specs.Str.{bytes_eq}
+use Rattle.std.proofs.lemmas.Bool.{lt-ltb, le-ltb}
+use Rattle.std.proofs.lemmas.List.{get_or-map, get_or_default, length-map}
+use Rattle.std.proofs.lemmas.List.Sums.{position_or_len_is}
+use Rattle.fab_netlist.specs.Plain.{PlainNetlist, name_of}
+use Rattle.fab_netlist.specs.WellMade.{IsWellMade, cover_outputs, latch_outputs, ports}
+use Rattle.fab_netlist.specs.Resets.{reset_place, with_reset}
 use Rattle.fab_netlist.specs.Cycles.{ReadsOn, IsCycle, HasNoCycle}
 use Rattle.fab_netlist.specs.inner.Order.{StandBehind, IsOrder}
+use Rattle.fab_netlist.proofs.Members.{in_right}
+use Rattle.fab_netlist.proofs.Packs.{few_ports, length_joined}
+
+-- ---- the input of a name
+
+module _ (netlist : PlainNetlist) where
+  -- inputs are nets, and few
+  pub inputs_below : IsWellMade netlist → (place d : ℕ) → place < length netlist.inputs → get_or netlist.inputs place d < length netlist.nets
+  inputs_below made place d small =
+      let net = get_or netlist.inputs place d in
+      made.driven_below net (in_right (cover_outputs netlist.covers) (latch_outputs netlist ++ netlist.inputs) net (in_right (latch_outputs netlist) netlist.inputs net
+      (place, small, get_or_default netlist.inputs place net d small)))
+
+  pub few_inputs : IsWellMade netlist → length netlist.inputs ≤ 16384
+  few_inputs made = omega (arith, few_ports netlist made, length_joined netlist.inputs netlist.outputs)
+
+  module _ (port : List ℕ) where
+    abbrev names : List (List ℕ)
+    names = map (name_of netlist) netlist.inputs
+
+    name_at : (place d : ℕ) → place < length netlist.inputs → get_or names place [] ≡ name_of netlist (get_or netlist.inputs place d)
+    name_at place d small = get_or-map (name_of netlist) netlist.inputs place d [] small
+
+    as_many : length names ≡ length netlist.inputs
+    as_many = length-map netlist.inputs (name_of netlist)
+
+    abbrev OthersBefore : (place : ℕ) → Type 0
+    OthersBefore place = (k : ℕ) → k < place → bytes_eq port (name_of netlist (get_or netlist.inputs k 0)) ≡ false
+
+    others_before : (place : ℕ) → place ≤ length netlist.inputs → OthersBefore place → (k : ℕ) → k < place → bytes_eq port (get_or names k []) ≡ false
+    others_before place small others k below = ap (bytes_eq port) (name_at k 0 (omega (arith, small, below))) ∙ others k below
+
+    -- the first input of the name is what is sought
+    pub first_named : (place d : ℕ) → place < length netlist.inputs → OthersBefore place → bytes_eq port (name_of netlist (get_or netlist.inputs place d)) ≡ true → Some place ≡ reset_place netlist port
+    first_named place d small others here =
+        let first : position_or_len (bytes_eq port) names ≡ place =
+            position_or_len_is (bytes_eq port) names place [] (omega (arith, small, as_many)) (others_before place (omega (arith, small)) others)
+            (λ inside. ap (bytes_eq port) (name_at place d small) ∙ here) in
+        rw (first, lt-ltb place (length names) (omega (arith, small, as_many))) refl
+
+    -- where no input has the name, none is
+    pub none_named : (place : ℕ) → length netlist.inputs ≤ place → OthersBefore place → None ≡ reset_place netlist port
+    none_named place all others =
+        let before = others_before (length netlist.inputs) (omega arith) (λ k below. others k (omega (arith, below, all))) in
+        let end : position_or_len (bytes_eq port) names ≡ length names =
+            position_or_len_is (bytes_eq port) names (length names) [] (omega arith) (λ k below. before k (omega (arith, below, as_many))) (λ inside. absurd (omega (arith, inside))) in
+        rw (end, le-ltb (length names) (length names) (omega arith)) refl
+
+-- ---- orders and cycles
 
 module _ (place : ℕ) (netlist : PlainNetlist) where
   reads_before : (first : ℕ) (rest : List ℕ) (end : ℕ) → ReadsOn (with_reset place netlist) first rest end → ReadsOn netlist first rest end

@@ -17,9 +17,13 @@ pub record Meets (netlist : PlainNetlist) (given held now : ℕ → Bool) : Type
   pub inputs : (place net : ℕ) → IsAt netlist.inputs place net → now net ≡ given place
   pub others : (net : ℕ) → times net (driven netlist) ≡ 0 → now net ≡ false
 
--- what a latch begins with: 2 and 3, any value, are 0
+-- whether a latch of this initial value begins with 1: 2 and 3, any value, are 0
+abbrev pub begins_high : (init : ℕ) → Bool
+begins_high init = nat_eq init 1
+
+-- what a latch begins with
 abbrev pub first_value : Latch → Bool
-first_value latch = nat_eq latch.init 1
+first_value latch = begins_high latch.init
 
 abbrev pub reset_by : (inputs : List ℕ) → (ℕ → Bool) → (reset : Option ℕ) → Bool
 reset_by inputs now None = false

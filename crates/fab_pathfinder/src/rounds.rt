@@ -37,31 +37,31 @@ fn bare_trees(alloc: Global, count: usize) -> Result<Vec<Tree>, Memory>
     Ok(trees)
 }
 
-/// The least node that stands in two trees.
-fn least_shared(tables: &Tables, nodes: u32) -> Option<u32>
-    requires { count_of tables.now ≡ nodes }
-    ensures found { IfSome result (λ w. 2 ≤ users_of tables.now w) }
-    ensures least { IfSome result (λ w. (v : ℕ) → v < w → users_of tables.now v ≤ 1) }
-    ensures none { IfNone result ((w : ℕ) → users_of tables.now w ≤ 1) }
-{
-    for node in 0..nodes {
-        if tables.users(node) >= 2 {
-            return Some(node);
-        }
-    }
-    None
+/// The nodes that stand in several trees: the least of them, and how many there are.
+#[derive(Drop)]
+struct Shared {
+    least: Option<u32>,
+    count: usize,
 }
 
-/// Tells of a round how many nodes it leaves in several trees.
-fn tell_round<P: Progress>(progress: &mut P, tables: &Tables, nodes: u32, round: u32)
-    requires nodes { count_of tables.now ≡ nodes }
-    requires round { round < 64 }
+/// Looks for the nodes that stand in several trees.
+fn shared_nodes(tables: &Tables, nodes: u32) -> Shared
+    requires { count_of tables.now ≡ nodes }
+    ensures found { IfSome result.least (λ w. 2 ≤ users_of tables.now w) }
+    ensures least { IfSome result.least (λ w. (v : ℕ) → v < w → users_of tables.now v ≤ 1) }
+    ensures none { IfNone result.least ((w : ℕ) → users_of tables.now w ≤ 1) }
 {
-    let shared = (0..nodes).filter(|node| tables.users(*node) >= 2).count();
-    progress.tell(Step::Routing {
-        round: round + 1,
-        shared,
-    });
+    let mut shared = Shared {
+        least: None,
+        count: 0,
+    };
+    for node in 0..nodes {
+        if tables.users(node) >= 2 {
+            shared.count += 1;
+            shared.least = shared.least.or(Some(node));
+        }
+    }
+    shared
 }
 
 /// Adds to each node what its shared use in this round adds to its price.
@@ -120,22 +120,27 @@ pub fn run_rounds<F: Field, P: Progress>(
     let mut past = vec![in alloc; 0; nodes as usize]?;
     let bare = bare_trees(alloc, nets.len())?;
     let mut rounds: Vec<Round> = Vec::new(alloc);
+    let mut shared = None;
     for number in 0..limit {
         let old = latest(&rounds, &bare);
         let trees = match run_round(alloc, field, &mut tables, &past, number, nets, old)? {
             Ok(trees) => trees,
             Err(cut) => return Ok(Err(cut)),
         };
-        tell_round(progress, &tables, nodes, number);
+        let left = shared_nodes(&tables, nodes);
+        progress.tell(Step::Routing {
+            round: number + 1,
+            shared: left.count,
+        });
         remember(&mut past, &tables);
         rounds.push(Round { trees })?;
-        if least_shared(&tables, nodes).is_none() {
+        if left.least.is_none() {
             return Ok(Ok(Routed {
                 rounds,
                 shared: None,
             }));
         }
+        shared = left.least;
     }
-    let shared = least_shared(&tables, nodes);
     Ok(Ok(Routed { rounds, shared }))
 }

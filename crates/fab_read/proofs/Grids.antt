@@ -11,9 +11,9 @@ use Rattle.std.proofs.lemmas.List.Elements.{All-nil, All-cons, All-head, All-tai
 use Rattle.fab_model.specs.Tables.{HasTable}
 use Rattle.fab_model.specs.Tiles.{PlainTile}
 use Rattle.fab_blocks.specs.Cells.{is_null}
-use Rattle.fab_blocks.specs.declared.mode.Mode.{Mode}
-use Rattle.fab_blocks.specs.declared.mode.Mode.TheVariants as modes
-use Rattle.fab_blocks.specs.declared.mode.Parameters.{Parameters}
+use Rattle.fab_blocks.specs.declared.standing.OpenBlock.{OpenBlock}
+use Rattle.fab_blocks.specs.declared.standing.OpenBlock.TheVariants as blocks
+use Rattle.fab_blocks.specs.declared.standing.Parameters.{Parameters}
 use Rattle.fab_blocks.specs.Reading.{PlainReading, PlainGridLine, IsGrid, IsReading, HasLines, place_in, is_inside}
 use Rattle.fab_fabric.specs.Fabric.{fabric_of, wire_count, IsPlace, IsFabric}
 use Rattle.fab_read.specs.Fabrics.{type_number, column_count, places}
@@ -76,13 +76,13 @@ alike (first ∷ lines) grid = λ k d below. by_place k d below
     by_place (suc k) d below = sym (grid.alike zero (suc k) d (omega arith) below)
 
 -- a grid that has ended has lines
-lines_there : (mode : Mode) (parameters : Parameters) (lines : List PlainGridLine) → is_inside (place_in mode parameters true) ≡ false → HasLines mode lines → 1 ≤ length lines
-lines_there modes.Grid parameters lines closed has = absurd cc
-lines_there (modes.Tile block) parameters lines closed has = has
-lines_there modes.Outside parameters lines closed has = has
+lines_there : (begun : OpenBlock) (parameters : Parameters) (lines : List PlainGridLine) → is_inside (place_in begun parameters true) ≡ false → HasLines begun lines → 1 ≤ length lines
+lines_there blocks.Grid parameters lines closed has = absurd cc
+lines_there (blocks.Tile block) parameters lines closed has = has
+lines_there blocks.Outside parameters lines closed has = has
 
-pub some_lines : (reading : PlainReading) (lines : List PlainGridLine) → IsReading reading → is_inside (place_in reading.mode reading.parameters true) ≡ false → reading.grid ≡ Some lines → 1 ≤ length lines
-some_lines reading lines sound closed is = lines_there reading.mode reading.parameters lines closed (sound.lines lines is)
+pub some_lines : (reading : PlainReading) (lines : List PlainGridLine) → IsReading reading → is_inside (place_in reading.begun reading.parameters true) ≡ false → reading.grid ≡ Some lines → 1 ≤ length lines
+some_lines reading lines sound closed is = lines_there reading.begun reading.parameters lines closed (sound.lines lines is)
 
 -- ---- a fabric
 

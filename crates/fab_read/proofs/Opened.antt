@@ -1,7 +1,7 @@
 -- The files that rows open.
 use Rattle.std.proofs.Common.{◌≡◌, ℕ, ◌-◌, Bool, false, not, List, Some, sym, ap, ◌∙◌}
 use Rattle.fab_blocks.specs.Reading.{PlainReading, PlainHolder}
-use Rattle.fab_blocks.specs.declared.mode.Said.TheVariants as said
+use Rattle.fab_blocks.specs.declared.standing.Said.TheVariants as said
 use Rattle.fab_read.specs.Rows.{is_open, opened_by}
 
 -- a holder with these fields is the file that the row includes

@@ -8,8 +8,8 @@ use Rattle.fab_files.specs.Files.{Event, refuses}
 use Rattle.fab_blocks.specs.Blocks.{PlainBlock}
 use Rattle.fab_blocks.specs.Reading.{PlainReading, PlainHolder}
 use Rattle.fab_blocks.specs.Saying.{said_of}
-use Rattle.fab_blocks.specs.declared.mode.Said.{Said}
-use Rattle.fab_blocks.specs.declared.mode.Said.TheVariants as said
+use Rattle.fab_blocks.specs.declared.standing.Said.{Said}
+use Rattle.fab_blocks.specs.declared.standing.Said.TheVariants as said
 use Rattle.fab_read.specs.Tiles.{MeetsTile}
 use Rattle.fab_read.specs.Rows.{opened_by, end_at, ReadsRows, ends, takes_row, opens_file, ends_tile, MeetsRows, bad_row, at_file, inside, left_open, in_tile, behind_row, behind_file, behind_tile, MeetsRowsFile, of_file, of_rows, of_end}
 use Rattle.fab_read.specs.inner.Following.{RowLeads, MeetsRow, LeadsOn, ReadsFileTo, EndsTile}

@@ -12,8 +12,8 @@ use Rattle.fab_lines.specs.Counts.{last_line}
 use Rattle.fab_files.specs.Files.{handed_out, refuses}
 use Rattle.fab_blocks.specs.Reading.{PlainReading, PlainHolder, with_type}
 use Rattle.fab_blocks.specs.Saying.{Step, said_of}
-use Rattle.fab_blocks.specs.declared.mode.Said.{Said}
-use Rattle.fab_blocks.specs.declared.mode.Said.TheVariants as said
+use Rattle.fab_blocks.specs.declared.standing.Said.{Said}
+use Rattle.fab_blocks.specs.declared.standing.Said.TheVariants as said
 use Rattle.fab_read.specs.Rows.{opened_by, is_left_open, end_at, ReadsRows, ends, takes_row, opens_file, ends_tile, MeetsRows, bad_row, at_file, inside, left_open, in_tile, behind_row, behind_file, behind_tile}
 use Rattle.fab_read.proofs.RowByRow.{depth}
 use Rattle.fab_read.proofs.Said.{less_deep}

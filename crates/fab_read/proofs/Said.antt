@@ -8,17 +8,17 @@ use Rattle.fab_lines.specs.Order.{judged}
 use Rattle.fab_rows.specs.Rows.{PlainRow}
 use Rattle.fab_blocks.specs.declared.words.Word.{Word}
 use Rattle.fab_blocks.specs.declared.words.Word.TheVariants as words
-use Rattle.fab_blocks.specs.declared.mode.Mode.{Mode}
-use Rattle.fab_blocks.specs.declared.mode.Mode.TheVariants as modes
-use Rattle.fab_blocks.specs.declared.mode.Parameters.{Parameters}
-use Rattle.fab_blocks.specs.declared.mode.Parameters.TheVariants as parts
-use Rattle.fab_blocks.specs.declared.mode.Place.TheVariants as places
-use Rattle.fab_blocks.specs.declared.mode.Said.{Said}
-use Rattle.fab_blocks.specs.declared.mode.Said.TheVariants as said
+use Rattle.fab_blocks.specs.declared.standing.OpenBlock.{OpenBlock}
+use Rattle.fab_blocks.specs.declared.standing.OpenBlock.TheVariants as blocks
+use Rattle.fab_blocks.specs.declared.standing.Parameters.{Parameters}
+use Rattle.fab_blocks.specs.declared.standing.Parameters.TheVariants as parts
+use Rattle.fab_blocks.specs.declared.standing.Place.TheVariants as places
+use Rattle.fab_blocks.specs.declared.standing.Said.{Said}
+use Rattle.fab_blocks.specs.declared.standing.Said.TheVariants as said
 use Rattle.fab_blocks.specs.Blocks.{PlainBlock}
 use Rattle.fab_blocks.specs.Cells.{first_problem, cell_at}
 use Rattle.fab_blocks.specs.Inner.{malformed, foreign_row, value_problem, parameter_row, path_problem, depth_problem, include_row, tiles_row, outer_row, inner_parameter, beside, wire_row, bel_row, matrix_row, block_row, file_named}
-use Rattle.fab_blocks.specs.Reading.{PlainReading, PlainHolder, place_in, place_of, with_mode, with_grid, with_parameters}
+use Rattle.fab_blocks.specs.Reading.{PlainReading, PlainHolder, place_in, place_of, with_open_block, with_grid, with_parameters}
 use Rattle.fab_blocks.specs.Saying.{Step, is_place, stands, may_begin, lines_of, parameters_begun, begin_grid, end_grid, grid_line, begin_parameters, end_parameters, begin_tile, handed_out, end_tile, with_said, with_block, row_in, say, said_of, HasRoomIfEnded}
 use Rattle.fab_blocks.specs.Words.{word_of}
 use Rattle.fab_read.specs.inner.Following.{IsSaid}
@@ -119,14 +119,14 @@ module _ (holder : PlainHolder) where
 -- ---- rows that begin and end blocks
 
 -- only a fabric file stands in the block of parameters
-fabric_there : (mode : Mode) (parameters : Parameters) (fabric : Bool) → is_place (place_in mode parameters fabric) places.Parameters ≡ true → fabric ≡ true
+fabric_there : (begun : OpenBlock) (parameters : Parameters) (fabric : Bool) → is_place (place_in begun parameters fabric) places.Parameters ≡ true → fabric ≡ true
 unfolding is_place
-fabric_there mode parameters true there = refl
-fabric_there modes.Outside parts.Open false there = absurd cc
-fabric_there modes.Outside parts.Absent false there = absurd cc
-fabric_there modes.Outside parts.Ended false there = absurd cc
-fabric_there modes.Grid parameters false there = absurd cc
-fabric_there (modes.Tile block) parameters false there = absurd cc
+fabric_there begun parameters true there = refl
+fabric_there blocks.Outside parts.Open false there = absurd cc
+fabric_there blocks.Outside parts.Absent false there = absurd cc
+fabric_there blocks.Outside parts.Ended false there = absurd cc
+fabric_there blocks.Grid parameters false there = absurd cc
+fabric_there (blocks.Tile block) parameters false there = absurd cc
 
 module _ (before : PlainReading) (holder : PlainHolder) where
   judged_step : (problem : Option Problem) (after : PlainReading) → after.types ≡ before.types → OnStep before holder (judged problem (after, said.Taken))
@@ -144,13 +144,13 @@ module _ (before : PlainReading) (holder : PlainHolder) where
   grid_begins : (cells : List (List ℕ)) → OnStep before holder (begin_grid before holder cells)
   unfolding begin_grid
   grid_begins cells =
-      let begun : OnStep before holder (Ok (with_grid before [] modes.Grid, said.Taken)) = (refl, tt) in
+      let begun : OnStep before holder (Ok (with_grid before [] blocks.Grid, said.Taken)) = (refl, tt) in
       either (OnStep before holder) (not (length cells == 1)) _ _ tt (either (OnStep before holder) (not (may_begin before holder (is_some before.grid))) _ _ tt begun)
 
   grid_ends : (cells : List (List ℕ)) → OnStep before holder (end_grid before holder cells)
   unfolding end_grid
   grid_ends cells =
-      let done : OnStep before holder (Ok (with_mode before modes.Outside, said.Taken)) = (refl, tt) in
+      let done : OnStep before holder (Ok (with_open_block before blocks.Outside, said.Taken)) = (refl, tt) in
       either (OnStep before holder) (not (length cells == 1)) _ _ tt
       (either (OnStep before holder) (not (stands before holder places.Grid && holder.is_own)) _ _ tt (either (OnStep before holder) (length (lines_of before) == 0) _ _ tt done))
 
@@ -174,15 +174,15 @@ module _ (before : PlainReading) (holder : PlainHolder) where
   unfolding begin_tile
   tile_begins cells = judged_step _ _ refl
 
-  block_out : (mode : Mode) (own : Bool) → OnStep before holder (handed_out before mode own)
-  block_out (modes.Tile block) true = (refl, tt)
-  block_out (modes.Tile block) false = tt
-  block_out modes.Grid own = tt
-  block_out modes.Outside own = tt
+  block_out : (begun : OpenBlock) (own : Bool) → OnStep before holder (handed_out before begun own)
+  block_out (blocks.Tile block) true = (refl, tt)
+  block_out (blocks.Tile block) false = tt
+  block_out blocks.Grid own = tt
+  block_out blocks.Outside own = tt
 
   tile_ends : (cells : List (List ℕ)) → OnStep before holder (end_tile before holder cells)
   unfolding end_tile
-  tile_ends cells = either (OnStep before holder) (not (length cells == 1)) _ _ tt (block_out before.mode holder.is_own)
+  tile_ends cells = either (OnStep before holder) (not (length cells == 1)) _ _ tt (block_out before.begun holder.is_own)
 
   by_place : (there : Bool) (word : Word) (cells : List (List ℕ)) → (there ≡ true → holder.is_fabric ≡ true) → OnSaid holder (if there then inner_parameter holder word cells else outer_row holder word cells)
   by_place true word cells fabric = in_parameters holder word cells (fabric refl)
@@ -190,13 +190,13 @@ module _ (before : PlainReading) (holder : PlainHolder) where
 
   outside : (word : Word) (cells : List (List ℕ)) → OnSaid holder (if stands before holder places.Parameters then inner_parameter holder word cells else outer_row holder word cells)
   unfolding stands
-  outside word cells = by_place (is_place (place_of before holder.is_fabric) places.Parameters) word cells (λ t. fabric_there before.mode before.parameters holder.is_fabric t)
+  outside word cells = by_place (is_place (place_of before holder.is_fabric) places.Parameters) word cells (λ t. fabric_there before.begun before.parameters holder.is_fabric t)
 
-  standing : (mode : Mode) (word : Word) (row : PlainRow) → OnStep before holder (row_in before mode holder word row)
+  standing : (begun : OpenBlock) (word : Word) (row : PlainRow) → OnStep before holder (row_in before begun holder word row)
   unfolding row_in
-  standing modes.Grid word row = a_line row
-  standing (modes.Tile block) word row = block_step (block_row block holder word row.cells) (in_block holder block word row.cells)
-  standing modes.Outside word row = said_step _ (outside word row.cells)
+  standing blocks.Grid word row = a_line row
+  standing (blocks.Tile block) word row = block_step (block_row block holder word row.cells) (in_block holder block word row.cells)
+  standing blocks.Outside word row = said_step _ (outside word row.cells)
 
   by_word : (word : Word) (row : PlainRow) → OnStep before holder (say before holder word row)
   unfolding say
@@ -206,7 +206,7 @@ module _ (before : PlainReading) (holder : PlainHolder) where
   by_word words.ParametersEnd row = parameters_end row.cells
   by_word words.TileBegin row = tile_begins row.cells
   by_word words.TileEnd row = tile_ends row.cells
-  by_word word row = standing before.mode word row
+  by_word word row = standing before.begun word row
 
   of_row : (row : PlainRow) → OnStep before holder (said_of before holder row)
   unfolding said_of

@@ -12,8 +12,8 @@ use Rattle.fab_files.specs.Files.{handed_out, Event, refuses, MeetsFile}
 use Rattle.fab_blocks.specs.Blocks.{PlainBlock}
 use Rattle.fab_blocks.specs.Reading.{PlainReading, PlainHolder, is_inside, place_of, with_type}
 use Rattle.fab_blocks.specs.Saying.{said_of}
-use Rattle.fab_blocks.specs.declared.mode.Said.{Said}
-use Rattle.fab_blocks.specs.declared.mode.Said.TheVariants as said
+use Rattle.fab_blocks.specs.declared.standing.Said.{Said}
+use Rattle.fab_blocks.specs.declared.standing.Said.TheVariants as said
 use Rattle.fab_read.specs.Tiles.{End, ReadsTile, MeetsTile}
 
 -- ---- files within files

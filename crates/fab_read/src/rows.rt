@@ -5,7 +5,7 @@ ghost use Rattle.std.specs.Option.{ForSome};
 ghost use Rattle.fab_base.specs.Reading.{Answers};
 ghost use Rattle.fab_blocks.specs.Reading.{HasRoom};
 ghost use Rattle.fab_blocks.specs.Saying.{said_of};
-ghost use Rattle.fab_blocks.specs.declared.mode.Mode.TheVariants as modes;
+ghost use Rattle.fab_blocks.specs.declared.standing.OpenBlock.TheVariants as blocks;
 ghost use Rattle.fab_files.specs.Files.{HasReadCause};
 ghost use Rattle.fab_model.specs.Tables.{HasTable};
 ghost use Rattle.fab_rows.specs.Rows.{rows_of};
@@ -45,7 +45,7 @@ fn end_tile<D: Desk>(
     end: &End,
     block: Block,
 ) -> Result<(), Fault>
-    requires outside { reading.old.mode ≡ modes.Outside }
+    requires outside { reading.old.begun ≡ blocks.Outside }
     requires room { HasRoom reading.old.types block.name block.bels }
     ensures told { D.told desk.new ≡ D.told desk.old }
     ensures writes { D.writes desk.new ≡ D.writes desk.old }

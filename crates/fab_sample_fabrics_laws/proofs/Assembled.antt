@@ -88,7 +88,7 @@ module _ (files : Map) (size : ℕ) (least : 2 ≤ size) (most : size ≤ 16) (t
   }
 
   is_sample : IsSampleFabric size fabric
-  is_sample = record { columns = is_run.columns; rows = is_run.rows; grid = is_run.grid; names = refl; bels = refl }
+  is_sample = record { columns = is_run.columns; rows = is_run.rows; grid = is_run.grid; mode = refl; names = refl; bels = refl }
 
   pub read : (f : PlainFabric) × SpellsFabric files table f × IsSampleFabric size f × (f.types ≡ tile_with west wests ∷ tile_with logic logics ∷ tile_with east easts ∷ [])
   read = (fabric, spelled, is_sample, refl)

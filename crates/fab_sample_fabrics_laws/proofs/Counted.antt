@@ -1,6 +1,8 @@
 -- The sites of a sample's fabric.
 use Rattle.std.proofs.Common.{◌≡◌, ◌≤◌, ℕ, ◌+◌, List, [], ◌∷◌, map, replicate, refl, sym, subst, Option, arith}
 use Rattle.std.specs.List.{flat_map}
+use Rattle.fab_model.specs.declared.mode.Mode.{Mode}
+use Rattle.fab_model.specs.declared.mode.Mode.TheVariants as modes
 use Rattle.fab_model.specs.declared.tiles.Bel.{Bel}
 use Rattle.fab_model.specs.Tiles.{PlainTile, counted}
 use Rattle.fab_model.specs.Grid.{PlainFabric}
@@ -10,7 +12,7 @@ use Rattle.fab_sample_fabrics_laws.proofs.Selected.{one}
 
 -- a sample's fabric of these types
 abbrev fabric_with : (size : ℕ) → List PlainTile → PlainFabric
-fabric_with size types = record { types = types; columns = size + 2; rows = size; grid = flat_map (λ row. row) (replicate size (row_types size)) }
+fabric_with size types = record { types = types; columns = size + 2; rows = size; grid = flat_map (λ row. row) (replicate size (row_types size)); mode = modes.Frames }
 
 -- a tile with other BELs
 abbrev with_bels : PlainTile → List Bel → PlainTile
@@ -66,7 +68,8 @@ by_types size (west ∷ logic ∷ east ∷ other ∷ more) least most is = absur
 
 pub have_sites : (size : ℕ) (fabric : PlainFabric) → 2 ≤ size → size ≤ 16 → IsSampleFabric size fabric → HasSites size fabric
 have_sites size fabric least most is =
-    subst (λ (columns : ℕ). HasSites size (record { types = fabric.types; columns = columns; rows = fabric.rows; grid = fabric.grid })) (sym is.columns)
-    (subst (λ (rows : ℕ). HasSites size (record { types = fabric.types; columns = size + 2; rows = rows; grid = fabric.grid })) (sym is.rows)
-    (subst (λ (grid : List (Option ℕ)). HasSites size (record { types = fabric.types; columns = size + 2; rows = size; grid = grid })) (sym is.grid)
-    (by_types size fabric.types least most is.bels)))
+    subst (λ (columns : ℕ). HasSites size (record { types = fabric.types; columns = columns; rows = fabric.rows; grid = fabric.grid; mode = fabric.mode })) (sym is.columns)
+    (subst (λ (rows : ℕ). HasSites size (record { types = fabric.types; columns = size + 2; rows = rows; grid = fabric.grid; mode = fabric.mode })) (sym is.rows)
+    (subst (λ (grid : List (Option ℕ)). HasSites size (record { types = fabric.types; columns = size + 2; rows = size; grid = grid; mode = fabric.mode })) (sym is.grid)
+    (subst (λ (mode : Mode). HasSites size (record (fabric_with size fabric.types) { mode = mode })) (sym is.mode)
+    (by_types size fabric.types least most is.bels))))

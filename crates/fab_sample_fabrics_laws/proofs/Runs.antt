@@ -8,8 +8,8 @@ use Rattle.fab_model.specs.Tiles.{PlainTile}
 use Rattle.fab_blocks.specs.Blocks.{PlainBlock}
 use Rattle.fab_blocks.specs.Reading.{PlainReading, PlainHolder, start, with_type}
 use Rattle.fab_blocks.specs.Saying.{Step, said_of}
-use Rattle.fab_blocks.specs.declared.mode.Said.{Said}
-use Rattle.fab_blocks.specs.declared.mode.Said.TheVariants as said
+use Rattle.fab_blocks.specs.declared.standing.Said.{Said}
+use Rattle.fab_blocks.specs.declared.standing.Said.TheVariants as said
 use Rattle.fab_read.specs.Tiles.{ReadsTile}
 use Rattle.fab_read.specs.Rows.{ReadsRows, ends, takes_row, ends_tile}
 

@@ -22,8 +22,8 @@ use Rattle.fab_blocks.specs.Blocks.{PlainBlock, names, row_names}
 use Rattle.fab_blocks.specs.Rows.{has_numbers, has_sides, points, has_ends, wire_reason, kind_of, is_prefix, may_lack_prefix, bel_reason, kind_problem, is_matrix_file, matrix_problem}
 use Rattle.fab_blocks.specs.Inner.{foreign_row, path_problem, outer_row, wire_row, bel_row, matrix_row, block_row}
 use Rattle.fab_blocks.specs.Reading.{PlainReading, start}
-use Rattle.fab_blocks.specs.declared.mode.Mode.TheVariants as modes
-use Rattle.fab_blocks.specs.declared.mode.Parameters.TheVariants as parts
+use Rattle.fab_blocks.specs.declared.standing.OpenBlock.TheVariants as blocks
+use Rattle.fab_blocks.specs.declared.standing.Parameters.TheVariants as parts
 use Rattle.fab_blocks.specs.Saying.{is_place, stands, may_begin, begin_grid, end_grid, is_grid_cell, fits_grid, line_reason, line_limit, grid_line, begin_reason, begin_limit, begin_tile, end_tile, row_in, say, said_of}
 use Rattle.fab_read.specs.Tiles.{paired}
 use Rattle.fab_read.specs.Fabrics.{top, strange_line, grid_fabric, most_wires}
@@ -42,7 +42,7 @@ module _ (pairs_of : PlainBlock → List NumberPair) (table_of : PlainBlock → 
   types = tile_of west ∷ tile_of logic ∷ tile_of east ∷ []
 
   abbrev pub reading_of : (size : ℕ) → PlainReading
-  reading_of size = record { types = types; grid = Some (grid_from size 2 size); parameters = parts.Absent; mode = modes.Outside }
+  reading_of size = record { types = types; grid = Some (grid_from size 2 size); parameters = parts.Absent; begun = blocks.Outside }
 
   abbrev pub fabric_at : (size : ℕ) → PlainFabric
   fabric_at size = grid_fabric types (grid_from size 2 size)

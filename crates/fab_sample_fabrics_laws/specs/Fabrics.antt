@@ -3,6 +3,7 @@ use Rattle.std.specs.Prelude.{◌≡◌, ◌≤◌, ℕ, ◌+◌, List, [], ◌�
 use Rattle.std.specs.List.{flat_map}
 use Rattle.fab_desk.specs.Files.{Map}
 use Rattle.fab_kinds.specs.declared.kind.Kind.TheVariants as kinds
+use Rattle.fab_model.specs.declared.mode.Mode.TheVariants as modes
 use Rattle.fab_model.specs.declared.tiles.Bel.{Bel}
 use Rattle.fab_model.specs.Grid.{PlainFabric}
 use Rattle.fab_read.specs.Fabrics.{SpellsFabric}
@@ -38,11 +39,12 @@ look_up_tables = record { kind = kinds.Lut4c; prefix = codes "LA_" } ∷ record 
 abbrev pub row_types : (size : ℕ) → List (Option ℕ)
 row_types size = Some 0 ∷ replicate size (Some 1) ++ Some 2 ∷ []
 
--- so many rows of logic, with two pads at both ends of each
+-- so many rows of logic, with two pads at both ends of each, whose configuration frames keep
 pub record IsSampleFabric (size : ℕ) (fabric : PlainFabric) : Type 0 where
   pub columns : fabric.columns ≡ size + 2
   pub rows : fabric.rows ≡ size
   pub grid : fabric.grid ≡ flat_map (λ row. row) (replicate size (row_types size))
+  pub mode : fabric.mode ≡ modes.Frames
   pub names : map (λ tile. tile.name) fabric.types ≡ codes "SW" ∷ codes "SLOG" ∷ codes "SE" ∷ []
   pub bels : map (λ tile. tile.bels) fabric.types ≡ pads ∷ look_up_tables ∷ pads ∷ []
 

@@ -6,6 +6,7 @@ use Rattle.std.proofs.lemmas.List.Elements.{All-from_recursion}
 use Rattle.fab_kinds.specs.declared.kind.Kind.TheVariants.{Lut4c, Io}
 use Rattle.fab_select.specs.declared.pair.Pair.{Pair}
 use Rattle.fab_syntax.specs.Plain.{PlainModule}
+use Rattle.fab_model.specs.declared.mode.Mode.TheVariants as modes
 use Rattle.fab_model.specs.Tiles.{PlainTile, counted}
 use Rattle.fab_model.specs.Grid.{PlainFabric}
 use Rattle.fab_gen_loader.specs.Expressions.{loader_module}
@@ -21,7 +22,7 @@ use Rattle.fab_sample_sizes_laws.proofs.Counts.{below}
 -- ---- the grid
 
 abbrev fabric_with : (size : ℕ) → List PlainTile → PlainFabric
-fabric_with size types = record { types = types; columns = size + 2; rows = size; grid = flat_map (λ row. row) (replicate size (row_types size)) }
+fabric_with size types = record { types = types; columns = size + 2; rows = size; grid = flat_map (λ row. row) (replicate size (row_types size)); mode = modes.Frames }
 
 pub record StandAll (fabric : PlainFabric) : Type 0 where
   pub types : standing_types fabric ≡ fabric.types
@@ -46,7 +47,7 @@ module _ (wests logics easts : List Pair) where
   pub types_stand : (size : ℕ) (fabric : PlainFabric) → 2 ≤ size → size ≤ 16 → IsSampleFabric size fabric → fabric.types ≡ types_of →
       StandAll fabric
   types_stand size fabric least most is typed =
-      let fabric_is : fabric ≡ fabric_with size types_of = λ j. record { types = typed j; columns = is.columns j; rows = is.rows j; grid = is.grid j } in
+      let fabric_is : fabric ≡ fabric_with size types_of = λ j. record { types = typed j; columns = is.columns j; rows = is.rows j; grid = is.grid j; mode = is.mode j } in
       record {
         types = ap standing_types fabric_is ∙ sizes.one TypesStand 2 15 size least (omega (arith, most)) each_type ∙ sym typed;
         kinds = ap used_kinds fabric_is ∙ sizes.one KindsStand 2 15 size least (omega (arith, most)) each_kind;

@@ -94,7 +94,9 @@ module _ (sound : SpelledDesignsAreSound) (spelled : LegalDesignsAreSpelled) (ru
 
   spells : (bytes : List ℕ) → bytes ≡ implementation_text fabric implementation → Spells fabric (rows_of bytes) implementation
   spells bytes is =
-      let has = (spelled (files_of run) names.design flowed.flow.design implementation flowed.flow.spelled flowed.flow.made.legal).text in
+      let mapping = flowed.flow.made.mapping in
+      let reset_is = ap (λ (i : PlainImplementation). i.reset) mapping.is ∙ mapping.good.reset in
+      let has = (spelled (files_of run) names.design flowed.flow.design implementation flowed.flow.spelled flowed.flow.made.legal).text reset_is in
       printed_spells fabric implementation bytes (subst (λ (d : PlainDesign). HasSpelling d.fabric implementation) flowed.design has) is
 
   said : (bytes : List ℕ) → bytes ≡ implementation_text fabric implementation → Says fabric (rows_of bytes) implementation

@@ -1,5 +1,5 @@
 -- What the laws of fabrics, of netlists and of legal implementations say together of a design that files spell.
-use Rattle.std.proofs.Common.{◌≡◌, ◌<◌, ◌++◌, ℕ, true, All, List, [], ◌∷◌, map, sym, ap, subst, ◌∙◌, arith}
+use Rattle.std.proofs.Common.{◌≡◌, ◌<◌, ◌++◌, ℕ, true, All, List, [], ◌∷◌, None, map, sym, ap, subst, ◌∙◌, arith}
 use Rattle.std.specs.List.{AllByRecursion as Each, filter, list_all}
 use Rattle.std.proofs.lemmas.Bool.{and_parts}
 use Rattle.std.proofs.lemmas.List.{map-append}
@@ -12,7 +12,7 @@ use Rattle.fab_netlist.specs.Packed.{PlainCell}
 use Rattle.fab_netlist.specs.Packing.{Work, cell_of, net_of, of_cover, of_latch, others, packed, pair, works}
 use Rattle.fab_netlist.specs.Plain.{PlainCover, PlainNetlist, name_of}
 use Rattle.fab_netlist.specs.WellMade.{IsWellMade, ports}
-use Rattle.fab_implementation.specs.Plain.{PlainImplementation}
+use Rattle.fab_implementation.specs.Plain.{PlainImplementation, reset_name}
 use Rattle.fab_legal.specs.Legal.{IsLegal}
 use Rattle.fab_legal.specs.WellMade.{IsWellMadePacked, output_name, ports as design_ports}
 use Rattle.fab_legal.proofs.PackedMade.{packed_made}
@@ -95,13 +95,18 @@ module _ (files : Map) (names : DesignFiles) (design : PlainDesign) (spelled : S
   tables_small =
       small_cells design.netlist (subst (λ (netlist : PlainNetlist). Each (λ cover. cover.table < 65536) netlist.covers) (sym spelled.netlist.spelled.1) (tables_are_small spelled.netlist.bytes))
 
+  -- a text names no reset port
+  no_reset : reset_name (packed design.netlist) ≡ None
+  no_reset = ap (λ (netlist : PlainNetlist). reset_name (packed netlist)) spelled.netlist.spelled.1
+
   module _ (implementation : PlainImplementation) (legal : IsLegal design.fabric (packed design.netlist) design.fixed implementation) where
     pub has_state : states.HasSpelling (design_state (packed design.netlist) implementation)
     has_state = state_spelled design.fabric fabric_is (packed design.netlist) design_made design.fixed implementation legal (all_words (design_ports (packed design.netlist)) names_are)
 
-    pub has_text : texts.HasSpelling design.fabric implementation
-    has_text =
+    pub has_text : implementation.reset ≡ reset_name (packed design.netlist) → texts.HasSpelling design.fabric implementation
+    has_text is =
         implementation_spelled design.fabric fabric_is tiles_are (spelled_words files names.fabric design.fabric spelled.fabric) (packed design.netlist) design_made names_are design.fixed implementation legal
+        (is ∙ no_reset)
 
     pub has_lines : All lines.HasSpelling (design_features design.fabric (packed design.netlist) implementation)
     has_lines =

@@ -120,11 +120,12 @@ module _ (fabric : PlainFabric) (is : IsFabric fabric) (tiles : AreTiles fabric)
   tree_net : (tree : PlainTree) → Contains it.trees tree → IsNet packed (net_among (named it.ins) tree.net)
   tree_net tree here = (legal.nets here.0 tree here.1 (here.1, here.2)).name.exists
 
-  nameable : IsNameable fabric it
-  nameable = record {
+  nameable : it.reset ≡ None → IsNameable fabric it
+  nameable no_reset = record {
     on_fabric = on_fabric;
     cells = each_from_members (λ cell. cell.0 ≤ most_cell) it.cells (λ cell here. few_cells cell.0 (line_known fabric kinds.Lut4c (IsCell packed) it.cells legal.placed.cells cell here));
     nets = each_from_members (λ tree. IsNamed it.ins tree.net) it.trees (λ tree here. net_named tree.net (tree_net tree here));
+    no_reset = no_reset;
   }
 
   -- ---- lines of words
@@ -177,8 +178,8 @@ module _ (fabric : PlainFabric) (is : IsFabric fabric) (tiles : AreTiles fabric)
       each_joined IsRow (cells ++ ins ++ outs) (flat_map (tree_lines fabric it.ins) it.trees)
       (each_joined IsRow (cells ++ ins) outs (each_joined IsRow cells ins cell_rows in_rows) out_rows) all_trees
 
-  pub implementation_spelled : HasSpelling fabric it
-  implementation_spelled = record {
-    nameable = nameable;
+  pub implementation_spelled : it.reset ≡ None → HasSpelling fabric it
+  implementation_spelled no_reset = record {
+    nameable = nameable no_reset;
     rows = each_tested is_row (implementation_lines fabric it) (refl, each_joined IsRow (inner_lines fabric it) (ending ∷ []) inner_rows (refl, tt));
   }

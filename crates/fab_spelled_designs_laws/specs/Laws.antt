@@ -1,10 +1,10 @@
 -- What is printed of a design that files spell is read back.
-use Rattle.std.specs.Prelude.{All}
+use Rattle.std.specs.Prelude.{◌≡◌, All}
 use Rattle.fab_desk.specs.Files.{Map}
 use Rattle.fab_fabric.specs.Fabric.{AreTiles, IsFabric}
 use Rattle.fab_netlist.specs.Packing.{packed}
 use Rattle.fab_netlist.specs.WellMade.{IsWellMade}
-use Rattle.fab_implementation.specs.Plain.{PlainImplementation}
+use Rattle.fab_implementation.specs.Plain.{PlainImplementation, reset_name}
 use Rattle.fab_legal.specs.Legal.{IsLegal}
 use Rattle.fab_state.specs.Spelled as states
 use Rattle.fab_designs.specs.fab_impl_Spelled as texts
@@ -22,9 +22,10 @@ pub record IsSound (design : PlainDesign) : Type 0 where
 abbrev pub SpelledDesignsAreSound : Type 0
 SpelledDesignsAreSound = (files : Map) (names : DesignFiles) (design : PlainDesign) → SpellsDesign files names design → IsSound design
 
--- The text of an implementation can spell it, that of its state the state, and each feature of it has a line that can spell it.
+-- The text of an implementation can spell it, where it has the reset port of the design; that of its state the state; and each feature of it has a line
+-- that can spell it.
 pub record IsSpelled (design : PlainDesign) (implementation : PlainImplementation) : Type 0 where
-  pub text : texts.HasSpelling design.fabric implementation
+  pub text : implementation.reset ≡ reset_name (packed design.netlist) → texts.HasSpelling design.fabric implementation
   pub state : states.HasSpelling (design_state (packed design.netlist) implementation)
   pub features : All lines.HasSpelling (design_features design.fabric (packed design.netlist) implementation)
 

@@ -12,16 +12,16 @@ use Rattle.fab_rows.specs.Rows.{PlainRow}
 use Rattle.fab_model.specs.Tiles.{PlainTile}
 use Rattle.fab_blocks.specs.declared.words.Word.{Word}
 use Rattle.fab_blocks.specs.declared.words.Word.TheVariants as words
-use Rattle.fab_blocks.specs.declared.mode.Mode.{Mode}
-use Rattle.fab_blocks.specs.declared.mode.Mode.TheVariants as modes
-use Rattle.fab_blocks.specs.declared.mode.Parameters.TheVariants as parts
-use Rattle.fab_blocks.specs.declared.mode.Place.TheVariants as places
-use Rattle.fab_blocks.specs.declared.mode.Said.{Said}
-use Rattle.fab_blocks.specs.declared.mode.Said.TheVariants as said
+use Rattle.fab_blocks.specs.declared.standing.OpenBlock.{OpenBlock}
+use Rattle.fab_blocks.specs.declared.standing.OpenBlock.TheVariants as blocks
+use Rattle.fab_blocks.specs.declared.standing.Parameters.TheVariants as parts
+use Rattle.fab_blocks.specs.declared.standing.Place.TheVariants as places
+use Rattle.fab_blocks.specs.declared.standing.Said.{Said}
+use Rattle.fab_blocks.specs.declared.standing.Said.TheVariants as said
 use Rattle.fab_blocks.specs.Blocks.{PlainBlock, new_block, with_matrix, with_row}
 use Rattle.fab_blocks.specs.Cells.{cell_at, first_problem}
 use Rattle.fab_blocks.specs.Inner.{IsPlain, bel_row, beside, block_row, depth_problem, file_named, foreign_row, include_row, inner_parameter, matrix_row, outer_row, parameter_row, path_problem, tiles_row, value_problem, wire_cells, wire_row}
-use Rattle.fab_blocks.specs.Reading.{HasLines, HasRoom, HasRoomFor, IsGrid, IsReading, PlainGridLine, PlainHolder, PlainReading, start, with_grid, with_mode, with_parameters, with_type}
+use Rattle.fab_blocks.specs.Reading.{HasLines, HasRoom, HasRoomFor, IsGrid, IsReading, PlainGridLine, PlainHolder, PlainReading, start, with_grid, with_open_block, with_parameters, with_type}
 use Rattle.fab_blocks.specs.Rows.{WireCells, bel_problem, bel_reason, kind_of, kind_problem, matrix_problem, row_of, wire_problem, with_bel_of}
 use Rattle.fab_blocks.specs.Saying.{HasRoomIfEnded, Step, begin_grid, begin_parameters, begin_problem, begin_tile, end_grid, end_parameters, end_tile, grid_line, handed_out, line_problem, lines_of, may_begin, parameters_begun, row_in, said_of, say, stands, with_block, with_line, with_said}
 use Rattle.fab_blocks.specs.Words.{word_of}
@@ -154,7 +154,7 @@ module _ (before : PlainReading) (holder : PlainHolder) (sound : IsReading befor
   said_step (Err problem) plain = tt
 
   -- a grid that begins has no line yet
-  begun : IsReading (with_grid before [] modes.Grid)
+  begun : IsReading (with_grid before [] blocks.Grid)
   begun = record {
     names = sound.names;
     few_types = sound.few_types;
@@ -169,7 +169,7 @@ module _ (before : PlainReading) (holder : PlainHolder) (sound : IsReading befor
   grid_begins cells = either OnStep (not (length cells == 1)) _ _ tt (either OnStep (not (may_begin before holder (is_some before.grid))) _ _ tt (begun, tt))
 
   -- one that ends has some
-  grid_ended : (empty : Bool) (problem : Problem) → (length (lines_of before) == 0) ≡ empty → OnStep (if empty then Err problem else Ok (with_mode before modes.Outside, said.Taken))
+  grid_ended : (empty : Bool) (problem : Problem) → (length (lines_of before) == 0) ≡ empty → OnStep (if empty then Err problem else Ok (with_open_block before blocks.Outside, said.Taken))
   grid_ended true problem is = tt
   grid_ended false problem is = (
     record {
@@ -212,44 +212,44 @@ module _ (before : PlainReading) (holder : PlainHolder) (sound : IsReading befor
 
   tile_begins : (cells : List (List ℕ)) → OnStep (begin_tile before holder cells)
   unfolding begin_tile
-  tile_begins cells = judged_when (begin_problem before holder cells) (with_mode before (modes.Tile (new_block (cell_at cells 1)))) (λ fine.
+  tile_begins cells = judged_when (begin_problem before holder cells) (with_open_block before (blocks.Tile (new_block (cell_at cells 1)))) (λ fine.
       sound_open before (new_block (cell_at cells 1)) sound (begin_outside before holder cells fine) (begin_has_room before holder cells fine))
 
   -- the block that is open
-  room_of : (mode : Mode) → before.mode ≡ mode → HasRoomFor before.types mode
-  room_of mode is = subst (HasRoomFor before.types) is sound.room
+  room_of : (begun : OpenBlock) → before.begun ≡ begun → HasRoomFor before.types begun
+  room_of begun is = subst (HasRoomFor before.types) is sound.room
 
-  block_out : (mode : Mode) (own : Bool) → before.mode ≡ mode → OnStep (handed_out before mode own)
-  block_out (modes.Tile block) true is = (sound_closed before block modes.Outside sound is refl, (refl, room_of (modes.Tile block) is))
-  block_out (modes.Tile block) false is = tt
-  block_out modes.Grid own is = tt
-  block_out modes.Outside own is = tt
+  block_out : (begun : OpenBlock) (own : Bool) → before.begun ≡ begun → OnStep (handed_out before begun own)
+  block_out (blocks.Tile block) true is = (sound_closed before block blocks.Outside sound is refl, (refl, room_of (blocks.Tile block) is))
+  block_out (blocks.Tile block) false is = tt
+  block_out blocks.Grid own is = tt
+  block_out blocks.Outside own is = tt
 
   tile_ends : (cells : List (List ℕ)) → OnStep (end_tile before holder cells)
   unfolding end_tile
-  tile_ends cells = either OnStep (not (length cells == 1)) _ _ tt (block_out before.mode holder.is_own refl)
+  tile_ends cells = either OnStep (not (length cells == 1)) _ _ tt (block_out before.begun holder.is_own refl)
 
-  block_step : (block : PlainBlock) (is : before.mode ≡ modes.Tile block) (few : length block.bels ≤ 26) (says : Result (PlainBlock × Said) Problem) → OnBlock holder block few says → OnStep (with_block before says)
+  block_step : (block : PlainBlock) (is : before.begun ≡ blocks.Tile block) (few : length block.bels ≤ 26) (says : Result (PlainBlock × Said) Problem) → OnBlock holder block few says → OnStep (with_block before says)
   block_step block is few (Ok step) on = (
     record {
       names = sound.names;
       few_types = sound.few_types;
       few_bels = sound.few_bels;
-      room = room_of_next before.types block step.0 (room_of (modes.Tile block) is) on.0.0 on.0.1;
+      room = room_of_next before.types block step.0 (room_of (blocks.Tile block) is) on.0.0 on.0.1;
       grid = sound.grid;
-      lines = λ lines there. subst (λ (mode : Mode). HasLines mode lines) is (sound.lines lines there);
+      lines = λ lines there. subst (λ (begun : OpenBlock). HasLines begun lines) is (sound.lines lines there);
     },
-    plain_room (with_mode before (modes.Tile step.0)) step.1 on.1,
+    plain_room (with_open_block before (blocks.Tile step.0)) step.1 on.1,
   )
   block_step block is few (Err problem) on = tt
 
-  standing : (mode : Mode) (word : Word) (row : PlainRow) → before.mode ≡ mode → 0 < length row.cells → OnStep (row_in before mode holder word row)
+  standing : (begun : OpenBlock) (word : Word) (row : PlainRow) → before.begun ≡ begun → 0 < length row.cells → OnStep (row_in before begun holder word row)
   unfolding row_in
-  standing modes.Grid word row is some = a_line row some
-  standing (modes.Tile block) word row is some =
-      let few = (room_of (modes.Tile block) is).few_bels in
+  standing blocks.Grid word row is some = a_line row some
+  standing (blocks.Tile block) word row is some =
+      let few = (room_of (blocks.Tile block) is).few_bels in
       block_step block is few (block_row block holder word row.cells) (in_block holder block few word row.cells)
-  standing modes.Outside word row is some = said_step _ (either OnSaid (stands before holder places.Parameters) _ _ (in_parameters holder word row.cells) (outer holder word row.cells))
+  standing blocks.Outside word row is some = said_step _ (either OnSaid (stands before holder places.Parameters) _ _ (in_parameters holder word row.cells) (outer holder word row.cells))
 
   by_word : (word : Word) (row : PlainRow) → 0 < length row.cells → OnStep (say before holder word row)
   unfolding say
@@ -259,7 +259,7 @@ module _ (before : PlainReading) (holder : PlainHolder) (sound : IsReading befor
   by_word words.ParametersEnd row some = parameters_end row.cells
   by_word words.TileBegin row some = tile_begins row.cells
   by_word words.TileEnd row some = tile_ends row.cells
-  by_word word row some = standing before.mode word row refl some
+  by_word word row some = standing before.begun word row refl some
 
   by_cells : (row : PlainRow) (none : Bool) (problem : Problem) → (length row.cells == 0) ≡ none → OnStep (if none then Err problem else say before holder (word_of (cell_at row.cells 0)) row)
   by_cells row true problem is = tt

@@ -4,8 +4,8 @@ ghost use Rattle.std.specs.Prelude.{◌≡◌, ◌<◌, ◌==◌, ◌||◌, leng
 ghost use Rattle.std.specs.List.{list_any};
 ghost use Rattle.std.specs.Str.{bytes_eq};
 ghost use Rattle.fab_base.specs.Reading.{Answers};
-ghost use Rattle.fab_blocks.specs.declared.mode.Mode.TheVariants as modes;
-ghost use Rattle.fab_blocks.specs.declared.mode.Place.TheVariants as places;
+ghost use Rattle.fab_blocks.specs.declared.standing.OpenBlock.TheVariants as blocks;
+ghost use Rattle.fab_blocks.specs.declared.standing.Place.TheVariants as places;
 ghost use Rattle.fab_lines.specs.Items.{is_among};
 ghost use Rattle.fab_blocks.specs.Inner.{IsPlain, block_row, inner_parameter, outer_row};
 ghost use Rattle.fab_blocks.specs.Reading.{HasRoom, open_name, tile_names};
@@ -18,7 +18,7 @@ use crate::cells::{cell_at, is_tile_name, long_of};
 use crate::grid::{line_of, line_problem};
 use crate::holder::Holder;
 use crate::inner::{inner_parameter, outer_row};
-use crate::mode::{Mode, Parameters, Place, Said};
+use crate::standing::{OpenBlock, Parameters, Place, Said};
 use crate::words::Word;
 use fab_base::{Name, Problem, Quantity, Reason};
 use fab_model::TileType;
@@ -81,7 +81,7 @@ impl Reading {
             return Err(Problem::Malformed(Reason::Block));
         }
         self.grid = Some(Vec::new(alloc));
-        self.mode = Mode::Grid;
+        self.begun = OpenBlock::Grid;
         Ok(Said::Taken)
     }
 
@@ -108,7 +108,7 @@ impl Reading {
         if self.lacks_lines() {
             return Err(Problem::Malformed(Reason::Grid));
         }
-        self.mode = Mode::Outside;
+        self.begun = OpenBlock::Outside;
         Ok(Said::Taken)
     }
 
@@ -167,11 +167,11 @@ impl Reading {
     }
 
     fn is_open_name(&self, name: &[u8]) -> bool
-        ensures { result ≡ list_any (bytes_eq name.now) (open_name self.now.mode) }
+        ensures { result ≡ list_any (bytes_eq name.now) (open_name self.now.begun) }
     {
-        match &self.mode {
-            Mode::Tile(block) => name == block.name().bytes(),
-            Mode::Outside | Mode::Grid => false,
+        match &self.begun {
+            OpenBlock::Tile(block) => name == block.name().bytes(),
+            OpenBlock::Outside | OpenBlock::Grid => false,
         }
     }
 
@@ -180,8 +180,8 @@ impl Reading {
         ensures { result ≡ is_among (tile_names self.now) name.now }
     {
         let ended = has_type(&self.types, name);
-        let open = self.is_open_name(name);
-        either(ended, open)
+        let begun = self.is_open_name(name);
+        either(ended, begun)
     }
 
     #[tactic(auto, unfolding(crate::specs::Saying::begin_reason))]
@@ -237,7 +237,7 @@ impl Reading {
             return Err(problem);
         }
         let name = Name::of(alloc, cell_at(cells, 1))?;
-        self.mode = Mode::Tile(Block::new(alloc, name));
+        self.begun = OpenBlock::Tile(Block::new(alloc, name));
         Ok(Said::Taken)
     }
 
@@ -252,10 +252,10 @@ impl Reading {
         if !holder.is_own {
             return Err(Problem::Malformed(Reason::Block));
         }
-        match mem::replace(&mut self.mode, Mode::Outside) {
-            Mode::Tile(block) => Ok(Said::EndsTile(block)),
+        match mem::replace(&mut self.begun, OpenBlock::Outside) {
+            OpenBlock::Tile(block) => Ok(Said::EndsTile(block)),
             other => {
-                self.mode = other;
+                self.begun = other;
                 Err(Problem::Malformed(Reason::Block))
             }
         }
@@ -270,14 +270,14 @@ impl Reading {
         word: Word,
         cells: &[Name],
     ) -> Result<Said, Problem>
-        requires outside { self.old.mode ≡ modes.Outside }
+        requires outside { self.old.begun ≡ blocks.Outside }
         requires room { HasRoom self.old.types old.name old.bels }
         ensures plain { IfOk result IsPlain }
         ensures said { Answers (λ said. (self.new, said)) result (with_block self.old (block_row old holder.now word cells.now)) }
     {
         let mut block = old;
         let said = block_row(&mut block, alloc, holder, word, cells)?;
-        self.mode = Mode::Tile(block);
+        self.begun = OpenBlock::Tile(block);
         Ok(said)
     }
 
@@ -309,15 +309,15 @@ impl Reading {
     ) -> Result<Said, Problem>
         requires { 0 < length row.now.cells }
         ensures plain { IfOk result IsPlain }
-        ensures said { Answers (λ said. (self.new, said)) result (row_in self.old self.old.mode holder.now word row.now) }
+        ensures said { Answers (λ said. (self.new, said)) result (row_in self.old self.old.begun holder.now word row.now) }
     {
-        match mem::replace(&mut self.mode, Mode::Outside) {
-            Mode::Grid => {
-                self.mode = Mode::Grid;
+        match mem::replace(&mut self.begun, OpenBlock::Outside) {
+            OpenBlock::Grid => {
+                self.begun = OpenBlock::Grid;
                 self.grid_line(alloc, holder, row)
             }
-            Mode::Tile(block) => self.tile_row(alloc, block, holder, word, &row.cells),
-            Mode::Outside => self.free_row(alloc, holder, word, &row.cells),
+            OpenBlock::Tile(block) => self.tile_row(alloc, block, holder, word, &row.cells),
+            OpenBlock::Outside => self.free_row(alloc, holder, word, &row.cells),
         }
     }
 

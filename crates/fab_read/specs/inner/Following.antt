@@ -10,9 +10,9 @@ use Rattle.fab_lines.specs.Counts.{last_line}
 use Rattle.fab_files.specs.Files.{Event}
 use Rattle.fab_blocks.specs.Blocks.{PlainBlock, bare}
 use Rattle.fab_blocks.specs.Reading.{PlainReading, PlainHolder, HasRoom, with_type}
-use Rattle.fab_blocks.specs.declared.mode.Mode.TheVariants as modes
-use Rattle.fab_blocks.specs.declared.mode.Said.{Said}
-use Rattle.fab_blocks.specs.declared.mode.Said.TheVariants as said
+use Rattle.fab_blocks.specs.declared.standing.OpenBlock.TheVariants as blocks
+use Rattle.fab_blocks.specs.declared.standing.Said.{Said}
+use Rattle.fab_blocks.specs.declared.standing.Said.TheVariants as said
 use Rattle.fab_read.specs.Tiles.{End, block_problem, pairs_problem, paired, ReadsPairs, ReadsTile}
 use Rattle.fab_read.specs.Rows.{ReadsRows, MeetsRows, ReadsFile}
 
@@ -71,4 +71,4 @@ abbrev pub IsSaid : (before : PlainReading) (holder : PlainHolder) (after : Plai
 IsSaid before holder after said.Taken = after.types ≡ before.types
 IsSaid before holder after (said.Includes file) = (after.types ≡ before.types) × (1 ≤ holder.left)
 IsSaid before holder after (said.NamesTiles file) = (after.types ≡ before.types) × (holder.is_fabric ≡ true)
-IsSaid before holder after (said.EndsTile block) = (after.types ≡ before.types) × (after.mode ≡ modes.Outside) × HasRoom after.types block.name block.bels
+IsSaid before holder after (said.EndsTile block) = (after.types ≡ before.types) × (after.begun ≡ blocks.Outside) × HasRoom after.types block.name block.bels

@@ -1,4 +1,4 @@
-use Rattle.std.proofs.Common.{◌≡◌, ◌<◌, ◌^◌, ◌∙◌, All, IfOk, List, ℕ, sym, ap, subst, rules}
+use Rattle.std.proofs.Common.{◌≡◌, ◌<◌, ◌^◌, ◌∙◌, All, IfOk, List, None, ℕ, sym, ap, subst, rules}
 use Rattle.fab_netlist.specs.declared.netlist.Latch.{Latch}
 use Rattle.fab_netlist.specs.Plain.{PlainCover, PlainNetlist}
 use Rattle.fab_netlist.specs.WellMade.{IsWellMade}
@@ -51,6 +51,7 @@ returns c =
       outputs = c.in_ok-outputs.outputs.items;
       covers = c.in_ok-covers.covers.items;
       latches = c.in_ok-latches.latches.items;
+      reset = None;
     } in
-    let same : made ≡ netlist = λ j. record { nets = nets j; inputs = inputs j; outputs = outputs j; covers = covers j; latches = latches j } in
+    let same : made ≡ netlist = λ j. record { nets = nets j; inputs = inputs j; outputs = outputs j; covers = covers j; latches = latches j; reset = None } in
     subst (λ (other : PlainNetlist). IfOk c.new.result (λ (given : PlainNetlist). given ≡ other)) same c.new.ensures

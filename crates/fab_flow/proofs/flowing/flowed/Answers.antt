@@ -10,6 +10,7 @@ use Rattle.fab_designs.specs.Designs.{PlainDesign}
 use Rattle.fab_outputs.specs.Storing.{plain_output}
 use Rattle.fab_flow.specs.Generating.{generated_text, text_length, most_text_bytes, IsTooLong}
 use Rattle.fab_flow.proofs.Flowed.{flow_is, text_ends, mapping_ends, memory_ends}
+use Rattle.fab_flow.proofs.Mapped.{not_packed}
 use Rattle.fab_flow.proofs.flowing.flowed.Goals as goal
 
 -- ---- nothing is made
@@ -21,6 +22,15 @@ returns-in_err-text-clause-ends g c =
     rw (residual.1, residual.2)
     (text_ends c.args.name.now c.args.design.now c.args.rounds fault
     (subst (λ (d : PlainDesign). (fault ≡ faults.Memory) ⊎ IsTooLong c.args.name.now d.fabric fault) c.design.view_is c.in_err-text.ensures.long))
+
+pub returns-in_err-packed-clause-ends : goal.returns-in_err-packed-clause-ends
+returns-in_err-packed-clause-ends g c =
+    let residual = err_from_is_err_and c.from_residual-in_err-packed.result c.from_residual-in_err-packed.ensures.1 in
+    let fault = c.in_err-packed.field-0.0 in
+    rw (residual.1, residual.2)
+    (mapping_ends c.args.name.now c.args.design.now c.args.rounds fault
+    (subst (λ (d : PlainDesign). text_length d.fabric ≤ most_text_bytes) c.design.view_is c.in_ok-text.ensures.short)
+    (not_packed c.args.design.now c.args.rounds fault c.in_err-packed.ensures.short))
 
 pub returns-in_err-implementation-clause-ends : goal.returns-in_err-implementation-clause-ends
 returns-in_err-implementation-clause-ends g c =

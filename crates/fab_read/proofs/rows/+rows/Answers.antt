@@ -6,7 +6,7 @@ use Rattle.fab_base.specs.declared.problem.Problem.TheVariants as problems
 use Rattle.fab_base.specs.declared.words.Reason.TheVariants as reasons
 use Rattle.fab_blocks.specs.Reading.{PlainHolder}
 use Rattle.fab_blocks.specs.Saying.{said_of}
-use Rattle.fab_blocks.specs.declared.mode.Said.TheVariants as said
+use Rattle.fab_blocks.specs.declared.standing.Said.TheVariants as said
 use Rattle.fab_desk.specs.Files.{Map}
 use Rattle.fab_model.specs.Tables.{HasTable}
 use Rattle.fab_rows.specs.Rows.{PlainRow, rows_of}

@@ -11,5 +11,5 @@ invariant_of-self c =
     let room = begin_has_room reading c.args.holder.now c.args.cells.now fine in
     let name = c.in_ok-name.ensures ∙ c.cell_at.ensures in
     let new_room = room_of_new reading.types c.new.result c.in_ok-name.name c.new.ensures (subst (λ n. HasRoom reading.types n []) (sym name) room) in
-    sound_open _ c.new.result c.self.invariant (ap (λ (r : PlainReading). r.mode) c.self.view_is ∙ outside)
+    sound_open _ c.new.result c.self.invariant (ap (λ (r : PlainReading). r.begun) c.self.view_is ∙ outside)
     (subst (λ (r : PlainReading). HasRoom r.types c.new.result.name c.new.result.bels) (sym c.self.view_is) new_room)

@@ -15,4 +15,4 @@ returns c =
     c.either.ensures
     ∙ ap (λ (b : Bool). b || c.is_open_name-open.result) ended
     ∙ ap (λ (b : Bool). list_any (λ (tile : PlainTile). bytes_eq name tile.name) types || b) c.is_open_name-open.ensures
-    ∙ among_names name types (open_name c.args.self.now.mode)
+    ∙ among_names name types (open_name c.args.self.now.begun)

@@ -8,5 +8,5 @@ invariant_of-self c =
     let reading = c.args.self.now in
     let block = c.block_row.new.block in
     let room = room_of_next reading.types c.args.old block c.requires.room c.in_ok-said.ensures.name c.in_ok-said.ensures.few_bels in
-    sound_open _ block c.self.invariant (ap (λ (r : PlainReading). r.mode) c.self.view_is ∙ c.requires.outside)
+    sound_open _ block c.self.invariant (ap (λ (r : PlainReading). r.begun) c.self.view_is ∙ c.requires.outside)
     (subst (λ (r : PlainReading). HasRoom r.types block.name block.bels) (sym c.self.view_is) room)

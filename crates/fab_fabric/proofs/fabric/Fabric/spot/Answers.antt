@@ -9,7 +9,7 @@ use Rattle.fab_fabric.proofs.fabric.Fabric.spot.Goals as goal
 pub overflow_sub-place : goal.overflow_sub-place
 overflow_sub-place c =
     let i = c.self.inside in
-    let fabric : PlainFabric = record { types = i.types.items; columns = i.columns; rows = i.rows; grid = i.grid.items } in
+    let fabric : PlainFabric = record { types = i.types.items; columns = i.columns; rows = i.rows; grid = i.grid.items; mode = i.mode } in
     let r = c.partition_point-place.result in
     let wire = c.args.wire.0 in
     let firsts = c.deref.result.now in
@@ -21,7 +21,7 @@ overflow_sub-place c =
 pub overflow_sub-result : goal.overflow_sub-result
 overflow_sub-result c =
     let i = c.self.inside in
-    let fabric : PlainFabric = record { types = i.types.items; columns = i.columns; rows = i.rows; grid = i.grid.items } in
+    let fabric : PlainFabric = record { types = i.types.items; columns = i.columns; rows = i.rows; grid = i.grid.items; mode = i.mode } in
     let r = c.partition_point-place.result in
     let wire = c.args.wire.0 in
     let firsts = c.deref.result.now in
@@ -34,7 +34,7 @@ overflow_sub-result c =
 pub returns-clause-number : goal.returns-clause-number
 returns-clause-number c =
     let i = c.self.inside in
-    let fabric : PlainFabric = record { types = i.types.items; columns = i.columns; rows = i.rows; grid = i.grid.items } in
+    let fabric : PlainFabric = record { types = i.types.items; columns = i.columns; rows = i.rows; grid = i.grid.items; mode = i.mode } in
     let r = c.partition_point-place.result in
     let wire = c.args.wire.0 in
     let firsts = c.deref.result.now in
@@ -47,7 +47,7 @@ returns-clause-number c =
 pub returns-clause-index : goal.returns-clause-index
 returns-clause-index c =
     let i = c.self.inside in
-    let fabric : PlainFabric = record { types = i.types.items; columns = i.columns; rows = i.rows; grid = i.grid.items } in
+    let fabric : PlainFabric = record { types = i.types.items; columns = i.columns; rows = i.rows; grid = i.grid.items; mode = i.mode } in
     let r = c.partition_point-place.result in
     let wire = c.args.wire.0 in
     let firsts = c.deref.result.now in
