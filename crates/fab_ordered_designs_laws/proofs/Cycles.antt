@@ -1,5 +1,5 @@
 -- Cycle by cycle an ordered simulation shows what the netlist says.
-use Rattle.std.proofs.Common.{◌≡◌, ℕ, Bool, true, false, List, [], ◌∷◌, codes, map, Contains, refl, sym, ap, ◌∙◌, subst, inl, inr, bytes_eq}
+use Rattle.std.proofs.Common.{◌≡◌, ℕ, Bool, true, false, List, [], ◌∷◌, codes, map, Contains, refl, sym, ap, ◌∙◌, subst, inl, inr, bytes_eq, if◌then◌else◌}
 use Rattle.std.proofs.lemmas.Slice.Eq.{bytes_eq-Decides}
 use Rattle.fab_kinds.specs.declared.kind.Kind.TheVariants as kinds
 use Rattle.fab_systems_laws.specs.Ternary.{known}
@@ -30,7 +30,7 @@ use Rattle.fab_simulated_designs_laws.proofs.fab_drives_laws_Apart.{told_apart}
 use Rattle.fab_state.specs.Plain.{PlainState}
 use Rattle.fab_ternary_laws.specs.Shown.{Terns}
 use Rattle.fab_solutions_laws.specs.Laws.{DriversGrow, DriversFit}
-use Rattle.fab_simulated_designs_laws.specs.fab_use_defs_Sites.{bel_point, top_point}
+use Rattle.fab_simulated_designs_laws.specs.fab_use_defs_Sites.{bel_point, reset_bit, top_point}
 use Rattle.fab_simulated_designs_laws.specs.fab_use_defs_Design.{IsSourced}
 use Rattle.fab_simulated_designs_laws.specs.fab_use_defs_Cycles.{Instant, Feeds}
 use Rattle.fab_simulated_designs_laws.specs.fab_use_defs_Registers.{bound_pad, design_state}
@@ -56,9 +56,14 @@ use Rattle.fab_ordering_laws.proofs.Loading.{loading_input}
 use Rattle.fab_ordering_laws.proofs.Cycles as ordered
 use Rattle.fab_simulated_designs_laws.proofs.Fed.{bool_of, bool_of_known, feeds, pads}
 use Rattle.fab_simulated_designs_laws.proofs.Known.{KnownLaws, IsRegister, design_known}
+use Rattle.fab_simulated_designs_laws.proofs.Registers.{reset_used}
 use Rattle.fab_ordered_designs_laws.specs.Designs.{outputs_by, AreRight, EachRight}
 use Rattle.fab_ordered_designs_laws.proofs.Latches.{latches_load, strobe_streams, clock_streams, stream_loads}
 use Rattle.fab_ordered_designs_laws.proofs.Left.{same_left, kept_alike}
+
+-- choices between the same, by the same
+same_choice : {test other first second rest last : Bool} → test ≡ other → first ≡ second → rest ≡ last → (if test then first else rest) ≡ (if other then second else last)
+same_choice test first rest = λ j. if test j then first j else rest j
 
 module _ (s : Setting) (laws : KnownLaws) (stay : LoadedPointsStay) (grow : DriversGrow) (fit : DriversFit) (narrow : AreNarrow s.text) where
   abbrev pub state : PlainState
@@ -221,7 +226,7 @@ module _ (s : Setting) (laws : KnownLaws) (stay : LoadedPointsStay) (grow : Driv
 
       knows_bits : KnowsBits s.fabric s.bits (λ q. known (begun.now q))
       knows_bits =
-          laws.loaded s.fabric s.text s.bits begun.now begun.held begun.now (λ q. known (begun.now q)) s.is s.is_text holds_begun.configured loaded
+          s.laws.known s.fabric s.text s.bits begun.now begun.held begun.now (λ q. known (begun.now q)) s.is s.is_text holds_begun.configured loaded
           (λ p loads. refl)
 
       abbrev instant : Instant
@@ -273,8 +278,6 @@ module _ (s : Setting) (laws : KnownLaws) (stay : LoadedPointsStay) (grow : Driv
           let tile = site_tile s.fabric r.site kinds.Lut4c kind in
           let enabled = v.enabled s.fabric s.netlist s.fixed s.implementation begun.now begun.held now values latches s.are s.made s.legal met r.number
           r.site r.cell r.bound r.init r.latched in
-          let free = v.free s.fabric s.netlist s.fixed s.implementation begun.now begun.held now values latches s.are s.made s.legal met r.number r.site
-          r.cell r.bound r.init r.latched in
           let ticks : Ticks (Has s) s.text user_clock_name rest.held rest.now next.standing.held =
           λ q d has drives. cycle.ends.ticks.keeps q d (declared q has) drives in
           let at_rest = s.laws.registers s.fabric s.text (packed s.netlist) s.fixed s.implementation rest.held rest.now next.standing.held s.is s.are
@@ -284,9 +287,9 @@ module _ (s : Setting) (laws : KnownLaws) (stay : LoadedPointsStay) (grow : Driv
           ap next.standing.held r.is
           ∙ at_rest.0 ticks
           (source_rests (bel_point r.site (codes "EN")) _ (sources.cell_enable r.bound tile.1 r.latched) ∙ enabled)
-          (source_rests (bel_point r.site (codes "SR")) _ (sources.cell_reset r.bound tile.1 r.latched) ∙ free)
-          ∙ source_rests (bel_point r.site (codes "t")) _ (sources.cell_table r.bound)
-          ∙ sym (at_now.0 passes.ticks enabled free) ∙ ap after_tick (sym r.is)
+          ∙ same_choice (source_rests (bel_point r.site (codes "SR")) _ (sources.cell_reset r.bound tile.1 r.latched))
+          (rests (reset_bit r.site) (reset_used s p r)) (source_rests (bel_point r.site (codes "t")) _ (sources.cell_table r.bound))
+          ∙ sym (at_now.0 passes.ticks enabled) ∙ ap after_tick (sym r.is)
 
       -- ---- beside the netlist
 

@@ -60,7 +60,7 @@ unfolding bit_back
 back_known true = refl
 back_known false = refl
 
-same_known : (a b : Bool) → known a ≡ known b → a ≡ b
+pub same_known : (a b : Bool) → known a ≡ known b → a ≡ b
 same_known a b e = sym (back_known a) ∙ ap bit_back e ∙ back_known b
 
 module _ (text : List PlainModule) (inputs held now : Assignment) (p : Point) (s : Source) (few : length (source_reads s) ≤ 4) (shows : Shown text inputs held (λ q. known (now q)) p s) where

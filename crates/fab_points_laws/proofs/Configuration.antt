@@ -267,7 +267,7 @@ module _ (fabric : PlainFabric) (text : List PlainModule) (is : IsFabric fabric)
           instance_loads fabric next text has x y tile there (omega arith) (module_of_kind bel.kind) (module_name bel.kind) (bel_instance_name number) (bel_joins number low bel) bel_here of_kind
           (bel_there tile number bel at) (config_input bel.kind some) low (bit_count bel.kind) (config_joined number low bel) some
 
-      config_load : 0 < bit_count bel.kind → Loads (named_bits (bel_path path number) config_name (bit_count bel.kind))
+      pub config_load : 0 < bit_count bel.kind → Loads (named_bits (bel_path path number) config_name (bit_count bel.kind))
       config_load some bit few =
           let width : width_of (module_of_kind bel.kind) config_name ≡ bit_count bel.kind = config_width bel.kind some in
           loads fabric next text has x y tile there (bel_path path number) config_name bit (bel_are some)

@@ -1,5 +1,5 @@
 -- Each design point shows its source.
-use Rattle.std.proofs.Common.{◌≡◌, ℕ, ◌<◌, false, ◌&&◌, List, codes, length, refl, sym, ap, ◌∙◌, subst, arith, Option, Some, None, is_some, slice_get, nat_eq, Contains, lt-ltb}
+use Rattle.std.proofs.Common.{◌≡◌, ℕ, ◌<◌, false, List, codes, length, refl, sym, ap, ◌∙◌, subst, arith, Option, Some, None, is_some, slice_get, Contains, lt-ltb}
 use Rattle.std.proofs.lemmas.List.Elements.{All-contains}
 use Rattle.fab_kinds.specs.declared.kind.Kind.TheVariants as kinds
 use Rattle.fab_kinds.specs.Pins.{input_names, output_names, pin_names, bit_count}
@@ -89,14 +89,14 @@ module _ (fabric : PlainFabric) (text : List PlainModule) (packed : PlainPacked)
         bel_stands text (site_path site) tile (has.stands site.x site.y tile there) inputs held t site.bel lut.found lut.there
         ∙ ap (λ kind. Some (module_of_kind kind)) lut.kind_is
 
-    lut_bit : (bit : ℕ) → bit < 19 → t (point (bel_path (site_path site) site.bel) config_name bit) ≡ known (cell_bit cell bit)
+    lut_bit : (bit : ℕ) → bit < 19 → t (point (bel_path (site_path site) site.bel) config_name bit) ≡ known (cell_bit (is_some packed.reset) cell bit)
     lut_bit bit few =
         (knows site.x site.y tile there).bels site.bel bit lut.found lut.there (subst (λ kind. bit < bit_count kind) (sym lut.kind_is) few)
         ∙ ap known (configures.cells number bit site cell tile bound there few)
 
     lut_table : (place : ℕ) → place < 16 → t (point (bel_path (site_path site) site.bel) (codes "init") place) ≡ known (table_bit cell.table place)
     lut_table place few =
-        let table_is : cell_bit cell place ≡ table_bit cell.table place = rw (lt-ltb place 16 few) refl in
+        let table_is : cell_bit (is_some packed.reset) cell place ≡ table_bit cell.table place = rw (lt-ltb place 16 few) refl in
         (knows site.x site.y tile there).tables site.bel place lut.found lut.there lut.kind_is few
         ∙ ap known (configures.cells number place site cell tile bound there (omega (arith, few)) ∙ table_is)
 
@@ -110,9 +110,9 @@ module _ (fabric : PlainFabric) (text : List PlainModule) (packed : PlainPacked)
 
     output_by : (latch : Option ℕ) → cell.latch ≡ latch → Shows (bel_point site (codes "O")) (output_source site latch)
     output_by None bare =
-        o_table text (bel_path (site_path site) site.bel) inputs held t lut_stands (lut_bit 16 (omega arith) ∙ ap (λ latch. known (nat_eq 16 16 && is_some latch)) bare)
+        o_table text (bel_path (site_path site) site.bel) inputs held t lut_stands (lut_bit 16 (omega arith) ∙ ap (λ latch. known (is_some latch)) bare)
     output_by (Some init) latched =
-        o_held text (bel_path (site_path site) site.bel) inputs held t lut_stands (lut_bit 16 (omega arith) ∙ ap (λ latch. known (nat_eq 16 16 && is_some latch)) latched)
+        o_held text (bel_path (site_path site) site.bel) inputs held t lut_stands (lut_bit 16 (omega arith) ∙ ap (λ latch. known (is_some latch)) latched)
 
     register_is : Shows (bel_point site flip_flop_name) sources.flip_flop
     register_is = q_shown text (bel_path (site_path site) site.bel) inputs held t lut_stands

@@ -1,5 +1,5 @@
 -- A small design keeps all that the laws ask for.
-use Rattle.std.proofs.Common.{◌≡◌, ◌⊎◌, ℕ, zero, suc, ◌%◌, ◌^◌, ◌<◌, Bool, true, false, List, [], ◌∷◌, codes, length, take, get_or, refl, sym, ap, ◌∙◌, subst, inl, inr, arith, Some, None, nat_eq, nat_lt, All, Contains, if◌then◌else◌}
+use Rattle.std.proofs.Common.{◌≡◌, ◌⊎◌, ℕ, zero, suc, ◌%◌, ◌^◌, ◌<◌, Bool, true, false, ◌&&◌, List, [], ◌∷◌, codes, length, take, get_or, refl, sym, ap, ◌∙◌, subst, inl, inr, arith, Some, None, nat_eq, nat_lt, All, Contains, if◌then◌else◌}
 use Rattle.std.specs.Str.{bytes_eq}
 use Rattle.std.proofs.Math.Nat.{zero-div}
 use Rattle.std.proofs.lemmas.Bool.{cases_Bool}
@@ -57,6 +57,7 @@ small_made = record {
     initial = λ init is. absurd (let e : None ≡ Some init = is in cc);
   }) (All-nil (IsWellMadeCell small_packed));
   nets = All-nil _;
+  reset_below = λ place is. absurd (let e : None ≡ Some place = is in cc);
   ports_differ = λ i j d before within. absurd (omega (arith, within));
 }
 
@@ -111,15 +112,18 @@ small_legal = record {
 
 small_configures : Configures small_fabric small_packed small_implementation small_bits
 small_configures = record {
-  cells = λ number bit site cell tile bound there few. sym (ap (λ c. cell_bit c bit) (one_cell number site cell bound).1 ∙ zero_bit bit);
+  cells = λ number bit site cell tile bound there few. sym (ap (λ c. cell_bit false c bit) (one_cell number site cell bound).1 ∙ zero_bit bit);
   edges = λ tree edge x y tile output input listed among there to is from. absurd (none_there tree listed);
 }
   where
-    zero_bit : (bit : ℕ) → cell_bit zero_cell bit ≡ false
-    zero_bit bit = elim (cases_Bool (nat_lt bit 16)) [
-      | inl table ↦ rw table (no_bit bit)
-      | inr past ↦ rw past (elim (cases_Bool (nat_eq bit 16)) [ inl t ↦ rw t refl | inr f ↦ rw f refl ])
-    ]
+    past_table : (of_latch of_reset : Bool) → (if of_latch then false else of_reset && false) ≡ false
+    past_table true of_reset = refl
+    past_table false true = refl
+    past_table false false = refl
+
+    zero_bit : (bit : ℕ) → cell_bit false zero_cell bit ≡ false
+    zero_bit bit =
+        elim (cases_Bool (nat_lt bit 16)) [ inl table ↦ rw table (no_bit bit) | inr past ↦ rw past (past_table (nat_eq bit 16) (nat_eq bit 18)) ]
 
 abbrev small_rank : Point → ℕ
 small_rank p = if bytes_eq p.name (codes "O") then 1 else 0

@@ -18,6 +18,7 @@ pub mod Declares
 pub mod Configuration
 pub mod Configured
 pub mod Registers
+pub mod Resets
 pub mod Rows
 pub mod Laws
 pub mod Once

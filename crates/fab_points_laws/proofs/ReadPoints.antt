@@ -24,7 +24,7 @@ use Rattle.fab_netlist.specs.Packed.{PlainCell, PlainPacked}
 use Rattle.fab_use_defs.specs.fab_implementation_Plain.{Pad, PlainImplementation}
 use Rattle.fab_use_defs.specs.fab_legal_Lines.{IsOutput}
 use Rattle.fab_use_defs.specs.fab_legal_WellMade.{IsWellMadeCell, IsWellMadePacked, output_name}
-use Rattle.fab_use_defs.specs.fab_legal_Nets.{Net, zero_net, one_net}
+use Rattle.fab_use_defs.specs.fab_legal_Nets.{Net, one_net}
 use Rattle.fab_use_defs.specs.fab_legal_Sinks.{Required, packed_net, cell_input, latch_enable, latch_reset, output_shown}
 use Rattle.fab_use_defs.specs.fab_legal_Steps.{pin_wire}
 use Rattle.fab_use_defs.specs.fab_legal_Legal.{IsLegal}
@@ -310,7 +310,7 @@ module _ (fabric : PlainFabric) (packed : PlainPacked) (fixed : List Pad) (imple
   reads_covered p s (sources.beginning {at} {previous} {at_bit} m way is number) = one Has _ (route _ (design.in_tile (begin_tree at previous at_bit m way is number (before_placed fabric at previous is))))
   reads_covered p s (sources.cell_wire {cell_number} {site} {cell} {tile} bound there) = one Has _ (cell_point _ (design.at_output bound))
   reads_covered p s (sources.cell_input {cell_number} {site} {cell} {tile} {name} pin bound there few at) = one Has _ (route _ (design.in_tile (input_tree cell_number site cell tile pin bound there few)))
-  reads_covered p s (sources.cell_reset {cell_number} {init} {site} {cell} {tile} bound there latched) = one Has _ (latch_pin cell_number init site cell tile 5 zero_net bound there (omega arith) (latch_reset bound.listed bound.cell_is latched))
+  reads_covered p s (sources.cell_reset {cell_number} {init} {site} {cell} {tile} bound there latched) = one Has _ (latch_pin cell_number init site cell tile 5 _ bound there (omega arith) (latch_reset bound.listed bound.cell_is latched))
   reads_covered p s (sources.cell_enable {cell_number} {init} {site} {cell} {tile} bound there latched) = one Has _ (latch_pin cell_number init site cell tile 6 one_net bound there (omega arith) (latch_enable bound.listed bound.cell_is latched))
   reads_covered p s (sources.cell_index {cell_number} {site} {cell} bound some) = one Has _ (used_pin cell_number site cell 0 (codes "I0") bound some refl)
   reads_covered p s (sources.cell_table {cell_number} {site} {cell} bound) = all_take Has (length cell.inputs) (bel_point site (codes "x") ∷ map (bel_point site) (take 3 (drop 1 (input_names kinds.Lut4c)))) (index_read cell_number site cell bound)

@@ -1,7 +1,7 @@
 -- What the flip-flop of a LUT is left with at a tick.
-use Rattle.std.proofs.Common.{◌≡◌, ℕ, true, false, List, [], ◌∷◌, codes, refl, sym, ap, ◌∙◌, subst, inr, arith, Some, slice_get, if◌then◌else◌}
+use Rattle.std.proofs.Common.{◌≡◌, ℕ, Bool, true, false, List, [], ◌∷◌, codes, refl, sym, ap, ◌∙◌, subst, inr, arith, Some, slice_get, if◌then◌else◌}
 use Rattle.fab_kinds.specs.declared.kind.Kind.TheVariants as kinds
-use Rattle.fab_systems_laws.specs.Ternary.{no, yes}
+use Rattle.fab_systems_laws.specs.Ternary.{Tern, yes, known}
 use Rattle.fab_syntax.specs.Plain.{PlainModule, variable}
 use Rattle.fab_syntax.specs.Declarations.{declared_width}
 use Rattle.fab_meaning.specs.Points.{Path, Point, point, Drives, flop, instance_in, module_at}
@@ -53,6 +53,15 @@ lut_clock fabric text is has x y tile bel found there at kind_is stands =
 
 -- ---- the next value
 
+-- one of two bits, by one that is known
+chosen_tern : (test : Bool) (first second : Tern) → tern_at (one_of (known test) (first ∷ []) (second ∷ [])) 0 ≡ (if test then first else second)
+chosen_tern true first second = refl
+chosen_tern false first second = refl
+
+chosen_bit : (test first second : Bool) → bit_at (if test then first ∷ [] else second ∷ []) 0 ≡ (if test then first else second)
+chosen_bit true first second = refl
+chosen_bit false first second = refl
+
 module _ (text : List PlainModule) (path : Path) (stands : module_at text path ≡ Some (module_of_kind kinds.Lut4c)) where
   abbrev lut : PlainModule
   lut = module_of_kind kinds.Lut4c
@@ -63,35 +72,41 @@ module _ (text : List PlainModule) (path : Path) (stands : module_at text path �
   pub q_drives : Drives text (at flip_flop_name) (flop path user_clock_name modules.lut_next 0)
   q_drives = inr (record { path = path; module_here = lut; item = flip_flop modules.lut_next; stands = stands; holds = (7, omega arith, refl); drives = (refl, refl) })
 
-  -- enabled and not reset, the table
-  pub next_known : (t : Terns) → t (at (codes "EN")) ≡ yes → t (at (codes "SR")) ≡ no → tern_at (tern_value (tern_names text t path) modules.lut_next) 0 ≡ t (at (codes "t"))
-  next_known t enabled released =
+  -- enabled, the bit that a reset loads where it is reset, and else the table
+  pub next_known : (t : Terns) (reset : Bool) → t (at (codes "EN")) ≡ yes → t (at (codes "SR")) ≡ known reset →
+      tern_at (tern_value (tern_names text t path) modules.lut_next) 0 ≡ (if reset then t (point path config_name 18) else t (at (codes "t")))
+  next_known t reset enabled resets =
       let names : tern_names text t path ≡ (λ name. first_terns (declared_width lut.ports lut.items name) (λ bit. t (point path name bit))) =
       λ j name. terns_of_name text t path lut stands name j in
-      let reset = t (point path config_name 18) ∷ [] in
+      let loaded = t (point path config_name 18) ∷ [] in
       let table = t (at (codes "t")) ∷ [] in
       let kept = t (at flip_flop_name) ∷ [] in
       ap (λ names. tern_at (tern_value names modules.lut_next) 0) names
-      ∙ ap (λ e. tern_at (one_of e (one_of (t (at (codes "SR"))) reset table) kept) 0) enabled
-      ∙ ap (λ r. tern_at (one_of r reset table) 0) released
+      ∙ ap (λ e. tern_at (one_of e (one_of (t (at (codes "SR"))) loaded table) kept) 0) enabled
+      ∙ ap (λ r. tern_at (one_of r loaded table) 0) resets
+      ∙ chosen_tern reset (t (point path config_name 18)) (t (at (codes "t")))
 
-  pub next_value : (now : Assignment) → now (at (codes "EN")) ≡ true → now (at (codes "SR")) ≡ false → bit_at (value (names_at text now path) modules.lut_next) 0 ≡ now (at (codes "t"))
-  next_value now enabled released =
+  -- what is held behind a tick of UserCLK, where it is enabled
+  abbrev next_bit : Assignment → Bool
+  next_bit now = if now (at (codes "SR")) then now (point path config_name 18) else now (at (codes "t"))
+
+  pub next_value : (now : Assignment) → now (at (codes "EN")) ≡ true → bit_at (value (names_at text now path) modules.lut_next) 0 ≡ next_bit now
+  next_value now enabled =
       let names : names_at text now path ≡ seen lut path now = λ j name. bits_of_name text now path lut name (declared_width lut.ports lut.items name) stands refl j in
-      let reset = now (point path config_name 18) ∷ [] in
+      let loaded = now (point path config_name 18) ∷ [] in
       let table = now (at (codes "t")) ∷ [] in
       let kept = now (at flip_flop_name) ∷ [] in
       ap (λ names. bit_at (value names modules.lut_next) 0) names
-      ∙ ap (λ e. bit_at (if e then (if now (at (codes "SR")) then reset else table) else kept) 0) enabled
-      ∙ ap (λ r. bit_at (if r then reset else table) 0) released
+      ∙ ap (λ e. bit_at (if e then (if now (at (codes "SR")) then loaded else table) else kept) 0) enabled
+      ∙ chosen_bit (now (at (codes "SR"))) (now (point path config_name 18)) (now (at (codes "t")))
 
   module _ (clocked : clock_of text path user_clock_name ≡ Some user_clock_name) (Has : Point → Type 0) (has : Has (at flip_flop_name)) (held now after : Assignment) where
-    -- at a tick of UserCLK it takes the table,
-    pub user_tick : Ticks Has text user_clock_name held now after → now (at (codes "EN")) ≡ true → now (at (codes "SR")) ≡ false → after (at flip_flop_name) ≡ now (at (codes "t"))
-    user_tick ticks enabled released =
+    -- at a tick of UserCLK it takes this bit,
+    pub user_tick : Ticks Has text user_clock_name held now after → now (at (codes "EN")) ≡ true → after (at flip_flop_name) ≡ next_bit now
+    user_tick ticks enabled =
         ticks (at flip_flop_name) (flop path user_clock_name modules.lut_next 0) has q_drives
         ∙ ap (λ o. if is_clock user_clock_name o then bit_at (value (names_at text now path) modules.lut_next) 0 else held (at flip_flop_name)) clocked
-        ∙ next_value now enabled released
+        ∙ next_value now enabled
 
     -- and at one of CLK it stays
     pub loader_tick : Ticks Has text clock_name held now after → after (at flip_flop_name) ≡ held (at flip_flop_name)

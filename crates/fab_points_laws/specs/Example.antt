@@ -21,10 +21,10 @@ abbrev pub lut_site : Site
 lut_site = record { x = 1; y = 0; bel = 0 }
 
 abbrev pub small_packed : PlainPacked
-small_packed = record { cells = zero_cell ∷ []; inputs = []; outputs = [] }
+small_packed = record { cells = zero_cell ∷ []; inputs = []; outputs = []; reset = None }
 
 abbrev pub small_implementation : PlainImplementation
-small_implementation = record { cells = (0, lut_site) ∷ []; ins = []; outs = []; trees = [] }
+small_implementation = record { cells = (0, lut_site) ∷ []; ins = []; outs = []; trees = []; reset = None }
 
 abbrev pub small_bits : PlainBits
 small_bits x y bit = false

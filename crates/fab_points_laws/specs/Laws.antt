@@ -1,5 +1,5 @@
 -- The laws of sources and design points.
-use Rattle.std.specs.Prelude.{[], ◌≡◌, ◌⊎◌, ◌↔◌, ◌<◌, ◌≤◌, true, false, All, Contains, ℕ, List, Some, codes, length}
+use Rattle.std.specs.Prelude.{[], ◌≡◌, ◌⊎◌, ◌↔◌, ◌<◌, ◌≤◌, true, false, All, Contains, ℕ, List, Some, codes, length, if◌then◌else◌}
 use Rattle.fab_systems_laws.specs.Ternary.{known}
 use Rattle.fab_syntax.specs.Plain.{PlainModule}
 use Rattle.fab_meaning.specs.Points.{Point, point, Driver, Drives}
@@ -20,7 +20,7 @@ use Rattle.fab_use_defs.specs.fab_fabric_text_defs_Texts.{IsFabricText}
 use Rattle.fab_use_defs.specs.fab_drives_laws_Points.{ShowsBits}
 use Rattle.fab_use_defs.specs.fab_text_loads_laws_Loads.{IsConfigured}
 use Rattle.fab_ternary_laws.specs.Shown.{Terns, tern_shown}
-use Rattle.fab_use_defs.specs.Sites.{bel_point}
+use Rattle.fab_use_defs.specs.Sites.{bel_point, reset_bit}
 use Rattle.fab_use_defs.specs.Design.{IsBound, IsSourced, IsOfDesign, IsDesignPoint}
 use Rattle.fab_use_defs.specs.Configuring.{Configures}
 use Rattle.fab_use_defs.specs.Headline.{SettlesOnce}
@@ -87,14 +87,15 @@ DesignSettlesByShownSources =
     IsSettledOn (IsDesignPoint fabric text packed implementation) text inputs held now
     ↔ ((p : Point) (s : Source) → IsOfDesign fabric packed implementation p → HasSource fabric packed implementation p s → now p ≡ source_value inputs held now p s)
 
--- At a tick of UserCLK the flip-flop of a bound latch takes the table, where it is enabled and not reset; at a tick of CLK it stays.
+-- At a tick of UserCLK the flip-flop of a bound latch that is enabled takes the bit that a reset loads where SR is 1, and the table where it is 0; at a
+-- tick of CLK it stays.
 abbrev pub RegistersTick : Type 0
 RegistersTick =
     (fabric : PlainFabric) (text : List PlainModule) (packed : PlainPacked) (fixed : List Pad) (implementation : PlainImplementation) (held now after : Assignment) →
     IsFabric fabric → AreTiles fabric → IsFabricText fabric text → IsLegal fabric packed fixed implementation →
     (cell_number init : ℕ) (site : Site) (cell : PlainCell) → IsBound packed implementation cell_number site cell → cell.latch ≡ Some init →
-    (Ticks (IsDesignPoint fabric text packed implementation) text user_clock_name held now after → now (bel_point site (codes "EN")) ≡ true → now (bel_point site (codes "SR")) ≡ false →
-    after (bel_point site flip_flop_name) ≡ now (bel_point site (codes "t")))
+    (Ticks (IsDesignPoint fabric text packed implementation) text user_clock_name held now after → now (bel_point site (codes "EN")) ≡ true →
+    after (bel_point site flip_flop_name) ≡ (if now (bel_point site (codes "SR")) then now (reset_bit site) else now (bel_point site (codes "t"))))
     × (Ticks (IsDesignPoint fabric text packed implementation) text clock_name held now after → after (bel_point site flip_flop_name) ≡ held (bel_point site flip_flop_name))
 
 -- A configuration goes with what the loading points hold.

@@ -27,7 +27,7 @@ use Rattle.fab_implementation.specs.Plain.{Edge, Pad, PlainTree, PlainImplementa
 use Rattle.fab_implementation.specs.OnFabric.{kind_at}
 use Rattle.fab_points_laws.specs.fab_legal_Lines.{IsOutput}
 use Rattle.fab_points_laws.specs.fab_legal_Nets.{Net, zero_net, one_net, port_net, cell_net, net_among}
-use Rattle.fab_points_laws.specs.fab_legal_Sinks.{packed_net, cell_input, latch_enable, latch_reset, input_released, output_shown, output_driven}
+use Rattle.fab_points_laws.specs.fab_legal_Sinks.{packed_net, reset_id, cell_input, latch_enable, latch_reset, input_released, output_shown, output_driven}
 use Rattle.fab_points_laws.specs.fab_legal_WellMade.{IsWellMadeCell, output_name}
 use Rattle.fab_points_laws.specs.fab_legal_Legal.{IsLegal}
 use Rattle.fab_points_laws.proofs.fab_legal_Lists.{at_default}
@@ -207,6 +207,9 @@ module _ (fabric : PlainFabric) (netlist : PlainNetlist) (fixed_pads : List Pad)
 
   -- ---- cells
 
+  abbrev reset_net : Net
+  reset_net = packed_net (packed netlist) (reset_id netlist.reset)
+
   pin_of_cell : (number : ℕ) (site : Site) (cell : PlainCell) (name : List ℕ) → IsBound (packed netlist) implementation number site cell → (latch : Option ℕ) → cell.latch ≡ latch →
       Contains (if is_some latch then codes "SR" ∷ codes "EN" ∷ [] else []) name → Q (bel_point site name)
   pin_of_cell number site cell name bound None is among = absurd (let few = among.1 in omega (arith, few))
@@ -215,7 +218,7 @@ module _ (fabric : PlainFabric) (netlist : PlainNetlist) (fixed_pads : List Pad)
       All-contains (λ name. Q (bel_point site name)) (codes "SR" ∷ codes "EN" ∷ []) name
       (each_all (λ name. Q (bel_point site name)) (codes "SR" ∷ codes "EN" ∷ []) (
         along _ _ (sources.cell_reset bound at.1 is)
-            (required_has fabric (packed netlist) fixed_pads implementation are legal Q along zero_net (begins zero_net) site kinds.Lut4c 5 at.0 (latch_reset bound.listed bound.cell_is is) (kind number site cell bound) (omega arith) at.1),
+            (required_has fabric (packed netlist) fixed_pads implementation are legal Q along reset_net (begins reset_net) site kinds.Lut4c 5 at.0 (latch_reset bound.listed bound.cell_is is) (kind number site cell bound) (omega arith) at.1),
         (
           along _ _ (sources.cell_enable bound at.1 is)
               (required_has fabric (packed netlist) fixed_pads implementation are legal Q along one_net (begins one_net) site kinds.Lut4c 6 at.0 (latch_enable bound.listed bound.cell_is is) (kind number site cell bound) (omega arith) at.1),

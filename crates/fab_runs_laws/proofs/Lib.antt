@@ -30,5 +30,6 @@ pub use Rattle.fab_points_laws.proofs.Pads as fab_points_laws_Pads
 pub use Rattle.fab_points_laws.proofs.Places as fab_points_laws_Places
 pub use Rattle.fab_points_laws.proofs.ReadPoints as fab_points_laws_ReadPoints
 pub use Rattle.fab_points_laws.proofs.Registers as fab_points_laws_Registers
+pub use Rattle.fab_points_laws.proofs.Resets as fab_points_laws_Resets
 pub use Rattle.fab_points_laws.proofs.Sourced as fab_points_laws_Sourced
 pub use Rattle.fab_points_laws.proofs.fab_text_sound_laws_Ends as fab_text_sound_laws_Ends

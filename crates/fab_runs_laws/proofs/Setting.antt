@@ -16,7 +16,7 @@ use Rattle.fab_points_laws.proofs.fab_legal_PackedMade.{packed_made}
 use Rattle.fab_points_laws.specs.fab_fabric_text_defs_Texts.{IsFabricText}
 use Rattle.fab_points_laws.specs.fab_text_loads_laws_Loads.{LoadsConfigurations}
 use Rattle.fab_points_laws.specs.fab_use_defs_Configuring.{Configures}
-use Rattle.fab_points_laws.specs.Laws.{ConfigurationGoes, DesignIsDeclared, DesignIsListed, DesignSettlesBySources, RankedDesignSettlesOnce, RegistersTick}
+use Rattle.fab_points_laws.specs.Laws.{ConfigurationGoes, DesignIsDeclared, DesignIsListed, DesignSettlesBySources, LoadedIsKnown, RankedDesignSettlesOnce, RegistersTick}
 
 pub record Laws : Type 0 where
   -- of texts that are loaded
@@ -27,6 +27,7 @@ pub record Laws : Type 0 where
   pub listed : DesignIsListed
   pub by_sources : DesignSettlesBySources
   pub registers : RegistersTick
+  pub known : LoadedIsKnown
   pub once : RankedDesignSettlesOnce
   -- and of netlists
   pub one_run : AcyclicMeansOneRun

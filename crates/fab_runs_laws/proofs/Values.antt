@@ -18,6 +18,7 @@ use Rattle.fab_netlist.specs.declared.net_id.NetId.{NetId}
 use Rattle.fab_netlist.specs.declared.net_id.NetId.TheVariants as ids
 use Rattle.fab_netlist.specs.Plain.{PlainNetlist, IsAt, bit_at, name_of}
 use Rattle.fab_netlist.specs.WellMade.{IsWellMade, table_bit}
+use Rattle.fab_netlist.specs.Meaning.{Meets, reset_by, is_reset}
 use Rattle.fab_netlist.specs.Packed.{PlainCell}
 use Rattle.fab_netlist.specs.Packing.{Work, of_cover, of_latch, works, latch_of, latch_at, cell_of, packed, computes, held_or, Carries}
 use Rattle.fab_netlist.proofs.Members.{at_in}
@@ -25,7 +26,7 @@ use Rattle.fab_implementation.specs.Plain.{Pad, PlainImplementation}
 use Rattle.fab_implementation.specs.OnFabric.{kind_at}
 use Rattle.fab_points_laws.specs.fab_legal_Lines.{IsCell, IsInput}
 use Rattle.fab_points_laws.specs.fab_legal_Nets.{Net, zero_net, one_net, port_net, cell_net}
-use Rattle.fab_points_laws.specs.fab_legal_Sinks.{Required, packed_net, site_of, latch_enable, latch_reset, input_released, output_shown, output_driven}
+use Rattle.fab_points_laws.specs.fab_legal_Sinks.{Required, packed_net, reset_id, site_of, latch_enable, latch_reset, input_released, output_shown, output_driven}
 use Rattle.fab_points_laws.specs.fab_legal_Sinks as sinks
 use Rattle.fab_points_laws.specs.fab_legal_Steps.{pin_wire}
 use Rattle.fab_points_laws.specs.fab_legal_WellMade.{IsWellMadeCell}
@@ -39,11 +40,10 @@ use Rattle.fab_points_laws.specs.fab_use_defs_Sites.{bel_point, top_point, pin_p
 use Rattle.fab_points_laws.specs.fab_use_defs_Design.{IsBound}
 use Rattle.fab_points_laws.specs.fab_use_defs_Sources as sources
 use Rattle.fab_points_laws.specs.fab_use_defs_Sources.{Source, always, shows, source_value, HasSource, output_source}
-use Rattle.fab_points_laws.specs.fab_use_defs_Cycles.{Feeds}
 use Rattle.fab_points_laws.specs.fab_use_defs_Registers.{HoldsLatches}
 use Rattle.fab_points_laws.proofs.Places.{site_tile, cell_kind, in_kind, out_kind}
 use Rattle.fab_points_laws.proofs.Sourced.{sources_are_of_design}
-use Rattle.fab_runs_laws.specs.Carrying.{MeetsSources}
+use Rattle.fab_runs_laws.specs.Carrying.{MeetsSources, PadsAreFed}
 use Rattle.fab_runs_laws.proofs.Roots.{Begins, required_has}
 use Rattle.fab_runs_laws.proofs.Cells.{index_each}
 
@@ -137,10 +137,10 @@ module _ (fabric : PlainFabric) (netlist : PlainNetlist) (fixed_pads : List Pad)
         met _ _ (sources.cell_enable bound at_tile.1 latched)
         ∙ pin_value one_net site kinds.Lut4c 6 at_tile.0 (latch_enable bound.listed bound.cell_is latched) kind (omega arith) at_tile.1
 
-    pub free : (init : ℕ) → cell.latch ≡ Some init → now (bel_point site (codes "SR")) ≡ false
-    free init latched =
+    reset_pin : (init : ℕ) → cell.latch ≡ Some init → now (bel_point site (codes "SR")) ≡ values (reset_id netlist.reset)
+    reset_pin init latched =
         met _ _ (sources.cell_reset bound at_tile.1 latched)
-        ∙ pin_value zero_net site kinds.Lut4c 5 at_tile.0 (latch_reset bound.listed bound.cell_is latched) kind (omega arith) at_tile.1
+        ∙ pin_value (packed_net (packed netlist) (reset_id netlist.reset)) site kinds.Lut4c 5 at_tile.0 (latch_reset bound.listed bound.cell_is latched) kind (omega arith) at_tile.1
 
     module _ (holds : HoldsLatches netlist implementation held latches) where
       by_work : (work : Work) → IsAt (works netlist) number work → cell_of netlist work ≡ cell → now (bel_point site (codes "O")) ≡ held_or (latch_of work) (bit_at latches) (computes cell values)
@@ -193,7 +193,7 @@ module _ (fabric : PlainFabric) (netlist : PlainNetlist) (fixed_pads : List Pad)
 
   -- ---- all nets
 
-  module _ (feeds : Feeds netlist implementation given inputs) (holds : HoldsLatches netlist implementation held latches) where
+  module _ (fed : PadsAreFed netlist implementation given inputs) (holds : HoldsLatches netlist implementation held latches) where
     cell_carried : (place : ℕ) (work : Work) (cell : PlainCell) → IsAt (works netlist) place work → IsAt (packed netlist).cells place cell →
         values (ids.Cell place) ≡ held_or (latch_of work) (bit_at latches) (computes cell values)
     cell_carried place work cell at_work at_cell =
@@ -213,7 +213,21 @@ module _ (fabric : PlainFabric) (netlist : PlainNetlist) (fixed_pads : List Pad)
         let listed : Contains implementation.ins (port, site) =
         known_site bytes_eq bytes_eq-Decides fabric kinds.Io (IsInput (packed netlist)) implementation.ins legal.placed.ports.ins port (at_in (packed netlist).inputs place port at) in
         outer_value port site listed
-        ∙ feeds.pads place from.0 site from.1 (subst (λ (name : List ℕ). Contains implementation.ins (name, site)) (sym from.2) listed)
+        ∙ fed place from.0 site from.1 (subst (λ (name : List ℕ). Contains implementation.ins (name, site)) (sym from.2) listed)
 
     pub carries : Carries netlist (bit_at given) (bit_at latches) values
     carries = record { zero = refl; one = refl; inputs = input_carried; cells = cell_carried }
+
+    -- ---- the reset port
+
+    module _ (nets : ℕ → Bool) (of_nets : Meets netlist (bit_at given) (bit_at latches) nets) where
+      reset_carried : (reset : Option ℕ) → ((place : ℕ) → reset ≡ Some place → place < length netlist.inputs) → values (reset_id reset) ≡ reset_by netlist.inputs nets reset
+      reset_carried None below = refl
+      reset_carried (Some place) below =
+          let few = below place refl in
+          input_carried place few ∙ sym (of_nets.inputs place (get_or netlist.inputs place 0) (at_default netlist.inputs place 0 few))
+
+      -- the flip-flop of a latch is reset where the netlist is
+      pub resets_as : (number : ℕ) (site : Site) (cell : PlainCell) → IsBound (packed netlist) implementation number site cell → (init : ℕ) → cell.latch ≡ Some init →
+          now (bel_point site (codes "SR")) ≡ is_reset netlist nets
+      resets_as number site cell bound init latched = reset_pin number site cell bound init latched ∙ reset_carried netlist.reset made.reset_below

@@ -44,6 +44,7 @@ pub fn legal_designs_run()
     design_is_listed();
     design_settles_by_sources();
     registers_tick();
+    loaded_is_known();
     ranked_design_settles_once();
     one_run();
 }

@@ -8,7 +8,7 @@ use fab_netlist::one_run;
 pub use fab_runs_laws::legal_designs_run;
 use fab_runs_laws::{
     configuration_goes, design_is_declared, design_is_listed, design_settles_by_sources,
-    fabric_texts_load, ranked_design_settles_once, registers_tick,
+    fabric_texts_load, loaded_is_known, ranked_design_settles_once, registers_tick,
 };
 
 /// In each text of a fabric that is loaded with the bitstream of a legal implementation, as many blocks of activations as there are design points
@@ -22,6 +22,7 @@ pub fn legal_designs_settle()
     design_is_listed();
     design_settles_by_sources();
     registers_tick();
+    loaded_is_known();
     ranked_design_settles_once();
     one_run();
 }

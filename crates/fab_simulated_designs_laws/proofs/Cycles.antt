@@ -1,5 +1,5 @@
 -- Cycle by cycle a simulation shows what the netlist says.
-use Rattle.std.proofs.Common.{◌≡◌, ℕ, Bool, true, false, List, [], ◌∷◌, codes, map, Contains, refl, sym, ap, ◌∙◌, inl, inr, bytes_eq}
+use Rattle.std.proofs.Common.{◌≡◌, ℕ, Bool, true, false, List, [], ◌∷◌, codes, map, Contains, refl, sym, ap, ◌∙◌, inl, inr, bytes_eq, if◌then◌else◌}
 use Rattle.std.proofs.lemmas.Bool.{cases_Bool, false≢true}
 use Rattle.std.proofs.lemmas.Slice.Eq.{bytes_eq-Decides}
 use Rattle.fab_kinds.specs.declared.kind.Kind.TheVariants as kinds
@@ -22,7 +22,7 @@ use Rattle.fab_legal.specs.Sinks.{site_of}
 use Rattle.fab_legal.proofs.SinkLaw.{known_site}
 use Rattle.fab_state.specs.Plain.{PlainState}
 use Rattle.fab_ternary_laws.specs.Shown.{Terns}
-use Rattle.fab_runs_laws.specs.fab_use_defs_Sites.{bel_point, top_point}
+use Rattle.fab_runs_laws.specs.fab_use_defs_Sites.{bel_point, reset_bit, top_point}
 use Rattle.fab_runs_laws.specs.fab_use_defs_Design.{IsSourced}
 use Rattle.fab_runs_laws.specs.fab_use_defs_Cycles.{Instant, Shows}
 use Rattle.fab_runs_laws.specs.fab_use_defs_Registers.{bound_pad, design_state}
@@ -42,7 +42,12 @@ use Rattle.fab_runs_laws.proofs.Values as v
 use Rattle.fab_simulated_designs_laws.specs.Designs.{shown_by, IsKnown, EachKnows}
 use Rattle.fab_simulated_designs_laws.proofs.Fed.{fed, feeds, user_low, pads, given_known}
 use Rattle.fab_simulated_designs_laws.proofs.Known.{KnownLaws, IsRegister, Follows, design_known}
-use Rattle.fab_simulated_designs_laws.proofs.Registers.{register_left}
+use Rattle.fab_simulated_designs_laws.proofs.Registers.{reset_used, register_left}
+
+-- a choice between known values is known
+choice_known : (test a b : Bool) (t u : Tern) → t ≡ known a → u ≡ known b → (if test then t else u) ≡ known (if test then a else b)
+choice_known true a b t u first second = first
+choice_known false a b t u first second = second
 
 module _ (s : Setting) where
   abbrev state : PlainState
@@ -166,15 +171,17 @@ module _ (s : Setting) where
         let tile = site_tile s.fabric r.site kinds.Lut4c kind in
         let enabled = v.enabled s.fabric s.netlist s.fixed s.implementation (fed s values) base now values latches s.are s.made s.legal met r.number r.site
         r.cell r.bound r.init r.latched in
-        let free = v.free s.fabric s.netlist s.fixed s.implementation (fed s values) base now values latches s.are s.made s.legal met r.number r.site r.cell
-        r.bound r.init r.latched in
+        let resets = now (bel_point r.site (codes "SR")) in
+        let loaded = now (reset_bit r.site) in
+        let table = now (bel_point r.site (codes "t")) in
         let rule = s.laws.registers s.fabric s.text (packed s.netlist) s.fixed s.implementation base now after_tick s.is s.are s.is_text s.legal r.number
         r.init r.site r.cell r.bound r.latched in
-        register_left s p r held cycle.now next cycle.leaves
+        register_left s p r held cycle.now next resets cycle.leaves
         (sourced_known (bel_point r.site (codes "EN")) _ (sources.cell_enable r.bound tile.1 r.latched) ∙ ap known enabled)
-        (sourced_known (bel_point r.site (codes "SR")) _ (sources.cell_reset r.bound tile.1 r.latched) ∙ ap known free)
-        ∙ sourced_known (bel_point r.site (codes "t")) _ (sources.cell_table r.bound)
-        ∙ ap known (sym (rule.0 passes.ticks enabled free)) ∙ ap (λ q. known (after_tick q)) (sym r.is)
+        (sourced_known (bel_point r.site (codes "SR")) _ (sources.cell_reset r.bound tile.1 r.latched))
+        ∙ choice_known resets loaded table (cycle.now (reset_bit r.site)) (cycle.now (bel_point r.site (codes "t")))
+        (knows (reset_bit r.site) (reset_used s p r)) (sourced_known (bel_point r.site (codes "t")) _ (sources.cell_table r.bound))
+        ∙ ap known (sym (rule.0 passes.ticks enabled)) ∙ ap (λ q. known (after_tick q)) (sym r.is)
 
     loading_follows : AreKnown (IsLoading s.text) next after_tick
     loading_follows p loads =

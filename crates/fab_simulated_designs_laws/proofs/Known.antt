@@ -19,7 +19,7 @@ use Rattle.fab_runs_laws.specs.fab_use_defs_Design.{IsBound, IsSourced, IsOfDesi
 use Rattle.fab_runs_laws.specs.fab_use_defs_Sources as sources
 use Rattle.fab_runs_laws.specs.fab_use_defs_Sources.{Source, output_source, source_value, source_reads, HasSource}
 use Rattle.fab_runs_laws.specs.fab_points_laws_Known.{KnowsBits}
-use Rattle.fab_runs_laws.specs.fab_points_laws_Laws.{LoadedIsKnown, SourcesAreKnown}
+use Rattle.fab_runs_laws.specs.fab_points_laws_Laws.{SourcesAreKnown}
 use Rattle.fab_runs_laws.proofs.fab_points_laws_ReadPoints.{reads_covered}
 use Rattle.fab_simulation_laws.specs.Laws.{AreKnown, LoadingIsKnown, LoadingIsKept}
 use Rattle.fab_runs_laws.specs.Carrying.{MeetsSources}
@@ -29,7 +29,6 @@ use Rattle.fab_simulated_designs_laws.proofs.Drivers.{given_free, given_shown}
 
 pub record KnownLaws : Type 0 where
   pub one : PointsOfSoundTextsHaveOneDriver
-  pub loaded : LoadedIsKnown
   pub sources : SourcesAreKnown
   pub loading : LoadingIsKnown
   pub kept : LoadingIsKept
@@ -118,7 +117,7 @@ module _ (s : Setting) where
     loads_known = laws.loading s.text inputs held t bits base now solves (λ p stream. are_inputs p) follows.loading settled
 
     knows : KnowsBits s.fabric s.bits t
-    knows = laws.loaded s.fabric s.text s.bits bits base now t s.is s.is_text configured settled loads_known
+    knows = s.laws.known s.fabric s.text s.bits bits base now t s.is s.is_text configured settled loads_known
 
     declared : (p : Point) → Design p → is_declared s.text p ≡ true
     declared p design = s.laws.declared s.fabric s.text (packed s.netlist) s.fixed s.implementation s.is s.are s.is_text (cells_made s) s.legal p (inl design)

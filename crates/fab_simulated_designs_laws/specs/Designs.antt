@@ -1,5 +1,5 @@
 -- What a simulation of a fabric's text shows where it is loaded with an implementation of a netlist.
-use Rattle.std.specs.Prelude.{◌≡◌, ℕ, Bool, List, map, nat_eq}
+use Rattle.std.specs.Prelude.{◌≡◌, ℕ, Bool, List, map}
 use Rattle.fab_bits.specs.Bits.{digits}
 use Rattle.fab_syntax.specs.Plain.{PlainModule}
 use Rattle.fab_systems_laws.specs.Ternary.{Tern, known}
@@ -8,7 +8,7 @@ use Rattle.fab_model.specs.Grid.{PlainFabric}
 use Rattle.fab_model.specs.Drive.{PlainBits}
 use Rattle.fab_frames.specs.Stream.{stream}
 use Rattle.fab_netlist.specs.Plain.{PlainNetlist}
-use Rattle.fab_netlist.specs.Meaning.{IsRun}
+use Rattle.fab_netlist.specs.Meaning.{first_value, IsRun}
 use Rattle.fab_netlist.specs.Packing.{packed}
 use Rattle.fab_implementation.specs.Plain.{PlainImplementation}
 use Rattle.fab_state.specs.Plain.{PlainState}
@@ -21,7 +21,7 @@ use Rattle.fab_simulation_laws.specs.Simulation.{AreCycles, none, after, Simulat
 
 -- What the latches of a netlist begin with in a simulation: 2 and 3, any value, are read as 0.
 abbrev pub initial_latches : PlainNetlist → List Bool
-initial_latches netlist = map (λ latch. nat_eq latch.init 1) netlist.latches
+initial_latches netlist = map first_value netlist.latches
 
 -- what the output ports show where the nets have these values, in declared order
 abbrev pub shown_by : PlainNetlist → (nets : ℕ → Bool) → List Tern

@@ -24,10 +24,10 @@ pub fn legal_designs_simulate()
     design_is_listed();
     design_settles_by_sources();
     registers_tick();
+    loaded_is_known();
     ranked_design_settles_once();
     one_run();
     points_of_sound_texts_have_one_driver();
-    loaded_is_known();
     sources_are_known();
     loading_is_known();
 }

@@ -11,6 +11,7 @@ returns c =
       listed = c.design_is_listed.ensures;
       by_sources = c.design_settles_by_sources.ensures;
       registers = c.registers_tick.ensures;
+      known = c.loaded_is_known.ensures;
       once = c.ranked_design_settles_once.ensures;
       one_run = c.one_run.ensures;
     })
