@@ -197,11 +197,11 @@ def choices_of(tile, kind, pins):
 
 def wires_by_class(fabric):
     """By direction and span, how many wires begin, and how many of them end nowhere."""
-    totals = collections.defaultdict(lambda: [0, 0])
+    totals, ways = collections.defaultdict(lambda: [0, 0]), {"JUMP": "jump", "EAST": "across", "WEST": "across"}
     for x, y, tile in fabric.places():
         for row in tile.rows:
             if row.source is not None:
-                key = ("across" if row.direction in ("EAST", "WEST") else "jump" if row.direction == "JUMP" else "up and down", row.span)
+                key = (ways.get(row.direction, "up and down"), row.span)
                 totals[key][0] += row.bits
                 totals[key][1] += sum(fabric.end_of(x, y, row, bit) is None for bit in range(row.bits))
     return dict(sorted(totals.items(), key=lambda item: (item[0][0] == "jump", item[0])))

@@ -165,7 +165,8 @@ class Picture:
                 elif site in ports:
                     way, port = ports[site]
                     fill, told = (INPUT, "input") if way == "in" else (OUTPUT, "output")
-                    self._slot(x, y, bel, fill, f"{site}: {told} {port}", port, f' data-port="{html.escape(way)} {html.escape(port)}"')
+                    data = f' data-port="{html.escape(f"{way} {port}")}"'
+                    self._slot(x, y, bel, fill, f"{site}: {told} {port}", port, data)
                 else:
                     self._slot(x, y, bel, FREE, f"{site}: free", "", "")
         self.out.append("</g>")
@@ -210,7 +211,8 @@ class Picture:
 
     def _net(self, shape, colour, opacity, width):
         strokes = self.sheet.strokes(shape)
-        path = "".join(f"M{number(a)} {number(b)}" + (f"H{number(c)}" if b == d else f"V{number(d)}") for a, b, c, d in strokes.lines)
+        path = "".join(f"M{number(a)} {number(b)}" + (f"H{number(c)}" if b == d else f"V{number(d)}")
+                       for a, b, c, d in strokes.lines)
         dots = "".join(f"M{number(a)} {number(b)}h0" for a, b in strokes.dots)
         told = f"{self._net_name(shape.name)}: {shape.sinks} pins, {len(shape.edges)} edges"
         wide = f' stroke-width="{number(width)}"' if width else ""
@@ -281,18 +283,19 @@ class Picture:
         sheet, scale = self.sheet, self.sheet.scale
         x, y = sheet.left, sheet.bottom + 30 * scale
         self.out.append('<g id="foot">')
-        for fill, words in ((TABLE, "look-up table"), (REGISTER, "with its flip-flop"), (INPUT, "input pad"), (OUTPUT, "output pad"),
-                            (FREE, "free")):
+        for fill, words in ((TABLE, "look-up table"), (REGISTER, "with its flip-flop"), (INPUT, "input pad"),
+                            (OUTPUT, "output pad"), (FREE, "free")):
             self._rect(x, y - 10 * scale, 13 * scale, 13 * scale, fill, ' rx="2.5" stroke="#888" stroke-width=".7"')
             self._write(x + 18 * scale, y + scale, words, 12 * scale)
             x += (38 + 6.2 * len(words)) * scale
-        signs = [("shared wire", RED)] * bool(self.shared) + [("longest path, with the sums at its cells", PATH)] * bool(self.timing)
+        signs = [("shared wire", RED)] if self.shared else []
+        signs += [("longest path, with the sums at its cells", PATH)] if self.timing else []
         for words, colour in signs:
             self._rect(x, y - 6 * scale, 22 * scale, 4 * scale, colour, ' rx="2"')
             self._write(x + 28 * scale, y + scale, words, 12 * scale)
             x += (48 + 6.2 * len(words)) * scale
         self._scale_of_heat(sheet.left, y + 30 * scale)
-        used = [f"{name}: {self.usage.taken[key]} of {self.usage.total[key]}" for key in sorted(self.usage.total) for name in key[2:]]
+        used = [f"{key[2]}: {self.usage.taken[key]} of {self.usage.total[key]}" for key in sorted(self.usage.total)]
         self._write(sheet.left, y + 74 * scale, "wires in use    " + "    ·    ".join(used), 12 * scale, "#555")
         self.out.append("</g>")
 

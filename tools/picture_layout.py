@@ -23,8 +23,8 @@ Strokes = collections.namedtuple("Strokes", "lines dots")
 
 
 class Shape:
-    """A net on the grid: its places, its pins in each place (in their order), and its runs with their lanes by (way, channel). The ways are
-    "across", whose channels are rows, and "down", whose channels are columns."""
+    """A net on the grid: its places, its pins in each place (in their order), and its runs with their lanes by (way, channel).
+    The ways are "across", whose channels are rows, and "down", whose channels are columns."""
 
     def __init__(self, name, edges):
         self.name, self.edges = name, edges
@@ -85,7 +85,8 @@ class Sheet:
 
     def __init__(self, fabric, counts):
         self.fabric, self.counts = fabric, counts
-        self.most = {way: max([count for channel, count in counts.items() if channel[0] == way] + [1]) for way in ("across", "down")}
+        self.most = {way: max([count for channel, count in counts.items() if channel[0] == way] + [1])
+                     for way in ("across", "down")}
         self.pitch = {way: max(LEAST_PITCH, min(MOST_PITCH, LANE_ROOM / most)) for way, most in self.most.items()}
         self.room = {way: 2 * LANE_MARGIN + self.pitch[way] * most for way, most in self.most.items()}
         deepest = max([len(self.slots_of(tile)) for tile in fabric.tiles.values()] + [1])

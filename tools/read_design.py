@@ -38,7 +38,8 @@ class Netlist:
         self._copy(models, top, {}, "", 0)
         self.inputs = [port for port in top.inputs if port != self.clock]
         # whether the file has covers and latches alone, without instances of models and without `.conn`
-        self.is_flat = all(isinstance(part, Latch) or (isinstance(part, Cover) and control is None) for _, part, control in top.parts)
+        self.is_flat = all(isinstance(part, Latch) or (isinstance(part, Cover) and control is None)
+                           for _, part, control in top.parts)
 
     def _copy(self, models, model, actual, prefix, depth):
         """Takes the covers and latches of a copy of a model. actual: the nets of its ports; other nets get the prefix."""

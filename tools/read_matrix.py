@@ -1,12 +1,13 @@
 """Reads switch lists, matrix tables and configuration tables (docs/FORMATS.md: "Switch lists", "Matrix tables",
 "Configuration tables"). Faults are collected, and a row with a fault gives no pairs.
 """
+import collections
 import difflib
 import itertools
 import re
 
 from fabric import FRAME_BITS, FRAMES
-from table_rows import INCLUDE_DEPTH, NAME_BYTES, is_path, is_wire_name, number_of, read_table, resolved
+from table_rows import INCLUDE_DEPTH, NAME_BYTES, Faults, is_path, is_wire_name, number_of, read_table, resolved
 
 EXPANDED_NAMES = 4096
 HEADER = ["frame_name", "frame_index", "bits_used_in_frame", "used_bits_mask", "ConfigBits_ranges"]
@@ -53,24 +54,55 @@ class Cell:
             yield from itertools.repeat("".join(pieces), self.times)
 
 
-class Pair:
-    """A pair of a switch matrix, and where it stands."""
+# A matrix name in a list or a table, on the side of outputs or of inputs, and where it stands.
+Name = collections.namedtuple("Name", "text is_output path line")
+# The reasons of one line in the order in which they are told.
+ORDER = ["row", "number", "name", "name twice", "bracket", "counts differ", "unknown name", "digit"]
 
-    def __init__(self, output, given, path, line):
-        self.output, self.given, self.path, self.line = output, given, path, line
+
+class MatrixFile:
+    """What a matrix file says. `pairs` are (output, input) in their order, with those that stand again, and `names` all names."""
+
+    def __init__(self, faults):
+        self.pairs, self.names, self.places, self.outer = [], [], {}, faults
+        self.faults = Faults()
+
+    def visit(self, path, line):
+        """Notes in which order lines are read."""
+        self.places.setdefault((path, line), len(self.places))
+
+    def close(self, tile, forgiven):
+        """Tells all faults, those of names that the tile does not have among them, and answers the pairs of known names."""
+        unknown = UnknownNames(tile, forgiven, self.faults)
+        first = {(name.text, name.is_output): name for name in reversed(self.names)}
+        known = {key: unknown.is_known(key, name) for key, name in first.items()}
+        for name in self.names:
+            if not known[name.text, name.is_output]:
+                unknown.add(name)
+        unknown.tell()
+        told = sorted(self.faults, key=lambda fault: (self.places.get((fault.path, fault.line), -1), reason_order(fault)))
+        for fault in told:
+            self.outer.add(*fault)
+        return [pair for pair in self.pairs if known[pair[0], True] and known[pair[1], False]]
 
 
-class SwitchList:
-    """The pairs of a switch list and of the lists that it includes, in their order, with those that stand again.
-    `depth`: how many INCLUDE rows are open where the list is named."""
+def reason_order(fault):
+    """The place of a fault among those of its line: malformed lines first, then limits."""
+    return ORDER.index(fault.what) if fault.kind == "malformed" and fault.what in ORDER else len(ORDER)
+
+
+class SwitchList(MatrixFile):
+    """A switch list with the lists that it includes. `depth`: how many INCLUDE rows are open where the list is named."""
 
     def __init__(self, path, faults, named_at, depth):
-        self.pairs, self.faults = [], faults
+        super().__init__(faults)
         self._read(path, named_at, depth)
 
     def _read(self, path, named_at, depth):
+        self.visit(path, 0)
         table = read_table(path, self.faults, named_at)
         for line, cells in table.rows if table else ():
+            self.visit(path, line)
             if len(cells) != 2:
                 self.faults.malformed(path, line, "row", f"a row has an output and an input, and this has {len(cells)} cells")
             elif cells[0] == "INCLUDE":
@@ -106,26 +138,31 @@ class SwitchList:
         elif max(counts) > EXPANDED_NAMES:
             self.faults.limit(path, line, "expanded names", counts[0], EXPANDED_NAMES)
         else:
-            self.pairs += [Pair(output, given, path, line) for output, given in zip(*names)]
+            for pair in zip(*names):
+                self.names += [Name(pair[0], True, path, line), Name(pair[1], False, path, line)]
+                self.pairs.append(pair)
 
 
-class MatrixTable:
-    """The pairs of a matrix table: a row for each output, and a column with 0 or 1 for each input."""
+class MatrixTable(MatrixFile):
+    """A matrix table: a row for each output, and a column with 0 or 1 for each input."""
 
     def __init__(self, path, faults, named_at):
-        self.pairs, self.path, self.faults = [], path, faults
-        table = read_table(path, faults, named_at)
+        super().__init__(faults)
+        self.path = path
+        table = read_table(path, self.faults, named_at)
         if table and not table.rows:
-            faults.malformed(path, table.last, "end of file", "the table has no row with the names of inputs")
+            self.faults.malformed(path, table.last, "end of file", "the table has no row with the names of inputs")
         elif table:
-            line, cells = table.rows[0]
-            self.inputs, self.line = cells[1:], line
-            self._names(line, cells[1:])
+            self.inputs = table.rows[0][1][1:]
+            self._head(table.rows[0][0], self.inputs)
             seen = set()
             for line, cells in table.rows[1:]:
+                self.visit(path, line)
                 self._row(line, cells, seen)
 
-    def _names(self, line, names):
+    def _head(self, line, names):
+        self.visit(self.path, line)
+        self.names += [Name(name, False, self.path, line) for name in names if is_wire_name(name)]
         bad = next((name for name in names if not is_wire_name(name)), None)
         twice = next((name for at, name in enumerate(names) if name in names[:at]), None)
         if bad is not None:
@@ -142,35 +179,34 @@ class MatrixTable:
             self.faults.malformed(self.path, line, "name", f"`{output}` is no name of a wire")
         elif output in seen:
             self.faults.malformed(self.path, line, "name twice", f"the output {output} has a row already")
-        elif digit is not None:
-            self.faults.malformed(self.path, line, "digit", f"a cell is 0 or 1, and not `{digit}`")
         else:
-            self.pairs += [Pair(output, given, self.path, line) for given, cell in zip(self.inputs, digits) if cell == "1"]
+            self.names.append(Name(output, True, self.path, line))
+            given = [name for name, cell in zip(self.inputs, digits) if cell == "1" and is_wire_name(name)]
+            self.pairs += [(output, name) for name in given] if digit is None else []
+            if digit is not None:
+                self.faults.malformed(self.path, line, "digit", f"a cell is 0 or 1, and not `{digit}`")
         seen.add(output)
 
 
 class UnknownNames:
-    """Finds the names of pairs that a tile does not have, and says what may be meant. Each name is told once in a file."""
+    """Names that a tile does not have. Each is told once in a file, at its first line, with what may be meant."""
 
     def __init__(self, tile, forgiven, faults):
         # forgiven: tells of a name whether it may be a wire of a row or a pin of a BEL that has a fault itself
         self.tile, self.forgiven, self.faults, self.first = tile, forgiven, faults, {}
 
-    def known(self, pair):
-        """Whether both names of a pair are those of the tile."""
-        return all([self._known(pair, name, is_output) for name, is_output in ((pair.output, True), (pair.given, False))])
+    def is_known(self, key, name):
+        """Whether the tile has a name on a side."""
+        wire = self.tile.wires.get(key[0])
+        is_there = wire is not None and wire.is_output == key[1]
+        if is_there and len(key[0]) > NAME_BYTES:
+            self.faults.limit(name.path, name.line, "name bytes", len(key[0]), NAME_BYTES)
+        return is_there
 
-    def _known(self, pair, name, is_output):
-        wire = self.tile.wires.get(name)
-        if wire and wire.is_output == is_output:
-            if len(name) > NAME_BYTES:
-                self.faults.limit(pair.path, pair.line, "name bytes", len(name), NAME_BYTES)
-            return True
-        if not wire and self.forgiven(name):
-            return False
-        key = (pair.path, name, is_output)
-        self.first.setdefault(key, [pair.line, set()])[1].add(pair.line)
-        return False
+    def add(self, name):
+        """Takes a name that is not known."""
+        if name.text in self.tile.wires or not self.forgiven(name.text):
+            self.first.setdefault((name.path, name.text, name.is_output), [name.line, set()])[1].add(name.line)
 
     def tell(self):
         """Notes what was found."""
@@ -210,7 +246,8 @@ def read_configuration(path, bits, faults):
             clean = False
     absent = [bit for bit in range(bits) if bit not in places]
     if clean and absent:
-        faults.malformed(path, table.last, "bit", f"{len(absent)} of {bits} configuration bits have no place, from bit {absent[0]} on")
+        why = f"{len(absent)} of {bits} configuration bits have no place, from bit {absent[0]} on"
+        faults.malformed(path, table.last, "bit", why)
     return places
 
 

@@ -10,7 +10,7 @@ import re
 import sys
 
 from fabric import BEL_BITS, FRAME_BITS, FRAMES, STEPS, Bel, Fabric, Row, Tile
-from read_matrix import MatrixTable, SwitchList, UnknownNames, read_configuration
+from read_matrix import MatrixTable, SwitchList, read_configuration
 from table_rows import (INCLUDE_DEPTH, NAME_BYTES, Faults, is_name, is_path, is_wire_name, number_of, read_table, resolved)
 
 KINDS = {
@@ -33,6 +33,8 @@ class Block:
     def __init__(self, word, path, line, tile=None):
         self.word, self.path, self.line, self.tile = word, path, line, tile
         self.matrix, self.faulty = None, []
+        # how many wires rows have that are too long to be written out
+        self.uncounted = 0
 
     def forgives(self, name):
         """Whether a name may be that of a row or a BEL that has a fault itself: then the name is not told again."""
@@ -46,6 +48,8 @@ class FabricReader:
         self.fabric, self.faults, self.block = Fabric(path), Faults(), None
         # what stands once, where the cells of the grid stand, and the rows that are passed over behind an unsupported one
         self.seen, self.cells, self.skipping = set(), {}, None
+        # the tiles whose block began
+        self.begun = {}
 
     def read(self):
         """Reads the fabric file with all files that it names."""
@@ -123,15 +127,16 @@ class FabricReader:
 
     def _begin(self, path, line, cells, is_fabric):
         word = cells[0]
-        tile_name = cells[1] if word == "TILE" and len(cells) == 2 else None
         fault = self._begin_fault(cells, is_fabric)
         if fault:
             self.faults.malformed(path, line, *fault)
-        if word == "TILE" and fault and fault[0] != "name twice" and fault[0] != "block":
-            tile_name = tile_name if tile_name and is_name(tile_name) else None
         self.seen.add(word)
-        tile = Tile(tile_name or f"of line {line}", path, line) if word == "TILE" else None
+        # what follows a faulty row is read as if the block began
+        is_named = len(cells) == 2 and is_name(cells[1])
+        tile = Tile(cells[1] if is_named else f"of line {line}", path, line) if word == "TILE" else None
         self.block = Block(word, path, line, tile)
+        if tile:
+            self.begun.setdefault(tile.name, tile)
         if tile and not fault:
             if len(tile.name) > NAME_BYTES:
                 self.faults.limit(path, line, "name bytes", len(tile.name), NAME_BYTES)
@@ -145,8 +150,8 @@ class FabricReader:
             return "row", f"`{word}` stands " + ("with one name" if word == "TILE" else "alone")
         if word == "TILE" and (not is_name(cells[1]) or cells[1] == "NULL"):
             return "name", f"`{cells[1]}` is no name of a tile"
-        if word == "TILE" and cells[1] in self.fabric.tiles:
-            first = self.fabric.tiles[cells[1]]
+        if word == "TILE" and cells[1] in self.begun:
+            first = self.begun[cells[1]]
             return "name twice", f"{first.path}:{first.line} has a tile {cells[1]} already"
         if self.block:
             return "block", f"the block of line {self.block.line} of {self.block.path} is open"
@@ -170,8 +175,9 @@ class FabricReader:
     def _end_tile(self, path, line, block, depth):
         tile = block.tile
         self.fabric.tiles.setdefault(tile.name, tile)
-        if len(tile.wires) > MAX_NAMES:
-            self.faults.limit(path, line, "matrix names", len(tile.wires), MAX_NAMES)
+        names = len(tile.wires) + block.uncounted
+        if names > MAX_NAMES:
+            self.faults.limit(path, line, "matrix names", min(names, (1 << 64) - 1), MAX_NAMES)
             return
         if block.matrix:
             self._matrix(tile, block, depth)
@@ -189,15 +195,9 @@ class FabricReader:
         """Reads the matrix file of a tile: a switch list, or a matrix table where its name ends in .csv."""
         line, named, path = block.matrix
         where = (path, line)
-        if named.endswith(".csv"):
-            pairs = MatrixTable(named, self.faults, where).pairs
-        else:
-            pairs = SwitchList(named, self.faults, where, depth).pairs
-        unknown = UnknownNames(tile, block.forgives, self.faults)
-        known = [pair for pair in pairs if unknown.known(pair)]
-        unknown.tell()
+        file = MatrixTable(named, self.faults, where) if named.endswith(".csv") else SwitchList(named, self.faults, where, depth)
         tile.matrix = named
-        tile.pairs = list(dict.fromkeys((pair.output, pair.given) for pair in known))
+        tile.pairs = list(dict.fromkeys(file.close(tile, block.forgives)))
 
     # ---- the grid and the parameters
 
@@ -261,8 +261,7 @@ class FabricReader:
         elif long_name:
             self.faults.limit(path, line, "name bytes", len(long_name), NAME_BYTES)
         elif row.bits > MAX_NAMES:
-            self.faults.limit(path, line, "matrix names", row.bits, MAX_NAMES)
-            self.block.faulty += [f"{name}[0-9]+$" for name in names]
+            self.block.uncounted += row.bits * len(names)
         else:
             tile.add(row)
 
@@ -280,7 +279,8 @@ class FabricReader:
         elif twice:
             fault = "name twice", f"{twice} stands before in the tile; each BEL needs a prefix of its own"
         elif not prefix and kind != "MUX8LUT":
-            fault = "prefix", "a BEL has a prefix, which no other BEL of the tile has" + ("" if kind else f"; and fab has no BEL {stem}")
+            more = "" if kind else f"; and fab has no BEL {stem}"
+            fault = "prefix", f"a BEL has a prefix, which no other BEL of the tile has{more}"
         if fault:
             self.faults.malformed(path, line, *fault)
         elif not kind:
