@@ -6,6 +6,7 @@ once what holds of it at each place.
 import collections
 
 from fabric import PINS
+from table_rows import counted
 
 # One finding: "warning" or "note", the file and the line, and a sentence.
 Finding = collections.namedtuple("Finding", "level path line words")
@@ -45,7 +46,8 @@ class TileCheck:
                 self._pad(bel)
             spare += self._pins(bel)
         if spare:
-            self._tell("note", self.tile, f"no pair has {len(spare)} pins that netlists of fab do not need: {listed(spare)}")
+            pins = counted(len(spare), "pin")
+            self._tell("note", self.tile, f"no pair has {pins} that netlists of fab do not need: {listed(spare)}")
         for row in self.tile.rows:
             self._row(row)
         return self.findings
@@ -109,13 +111,15 @@ class TileCheck:
         idle = [wire for wire in row.wires() if wire.name not in (self.inputs if wire.is_output else self.read)]
         begins, ends = ([wire.name for wire in idle if wire.is_output == side] for side in (True, False))
         if begins:
-            self._tell("warning", row, f"no pair leads into {len(begins)} of {row.bits} wires of {row.source}: {listed(begins)}")
+            wires = counted(row.bits, "wire")
+            self._tell("warning", row, f"no pair leads into {len(begins)} of {wires} of {row.source}: {listed(begins)}")
         if not ends or is_constant(idle[-1]):
             return
         if len(ends) == row.bits and row.source is None:
-            self._tell("note", row, f"{row.destination} ends here: no pair reads any of its {row.bits} wires")
+            self._tell("note", row, f"{row.destination} ends here: no pair reads its {counted(row.bits, 'wire')}")
         else:
-            self._tell("warning", row, f"no pair reads {len(ends)} of {row.bits} wires of {row.destination}: {listed(ends)}")
+            wires = counted(row.bits, "wire")
+            self._tell("warning", row, f"no pair reads {len(ends)} of {wires} of {row.destination}: {listed(ends)}")
 
 
 class BorderCheck:
@@ -133,7 +137,7 @@ class BorderCheck:
                     self._leaves(x, y, tile, row, ends)
             self._arrives(x, y, tile)
         for (tile, row), count in ends.items():
-            self._tell("note", tile, row, f"{row.source} leads to an empty place or off the grid at {count} places")
+            self._tell("note", tile, row, f"{row.source} leads to an empty place or off the grid at {counted(count, 'place')}")
         return list(self.findings)
 
     def _tell(self, level, tile, row, words):
@@ -149,7 +153,7 @@ class BorderCheck:
             self._tell("warning", tile, row, f"{row.source} has no partner in {other.name}, which stands next to it: "
                        f"{row.direction} rows with a destination there are too few")
         elif partner.border_bits != row.border_bits:
-            self._tell("warning", tile, row, f"{row.source} has {row.border_bits} wires at the border, and its partner "
+            self._tell("warning", tile, row, f"{row.source} has {counted(row.border_bits, 'wire')} at the border, and its partner "
                        f"{partner.destination} in {other.name} has {partner.border_bits}: none of them is joined")
         else:
             self._order(tile, row, other, partner)

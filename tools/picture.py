@@ -138,12 +138,14 @@ class Picture:
     def _places(self):
         """A ground for each tile, in the colour of its heat; red round a tile with shared wires."""
         crowded = {(wire.x, wire.y) for wire in map(self.fabric.wire, self.shared)}
+        sites = map(self.fabric.site, [*self.design.cells.values(), *self.design.ports.values()])
+        standing = collections.Counter((x, y) for x, y, _ in sites)
         self.out.append('<g id="places">')
         for x, y, tile in self.fabric.places():
             left, top = self.sheet.box(x, y)
             edge = f'{RED}" stroke-width="2' if (x, y) in crowded else "#d9d9d2"
-            used, outputs = self.usage.used[x, y], self.usage.outputs[x, y]
-            told = f"X{x}Y{y} {tile.name}: {used} of {outputs} matrix outputs in use"
+            used, outputs, slots = self.usage.used[x, y], self.usage.outputs[x, y], len(self.sheet.slots_of(tile))
+            told = f"X{x}Y{y} {tile.name}: {used} of {outputs} matrix outputs in use, {standing[x, y]} of {slots} sites"
             self.out.append(f'<g data-place="X{x}Y{y}"><title>{html.escape(told)}</title>')
             self._rect(left + 1, top + 1, self.sheet.box_width - 2, self.sheet.box_height - 2,
                        shade(self.usage.share((x, y)) / self.usage.hottest), f' rx="4" stroke="{edge}"')

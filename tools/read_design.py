@@ -54,8 +54,8 @@ class Netlist:
             elif part[0] not in models or depth > len(models):
                 sys.exit(f"{self.path}:{line}: no model {part[0]}, or one that holds itself")
             else:
-                joined = dict(word.split("=", 1) for word in part[1:])
-                inner = {formal: net(name) for formal, name in joined.items()}
+                joined = [word.partition("=") for word in part[1:]]
+                inner = {formal: net(name) for formal, _, name in joined}
                 self._copy(models, models[part[0]], inner, f"{prefix}{line}/", depth + 1)
 
     def cells(self):
@@ -87,7 +87,8 @@ def read_models(path):
         if word in (".attr", ".cname", ".param"):
             continue
         if word == ".model":
-            model = models[words[1]] = Model(words[1])
+            name = words[1] if len(words) > 1 else ""
+            model = models[name] = Model(name)
         elif model is None:
             sys.exit(f"{path}:{line}: a line before the first model")
         elif not word.startswith("."):
@@ -95,7 +96,10 @@ def read_models(path):
                 sys.exit(f"{path}:{line}: a row without a cover")
             cover.rows.append(words)
             continue
-        cover = blif_line(path, line, words, model)
+        try:
+            cover = blif_line(path, line, words, model)
+        except IndexError:
+            sys.exit(f"{path}:{line}: words are missing")
     return models
 
 

@@ -50,6 +50,11 @@ class Faults:
         return len(self.found)
 
 
+def counted(count, noun):
+    """A count with its noun, in the plural where it is not 1."""
+    return f"{count} {noun}" + ("" if count == 1 else "s")
+
+
 def lines_of(path):
     """The lines of a text, without their ends (LF or CRLF). Bytes that are no UTF-8 stay as surrogates."""
     with open(path, encoding="utf-8", errors="surrogateescape", newline="") as file:
