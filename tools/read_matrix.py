@@ -7,7 +7,7 @@ import itertools
 import re
 
 from fabric import FRAME_BITS, FRAMES
-from table_rows import INCLUDE_DEPTH, NAME_BYTES, Faults, is_path, is_wire_name, number_of, read_table, resolved
+from table_rows import INCLUDE_DEPTH, NAME_BYTES, Faults, counted, is_path, is_wire_name, number_of, read_table, resolved
 
 EXPANDED_NAMES = 4096
 HEADER = ["frame_name", "frame_index", "bits_used_in_frame", "used_bits_mask", "ConfigBits_ranges"]
@@ -211,15 +211,19 @@ class UnknownNames:
     def tell(self):
         """Notes what was found."""
         for (path, name, is_output), (line, lines) in self.first.items():
-            side = "output" if is_output else "input"
+            side, other_side = ("output", "input") if is_output else ("input", "output")
             if name in self.tile.wires:
-                why = f"{name} is an {'input' if is_output else 'output'} of the switch matrix, and stands here as an {side}"
+                why = f"{name} is an {other_side} of the switch matrix, and stands here as an {side}"
             else:
-                names = [other for other, wire in self.tile.wires.items() if wire.is_output == is_output]
-                near = difflib.get_close_matches(name, names, 1) if len(self.first) < 200 else []
-                why = f"the tile {self.tile.name} has no matrix {side} {name}" + (f"; is {near[0]} meant?" if near else "")
-            more = f" (also in {len(lines) - 1} further lines)" if len(lines) > 1 else ""
-            self.faults.malformed(path, line, "unknown name", why + more)
+                why = f"no matrix {side} {name}{self._near(name, is_output)}"
+            more = f" (also in {counted(len(lines) - 1, 'further line')})" if len(lines) > 1 else ""
+            self.faults.malformed(path, line, "unknown name", why + more, [self.tile.name])
+
+    def _near(self, name, is_output):
+        """A question for the name that may be meant. Where very many names are unknown, the wrong file is read."""
+        names = [other for other, wire in self.tile.wires.items() if wire.is_output == is_output]
+        near = difflib.get_close_matches(name, names, 1) if len(self.first) < 200 else []
+        return f"; is {near[0]} meant?" if near else ""
 
 
 def read_configuration(path, bits, faults):

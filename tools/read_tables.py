@@ -11,7 +11,7 @@ import sys
 
 from fabric import BEL_BITS, FRAME_BITS, FRAMES, STEPS, Bel, Fabric, Row, Tile
 from read_matrix import MatrixTable, SwitchList, read_configuration
-from table_rows import (INCLUDE_DEPTH, NAME_BYTES, Faults, is_name, is_path, is_wire_name, number_of, read_table, resolved)
+from table_rows import (INCLUDE_DEPTH, NAME_BYTES, Faults, is_name, is_path, is_wire_name, number_of, read_table, resolved, told)
 
 KINDS = {
     "LUT4c_frame_config": "LUT4c", "LUT4c_frame_config_dffesr": "LUT4c", "IO_1_bidirectional_frame_config_pass": "IO",
@@ -339,6 +339,5 @@ def sound_fabric(path, tool):
     fabric, faults = read_fabric(path)
     if len(faults):
         first = next(iter(faults))
-        where = first.path if first.kind == "missing" else f"{first.path}:{first.line}: {first.what}"
-        sys.exit(f"{tool}: {where}: {first.why}\n{tool}: tools/check_fabric {path} tells all faults")
+        sys.exit(f"{tool}: {told(first)}\n{tool}: tools/check_fabric {path} tells all faults")
     return fabric

@@ -14,14 +14,16 @@ NAME_BYTES = 64
 INCLUDE_DEPTH = 8
 
 # One fault: the file and the line, the kind as a report of fab has it ("malformed", "unsupported", "limit", "missing"), what
-# comes behind it there (the reason, the construct, or quantity, value and bound), and a sentence for the reader.
-Fault = collections.namedtuple("Fault", "path line kind what why")
+# comes behind it there (the reason, the construct, or quantity, value and bound), a sentence for the reader, and the tiles of
+# which it is told: several tiles may have one switch list.
+Fault = collections.namedtuple("Fault", "path line kind what why tiles")
 
 
 def told(fault):
     """A fault as a line: as fab's own report, and then the sentence."""
     place = fault.path if fault.kind == "missing" else f"{fault.path}:{fault.line} {fault.what}"
-    return f"{fault.kind} {place}: {fault.why}"
+    tiles = f"{'tile' if len(fault.tiles) == 1 else 'tiles'} {', '.join(fault.tiles)}: " if fault.tiles else ""
+    return f"{fault.kind} {place}: {tiles}{fault.why}"
 
 
 class Faults:
@@ -30,21 +32,21 @@ class Faults:
     def __init__(self):
         self.found = {}
 
-    def add(self, path, line, kind, what, why):
+    def add(self, path, line, kind, what, why, tiles=()):
         """Notes a fault."""
-        fault = Fault(path, line, kind, what, why)
-        self.found.setdefault(fault, fault)
+        tiles = dict.fromkeys(tiles)
+        self.found.setdefault((path, line, kind, what, why), tiles).update(tiles)
 
-    def malformed(self, path, line, what, why):
+    def malformed(self, path, line, what, why, tiles=()):
         """Notes a malformed line."""
-        self.add(path, line, "malformed", what, why)
+        self.add(path, line, "malformed", what, why, tiles)
 
     def limit(self, path, line, quantity, value, bound):
         """Notes a quantity that is above its bound."""
         self.add(path, line, "limit", f"{quantity} {value} {bound}", f"at most {bound} are read")
 
     def __iter__(self):
-        return iter(self.found)
+        return (Fault(*fault, tuple(tiles)) for fault, tiles in self.found.items())
 
     def __len__(self):
         return len(self.found)
