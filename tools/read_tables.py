@@ -78,6 +78,8 @@ class FabricReader:
                 self.skipping = None if cells[0] == self.skipping else self.skipping
             else:
                 self._row(path, line, cells, depth, is_fabric, outer)
+        # a supertile without its end is passed over to the end of its file
+        self.skipping = None
         if self.block is not outer and self.block:
             ending = next(end for end, begin in BLOCK_ENDS.items() if begin == self.block.word)
             self.faults.malformed(path, table.last, "end of file", f"the block of line {self.block.line} has no {ending}")
@@ -179,25 +181,29 @@ class FabricReader:
         if names > MAX_NAMES:
             self.faults.limit(path, line, "matrix names", min(names, (1 << 64) - 1), MAX_NAMES)
             return
+        is_clean = not block.faulty
         if block.matrix:
-            self._matrix(tile, block, depth)
+            is_clean = self._matrix(tile, block, depth) and is_clean
         crowded = next((inputs for inputs in tile.inputs_of().values() if len(inputs) > MAX_INPUTS), None)
         if crowded:
             self.faults.limit(path, line, "inputs of an output", len(crowded), MAX_INPUTS)
         bits = tile.configuration_bits()
         if bits > MAX_BITS:
             self.faults.limit(path, line, "configuration bits", bits, MAX_BITS)
-        elif not block.faulty:
+        elif is_clean:
+            # of a tile whose rows have faults the bits are not known
             table = resolved(f"{tile.name}_ConfigMem.csv", path)
             read_configuration(table, bits, self.faults)
 
     def _matrix(self, tile, block, depth):
-        """Reads the matrix file of a tile: a switch list, or a matrix table where its name ends in .csv."""
+        """Reads the matrix file of a tile: a switch list, or a matrix table where its name ends in .csv. Answers whether it has no
+        fault."""
         line, named, path = block.matrix
         where = (path, line)
         file = MatrixTable(named, self.faults, where) if named.endswith(".csv") else SwitchList(named, self.faults, where, depth)
         tile.matrix = named
         tile.pairs = list(dict.fromkeys(file.close(tile, block.forgives)))
+        return not len(file.faults)
 
     # ---- the grid and the parameters
 
