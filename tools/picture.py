@@ -32,8 +32,8 @@ def net_colour(number):
 
 
 def short_name(name):
-    """A name without the number of the pass that Yosys puts in front, as `$abc$832$`."""
-    return re.sub(r"^\$abc\$\d+\$", "", name)
+    """A name without what Yosys puts in front: the number of a pass, as `$abc$832$`, and the place in its own sources."""
+    return re.sub(r"^auto\$[^:]*:\d+:", "", re.sub(r"^\$abc\$\d+\$", "", name))
 
 
 def number(value):
