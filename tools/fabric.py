@@ -107,10 +107,12 @@ class Fabric:
 
     @property
     def columns(self):
+        """How many columns the grid has."""
         return max(map(len, self.grid), default=0)
 
     @property
     def rows(self):
+        """How many rows the grid has."""
         return len(self.grid)
 
     def at(self, x, y):

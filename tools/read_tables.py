@@ -9,7 +9,7 @@ import os
 import re
 import sys
 
-from fabric import BEL_BITS, FRAME_BITS, FRAMES, STEPS, Bel, Fabric, Row, Tile
+from fabric import FRAME_BITS, FRAMES, STEPS, Bel, Fabric, Row, Tile
 from read_matrix import MatrixTable, SwitchList, read_configuration
 from table_rows import (INCLUDE_DEPTH, NAME_BYTES, Faults, is_name, is_path, is_wire_name, number_of, read_table, resolved, told)
 
