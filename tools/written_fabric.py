@@ -3,6 +3,8 @@ and lines of a state."""
 import re
 import sys
 
+import read_design
+
 
 class Text:
     """The registers, wires and pads of a fabric's text, by their names from the top."""
@@ -26,36 +28,13 @@ def registers(instance, module):
     return [f"{instance}.{name}" for name in re.findall(r"^  reg (?:\[\d+:0\] )?(\w+);", module, re.M)]
 
 
-class Netlist:
-    """What the run needs of a BLIF file: its clock, its data ports, its covers' inputs and outputs, and its latches."""
+class Netlist(read_design.Netlist):
+    """A netlist as tools/map_verilog writes it, which Yosys reads by the same names: without instances and aliases."""
 
     def __init__(self, path):
-        with open(path) as file:
-            text = re.sub(r"#.*", "", file.read()).replace("\\\n", "")
-        lines = [line.split() for line in text.splitlines() if line.startswith(".")]
-        self.name = next(words[1] for words in lines if words[0] == ".model")
-        latches = [words for words in lines if words[0] == ".latch"]
-        if any(words[0] in (".subckt", ".conn") for words in lines) or any(len(words) != 6 for words in latches):
+        super().__init__(path)
+        if not self.is_flat:
             sys.exit(f"{path}: no netlist of tools/map_verilog")
-        self.clock = next((words[4] for words in latches), None)
-        self.outputs = [port for words in lines if words[0] == ".outputs" for port in words[1:]]
-        self.inputs = [port for words in lines if words[0] == ".inputs" for port in words[1:] if port != self.clock]
-        self.covers = [(words[1:-1], words[-1]) for words in lines if words[0] == ".names"]
-        # input, output, and the first value as a digit
-        self.latches = [(words[1], words[2], words[5]) for words in latches]
-
-    def latches_of_cells(self):
-        """The latch of each cell by the cell's number, as docs/FORMATS.md packs them. Cells without one have none."""
-        read = [net for ins, _ in self.covers for net in ins] + [latch[0] for latch in self.latches]
-        numbered, alone = {}, list(self.latches)
-        kept = [out for _, out in self.covers if out in read or out in self.outputs]
-        for number, out in enumerate(kept):
-            taking = [latch for latch in self.latches if latch[0] == out]
-            if taking and read.count(out) == 1 and out not in self.outputs:
-                numbered[number] = taking[0]
-                alone.remove(taking[0])
-        numbered.update(enumerate(alone, len(kept)))
-        return numbered
 
 
 def lines_of(path, word):
