@@ -174,7 +174,7 @@ def wire_faults(case, cells):
         yield f"{direction} has DX {shown(dx, 20)} and DY {shown(dy, 20)}; by these the wire would be {by_steps(dx, dy)}"
     elif case.reason == "null":
         ends = [name for name, cell in (("source", source), ("destination", destination)) if cell == "NULL"]
-        yield f"the row is a {direction} without a {' and a '.join(ends) or 'missing end'}"
+        yield f"{direction} without a {' and a '.join(ends) or 'missing end'}"
         if destination.upper() in ("GND", "VCC"):
             yield f"a constant is written JUMP,NULL,0,0,{destination.upper()},1"
 

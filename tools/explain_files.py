@@ -5,7 +5,7 @@ import itertools
 import os
 import re
 
-from explain_text import lines_of
+from explain_text import lines_of, plural
 
 PINS = {
     "LUT4c": ("I0 I1 I2 I3 Ci SR EN", "O Co"),
@@ -19,6 +19,7 @@ KINDS = {
 STEPS = {"NORTH": (0, -1), "SOUTH": (0, 1), "EAST": (1, 0), "WEST": (-1, 0), "JUMP": (0, 0)}
 MOST_NAMES = 5000
 MOST_PAIRS = 200000
+MOST_CELL = 4096
 
 
 def cells_of(text):
@@ -32,6 +33,10 @@ def cells_of(text):
 def beside(path, name):
     """The path of a file that a row of another file names."""
     return os.path.normpath(os.path.join(os.path.dirname(path), name)) if name else path
+
+
+def is_same(path, other):
+    return os.path.abspath(path) == os.path.abspath(other)
 
 
 def number(cell):
@@ -71,7 +76,8 @@ class Tile:
             kind, prefix = KINDS.get(stem, stem), cells[2] if len(cells) > 2 else ""
             self.bels.append((kind, prefix, path, line))
             for side, pins in zip((self.outputs, self.inputs), PINS.get(kind, ("", ""))):
-                side.update((prefix + pin, (path, line)) for pin in pins.split())
+                for pin in pins.split():
+                    side.setdefault(prefix + pin, (path, line))
         elif cells[0] == "MATRIX" and len(cells) > 1:
             self.matrix = beside(path, cells[1])
 
@@ -112,7 +118,9 @@ def list_pairs(path, depth=0):
 
 
 def expanded(cell):
-    """The names that a cell of a switch list stands for."""
+    """The names that a cell of a switch list stands for, where it is not too long."""
+    if len(cell) > MOST_CELL:
+        return []
     found = re.match(r"\{(\d{1,5})\}", cell)
     times = int(found.group(1)) if found else 1
     parts = re.split(r"\[([^\[\]]*)\]", cell[found.end():] if found else cell)
@@ -184,14 +192,14 @@ class Fabric:
         x, y = int(found.group(1)), int(found.group(2))
         if y >= len(self.grid) or x >= len(self.grid[y]):
             wide = max(map(len, self.grid), default=0)
-            return None, f"{place} is outside of the grid of {wide} columns (X0 to X{wide - 1}) and {len(self.grid)} rows (Y0 to Y{len(self.grid) - 1})"
+            return None, f"{place} is outside of the grid of {plural(wide, 'column')} (X0 to X{wide - 1}) and {plural(len(self.grid), 'row')} (Y0 to Y{len(self.grid) - 1})"
         name = self.grid[y][x]
         return self.tiles.get(name), f"at {place} stands {name or 'NULL'}, which is no tile" if name not in self.tiles else ""
 
     def role(self, path):
         """What a file is; that of a switch list which another one includes, and of a configuration table, by its name."""
         for other, role in self.roles.items():
-            if os.path.abspath(other) == os.path.abspath(path):
+            if is_same(other, path):
                 return role
         if path.endswith("_ConfigMem.csv"):
             return "configuration table"
@@ -199,7 +207,7 @@ class Fabric:
 
     def tile_of(self, path):
         """The tiles that use a matrix file, itself or through a list that includes it."""
-        same = [tile for tile in self.tiles.values() if tile.matrix and os.path.abspath(tile.matrix) == os.path.abspath(path)]
+        same = [tile for tile in self.tiles.values() if tile.matrix and is_same(tile.matrix, path)]
         return same or [tile for tile in self.tiles.values() if tile.matrix and includes(tile.matrix, path)]
 
 
@@ -208,6 +216,6 @@ def includes(path, other, depth=0):
         cells = cells_of(text)
         if len(cells) == 2 and cells[0] == "INCLUDE" and depth < 8:
             inner = beside(path, cells[1])
-            if os.path.abspath(inner) == os.path.abspath(other) or includes(inner, other, depth + 1):
+            if is_same(inner, other) or includes(inner, other, depth + 1):
                 return True
     return False

@@ -2,7 +2,7 @@
 import collections
 
 from explain_text import listed, plural, shown, sides
-from explain_wires import Implementation, Network, described, parted, pin_of, written
+from explain_wires import MOST_WIRES, Network, described, parted, pin_of, written
 
 KINDS = ("LUT4c", "IO")
 
@@ -93,11 +93,12 @@ def from_source(case, network, net, node, tile):
         yield "by all joins and pairs there is a path to it, so the report is of other files than these"
         return
     places = {(x, y) for x, y, _ in found}
-    yield f"from there {plural(len(found), 'wire')} in {plural(len(places), 'tile')} can be reached"
+    is_all = len(found) < MOST_WIRES
+    yield f"from there {'' if is_all else 'more than '}{plural(len(found), 'wire')} in {plural(len(places), 'tile')} can be reached"
     here = sorted(name for x, y, name in found if (x, y) == node[:2] and name in tile.inputs)
     if here:
         yield f"at X{node[0]}Y{node[1]} these are {listed(here, 12)}: a pair of {node[2]} with one of them gives a path"
-    else:
+    elif is_all:
         yield f"none of them ends at X{node[0]}Y{node[1]}: wires or pairs are missing on the way to this tile"
 
 

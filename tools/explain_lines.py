@@ -3,7 +3,7 @@ and what a word of a bitstream is."""
 import re
 
 from explain_netlist import Netlist
-from explain_text import lines_of, listed, near_words, plural, shown, words_of
+from explain_text import quoted, lines_of, listed, near_words, plural, shown, words_of
 
 
 def explain_constraints(case):
@@ -11,6 +11,7 @@ def explain_constraints(case):
     words = words_of(case.text)
     if case.reason == "row":
         yield f"the line has {plural(len(words), 'word')}" + (f"; the first is {shown(words[0], 40)}" if words[:1] != ["set_io"] else "")
+        yield from (f"{shown(word, 40)} is an option, and there are none" for word in words[1:2] if word.startswith("-"))
         return
     if len(words) != 3:
         return
@@ -28,7 +29,8 @@ def stood_before(case, names, at=1):
         before = words_of(text)[at:]
         for name in names:
             if name in before:
-                yield f"{shown(name)} stands in line {line}: {shown(text.strip(), 60)}"
+                yield f"{shown(name)} stands in line {line} already:"
+                yield quoted(case.path, line, text.strip())
                 return
 
 
@@ -61,10 +63,10 @@ def no_site(fabric, site, kind):
         if letter >= len(tile.bels):
             yield f"tile {tile.name} at {found.group(1)} has no BEL {found.group(2)}; it has {listed(there, 12) or 'none'}"
         elif tile.bels[letter][0] != kind:
-            yield f"{site} is a {tile.bels[letter][0]}, and not a {kind}; tile {tile.name} has {listed(there, 12)}"
+            yield f"{site} is a site of {tile.bels[letter][0]}, and not of {kind}; tile {tile.name} has {listed(there, 12)}"
     if tile is None or tile.sites(kind) == 0:
         with_kind = [f"X{x}Y{y}" for x, y, other in fabric.places() if other.sites(kind)]
-        yield f"places with a {kind}: {listed(with_kind, 10) or 'none'}"
+        yield f"places with {kind}: {listed(with_kind, 10) or 'none'}"
 
 
 def no_wire(fabric, wire):
@@ -199,7 +201,7 @@ def explain_bitstream(case):
         return
     columns, rows = len(case.fabric.grid[0]), len(case.fabric.grid)
     length, at = 39 + 20 * columns * (rows + 1), case.line - 39
-    yield f"a stream of this fabric of {columns} columns and {rows} rows has {length} words, and the file has {size // 4}"
+    yield f"a stream of this fabric of {plural(columns, 'column')} and {plural(rows, 'row')} has {length} words, and the file has {size // 4}"
     if case.line <= 38:
         yield f"word {case.line} stands in front of the first address, where all streams are equal"
     elif case.line < length:

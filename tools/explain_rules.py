@@ -2,7 +2,7 @@
 import re
 
 from explain_lines import no_wire
-from explain_text import lines_of, listed, near_words, plural, shown
+from explain_text import FEW, lines_of, listed, near_words, plural, quoted, shown
 from explain_wires import Network, described, parted, pin_of, written
 
 
@@ -16,8 +16,7 @@ def illegal(case, rule, item):
         path = case.call.file("implementation")
         lines = list(lines_with(case.implementation, rule, item))
         for line, words, net in lines[:4]:
-            of = f"   (of net {shown(net)})" if net else ""
-            yield f"{shown(path)}:{line} | {shown(' '.join(words), 80)}{of}"
+            yield quoted(path, line, " ".join(words), f"   (of net {shown(net)})" if net else "")
         if len(lines) > 4:
             yield f"and {len(lines) - 4} lines more"
         if not lines:
@@ -71,7 +70,7 @@ def constrained(case, item):
     path = case.call.file("constraints")
     for line, text in lines_of(path) if path else ():
         if text.split("#")[0].split()[1:2] == [item]:
-            yield f"{shown(path)}:{line} | {shown(text.strip())}"
+            yield quoted(path, line, text.strip())
 
 
 def no_edge(case, item):
@@ -83,13 +82,18 @@ def no_edge(case, item):
     tile, network = case.fabric.at(f"X{node[0]}Y{node[1]}")[0], Network(case.fabric)
     if tile and node[2] in tile.outputs:
         inputs = network.inputs_of(tile, node[2])
-        first = edges[0].split("/")[-1]
-        yield f"{node[2]} of tile {tile.name} takes {listed(inputs, 12) or 'nothing'}{near_words(first, inputs) if first not in inputs else ''}"
+        yield choices(tile, node[2], inputs, edges[0].split("/")[-1])
         return
     source = parted(edges[0])
     if source and source[:2] in network.tiles:
         other = network.joined(*source)
         yield f"{edges[0]} is joined to {written(other)}" if other else f"{edges[0]} is joined to nothing"
+
+
+def choices(tile, output, inputs, name):
+    """The inputs of an output, and what of many is near a name that is none of them."""
+    found = near_words(name, inputs) if len(inputs) > FEW and name not in inputs else ""
+    return f"{shown(output)} of tile {tile.name} takes {listed(inputs, FEW) or 'nothing'}{found}"
 
 
 def missing_sink(case, item):
@@ -144,7 +148,7 @@ def feature_item(case, rule, item):
         if feature == item or rule == "11" and feature.startswith(place + ".") and feature.endswith("." + rest):
             count += 1
             if count <= 4:
-                yield f"{shown(path)}:{line} | {shown(text.strip())}"
+                yield quoted(path, line, text.strip())
     if rule != "10" or not case.fabric:
         return
     tile, why = case.fabric.at(place)
@@ -169,5 +173,4 @@ def feature_faults(tile, rest):
         if first in tile.outputs:
             yield "this is a step along a wire, which no bit chooses: tools/nextpnr_fasm takes such lines out"
     else:
-        inputs = tile.pairs().get(second, [])
-        yield f"{shown(second)} of tile {tile.name} takes {listed(inputs, 12) or 'nothing'}{near_words(first, inputs)}"
+        yield choices(tile, second, tile.pairs().get(second, []), first)

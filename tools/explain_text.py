@@ -27,6 +27,14 @@ def escape(sign):
     return f"\\x{code:02x}" if code < 256 else f"\\u{code:04x}"
 
 
+class Quoted(str):
+    """A line of a file, which is printed as it is."""
+
+
+def quoted(path, line, text, more=""):
+    return Quoted(f"{shown(path)}:{line} | {shown(text)}{more}")
+
+
 def listed(names, few=FEW):
     """The first names of many, with commas between them, and how many more there are."""
     names = list(names)
@@ -99,16 +107,14 @@ def distance(one, other, bound):
 
 
 def near(name, names, few=3):
-    """The names that a misspelled one may stand for, the nearest first."""
+    """The names that a misspelled one may stand for, the nearest first. Short names are near only to the same letters."""
     if len(name) > 200:
         return []
-    bound = max(1, min(4, len(name) // 3))
+    bound = min(4, len(name) // 3)
     found = []
     for other in list(names)[:20000]:
         if other.lower() == name.lower():
             found.append((0, other))
-        elif other and (name.startswith(other) or other.startswith(name)) and len(name) > 2:
-            found.append((min(1, abs(len(name) - len(other))), other))
         elif abs(len(name) - len(other)) <= bound:
             found.append((distance(name, other, bound), other))
     found = sorted((count, abs(len(name) - len(other)), other) for count, other in found if count <= bound)

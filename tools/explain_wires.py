@@ -6,7 +6,7 @@ import re
 from explain_files import PINS, STEPS
 from explain_text import lines_of
 
-MOST_WIRES = 400000
+MOST_WIRES = 150000
 
 
 class Implementation:

@@ -58,12 +58,9 @@ class Call:
         """The positional word that stands in the place of NAME, or None."""
         return dict(zip(self.names, self.places)).get(name)
 
-    def role(self, path):
-        """What a file of a report is, where it is one of the words; else None."""
-        for role, word in self.files:
-            if path == word or os.path.abspath(path) == os.path.abspath(word):
-                return role
-        return None
+    def roles(self, path):
+        """What a file of a report may be, by the words that name it."""
+        return [role for role, word in self.files if os.path.abspath(path) == os.path.abspath(word)]
 
 
 def faults(call, forms):
