@@ -68,6 +68,8 @@ def misplaced(case, cells, block, begin):
 def grid_faults(case, cells, block):
     if block != "FabricBegin":
         yield "no grid stands in the file: FabricBegin, a line for each row of tiles, FabricEnd"
+        if case.fabric and case.fabric.tiles:
+            yield f"it has tiles alone ({listed(case.fabric.tiles)}): the fabric file names it by a row Tile,{shown(case.path)}"
         return
     rows = []
     for line, text in lines_of(case.path, case.line):

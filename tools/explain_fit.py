@@ -1,7 +1,7 @@
 """Why a design does not fit a fabric, for tools/explain: too few sites, no path, or shared wires; and what one that fits takes."""
 import collections
 
-from explain_text import listed, plural, shown, sides
+from explain_text import families, listed, plural, shown, sides
 from explain_wires import MOST_WIRES, Network, described, parted, pin_of, written
 
 KINDS = ("LUT4c", "IO")
@@ -20,7 +20,14 @@ def site_lines(fabric, kind):
     if len(lines) > 8:
         yield f"and {len(lines) - 8} types of tiles more"
     if not lines:
-        yield f"no tile of the fabric has a {kind}"
+        yield f"no tile of the fabric has a site of {kind}"
+
+
+def missing_tiles(fabric, kind, count):
+    """How many tiles more would do."""
+    found = [f"{plural(-(-count // tile.sites(kind)), 'tile')} {name} more" for name, tile in fabric.tiles.items() if tile.sites(kind)]
+    if count > 0 and found:
+        yield f"{plural(count, 'site')} {'is' if count == 1 else 'are'} missing: {', or '.join(found[:3])}"
 
 
 def short(case, kind, need, have):
@@ -28,6 +35,7 @@ def short(case, kind, need, have):
     yield f"the design needs {need} sites of {kind}, and the fabric has {have}"
     if case.fabric:
         yield from site_lines(case.fabric, kind)
+        yield from missing_tiles(case.fabric, kind, int(need) - int(have))
     if case.netlist and case.netlist.is_flat:
         if kind == "IO":
             yield f"the ports are {plural(len(case.netlist.data_inputs), 'input')} and {plural(len(case.netlist.outputs), 'output')}; the clock takes no pad"
@@ -69,7 +77,7 @@ def no_path(case, words):
     inputs = network.inputs_of(tile, node[2])
     source = shown(tile.matrix or "no MATRIX row")
     if inputs:
-        yield f"switch pairs of tile {tile.name} that lead to {node[2]} ({source}): {listed(inputs, 12)}"
+        yield f"switch pairs of tile {tile.name} that lead to {node[2]} ({source}): {families(inputs)}"
     else:
         yield f"no switch pair of tile {tile.name} leads to {node[2]}: add one, {node[2]},INPUT, in {source}"
     yield from from_source(case, network, net, node, tile)
@@ -87,7 +95,7 @@ def from_source(case, network, net, node, tile):
         own = network.tiles[begins[0][:2]]
         outputs = network.outputs_of(own, begins[0][2])
         yield f"the net begins at {written(begins[0])}" + (
-            f", which leads to {listed(outputs, 8)}" if outputs else f": no pair of tile {own.name} takes {begins[0][2]}, so add some")
+            f", which leads to {families(outputs)}" if outputs else f": no pair of tile {own.name} takes {begins[0][2]}, so add some")
     found = network.reached(begins)
     if node in found:
         yield "by all joins and pairs there is a path to it, so the report is of other files than these"
@@ -97,7 +105,7 @@ def from_source(case, network, net, node, tile):
     yield f"from there {'' if is_all else 'more than '}{plural(len(found), 'wire')} in {plural(len(places), 'tile')} can be reached"
     here = sorted(name for x, y, name in found if (x, y) == node[:2] and name in tile.inputs)
     if here:
-        yield f"at X{node[0]}Y{node[1]} these are {listed(here, 12)}: a pair of {node[2]} with one of them gives a path"
+        yield f"at X{node[0]}Y{node[1]} these are {families(here)}: a pair of {node[2]} with one of them gives a path"
     elif is_all:
         yield f"none of them ends at X{node[0]}Y{node[1]}: wires or pairs are missing on the way to this tile"
 

@@ -187,10 +187,31 @@ def cover_row(case, words):
         yield f"this row ends with {output}, and the rows before it with another value"
 
 
+# The cells that Yosys leaves in a netlist, by how their names begin.
+CELLS = (
+    ("$_DLATCH", "a latch: give the signal a value on each path of always @*"),
+    ("$_SR_", "a latch that is set and reset"),
+    ("$_SDFF", "a flip-flop with a synchronous reset, of which dfflegalize -cell $_DFF_P_ 01 makes logic"),
+    ("$_DFFSR", "a flip-flop with an asynchronous set and reset"),
+    ("$_ALDFF", "a flip-flop with an asynchronous load"),
+    ("$_DFFE_", "a flip-flop with an enable, of which dfflegalize -cell $_DFF_P_ 01 makes logic"),
+    ("$_DFF_N_", "a flip-flop with a falling clock: use posedge"),
+    ("$_DFF_P_", "a plain flip-flop: write_blif writes it as .latch where it runs without -icells"),
+    ("$_DFF_", "a flip-flop with an asynchronous reset: make the reset synchronous, or run async2sync"),
+    ("$_TBUF_", "a tri-state buffer: inside of a chip use multiplexers"),
+    ("$mem", "a memory: memory_map makes flip-flops of it"),
+    ("$lut", "a look-up table: write_blif writes it as .names where it runs without -icells"),
+    ("$_", "a gate: abc -lut 4 makes look-up tables of gates"),
+    ("$", "a cell of Yosys that synth maps to gates"),
+)
+
+
 def unsupported(case, words):
     construct = case.reason.split(" ")
     netlist = Netlist(case.path)
-    if construct[0] == "model" and not construct[-1].startswith("$"):
+    if construct[0] == "model" and construct[-1].startswith("$"):
+        yield f"{shown(construct[-1])} is {next(text for begin, text in CELLS if construct[-1].startswith(begin))}"
+    elif construct[0] == "model":
         yield f"models of this file: {listed(netlist.models)}{near_words(construct[-1], netlist.models)}"
     elif construct[0] == "wide" and words[:1] == [".names"]:
         yield f"the table of {shown(words[-1])} has {plural(len(words) - 2, 'input')}"

@@ -2,7 +2,7 @@
 import re
 
 from explain_lines import no_wire
-from explain_text import FEW, lines_of, listed, near_words, plural, quoted, shown
+from explain_text import FEW, families, lines_of, listed, near_words, plural, quoted, shown
 from explain_wires import Network, described, parted, pin_of, written
 
 
@@ -93,7 +93,7 @@ def no_edge(case, item):
 def choices(tile, output, inputs, name):
     """The inputs of an output, and what of many is near a name that is none of them."""
     found = near_words(name, inputs) if len(inputs) > FEW and name not in inputs else ""
-    return f"{shown(output)} of tile {tile.name} takes {listed(inputs, FEW) or 'nothing'}{found}"
+    return f"{shown(output)} of tile {tile.name} takes {families(inputs, FEW) or 'nothing'}{found}"
 
 
 def missing_sink(case, item):

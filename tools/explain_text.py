@@ -15,7 +15,8 @@ def shown(text, most=SHOWN):
         text = text.decode("utf-8", "backslashreplace")
     if len(text) > most:
         text = text[:most * 3 // 4] + " .. " + text[-(most // 4):]
-    return "".join(sign if sign.isprintable() else escape(sign) for sign in text)
+    safe = "".join(sign if sign.isprintable() else escape(sign) for sign in text)
+    return safe if len(safe) <= most + 40 else safe[:most] + " .."
 
 
 def escape(sign):
@@ -42,15 +43,34 @@ def listed(names, few=FEW):
     return ", ".join(shown(name, 60) for name in names[:few]) + more
 
 
+def families(names, few=12):
+    """Names, or where they are many the words in front of their numbers, with how many there are of each."""
+    names = list(names)
+    if len(names) <= few:
+        return listed(names, few)
+    counts = {}
+    for name in names:
+        base = sides(name)[0]
+        counts[base] = counts.get(base, 0) + 1
+    return listed((f"{base} ({count})" for base, count in counts.items()), few)
+
+
 def plural(number, word):
     return f"{number} {word}" if number == 1 else f"{number} {word}s"
+
+
+def opened(path):
+    """A regular file. A pipe was read to its end by the program, and a device may have none."""
+    if not os.path.isfile(path):
+        raise OSError
+    return open(path, "rb")
 
 
 def line_at(path, number):
     """The line of this number, counted from 1, without its line end and cut where it is long; None where there is none."""
     seen = 1
     try:
-        with open(path, "rb") as file:
+        with opened(path) as file:
             while seen < number:
                 chunk = file.read(CHUNK)
                 if not chunk:
@@ -72,7 +92,7 @@ def line_at(path, number):
 def lines_of(path, last=None, most=1 << 23):
     """Numbers and texts of the lines up to the last one that is asked for, of no more bytes than this."""
     try:
-        with open(path, "rb") as file:
+        with opened(path) as file:
             data = file.read(most)
     except (OSError, ValueError):
         return

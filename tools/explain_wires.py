@@ -85,9 +85,9 @@ class Network:
     def __init__(self, fabric):
         self.fabric = fabric
         self.tiles = {(x, y): tile for x, y, tile in fabric.places()}
-        self.leaving, self.pairs, self.fans = {}, {}, {}
-        for name, tile in fabric.tiles.items():
-            self.leaving[name] = leaving(tile)
+        self.pairs, self.fans = {}, {}
+        self.leaving = {name: leaving(tile) for name, tile in fabric.tiles.items()}
+        self.arriving = {name: arriving(tile) for name, tile in fabric.tiles.items()}
 
     def inputs_of(self, tile, output):
         if tile.name not in self.pairs:
@@ -110,27 +110,20 @@ class Network:
         leaves = self.leaving[self.tiles[x, y].name].get(name)
         if leaves is None:
             return None
-        direction, place, bit = leaves
+        direction, place, bit, border = leaves
         if direction == "JUMP":
             return x, y, bit
         dx, dy = STEPS[direction]
-        border = None
         while True:
-            tile = self.tiles.get((x, y))
-            rows = [row for row in tile.rows if row.direction == direction and row.sources]
-            border = rows[place].border
             x, y = x + dx, y + dy
             tile = self.tiles.get((x, y))
-            if tile is None:
+            rows = self.arriving[tile.name][direction] if tile else ()
+            if place >= len(rows) or rows[place][0].border != border:
                 return None
-            arriving = [row for row in tile.rows if row.direction == direction and row.destinations]
-            if place >= len(arriving) or arriving[place].border != border:
-                return None
-            row = arriving[place]
-            if not row.sources or bit < row.count:
+            row, place = rows[place]
+            if place is None or bit < row.count:
                 return (x, y, row.destinations[bit]) if bit < len(row.destinations) else None
             bit -= row.count
-            place = [other for other in tile.rows if other.direction == direction and other.sources].index(row)
 
     def next(self, node):
         x, y, name = node
@@ -158,16 +151,28 @@ class Network:
 
 
 def leaving(tile):
-    """For each source bit of a tile its direction, the number of its row among those that leave, and its bit at the border."""
+    """For each source bit of a tile its direction, the number of its row among those that leave so, its bit at the border, and
+    how many bits the row has there. For a jump the third is the destination."""
     found, count = {}, collections.Counter()
     for row in tile.rows:
         if not row.sources:
             continue
         first = (row.span - 1) * row.count if row.destinations else 0
         for i, name in enumerate(row.sources):
+            bit = first + i
             if row.direction == "JUMP":
-                found[name] = ("JUMP", 0, row.destinations[i] if i < len(row.destinations) else "")
-            else:
-                found[name] = (row.direction, count[row.direction], first + i)
+                bit = row.destinations[i] if i < len(row.destinations) else ""
+            found[name] = (row.direction, count[row.direction], bit, row.border)
         count[row.direction] += 1
+    return found
+
+
+def arriving(tile):
+    """For each direction the rows that arrive so, each with its number among those that leave, or None where it ends here."""
+    found, count = collections.defaultdict(list), collections.Counter()
+    for row in tile.rows:
+        if row.destinations:
+            found[row.direction].append((row, count[row.direction] if row.sources else None))
+        if row.sources:
+            count[row.direction] += 1
     return found

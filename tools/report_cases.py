@@ -105,7 +105,7 @@ def netlists():
         (".inputs a", ".inputs a a", "malformed inv.blif:2 name twice", "port a stands 2 times in .inputs"),
         (".inputs a", ".inputs \u00e4", "malformed inv.blif:2 name", "stands the byte c3"),
         (".names a z", ".names a b c d e z", "unsupported inv.blif:4 wide cover", "the table of z has 5 inputs"),
-        (".end", ".subckt $_DLATCH_P_ D=a Q=q\n.end", "unsupported inv.blif:6 model $_DLATCH_P_", "Map the Verilog by tools/map_verilog"),
+        (".end", ".subckt $_DLATCH_P_ D=a Q=q\n.end", "unsupported inv.blif:6 model $_DLATCH_P_", "$_DLATCH_P_ is a latch: give the signal a value"),
         (".end", ".latch a q fe clk 2\n.end", "unsupported inv.blif:6 latch type fe", "change the Verilog to posedge"),
         (".end", ".gate nand2 a=a o=q\n.end", "unsupported inv.blif:6 .gate", "This kind of BLIF line is not read"),
         ("a z\n0 1", "y z\n0 1\n.names z y\n0 1", "unsupported inv.blif:4 cycle z y", "z (line 4), y (line 6)"),
@@ -200,7 +200,7 @@ def words():
     for line, report, wanted in (
         ("map duo.cvs inv.blif o", "missing duo.cvs", "near: duo.csv"),
         ("map duo.csv inv.blif nowhere/o", "write fault nowhere/o", "the folder nowhere is not there"),
-        ("map inv.blif duo.csv o", "malformed inv.blif:1 row", "looks like one of another kind (netlist)"),
+        ("map inv.blif duo.csv o", "malformed inv.blif:1 row", "inv.blif looks like a BLIF netlist"),
         ("flow duo.csv inv.blif", "usage", "missing: BASE"),
         ("flow duo.csv inv.blif o --seeds 2", "usage", "near: --seed"),
         ("map duo.csv inv.blif o --rounds 0", "usage", "--rounds is a number from 1 to 64"),
