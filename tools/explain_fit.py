@@ -5,6 +5,7 @@ from explain_text import families, listed, plural, shown, sides
 from explain_wires import MOST_WIRES, Network, described, parted, pin_of, written
 
 KINDS = ("LUT4c", "IO")
+USUAL_ROUNDS = 32
 
 
 def percent(part, whole):
@@ -143,7 +144,7 @@ def overused(case, words):
     if case.fabric:
         yield from used_up(case.fabric, users, [place for place, _ in crowded.most_common(6)])
         yield from used_sites(case.fabric, case.implementation)
-    yield advice(len(shared), len(users))
+    yield advice(len(shared), len(users), dict(case.call.values).get("--rounds", ""))
 
 
 def used_up(fabric, users, places):
@@ -160,7 +161,9 @@ def used_up(fabric, users, places):
         yield f"wires in use that leave these tiles: {listed((f'{name} {used[name]} of {there[name]}' for name in full), 8)}"
 
 
-def advice(shared, used):
+def advice(shared, used, rounds):
+    if rounds.isdigit() and int(rounds) < USUAL_ROUNDS:
+        return f"the call has --rounds {rounds}: without it the router has {USUAL_ROUNDS} rounds"
     if shared * 50 <= used:
         return "few wires are shared: try --seed 2, 3, 4, and --rounds 64"
     return "many wires are shared: take more tiles, so that cells stand farther apart, or more wires and pairs; a seed will hardly help"

@@ -193,7 +193,7 @@ def fitting():
                "overused X0Y0/W1END0 cell c0 cell c1\nfabulous-impl 1\ncell c0 X1Y0.A\ncell c1 X1Y0.B\npad out y X0Y0.A\n"
                "pad out z X0Y0.B\nnet one\nedge X0Y0/VCC0 X0Y0/A_T\nedge X0Y0/VCC0 X0Y0/B_T\n" + shared + "\nend",
                ("net cell c0: the table that drives net y (k.blif:3)", "shared after the last round: 2 of 9 used wires",
-                "most nets are on X0Y0/W1END0 (2)", "sites in use: 2 of 2 LUT4c (100 %)"))
+                "most nets are on X0Y0/W1END0 (2)", "the call has --rounds 2", "sites in use: 2 of 2 LUT4c (100 %)"))
 
 
 def words():
