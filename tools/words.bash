@@ -145,6 +145,9 @@ hint() {
 }
 
 refuse_command() {
+  if [[ $1 == -* ]]; then
+    refuse 1 usage "'$1' stands where the command has to be; options stand behind it" "there are: ${commands[*]}"
+  fi
   refuse 1 usage "there is no command '$1'$(hint "$1" "${commands[@]}")" \
     "there are: ${commands[*]} (fab help COMMAND tells more)"
 }
