@@ -183,11 +183,11 @@ take_option() {
 
 # judge_option OPTION: the command has to have it
 judge_option() {
-  local had
+  local had it
   mapfile -t had < <(options_of "$command")
-  if [[ " ${had[*]} " == *" $1 "* && -n $1 ]]; then
-    return
-  fi
+  for it in ${had[@]+"${had[@]}"}; do
+    [ "$it" != "$1" ] || return 0
+  done
   case $1 in
     --proved | --unproved) refuse_words "$1 stands in front of the command: fab $1 $command .." ;;
   esac
