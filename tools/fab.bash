@@ -9,7 +9,7 @@ declare -A _fab_forms=() _fab_endings=()
 _fab_read_page() {
   local line brackets='[][]'
   while IFS= read -r line; do
-    if [[ $line =~ ^'  '([[:lower:]]+)((' '[[:upper:]]+)+(' [--'[[:lower:]]+' '[[:upper:]]+']')*)$ ]]; then
+    if [[ $line =~ ^'  '([[:lower:]]+)((' '[[:upper:]]+)*(' [--'[[:lower:]]+' '[[:upper:]]+']')*)$ ]]; then
       _fab_forms[${BASH_REMATCH[1]}]=${BASH_REMATCH[2]//$brackets/}
     elif [[ $line =~ ^'  '([[:upper:]]+)(' ('([.][[:lower:]]+)')')?$ ]]; then
       _fab_endings[${BASH_REMATCH[1]}]=${BASH_REMATCH[3]}
@@ -24,8 +24,13 @@ _fab_offer() {
   mapfile -t COMPREPLY < <(compgen -W "$*" -- "$typed")
 }
 
-# _fab_offer_value NAME: offers the files that may stand for a name of the page. Where there is none, bash offers all.
+# _fab_offer_value NAME: offers what may stand for a name of the page: commands, or files. Where there is no file, bash offers
+# all.
 _fab_offer_value() {
+  if [ "$1" = COMMAND ]; then
+    _fab_offer "${!_fab_forms[@]}"
+    return
+  fi
   if [ -z "${_fab_endings[$1]+file}" ]; then
     compopt +o default
     return
@@ -36,10 +41,10 @@ _fab_offer_value() {
 
 _fab() {
   # bash takes `=` for a word of its own
-  local typed=${COMP_WORDS[COMP_CWORD]#=} at=1 first=(--help --unproved) word left value=''
+  local typed=${COMP_WORDS[COMP_CWORD]#=} at=1 first=(--help --version --proved --unproved) word left value=''
   COMPREPLY=()
-  if [ "$COMP_CWORD" -gt 1 ] && [ "${COMP_WORDS[1]}" = --unproved ]; then
-    at=2 first=(--help)
+  if [ "$COMP_CWORD" -gt 1 ] && [[ ${COMP_WORDS[1]} == --proved || ${COMP_WORDS[1]} == --unproved ]]; then
+    at=2 first=(--help --version)
   fi
   if [ "$COMP_CWORD" -eq "$at" ]; then
     _fab_offer "${!_fab_forms[@]}" "${first[@]}"

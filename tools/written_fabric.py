@@ -1,9 +1,24 @@
 """What the tools that run a written fabric under Icarus read of its files: the text, the netlist, the bitstream,
 and lines of a state."""
+import os
 import re
 import sys
 
 import read_design
+
+
+# How the first line of a fabric's text begins, where a look-up table, a pad or a multiplexer tree stands in its grid.
+HEADS = [f"module {name} (" for name in ("LUT4c_frame_config", "IO_1_bidirectional_frame_config_pass", "MUX8LUT_frame_config")]
+
+
+def is_replaced_by_fab(path):
+    """Whether `flow` may store a text under this name: nothing is there, or a text of a fabric or the first part of one. The
+    script `fab` goes by the same signs."""
+    if not os.path.isfile(path):
+        return True
+    with open(path, errors="replace") as file:
+        lines = file.read().split("\n")
+    return lines == [""] or lines[0] in HEADS or {"module ConfigLoader (", "module eFPGA ("} <= set(lines)
 
 
 class Text:
