@@ -191,8 +191,9 @@ class Fabric:
             return None, f"{place} is no place: XxYy"
         x, y = int(found.group(1)), int(found.group(2))
         if y >= len(self.grid) or x >= len(self.grid[y]):
-            wide = max(map(len, self.grid), default=0)
-            return None, f"{place} is outside of the grid of {plural(wide, 'column')} (X0 to X{wide - 1}) and {plural(len(self.grid), 'row')} (Y0 to Y{len(self.grid) - 1})"
+            wide, high = max(map(len, self.grid), default=0), len(self.grid)
+            size = f"{plural(wide, 'column')} (X0 to X{wide - 1}) and {plural(high, 'row')} (Y0 to Y{high - 1})"
+            return None, f"{place} is outside of the grid of {size}"
         name = self.grid[y][x]
         return self.tiles.get(name), f"at {place} stands {name or 'NULL'}, which is no tile" if name not in self.tiles else ""
 

@@ -26,7 +26,8 @@ def site_lines(fabric, kind):
 
 def missing_tiles(fabric, kind, count):
     """How many tiles more would do."""
-    found = [f"{plural(-(-count // tile.sites(kind)), 'tile')} {name} more" for name, tile in fabric.tiles.items() if tile.sites(kind)]
+    found = [f"{plural(-(-count // tile.sites(kind)), 'tile')} {name} more"
+             for name, tile in fabric.tiles.items() if tile.sites(kind)]
     if count > 0 and found:
         yield f"{plural(count, 'site')} {'is' if count == 1 else 'are'} missing: {', or '.join(found[:3])}"
 
@@ -39,7 +40,8 @@ def short(case, kind, need, have):
         yield from missing_tiles(case.fabric, kind, int(need) - int(have))
     if case.netlist and case.netlist.is_flat:
         if kind == "IO":
-            yield f"the ports are {plural(len(case.netlist.data_inputs), 'input')} and {plural(len(case.netlist.outputs), 'output')}; the clock takes no pad"
+            inputs, outputs = plural(len(case.netlist.data_inputs), "input"), plural(len(case.netlist.outputs), "output")
+            yield f"the ports are {inputs} and {outputs}; the clock takes no pad"
         else:
             made = collections.Counter(cell[3] for cell in case.netlist.cells())
             yield "the design has " + ", ".join(f"{count} of a {name}" for name, count in made.items())
@@ -166,7 +168,8 @@ def advice(shared, used, rounds):
         return f"the call has --rounds {rounds}: without it the router has {USUAL_ROUNDS} rounds"
     if shared * 50 <= used:
         return "few wires are shared: try --seed 2, 3, 4, and --rounds 64"
-    return "many wires are shared: take more tiles, so that cells stand farther apart, or more wires and pairs; a seed will hardly help"
+    return ("many wires are shared: take more tiles, so that cells stand farther apart, or more wires and pairs; "
+            "a seed will hardly help")
 
 
 def used_sites(fabric, implementation):

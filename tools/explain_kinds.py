@@ -7,7 +7,8 @@ LOOKED_AT = 1 << 14
 # A line by which a file of a kind is known.
 SIGNS = {
     "fabric": rb"^(FabricBegin|TILE,)", "netlist": rb"^\.model\b", "constraints": rb"^set_io\b", "implementation": rb"^fabulous-impl\b",
-    "state": rb"^fabulous-state\b", "Verilog": rb"^\s*(module|endmodule)\b", "FASM": rb"^X\d+Y\d+\.\w+\.\w+", "bitstream": rb"\A\0\x10\0\0\0\x10\0\0",
+    "state": rb"^fabulous-state\b", "Verilog": rb"^\s*(module|endmodule)\b", "FASM": rb"^X\d+Y\d+\.\w+\.\w+",
+    "bitstream": rb"\A\0\x10\0\0\0\x10\0\0",
 }
 # What to do where a file of the second kind stands in the place of one of the first.
 CURES = {
@@ -18,8 +19,9 @@ CURES = {
     ("Verilog", "netlist"): "simulate takes the Verilog of the fabric, BASE.v of flow",
     ("switch list", "fabric"): "of a fabric file the command generate makes the Verilog",
 }
-NAMES = {"fabric": "a table of a fabric or of tiles", "netlist": "a BLIF netlist", "constraints": "constraints", "FASM": "a list of features",
-         "implementation": "an implementation", "state": "a state", "Verilog": "Verilog", "bitstream": "a bitstream", "switch list": "a switch list"}
+NAMES = {"fabric": "a table of a fabric or of tiles", "netlist": "a BLIF netlist", "constraints": "constraints", "state": "a state",
+         "FASM": "a list of features", "implementation": "an implementation", "Verilog": "Verilog", "bitstream": "a bitstream",
+         "switch list": "a switch list"}
 
 
 def other_kind(path, role):

@@ -97,7 +97,8 @@ def explain_implementation(case):
     elif case.reason == "site" and words:
         yield from no_site(case.fabric, words[-1], "LUT4c" if words[0] == "cell" else "IO")
     elif case.reason == "port" and len(words) == 3:
-        ports = [words_of(text)[2] for _, text in lines_of(case.path, case.line) if words_of(text)[:2] == ["pad", "in"] and len(words_of(text)) > 2]
+        before = [words_of(text) for _, text in lines_of(case.path, case.line)]
+        ports = [other[2] for other in before if other[:2] == ["pad", "in"] and len(other) > 2]
         yield f"no line pad in {shown(words[2])} stands before{near_words(words[2], ports)}"
     elif case.reason == "number" and len(words) > 1:
         yield f"{shown(words[-1] if words[0] != 'cell' else words[1], 40)} is none"
@@ -143,7 +144,8 @@ def explain_stimulus(case):
     """A line of a stimulus, judged by the input ports of the state."""
     words, ports = words_of(case.text), []
     if case.call.file("state"):
-        ports = [words_of(text)[1] for _, text in lines_of(case.call.file("state")) if words_of(text)[:1] == ["in"] and len(words_of(text)) > 1]
+        state = [words_of(text) for _, text in lines_of(case.call.file("state"))]
+        ports = [other[1] for other in state if other[:1] == ["in"] and len(other) > 1]
     first = next((line for line, text in lines_of(case.path, case.line) if words_of(text)), 0)
     if case.line != first:
         yield from digits(case, words, ports)
@@ -201,7 +203,8 @@ def explain_bitstream(case):
         return
     columns, rows = len(case.fabric.grid[0]), len(case.fabric.grid)
     length, at = 39 + 20 * columns * (rows + 1), case.line - 39
-    yield f"a stream of this fabric of {plural(columns, 'column')} and {plural(rows, 'row')} has {length} words, and the file has {size // 4}"
+    grid = f"{plural(columns, 'column')} and {plural(rows, 'row')}"
+    yield f"a stream of this fabric of {grid} has {length} words, and the file has {size // 4}"
     if case.line <= 38:
         yield f"word {case.line} stands in front of the first address, where all streams are equal"
     elif case.line < length:

@@ -137,7 +137,8 @@ def explain_configuration(case):
         yield from (f"{shown(have) or 'nothing'} stands where {want} has to stand" for want, have in wrong[:3])
     elif case.reason in ("mask", "number"):
         ones, signs = cells[3].count("1"), len(cells[3].replace("_", ""))
-        yield f"frame {shown(cells[1])}: the third cell says {shown(cells[2])}, the mask has {plural(signs, 'digit')} with {plural(ones, 'one')}"
+        mask = f"{plural(signs, 'digit')} with {plural(ones, 'one')}"
+        yield f"frame {shown(cells[1])}: the third cell says {shown(cells[2])}, the mask has {mask}"
     elif case.reason == "range":
         yield f"the mask has {plural(cells[3].count('1'), 'one')}, the ranges {shown(cells[4], 60)} list {listed_bits(cells[4])}"
     elif case.reason == "frame":

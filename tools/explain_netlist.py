@@ -127,7 +127,10 @@ def explain_netlist(case):
         yield from cover_row(case, words)
     elif case.reason == "name":
         strange = [sign for sign in case.text.split("#", 1)[0] if not (" " <= sign <= "~" or sign == "\t")]
-        yield f"at the {case.text.index(strange[0]) + 1}. place stands the byte {ord(strange[0]):02x}" if strange else "the byte stands in a line that this one goes on in"
+        if strange:
+            yield f"at the {case.text.index(strange[0]) + 1}. place stands the byte {ord(strange[0]):02x}"
+        else:
+            yield "the byte stands in a line that this one goes on in"
     else:
         yield from other_faults(case, words, netlist)
 
@@ -172,7 +175,7 @@ def undriven(netlist, words):
 
 
 def cover_row(case, words):
-    heads = [head for line, head in joined_lines(case.path, case.line) if head[0] in (".names", ".conn", ".latch", ".subckt") and line < case.line]
+    heads = [head for line, head in joined_lines(case.path, case.line - 1) if head[0] in (".names", ".conn", ".latch", ".subckt")]
     if not heads or heads[-1][0] != ".names":
         return
     inputs = len(heads[-1]) - 2

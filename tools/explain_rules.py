@@ -75,7 +75,8 @@ def constrained(case, item):
 
 def no_edge(case, item):
     """Why the edges that end at a wire are none: the choices that the wire has."""
-    edges = [words[1] for line, words, _ in case.implementation.lines if words[0] == "edge" and words[2] == item] if case.implementation else []
+    lines = case.implementation.lines if case.implementation else []
+    edges = [words[1] for _, words, _ in lines if words[0] == "edge" and words[2:] == [item]]
     node = parted(item)
     if not case.fabric or not node or not edges:
         return
@@ -166,7 +167,8 @@ def feature_faults(tile, rest):
         yield f"{first} is a {letters[first]} of tile {tile.name}, with the fields {listed(fields) or 'none'}{near_words(second, fields)}"
         return
     if not second:
-        yield f"behind the place stand two names: a BEL's letter and its field, or INPUT.OUTPUT; tile {tile.name} has the BELs {listed(letters, 12) or 'none'}"
+        yield "behind the place stand two names: a BEL's letter and its field, or INPUT.OUTPUT"
+        yield f"tile {tile.name} has the BELs {listed(letters, 12) or 'none'}"
     elif second not in tile.outputs:
         what = "an input" if second in tile.inputs else "no output"
         yield f"{shown(second)} is {what} of the switch matrix of tile {tile.name}{near_words(second, tile.outputs)}"
