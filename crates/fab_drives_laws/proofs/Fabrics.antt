@@ -1,5 +1,5 @@
 -- The law of drives, put together.
-use Rattle.std.proofs.Common.{◌≡◌, ℕ, List, Some}
+use Rattle.std.proofs.Common.{◌≡◌, ℕ, List, All, Some}
 use Rattle.std.proofs.lemmas.List.Elements.{All-weaker, All-contains}
 use Rattle.fab_syntax.specs.Plain.{PlainModule}
 use Rattle.fab_fabric_text_defs.specs.fab_model_Tiles.{PlainTile, IsTile}
@@ -25,9 +25,9 @@ each_works fabric text are has x y tile there =
     let listed = tile_of_types fabric x y tile there in
     tile_works text (place_path x y) tile (All-contains IsTile fabric.types tile are listed) (has.stands x y tile there)
 
-pub fabric_shows_drives : (fabric : PlainFabric) (loader : PlainModule) → IsFabric fabric → AreTiles fabric → loader.name ≡ loader_module_name →
-    ShowsDrives fabric (fabric_text fabric loader)
-fabric_shows_drives fabric loader is are loader_named =
-    let text = fabric_text fabric loader in
-    let has = text_has_fabric fabric loader is loader_named in
+pub fabric_shows_drives : (fabric : PlainFabric) (loaders : List PlainModule) → IsFabric fabric → AreTiles fabric → All (λ loader. loader.name ≡ loader_module_name) loaders →
+    ShowsDrives fabric (fabric_text fabric loaders)
+fabric_shows_drives fabric loaders is are named =
+    let text = fabric_text fabric loaders in
+    let has = text_has_fabric fabric loaders is named in
     shows_drives fabric text has (are_rows fabric are) (each_works fabric text are has)

@@ -41,10 +41,12 @@ last_of_both [] ys last is = is
 last_of_both (x ∷ xs) ys last is = last_behind x (xs ++ ys) last (last_of_both xs ys last is)
 
 -- the last module of the text is the top
-pub top_is_last : (fabric : PlainFabric) (loader : PlainModule) → module_at (fabric_text fabric loader) [] ≡ Some (top_module fabric)
-top_is_last fabric loader =
-    last_of_both (map module_of_kind (used_kinds fabric)) (flat_map tile_modules (standing_types fabric) ++ loader ∷ top_module fabric ∷ []) (top_module fabric)
-    (last_of_both (flat_map tile_modules (standing_types fabric)) (loader ∷ top_module fabric ∷ []) (top_module fabric) refl)
+pub top_is_last : (fabric : PlainFabric) (loaders : List PlainModule) → module_at (fabric_text fabric loaders) [] ≡ Some (top_module fabric)
+top_is_last fabric loaders =
+    let top = top_module fabric in
+    last_of_both (map module_of_kind (used_kinds fabric)) (flat_map tile_modules (standing_types fabric) ++ (loaders ++ top ∷ [])) top
+    (last_of_both (flat_map tile_modules (standing_types fabric)) (loaders ++ top ∷ []) top
+    (last_of_both loaders (top ∷ []) top refl))
 
 -- ---- the types that stand
 
@@ -118,16 +120,16 @@ all_of_tile P tile matrix config whole =
     (All-append P (config_modules tile (tile_bits tile)) (tile_module tile ∷ []) (all_of_config P tile (tile_bits tile) config)
     (All-cons P (tile_module tile) [] whole (All-nil P)))
 
-all_of_text : (fabric : PlainFabric) (loader : PlainModule) (P : PlainModule → Type 0) → ((kind : Kind) → P (module_of_kind kind)) →
-    All (λ tile. All P (tile_modules tile)) fabric.types → P loader → P (top_module fabric) → All P (fabric_text fabric loader)
-all_of_text fabric loader P kind_is tiles_are loader_is top_is =
+all_of_text : (fabric : PlainFabric) (loaders : List PlainModule) (P : PlainModule → Type 0) → ((kind : Kind) → P (module_of_kind kind)) →
+    All (λ tile. All P (tile_modules tile)) fabric.types → All P loaders → P (top_module fabric) → All P (fabric_text fabric loaders)
+all_of_text fabric loaders P kind_is tiles_are loaders_are top_is =
     let kinds_text = map module_of_kind (used_kinds fabric) in
     let tiles_text = flat_map tile_modules (standing_types fabric) in
-    All-append P kinds_text (tiles_text ++ loader ∷ top_module fabric ∷ [])
+    All-append P kinds_text (tiles_text ++ (loaders ++ top_module fabric ∷ []))
     (All-map P module_of_kind (used_kinds fabric) (all_of (λ (kind : Kind). P (module_of_kind kind)) (used_kinds fabric) kind_is))
-    (All-append P tiles_text (loader ∷ top_module fabric ∷ [])
+    (All-append P tiles_text (loaders ++ top_module fabric ∷ [])
     (all_flat_map P tile_modules (standing_types fabric) (all_standing fabric (λ tile. All P (tile_modules tile)) tiles_are))
-    (All-cons P loader (top_module fabric ∷ []) loader_is (All-cons P (top_module fabric) [] top_is (All-nil P))))
+    (All-append P loaders (top_module fabric ∷ []) loaders_are (All-cons P (top_module fabric) [] top_is (All-nil P))))
 
 -- a module that is in the text and has its name alone is found by it
 found_alone : (text : List PlainModule) (m : PlainModule) → Contains text m → All (Only m.name m) text → module_named text m.name ≡ Some m
@@ -138,12 +140,12 @@ found_alone text m there only =
 
 -- ---- the modules of a tile
 
-tile_part : (fabric : PlainFabric) (loader : PlainModule) (x y : ℕ) (tile : PlainTile) (m : PlainModule) → tile_at fabric x y ≡ Some tile →
-    Contains (tile_modules tile) m → Contains (fabric_text fabric loader) m
-tile_part fabric loader x y tile m is there =
+tile_part : (fabric : PlainFabric) (loaders : List PlainModule) (x y : ℕ) (tile : PlainTile) (m : PlainModule) → tile_at fabric x y ≡ Some tile →
+    Contains (tile_modules tile) m → Contains (fabric_text fabric loaders) m
+tile_part fabric loaders x y tile m is there =
     let tiles_text = flat_map tile_modules (standing_types fabric) in
-    Contains-append_right (map module_of_kind (used_kinds fabric)) (tiles_text ++ loader ∷ top_module fabric ∷ []) m
-    (Contains-append_left tiles_text (loader ∷ top_module fabric ∷ []) m
+    Contains-append_right (map module_of_kind (used_kinds fabric)) (tiles_text ++ (loaders ++ top_module fabric ∷ [])) m
+    (Contains-append_left tiles_text (loaders ++ top_module fabric ∷ []) m
     (contains_flat tile_modules (standing_types fabric) tile m (tile_stands fabric x y tile is) there))
 
 pub contains_matrix : (tile : PlainTile) (outputs : List (List ℕ)) → 0 < length outputs → Contains (matrix_modules tile outputs) (matrix_module tile)
@@ -195,10 +197,10 @@ all_kinds kinds.Mux8 = (2, omega arith, refl)
 
 -- ---- look-ups
 
-module _ (fabric : PlainFabric) (loader : PlainModule) (is : IsFabric fabric) (loader_named : loader.name ≡ loader_module_name)
+module _ (fabric : PlainFabric) (loaders : List PlainModule) (is : IsFabric fabric) (named : All (λ loader. loader.name ≡ loader_module_name) loaders)
     (x y : ℕ) (tile : PlainTile) (there : tile_at fabric x y ≡ Some tile) where
   abbrev text : List PlainModule
-  text = fabric_text fabric loader
+  text = fabric_text fabric loaders
 
   -- the types of this name are this one
   one_type : All (λ other. other.name ≡ tile.name → other ≡ tile) fabric.types
@@ -207,21 +209,26 @@ module _ (fabric : PlainFabric) (loader : PlainModule) (is : IsFabric fabric) (l
       (λ other listed same. one_of_name (λ (t : PlainTile). t.name) fabric.types other tile is.names listed (tile_of_types fabric x y tile there) same)
       fabric.types (All-contains_itself fabric.types)
 
+  -- another name is that of no loader
+  no_loader : (name : List ℕ) (m : PlainModule) → loader_module_name ≢ name → All (Only name m) loaders
+  no_loader name m other =
+      All-weaker (λ loader. loader.name ≡ loader_module_name) (Only name m) (λ loader is_named same. absurd (other (sym is_named ∙ same))) loaders named
+
   -- a module alone has a name of a tile's modules
   only_in_text : (name : List ℕ) (m : PlainModule) → 78 ≤ get_or name 0 0 → loader_module_name ≢ name → top_module_name ≢ name →
       ((other : PlainTile) → (other.name ≡ tile.name → other ≡ tile) → All (Only name m) (tile_modules other)) → All (Only name m) text
-  only_in_text name m high no_loader no_top in_tile =
-      all_of_text fabric loader (Only name m)
+  only_in_text name m high other no_top in_tile =
+      all_of_text fabric loaders (Only name m)
       (λ kind same. absurd (kind_apart kind name high same))
       (All-weaker (λ (other : PlainTile). other.name ≡ tile.name → other ≡ tile) (λ (other : PlainTile). All (Only name m) (tile_modules other)) in_tile fabric.types one_type)
-      (λ same. absurd (no_loader (sym loader_named ∙ same)))
+      (no_loader name m other)
       (λ same. absurd (no_top same))
 
   pub tile_found : module_named text (tile_module_name tile) ≡ Some (tile_module tile)
   tile_found =
       let name = tile_module_name tile in
       found_alone text (tile_module tile)
-      (tile_part fabric loader x y tile (tile_module tile) there
+      (tile_part fabric loaders x y tile (tile_module tile) there
       (Contains-append_right (matrix_modules tile (matrix_output_names tile)) (config_modules tile (tile_bits tile) ++ tile_module tile ∷ []) (tile_module tile)
       (Contains-append_right (config_modules tile (tile_bits tile)) (tile_module tile ∷ []) (tile_module tile) (contains_first (tile_module tile) []))))
       (only_in_text name (tile_module tile) (omega arith) (told_apart 0 loader_module_name name refl) (told_apart 0 top_module_name name refl)
@@ -234,7 +241,7 @@ module _ (fabric : PlainFabric) (loader : PlainModule) (is : IsFabric fabric) (l
   matrix_found some =
       let name = matrix_module_name tile in
       found_alone text (matrix_module tile)
-      (tile_part fabric loader x y tile (matrix_module tile) there
+      (tile_part fabric loaders x y tile (matrix_module tile) there
       (Contains-append_left (matrix_modules tile (matrix_output_names tile)) (config_modules tile (tile_bits tile) ++ tile_module tile ∷ []) (matrix_module tile)
       (contains_matrix tile (matrix_output_names tile) some)))
       (only_in_text name (matrix_module tile) (omega arith) (told_apart 0 loader_module_name name refl) (told_apart 0 top_module_name name refl)
@@ -247,7 +254,7 @@ module _ (fabric : PlainFabric) (loader : PlainModule) (is : IsFabric fabric) (l
   config_found some =
       let name = config_module_name tile in
       found_alone text (config_module tile)
-      (tile_part fabric loader x y tile (config_module tile) there
+      (tile_part fabric loaders x y tile (config_module tile) there
       (Contains-append_right (matrix_modules tile (matrix_output_names tile)) (config_modules tile (tile_bits tile) ++ tile_module tile ∷ []) (config_module tile)
       (Contains-append_left (config_modules tile (tile_bits tile)) (tile_module tile ∷ []) (config_module tile) (contains_config tile (tile_bits tile) some))))
       (only_in_text name (config_module tile) (omega arith) (told_apart 0 loader_module_name name refl) (told_apart 0 top_module_name name refl)
@@ -269,15 +276,15 @@ module _ (fabric : PlainFabric) (loader : PlainModule) (is : IsFabric fabric) (l
       let m = module_of_kind kind in
       let used : Contains (used_kinds fabric) kind = contains_kept (is_used fabric) (kinds.Lut4c ∷ kinds.Io ∷ kinds.Mux8 ∷ []) kind (all_kinds kind) (bel_is_used bel listed) in
       found_alone text m
-      (Contains-append_left (map module_of_kind (used_kinds fabric)) (flat_map tile_modules (standing_types fabric) ++ loader ∷ top_module fabric ∷ []) m
+      (Contains-append_left (map module_of_kind (used_kinds fabric)) (flat_map tile_modules (standing_types fabric) ++ (loaders ++ top_module fabric ∷ [])) m
       (contains_map module_of_kind (used_kinds fabric) kind used))
-      (all_of_text fabric loader (Only (module_name kind) m) (only_of_kind kind)
+      (all_of_text fabric loaders (Only (module_name kind) m) (only_of_kind kind)
       (all_of (λ (other : PlainTile). All (Only (module_name kind) m) (tile_modules other)) fabric.types
       (λ other. all_of_tile (Only (module_name kind) m) other
       (λ same. absurd (kind_apart kind (matrix_module_name other) (omega arith) (sym same)))
       (λ same. absurd (kind_apart kind (config_module_name other) (omega arith) (sym same)))
       (λ same. absurd (kind_apart kind (tile_module_name other) (omega arith) (sym same)))))
-      (λ same. absurd (no_loader_kind kind (sym loader_named ∙ same)))
+      (no_loader (module_name kind) m (no_loader_kind kind))
       (λ same. absurd (kind_apart kind top_module_name (omega arith) (sym same))))
 
   pub kinds_found : All (λ bel. module_named text (module_name bel.kind) ≡ Some (module_of_kind bel.kind)) tile.bels

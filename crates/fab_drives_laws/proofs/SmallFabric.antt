@@ -1,5 +1,5 @@
 -- The small fabric keeps what the law of drives asks for.
-use Rattle.std.proofs.Common.{◌≡◌, ◌≢◌, ℕ, List, [], ◌∷◌, ◌++◌, refl, sym, ap, ◌∙◌, arith, AllPairs, codes, decimal}
+use Rattle.std.proofs.Common.{◌≡◌, ◌≢◌, ℕ, List, [], ◌∷◌, ◌++◌, refl, sym, ap, ◌∙◌, arith, All, AllPairs, codes, decimal}
 use Rattle.std.proofs.lemmas.Fmt.{decimal_digit}
 use Rattle.std.proofs.lemmas.List.Elements.{All-weaker, All-from_recursion}
 use Rattle.fab_syntax.specs.Plain.{PlainModule}
@@ -84,10 +84,10 @@ end_is = λ j. placed_name (one_is j) (one_is j) (codes "E1END") (one_is j)
 begin_is : wire_point (place_path 0 1) pads (source_of 0 1) ≡ point (codes "X0Y1" ∷ []) (codes "E1BEG1") 0
 begin_is = λ j. placed_name (zero_is j) (one_is j) (codes "E1BEG") (one_is j)
 
-pub crossing_shows : (loader : PlainModule) → loader.name ≡ loader_module_name → ShowsCrossing (fabric_text small_fabric loader)
-crossing_shows loader loader_named bits inputs held now shows settled =
+pub crossing_shows : (loaders : List PlainModule) → All (λ loader. loader.name ≡ loader_module_name) loaders → ShowsCrossing (fabric_text small_fabric loaders)
+crossing_shows loaders named bits inputs held now shows settled =
     let is_wire : IsWire lut (dest_of 0 1) = omega arith in
-    let value_is = fabric_shows_drives small_fabric loader small_is_fabric small_is_of_tiles loader_named bits inputs held now shows 1 1 lut (dest_of 0 1) refl is_wire settled in
+    let value_is = fabric_shows_drives small_fabric loaders small_is_fabric small_is_of_tiles named bits inputs held now shows 1 1 lut (dest_of 0 1) refl is_wire settled in
     sym (ap now end_is) ∙ value_is ∙ ap (drive_value small_fabric bits held now) (comes_from_there bits) ∙ ap now begin_is
 
 -- ---- the names of its top

@@ -1,5 +1,5 @@
 -- What the law of drives needs to know of a fabric's text: its top, and that each tile of the fabric stands in it.
-use Rattle.std.proofs.Common.{◌≡◌, ℕ, [], List, ap, ◌∙◌, Some}
+use Rattle.std.proofs.Common.{◌≡◌, ℕ, [], List, All, ap, ◌∙◌, Some}
 use Rattle.fab_syntax.specs.Plain.{PlainModule}
 use Rattle.fab_syntax.specs.Declarations.{module_named}
 use Rattle.fab_fabric_text_defs.specs.fab_meaning_Points.{instance_in, module_of, module_at}
@@ -31,14 +31,15 @@ tile_is_there fabric text is top x y tile there named =
     ∙ ap (module_of text) (tile_instance_found fabric is x y tile there)
     ∙ named
 
-pub text_has_fabric : (fabric : PlainFabric) (loader : PlainModule) → IsFabric fabric → loader.name ≡ loader_module_name → HasFabric fabric (fabric_text fabric loader)
-text_has_fabric fabric loader is loader_named = record {
-  top_is = top_is_last fabric loader;
-  module_is = λ x y tile there. tile_found fabric loader is loader_named x y tile there;
+pub text_has_fabric : (fabric : PlainFabric) (loaders : List PlainModule) → IsFabric fabric → All (λ loader. loader.name ≡ loader_module_name) loaders →
+    HasFabric fabric (fabric_text fabric loaders)
+text_has_fabric fabric loaders is named = record {
+  top_is = top_is_last fabric loaders;
+  module_is = λ x y tile there. tile_found fabric loaders is named x y tile there;
   stands = λ x y tile there. record {
-    tile_is = tile_is_there fabric (fabric_text fabric loader) is (top_is_last fabric loader) x y tile there (tile_found fabric loader is loader_named x y tile there);
-    config_is = config_found fabric loader is loader_named x y tile there;
-    matrix_is = matrix_found fabric loader is loader_named x y tile there;
-    kinds_are = kinds_found fabric loader is loader_named x y tile there;
+    tile_is = tile_is_there fabric (fabric_text fabric loaders) is (top_is_last fabric loaders) x y tile there (tile_found fabric loaders is named x y tile there);
+    config_is = config_found fabric loaders is named x y tile there;
+    matrix_is = matrix_found fabric loaders is named x y tile there;
+    kinds_are = kinds_found fabric loaders is named x y tile there;
   };
 }

@@ -1,7 +1,7 @@
 //! The law of drives: in a fabric's text each wire has the value of what drives it.
 #![tactic(auto)]
 
-ghost use Rattle.std.specs.Prelude.{◌≡◌, ◌≢◌, AllPairs};
+ghost use Rattle.std.specs.Prelude.{◌≡◌, ◌≢◌, All, AllPairs, List};
 ghost use Rattle.fab_syntax.specs.Plain.{PlainModule};
 ghost use Rattle.fab_fabric_text_defs.specs.fab_model_Grid.{PlainFabric};
 ghost use Rattle.fab_fabric_text_defs.specs.fab_fabric_Fabric.{AreTiles, IsFabric};
@@ -11,10 +11,10 @@ ghost use Rattle.fab_fabric_text_defs.specs.Top.{top_module};
 ghost use Rattle.fab_drives_laws.specs.Drives.{ShowsDrives};
 ghost use Rattle.fab_drives_laws.specs.Examples.{declared_names, small_fabric, small_top_names, ShowsCrossing};
 
-/// In the text of a fabric, with any loader, each wire has the value of what drives it under the configuration bits.
+/// In the text of a fabric, with any loaders, each wire has the value of what drives it under the configuration bits.
 pub fn fabric_texts_show_drives()
-    ensures { (fabric : PlainFabric) (loader : PlainModule) → IsFabric fabric → AreTiles fabric → loader.name ≡ loader_module_name →
-        ShowsDrives fabric (fabric_text fabric loader) }
+    ensures { (fabric : PlainFabric) (loaders : List PlainModule) → IsFabric fabric → AreTiles fabric → All (λ loader. loader.name ≡ loader_module_name) loaders →
+        ShowsDrives fabric (fabric_text fabric loaders) }
 {}
 
 /// A small fabric keeps all that the law asks for, and so a wire of it has the value of one of the tile beside it. The ports and wires of its
@@ -22,7 +22,7 @@ pub fn fabric_texts_show_drives()
 pub fn small_fabric_shows_drives()
     ensures fabric { IsFabric small_fabric }
     ensures tiles { AreTiles small_fabric }
-    ensures crosses { (loader : PlainModule) → loader.name ≡ loader_module_name → ShowsCrossing (fabric_text small_fabric loader) }
+    ensures crosses { (loaders : List PlainModule) → All (λ loader. loader.name ≡ loader_module_name) loaders → ShowsCrossing (fabric_text small_fabric loaders) }
     ensures names { declared_names (top_module small_fabric) ≡ small_top_names }
     ensures apart { AllPairs (λ first second. first ≢ second) small_top_names }
 {}

@@ -34,6 +34,8 @@ pub use Rattle.fab_gen_tile.specs.fab_model.specs.Rows as fab_model_Rows
 pub use Rattle.fab_gen_tile.specs.fab_model.specs.Tables as fab_model_Tables
 pub use Rattle.fab_gen_tile.specs.fab_model.specs.Tiles as fab_model_Tiles
 pub use Rattle.fab_gen_tile.specs.fab_model.specs.Wires as fab_model_Wires
+pub use Rattle.fab_gen_tile.specs.fab_model.specs.declared.mode.Mode as fab_model_mode_Mode
+pub use Rattle.fab_gen_tile.specs.fab_model.specs.declared.mode.Mode.TheVariants as fab_model_mode_Mode_TheVariants
 pub use Rattle.fab_gen_tile.specs.fab_model.specs.declared.tiles.Bel as fab_model_tiles_Bel
 pub use Rattle.fab_gen_tile.specs.fab_model.specs.declared.tiles.WireRow as fab_model_tiles_WireRow
 pub use Rattle.fab_gen_tile.specs.fab_prim.specs.Modules as fab_prim_Modules

@@ -1,4 +1,4 @@
--- The modules of a fabric's text in their order: primitives, tiles, the loader and the top.
+-- The modules of a fabric's text in their order: primitives, tiles, loaders and the top.
 use Rattle.std.specs.Prelude.{ℕ, zero, suc, Bool, false, List, [], ◌∷◌, ◌++◌, map, filter, nat_eq}
 use Rattle.std.specs.List.{flat_map, list_any, enumerate_from}
 use Rattle.std.specs.Option.{option_map_or}
@@ -46,9 +46,9 @@ config_modules tile (suc n) = config_module tile ∷ []
 abbrev pub tile_modules : PlainTile → List PlainModule
 tile_modules tile = matrix_modules tile (matrix_output_names tile) ++ (config_modules tile (tile_bits tile) ++ tile_module tile ∷ [])
 
--- The text of a fabric with this loader.
-abbrev pub fabric_text : PlainFabric → (loader : PlainModule) → List PlainModule
-fabric_text fabric loader =
+-- The text of a fabric with these loaders.
+abbrev pub fabric_text : PlainFabric → (loaders : List PlainModule) → List PlainModule
+fabric_text fabric loaders =
     map module_of_kind (used_kinds fabric)
     ++ (flat_map tile_modules (standing_types fabric)
-    ++ loader ∷ top_module fabric ∷ [])
+    ++ (loaders ++ top_module fabric ∷ []))

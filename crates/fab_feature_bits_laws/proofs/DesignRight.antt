@@ -1,5 +1,5 @@
 -- The features of a legal implementation are right.
-use Rattle.std.proofs.Common.{◌≡◌, ℕ, zero, suc, ◌-◌, ◌<◌, true, All, List, [], ◌∷◌, length, take, codes, Contains, Option, Some, None, nat_eq, slice_get, refl, sym, ap, ◌∙◌, subst, inl, inr, arith, eqb-true}
+use Rattle.std.proofs.Common.{◌≡◌, ℕ, zero, suc, ◌-◌, ◌<◌, true, All, List, [], ◌∷◌, length, take, codes, Contains, Option, Some, None, is_some, nat_eq, slice_get, refl, sym, ap, ◌∙◌, subst, inl, inr, arith, eqb-true}
 use Rattle.std.specs.List.{list_any, flat_map, filter_map}
 use Rattle.std.specs.Option.{option_map}
 use Rattle.fab_kinds.specs.declared.kind.Kind.{Kind}
@@ -38,7 +38,7 @@ use Rattle.fab_features.specs.Design.{cell_features, cell_on, design_features, e
 use Rattle.fab_features.specs.declared.said.Choice.{Choice}
 use Rattle.fab_features.specs.declared.said.Said.{Said}
 use Rattle.fab_features.specs.declared.said.Said.TheVariants as said
-use Rattle.fab_features.proofs.CellLines.{IsCellFeature, latch_feature, line_of_cell, of_cell, site_same, table_feature}
+use Rattle.fab_features.proofs.CellLines.{IsCellFeature, latch_feature, reset_feature, line_of_cell, of_cell, site_same, table_feature}
 use Rattle.fab_features.proofs.Configured.{line_kind, step_of}
 use Rattle.fab_features.proofs.DesignLines.{found_in, from_found, from_numbered, ordered_pair, placed_there, plain_output, relined}
 use Rattle.fab_features.proofs.PartsOfNames.{names_are_read}
@@ -110,17 +110,20 @@ module _ (fabric : PlainFabric) (is : IsFabric fabric) (tiles : AreTiles fabric)
 
   cell_designed : (cell : PlainCell) (site : Site) (feature : Feature) (tile : PlainTile) (found : Bel) → tile_at fabric site.x site.y ≡ Some tile →
       slice_get tile.bels site.bel ≡ Some found →
-      found.kind ≡ kinds.Lut4c → IsCellFeature cell site feature → IsDesigned feature
+      found.kind ≡ kinds.Lut4c → IsCellFeature (is_some packed.reset) cell site feature → IsDesigned feature
   cell_designed cell site _ tile found tile_is bel_is kind_is table_feature =
       field_designed (feature_of (field_name site (codes "INIT")) 15 0 cell.table) site (codes "INIT") tile found (0, 16) refl (omega arith) tile_is bel_is
       (ap (λ (k : Kind). field_of k (codes "INIT")) kind_is)
   cell_designed cell site _ tile found tile_is bel_is kind_is (latch_feature latch) =
       field_designed (feature_of (field_name site (codes "FF")) 0 0 1) site (codes "FF") tile found (16, 1) refl (omega arith) tile_is bel_is
       (ap (λ (k : Kind). field_of k (codes "FF")) kind_is)
+  cell_designed cell site _ tile found tile_is bel_is kind_is (reset_feature high) =
+      field_designed (feature_of (field_name site (codes "SET_NORESET")) 0 0 1) site (codes "SET_NORESET") tile found (18, 1) refl (omega arith) tile_is bel_is
+      (ap (λ (k : Kind). field_of k (codes "SET_NORESET")) kind_is)
 
   -- the line of a cell gives it a site of its kind
   site_designed : (site : Site) (feature : Feature) (found : Option PlainCell) → cell_on packed i.cells site ≡ found →
-      Contains (cell_features site found) feature → IsDesigned feature
+      Contains (cell_features (is_some packed.reset) site found) feature → IsDesigned feature
   site_designed site feature None on here = absurd (in_none feature here)
   site_designed site feature (Some cell) on here =
       let line = line_of_cell packed _ cell on in
@@ -128,7 +131,7 @@ module _ (fabric : PlainFabric) (is : IsFabric fabric) (tiles : AreTiles fabric)
       let same : line.0.1 ≡ site = site_same line.0.1 site there.1 in
       let kind = subst (λ (s : Site). kind_at fabric s ≡ Some kinds.Lut4c) same (line_kind fabric packed fixed i legal tiles line.0 there.0) in
       let tile = tile_of_kind site (tile_at fabric site.x site.y) kinds.Lut4c kind in
-      cell_designed cell site feature tile.0 tile.2.0 tile.1 tile.2.1 tile.2.2 (of_cell site cell feature here)
+      cell_designed cell site feature tile.0 tile.2.0 tile.1 tile.2.1 tile.2.2 (of_cell (is_some packed.reset) site cell feature here)
 
   -- ---- outputs
 

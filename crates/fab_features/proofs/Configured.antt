@@ -1,5 +1,5 @@
 -- The bits of a design's cells and edges are its configuration.
-use Rattle.std.proofs.Common.{◌≡◌, ℕ, zero, suc, ◌+◌, ◌-◌, ◌<◌, ◌≤◌, ◌/◌, ◌%◌, ◌^◌, Bool, true, false, List, [], ◌∷◌, ◌++◌, length, get_or, Some, nat_eq, slice_get, sym, refl, ap, ◌∙◌, subst, inl, inr, arith, Contains, eqb-true}
+use Rattle.std.proofs.Common.{◌≡◌, ℕ, zero, suc, ◌+◌, ◌-◌, ◌<◌, ◌≤◌, ◌/◌, ◌%◌, ◌^◌, Bool, true, false, List, [], ◌∷◌, ◌++◌, length, get_or, Some, is_some, nat_eq, slice_get, sym, refl, ap, ◌∙◌, subst, inl, inr, arith, Contains, eqb-true}
 use Rattle.std.specs.List.{list_any}
 use Rattle.std.specs.Option.{option_and_then}
 use Rattle.std.proofs.lemmas.Bool.{false≢true}
@@ -137,13 +137,13 @@ module _ (fabric : PlainFabric) (packed : PlainPacked) (fixed : List Pad) (i : P
         omega (arith, high, bel_inside s.tile.bels site.bel bel.0 bel.1, bel.2, s.bit_is, s.inside, ap bel_bits same)
 
     cell_bits : (cell_number bit : ℕ) (site : Site) (cell : PlainCell) (tile : PlainTile) → IsBound packed i cell_number site cell → tile_at fabric site.x site.y ≡ Some tile → bit < 19 →
-        bits site.x site.y (bits_before tile.bels site.bel + bit) ≡ cell_bit cell bit
+        bits site.x site.y (bits_before tile.bels site.bel + bit) ≡ cell_bit (is_some packed.reset) cell bit
     cell_bits number bit site cell tile bound is few =
         let at = bits_before tile.bels site.bel + bit in
         let kind = line_kind (number, site) bound.listed in
         let bel = lut_bel fabric site tile kind is in
         let low : at < bel_bits tile = omega (arith, bel_inside tile.bels site.bel bel.0 bel.1, bel.2, few) in
-        bool_same (bits site.x site.y at) (cell_bit cell bit)
+        bool_same (bits site.x site.y at) (cell_bit (is_some packed.reset) cell bit)
         (λ h.
         elim (tree_ones.no_others site.x site.y at h) [
           | inr edge ↦ absurd (not_edge site.x site.y at tile is low edge)
@@ -160,7 +160,7 @@ module _ (fabric : PlainFabric) (packed : PlainPacked) (fixed : List Pad) (i : P
                 let lines_same : line ≡ (number, site) = one_line line (number, site) one.1 bound.listed sites_same in
                 let there : IsAt packed.cells number one.2.0 = subst (λ (l : ℕ × Site). IsAt packed.cells l.0 one.2.0) lines_same one.2.1 in
                 let cells_same : one.2.0 ≡ cell = same_at packed.cells number one.2.0 cell there bound.cell_is in
-                ap (λ (k : PlainCell). cell_bit k bit) (sym cells_same) ∙ ap (cell_bit one.2.0) places.1 ∙ s.one)
+                ap (λ (k : PlainCell). cell_bit (is_some packed.reset) k bit) (sym cells_same) ∙ ap (cell_bit (is_some packed.reset) one.2.0) places.1 ∙ s.one)
           ]
         ])
         (λ h.

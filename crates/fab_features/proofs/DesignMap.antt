@@ -1,5 +1,5 @@
 -- The configuration bits of a design are the bit map of its features.
-use Rattle.std.proofs.Common.{◌≡◌, ◌⊎◌, ℕ, ◌+◌, ◌-◌, ◌<◌, ◌≤◌, true, false, ◌&&◌, List, length, codes, Contains, Option, Some, None, is_some, nat_eq, slice_get, sym, refl, ap, ◌∙◌, subst, inl, inr, arith, All, eq-eqb, eqb-true, lt-ltb, le-ltb}
+use Rattle.std.proofs.Common.{◌≡◌, ◌⊎◌, ℕ, ◌+◌, ◌-◌, ◌<◌, ◌≤◌, Bool, true, List, length, codes, Contains, Option, Some, None, is_some, nat_eq, slice_get, sym, refl, ap, ◌∙◌, subst, inl, inr, arith, All, eq-eqb, eqb-true, lt-ltb}
 use Rattle.std.specs.List.{list_any, find, flat_map, filter_map}
 use Rattle.std.specs.Option.{option_map, option_and_then}
 use Rattle.std.proofs.lemmas.Bool.{cases_lt}
@@ -23,7 +23,7 @@ use Rattle.fab_fabric.proofs.Pairs.{passes_named}
 use Rattle.fab_netlist.specs.Plain.{IsAt}
 use Rattle.fab_netlist.specs.WellMade.{table_bit}
 use Rattle.fab_netlist.specs.Packed.{PlainCell, PlainPacked}
-use Rattle.fab_netlist.proofs.Members.{in_none, first_in, in_left, in_right, parts_true}
+use Rattle.fab_netlist.proofs.Members.{in_none, first_in, in_left, in_right}
 use Rattle.fab_implementation.specs.Plain.{Pad, Edge, PlainTree, PlainImplementation}
 use Rattle.fab_legal.specs.Legal.{IsLegal}
 use Rattle.fab_legal.specs.Steps.{IsStep}
@@ -47,13 +47,13 @@ use Rattle.fab_features.specs.declared.said.Choice.{Choice}
 use Rattle.fab_features.specs.declared.said.Said.TheVariants as said
 use Rattle.fab_features.proofs.Added.{both_added, same_added}
 use Rattle.fab_features.proofs.BitMaps.{Agree, bit_map}
-use Rattle.fab_features.proofs.Setting.{one_tile, tile_there}
+use Rattle.fab_features.proofs.Setting.{one_tile, tile_there, behind_table}
 use Rattle.fab_features.proofs.Steps.{lands, input_listed, dest_no_output, one_edge}
 use Rattle.fab_features.proofs.Configured.{one_line, step_of, line_kind}
 use Rattle.fab_features.proofs.Saids.{one_field, one_choice, no_both}
 use Rattle.fab_features.proofs.SaidNames.{field_said, pair_said}
 use Rattle.fab_features.proofs.Tables.{few_bels}
-use Rattle.fab_features.proofs.CellLines.{site_same, same_itself, line_of_cell, IsCellFeature, table_feature, latch_feature, of_cell, latch_listed}
+use Rattle.fab_features.proofs.CellLines.{site_same, same_itself, line_of_cell, IsCellFeature, table_feature, latch_feature, reset_feature, of_cell, latch_listed, reset_listed}
 use Rattle.fab_features.proofs.Words.{of_all}
 use Rattle.fab_features.proofs.DesignLines.{get_item, item_at, found_in, only_found, into_found, from_found, relined, from_numbered, into_numbered, tile_placed, placed_there, pair_of_input, output_ordered, ordered_pair, plain_output}
 
@@ -102,19 +102,25 @@ module _ (fabric : PlainFabric) (packed : PlainPacked) (fixed : List Pad) (i : P
   ff_said : (site : Site) (tile : PlainTile) → tile_at fabric site.x site.y ≡ Some tile → LutAt site tile → said_of fabric (field_name site (codes "FF")) ≡ Some (said.OfBel (bel_field site.x site.y site.bel 16 1))
   ff_said site tile tile_is lut = field_said fabric site tile lut.found (codes "FF") (16, 1) is_fabric tile_is lut.few lut.bel_is (ap (λ (k : Kind). field_of k (codes "FF")) lut.kind_is)
 
+  reset_said : (site : Site) (tile : PlainTile) → tile_at fabric site.x site.y ≡ Some tile → LutAt site tile → said_of fabric (field_name site (codes "SET_NORESET")) ≡ Some (said.OfBel (bel_field site.x site.y site.bel 18 1))
+  reset_said site tile tile_is lut = field_said fabric site tile lut.found (codes "SET_NORESET") (18, 1) is_fabric tile_is lut.few lut.bel_is (ap (λ (k : Kind). field_of k (codes "SET_NORESET")) lut.kind_is)
+
+  abbrev Resets : Bool
+  Resets = is_some packed.reset
+
   -- a feature of a cell is one of the design
   cell_listed : (line : ℕ × Site) (cell : PlainCell) (tile : PlainTile) (g : Feature) → Contains i.cells line → IsAt packed.cells line.0 cell → tile_at fabric line.1.x line.1.y ≡ Some tile → LutAt line.1 tile →
-      Contains (cell_features line.1 (Some cell)) g → (number : ℕ) × Contains (design_features fabric packed i) (relined number g)
+      Contains (cell_features Resets line.1 (Some cell)) g → (number : ℕ) × Contains (design_features fabric packed i) (relined number g)
   cell_listed line cell tile g here at tile_is lut there =
       let site = line.1 in
       let placed = placed_tile site.x site.y tile in
-      let of_site : Contains (site_features packed i site) g = subst (λ (o : Option PlainCell). Contains (cell_features site o) g) (sym (cell_found line cell here at)) there in
+      let of_site : Contains (site_features packed i site) g = subst (λ (o : Option PlainCell). Contains (cell_features Resets site o) g) (sym (cell_found line cell here at)) there in
       into_design site.x site.y tile g tile_is
       (in_left (flat_map (λ bel. site_features packed i (site_in placed bel)) (counted (length tile.bels) (λ bel. bel))) _ g
       (into_flat (λ bel. site_features packed i (site_in placed bel)) (counted (length tile.bels) (λ bel. bel)) site.bel g (contains_counted (length tile.bels) (λ bel. bel) site.bel lut.inside) of_site))
 
   -- a bit of a cell is one of a line
-  site_bit : (line : ℕ × Site) (cell : PlainCell) (tile : PlainTile) (place : ℕ) → Contains i.cells line → IsAt packed.cells line.0 cell → tile_at fabric line.1.x line.1.y ≡ Some tile → place < 19 → cell_bit cell place ≡ true →
+  site_bit : (line : ℕ × Site) (cell : PlainCell) (tile : PlainTile) (place : ℕ) → Contains i.cells line → IsAt packed.cells line.0 cell → tile_at fabric line.1.x line.1.y ≡ Some tile → place < 19 → cell_bit Resets cell place ≡ true →
       SomeOf (IsLineOne fabric) (design_features fabric packed i) line.1.x line.1.y (bits_before tile.bels line.1.bel + place)
   site_bit line cell tile place here at tile_is few one =
       let site = line.1 in
@@ -123,7 +129,7 @@ module _ (fabric : PlainFabric) (packed : PlainPacked) (fixed : List Pad) (i : P
       elim (cases_lt place 16) [
         | inl low ↦ (
             let listed = cell_listed line cell tile (feature_of (field_name site (codes "INIT")) 15 0 cell.table) here at tile_is lut (first_in _ _ _ refl) in
-            let in_table : cell_bit cell place ≡ table_bit cell.table place = rw (lt-ltb place 16 low) refl in
+            let in_table : cell_bit Resets cell place ≡ table_bit cell.table place = rw (lt-ltb place 16 low) refl in
             let back : place - (0 + 0) ≡ place = omega arith in (
               relined listed.0 (feature_of (field_name site (codes "INIT")) 15 0 cell.table),
               listed.1,
@@ -139,27 +145,33 @@ module _ (fabric : PlainFabric) (packed : PlainPacked) (fixed : List Pad) (i : P
                 sets = record { first = 0; width = 16; said_is = init_said site tile tile_is lut; above = omega arith; below = omega (arith, low); one = ap (table_bit cell.table) back ∙ sym in_table ∙ one };
               }),
             ))
-        | inr past ↦ (
-            let behind : cell_bit cell place ≡ (nat_eq place 16 && is_some cell.latch) = rw (le-ltb place 16 past) refl in
-            let parts = parts_true (nat_eq place 16) (is_some cell.latch) (sym behind ∙ one) in
-            let is : place ≡ 16 = eqb-true place 16 parts.0 in
-            let listed = cell_listed line cell tile (feature_of (field_name site (codes "FF")) 0 0 1) here at tile_is lut (latch_listed site cell parts.1) in
-            let back : place - (16 + 0) ≡ 0 = omega (arith, is) in (
-              relined listed.0 (feature_of (field_name site (codes "FF")) 0 0 1),
-              listed.1,
-              inl (record {
-                tile = tile;
-                bel = site.bel;
-                place = place;
-                found = lut.found;
-                tile_is = tile_is;
-                bel_is = lut.bel_is;
-                small = small;
-                bit_is = refl;
-                sets = record { first = 16; width = 1; said_is = ff_said site tile tile_is lut; above = omega (arith, is); below = omega (arith, is); one = ap (table_bit 1) back };
-              }),
-            ))
+        | inr past ↦ elim (behind_table Resets cell place past one) [
+          | inl p ↦ of_one (codes "FF") 16 p.0 (ff_said site tile tile_is lut) lut small (latch_listed Resets site cell p.1)
+          | inr p ↦ of_one (codes "SET_NORESET") 18 p.0 (reset_said site tile tile_is lut) lut small (reset_listed Resets site cell p.1)
+        ]
       ]
+    where
+      -- the line of a field of one bit
+      of_one : (word : List ℕ) (first : ℕ) → place ≡ first → said_of fabric (field_name line.1 word) ≡ Some (said.OfBel (bel_field line.1.x line.1.y line.1.bel first 1)) → (lut : LutAt line.1 tile) →
+          place < bit_count lut.found.kind → Contains (cell_features Resets line.1 (Some cell)) (feature_of (field_name line.1 word) 0 0 1) →
+          SomeOf (IsLineOne fabric) (design_features fabric packed i) line.1.x line.1.y (bits_before tile.bels line.1.bel + place)
+      of_one word first is says lut small there =
+          let listed = cell_listed line cell tile (feature_of (field_name line.1 word) 0 0 1) here at tile_is lut there in
+          let back : place - (first + 0) ≡ 0 = omega (arith, is) in (
+            relined listed.0 (feature_of (field_name line.1 word) 0 0 1),
+            listed.1,
+            inl (record {
+              tile = tile;
+              bel = line.1.bel;
+              place = place;
+              found = lut.found;
+              tile_is = tile_is;
+              bel_is = lut.bel_is;
+              small = small;
+              bit_is = refl;
+              sets = record { first = first; width = 1; said_is = says; above = omega (arith, is); below = omega (arith, is); one = ap (table_bit 1) back };
+            }),
+          )
 
   cell_to_line : (line : ℕ × Site) (x y bit : ℕ) → Contains i.cells line → IsCellOne fabric packed line x y bit → SomeOf (IsLineOne fabric) (design_features fabric packed i) x y bit
   cell_to_line line x y bit here one =
@@ -175,7 +187,7 @@ module _ (fabric : PlainFabric) (packed : PlainPacked) (fixed : List Pad) (i : P
   -- a bit of a line of a cell is one of the cell
   field_to_cell : (line : ℕ × Site) (cell : PlainCell) (f : Feature) (x y bit first width : ℕ) → Contains i.cells line → IsAt packed.cells line.0 cell →
       said_of fabric f.name ≡ Some (said.OfBel (bel_field line.1.x line.1.y line.1.bel first width)) → first + f.high < 19 →
-      ((place : ℕ) → first + f.low ≤ place → place ≤ first + f.high → table_bit f.value (place - (first + f.low)) ≡ true → cell_bit cell place ≡ true) →
+      ((place : ℕ) → first + f.low ≤ place → place ≤ first + f.high → table_bit f.value (place - (first + f.low)) ≡ true → cell_bit Resets cell place ≡ true) →
       IsLineOne fabric f x y bit → SomeOf (IsCellOne fabric packed) i.cells x y bit
   field_to_cell line cell f x y bit first width here at says small bits one =
       let site = line.1 in
@@ -207,19 +219,24 @@ module _ (fabric : PlainFabric) (packed : PlainPacked) (fixed : List Pad) (i : P
       ]
 
   line_to_cell : (line : ℕ × Site) (cell : PlainCell) (g : Feature) (number x y bit : ℕ) (tile : PlainTile) → Contains i.cells line → IsAt packed.cells line.0 cell → tile_at fabric line.1.x line.1.y ≡ Some tile →
-      IsCellFeature cell line.1 g → IsLineOne fabric (relined number g) x y bit → SomeOf (IsCellOne fabric packed) i.cells x y bit
+      IsCellFeature Resets cell line.1 g → IsLineOne fabric (relined number g) x y bit → SomeOf (IsCellOne fabric packed) i.cells x y bit
   line_to_cell line cell _ number x y bit tile here at tile_is table_feature one =
       field_to_cell line cell (relined number (feature_of (field_name line.1 (codes "INIT")) 15 0 cell.table)) x y bit 0 16 here at (init_said line.1 tile tile_is (lut_at line tile here tile_is)) (omega arith)
       (λ place low high value.
       let few : place < 16 = omega (arith, high) in
-      let in_table : cell_bit cell place ≡ table_bit cell.table place = rw (lt-ltb place 16 few) refl in
+      let in_table : cell_bit Resets cell place ≡ table_bit cell.table place = rw (lt-ltb place 16 few) refl in
       let back : place - (0 + 0) ≡ place = omega arith in
       in_table ∙ ap (table_bit cell.table) (sym back) ∙ value) one
   line_to_cell line cell _ number x y bit tile here at tile_is (latch_feature latch) one =
       field_to_cell line cell (relined number (feature_of (field_name line.1 (codes "FF")) 0 0 1)) x y bit 16 1 here at (ff_said line.1 tile tile_is (lut_at line tile here tile_is)) (omega arith)
       (λ place low high value.
       let is : place ≡ 16 = omega (arith, low, high) in
-      ap (cell_bit cell) is ∙ latch) one
+      ap (cell_bit Resets cell) is ∙ latch) one
+  line_to_cell line cell _ number x y bit tile here at tile_is (reset_feature high_bit) one =
+      field_to_cell line cell (relined number (feature_of (field_name line.1 (codes "SET_NORESET")) 0 0 1)) x y bit 18 1 here at (reset_said line.1 tile tile_is (lut_at line tile here tile_is)) (omega arith)
+      (λ place low high value.
+      let is : place ≡ 18 = omega (arith, low, high) in
+      ap (cell_bit Resets cell) is ∙ high_bit) one
 
   -- ---- outputs
 
@@ -388,15 +405,15 @@ module _ (fabric : PlainFabric) (packed : PlainPacked) (fixed : List Pad) (i : P
 
     -- a line of the design is of a cell or of an output
     pub data IsDesignLine : Feature → Type 0 where
-      of_a_cell : (line : ℕ × Site) (cell : PlainCell) (tile : PlainTile) (number : ℕ) (g : Feature) → Contains i.cells line → IsAt packed.cells line.0 cell → tile_at fabric line.1.x line.1.y ≡ Some tile → IsCellFeature cell line.1 g →
+      of_a_cell : (line : ℕ × Site) (cell : PlainCell) (tile : PlainTile) (number : ℕ) (g : Feature) → Contains i.cells line → IsAt packed.cells line.0 cell → tile_at fabric line.1.x line.1.y ≡ Some tile → IsCellFeature Resets cell line.1 g →
           IsDesignLine (relined number g)
       of_an_output : (number : ℕ) (g : Feature) → IsOutputLine g.name → IsDesignLine (relined number g)
 
-    site_line : (site : Site) (tile : PlainTile) (number : ℕ) (g : Feature) (found : Option PlainCell) → tile_at fabric site.x site.y ≡ Some tile → cell_on packed i.cells site ≡ found → Contains (cell_features site found) g → IsDesignLine (relined number g)
+    site_line : (site : Site) (tile : PlainTile) (number : ℕ) (g : Feature) (found : Option PlainCell) → tile_at fabric site.x site.y ≡ Some tile → cell_on packed i.cells site ≡ found → Contains (cell_features Resets site found) g → IsDesignLine (relined number g)
     site_line site tile number g None tile_is on here = absurd (in_none g here)
     site_line site tile number g (Some cell) tile_is on here =
         let line = found_line site cell on in
-        let feature : IsCellFeature cell line.0.1 g = subst (λ (s : Site). IsCellFeature cell s g) (sym line.2) (of_cell site cell g here) in
+        let feature : IsCellFeature Resets cell line.0.1 g = subst (λ (s : Site). IsCellFeature Resets cell s g) (sym line.2) (of_cell Resets site cell g here) in
         of_a_cell line.0 cell tile number g line.1 line.3 (subst (λ (s : Site). tile_at fabric s.x s.y ≡ Some tile) (sym line.2) tile_is) feature
 
     design_line : (f : Feature) → Contains (design_features fabric packed i) f → IsDesignLine f
@@ -429,9 +446,10 @@ module _ (fabric : PlainFabric) (packed : PlainPacked) (fixed : List Pad) (i : P
     entered_by x y output input (of_a_cell line cell tile number g here at tile_is feature) chooses =
         absurd (never line cell g tile here tile_is feature (choice x y output input) chooses.said_is)
       where
-        never : (line : ℕ × Site) (cell : PlainCell) (g : Feature) (tile : PlainTile) → Contains i.cells line → tile_at fabric line.1.x line.1.y ≡ Some tile → IsCellFeature cell line.1 g → (c : Choice) → said_of fabric g.name ≡ Some (said.OfPair c) → ⊥
+        never : (line : ℕ × Site) (cell : PlainCell) (g : Feature) (tile : PlainTile) → Contains i.cells line → tile_at fabric line.1.x line.1.y ≡ Some tile → IsCellFeature Resets cell line.1 g → (c : Choice) → said_of fabric g.name ≡ Some (said.OfPair c) → ⊥
         never line cell _ tile here tile_is table_feature c says = no_both {X = ⊥} fabric _ _ c (init_said line.1 tile tile_is (lut_at line tile here tile_is)) says
         never line cell _ tile here tile_is (latch_feature latch) c says = no_both {X = ⊥} fabric _ _ c (ff_said line.1 tile tile_is (lut_at line tile here tile_is)) says
+        never line cell _ tile here tile_is (reset_feature high) c says = no_both {X = ⊥} fabric _ _ c (reset_said line.1 tile tile_is (lut_at line tile here tile_is)) says
     entered_by x y output input (of_an_output number g o) chooses =
         let e = one_choice fabric g.name (choice x y output input) o.pair chooses.said_is o.says in
         record {

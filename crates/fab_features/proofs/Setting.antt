@@ -1,5 +1,5 @@
 -- What the bits of a cell and the select bits of an output are as ones of values.
-use Rattle.std.proofs.Common.{◌≡◌, ◌⊎◌, ℕ, ◌+◌, ◌-◌, ◌<◌, ◌≤◌, Bool, true, cond, ◌&&◌, suc, List, [], ◌∷◌, length, Option, Some, None, is_some, nat_eq, slice_get, sym, refl, ap, ◌∙◌, subst, inl, inr, arith, eqb-true, lt-ltb, le-ltb}
+use Rattle.std.proofs.Common.{◌≡◌, ◌⊎◌, ℕ, ◌+◌, ◌-◌, ◌<◌, ◌≤◌, Bool, true, false, cond, ◌&&◌, suc, List, [], ◌∷◌, length, Option, Some, None, is_some, nat_eq, slice_get, sym, refl, ap, ◌∙◌, subst, inl, inr, arith, eqb-true, lt-ltb, le-ltb}
 use Rattle.std.specs.List.{list_any, position, position_or_len}
 use Rattle.std.specs.Option.{option_map_or}
 use Rattle.std.proofs.lemmas.Bool.{false≢true, cases_Bool, cases_lt}
@@ -16,6 +16,7 @@ use Rattle.fab_fabric.specs.declared.wire.Site.{Site}
 use Rattle.fab_fabric.proofs.Numbered.{one_place}
 use Rattle.std.proofs.lemmas.Option.{slice_get_within}
 use Rattle.fab_netlist.proofs.Members.{parts_true}
+use Rattle.fab_netlist.specs.Meaning.{begins_high}
 use Rattle.fab_netlist.specs.WellMade.{table_bit}
 use Rattle.fab_netlist.specs.Packed.{PlainCell}
 use Rattle.fab_implementation.specs.Plain.{Edge}
@@ -24,7 +25,7 @@ use Rattle.fab_legal.proofs.Pins.{tile_of_kind}
 use Rattle.fab_legal.proofs.PortNumbers.{place_in}
 use Rattle.fab_use_defs.specs.Configuring.{cell_bit}
 use Rattle.fab_features.specs.Features.{place_among}
-use Rattle.fab_features.specs.inner.Adding.{Adds, IsOneOf, IsSiteOne, IsSelectOne, IsChoiceOne, IsEdgeOne}
+use Rattle.fab_features.specs.inner.Adding.{Adds, BitSet, IsOneOf, IsSiteOne, IsSelectOne, IsChoiceOne, IsEdgeOne}
 use Rattle.fab_features.specs.declared.ones.Ones.{Ones}
 use Rattle.fab_features.specs.declared.said.Choice.{Choice}
 use Rattle.fab_features.proofs.Added.{none_added, both_added, same_added}
@@ -64,77 +65,117 @@ lut_fits fabric site tile kind is =
       slice_get_within tile.bels site.bel bel.0 bel.1,
     )
 
-latch_one : (latch : Option ℕ) (value : ℕ) → value ≡ cond (is_some latch) 1 0 → table_bit value 0 ≡ true → is_some latch ≡ true
-latch_one None value is one = absurd (false≢true (sym (ap (λ n. table_bit n 0) is) ∙ one))
-latch_one (Some init) value is one = refl
+-- a bit as a value of one bit
+bit_one : (bit : Bool) (value : ℕ) → value ≡ cond bit 1 0 → table_bit value 0 ≡ true → bit ≡ true
+bit_one false value is one = absurd (false≢true (sym (ap (λ n. table_bit n 0) is) ∙ one))
+bit_one true value is one = refl
 
-one_latch : (latch : Option ℕ) (value : ℕ) → value ≡ cond (is_some latch) 1 0 → is_some latch ≡ true → table_bit value 0 ≡ true
-one_latch None value is some = absurd (false≢true some)
-one_latch (Some init) value is some = ap (λ n. table_bit n 0) is
+one_bit : (bit : Bool) (value : ℕ) → value ≡ cond bit 1 0 → bit ≡ true → table_bit value 0 ≡ true
+one_bit false value is one = absurd (false≢true one)
+one_bit true value is one = ap (λ n. table_bit n 0) is
 
-pub site_adds : (fabric : PlainFabric) (tile : PlainTile) (site : Site) (cell : PlainCell) (a b c : PlainBits) (low table latch : ℕ) → tile_at fabric site.x site.y ≡ Some tile →
-    low ≡ bits_before tile.bels site.bel → table ≡ cell.table → latch ≡ cond (is_some cell.latch) 1 0 →
-    Adds a b (IsOneOf (ones_of site.x site.y low 16 table)) → Adds b c (IsOneOf (ones_of site.x site.y (low + 16) 1 latch)) → Adds a c (IsSiteOne fabric site cell)
-site_adds fabric tile site cell a b c low table latch is low_is table_is latch_is first second =
-    same_added a c (λ x y bit. IsOneOf (ones_of site.x site.y low 16 table) x y bit ⊎ IsOneOf (ones_of site.x site.y (low + 16) 1 latch) x y bit) (IsSiteOne fabric site cell)
-    (λ x y bit either.
-    elim either [
-      | inl o ↦ (
-          let place = bit - low in
-          let few : place < 16 = omega (arith, o.above, o.below) in
-          let in_table : cell_bit cell place ≡ table_bit cell.table place = rw (lt-ltb place 16 few) refl in
-          record {
-            tile = tile;
-            place = place;
-            x_is = o.x_is;
-            y_is = o.y_is;
-            tile_is = tile_there fabric site.x site.y x y tile o.x_is o.y_is is;
-            bit_is = omega (arith, o.above, low_is);
-            inside = omega (arith, few);
-            one = in_table ∙ ap (λ n. table_bit n place) (sym table_is) ∙ o.one;
-          })
-      | inr o ↦ (
-          let none : bit - (low + 16) ≡ 0 = omega (arith, o.above, o.below) in
-          let some : is_some cell.latch ≡ true = latch_one cell.latch latch latch_is (ap (table_bit latch) (sym none) ∙ o.one) in
-          record {
-            tile = tile;
-            place = 16;
-            x_is = o.x_is;
-            y_is = o.y_is;
-            tile_is = tile_there fabric site.x site.y x y tile o.x_is o.y_is is;
-            bit_is = omega (arith, o.above, o.below, low_is);
-            inside = omega arith;
-            one = some;
-          })
-    ])
-    (λ x y bit s.
-    let same : s.tile ≡ tile = one_tile fabric x y s.tile tile s.tile_is (tile_there fabric site.x site.y x y tile s.x_is s.y_is is) in
-    let before : bits_before s.tile.bels site.bel ≡ low = ap (λ (t : PlainTile). bits_before t.bels site.bel) same ∙ sym low_is in
-    let place_is : bit - low ≡ s.place = omega (arith, before, s.bit_is) in
-    elim (cases_lt s.place 16) [
-      | inl few ↦ (
-          let in_table : cell_bit cell s.place ≡ table_bit cell.table s.place = rw (lt-ltb s.place 16 few) refl in
-          inl (record {
-            x_is = s.x_is;
-            y_is = s.y_is;
-            above = omega (arith, before, s.bit_is);
-            below = omega (arith, before, s.bit_is, few);
-            one = ap (table_bit table) place_is ∙ ap (λ n. table_bit n s.place) table_is ∙ sym in_table ∙ s.one;
-          }))
-      | inr past ↦ (
-          let behind : cell_bit cell s.place ≡ (nat_eq s.place 16 && is_some cell.latch) = rw (le-ltb s.place 16 past) refl in
-          let parts = parts_true (nat_eq s.place 16) (is_some cell.latch) (sym behind ∙ s.one) in
-          let at : s.place ≡ 16 = eqb-true s.place 16 parts.0 in
-          let none : bit - (low + 16) ≡ 0 = omega (arith, before, s.bit_is, at) in
-          inr (record {
-            x_is = s.x_is;
-            y_is = s.y_is;
-            above = omega (arith, before, s.bit_is, at);
-            below = omega (arith, before, s.bit_is, at);
-            one = ap (table_bit latch) none ∙ one_latch cell.latch latch latch_is parts.1;
-          }))
-    ])
-    (both_added a b c (IsOneOf (ones_of site.x site.y low 16 table)) (IsOneOf (ones_of site.x site.y (low + 16) 1 latch)) first second)
+either_bit : (at_16 at_18 latch high : Bool) → cond at_16 latch (at_18 && high) ≡ true → ((at_16 ≡ true) × (latch ≡ true)) ⊎ ((at_18 ≡ true) × (high ≡ true))
+either_bit true at_18 latch high one = inl (refl, one)
+either_bit false at_18 latch high one = inr (parts_true at_18 high one)
+
+-- a bit behind the table that is 1 selects the flip-flop of a latch, or is what a reset loads
+pub behind_table : (resets : Bool) (cell : PlainCell) (place : ℕ) → 16 ≤ place → cell_bit resets cell place ≡ true →
+    ((place ≡ 16) × (is_some cell.latch ≡ true)) ⊎ ((place ≡ 18) × (cell_bit resets cell 18 ≡ true))
+behind_table resets cell place past one =
+    let high : Bool = resets && option_map_or begins_high cell.latch false in
+    let behind : cell_bit resets cell place ≡ cond (nat_eq place 16) (is_some cell.latch) (nat_eq place 18 && high) = rw (le-ltb place 16 past) refl in
+    elim (either_bit (nat_eq place 16) (nat_eq place 18) (is_some cell.latch) high (sym behind ∙ one)) [
+      | inl p ↦ inl (eqb-true place 16 p.0, p.1)
+      | inr p ↦ inr (eqb-true place 18 p.0, p.1)
+    ]
+
+module _ (fabric : PlainFabric) (resets : Bool) (tile : PlainTile) (site : Site) (cell : PlainCell) (low table latch high : ℕ) (is : tile_at fabric site.x site.y ≡ Some tile)
+    (low_is : low ≡ bits_before tile.bels site.bel) (table_is : table ≡ cell.table) (latch_is : latch ≡ cond (is_some cell.latch) 1 0) (high_is : high ≡ cond (cell_bit resets cell 18) 1 0) where
+  abbrev IsTable : BitSet
+  IsTable = IsOneOf (ones_of site.x site.y low 16 table)
+
+  abbrev IsLatch : BitSet
+  IsLatch = IsOneOf (ones_of site.x site.y (low + 16) 1 latch)
+
+  abbrev IsReset : BitSet
+  IsReset = IsOneOf (ones_of site.x site.y (low + 18) 1 high)
+
+  -- a bit of the cell at its place
+  placed_one : (x y bit place : ℕ) → x ≡ site.x → y ≡ site.y → bit ≡ low + place → place < 19 → cell_bit resets cell place ≡ true → IsSiteOne fabric resets site cell x y bit
+  placed_one x y bit place x_is y_is bit_is inside one = record {
+    tile = tile;
+    place = place;
+    x_is = x_is;
+    y_is = y_is;
+    tile_is = tile_there fabric site.x site.y x y tile x_is y_is is;
+    bit_is = omega (arith, bit_is, low_is);
+    inside = inside;
+    one = one;
+  }
+
+  from_table : (x y bit : ℕ) → IsTable x y bit → IsSiteOne fabric resets site cell x y bit
+  from_table x y bit o =
+      let place = bit - low in
+      let few : place < 16 = omega (arith, o.above, o.below) in
+      let in_table : cell_bit resets cell place ≡ table_bit cell.table place = rw (lt-ltb place 16 few) refl in
+      placed_one x y bit place o.x_is o.y_is (omega (arith, o.above)) (omega (arith, few)) (in_table ∙ ap (λ n. table_bit n place) (sym table_is) ∙ o.one)
+
+  from_latch : (x y bit : ℕ) → IsLatch x y bit → IsSiteOne fabric resets site cell x y bit
+  from_latch x y bit o =
+      let none : bit - (low + 16) ≡ 0 = omega (arith, o.above, o.below) in
+      placed_one x y bit 16 o.x_is o.y_is (omega (arith, o.above, o.below)) (omega arith) (bit_one (is_some cell.latch) latch latch_is (ap (table_bit latch) (sym none) ∙ o.one))
+
+  from_reset : (x y bit : ℕ) → IsReset x y bit → IsSiteOne fabric resets site cell x y bit
+  from_reset x y bit o =
+      let none : bit - (low + 18) ≡ 0 = omega (arith, o.above, o.below) in
+      placed_one x y bit 18 o.x_is o.y_is (omega (arith, o.above, o.below)) (omega arith) (bit_one (cell_bit resets cell 18) high high_is (ap (table_bit high) (sym none) ∙ o.one))
+
+  into_parts : (x y bit : ℕ) → IsSiteOne fabric resets site cell x y bit → (IsTable x y bit ⊎ IsLatch x y bit) ⊎ IsReset x y bit
+  into_parts x y bit s =
+      let same : s.tile ≡ tile = one_tile fabric x y s.tile tile s.tile_is (tile_there fabric site.x site.y x y tile s.x_is s.y_is is) in
+      let before : bits_before s.tile.bels site.bel ≡ low = ap (λ (t : PlainTile). bits_before t.bels site.bel) same ∙ sym low_is in
+      let at : bit ≡ low + s.place = omega (arith, before, s.bit_is) in
+      elim (cases_lt s.place 16) [
+        | inl few ↦ (
+            let in_table : cell_bit resets cell s.place ≡ table_bit cell.table s.place = rw (lt-ltb s.place 16 few) refl in
+            let place_is : bit - low ≡ s.place = omega (arith, at) in
+            inl (inl (record {
+              x_is = s.x_is;
+              y_is = s.y_is;
+              above = omega (arith, at);
+              below = omega (arith, at, few);
+              one = ap (table_bit table) place_is ∙ ap (λ n. table_bit n s.place) table_is ∙ sym in_table ∙ s.one;
+            })))
+        | inr past ↦ elim (behind_table resets cell s.place past s.one) [
+          | inl p ↦ (
+              let none : bit - (low + 16) ≡ 0 = omega (arith, at, p.0) in
+              inl (inr (record {
+                x_is = s.x_is;
+                y_is = s.y_is;
+                above = omega (arith, at, p.0);
+                below = omega (arith, at, p.0);
+                one = ap (table_bit latch) none ∙ one_bit (is_some cell.latch) latch latch_is p.1;
+              })))
+          | inr p ↦ (
+              let none : bit - (low + 18) ≡ 0 = omega (arith, at, p.0) in
+              inr (record {
+                x_is = s.x_is;
+                y_is = s.y_is;
+                above = omega (arith, at, p.0);
+                below = omega (arith, at, p.0);
+                one = ap (table_bit high) none ∙ one_bit (cell_bit resets cell 18) high high_is p.1;
+              }))
+        ]
+      ]
+
+  -- the table, the bit that selects the flip-flop and the bit that a reset loads are the bits of a cell
+  pub site_adds : (a b c d : PlainBits) → Adds a b (IsOneOf (ones_of site.x site.y low 16 table)) → Adds b c (IsOneOf (ones_of site.x site.y (low + 16) 1 latch)) →
+      Adds c d (IsOneOf (ones_of site.x site.y (low + 18) 1 high)) → Adds a d (IsSiteOne fabric resets site cell)
+  site_adds a b c d first second third =
+      same_added a d (λ x y bit. (IsTable x y bit ⊎ IsLatch x y bit) ⊎ IsReset x y bit) (IsSiteOne fabric resets site cell)
+      (λ x y bit either. elim either [ inl front ↦ elim front [ inl o ↦ from_table x y bit o | inr o ↦ from_latch x y bit o ] | inr o ↦ from_reset x y bit o ])
+      into_parts
+      (both_added a c d (λ x y bit. IsTable x y bit ⊎ IsLatch x y bit) IsReset (both_added a b c IsTable IsLatch first second) third)
 
 -- ---- choices
 

@@ -12,6 +12,7 @@ use Rattle.fab_netlist.specs.Packed.{PlainCell, PlainPacked}
 use Rattle.fab_implementation.specs.Plain.{Edge, PlainImplementation}
 use Rattle.fab_fasm.specs.declared.feature.Feature.{Feature}
 use Rattle.fab_fasm.specs.Printing.{line_by_line}
+use Rattle.fab_use_defs.specs.Configuring.{cell_bit}
 use Rattle.fab_use_defs.specs.fab_fabric_text_defs_Places.{PlacedTile, placed_tiles}
 
 abbrev pub feature_of : (name : List ℕ) → (high low value : ℕ) → Feature
@@ -30,15 +31,19 @@ cell_on packed lines site = option_and_then (λ line. slice_get packed.cells lin
 abbrev pub field_name : Site → (field : List ℕ) → List ℕ
 field_name site field = site_name site.x site.y site.bel ++ codes "." ++ field
 
--- the table of a cell, also where it is all 0, and FF where the cell has a latch
-abbrev pub cell_features : Site → Option PlainCell → List Feature
-cell_features site None = []
-cell_features site (Some cell) =
+-- a bit of a BEL where it is 1
+abbrev pub bit_features : Site → (field : List ℕ) → Bool → List Feature
+bit_features site field bit = if bit then feature_of (field_name site field) 0 0 1 ∷ [] else []
+
+-- the table of a cell, also where it is all 0, FF where the cell has a latch, and SET_NORESET where a reset loads 1
+abbrev pub cell_features : (resets : Bool) → Site → Option PlainCell → List Feature
+cell_features resets site None = []
+cell_features resets site (Some cell) =
     feature_of (field_name site (codes "INIT")) 15 0 cell.table
-    ∷ (if is_some cell.latch then feature_of (field_name site (codes "FF")) 0 0 1 ∷ [] else [])
+    ∷ (bit_features site (codes "FF") (is_some cell.latch) ++ bit_features site (codes "SET_NORESET") (cell_bit resets cell 18))
 
 abbrev pub site_features : PlainPacked → PlainImplementation → Site → List Feature
-site_features packed implementation site = cell_features site (cell_on packed implementation.cells site)
+site_features packed implementation site = cell_features (is_some packed.reset) site (cell_on packed implementation.cells site)
 
 -- ---- the switch matrix
 

@@ -9,7 +9,7 @@ ghost use Rattle.fab_implementation.specs.OnFabric.{HasWires, kind_at};
 ghost use Rattle.fab_legal.specs.Legal.{IsLegal};
 ghost use Rattle.fab_model.specs.Tiles.{bits_before};
 ghost use Rattle.fab_use_defs.specs.fab_gen_tile_Words.{IsNamed};
-ghost use Rattle.fab_use_defs.specs.Configuring.{Configures};
+ghost use Rattle.fab_use_defs.specs.Configuring.{Configures, cell_bit};
 ghost use Rattle.fab_features.specs.Naming.{HasPrefixes};
 ghost use Rattle.fab_features.specs.Features.{IsBitMapOf};
 ghost use Rattle.fab_features.specs.Design.{design_features};
@@ -29,6 +29,9 @@ use std::alloc::Global;
 // How many bits of a LUT4c are its table. The bit behind them selects the flip-flop.
 const TABLE_BITS: u32 = 16;
 
+// The bit of a LUT4c that a reset loads.
+const RESET_BIT: u32 = 18;
+
 /// The first configuration bit of a BEL of a tile.
 pub fn first_bit(tile: &TileType, bel: usize) -> u32
     requires few { length tile.now.bels ≤ 26 }
@@ -46,13 +49,30 @@ fn latch_value(cell: &Cell) -> u128
     u128::from(cell.latch.is_some())
 }
 
-// Sets the bits of a cell that are 1.
-fn set_cell(fabric: &Fabric, bits: &mut Bits, matrices: &[Matrix], site: Site, cell: &Cell)
+/// Whether a reset loads 1 into the flip-flop of a cell, in a design that has a reset port or not.
+pub fn loads_high(resets: bool, cell: &Cell) -> bool
+    ensures { result ≡ cell_bit resets cell.now 18 }
+{
+    match cell.latch {
+        Some(init) => resets && init == 1,
+        None => false,
+    }
+}
+
+// Sets the bits of a cell that are 1, in a design that has a reset port or not.
+fn set_cell(
+    fabric: &Fabric,
+    bits: &mut Bits,
+    matrices: &[Matrix],
+    site: Site,
+    cell: &Cell,
+    resets: bool,
+)
     requires are { AreBitsOf fabric.now bits.old }
     requires matrices { AreMatricesOf fabric.now.types matrices.now }
     requires of_kind { kind_at fabric.now site ≡ Some kinds.Lut4c }
     ensures are { AreBitsOf fabric.now bits.new }
-    ensures adds { Adds (plain_bits bits.old) (plain_bits bits.new) (IsSiteOne fabric.now site cell.now) }
+    ensures adds { Adds (plain_bits bits.old) (plain_bits bits.new) (IsSiteOne fabric.now resets site cell.now) }
 {
     let Some((tile, _)) = tile_with(fabric, matrices, site.x, site.y) else {
         unreachable!()
@@ -72,8 +92,16 @@ fn set_cell(fabric: &Fabric, bits: &mut Bits, matrices: &[Matrix], site: Site, c
         width: 1,
         value: latch_value(cell),
     };
+    let reset = Ones {
+        x: site.x,
+        y: site.y,
+        low: low + RESET_BIT,
+        width: 1,
+        value: u128::from(loads_high(resets, cell)),
+    };
     set_ones(fabric, bits, table);
     set_ones(fabric, bits, flip_flop);
+    set_ones(fabric, bits, reset);
 }
 
 // Sets the bits of all cells that are 1.
@@ -97,6 +125,7 @@ fn set_cells(
             matrices,
             line.1,
             &packed.cells[line.0 as usize],
+            packed.reset.is_some(),
         );
     }
 }

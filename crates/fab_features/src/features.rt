@@ -1,6 +1,6 @@
 //! The features of a legal implementation.
 
-ghost use Rattle.std.specs.Prelude.{◌≡◌, ◌<◌, ◌+◌, ◌-◌, ◌++◌, ◌*◌, ◌≤◌, [], ◌∷◌, List, All, IfOk, OnOk, Some, length, map, codes, nat_eq, option_map, option_copied, slice_get, slice_index_or};
+ghost use Rattle.std.specs.Prelude.{◌≡◌, ◌<◌, ◌+◌, ◌-◌, ◌++◌, ◌*◌, ◌≤◌, [], ◌∷◌, List, All, IfOk, OnOk, Some, is_some, length, map, codes, nat_eq, option_map, option_copied, slice_get, slice_index_or};
 ghost use Rattle.std.specs.List.{flat_map, filter_map};
 ghost use Rattle.fab_model.specs.Tiles.{IsTile, counted, matrix_names};
 ghost use Rattle.fab_model.specs.Grid.{tile_at};
@@ -13,10 +13,11 @@ ghost use Rattle.fab_legal.specs.Legal.{IsLegal};
 ghost use Rattle.fab_use_defs.specs.fab_fabric_text_defs_Places.{column_tiles, placed_tiles};
 ghost use Rattle.fab_features.specs.inner.Matrices.{AreMatricesOf, IsMatrixOf};
 ghost use Rattle.fab_features.specs.inner.Adding.{IsCellLine};
-ghost use Rattle.fab_features.specs.Design.{cell_features, cell_on, design_features, edge_into, feature_of, field_name, output_feature, site_features, tile_features};
+ghost use Rattle.fab_features.specs.Design.{bit_features, cell_features, cell_on, design_features, edge_into, feature_of, field_name, output_feature, site_features, tile_features};
 ghost use Rattle.fab_features.specs.inner.Listing.{Pushes, HoldsFirsts, IsNear, IsInGrid, edge_key, line_key, placed_tile, site_at};
 ghost use Rattle.fab_features.specs.inner.Lookups.{IsLookup};
 
+use crate::design::loads_high;
 use crate::matrices::{Matrix, matrices_of, tile_with};
 use fab_base::{Memory, Name};
 use fab_fabric::{Fabric, Site, Wire, place_name};
@@ -230,22 +231,46 @@ pub fn push_line(
     Ok(())
 }
 
-// Adds the lines of a cell: its table, and that it has a flip-flop where it has a latch.
+// Adds the line of a bit of a BEL, where it is 1.
+fn push_bit(
+    features: &mut Vec<Feature>,
+    alloc: Global,
+    site: Site,
+    field: &[u8],
+    bit: bool,
+) -> Result<(), Memory>
+    requires { site.bel < 26 }
+    ensures { OnOk result (Pushes features.old.items features.new.items (bit_features site field.now bit)) }
+{
+    if bit {
+        let name = field_name(alloc, site, field)?;
+        push_line(features, name, 0, 1)?;
+    }
+    Ok(())
+}
+
+// Adds the lines of a cell: its table, that it has a flip-flop where it has a latch, and that a reset loads 1 where it does so, in
+// a design that has a reset port or not.
 fn push_cell(
     features: &mut Vec<Feature>,
     alloc: Global,
     site: Site,
     cell: &Cell,
+    resets: bool,
 ) -> Result<(), Memory>
     requires { site.bel < 26 }
-    ensures { OnOk result (Pushes features.old.items features.new.items (cell_features site (Some cell.now))) }
+    ensures { OnOk result (Pushes features.old.items features.new.items (cell_features resets site (Some cell.now))) }
 {
     let table = field_name(alloc, site, b"INIT")?;
     push_line(features, table, 15, u128::from(cell.table))?;
-    if cell.latch.is_some() {
-        let flip_flop = field_name(alloc, site, b"FF")?;
-        push_line(features, flip_flop, 0, 1)?;
-    }
+    push_bit(features, alloc, site, b"FF", cell.latch.is_some())?;
+    push_bit(
+        features,
+        alloc,
+        site,
+        b"SET_NORESET",
+        loads_high(resets, cell),
+    )?;
     Ok(())
 }
 
@@ -264,10 +289,12 @@ fn push_bels(
     requires bels { bels ≤ 26 }
     ensures { OnOk result (Pushes features.old.items features.new.items (flat_map (λ bel. site_features lookup.now.packed.now lookup.now.implementation.now (site_at x y bel)) (counted bels (λ bel. bel)))) }
 {
+    let packed = lookup.packed;
+    let resets = packed.reset.is_some();
     for bel in 0..bels {
         let site = Site { x, y, bel };
         if let Some(cell) = lookup.cell_on(site) {
-            push_cell(features, alloc, site, cell)?;
+            push_cell(features, alloc, site, cell, resets)?;
         }
     }
     Ok(())
@@ -364,7 +391,7 @@ fn push_columns(
 }
 
 /// The features of a legal implementation, in the order of tiles by column and row: of each BEL with a cell by letter `INIT`, also
-/// where it is all 0, and `FF` where the cell has a latch; then of each output of the switch matrix that an edge enters, in the order of the
+/// where it is all 0, `FF` where the cell has a latch and `SET_NORESET` where a reset loads 1 into it; then of each output of the switch matrix that an edge enters, in the order of the
 /// first pairs, its input, also where it has no other. Lines are numbered from 1.
 ///
 /// Want of memory is also the answer where a line number does not fit 32 bits.

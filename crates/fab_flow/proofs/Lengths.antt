@@ -1,4 +1,4 @@
--- How long the printed text of a fabric is with its loader.
+-- How long the printed text of a fabric is with its loaders.
 use Rattle.std.proofs.Common.{◌≡◌, ◌+◌, ◌∙◌, ℕ, List, [], ◌∷◌, ◌++◌, length, map, sym, ap, arith, length-append}
 use Rattle.std.specs.List.{flat_map}
 use Rattle.fab_syntax.specs.Plain.{PlainModule}
@@ -19,25 +19,25 @@ length_of_both (m ∷ ms) ns =
     let rest = length_of_both ms ns in
     omega (arith, whole, first, rest)
 
--- a module behind two lists and before a third
-length_between : (ks ms ns : List PlainModule) (m : PlainModule)
-    → length (text_bytes (ks ++ (ms ++ m ∷ ns))) ≡ length (text_bytes (ks ++ (ms ++ ns))) + length (text_bytes (m ∷ []))
-length_between ks ms ns m =
-    let whole = length_of_both ks (ms ++ m ∷ ns) in
+-- modules behind two lists and before another
+length_between : (ks ms ls ns : List PlainModule) → length (text_bytes (ks ++ (ms ++ (ls ++ ns)))) ≡ length (text_bytes (ks ++ (ms ++ ns))) + length (text_bytes ls)
+length_between ks ms ls ns =
+    let whole = length_of_both ks (ms ++ (ls ++ ns)) in
     let without = length_of_both ks (ms ++ ns) in
-    let behind = length_of_both ms (m ∷ ns) in
+    let behind = length_of_both ms (ls ++ ns) in
     let rest = length_of_both ms ns in
-    let here = length_of_both (m ∷ []) ns in
+    let here = length_of_both ls ns in
     omega (arith, whole, without, behind, rest, here)
 
--- a text of a fabric and its loader
-length_with_loader : (fabric : PlainFabric) (loader : PlainModule) → length (text_bytes (fabric_text fabric loader)) ≡ text_length fabric + length (text_bytes (loader ∷ []))
-length_with_loader fabric loader = length_between (map module_of_kind (used_kinds fabric)) (flat_map tile_modules (standing_types fabric)) (top_module fabric ∷ []) loader
+-- a text of a fabric and its loaders
+length_with_loaders : (fabric : PlainFabric) (loaders : List PlainModule) → length (text_bytes (fabric_text fabric loaders)) ≡ text_length fabric + length (text_bytes loaders)
+length_with_loaders fabric loaders =
+    length_between (map module_of_kind (used_kinds fabric)) (flat_map tile_modules (standing_types fabric)) loaders (top_module fabric ∷ [])
 
 -- the text that is written, and its loader alone
 pub whole_length : (fabric : PlainFabric) (text alone : List ℕ) (loader : PlainModule) → text ≡ text_bytes (generated_text fabric)
     → loader ≡ loader_module fabric.rows → alone ≡ text_bytes (loader ∷ []) → length text ≡ text_length fabric + length alone
 whole_length fabric text alone loader whole is printed =
     ap length whole
-    ∙ length_with_loader fabric (loader_module fabric.rows)
+    ∙ length_with_loaders fabric (loader_module fabric.rows ∷ [])
     ∙ ap (λ bytes. text_length fabric + length bytes) (sym (printed ∙ ap (λ m. text_bytes (m ∷ [])) is))

@@ -1,6 +1,5 @@
 -- What the command `generate` does to the files, and why it ends otherwise.
-use Rattle.std.specs.Prelude.{◌≡◌, ◌≤◌, ◌<◌, ℕ, List, [], ◌∷◌, ◌++◌, length, map, Option}
-use Rattle.std.specs.List.{flat_map}
+use Rattle.std.specs.Prelude.{◌≡◌, ◌≤◌, ◌<◌, ℕ, List, [], ◌∷◌, length, Option}
 use Rattle.fab_base.specs.declared.TheConstants.{MAX_FILE_BYTES}
 use Rattle.fab_base.specs.Reading.{fault_at}
 use Rattle.fab_base.specs.declared.fault.Fault.{Fault}
@@ -13,9 +12,7 @@ use Rattle.fab_model.specs.Grid.{PlainFabric}
 use Rattle.fab_files.specs.Files.{Event}
 use Rattle.fab_files.specs.Stages.{MeetsBehind, MeetsLast}
 use Rattle.fab_read.specs.Fabrics.{SpellsFabric, MeetsFabric}
-use Rattle.fab_prim.specs.Modules.{module_of_kind}
-use Rattle.fab_assemble.specs.fab_fabric_text_defs_Top.{top_module}
-use Rattle.fab_assemble.specs.fab_fabric_text_defs_Text.{used_kinds, standing_types, tile_modules}
+use Rattle.fab_assemble.specs.fab_fabric_text_defs_Text.{fabric_text}
 use Rattle.fab_assemble.specs.fab_drives_laws_Drives.{ShowsDrives}
 use Rattle.fab_assemble.specs.fab_text_loads_laws_Loads.{LoadsConfigurations}
 use Rattle.fab_assemble.specs.fab_fabric_text_defs_Texts.{IsFabricText}
@@ -25,9 +22,9 @@ use Rattle.fab_outputs.specs.Ending.{HasCause}
 
 -- ---- the text of a fabric
 
--- its modules but the loader: primitives, tiles and the top
+-- its modules but loaders: primitives, tiles and the top
 abbrev pub unloaded_text : PlainFabric → List PlainModule
-unloaded_text fabric = map module_of_kind (used_kinds fabric) ++ (flat_map tile_modules (standing_types fabric) ++ top_module fabric ∷ [])
+unloaded_text fabric = fabric_text fabric []
 
 -- how many bytes these have, printed
 abbrev pub text_length : PlainFabric → ℕ

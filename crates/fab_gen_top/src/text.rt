@@ -9,12 +9,11 @@ ghost use Rattle.fab_model.specs.Tiles.{tile_bits};
 ghost use Rattle.fab_fabric.specs.Fabric.{IsFabric, AreTiles};
 ghost use Rattle.fab_gen_tile.specs.TileModule.{matrix_output_names};
 ghost use Rattle.fab_gen_tile.specs.Words.{IsNamed};
-ghost use Rattle.fab_gen_loader.specs.Expressions.{loader_module};
 ghost use Rattle.fab_fabric.specs.Sites.{same_kind};
-ghost use Rattle.fab_text_loads_laws.specs.fab_fabric_text_defs_Text.{standing_types, used_kinds, matrix_modules, config_modules, tile_modules, fabric_text};
+ghost use Rattle.fab_text_loads_laws.specs.fab_fabric_text_defs_Text.{standing_types, used_kinds, matrix_modules, config_modules, tile_modules};
 ghost use Rattle.fab_drives_laws.specs.Drives.{ShowsDrives};
 ghost use Rattle.fab_text_loads_laws.specs.Loads.{LoadsConfigurations};
-ghost use Rattle.fab_text_loads_laws.specs.fab_fabric_text_defs_Texts.{IsFabricText};
+ghost use Rattle.fab_text_loads_laws.specs.fab_fabric_text_defs_Texts.{generated_text, IsFabricText};
 ghost use Rattle.fab_gen_top.specs.inner.Standing.{type_of, AreStanding};
 
 use crate::top::top_module;
@@ -37,7 +36,7 @@ use std::alloc::Global;
 ///
 /// The time is linear in the wires, ports and pairs. Want of memory is also the answer where numbers of bits or BELs do not fit.
 pub fn generate(alloc: Global, fabric: &Fabric) -> Result<Text, Memory>
-    ensures text { IfOk result (λ text. plain_text text ≡ fabric_text fabric.now (loader_module fabric.now.rows)) }
+    ensures text { IfOk result (λ text. plain_text text ≡ generated_text fabric.now) }
     ensures is_text { IfOk result (λ text. All IsNamed fabric.now.types → IsFabricText fabric.now (plain_text text)) }
     ensures drives { IfOk result (λ text. ShowsDrives fabric.now (plain_text text)) }
     ensures loads { IfOk result (λ text. All IsNamed fabric.now.types → LoadsConfigurations fabric.now (plain_text text)) }

@@ -170,5 +170,5 @@ module _ (fabric : PlainFabric) (is : IsFabric fabric) (all : AreTiles fabric) w
       let end = of_items (Some parts.End) it.cells it.ins it.outs it.trees in
       let read = taken_fine (known fabric) take (λ (k : Known). cut_short k.last) (keeps fabric) rows end (ap (taken take (known fabric [])) spells.lines ∙ lines_taken it rows spells) in
       let without : it ≡ implementation_of end =
-          ap (λ (reset : Option Word). let i : PlainImplementation = record { cells = it.cells; ins = it.ins; outs = it.outs; trees = it.trees; reset = reset } in i) spells.nameable.no_reset in
+      ap (λ (reset : Option Word). let i : PlainImplementation = record { cells = it.cells; ins = it.ins; outs = it.outs; trees = it.trees; reset = reset } in i) spells.nameable.no_reset in
       (record { fine = read.0; ends = ap (λ (k : Known). cut_short k.last) (sym read.1) }, without ∙ ap implementation_of read.1)

@@ -1,6 +1,7 @@
 pub mod Growing
 pub mod Inside
 pub mod Drivers
+pub mod Streams
 pub mod Leading
 pub mod Closing
 pub mod Running

@@ -46,8 +46,8 @@ module _ (netlist : PlainNetlist) where
     pub first_named : (place d : ℕ) → place < length netlist.inputs → OthersBefore place → bytes_eq port (name_of netlist (get_or netlist.inputs place d)) ≡ true → Some place ≡ reset_place netlist port
     first_named place d small others here =
         let first : position_or_len (bytes_eq port) names ≡ place =
-            position_or_len_is (bytes_eq port) names place [] (omega (arith, small, as_many)) (others_before place (omega (arith, small)) others)
-            (λ inside. ap (bytes_eq port) (name_at place d small) ∙ here) in
+        position_or_len_is (bytes_eq port) names place [] (omega (arith, small, as_many)) (others_before place (omega (arith, small)) others)
+        (λ inside. ap (bytes_eq port) (name_at place d small) ∙ here) in
         rw (first, lt-ltb place (length names) (omega (arith, small, as_many))) refl
 
     -- where no input has the name, none is
@@ -55,7 +55,7 @@ module _ (netlist : PlainNetlist) where
     none_named place all others =
         let before = others_before (length netlist.inputs) (omega arith) (λ k below. others k (omega (arith, below, all))) in
         let end : position_or_len (bytes_eq port) names ≡ length names =
-            position_or_len_is (bytes_eq port) names (length names) [] (omega arith) (λ k below. before k (omega (arith, below, as_many))) (λ inside. absurd (omega (arith, inside))) in
+        position_or_len_is (bytes_eq port) names (length names) [] (omega arith) (λ k below. before k (omega (arith, below, as_many))) (λ inside. absurd (omega (arith, inside))) in
         rw (end, le-ltb (length names) (length names) (omega arith)) refl
 
 -- ---- orders and cycles

@@ -27,7 +27,7 @@ use Rattle.fab_legal.specs.WellMade.{IsWellMadePacked, IsWellMadeCell, output_na
 use Rattle.fab_legal.specs.Lines.{sited, IsNew, HaveSites}
 use Rattle.fab_legal.specs.Legal.{ArePlaced}
 use Rattle.fab_legal.specs.Steps.{pin_wire, HasPin}
-use Rattle.fab_legal.specs.Sinks.{Sinks, site_of, input_sinks, latch_sinks, cell_sinks, cells_sinks, input_port_sinks, output_port_sinks, sinks}
+use Rattle.fab_legal.specs.Sinks.{Sinks, reset_id, site_of, input_sinks, latch_sinks, cell_sinks, cells_sinks, input_port_sinks, output_port_sinks, sinks}
 use Rattle.fab_legal.proofs.Bindings.{differ_left, differ_right}
 use Rattle.fab_legal.proofs.Members.{in_either}
 use Rattle.fab_legal.proofs.SinkLaw.{in_flat, known_site}
@@ -159,24 +159,24 @@ module _ (fabric : PlainFabric) where
       (record { pin = pin; above = omega arith; below = omega arith; wire_is = refl }) (input_at site (pin + 1) nets sink here)))
       (inputs_apart site (pin + 1) nets is (omega (arith, few)))
 
-  latch_at : (site : Site) (latch : Option ℕ) (sink : NetId × Wire) → Contains (latch_sinks fabric site latch) sink → IsPinAt site 5 7 sink
-  latch_at site None sink here = absurd (in_none sink here)
-  latch_at site (Some init) sink here = elim (first_or_later (ids.One, pin_wire fabric site 6) ((ids.Zero, pin_wire fabric site 5) ∷ []) sink here) [
+  latch_at : (site : Site) (reset : NetId) (latch : Option ℕ) (sink : NetId × Wire) → Contains (latch_sinks fabric site reset latch) sink → IsPinAt site 5 7 sink
+  latch_at site reset None sink here = absurd (in_none sink here)
+  latch_at site reset (Some init) sink here = elim (first_or_later (ids.One, pin_wire fabric site 6) ((reset, pin_wire fabric site 5) ∷ []) sink here) [
     | inl now ↦ record { pin = 6; above = omega arith; below = omega arith; wire_is = sym (ap (λ (s : NetId × Wire). s.1) now) }
-    | inr later ↦ elim (first_or_later (ids.Zero, pin_wire fabric site 5) [] sink later) [
+    | inr later ↦ elim (first_or_later (reset, pin_wire fabric site 5) [] sink later) [
       | inl last ↦ record { pin = 5; above = omega arith; below = omega arith; wire_is = sym (ap (λ (s : NetId × Wire). s.1) last) }
       | inr none ↦ absurd (in_none sink none)
     ]
   ]
 
-  latch_apart : (site : Site) (latch : Option ℕ) → kind_at fabric site ≡ Some kinds.Lut4c → AllPairs AreApart (latch_sinks fabric site latch)
-  latch_apart site None is = no_pairs AreApart
-  latch_apart site (Some init) is =
+  latch_apart : (site : Site) (reset : NetId) (latch : Option ℕ) → kind_at fabric site ≡ Some kinds.Lut4c → AllPairs AreApart (latch_sinks fabric site reset latch)
+  latch_apart site reset None is = no_pairs AreApart
+  latch_apart site reset (Some init) is =
       let enable : NetId × Wire = (ids.One, pin_wire fabric site 6) in
-      let reset : NetId × Wire = (ids.Zero, pin_wire fabric site 5) in
-      pairs_joined AreApart (enable ∷ []) (reset ∷ []) (one_item enable) (one_item reset) (λ a b first second same.
+      let resets : NetId × Wire = (reset, pin_wire fabric site 5) in
+      pairs_joined AreApart (enable ∷ []) (resets ∷ []) (one_item enable) (one_item resets) (λ a b first second same.
       let left : enable ≡ a = only enable a first in
-      let right : reset ≡ b = only reset b second in
+      let right : resets ≡ b = only resets b second in
       let one = one_pin site site 6 5 (lut_has site 6 is (omega arith)) (lut_has site 5 is (omega arith)) (ap (λ (s : NetId × Wire). s.1) left ∙ same ∙ sym (ap (λ (s : NetId × Wire). s.1) right)) in
       omega (arith, one.1))
     where
@@ -186,48 +186,48 @@ module _ (fabric : PlainFabric) where
       only : (s a : NetId × Wire) → Contains (s ∷ []) a → s ≡ a
       only s a here = elim (first_or_later s [] a here) [ inl same ↦ same | inr none ↦ absurd (in_none a none) ]
 
-  cell_at : (site : Site) (cell : PlainCell) (sink : NetId × Wire) → length cell.inputs ≤ 4 → Contains (cell_sinks fabric site cell) sink → IsPinAt site 0 7 sink
-  cell_at site cell sink few here = elim (in_either (input_sinks fabric site 0 cell.inputs) (latch_sinks fabric site cell.latch) sink here) [
+  cell_at : (site : Site) (reset : NetId) (cell : PlainCell) (sink : NetId × Wire) → length cell.inputs ≤ 4 → Contains (cell_sinks fabric site reset cell) sink → IsPinAt site 0 7 sink
+  cell_at site reset cell sink few here = elim (in_either (input_sinks fabric site 0 cell.inputs) (latch_sinks fabric site reset cell.latch) sink here) [
     | inl input ↦ (
         let at = input_at site 0 cell.inputs sink input in
         record { pin = at.pin; above = omega arith; below = omega (arith, at.below, few); wire_is = at.wire_is })
     | inr latch ↦ (
-        let at = latch_at site cell.latch sink latch in
+        let at = latch_at site reset cell.latch sink latch in
         record { pin = at.pin; above = omega arith; below = at.below; wire_is = at.wire_is })
   ]
 
-  cell_apart : (site : Site) (cell : PlainCell) → kind_at fabric site ≡ Some kinds.Lut4c → length cell.inputs ≤ 4 → AllPairs AreApart (cell_sinks fabric site cell)
-  cell_apart site cell is few =
-      pairs_joined AreApart (input_sinks fabric site 0 cell.inputs) (latch_sinks fabric site cell.latch) (inputs_apart site 0 cell.inputs is (omega (arith, few))) (latch_apart site cell.latch is)
+  cell_apart : (site : Site) (reset : NetId) (cell : PlainCell) → kind_at fabric site ≡ Some kinds.Lut4c → length cell.inputs ≤ 4 → AllPairs AreApart (cell_sinks fabric site reset cell)
+  cell_apart site reset cell is few =
+      pairs_joined AreApart (input_sinks fabric site 0 cell.inputs) (latch_sinks fabric site reset cell.latch) (inputs_apart site 0 cell.inputs is (omega (arith, few))) (latch_apart site reset cell.latch is)
       (λ a b first second.
       let low = input_at site 0 cell.inputs a first in
-      let high = latch_at site cell.latch b second in
+      let high = latch_at site reset cell.latch b second in
       pins_apart kinds.Lut4c 7 lut_has site a b 0 5 7 is (omega arith) (omega arith)
       (record { pin = low.pin; above = omega arith; below = omega (arith, low.below, few); wire_is = low.wire_is }) high)
 
   module _ (site_at : ℕ → Site) (total : ℕ) (luts : (n : ℕ) → n < total → kind_at fabric (site_at n) ≡ Some kinds.Lut4c)
       (differ : (n m : ℕ) → n < m → m < total → site_at n ≡ site_at m → ⊥) where
     -- the sinks of cells from a number on
-    cells_at : (number : ℕ) (cells : List PlainCell) (sink : NetId × Wire) → ((cell : PlainCell) → Contains cells cell → length cell.inputs ≤ 4) → Contains (cells_sinks fabric site_at number cells) sink →
+    cells_at : (reset : NetId) (number : ℕ) (cells : List PlainCell) (sink : NetId × Wire) → ((cell : PlainCell) → Contains cells cell → length cell.inputs ≤ 4) → Contains (cells_sinks fabric site_at reset number cells) sink →
         (n : ℕ) × (number ≤ n) × (n < number + length cells) × IsPinAt (site_at n) 0 7 sink
-    cells_at number [] sink few here = absurd (in_none sink here)
-    cells_at number (cell ∷ cells) sink few here = elim (in_either (cell_sinks fabric (site_at number) cell) (cells_sinks fabric site_at (number + 1) cells) sink here) [
-      | inl now ↦ (number, omega arith, omega arith, cell_at (site_at number) cell sink (few cell (first_in cell cells cell refl)) now)
+    cells_at reset number [] sink few here = absurd (in_none sink here)
+    cells_at reset number (cell ∷ cells) sink few here = elim (in_either (cell_sinks fabric (site_at number) reset cell) (cells_sinks fabric site_at reset (number + 1) cells) sink here) [
+      | inl now ↦ (number, omega arith, omega arith, cell_at (site_at number) reset cell sink (few cell (first_in cell cells cell refl)) now)
       | inr later ↦ (
-          let found = cells_at (number + 1) cells sink (λ c there. few c (later_in cell cells c there)) later in
+          let found = cells_at reset (number + 1) cells sink (λ c there. few c (later_in cell cells c there)) later in
           (found.0, omega (arith, found.1), omega (arith, found.2), found.3))
     ]
 
-    cells_apart : (number : ℕ) (cells : List PlainCell) → number + length cells ≤ total → ((cell : PlainCell) → Contains cells cell → length cell.inputs ≤ 4) → AllPairs AreApart (cells_sinks fabric site_at number cells)
-    cells_apart number [] low few = no_pairs AreApart
-    cells_apart number (cell ∷ cells) low few =
+    cells_apart : (reset : NetId) (number : ℕ) (cells : List PlainCell) → number + length cells ≤ total → ((cell : PlainCell) → Contains cells cell → length cell.inputs ≤ 4) → AllPairs AreApart (cells_sinks fabric site_at reset number cells)
+    cells_apart reset number [] low few = no_pairs AreApart
+    cells_apart reset number (cell ∷ cells) low few =
         let few_here = few cell (first_in cell cells cell refl) in
         let is = luts number (omega (arith, low)) in
-        pairs_joined AreApart (cell_sinks fabric (site_at number) cell) (cells_sinks fabric site_at (number + 1) cells) (cell_apart (site_at number) cell is few_here)
-        (cells_apart (number + 1) cells (omega (arith, low)) (λ c there. few c (later_in cell cells c there)))
+        pairs_joined AreApart (cell_sinks fabric (site_at number) reset cell) (cells_sinks fabric site_at reset (number + 1) cells) (cell_apart (site_at number) reset cell is few_here)
+        (cells_apart reset (number + 1) cells (omega (arith, low)) (λ c there. few c (later_in cell cells c there)))
         (λ a b first second.
-        let one = cell_at (site_at number) cell a few_here first in
-        let other = cells_at (number + 1) cells b (λ c there. few c (later_in cell cells c there)) second in
+        let one = cell_at (site_at number) reset cell a few_here first in
+        let other = cells_at reset (number + 1) cells b (λ c there. few c (later_in cell cells c there)) second in
         sites_apart (site_at number) (site_at other.0) one.pin other.3.pin a b (lut_has (site_at number) one.pin is one.below)
         (lut_has (site_at other.0) other.3.pin (luts other.0 (omega (arith, other.2, low))) other.3.below) one.wire_is other.3.wire_is
         (differ number other.0 (omega (arith, other.1)) (omega (arith, other.2, low))))
@@ -284,7 +284,7 @@ module _ (fabric : PlainFabric) where
     few_inputs cell here = (subst (λ (c : PlainCell). IsWellMadeCell packed c) here.2 (made.cells here.0 cell here.1)).few_inputs
 
     abbrev cell_part : Sinks
-    cell_part = cells_sinks fabric cell_at_site 0 packed.cells
+    cell_part = cells_sinks fabric cell_at_site (reset_id packed.reset) 0 packed.cells
 
     abbrev in_part : Sinks
     in_part = flat_map (input_port_sinks fabric in_site) packed.inputs
@@ -374,9 +374,9 @@ module _ (fabric : PlainFabric) where
 
     pub sinks_apart : AllPairs AreApart (sinks fabric packed placement)
     sinks_apart =
-        pairs_joined AreApart cell_part (in_part ++ out_part) (cells_apart cell_at_site (length packed.cells) luts cells_differ 0 packed.cells (omega arith) few_inputs) ports_sinks_apart
+        pairs_joined AreApart cell_part (in_part ++ out_part) (cells_apart cell_at_site (length packed.cells) luts cells_differ (reset_id packed.reset) 0 packed.cells (omega arith) few_inputs) ports_sinks_apart
         (λ a b first second.
-        let cell = cells_at cell_at_site (length packed.cells) luts cells_differ 0 packed.cells a few_inputs first in
+        let cell = cells_at cell_at_site (length packed.cells) luts cells_differ (reset_id packed.reset) 0 packed.cells a few_inputs first in
         let low : cell.0 < length packed.cells = omega (arith, cell.2) in
         elim (in_either in_part out_part b second) [
           | inl input ↦ (

@@ -48,13 +48,19 @@ ends_upward kept = bytes_eq (slice_index_or kept (length kept - 1) []) (codes ".
 abbrev pub has_removable : (kept : List (List ℕ)) → Bool
 has_removable kept = not (length kept == 0) && not (is_root kept) && not (ends_upward kept)
 
--- Behind the segments that are kept: `.` is dropped, `..` goes with the segment before it where there is one to go, and every other segment stays.
-abbrev pub tidied : (kept more : List (List ℕ)) → List (List ℕ)
-tidied kept [] = kept
-tidied kept (segment ∷ more) =
-    if bytes_eq segment (codes ".") then tidied kept more
-    else if bytes_eq segment (codes "..") && has_removable kept then tidied (without_last kept) more
-    else tidied (kept ++ segment ∷ []) more
+-- An empty segment that would stand first is the root, and a path that does not lead on from the root has none.
+abbrev pub would_be_root : (from_root : Bool) → (kept : List (List ℕ)) → (segment : List ℕ) → Bool
+would_be_root from_root kept segment = not from_root && ((length kept == 0) && (length segment == 0))
+
+-- Behind the segments that are kept: `.` is dropped, `..` goes with the segment before it where there is one to go, and every other segment stays,
+-- but for an empty one that would stand first.
+abbrev pub tidied : (from_root : Bool) → (kept more : List (List ℕ)) → List (List ℕ)
+tidied from_root kept [] = kept
+tidied from_root kept (segment ∷ more) =
+    if bytes_eq segment (codes ".") then tidied from_root kept more
+    else if bytes_eq segment (codes "..") && has_removable kept then tidied from_root (without_last kept) more
+    else if would_be_root from_root kept segment then tidied from_root kept more
+    else tidied from_root (kept ++ segment ∷ []) more
 
 abbrev pub behind_slash : List ℕ → List ℕ
 behind_slash segment = 47 ∷ segment
@@ -64,9 +70,13 @@ abbrev pub slashed : List (List ℕ) → List ℕ
 slashed [] = []
 slashed (first ∷ more) = first ++ flat_map behind_slash more
 
+-- the segments of a path that leads on from a directory
+abbrev pub led_on : (from_root : Bool) → (directory path : List (List ℕ)) → List (List ℕ)
+led_on from_root directory path = tidied from_root (tidied from_root [] directory) path
+
 -- A path from the root is used as it is; any other leads on from the directory of the file that holds it.
 unfoldable pub resolved : (holder path : List ℕ) → List ℕ
-resolved holder path = if begins_at_root path then path else slashed (tidied (tidied [] (directory holder)) (segments path))
+resolved holder path = if begins_at_root path then path else slashed (led_on (begins_at_root holder) (directory holder) (segments path))
 
 -- the name of a file is text, and not empty
 unfoldable pub is_file_name : List ℕ → Bool

@@ -2,7 +2,7 @@
 
 ghost use Rattle.std.specs.Prelude.{◌≡◌, ◌&&◌, codes, IfOk, IfSome, OnOk, map};
 ghost use Rattle.std.specs.Str.{bytes_eq, IsUtf8, is_utf8};
-ghost use Rattle.fab_paths.specs.Paths.{ends_upward, file_of, has_removable, is_file_name, is_root, slashed, resolved, segments, tidied};
+ghost use Rattle.fab_paths.specs.Paths.{begins_at_root, ends_upward, file_of, has_removable, is_file_name, is_root, slashed, resolved, segments, tidied, would_be_root};
 
 use fab_base::{Memory, Name};
 use std::alloc::Global;
@@ -48,9 +48,22 @@ fn leads_upward(kept: &[&[u8]], segment: &[u8]) -> bool
     segment == b"..".as_slice() && has_removable(kept)
 }
 
+fn begins_at_root(path: &[u8]) -> bool
+    ensures { result ≡ begins_at_root path.now }
+{
+    !path.is_empty() && path[0] == b'/'
+}
+
+/// Whether a segment is empty and would stand first, in a path that does not lead on from the root.
+fn would_be_root(from_root: bool, kept: &[&[u8]], segment: &[u8]) -> bool
+    ensures { result ≡ would_be_root from_root (map (λ s. s.now) kept.now) segment.now }
+{
+    !from_root && kept.is_empty() && segment.is_empty()
+}
+
 /// Goes on from the segments that are kept.
-fn tidy<'a>(kept: &mut Vec<&'a [u8]>, more: &[&'a [u8]]) -> Result<(), Memory>
-    ensures { OnOk result (map (λ s. s.now) kept.new.items ≡ tidied (map (λ s. s.now) kept.old.items) (map (λ s. s.now) more.now)) }
+fn tidy<'a>(from_root: bool, kept: &mut Vec<&'a [u8]>, more: &[&'a [u8]]) -> Result<(), Memory>
+    ensures { OnOk result (map (λ s. s.now) kept.new.items ≡ tidied from_root (map (λ s. s.now) kept.old.items) (map (λ s. s.now) more.now)) }
 {
     for segment in more {
         if *segment == b".".as_slice() {
@@ -58,6 +71,9 @@ fn tidy<'a>(kept: &mut Vec<&'a [u8]>, more: &[&'a [u8]]) -> Result<(), Memory>
         }
         if leads_upward(kept, segment) {
             let _ = kept.pop();
+            continue;
+        }
+        if would_be_root(from_root, kept, segment) {
             continue;
         }
         kept.push(segment)?;
@@ -84,14 +100,15 @@ fn slashed(alloc: Global, segments: &[&[u8]]) -> Result<Vec<u8>, Memory>
 fn resolved(alloc: Global, holder: &[u8], path: &[u8]) -> Result<Vec<u8>, Memory>
     ensures { IfOk result (λ file. file.items ≡ resolved holder.now path.now) }
 {
-    if !path.is_empty() && path[0] == b'/' {
+    if begins_at_root(path) {
         return Ok(Vec::from_slice(alloc, path)?);
     }
+    let from_root = begins_at_root(holder);
     let before = segments(alloc, holder)?;
     let (directory, _) = before.split_at(before.len().saturating_sub(1));
     let mut kept = Vec::new(alloc);
-    tidy(&mut kept, directory)?;
-    tidy(&mut kept, &segments(alloc, path)?)?;
+    tidy(from_root, &mut kept, directory)?;
+    tidy(from_root, &mut kept, &segments(alloc, path)?)?;
     slashed(alloc, &kept)
 }
 
@@ -109,8 +126,8 @@ fn is_file_name(name: &[u8]) -> bool
 }
 
 /// The file that a path means which stands in the file `holder`: a path from the root itself, and else the one that leads on from
-/// the directory of `holder`, where `.` is dropped and `..` goes with the segment before it. It is none where the path is not
-/// UTF-8, or is empty as it is written or then. A file's name that is given out is UTF-8.
+/// the directory of `holder`, where `.` is dropped and `..` goes with the segment before it. A path that leads on from no root stays
+/// relative. It is none where the path is not UTF-8, or is empty as it is written or then. A file's name that is given out is UTF-8.
 pub fn resolve(alloc: Global, holder: &Name, path: &[u8]) -> Result<Option<Name>, Memory>
     ensures file { IfOk result (λ found. found ≡ file_of holder.now path.now) }
     ensures text { IfOk result (λ found. IfSome found IsUtf8) }

@@ -363,6 +363,7 @@ module _ (fabric : PlainFabric) (packed : PlainPacked) (fixed : List Pad) (numbe
     cells = cells_named packed Sites numbers;
     ins = ins_named packed Sites numbers;
     outs = outs_named packed Sites numbers;
+    reset = refl;
     optimal = optimal;
     low = low;
   }

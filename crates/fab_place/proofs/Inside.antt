@@ -1,5 +1,5 @@
 -- The pins of a well-made design are on nets and of items that there are.
-use Rattle.std.proofs.Common.{ℕ, ◌+◌, ◌<◌, ◌≤◌, ◌++◌, List, [], ◌∷◌, length, get_or, zero, suc, refl, sym, ◌∙◌, ap, arith}
+use Rattle.std.proofs.Common.{◌≡◌, ℕ, ◌+◌, ◌<◌, ◌≤◌, ◌++◌, List, [], ◌∷◌, length, get_or, zero, suc, Bool, true, false, cond, Option, Some, None, is_some, refl, sym, ◌∙◌, ap, arith}
 use Rattle.std.proofs.lemmas.List.{get_or_default}
 use Rattle.std.proofs.lemmas.List.Elements.{All-append, All-contains}
 use Rattle.std.proofs.lemmas.List.FromFn.{length-enumerate_from, get_or-enumerate_from}
@@ -9,8 +9,9 @@ use Rattle.fab_netlist.specs.declared.net_id.NetId.{NetId}
 use Rattle.fab_netlist.specs.declared.net_id.NetId.TheVariants as ids
 use Rattle.fab_netlist.specs.Packed.{PlainCell, PlainPacked}
 use Rattle.fab_ways_laws.specs.fab_legal_WellMade.{IsNetId, IsWellMadeCell, IsWellMadePacked}
+use Rattle.fab_ways_laws.specs.fab_legal_Sinks.{reset_id}
 use Rattle.fab_place.specs.declared.nets.Pin.{Pin}
-use Rattle.fab_place.specs.Pins.{IsNear, pin, pin_on, net_total, item_total, input_pins, cell_pins, reading_pins, output_pins, pins}
+use Rattle.fab_place.specs.Pins.{IsNear, pin, pin_on, net_total, item_total, input_pins, cell_pins, reading_pins, reset_pins, output_pins, pins}
 
 -- ---- what holds of the members of lists
 
@@ -45,12 +46,20 @@ near_net packed ids.One few few_cells is = is
 near_net packed (ids.In number) few few_cells is = omega (arith, few, is)
 near_net packed (ids.Cell number) few few_cells is = omega (arith, few_cells, is)
 
+-- the net that resets is one of the design
+pub reset_is_net : (packed : PlainPacked) (reset : Option ℕ) → ((place : ℕ) → reset ≡ Some place → place < length packed.inputs) → IsNetId packed (reset_id reset)
+reset_is_net packed None below = tt
+reset_is_net packed (Some place) below = below place refl
+
 module _ (packed : PlainPacked) (made : IsWellMadePacked packed) where
   few_inputs : length packed.inputs ≤ 16384
   few_inputs = omega (arith, made.few_ports)
 
   pub near_readings : All (λ (cell : PlainCell). All IsNear cell.inputs) packed.cells
   near_readings k d low = λ m e within. near_net packed (get_or (get_or packed.cells k d).inputs m e) few_inputs made.few_cells ((made.cells k d low).nets m e within)
+
+  pub near_reset : IsNear (reset_id packed.reset)
+  near_reset = near_net packed (reset_id packed.reset) few_inputs made.few_cells (reset_is_net packed packed.reset made.reset_below)
 
   pub near_outputs : All (λ (output : List ℕ × NetId). IsNear output.1) packed.outputs
   near_outputs k d low = near_net packed (get_or packed.outputs k d).1 few_inputs made.few_cells (made.nets k d low)
@@ -81,6 +90,16 @@ module _ (packed : PlainPacked) (made : IsWellMadePacked packed) where
       all_pieces IsInside (pin_on (length packed.inputs) cell.0) cell.1.inputs
       (λ net among. on_inside cell.0 net (All-contains (IsNetId packed) cell.1.inputs net right.nets among) (omega (arith, found.0))))
 
+  latch_inside : (latch : Bool) (pins : List Pin) → All IsInside pins → All IsInside (cond latch pins [])
+  latch_inside true pins inside = inside
+  latch_inside false pins inside = λ k d low. absurd (omega (arith, low))
+
+  resets_inside : All IsInside (reset_pins (length packed.inputs) (reset_id packed.reset) packed.cells)
+  resets_inside = all_pieces IsInside (λ (cell : ℕ × PlainCell). cond (is_some cell.1.latch) (pin_on (length packed.inputs) cell.0 (reset_id packed.reset)) []) (enumerate_from 0 packed.cells)
+      (λ cell h.
+      latch_inside (is_some cell.1.latch) (pin_on (length packed.inputs) cell.0 (reset_id packed.reset))
+      (on_inside cell.0 (reset_id packed.reset) (reset_is_net packed packed.reset made.reset_below) (omega (arith, (numbered_in packed.cells cell h).0))))
+
   outputs_inside : All IsInside (output_pins (length packed.inputs) (length packed.cells + length packed.inputs) packed.outputs)
   outputs_inside = all_pieces IsInside (λ (output : ℕ × (List ℕ × NetId)). pin_on (length packed.inputs) ((length packed.cells + length packed.inputs) + output.0) output.1.1) (enumerate_from 0 packed.outputs)
       (λ output h.
@@ -92,6 +111,8 @@ module _ (packed : PlainPacked) (made : IsWellMadePacked packed) where
       let inputs = input_pins (length packed.inputs) (length packed.cells) in
       let cells = cell_pins (length packed.inputs) (length packed.cells) in
       let readings = reading_pins (length packed.inputs) packed.cells in
+      let resets = reset_pins (length packed.inputs) (reset_id packed.reset) packed.cells in
       let outputs = output_pins (length packed.inputs) (length packed.cells + length packed.inputs) packed.outputs in
-      All-append IsInside inputs (cells ++ (readings ++ outputs)) inputs_inside
-      (All-append IsInside cells (readings ++ outputs) cells_inside (All-append IsInside readings outputs readings_inside outputs_inside))
+      All-append IsInside inputs (cells ++ (readings ++ (resets ++ outputs))) inputs_inside
+      (All-append IsInside cells (readings ++ (resets ++ outputs)) cells_inside
+      (All-append IsInside readings (resets ++ outputs) readings_inside (All-append IsInside resets outputs resets_inside outputs_inside)))

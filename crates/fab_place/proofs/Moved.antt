@@ -3,7 +3,7 @@ use Rattle.std.proofs.Common.{◌≡◌, ℕ, ◌+◌, ◌<◌, ◌≤◌, List,
 use Rattle.fab_model.specs.Tiles.{counted}
 use Rattle.fab_fabric.specs.declared.wire.Site.{Site}
 use Rattle.fab_netlist.specs.Packed.{PlainPacked}
-use Rattle.fab_implementation.specs.Plain.{Pad, PlainImplementation}
+use Rattle.fab_implementation.specs.Plain.{Pad, PlainImplementation, reset_name}
 use Rattle.fab_ways_laws.specs.fab_legal_WellMade.{output_ports}
 use Rattle.fab_ways_laws.specs.Placing.{moved}
 use Rattle.fab_place.specs.Pins.{item_total}
@@ -45,14 +45,14 @@ module _ (packed : PlainPacked) (all : List Site) (numbers other : List ℕ) (to
       ∙ sym (outs_counted all other (Cells + Ins) packed.outputs)
 
   abbrev pub all_to : PlainImplementation → PlainImplementation
-  all_to placement = record { cells = moved to placement.cells; ins = moved to placement.ins; outs = moved to placement.outs; trees = placement.trees }
+  all_to placement = record { cells = moved to placement.cells; ins = moved to placement.ins; outs = moved to placement.outs; trees = placement.trees; reset = placement.reset }
 
   pub all_moved : all_to (standing packed all numbers) ≡ standing packed all other
   all_moved =
       let now = standing packed all numbers in
       let later = standing packed all other in
-      let first : all_to now ≡ record { cells = later.cells; ins = moved to now.ins; outs = moved to now.outs; trees = [] } =
-      ap (λ (cells : List (ℕ × Site)). record { cells = cells; ins = moved to now.ins; outs = moved to now.outs; trees = [] }) cells_moved in
-      let second : ◌≡◌ {A = PlainImplementation} (record { cells = later.cells; ins = moved to now.ins; outs = moved to now.outs; trees = [] }) (record { cells = later.cells; ins = later.ins; outs = moved to now.outs; trees = [] }) =
-      ap (λ (ins : List Pad). record { cells = later.cells; ins = ins; outs = moved to now.outs; trees = [] }) ins_moved in
-      first ∙ second ∙ ap (λ (outs : List Pad). record { cells = later.cells; ins = later.ins; outs = outs; trees = [] }) outs_moved
+      let first : all_to now ≡ record { cells = later.cells; ins = moved to now.ins; outs = moved to now.outs; trees = []; reset = reset_name packed } =
+      ap (λ (cells : List (ℕ × Site)). record { cells = cells; ins = moved to now.ins; outs = moved to now.outs; trees = []; reset = reset_name packed }) cells_moved in
+      let second : ◌≡◌ {A = PlainImplementation} (record { cells = later.cells; ins = moved to now.ins; outs = moved to now.outs; trees = []; reset = reset_name packed }) (record { cells = later.cells; ins = later.ins; outs = moved to now.outs; trees = []; reset = reset_name packed }) =
+      ap (λ (ins : List Pad). record { cells = later.cells; ins = ins; outs = moved to now.outs; trees = []; reset = reset_name packed }) ins_moved in
+      first ∙ second ∙ ap (λ (outs : List Pad). record { cells = later.cells; ins = later.ins; outs = outs; trees = []; reset = reset_name packed }) outs_moved

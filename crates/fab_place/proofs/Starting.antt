@@ -12,7 +12,7 @@ use Rattle.fab_model.specs.Grid.{PlainFabric}
 use Rattle.fab_fabric.specs.Fabric.{IsFabric}
 use Rattle.fab_fabric.specs.declared.wire.Site.{Site}
 use Rattle.fab_netlist.specs.Packed.{PlainPacked}
-use Rattle.fab_implementation.specs.Plain.{Pad, PlainImplementation}
+use Rattle.fab_implementation.specs.Plain.{Pad, PlainImplementation, reset_name}
 use Rattle.fab_ways_laws.specs.fab_legal_WellMade.{output_name, output_ports, ports}
 use Rattle.fab_ways_laws.proofs.fab_legal_Members.{from_mapped}
 use Rattle.fab_fabric.specs.Sites.{sites_of_kind}
@@ -202,8 +202,8 @@ module _ (fabric : PlainFabric) (packed : PlainPacked) (fixed : List Pad) (const
       let ins : now.ins ≡ take (length packed.inputs) lines = sym (ap (take (length packed.inputs)) lines_in_order ∙ take_at now.ins now.outs (length packed.inputs) ins_length) in
       let outs : now.outs ≡ drop (length packed.inputs) lines = sym (ap (drop (length packed.inputs)) lines_in_order ∙ drop_at now.ins now.outs (length packed.inputs) ins_length) in
       let ordered = placement_in_order fabric packed fixed in
-      let first : ◌≡◌ {A = PlainImplementation} now (record { cells = ordered.cells; ins = now.ins; outs = now.outs; trees = [] }) =
-      ap (λ (cells : List (ℕ × Site)). record { cells = cells; ins = now.ins; outs = now.outs; trees = [] }) cells_in_order in
-      let second : ◌≡◌ {A = PlainImplementation} (record { cells = ordered.cells; ins = now.ins; outs = now.outs; trees = [] }) (record { cells = ordered.cells; ins = ordered.ins; outs = now.outs; trees = [] }) =
-      ap (λ (lines : List Pad). record { cells = ordered.cells; ins = lines; outs = now.outs; trees = [] }) ins in
-      first ∙ second ∙ ap (λ (lines : List Pad). record { cells = ordered.cells; ins = ordered.ins; outs = lines; trees = [] }) outs
+      let first : ◌≡◌ {A = PlainImplementation} now (record { cells = ordered.cells; ins = now.ins; outs = now.outs; trees = []; reset = reset_name packed }) =
+      ap (λ (cells : List (ℕ × Site)). record { cells = cells; ins = now.ins; outs = now.outs; trees = []; reset = reset_name packed }) cells_in_order in
+      let second : ◌≡◌ {A = PlainImplementation} (record { cells = ordered.cells; ins = now.ins; outs = now.outs; trees = []; reset = reset_name packed }) (record { cells = ordered.cells; ins = ordered.ins; outs = now.outs; trees = []; reset = reset_name packed }) =
+      ap (λ (lines : List Pad). record { cells = ordered.cells; ins = lines; outs = now.outs; trees = []; reset = reset_name packed }) ins in
+      first ∙ second ∙ ap (λ (lines : List Pad). record { cells = ordered.cells; ins = ordered.ins; outs = lines; trees = []; reset = reset_name packed }) outs

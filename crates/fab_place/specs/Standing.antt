@@ -6,7 +6,7 @@ use Rattle.fab_model.specs.Tiles.{counted}
 use Rattle.fab_fabric.specs.declared.wire.Site.{Site}
 use Rattle.fab_netlist.specs.declared.net_id.NetId.{NetId}
 use Rattle.fab_netlist.specs.Packed.{PlainPacked}
-use Rattle.fab_implementation.specs.Plain.{Pad, PlainImplementation}
+use Rattle.fab_implementation.specs.Plain.{Pad, PlainImplementation, reset_name}
 use Rattle.fab_ways_laws.specs.Placing.{no_site}
 
 -- the site of an item
@@ -29,4 +29,5 @@ standing packed sites numbers = record {
   ins = input_lines sites numbers (length packed.cells) packed.inputs;
   outs = output_lines sites numbers (length packed.cells + length packed.inputs) packed.outputs;
   trees = [];
+  reset = reset_name packed;
 }

@@ -7,11 +7,12 @@ ghost use Rattle.fab_ways_laws.specs.fab_legal_WellMade.{IsWellMadePacked};
 ghost use Rattle.fab_ways_laws.specs.fab_legal_Legal.{ArePlaced};
 ghost use Rattle.fab_ways_laws.specs.fab_legal_Lines.{named};
 ghost use Rattle.fab_ways_laws.specs.fab_legal_Sinks.{site_of};
-ghost use Rattle.fab_ways_laws.specs.Placing.{same_net, half_perimeter, cell_site, reader_sites, cost};
+ghost use Rattle.fab_ways_laws.specs.Placing.{same_net, half_perimeter, cell_site, reads_net, reader_sites, cost};
 ghost use Rattle.fab_place.specs.inner.Boxes.{included, NamesOnce};
 ghost use Rattle.fab_netlist.specs.WellMade.{most_nets};
 
 use crate::bounding::BoundingBox;
+use crate::pins::reset_net;
 use fab_base::Name;
 use fab_fabric::{Fabric, Site};
 use fab_implementation::Implementation;
@@ -68,19 +69,26 @@ fn half_of(packed: &Packed, placed: &Implementation, source: Site, net: NetId) -
     ensures small { result < 8589934592 }
 {
     let mut area = BoundingBox::around(source);
-    add_cells(&mut area, &packed.cells, &placed.cells, net);
+    let reset = reset_net(packed.reset);
+    add_cells(&mut area, &packed.cells, &placed.cells, reset, net);
     add_outputs(&mut area, &packed.outputs, &placed.outs, net);
     area.half()
 }
 
 /// Makes a box so large that it has the cells that read a net.
-fn add_cells(area: &mut BoundingBox, cells: &[Cell], lines: &[(u32, Site)], net: NetId)
+fn add_cells(
+    area: &mut BoundingBox,
+    cells: &[Cell],
+    lines: &[(u32, Site)],
+    reset: NetId,
+    net: NetId,
+)
     requires { AllPairs (λ first second. first ≢ second) (named lines.now) }
     ensures { area.new ≡ fold included area.old
-        (map (λ cell. site_of nat_eq lines.now cell.0) (filter (λ cell. list_any (same_net net) cell.1.inputs) (enumerate_from 0 cells.now))) }
+        (map (λ cell. site_of nat_eq lines.now cell.0) (filter (λ cell. reads_net reset net cell.1) (enumerate_from 0 cells.now))) }
 {
     for (number, cell) in cells.iter().enumerate() {
-        if !has_net(&cell.inputs, net) {
+        if !reads_net(cell, reset, net) {
             continue;
         }
         area.include(cell_site(lines, number));
@@ -104,6 +112,13 @@ fn add_outputs(
         }
         area.include(port_site(lines, place, &output.0));
     }
+}
+
+/// Whether a cell reads a net: at an input or, where it has a latch, as the one that resets.
+fn reads_net(cell: &Cell, reset: NetId, net: NetId) -> bool
+    ensures { result ≡ reads_net reset net cell.now }
+{
+    has_net(&cell.inputs, net) || (cell.latch.is_some() && is_net(net, reset))
 }
 
 /// Whether a net is among some.

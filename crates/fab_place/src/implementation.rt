@@ -1,6 +1,7 @@
 //! The implementation that a placement makes.
-ghost use Rattle.std.specs.Prelude.{◌≡◌, ◌<◌, ◌≤◌, ◌+◌, ◌++◌, IfOk, OnOk, All, length};
+ghost use Rattle.std.specs.Prelude.{◌≡◌, ◌<◌, ◌≤◌, ◌+◌, ◌++◌, ℕ, Some, IfOk, OnOk, All, length};
 ghost use Rattle.fab_netlist.specs.Packed.{PlainPacked};
+ghost use Rattle.fab_implementation.specs.Plain.{reset_name};
 ghost use Rattle.fab_place.specs.Pins.{item_total};
 ghost use Rattle.fab_place.specs.Standing.{site_at, cell_lines, input_lines, output_lines, standing};
 ghost use Rattle.fab_netlist.specs.WellMade.{most_nets};
@@ -21,6 +22,7 @@ pub fn implementation_of(
     requires cells { length packed.now.cells ≤ most_nets }
     requires items { length numbers.now ≡ item_total packed.now }
     requires inside { All (λ number. number < length sites.now) numbers.now }
+    requires reset { (place : ℕ) → packed.now.reset ≡ Some place → place < length packed.now.inputs }
     ensures { IfOk result (λ made. made ≡ standing packed.now sites.now numbers.now) }
 {
     let cells = packed.cells.len();
@@ -30,7 +32,19 @@ pub fn implementation_of(
         ins: inputs_on(alloc, &packed.inputs, sites, numbers, cells)?,
         outs: outputs_on(alloc, &packed.outputs, sites, numbers, ports)?,
         trees: Vec::new(alloc),
+        reset: reset_name(alloc, packed)?,
     })
+}
+
+/// The name of the reset port.
+fn reset_name(alloc: Global, packed: &Packed) -> Result<Option<Name>, Memory>
+    requires { (place : ℕ) → packed.now.reset ≡ Some place → place < length packed.now.inputs }
+    ensures { IfOk result (λ name. name ≡ reset_name packed.now) }
+{
+    match packed.reset {
+        Some(place) => Ok(Some(packed.inputs[place as usize].copy(alloc)?)),
+        None => Ok(None),
+    }
 }
 
 /// The lines of cells.

@@ -3,7 +3,8 @@ ghost use Rattle.std.specs.Prelude.{◌≡◌, ◌≤◌, ◌+◌, ◌<◌, ◌+
 ghost use Rattle.std.specs.List.{flat_map};
 ghost use Rattle.fab_netlist.specs.Packed.{PlainCell};
 ghost use Rattle.fab_ways_laws.specs.fab_legal_WellMade.{IsWellMadePacked};
-ghost use Rattle.fab_place.specs.Pins.{IsNear, pin_on, input_pins, cell_pins, reading_pins, output_pins, pins};
+ghost use Rattle.fab_ways_laws.specs.fab_legal_Sinks.{reset_id};
+ghost use Rattle.fab_place.specs.Pins.{IsNear, pin_on, input_pins, cell_pins, reading_pins, reset_pins, output_pins, pins};
 ghost use Rattle.fab_netlist.specs.WellMade.{most_nets};
 
 use crate::nets::Pin;
@@ -12,7 +13,7 @@ use fab_netlist::{Cell, NetId, Packed};
 use std::alloc::Global;
 
 /// The pins of all items.
-#[tactic(auto, using(crate::proofs::Inside::near_readings, crate::proofs::Inside::near_outputs))]
+#[tactic(auto, using(crate::proofs::Inside::near_readings, crate::proofs::Inside::near_reset, crate::proofs::Inside::near_outputs))]
 pub fn pins_of(alloc: Global, packed: &Packed) -> Result<Vec<Pin>, Memory>
     requires { IsWellMadePacked packed.now }
     ensures { IfOk result (λ made. made.items ≡ pins packed.now) }
@@ -23,8 +24,19 @@ pub fn pins_of(alloc: Global, packed: &Packed) -> Result<Vec<Pin>, Memory>
     put_inputs(&mut made, inputs, cells)?;
     put_cells(&mut made, inputs, cells)?;
     put_readings(&mut made, inputs, &packed.cells)?;
+    put_resets(&mut made, inputs, reset_net(packed.reset), &packed.cells)?;
     put_outputs(&mut made, inputs, cells + inputs, &packed.outputs)?;
     Ok(made)
+}
+
+/// The net that resets latches: that of the reset port, and that of zeros without one.
+pub fn reset_net(reset: Option<u32>) -> NetId
+    ensures { result ≡ reset_id reset }
+{
+    match reset {
+        Some(place) => NetId::In(place),
+        None => NetId::Zero,
+    }
 }
 
 /// Adds the pins by which input ports drive their nets.
@@ -91,6 +103,22 @@ fn put_readings(made: &mut Vec<Pin>, inputs: u32, cells: &[Cell]) -> Result<(), 
 {
     for (item, cell) in cells.iter().enumerate() {
         put_pins(made, inputs, item as u32, &cell.inputs)?;
+    }
+    Ok(())
+}
+
+/// Adds the pins by which cells with a latch read the net that resets latches.
+fn put_resets(made: &mut Vec<Pin>, inputs: u32, reset: NetId, cells: &[Cell]) -> Result<(), Memory>
+    requires inputs { inputs ≤ most_nets }
+    requires cells { length cells.now ≤ most_nets }
+    requires reset { IsNear reset }
+    ensures { OnOk result (made.new.items ≡ made.old.items ++ reset_pins inputs reset cells.now) }
+{
+    for (item, cell) in cells.iter().enumerate() {
+        if cell.latch.is_none() {
+            continue;
+        }
+        put_pin(made, inputs, item as u32, reset)?;
     }
     Ok(())
 }

@@ -16,7 +16,8 @@ use Rattle.fab_gen_loader.specs.Expressions.{loader_module}
 use Rattle.fab_gen_loader.proofs.Small as loaders
 use Rattle.fab_gen_loader.specs.Loader.{loader_module_name}
 use Rattle.fab_fabric_text_defs.specs.Places.{placed_tiles}
-use Rattle.fab_fabric_text_defs.specs.Text.{tile_modules, fabric_text}
+use Rattle.fab_fabric_text_defs.specs.Text.{tile_modules}
+use Rattle.fab_fabric_text_defs.specs.Texts.{generated_text}
 use Rattle.fab_fabric_text_defs.specs.Top.{top_module}
 use Rattle.fab_sample_fabrics_laws.proofs.fab_read_FabricsOnce.{one_fabric}
 use Rattle.fab_sample_fabrics_laws.specs.Fabrics.{IsSampleFabric}
@@ -116,7 +117,7 @@ module _ (size : ℕ) (least : 2 ≤ size) (most : size ≤ 16)
       leb-true (below (before_top fabric.rows) loader_module_name) 10000
       (loader_has others fabric.rows (omega (arith, is.rows, least)) (omega (arith, is.rows, most)))
 
-  text_small : IsSmall (fabric_text fabric (loader_module fabric.rows))
+  text_small : IsSmall (generated_text fabric)
   text_small =
       let tiles : List PlainModule = flat_map tile_modules sample_types in
       let are_small = subst (All IsSmallTile) (sym typed) (types_small west_pairs logic_pairs east_pairs) in
@@ -136,4 +137,4 @@ pub texts_small : SampleTextsAreSmall
 texts_small files size least most told fabric spelled =
     let typed = fabrics_typed files size least most told in
     let same : typed.0 ≡ fabric = one_fabric files (codes "sample.csv") typed.0 fabric typed.1 spelled in
-    subst (λ (f : PlainFabric). IsSmall (fabric_text f (loader_module f.rows))) same (text_small size least most typed.0 typed.2 typed.3)
+    subst (λ (f : PlainFabric). IsSmall (generated_text f)) same (text_small size least most typed.0 typed.2 typed.3)

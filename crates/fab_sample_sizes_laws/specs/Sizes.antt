@@ -5,8 +5,7 @@ use Rattle.fab_syntax.specs.Plain.{PlainModule}
 use Rattle.fab_syntax.specs.Spelling.{text_bytes}
 use Rattle.fab_equations.specs.Instances.{whole_count, most_points}
 use Rattle.fab_model.specs.Grid.{PlainFabric}
-use Rattle.fab_gen_loader.specs.Expressions.{loader_module}
-use Rattle.fab_fabric_text_defs.specs.Text.{fabric_text}
+use Rattle.fab_fabric_text_defs.specs.Texts.{generated_text}
 use Rattle.fab_sample_fabrics_laws.specs.fab_read_Fabrics.{SpellsFabric}
 use Rattle.fab_sample_fabrics_laws.specs.Fabrics.{TellsFabric}
 
@@ -23,4 +22,4 @@ pub record IsSmall (text : List PlainModule) : Type 0 where
 abbrev pub SampleTextsAreSmall : Type 0
 SampleTextsAreSmall =
     (files : Map) (size : ℕ) → 2 ≤ size → size ≤ 16 → TellsFabric files size →
-    (fabric : PlainFabric) → SpellsFabric files (codes "sample.csv") fabric → IsSmall (fabric_text fabric (loader_module fabric.rows))
+    (fabric : PlainFabric) → SpellsFabric files (codes "sample.csv") fabric → IsSmall (generated_text fabric)

@@ -1,5 +1,5 @@
 -- The features of a legal implementation can be spelled.
-use Rattle.std.proofs.Common.{◌≡◌, ℕ, ◌-◌, ◌<◌, true, All, List, length, Contains, Option, Some, None, nat_eq, codes, refl, sym, ap, subst, ◌∙◌, inl, inr, arith, eqb-true}
+use Rattle.std.proofs.Common.{◌≡◌, ℕ, ◌-◌, ◌<◌, Bool, true, All, List, length, Contains, Option, Some, None, is_some, nat_eq, codes, refl, sym, ap, subst, ◌∙◌, inl, inr, arith, eqb-true}
 use Rattle.std.specs.List.{flat_map, filter_map}
 use Rattle.std.specs.Option.{option_map}
 use Rattle.std.proofs.lemmas.List.Elements.{All-contains, All-contains_itself}
@@ -26,7 +26,7 @@ use Rattle.fab_fabric_text_defs.specs.Places.{PlacedTile, placed_tiles}
 use Rattle.fab_fasm.specs.declared.feature.Feature.{Feature}
 use Rattle.fab_fasm.specs.Printing.{HasSpelling}
 use Rattle.fab_features.specs.Design.{cell_features, cell_on, design_features, edge_feature, edge_into, output_feature, site_features, site_in, tile_features}
-use Rattle.fab_features.proofs.CellLines.{IsCellFeature, latch_feature, line_of_cell, of_cell, table_feature}
+use Rattle.fab_features.proofs.CellLines.{IsCellFeature, latch_feature, line_of_cell, of_cell, reset_feature, table_feature}
 use Rattle.fab_features.proofs.Configured.{step_of}
 use Rattle.fab_features.proofs.DesignLines.{found_in, from_found, from_numbered, ordered_pair, placed_there, plain_output, relined}
 use Rattle.fab_features.proofs.Steps.{dest_no_output, lands}
@@ -43,22 +43,24 @@ relined_spelled line feature has = record { named = has.named; ordered = has.ord
 
 -- ---- cells
 
-cell_feature_spelled : (cell : PlainCell) (site : Site) (feature : Feature) → cell.table < 65536 → site.bel < 26 → IsCellFeature cell site feature → HasSpelling feature
-cell_feature_spelled cell site _ small few table_feature =
+cell_feature_spelled : (resets : Bool) (cell : PlainCell) (site : Site) (feature : Feature) → cell.table < 65536 → site.bel < 26 → IsCellFeature resets cell site feature → HasSpelling feature
+cell_feature_spelled resets cell site _ small few table_feature =
     record { named = field_spelled site (codes "INIT") few refl; ordered = omega arith; bounded = omega arith; narrow = omega arith; fitting = small }
-cell_feature_spelled cell site _ small few (latch_feature latch) =
+cell_feature_spelled resets cell site _ small few (latch_feature latch) =
     record { named = field_spelled site (codes "FF") few refl; ordered = omega arith; bounded = omega arith; narrow = omega arith; fitting = omega arith }
+cell_feature_spelled resets cell site _ small few (reset_feature high) =
+    record { named = field_spelled site (codes "SET_NORESET") few refl; ordered = omega arith; bounded = omega arith; narrow = omega arith; fitting = omega arith }
 
 module _ (fabric : PlainFabric) (is : IsFabric fabric) (tiles : AreTiles fabric) (words : All HasWords fabric.types) (packed : PlainPacked)
     (tables : All (λ cell. cell.table < 65536) packed.cells) (fixed : List Pad) (i : PlainImplementation) (legal : IsLegal fabric packed fixed i) where
-  site_spelled : (site : Site) (feature : Feature) (found : Option PlainCell) → site.bel < 26 → cell_on packed i.cells site ≡ found → Contains (cell_features site found) feature → HasSpelling feature
+  site_spelled : (site : Site) (feature : Feature) (found : Option PlainCell) → site.bel < 26 → cell_on packed i.cells site ≡ found → Contains (cell_features (is_some packed.reset) site found) feature → HasSpelling feature
   site_spelled site feature None few on here = absurd (in_none feature here)
   site_spelled site feature (Some cell) few on here =
       let line = line_of_cell packed _ cell on in
       let number = line.0.0 in
       let small : cell.table < 65536 =
       subst (λ (c : PlainCell). c.table < 65536) (get_or_from_slice_get packed.cells number cell cell line.2) (tables number cell (slice_get_within packed.cells number cell line.2)) in
-      cell_feature_spelled cell site feature small few (of_cell site cell feature here)
+      cell_feature_spelled (is_some packed.reset) cell site feature small few (of_cell (is_some packed.reset) site cell feature here)
 
   -- ---- outputs
 

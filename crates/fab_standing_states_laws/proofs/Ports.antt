@@ -68,7 +68,7 @@ found_port first (p ∷ ports) more port here one =
 
 module _ (fabric : PlainFabric) (text : List PlainModule) (is_text : IsFabricText fabric text) where
   top_is : module_at text [] ≡ Some (top_module fabric)
-  top_is = ap (λ (t : List PlainModule). module_at t []) is_text.is ∙ top_is_last fabric is_text.loader
+  top_is = ap (λ (t : List PlainModule). module_at t []) is_text.is ∙ top_is_last fabric is_text.loaders
 
   first_port : (name : List ℕ) (local : Local) → found_in (declared_at (Some (top_module fabric))) name ≡ Some local →
       IsDeclared text [] name local.shape local.role

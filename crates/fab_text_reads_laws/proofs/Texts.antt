@@ -53,21 +53,23 @@ modules_printable tile stands =
     (All-append IsModule (config_modules tile (tile_bits tile)) _ (configurations tile stands (tile_bits tile) refl)
     (All-cons IsModule (tile_module tile) [] (tile_printable tile stands.is_tile stands.few_bels stands.written) (All-nil IsModule)))
 
-pub texts_printable : (fabric : PlainFabric) (loader : PlainModule) → IsFabric fabric → AreTiles fabric → All IsWritten fabric.types → IsModule loader → IsPrintableText (fabric_text fabric loader)
-texts_printable fabric loader is tiles written loader_is = (some, modules_of (fabric_text fabric loader) all) where
+pub texts_printable : (fabric : PlainFabric) (loaders : List PlainModule) → IsFabric fabric → AreTiles fabric → All IsWritten fabric.types → All IsModule loaders →
+    IsPrintableText (fabric_text fabric loaders)
+texts_printable fabric loaders is tiles written loaders_are = (some, modules_of (fabric_text fabric loaders) all) where
   standing : All Stands (standing_types fabric)
   standing = all_standing fabric Stands (λ k d few. record { is_tile = tiles k d few; few_bels = is.few_bels k d few; table = is.tables k d few; written = written k d few })
 
-  all : All IsModule (fabric_text fabric loader)
+  all : All IsModule (fabric_text fabric loaders)
   all =
       All-append IsModule (map module_of_kind (used_kinds fabric)) _
       (All-map IsModule module_of_kind (used_kinds fabric) (λ k d few. kind_printable (get_or (used_kinds fabric) k d)))
-      (All-append IsModule (flat_map tile_modules (standing_types fabric)) (loader ∷ top_module fabric ∷ [])
+      (All-append IsModule (flat_map tile_modules (standing_types fabric)) (loaders ++ top_module fabric ∷ [])
       (all_flat_map IsModule tile_modules (standing_types fabric) (λ k d few. modules_printable (get_or (standing_types fabric) k d) (standing k d few)))
-      (All-cons IsModule loader (top_module fabric ∷ []) loader_is (All-cons IsModule (top_module fabric) [] (top_printable fabric is written) (All-nil IsModule))))
+      (All-append IsModule loaders (top_module fabric ∷ []) loaders_are (All-cons IsModule (top_module fabric) [] (top_printable fabric is written) (All-nil IsModule))))
 
-  some : 0 < length (fabric_text fabric loader)
+  some : 0 < length (fabric_text fabric loaders)
   some =
-      let first = length-append (map module_of_kind (used_kinds fabric)) (flat_map tile_modules (standing_types fabric) ++ loader ∷ top_module fabric ∷ []) in
-      let second = length-append (flat_map tile_modules (standing_types fabric)) (loader ∷ top_module fabric ∷ []) in
-      omega (arith, first, second)
+      let first = length-append (map module_of_kind (used_kinds fabric)) (flat_map tile_modules (standing_types fabric) ++ (loaders ++ top_module fabric ∷ [])) in
+      let second = length-append (flat_map tile_modules (standing_types fabric)) (loaders ++ top_module fabric ∷ []) in
+      let third = length-append loaders (top_module fabric ∷ []) in
+      omega (arith, first, second, third)

@@ -25,8 +25,8 @@ pub record IsWritten (tile : PlainTile) : Type 0 where
 
 abbrev pub FabricTextsArePrintable : Type 0
 FabricTextsArePrintable =
-    (fabric : PlainFabric) (loader : PlainModule) → IsFabric fabric → AreTiles fabric → All IsWritten fabric.types → IsModule loader →
-    IsPrintableText (fabric_text fabric loader)
+    (fabric : PlainFabric) (loaders : List PlainModule) → IsFabric fabric → AreTiles fabric → All IsWritten fabric.types → All IsModule loaders →
+    IsPrintableText (fabric_text fabric loaders)
 
 abbrev pub LoadersArePrintable : Type 0
 LoadersArePrintable = (rows : ℕ) → IsModule (loader_module rows)

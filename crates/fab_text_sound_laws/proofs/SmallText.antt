@@ -9,8 +9,7 @@ use Rattle.fab_model.specs.declared.tiles.WireRow.{WireRow}
 use Rattle.fab_model.specs.declared.tiles.Bel.{Bel}
 use Rattle.fab_fabric.specs.Examples.{pads, lut, pad_rows, pad_bels, lut_rows, lut_bels}
 use Rattle.fab_drives_laws.specs.fab_gen_tile_Words.{IsFreeName, IsNamed}
-use Rattle.fab_drives_laws.specs.fab_gen_loader_Expressions.{loader_module}
-use Rattle.fab_drives_laws.specs.fab_fabric_text_defs_Text.{fabric_text}
+use Rattle.fab_drives_laws.specs.fab_fabric_text_defs_Texts.{generated_text}
 use Rattle.fab_drives_laws.specs.Examples.{small_fabric}
 use Rattle.fab_drives_laws.proofs.SmallFabric.{small_is_fabric, small_is_of_tiles}
 use Rattle.fab_text_sound_laws.proofs.TextFits.{text_is_sound}
@@ -49,5 +48,5 @@ lut_named = record {
 pub small_is_named : All IsNamed small_fabric.types
 small_is_named = All-cons IsNamed pads (lut ∷ []) pads_named (All-cons IsNamed lut [] lut_named (All-nil IsNamed))
 
-pub small_text_is_sound : IsSound (fabric_text small_fabric (loader_module small_fabric.rows))
+pub small_text_is_sound : IsSound (generated_text small_fabric)
 small_text_is_sound = text_is_sound small_fabric small_is_fabric small_is_of_tiles small_is_named

@@ -21,7 +21,8 @@ use Rattle.fab_drives_laws.specs.fab_gen_loader_Expressions.{loader_module}
 use Rattle.fab_drives_laws.specs.fab_gen_loader_Loader.{loader_module_name}
 use Rattle.fab_drives_laws.specs.fab_fabric_text_defs_Names.{top_module_name}
 use Rattle.fab_drives_laws.specs.fab_fabric_text_defs_Top.{top_module}
-use Rattle.fab_drives_laws.specs.fab_fabric_text_defs_Text.{stands, standing_types, is_used, used_kinds, matrix_modules, config_modules, tile_modules, fabric_text}
+use Rattle.fab_drives_laws.specs.fab_fabric_text_defs_Text.{stands, standing_types, is_used, used_kinds, matrix_modules, config_modules, tile_modules}
+use Rattle.fab_drives_laws.specs.fab_fabric_text_defs_Texts.{generated_text}
 use Rattle.fab_drives_laws.proofs.Apart.{told_apart, one_of_name}
 use Rattle.fab_drives_laws.proofs.Lists.{all_of, only_one_found}
 use Rattle.fab_drives_laws.proofs.Modules.{kind_apart, no_loader_kind}
@@ -144,7 +145,7 @@ record IsOfSome (m : PlainModule) : Type 0 where
   tile : PlainTile
   own : IsOfTile tile m.name
 
-pub text_apart : (fabric : PlainFabric) → IsFabric fabric → AllPairs NamesDiffer (fabric_text fabric (loader_module fabric.rows))
+pub text_apart : (fabric : PlainFabric) → IsFabric fabric → AllPairs NamesDiffer (generated_text fabric)
 text_apart fabric is =
     let loader = loader_module fabric.rows in
     let top = top_module fabric in

@@ -1,11 +1,12 @@
 -- Each module of a fabric's text fits behind those before it, and so the text is sound.
 use Rattle.std.proofs.Common.{◌≡◌, ℕ, ◌<◌, true, List, [], ◌∷◌, ◌++◌, map, length, sym, ap, ◌∙◌, subst, Some, All, AllPairs, Contains, append_assoc, append-nil}
 use Rattle.std.specs.List.{flat_map, list_any}
-use Rattle.std.proofs.lemmas.List.Elements.{All-head, All-tail, All-weaker, All-contains, All-contains_itself, Contains-append_left, Contains-append_right, All-map}
+use Rattle.std.proofs.lemmas.List.Elements.{All-nil, All-cons, All-head, All-tail, All-weaker, All-contains, All-contains_itself, Contains-append_left, Contains-append_right, All-map}
 use Rattle.fab_kinds.specs.declared.kind.Kind.TheVariants as kinds
 use Rattle.fab_syntax.specs.Plain.{PlainModule}
 use Rattle.fab_syntax.specs.Declarations.{module_named}
-use Rattle.fab_syntax.specs.Sound.{IsSound}
+use Rattle.fab_syntax.specs.Sound.{IsSound, ServesAsClock}
+use Rattle.fab_meaning.specs.Runs.{clock_name}
 use Rattle.fab_prim.specs.Modules.{module_name, module_of_kind}
 use Rattle.fab_model.specs.declared.tiles.Bel.{Bel}
 use Rattle.fab_model.specs.Tiles.{PlainTile, tile_bits, IsTile}
@@ -19,7 +20,8 @@ use Rattle.fab_drives_laws.specs.fab_gen_tile_MatrixModule.{matrix_module}
 use Rattle.fab_drives_laws.specs.fab_gen_loader_Expressions.{loader_module}
 use Rattle.fab_drives_laws.specs.fab_fabric_text_defs_Top.{top_module}
 use Rattle.fab_fabric.specs.Sites.{same_kind}
-use Rattle.fab_drives_laws.specs.fab_fabric_text_defs_Text.{standing_types, is_used, used_kinds, matrix_modules, config_modules, tile_modules, fabric_text}
+use Rattle.fab_drives_laws.specs.fab_fabric_text_defs_Text.{standing_types, is_used, used_kinds, matrix_modules, config_modules, tile_modules}
+use Rattle.fab_drives_laws.specs.fab_fabric_text_defs_Texts.{generated_text}
 use Rattle.fab_drives_laws.proofs.Lists.{contains_flat, contains_kept, all_of}
 use Rattle.fab_drives_laws.proofs.Modules as listed
 use Rattle.fab_drives_laws.proofs.Modules.{any_there, contains_matrix, contains_config, same_kind_self, all_kinds, tile_stands}
@@ -70,7 +72,7 @@ module _ (fabric : PlainFabric) (is : IsFabric fabric) (are : AreTiles fabric) (
   loader = loader_module fabric.rows
 
   abbrev text : List PlainModule
-  text = fabric_text fabric loader
+  text = generated_text fabric
 
   abbrev kinds_text : List PlainModule
   kinds_text = map module_of_kind (used_kinds fabric)
@@ -204,9 +206,18 @@ module _ (fabric : PlainFabric) (is : IsFabric fabric) (are : AreTiles fabric) (
   front_apart : AllPairs NamesDiffer front_text
   front_apart = pairs_left NamesDiffer front_text (top_module fabric ∷ []) (subst (AllPairs NamesDiffer) front_is apart)
 
+  -- a module is found by its name
+  abbrev Found : List PlainModule → PlainModule → Type 0
+  Found modules m = module_named modules m.name ≡ Some m
+
+  -- no port but CLK serves it as a clock
+  abbrev HasOneClock : PlainModule → Type 0
+  HasOneClock m = (port : List ℕ) → ServesAsClock text m port → port ≡ clock_name
+
   top_has_before : HasTopModules front_text fabric
   top_has_before = record {
-    loader_is = found_by_name front_text loader front_apart (Contains-append_right (kinds_text ++ tiles_text) (loader ∷ []) loader (contains_first loader []));
+    loaders_are = All-cons (Found front_text) loader []
+        (found_by_name front_text loader front_apart (Contains-append_right (kinds_text ++ tiles_text) (loader ∷ []) loader (contains_first loader []))) (All-nil (Found front_text));
     tiles_are = λ x y tile there. found_by_name front_text (tile_module tile) front_apart
         (Contains-append_left (kinds_text ++ tiles_text) (loader ∷ []) (tile_module tile)
         (Contains-append_right kinds_text tiles_text (tile_module tile)
@@ -215,15 +226,16 @@ module _ (fabric : PlainFabric) (is : IsFabric fabric) (are : AreTiles fabric) (
 
   top_has : HasTopModules text fabric
   top_has = record {
-    loader_is = found_by_name text loader apart
+    loaders_are = All-cons (Found text) loader []
+        (found_by_name text loader apart
         (Contains-append_right kinds_text (tiles_text ++ loader ∷ top_module fabric ∷ []) loader
-        (Contains-append_right tiles_text (loader ∷ top_module fabric ∷ []) loader (contains_first loader (top_module fabric ∷ []))));
+        (Contains-append_right tiles_text (loader ∷ top_module fabric ∷ []) loader (contains_first loader (top_module fabric ∷ []))))) (All-nil (Found text));
     tiles_are = λ x y tile there. found_by_name text (tile_module tile) apart (part_there tile (tile_module tile) (tile_stands fabric x y tile there) (whole_part tile));
   }
 
   top_clocks : HasTopClocks text fabric
   top_clocks = record {
-    of_loader = loader_clocks text fabric.rows;
+    of_loaders = All-cons HasOneClock loader [] (loader_clocks text fabric.rows) (All-nil HasOneClock);
     of_tiles = λ x y tile there port serves. tile_clocks text tile (text_has tile (ready_at x y tile there)) port serves;
   }
 

@@ -10,7 +10,7 @@ use Rattle.fab_kinds.specs.declared.kind.Kind.{Kind}
 use Rattle.fab_syntax.specs.declared.tree.Shape.TheVariants.{Scalar, Vector}
 use Rattle.fab_syntax.specs.declared.tree.Port.{Port}
 use Rattle.fab_syntax.specs.Plain.{PlainJoin, PlainItem, PlainModule, variable, wire, reg, assign, latch, clocked, instance}
-use Rattle.fab_syntax.specs.Declarations.{times_driven, times_held}
+use Rattle.fab_syntax.specs.Declarations.{module_named, times_driven, times_held}
 use Rattle.fab_syntax.specs.Sound.{DirectionFits, PortIsDriven, ItemIsDriven}
 use Rattle.fab_meaning.specs.Runs.{clock_name}
 use Rattle.fab_meaning.specs.Loading as loading
@@ -27,7 +27,7 @@ use Rattle.fab_drives_laws.specs.fab_gen_tile_Words.{IsNamed}
 use Rattle.fab_drives_laws.specs.fab_gen_tile_Borders.{side_border, border_ports}
 use Rattle.fab_drives_laws.specs.fab_gen_tile_TileModule.{tile_ports, tile_module, bels_ports}
 use Rattle.fab_drives_laws.specs.fab_gen_tile_TileModule as tiles
-use Rattle.fab_drives_laws.specs.fab_gen_loader_Loader.{loader_ports, address_port, strobe_port, row_port}
+use Rattle.fab_drives_laws.specs.fab_gen_loader_Loader.{loader_module_name, loader_ports, address_port, strobe_port, row_port}
 use Rattle.fab_drives_laws.specs.fab_gen_loader_Loader as loaders
 use Rattle.fab_drives_laws.specs.fab_gen_loader_Expressions.{loader_module}
 use Rattle.fab_drives_laws.specs.fab_fabric_text_defs_Names.{column_strobe_name, begin_wire_name}
@@ -83,6 +83,9 @@ loader_ports_apart rows few =
 
 pub tile_ports_apart : (tile : PlainTile) → IsTile tile → IsNamed tile → AreApart (map port_name (tile_ports tile))
 tile_ports_apart tile is named = pairs_left Differ (map port_name (tile_ports tile)) (net_names (declarations tile)) (nets_apart tile is named)
+
+pub loader_found : (fabric : PlainFabric) (modules : List PlainModule) → HasTopModules modules fabric → module_named modules loader_module_name ≡ Some (loader_module fabric.rows)
+loader_found fabric modules has = All-head (λ loader. module_named modules loader.name ≡ Some loader) (loader_module fabric.rows) [] has.loaders_are
 
 module _ (fabric : PlainFabric) where
   -- ---- what the loader drives
@@ -282,7 +285,7 @@ module _ (fabric : PlainFabric) where
 
       loader_times : driven (loader_instance fabric.rows ∷ []) ≡ declared loader_part
       loader_times =
-          ap (λ of. times (joined_names of (loader_joins fabric.rows) ++ []) name) has.loader_is
+          ap (λ of. times (joined_names of (loader_joins fabric.rows) ++ []) name) (loader_found fabric text has)
           ∙ ap (λ names. times names name) (append-nil (joined_names (Some (loader_module fabric.rows)) (loader_joins fabric.rows)) ∙ loader_drives few_rows)
 
       assigned_times : driven assigned ≡ declared strobe_wires

@@ -1,8 +1,9 @@
 -- The top of a fabric fits.
-use Rattle.std.proofs.Common.{◌∷◌, ◌++◌, List, All}
+use Rattle.std.proofs.Common.{◌≡◌, ℕ, [], ◌∷◌, ◌++◌, List, All}
 use Rattle.std.specs.List.{flat_map, enumerate_from}
+use Rattle.std.proofs.lemmas.List.Elements.{All-head}
 use Rattle.fab_syntax.specs.Plain.{PlainJoin, PlainModule, variable}
-use Rattle.fab_syntax.specs.Sound.{InstanceFits, ClockFits}
+use Rattle.fab_syntax.specs.Sound.{InstanceFits, ClockFits, ServesAsClock}
 use Rattle.fab_meaning.specs.Runs.{clock_name, user_clock_name}
 use Rattle.fab_model.specs.Tiles.{counted}
 use Rattle.fab_model.specs.Grid.{PlainFabric}
@@ -22,7 +23,12 @@ use Rattle.fab_text_sound_laws.specs.HasTop.{HasTopModules, HasTopClocks}
 use Rattle.fab_text_sound_laws.proofs.TopNets.{loader_matched, tile_matched}
 use Rattle.fab_text_sound_laws.proofs.TopNamesFit.{top_names_fit}
 use Rattle.fab_text_sound_laws.proofs.TopItems.{all_of_items, top_selects_fit, top_widths_fit, joins_fit, clocks_fit, clock_input, loader_clock_input}
-use Rattle.fab_text_sound_laws.proofs.TopDriven.{loader_ports_apart, tile_ports_apart, few_rows, named_tile, top_items_driven, top_ports_driven}
+use Rattle.fab_text_sound_laws.proofs.TopDriven.{loader_found, loader_ports_apart, tile_ports_apart, few_rows, named_tile, top_items_driven, top_ports_driven}
+
+-- by CLK alone
+loader_clock : (fabric : PlainFabric) (text : List PlainModule) → HasTopClocks text fabric → (port : List ℕ) → ServesAsClock text (loader_module fabric.rows) port → port ≡ clock_name
+loader_clock fabric text clocks =
+    All-head (λ loader. (port : List ℕ) → ServesAsClock text loader port → port ≡ clock_name) (loader_module fabric.rows) [] clocks.of_loaders
 
 module _ (fabric : PlainFabric) (text before : List PlainModule) (is : IsFabric fabric) (are : AreTiles fabric) (named : All IsNamed fabric.types)
     (has_before : HasTopModules before fabric) (has : HasTopModules text fabric) (clocks : HasTopClocks text fabric) where
@@ -42,14 +48,14 @@ module _ (fabric : PlainFabric) (text before : List PlainModule) (is : IsFabric 
         selects = top_selects_fit fabric is are;
         widths = top_widths_fit fabric is are;
         instances = all_of_items fabric is are (InstanceFits before (top_module fabric)) (λ shape name. tt) (λ x within. tt)
-            (joins_fit fabric is are before loader_module_name loader_instance_name (loader_joins fabric.rows) (loader_module fabric.rows) (loader_ports_apart fabric.rows few) (loader_matched fabric) has_before.loader_is)
+            (joins_fit fabric is are before loader_module_name loader_instance_name (loader_joins fabric.rows) (loader_module fabric.rows) (loader_ports_apart fabric.rows few) (loader_matched fabric) (loader_found fabric before has_before))
             (λ p stands. joins_fit fabric is are before (tile_module_name p.tile) (place_name p.x p.y) (tile_joins fabric p) (tile_module p.tile)
             (tile_ports_apart p.tile stands.is_tile (named_tile fabric is are named text has p stands)) (tile_matched fabric are p stands) (has_before.tiles_are p.x p.y p.tile stands.there));
         ports_driven = top_ports_driven fabric is are named text has;
         items_driven = top_items_driven fabric is are named text has;
         clocks = all_of_items fabric is are (ClockFits text (top_module fabric)) (λ shape name. tt) (λ x within. tt)
             (clocks_fit fabric is are text loader_module_name loader_instance_name clock_name later_loader_joins (loader_ports fabric.rows) (loader_module fabric.rows)
-            (loader_ports_apart fabric.rows few) (loader_matched fabric) (loader_clock_input fabric is are) has.loader_is clocks.of_loader)
+            (loader_ports_apart fabric.rows few) (loader_matched fabric) (loader_clock_input fabric is are) (loader_found fabric text has) (loader_clock fabric text clocks))
             (λ p stands. clocks_fit fabric is are text (tile_module_name p.tile) (place_name p.x p.y) user_clock_name (later_tile_joins p) (tile_ports p.tile) (tile_module p.tile)
             (tile_ports_apart p.tile stands.is_tile (named_tile fabric is are named text has p stands)) (tile_matched fabric are p stands) (clock_input fabric is are)
             (has.tiles_are p.x p.y p.tile stands.there) (clocks.of_tiles p.x p.y p.tile stands.there));

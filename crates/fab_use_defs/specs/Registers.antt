@@ -4,6 +4,7 @@ use Rattle.std.specs.List.{filter_map, enumerate_from}
 use Rattle.fab_meaning.specs.Settled.{Assignment}
 use Rattle.fab_text_loads_laws.specs.fab_fabric_wire_Site.{Site}
 use Rattle.fab_state.specs.fab_netlist.specs.declared.netlist.Latch.{Latch}
+use Rattle.fab_state.specs.fab_netlist.specs.Meaning.{begins_high}
 use Rattle.fab_state.specs.fab_netlist.specs.Plain.{PlainNetlist, IsAt, bit_at}
 use Rattle.fab_state.specs.fab_netlist.specs.Packed.{PlainCell, PlainPacked}
 use Rattle.fab_state.specs.fab_netlist.specs.Packing.{Work, works, latch_of}
@@ -27,7 +28,7 @@ bound_pad lines port = (port, site_of bytes_eq lines port)
 
 -- the flip-flop of a cell with a latch, and its initial value; where the netlist says 2 or 3, any value, it is 0
 abbrev pub register_of : PlainImplementation → (cell_number : ℕ) → PlainCell → Option Register
-register_of implementation cell_number cell = option_map (λ init. (site_of nat_eq implementation.cells cell_number, nat_eq init 1)) cell.latch
+register_of implementation cell_number cell = option_map (λ init. (site_of nat_eq implementation.cells cell_number, begins_high init)) cell.latch
 
 -- the ports in declared order, and then the flip-flops in the order of cells
 abbrev pub design_state : PlainPacked → PlainImplementation → PlainState

@@ -1,5 +1,5 @@
 -- Placements: what one costs, and when it is good.
-use Rattle.std.specs.Prelude.{◌≡◌, ◌⊎◌, ℕ, ◌+◌, ◌-◌, ◌≤◌, Bool, true, false, List, [], ◌∷◌, ◌++◌, map, filter, not, take, drop, length, fold, max, min, sum_by, Contains, nat_eq, bytes_eq, get_or, if◌then◌else◌}
+use Rattle.std.specs.Prelude.{◌≡◌, ◌⊎◌, ℕ, ◌+◌, ◌-◌, ◌≤◌, Bool, true, false, ◌&&◌, ◌||◌, is_some, List, [], ◌∷◌, ◌++◌, map, filter, not, take, drop, length, fold, max, min, sum_by, Contains, nat_eq, bytes_eq, get_or, if◌then◌else◌}
 use Rattle.std.specs.List.{enumerate_from, list_any}
 use Rattle.fab_kinds.specs.declared.kind.Kind.TheVariants as kinds
 use Rattle.fab_legal.specs.fab_model.specs.Tiles.{counted}
@@ -7,12 +7,12 @@ use Rattle.fab_legal.specs.fab_model.specs.Grid.{PlainFabric}
 use Rattle.fab_legal.specs.fab_fabric.specs.declared.wire.Site.{Site}
 use Rattle.fab_legal.specs.fab_netlist.specs.declared.net_id.NetId.{NetId}
 use Rattle.fab_legal.specs.fab_netlist.specs.declared.net_id.NetId.TheVariants as ids
-use Rattle.fab_legal.specs.fab_netlist.specs.Packed.{PlainPacked}
-use Rattle.fab_legal.specs.fab_implementation.specs.Plain.{Pad, PlainImplementation}
+use Rattle.fab_legal.specs.fab_netlist.specs.Packed.{PlainCell, PlainPacked}
+use Rattle.fab_legal.specs.fab_implementation.specs.Plain.{Pad, PlainImplementation, reset_name}
 use Rattle.fab_legal.specs.fab_implementation.specs.OnFabric.{IsSite, kind_at}
 use Rattle.fab_legal.specs.Lines.{named, ConstraintsHold}
 use Rattle.fab_legal.specs.Legal.{ArePlaced}
-use Rattle.fab_legal.specs.Sinks.{site_of}
+use Rattle.fab_legal.specs.Sinks.{reset_id, site_of}
 use Rattle.fab_legal.specs.WellMade.{output_ports}
 use Rattle.fab_legal.specs.fab_fabric.specs.Sites.{sites_of_kind}
 use Rattle.fab_ways_laws.specs.Sites.{same_site}
@@ -48,10 +48,14 @@ half_perimeter at = spread (map (λ (site : Site). site.x) at) + spread (map (λ
 abbrev pub cell_site : PlainImplementation → (number : ℕ) → Site
 cell_site placement number = site_of nat_eq placement.cells number
 
+-- whether a cell reads a net: at an input, or at SR where it has a latch, which reads the net that resets
+abbrev pub reads_net : (reset net : NetId) → PlainCell → Bool
+reads_net reset net cell = list_any (same_net net) cell.inputs || (is_some cell.latch && same_net net reset)
+
 -- the sites of the cells and of the output ports that read a net
 abbrev pub reader_sites : PlainPacked → PlainImplementation → NetId → List Site
 reader_sites packed placement net =
-    map (λ cell. cell_site placement cell.0) (filter (λ cell. list_any (same_net net) cell.1.inputs) (enumerate_from 0 packed.cells))
+    map (λ cell. cell_site placement cell.0) (filter (λ cell. reads_net (reset_id packed.reset) net cell.1) (enumerate_from 0 packed.cells))
     ++ map (λ output. site_of bytes_eq placement.outs output.0) (filter (λ output. same_net net output.1) packed.outputs)
 
 -- the half perimeters of the nets of input ports and of cells; those of constants have roots all over the fabric, and cost nothing
@@ -72,7 +76,13 @@ moved {X} to lines = map (λ (line : X × Site). (line.0, to line.1)) lines
 -- what stands on one site comes to the other; where the other is empty, this is a move
 abbrev pub exchanged : (a b : Site) → PlainImplementation → PlainImplementation
 exchanged a b placement =
-    record { cells = moved (site_after a b) placement.cells; ins = moved (site_after a b) placement.ins; outs = moved (site_after a b) placement.outs; trees = placement.trees }
+    record {
+      cells = moved (site_after a b) placement.cells;
+      ins = moved (site_after a b) placement.ins;
+      outs = moved (site_after a b) placement.outs;
+      trees = placement.trees;
+      reset = placement.reset;
+    }
 
 -- two sites of one kind in tiles not more than 4 apart, neither of which holds a port with a pad constraint
 pub record MayExchange (fabric : PlainFabric) (fixed : List Pad) (placement : PlainImplementation) (a b : Site) : Type 0 where
@@ -115,6 +125,7 @@ placement_in_order fabric packed fixed =
       ins = take (length packed.inputs) pads;
       outs = drop (length packed.inputs) pads;
       trees = [];
+      reset = reset_name packed;
     }
 
 -- ---- good placements
@@ -128,5 +139,6 @@ pub record IsGoodPlacement (fabric : PlainFabric) (packed : PlainPacked) (fixed 
   pub cells : named placement.cells ≡ counted (length packed.cells) (λ number. number)
   pub ins : named placement.ins ≡ packed.inputs
   pub outs : named placement.outs ≡ output_ports packed
+  pub reset : placement.reset ≡ reset_name packed
   pub optimal : IsOptimal fabric packed fixed placement
   pub low : cost packed placement ≤ cost packed (placement_in_order fabric packed fixed)

@@ -51,4 +51,4 @@ abbrev pub trees_of : PlainPacked → PlainImplementation → List Paths → Lis
 trees_of packed placement grown = trees_for (by_line packed placement) (nets packed) grown
 
 abbrev pub with_trees : PlainImplementation → List PlainTree → PlainImplementation
-with_trees placement trees = record { cells = placement.cells; ins = placement.ins; outs = placement.outs; trees = trees }
+with_trees placement trees = record { cells = placement.cells; ins = placement.ins; outs = placement.outs; trees = trees; reset = placement.reset }

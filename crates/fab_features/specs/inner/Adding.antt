@@ -1,5 +1,5 @@
 -- How bits are set in turn: each turn adds ones, and takes none away.
-use Rattle.std.specs.Prelude.{◌≡◌, ◌⊎◌, ◌≤◌, ◌<◌, ℕ, ◌+◌, ◌-◌, true, List, Contains, length, Some, nat_eq}
+use Rattle.std.specs.Prelude.{◌≡◌, ◌⊎◌, ◌≤◌, ◌<◌, ℕ, ◌+◌, ◌-◌, Bool, true, List, Contains, length, Some, is_some, nat_eq}
 use Rattle.std.specs.List.{list_any}
 use Rattle.fab_kinds.specs.declared.kind.Kind.TheVariants as kinds
 use Rattle.fab_model.specs.Tiles.{PlainTile, output_field, bits_before}
@@ -49,8 +49,8 @@ FitsTile fabric ones = ones.low + ones.width ≤ bits_at fabric ones.x ones.y
 
 -- ---- cells and edges
 
--- a bit of the BEL at a site is a bit of a cell that is 1
-pub record IsSiteOne (fabric : PlainFabric) (site : Site) (cell : PlainCell) (x y bit : ℕ) : Type 0 where
+-- a bit of the BEL at a site is a bit of a cell that is 1, in a design with a reset port or without
+pub record IsSiteOne (fabric : PlainFabric) (resets : Bool) (site : Site) (cell : PlainCell) (x y bit : ℕ) : Type 0 where
   pub tile : PlainTile
   pub place : ℕ
   pub x_is : x ≡ site.x
@@ -58,11 +58,11 @@ pub record IsSiteOne (fabric : PlainFabric) (site : Site) (cell : PlainCell) (x 
   pub tile_is : tile_at fabric x y ≡ Some tile
   pub bit_is : bit ≡ bits_before tile.bels site.bel + place
   pub inside : place < 19
-  pub one : cell_bit cell place ≡ true
+  pub one : cell_bit resets cell place ≡ true
 
 -- the same for the cell and the site of a line
 abbrev pub IsCellOne : PlainFabric → PlainPacked → ℕ × Site → BitSet
-IsCellOne fabric packed line x y bit = (cell : PlainCell) × IsAt packed.cells line.0 cell × IsSiteOne fabric line.1 cell x y bit
+IsCellOne fabric packed line x y bit = (cell : PlainCell) × IsAt packed.cells line.0 cell × IsSiteOne fabric (is_some packed.reset) line.1 cell x y bit
 
 -- a line puts a cell of the design on a LUT4c
 pub record IsCellLine (fabric : PlainFabric) (packed : PlainPacked) (line : ℕ × Site) : Type 0 where

@@ -1,4 +1,4 @@
-use Rattle.std.proofs.Common.{ℕ, List, [], ap}
+use Rattle.std.proofs.Common.{◌≡◌, ◌∙◌, ℕ, List, [], Some, is_some, ap}
 use Rattle.fab_fasm.specs.declared.feature.Feature.{Feature}
 use Rattle.fab_features.specs.Design.{site_features, cell_features}
 use Rattle.fab_features.specs.inner.Listing.{site_at}
@@ -15,11 +15,13 @@ loop-bel-preserved c =
     let start = c.args.features.now.items in
     let site = site_at c.args.x c.args.y l.bel in
     let f : ℕ → List Feature = λ bel. site_features c.args.lookup.now.packed.now c.args.lookup.now.implementation.now (site_at c.args.x c.args.y bel) in
+    let packed = c.args.lookup.now.packed.now in
+    let resets : c.is_some-resets.result ≡ is_some packed.reset = cc in
     elim c.match-cell_on.branch [
       | in-Some+in_ok-push_cell w ↦
           rw w.features-is (more_flat start l.features.items w.push_cell.new.features.items f l.bel l.invariant
-          (pushes_same l.features.items w.push_cell.new.features.items _ (f l.bel) (ap (cell_features site) w.in-Some.ensures) w.in_ok-push_cell.ensures))
+          (pushes_same l.features.items w.push_cell.new.features.items _ (f l.bel) (ap (λ r. cell_features r site (Some w.in-Some.cell.now)) resets ∙ ap (cell_features (is_some packed.reset) site) w.in-Some.ensures) w.in_ok-push_cell.ensures))
       | in_default w ↦
           rw w.features-is (more_flat start l.features.items l.features.items f l.bel l.invariant
-          (pushes_same l.features.items l.features.items [] (f l.bel) (ap (cell_features site) w.in_default.ensures) (pushes_none l.features.items)))
+          (pushes_same l.features.items l.features.items [] (f l.bel) (ap (cell_features (is_some packed.reset) site) w.in_default.ensures) (pushes_none l.features.items)))
     ]

@@ -1,0 +1,4 @@
+pub mod Stands
+pub mod Clocks
+pub mod Lifted
+pub mod Sets
