@@ -21,6 +21,7 @@ pub mod Registers
 pub mod Resets
 pub mod Rows
 pub mod Laws
+pub mod Solved
 pub mod Once
 pub mod Example
 pub use Rattle.fab_use_defs.proofs.fab_drives_laws_Apart as fab_drives_laws_Apart
