@@ -1,5 +1,5 @@
 -- The configuration bits of a design are the bit map of its features.
-use Rattle.std.proofs.Common.{◌≡◌, ◌⊎◌, ℕ, ◌+◌, ◌-◌, ◌<◌, ◌≤◌, Bool, true, List, length, codes, Contains, Option, Some, None, is_some, nat_eq, slice_get, sym, refl, ap, ◌∙◌, subst, inl, inr, arith, All, eq-eqb, eqb-true, lt-ltb}
+use Rattle.std.proofs.Common.{◌≡◌, ◌⊎◌, ℕ, ◌+◌, ◌-◌, ◌<◌, ◌≤◌, Bool, false, true, List, length, codes, Contains, Option, Some, None, is_some, nat_eq, slice_get, sym, refl, ap, ◌∙◌, subst, inl, inr, arith, All, eq-eqb, eqb-true, lt-ltb}
 use Rattle.std.specs.List.{list_any, find, flat_map, filter_map}
 use Rattle.std.specs.Option.{option_map, option_and_then}
 use Rattle.std.proofs.lemmas.Bool.{cases_lt}
