@@ -26,6 +26,8 @@ pub use Rattle.fab_fabric_text_defs.specs.fab_model_Grid as fab_model_Grid
 pub use Rattle.fab_fabric_text_defs.specs.fab_model_Rows as fab_model_Rows
 pub use Rattle.fab_fabric_text_defs.specs.fab_model_Tables as fab_model_Tables
 pub use Rattle.fab_fabric_text_defs.specs.fab_model_Tiles as fab_model_Tiles
+pub use Rattle.fab_fabric_text_defs.specs.fab_model_mode_Mode as fab_model_mode_Mode
+pub use Rattle.fab_fabric_text_defs.specs.fab_model_mode_Mode_TheVariants as fab_model_mode_Mode_TheVariants
 pub use Rattle.fab_fabric_text_defs.specs.fab_model_tiles_Bel as fab_model_tiles_Bel
 pub use Rattle.fab_fabric_text_defs.specs.fab_model_tiles_WireRow as fab_model_tiles_WireRow
 pub use Rattle.fab_fabric_text_defs.specs.fab_prim_Modules as fab_prim_Modules

@@ -1,6 +1,7 @@
 //! The configuration bits of a legal implementation.
 
-ghost use Rattle.std.specs.Prelude.{◌≡◌, ◌<◌, ◌≤◌, List, IfOk, All, Some, length, nat_eq, position, is_some, if◌then◌else◌};
+ghost use Rattle.std.specs.Prelude.{◌≡◌, ◌<◌, ◌≤◌, false, List, IfOk, All, Some, length, nat_eq, position, is_some, if◌then◌else◌};
+ghost use Rattle.std.specs.Option.{option_map_or};
 ghost use Rattle.fab_kinds.specs.declared.kind.Kind.TheVariants as kinds;
 ghost use Rattle.fab_model.specs.Grid.{tile_at};
 ghost use Rattle.fab_fabric.specs.Bits.{AreBitsOf, plain_bits};
@@ -9,6 +10,7 @@ ghost use Rattle.fab_implementation.specs.OnFabric.{HasWires, kind_at};
 ghost use Rattle.fab_legal.specs.Legal.{IsLegal};
 ghost use Rattle.fab_model.specs.Tiles.{bits_before};
 ghost use Rattle.fab_use_defs.specs.fab_gen_tile_Words.{IsNamed};
+ghost use Rattle.fab_netlist.specs.Meaning.{begins_high};
 ghost use Rattle.fab_use_defs.specs.Configuring.{Configures, cell_bit};
 ghost use Rattle.fab_features.specs.Naming.{HasPrefixes};
 ghost use Rattle.fab_features.specs.Features.{IsBitMapOf};
@@ -49,14 +51,28 @@ fn latch_value(cell: &Cell) -> u128
     u128::from(cell.latch.is_some())
 }
 
+// Whether a cell has a latch that begins with 1.
+fn begins_high(cell: &Cell) -> bool
+    ensures { result ≡ option_map_or begins_high cell.now.latch false }
+{
+    match cell.latch {
+        Some(init) => init == 1,
+        None => false,
+    }
+}
+
 /// Whether a reset loads 1 into the flip-flop of a cell, in a design that has a reset port or not.
 pub fn loads_high(resets: bool, cell: &Cell) -> bool
     ensures { result ≡ cell_bit resets cell.now 18 }
 {
-    match cell.latch {
-        Some(init) => resets && init == 1,
-        None => false,
-    }
+    resets && begins_high(cell)
+}
+
+// 1 where a reset loads 1.
+fn reset_value(resets: bool, cell: &Cell) -> u128
+    ensures { result ≡ (if cell_bit resets cell.now 18 then 1 else 0) }
+{
+    u128::from(loads_high(resets, cell))
 }
 
 // Sets the bits of a cell that are 1, in a design that has a reset port or not.
@@ -97,7 +113,7 @@ fn set_cell(
         y: site.y,
         low: low + RESET_BIT,
         width: 1,
-        value: u128::from(loads_high(resets, cell)),
+        value: reset_value(resets, cell),
     };
     set_ones(fabric, bits, table);
     set_ones(fabric, bits, flip_flop);

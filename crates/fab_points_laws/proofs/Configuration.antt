@@ -57,12 +57,12 @@ use Rattle.fab_use_defs.proofs.fab_drives_laws_Places.{IsThere, all_placed}
 use Rattle.fab_use_defs.specs.fab_text_loads_laws_Points.{loader_path, config_path, IsLoadingPoint, in_top, in_loader, in_tile, in_configuration}
 use Rattle.fab_use_defs.specs.fab_fabric_text_defs_Texts.{IsFabricText}
 use Rattle.fab_use_defs.proofs.fab_text_loads_laws_Drivers.{assigned_by}
-use Rattle.fab_use_defs.proofs.fab_text_loads_laws_Loader.{HasLoader, row_port_width, strobe_register_width}
+use Rattle.fab_use_defs.proofs.fab_text_loads_laws_Loader.{HasLoader, has_loader, row_port_width, strobe_register_width}
 use Rattle.fab_use_defs.proofs.fab_text_loads_laws_Tops.{address_width, strobe_width, row_width, column_width}
 use Rattle.fab_use_defs.proofs.fab_text_loads_laws_Within.{AreWithin, expression_within, only_name, flops}
 use Rattle.fab_use_defs.proofs.fab_text_loads_laws_Named.{config_stands, named_are_loading}
 use Rattle.fab_use_defs.specs.Configuration.{NamedBits, named_bits, if_some_bits, frame_names, top_configuration, loader_configuration, bits_configuration, matrix_configuration, bel_configuration, tile_configuration, configuration, IsConfigurationPoint}
-use Rattle.fab_points_laws.proofs.Loading.{loads, instance_loads, has_loader}
+use Rattle.fab_points_laws.proofs.Loading.{loads, instance_loads}
 use Rattle.fab_points_laws.proofs.Places.{outputs_there, passing_plain}
 
 -- a counted register is found with its shape
@@ -134,10 +134,10 @@ same_lut kinds.Mux8 is = absurd (false≢true is)
 
 module _ (fabric : PlainFabric) (text : List PlainModule) (is : IsFabric fabric) (are : AreTiles fabric) (is_text : IsFabricText fabric text) where
   abbrev next : NextValues
-  next = is_text.is_loader.next
+  next = (has_loader fabric text is is_text).0
 
   has : HasLoader fabric next text
-  has = has_loader fabric text is is_text
+  has = (has_loader fabric text is is_text).1
 
   -- the bits of a name are loading points
   abbrev Loads : NamedBits → Type 0

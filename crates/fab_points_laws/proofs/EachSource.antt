@@ -26,13 +26,12 @@ use Rattle.fab_use_defs.specs.fab_legal_Legal.{IsLegal}
 use Rattle.fab_meaning.specs.Ports.{config_name}
 use Rattle.fab_prim.specs.Ports.{top_name, top_inputs, top_outputs}
 use Rattle.fab_prim.specs.Modules.{flip_flop_name, module_of_kind}
-use Rattle.fab_use_defs.specs.fab_gen_loader_Loader.{loader_of}
-use Rattle.fab_use_defs.specs.fab_fabric_text_defs_Text.{fabric_text}
 use Rattle.fab_use_defs.specs.fab_tile_drives_laws_Stands.{bel_path, wire_point}
 use Rattle.fab_use_defs.proofs.fab_tile_drives_laws_Members.{contains_at}
 use Rattle.fab_use_defs.specs.fab_drives_laws_Points.{place_path, row_path}
 use Rattle.fab_use_defs.proofs.fab_drives_laws_Modules.{tile_of_types}
-use Rattle.fab_use_defs.proofs.fab_drives_laws_Texts.{HasFabric, text_has_fabric}
+use Rattle.fab_use_defs.proofs.fab_drives_laws_Texts.{HasFabric}
+use Rattle.fab_use_defs.proofs.fab_text_loads_laws_Carried.{carried}
 use Rattle.fab_use_defs.specs.fab_fabric_text_defs_Texts.{IsFabricText}
 use Rattle.fab_use_defs.specs.Sites.{site_path, bel_point, port_point, top_point, pin_point}
 use Rattle.fab_use_defs.specs.Design.{IsTreeWire, IsBound}
@@ -253,11 +252,7 @@ module _ (fabric : PlainFabric) (text : List PlainModule) (packed : PlainPacked)
 
 -- a text of a fabric has its tiles
 pub has_fabric : (fabric : PlainFabric) (text : List PlainModule) → IsFabric fabric → IsFabricText fabric text → HasFabric fabric text
-has_fabric fabric text is is_text =
-    let loader = is_text.is_loader in
-    let made = loader_of fabric.rows loader.next in
-    let text_is : text ≡ fabric_text fabric made = is_text.is ∙ ap (fabric_text fabric) loader.is in
-    subst (HasFabric fabric) (sym text_is) (text_has_fabric fabric made is refl)
+has_fabric fabric text is is_text = (carried fabric text is is_text).tiles
 
 pub sources_show : SourcesShow
 sources_show fabric text packed fixed implementation bits inputs held t is are is_text made legal configures knows p s source =

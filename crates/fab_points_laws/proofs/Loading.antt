@@ -20,9 +20,8 @@ use Rattle.fab_use_defs.specs.fab_gen_tile_Names.{config_module_name, config_ins
 use Rattle.fab_use_defs.specs.fab_gen_tile_ConfigModule.{all_latches, config_module}
 use Rattle.fab_use_defs.specs.fab_gen_tile_TileModule.{config_joins, bits_join, bel_joins, matrix_input_names, matrix_output_names, matrix_joins, tile_items, tile_module}
 use Rattle.fab_use_defs.specs.fab_gen_tile_MatrixModule.{named_pairs, matrix_module}
-use Rattle.fab_use_defs.specs.fab_gen_loader_Loader.{NextValues, loader_of, StepsAsTheMachine}
+use Rattle.fab_use_defs.specs.fab_gen_loader_Loader.{NextValues}
 use Rattle.fab_fabric.specs.Fabric.{IsFabric}
-use Rattle.fab_use_defs.specs.fab_fabric_text_defs_Text.{fabric_text}
 use Rattle.fab_use_defs.specs.fab_tile_drives_laws_Stands.{TileStands, matrix_path, bel_path}
 use Rattle.fab_use_defs.specs.fab_tile_drives_laws_Tiles.{ShowsTileBits}
 use Rattle.fab_use_defs.proofs.fab_tile_drives_laws_Members.{contains_at, contains_first}
@@ -39,10 +38,10 @@ use Rattle.fab_use_defs.specs.fab_text_loads_laws_Points.{config_path}
 use Rattle.fab_use_defs.specs.fab_fabric_text_defs_Texts.{IsFabricText}
 use Rattle.fab_use_defs.proofs.fab_text_loads_laws_Drivers.{assigned_by, joined_to, joined_from}
 use Rattle.fab_use_defs.proofs.fab_text_loads_laws_Declared.{bit_below}
-use Rattle.fab_use_defs.proofs.fab_text_loads_laws_Loader.{HasLoader, text_has_loader}
+use Rattle.fab_use_defs.proofs.fab_text_loads_laws_Loader.{HasLoader, has_loader}
 use Rattle.fab_use_defs.proofs.fab_text_loads_laws_Within.{AreWithin, expression_within, only_name, copy_within, flops, within_is_loading}
 use Rattle.fab_use_defs.proofs.fab_text_loads_laws_Named.{config_stands, config_within}
-use Rattle.fab_use_defs.proofs.fab_text_loads_laws_Runs.{configured_shows}
+use Rattle.fab_use_defs.proofs.fab_text_loads_laws_Carried.{configuration_shows}
 use Rattle.fab_ternary_laws.specs.Shown.{Terns}
 use Rattle.fab_points_laws.specs.Known.{KnowsTile}
 use Rattle.fab_use_defs.specs.fab_drives_laws_Points.{ShowsBits}
@@ -210,23 +209,15 @@ module _ (fabric : PlainFabric) (next : NextValues) (text : List PlainModule) (h
       tables = λ bel bit found at kind_is few. let v = table_value bel found at bit kind_is few in known_is (point (bel_path path bel) (codes "init") bit) v.0 ∙ ap known v.1;
     }
 
-pub has_loader : (fabric : PlainFabric) (text : List PlainModule) → IsFabric fabric → (is_text : IsFabricText fabric text) → HasLoader fabric is_text.is_loader.next text
-has_loader fabric text is is_text =
-    let loader = is_text.is_loader in
-    let made = loader_of fabric.rows loader.next in
-    let steps : StepsAsTheMachine fabric.rows made = subst (StepsAsTheMachine fabric.rows) loader.is loader.steps in
-    let text_is : text ≡ fabric_text fabric made = is_text.is ∙ ap (fabric_text fabric) loader.is in
-    subst (HasLoader fabric loader.next) (sym text_is) (text_has_loader fabric loader.next is steps)
-
 pub shown_is_known : ShownIsKnown
 shown_is_known fabric text bits inputs held now t is is_text shows settled known_is x y tile there =
-    knows_tile fabric is_text.is_loader.next text (has_loader fabric text is is_text) x y tile there (bits x y) inputs held now (shows x y tile there) settled t known_is
+    let found = has_loader fabric text is is_text in
+    knows_tile fabric found.0 text found.1 x y tile there (bits x y) inputs held now (shows x y tile there) settled t known_is
 
 -- the latches of a configured text show its bits
 pub configured_show : (fabric : PlainFabric) (text : List PlainModule) (bits : PlainBits) (inputs held now : Assignment) → IsFabric fabric → IsFabricText fabric text →
     IsConfigured fabric bits held → IsSettledOn (IsLoading text) text inputs held now → ShowsBits fabric bits now
-configured_show fabric text bits inputs held now is is_text configured settled =
-    configured_shows fabric is_text.is_loader.next text (has_loader fabric text is is_text) is bits inputs held now configured settled
+configured_show fabric text bits inputs held now is is_text = configuration_shows fabric text is is_text bits inputs held now
 
 pub loaded_is_known : LoadedIsKnown
 loaded_is_known fabric text bits inputs held now t is is_text configured settled known_is =

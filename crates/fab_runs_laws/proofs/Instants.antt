@@ -1,5 +1,5 @@
 -- One instant of use: the pads show the netlist's nets, the configuration stays, and flip-flops take what the latches take.
-use Rattle.std.proofs.Common.{◌≡◌, ℕ, Bool, true, false, ◌&&◌, List, [], ◌∷◌, codes, refl, sym, ap, ◌∙◌, subst, inl, inr, Contains, Option, Some, None, is_some, nat_eq, if◌then◌else◌}
+use Rattle.std.proofs.Common.{◌≡◌, ℕ, Bool, true, false, List, [], ◌∷◌, codes, refl, sym, ap, ◌∙◌, subst, inl, inr, Contains, Option, Some, None, is_some, if◌then◌else◌}
 use Rattle.std.proofs.lemmas.List.{length-map}
 use Rattle.std.proofs.lemmas.List.Elements.{All-nil, All-cons}
 use Rattle.fab_systems_laws.specs.Ternary.{known}
@@ -19,7 +19,7 @@ use Rattle.fab_points_laws.specs.fab_text_loads_laws_Loads.{IsQuiet, IsConfigure
 use Rattle.fab_points_laws.specs.fab_use_defs_Sites.{bel_point, reset_bit}
 use Rattle.fab_points_laws.specs.fab_use_defs_Design as design
 use Rattle.fab_points_laws.specs.fab_use_defs_Design.{IsBound}
-use Rattle.fab_points_laws.specs.fab_use_defs_Configuring.{Configures, begins_high}
+use Rattle.fab_points_laws.specs.fab_use_defs_Configuring.{Configures}
 use Rattle.fab_points_laws.specs.fab_use_defs_Cycles.{Instant, Feeds, Shows}
 use Rattle.fab_points_laws.specs.fab_use_defs_Registers.{HoldsLatches}
 use Rattle.fab_points_laws.specs.fab_use_defs_Headline.{DesignPoints}
@@ -34,7 +34,7 @@ same_choice : (test other first second rest : Bool) → test ≡ other → (othe
 same_choice test true first second rest same holds = ap (λ b. if b then first else rest) same ∙ holds refl
 same_choice test false first second rest same holds = ap (λ b. if b then first else rest) same
 
--- what is reset has a reset port
+-- a netlist that is reset has a reset port
 has_reset : (inputs : List ℕ) (nets : ℕ → Bool) (reset : Option ℕ) → reset_by inputs nets reset ≡ true → is_some reset ≡ true
 has_reset inputs nets None is = is
 has_reset inputs nets (Some place) is = refl
@@ -90,8 +90,7 @@ module _ (s : Setting) where
             is_reset s.netlist nets ≡ true → i.now (reset_bit site) ≡ first_value (latch_at s.netlist latch)
         loads_first number latch work site at has listed reset =
             reset_value s.fabric (packed s.netlist) s.fixed s.implementation s.legal number site (cell_of s.netlist work) (bound number work site at listed) bits i.now configures knows
-            ∙ ap (λ some. some && begins_high (cell_of s.netlist work).latch) (has_reset s.netlist.inputs nets s.netlist.reset reset)
-            ∙ ap begins_high (latched s.netlist work latch has)
+            (has_reset s.netlist.inputs nets s.netlist.reset reset) (latch_at s.netlist latch).init (latched s.netlist work latch has)
 
         -- and at a tick of UserCLK the flip-flops take what the latches take
         pub user_holds : i.clock ≡ user_clock_name → HoldsLatches s.netlist s.implementation next (next_held s.netlist nets)

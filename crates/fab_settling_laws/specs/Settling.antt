@@ -56,7 +56,7 @@ pub record SettlesDesign (fabric : PlainFabric) (text : List PlainModule) (netli
     (words : List ℕ) : Type 0 where
   pub counted : (count : ℕ) × HasAtMost (DesignPoints fabric text netlist implementation) count
   pub from : (moments : List Moment) (held after : Assignment) (start : State) (count : ℕ) →
-      Writes (map (digits 32) words) moments → IsRunOn (IsLoading text) text moments held after →
+      Writes text (map (digits 32) words) moments → IsRunOn (IsLoading text) text moments held after →
       ((p : Point) → IsLoading text p → start.held p ≡ after p) → IsAtRest text start → HasAtMost (DesignPoints fabric text netlist implementation) count →
       SettlesFrom (DesignPoints fabric text netlist implementation) count text netlist implementation start
 

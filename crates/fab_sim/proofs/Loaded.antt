@@ -13,7 +13,7 @@ use Rattle.fab_meaning.specs.Points.{Point, point, Driver, outside, copy, bit_of
 use Rattle.fab_meaning.specs.Settled.{Assignment, IsSettledOn}
 use Rattle.fab_meaning.specs.Reads.{is_declared}
 use Rattle.fab_meaning.specs.Runs.{AreClocksLow, clock_name, clock_of, IsRunOn, kept, Moment, Ticks}
-use Rattle.fab_meaning.specs.Loading.{IsClosed, IsDerived, IsLoading, IsStream, OffersWord, OfferWords, Within, by_flop, by_stream, by_reads, write_data_name, write_strobe_name}
+use Rattle.fab_meaning.specs.Loading.{IsClosed, IsDerived, IsLoading, IsStream, offered, offered_at, OffersWord, OfferWords, Within, by_flop, by_stream, by_reads, write_data_name, write_strobe_name}
 use Rattle.fab_meaning.specs.Sound.{PointsOfSoundTextsHaveOneDriver}
 use Rattle.fab_ternary_laws.specs.Shown.{Terns}
 use Rattle.fab_solutions_laws.specs.Solutions.{Solves as SolvesText, tern_kept}
@@ -40,7 +40,7 @@ use Rattle.fab_phases.specs.Words.{AreLoadSteps, IsLoadStep, word_bit}
 use Rattle.fab_state_points.specs.Standing.{HasStream, IsStreamAt}
 use Rattle.fab_state_points.specs.declared.points.Stream.{Stream}
 use Rattle.fab_sim.specs.Making.{AreLoads, IsGivenFirst, IsNetworkOf}
-use Rattle.fab_sim.proofs.Points.{flop_drive, given_driver, held_not_given, hold_drive, holds_or_not, input_bit, input_drives, number_declared, one_point, outside_drive, point_of}
+use Rattle.fab_sim.proofs.Points.{flop_drive, given_driver, held_not_given, hold_drive, holds_or_not, input_bit, input_drives, input_width, number_declared, one_point, outside_drive, point_of}
 
 -- ---- flip-flops among the loading points are those of CLK
 
@@ -154,6 +154,10 @@ not_word_by first number none =
         | inr after ↦ inr after
       ]
     ]
+
+-- a text whose WriteData has 32 bits is offered words whole
+pub words_whole : (text : List PlainModule) → HasStream text → (words : List (List Bool)) → offered text words ≡ words
+words_whole text has words = ap (λ wide. offered_at wide words) (input_width text write_data_name (Vector 32) has.words)
 
 -- What is given and held between words: loading points have this assignment, and all else but WriteStrobe and the word's points is 0.
 pub record IsHolding (text : List PlainModule) (network : Network) (stream : Stream) (base : Assignment) (given : PointTerns) : Type 0 where

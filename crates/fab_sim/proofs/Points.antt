@@ -121,6 +121,10 @@ wide : (m : Option PlainModule) (name : List ℕ) (local : Local) → found_in (
 wide None name local is = cc
 wide (Some m) name local is = found_width m name local is
 
+pub input_width : (text : List PlainModule) (name : List ℕ) (shape : Shape) → IsDeclared text [] name shape roles.Input →
+    width_in (module_at text []) name ≡ width shape
+input_width text name shape declared = wide (module_at text []) name declared.local declared.is ∙ ap width declared.shape_is
+
 -- a bit of an input that stands at a point of its name
 pub input_bit : (text : List PlainModule) (name : List ℕ) (shape : Shape) → IsDeclared text [] name shape roles.Input → (p : Point) → p.path ≡ [] →
     p.name ≡ name →
@@ -128,7 +132,6 @@ pub input_bit : (text : List PlainModule) (name : List ℕ) (shape : Shape) → 
 input_bit text name shape declared p top named there =
     let less = ltb-true p.bit (width_in (module_at text p.path) p.name) there in
     let here : width_in (module_at text p.path) p.name ≡ width_in (module_at text []) name = (λ k. width_in (module_at text (top k)) (named k)) in
-    let is : width_in (module_at text []) name ≡ width shape =
-    wide (module_at text []) name declared.local declared.is ∙ ap width declared.shape_is in
+    let is : width_in (module_at text []) name ≡ width shape = input_width text name shape declared in
     let same : p ≡ point [] name p.bit = (λ k. point (top k) (named k) p.bit) in
     (sym same, omega (arith, less, here, is))

@@ -7,11 +7,12 @@ use Rattle.std.proofs.lemmas.List.{length-map, get_or_default}
 use Rattle.fab_bits.specs.Bits.{digits}
 use Rattle.fab_kinds.specs.declared.kind.Kind.TheVariants as kinds
 use Rattle.fab_systems_laws.specs.Ternary.{Tern, known}
+use Rattle.fab_syntax.specs.Plain.{PlainModule}
 use Rattle.fab_meaning.specs.Points.{Point}
 use Rattle.fab_meaning.specs.Settled.{Assignment}
 use Rattle.fab_meaning.specs.Reads.{same_point}
 use Rattle.fab_meaning.specs.Runs.{Moment}
-use Rattle.fab_meaning.specs.Loading.{IsLoading, OfferWords}
+use Rattle.fab_meaning.specs.Loading.{IsLoading, offered, OfferWords}
 use Rattle.fab_meaning.proofs.Dependence.{same_point_refl, same_point_is}
 use Rattle.fab_fabric.specs.declared.wire.Site.{Site}
 use Rattle.fab_frames.specs.Stream.{stream}
@@ -57,8 +58,9 @@ same_words : (words : List (List Bool)) → words_of (map word words) ≡ words
 same_words [] = refl
 same_words (bits ∷ words) = ap (λ rest. bits ∷ rest) (same_words words)
 
-offers_write : (words : List (List Bool)) (moments : List Moment) → OfferWords words moments → Writes words moments
-offers_write words moments offers = record { turns = map word words; each = are_turns words moments offers; written = same_words words }
+offers_write : (text : List PlainModule) (words : List (List Bool)) (moments : List Moment) → OfferWords (offered text words) moments → Writes text words moments
+offers_write text words moments offers =
+    let pieces = offered text words in record { turns = map word pieces; each = are_turns pieces moments offers; written = same_words pieces }
 
 still_known : (t : Tern) (b : Bool) → t ≡ known b → t ≡ known (bool_of t)
 still_known t b is = is ∙ ap known (sym (bool_of_known b)) ∙ ap (λ u. known (bool_of u)) (sym is)
@@ -184,7 +186,7 @@ module _ (s : Setting) where
     configured : IsConfigured s.fabric s.bits base
     configured =
         let loads = is_loaded.loads in
-        let written = offers_write (map (digits 32) (stream s.fabric s.bits)) loads.moments loads.offers in
+        let written = offers_write s.text (map (digits 32) (stream s.fabric s.bits)) loads.moments loads.offers in
         let after_words = ((s.laws.loads s.fabric s.text s.is s.is_text).loads s.bits).configures loads.moments zeros is_loaded.after written loads.run in
         s.laws.goes s.fabric s.text s.bits is_loaded.after base s.is s.is_text after_words
         (λ p is. ap bool_of (loading_stays p is) ∙ bool_of_known (is_loaded.after p))

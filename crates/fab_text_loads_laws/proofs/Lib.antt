@@ -2,6 +2,7 @@ pub mod Drivers
 pub mod Declared
 pub mod Tops
 pub mod Loader
+pub mod Offered
 pub mod TileItems
 pub mod Within
 pub mod Strobes
@@ -13,6 +14,7 @@ pub mod Ticks
 pub mod Runs
 pub mod Stays
 pub mod Written
+pub mod Carried
 pub mod Together
 pub use Rattle.fab_drives_laws.proofs.Apart as fab_drives_laws_Apart
 pub use Rattle.fab_drives_laws.proofs.Declared as fab_drives_laws_Declared

@@ -1,5 +1,5 @@
 -- The loader in a fabric's text: where it stands, how wide its names are, and what drives its registers.
-use Rattle.std.proofs.Common.{◌≡◌, ◌≢◌, ℕ, zero, suc, ◌<◌, true, false, List, [], ◌∷◌, ◌++◌, map, refl, sym, ap, ◌∙◌, inl, inr, arith, Some, All, Contains}
+use Rattle.std.proofs.Common.{◌≡◌, ◌≢◌, ℕ, zero, suc, ◌<◌, true, false, List, [], ◌∷◌, ◌++◌, map, refl, sym, ap, ◌∙◌, subst, inl, inr, arith, Some, All, Contains}
 use Rattle.std.specs.Str.{bytes_eq}
 use Rattle.std.specs.List.{flat_map}
 use Rattle.std.proofs.lemmas.Bool.{cases_Bool}
@@ -19,6 +19,7 @@ use Rattle.fab_meaning.proofs.Dependence.{same_name}
 use Rattle.fab_meaning.proofs.Modules.{each_all}
 use Rattle.fab_drives_laws.specs.fab_prim_Modules.{module_of_kind}
 use Rattle.fab_drives_laws.specs.fab_model_Tiles.{PlainTile, counted}
+use Rattle.fab_drives_laws.specs.fab_model_mode_Mode_TheVariants as modes
 use Rattle.fab_drives_laws.specs.fab_model_Grid.{PlainFabric}
 use Rattle.fab_drives_laws.specs.fab_fabric_Names.{place_name}
 use Rattle.fab_drives_laws.specs.fab_fabric_Fabric.{IsFabric}
@@ -27,6 +28,7 @@ use Rattle.fab_drives_laws.specs.fab_gen_loader_Loader.{NextValues, port, addres
 use Rattle.fab_drives_laws.specs.fab_fabric_text_defs_Names.{top_module_name, loader_instance_name}
 use Rattle.fab_drives_laws.specs.fab_fabric_text_defs_Top.{loader_wires, loader_joins, loader_instance, top_items, top_module}
 use Rattle.fab_drives_laws.specs.fab_fabric_text_defs_Text.{used_kinds, standing_types, tile_modules, fabric_text}
+use Rattle.fab_drives_laws.specs.fab_fabric_text_defs_Texts.{AreLoaders, one, IsFabricText}
 use Rattle.fab_drives_laws.proofs.fab_tile_drives_laws_Driven.{width_of}
 use Rattle.fab_drives_laws.proofs.fab_tile_drives_laws_Endings.{all_counted, all_flat_map}
 use Rattle.fab_drives_laws.proofs.fab_tile_drives_laws_Members.{contains_first, contains_counted}
@@ -63,7 +65,7 @@ loader_found fabric =
     (λ placed there same. absurd (told_apart 0 (place_name placed.x placed.y) loader_instance_name refl same)))
 
 -- no other module of the text has its name
-loader_alone : (fabric : PlainFabric) (loader : PlainModule) → loader.name ≡ loader_module_name → All (Only loader.name loader) (fabric_text fabric loader)
+loader_alone : (fabric : PlainFabric) (loader : PlainModule) → loader.name ≡ loader_module_name → All (Only loader.name loader) (fabric_text fabric (loader ∷ []))
 loader_alone fabric loader is =
     let P = Only loader.name loader in
     All-append P (map module_of_kind (used_kinds fabric)) (flat_map tile_modules (standing_types fabric) ++ loader ∷ top_module fabric ∷ [])
@@ -76,31 +78,43 @@ loader_alone fabric loader is =
     (All-cons P loader (top_module fabric ∷ []) (λ same. refl)
     (All-cons P (top_module fabric) [] (λ same. absurd (told_apart 0 top_module_name loader_module_name refl (same ∙ is))) (All-nil P))))
 
-loader_named : (fabric : PlainFabric) (loader : PlainModule) → loader.name ≡ loader_module_name → module_named (fabric_text fabric loader) loader.name ≡ Some loader
+loader_named : (fabric : PlainFabric) (loader : PlainModule) → loader.name ≡ loader_module_name → module_named (fabric_text fabric (loader ∷ [])) loader.name ≡ Some loader
 loader_named fabric loader is =
     let rest = loader ∷ top_module fabric ∷ [] in
-    only_one_found (λ (other : PlainModule). bytes_eq other.name loader.name) (fabric_text fabric loader) loader
+    only_one_found (λ (other : PlainModule). bytes_eq other.name loader.name) (fabric_text fabric (loader ∷ [])) loader
     (Contains-append_right (map module_of_kind (used_kinds fabric)) (flat_map tile_modules (standing_types fabric) ++ rest) loader
     (Contains-append_right (flat_map tile_modules (standing_types fabric)) rest loader (contains_first loader (top_module fabric ∷ []))))
     ((bytes_eq-Decides loader.name loader.name).1 refl)
     (All-weaker (Only loader.name loader) (λ (other : PlainModule). bytes_eq other.name loader.name ≡ true → other ≡ loader)
-    (λ other alone same. alone ((bytes_eq-Decides other.name loader.name).0 same)) (fabric_text fabric loader) (loader_alone fabric loader is))
+    (λ other alone same. alone ((bytes_eq-Decides other.name loader.name).0 same)) (fabric_text fabric (loader ∷ [])) (loader_alone fabric loader is))
 
 pub text_has_loader : (fabric : PlainFabric) (next : NextValues) → IsFabric fabric → StepsAsTheMachine fabric.rows (loader_of fabric.rows next) →
-    HasLoader fabric next (fabric_text fabric (loader_of fabric.rows next))
+    HasLoader fabric next (fabric_text fabric (loader_of fabric.rows next ∷ []))
 text_has_loader fabric next is steps =
     let loader = loader_of fabric.rows next in
-    let text = fabric_text fabric loader in
+    let text = fabric_text fabric (loader ∷ []) in
     let named : module_named text loader_module_name ≡ Some loader = loader_named fabric loader refl in
     record {
-      tiles = text_has_fabric fabric loader is refl;
+      tiles = text_has_fabric fabric (loader ∷ []) is (All-cons (λ (m : PlainModule). m.name ≡ loader_module_name) loader [] refl (All-nil (λ m. m.name ≡ loader_module_name)));
       named = named;
       stands =
-          ap (λ m. module_of text (instance_in m loader_instance_name)) (top_is_last fabric loader)
+          ap (λ m. module_of text (instance_in m loader_instance_name)) (top_is_last fabric (loader ∷ []))
           ∙ ap (module_of text) (loader_found fabric)
           ∙ named;
       steps = steps;
     }
+
+-- the loader of frames
+loader_of_frames : (fabric : PlainFabric) → IsFabric fabric → {loaders : List PlainModule} → AreLoaders fabric.rows modes.Frames loaders →
+    (next : NextValues) × HasLoader fabric next (fabric_text fabric loaders)
+loader_of_frames fabric is (one {loader} is_loader small) =
+    let next = is_loader.next in
+    let steps : StepsAsTheMachine fabric.rows (loader_of fabric.rows next) = subst (StepsAsTheMachine fabric.rows) is_loader.is is_loader.steps in
+    (next, subst (λ (m : PlainModule). HasLoader fabric next (fabric_text fabric (m ∷ []))) (sym is_loader.is) (text_has_loader fabric next is steps))
+
+pub has_loader : (fabric : PlainFabric) (text : List PlainModule) → IsFabric fabric → IsFabricText fabric text → (next : NextValues) × HasLoader fabric next text
+has_loader fabric text is is_text =
+    subst (λ text. (next : NextValues) × HasLoader fabric next text) (sym is_text.is) (loader_of_frames fabric is is_text.are)
 
 -- ---- its names
 

@@ -251,7 +251,7 @@ module _ (fabric : PlainFabric) (next : NextValues) (text : List PlainModule) (h
       let same : p ≡ point path p.name p.bit = ap (λ other. point other p.name p.bit) at in
       subst IsIn (sym same) (is p.bit (subst (λ q. is_declared text q ≡ true) same declared))
 
-  named_within : (p : Point) → IsLoadingPoint fabric p → is_declared text p ≡ true → IsIn p
+  pub named_within : (p : Point) → IsLoadingPoint fabric p → is_declared text p ≡ true → IsIn p
   named_within p (in_top at listed) declared = at_path p [] at (All-contains (Are []) (top_names fabric) p.name top_within listed) declared
   named_within p (in_loader at) declared = at_path p loader_path at (loader_within fabric next text has p.name) declared
   named_within p (in_tile x y tile there at listed) declared =

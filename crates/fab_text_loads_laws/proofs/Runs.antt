@@ -32,6 +32,7 @@ use Rattle.fab_text_loads_laws.specs.Points.{loader_path, config_path, in_loader
 use Rattle.fab_text_loads_laws.specs.Loads.{IsTurn, Writes, IsConfigured}
 use Rattle.fab_text_loads_laws.proofs.Drivers.{latched_by}
 use Rattle.fab_text_loads_laws.proofs.Loader.{HasLoader}
+use Rattle.fab_text_loads_laws.proofs.Offered.{offered_whole}
 use Rattle.fab_text_loads_laws.proofs.Named.{latch_there, config_stands, named_are_loading}
 use Rattle.fab_text_loads_laws.proofs.Settled.{latch_place, latch_point, latch_is_shown}
 use Rattle.fab_text_loads_laws.proofs.Ticks.{digits_long, held_is_machine, machine_same, word_ticks, quiet_ticks, machine_stays}
@@ -170,18 +171,21 @@ module _ (fabric : PlainFabric) (next : NextValues) (text : List PlainModule) (h
         let rest : number (first_bits n (λ i. f (suc i))) ≡ 0 = omega (arith, none) in
         zero_bits n (λ i. f (suc i)) rest bit (omega (arith, few))
 
-    pub writing_configures : StreamsLoad → (bits : PlainBits) (moments : List Moment) (held after : Assignment) → Writes (stream_words fabric bits) moments →
+    pub writing_configures : StreamsLoad → (bits : PlainBits) (moments : List Moment) (held after : Assignment) → Writes text (stream_words fabric bits) moments →
         IsRunOn (IsLoading text) text moments held after → IsConfigured fabric bits after
     unfolding has_latch
     writing_configures streams_load bits moments held after writes run =
-        let loaded = streams_load fabric bits (machine_at held loader_path rows) writes.turns is (held_is_machine rows held) writes.written in
+        let written : words_of writes.turns ≡ stream_words fabric bits = writes.written ∙ offered_whole fabric text has.tiles (stream_words fabric bits) in
+        let loaded = streams_load fabric bits (machine_at held loader_path rows) writes.turns is (held_is_machine rows held) written in
         let long : All IsWord (words_of writes.turns) =
-        subst (All IsWord) (sym writes.written) (All-map IsWord (digits 32) (stream fabric bits) (all_of (λ (n : ℕ). IsWord (digits 32 n)) (stream fabric bits) (digits_long 32))) in
+        subst (All IsWord) (sym written) (All-map IsWord (digits 32) (stream fabric bits) (all_of (λ (n : ℕ). IsWord (digits 32 n)) (stream fabric bits) (digits_long 32))) in
         let through = taken writes.turns moments held after (words_fit writes.turns long) writes.each run in
         record {
-          state = zero_bits 2 (λ bit. after (point loader_path state_name bit)) (ap (λ machine. machine.state) through.machine ∙ loaded.state);
-          strobe = ap (λ machine. machine.strobe) through.machine ∙ loaded.strobe;
-          latches = λ x y tile there number few.
+          rests = record {
+            state = zero_bits 2 (λ bit. after (point loader_path state_name bit)) (ap (λ machine. machine.state) through.machine ∙ loaded.state);
+            strobe = ap (λ machine. machine.strobe) through.machine ∙ loaded.strobe;
+          };
+          bits_held = λ x y tile there number few.
               let latch = has_latch x y tile number there few in
               let grid = in_grid fabric x y tile there in
               through.latches x y number latch
@@ -197,5 +201,5 @@ module _ (fabric : PlainFabric) (next : NextValues) (text : List PlainModule) (h
       let place = latch_place x y tile number in
       let machine = machine_at held loader_path rows in
       latch_now x y number latch inputs held now settled
-      ∙ ap (λ strobe. latch_shows (record machine { strobe = strobe }) place (held (latch_point x y number))) configured.strobe
-      ∙ configured.latches x y tile there number few
+      ∙ ap (λ strobe. latch_shows (record machine { strobe = strobe }) place (held (latch_point x y number))) configured.rests.strobe
+      ∙ configured.bits_held x y tile there number few

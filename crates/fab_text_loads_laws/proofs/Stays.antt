@@ -1,5 +1,5 @@
 -- While no word is written, a configured text holds what it holds.
-use Rattle.std.proofs.Common.{◌≡◌, ℕ, Bool, true, false, List, [], ◌∷◌, cond, refl, sym, ap, ◌∙◌, subst, inl, inr, arith, Option, Some, None, All, Contains}
+use Rattle.std.proofs.Common.{◌≡◌, ℕ, ◌<◌, Bool, true, false, List, [], ◌∷◌, cond, refl, sym, ap, ◌∙◌, subst, inl, inr, arith, Option, Some, None, All, Contains}
 use Rattle.std.specs.Str.{bytes_eq}
 use Rattle.std.proofs.lemmas.Bool.{cases_Bool}
 use Rattle.std.proofs.lemmas.Slice.Eq.{bytes_eq-Decides}
@@ -19,7 +19,7 @@ use Rattle.fab_drives_laws.specs.fab_gen_tile_Names.{latch_name}
 use Rattle.fab_drives_laws.specs.fab_gen_tile_ConfigModule.{config_module}
 use Rattle.fab_drives_laws.specs.fab_gen_loader_Loader.{NextValues, loader_of, state_name, strobe_register_name, machine_at}
 use Rattle.fab_drives_laws.proofs.fab_gen_loader_Widths.{state_width}
-use Rattle.fab_drives_laws.proofs.fab_tile_drives_laws_Driven.{declared_at}
+use Rattle.fab_drives_laws.proofs.fab_tile_drives_laws_Driven.{width_of, declared_at}
 use Rattle.fab_drives_laws.proofs.fab_tile_drives_laws_Latches.{latch_width}
 use Rattle.fab_loading_laws.specs.Latches.{latch_shows}
 use Rattle.fab_loading_laws.specs.Streams.{TicksKeepMachines}
@@ -45,14 +45,14 @@ record IsFlopItem (text : List PlainModule) (p : Point) (path : Path) (clock : L
   there : Contains here.items (clocked clock target e)
   at : p ≡ point path target p.bit
 
-record IsLatchItem (text : List PlainModule) (p : Point) (path : Path) : Type 0 where
-  here : PlainModule
-  target : List ℕ
-  gate : PlainExpr
-  e : PlainExpr
-  stands : module_at text path ≡ Some here
-  there : Contains here.items (latch target gate e)
-  at : p ≡ point path target p.bit
+pub record IsLatchItem (text : List PlainModule) (p : Point) (path : Path) : Type 0 where
+  pub here : PlainModule
+  pub target : List ℕ
+  pub gate : PlainExpr
+  pub e : PlainExpr
+  pub stands : module_at text path ≡ Some here
+  pub there : Contains here.items (latch target gate e)
+  pub at : p ≡ point path target p.bit
 
 -- an instance drives no flip-flop and no latch
 join_is_wire : (path : Path) (i : List ℕ) (input : Bool) (port : List ℕ) (to : Option PlainExpr) (p : Point) (d : Driver) → JoinDrives path i input port to p d →
@@ -125,9 +125,30 @@ flop_item : (text : List PlainModule) (p : Point) (path : Path) (clock : List �
 flop_item text p path clock next bit (inl driven) = absurd (subst IsFlopDriver driven.is tt)
 flop_item text p path clock next bit (inr driven) = flop_of_item text p driven.path driven.module_here driven.stands driven.item path clock next bit driven.holds driven.drives
 
-latch_item : (text : List PlainModule) (p : Point) (path : Path) (gate data_value : PlainExpr) (bit : ℕ) → Drives text p (hold path gate data_value bit) → IsLatchItem text p path
+pub latch_item : (text : List PlainModule) (p : Point) (path : Path) (gate data_value : PlainExpr) (bit : ℕ) → Drives text p (hold path gate data_value bit) → IsLatchItem text p path
 latch_item text p path gate data_value bit (inl driven) = absurd (subst IsHoldDriver driven.is tt)
 latch_item text p path gate data_value bit (inr driven) = latch_of_item text p driven.path driven.module_here driven.stands driven.item path gate data_value bit driven.holds driven.drives
+
+-- ---- what holds the same
+
+module _ (fabric : PlainFabric) (next : NextValues) (text : List PlainModule) (has : HasLoader fabric next text) (is : IsFabric fabric) (bits : PlainBits) where
+  register_same : (held after : Assignment) → ((p : Point) → IsLoading text p → after p ≡ held p) → (name : List ℕ) (bit : ℕ) →
+      bit < width_of (loader_of fabric.rows next) name → after (point loader_path name bit) ≡ held (point loader_path name bit)
+  register_same held after same name bit few =
+      same (point loader_path name bit)
+      (named_are_loading fabric next text has (point loader_path name bit) (in_loader refl) (declared_at text loader_path (loader_of fabric.rows next) name bit has.stands few))
+
+  -- is configured as well
+  pub still_configured : (held after : Assignment) → IsConfigured fabric bits held → ((p : Point) → IsLoading text p → after p ≡ held p) → IsConfigured fabric bits after
+  still_configured held after configured same = record {
+    rests = record {
+      state = λ bit few. register_same held after same state_name bit (omega (arith, few, state_width fabric.rows next)) ∙ configured.rests.state bit few;
+      strobe = register_same held after same strobe_register_name 0 (omega (arith, strobe_register_width fabric.rows next)) ∙ configured.rests.strobe;
+    };
+    bits_held = λ x y tile there number few.
+        same (latch_point x y number) (latch_loads fabric next text has is x y number (has_latch fabric next text has is x y tile number there few))
+        ∙ configured.bits_held x y tile there number few;
+  }
 
 -- ---- a tick
 
@@ -146,8 +167,8 @@ module _ (fabric : PlainFabric) (next : NextValues) (text : List PlainModule) (h
     register_stays name bit clock listed declared =
         let loader = loader_of fabric.rows next in
         let ticks_here : Ticks (IsLoading text) text clock_name held now after = subst (λ clock. Ticks (IsLoading text) text clock held now after) clock ticks in
-        All-contains (Stays fabric next text has is keeps moment.inputs held now after settled ticks_here (quiet clock) configured.strobe) (register_names fabric.rows) name
-        (registers_stay fabric next text has is keeps moment.inputs held now after settled ticks_here (quiet clock) configured.strobe) listed bit
+        All-contains (Stays fabric next text has is keeps moment.inputs held now after settled ticks_here (quiet clock) configured.rests.strobe) (register_names fabric.rows) name
+        (registers_stay fabric next text has is keeps moment.inputs held now after settled ticks_here (quiet clock) configured.rests.strobe) listed bit
         (bit_below text loader_path loader name bit has.stands declared)
 
     flop_stays : (p : Point) (path : Path) (clock : List ℕ) (e : PlainExpr) (bit : ℕ) → is_declared text p ≡ true → IsLoading text p → Drives text p (flop path clock e bit) →
@@ -174,7 +195,7 @@ module _ (fabric : PlainFabric) (next : NextValues) (text : List PlainModule) (h
         let machine = machine_at held loader_path fabric.rows in
         latch_ticks fabric next text has is x y number found moment.clock held now after ticks
         ∙ latch_now fabric next text has is x y number found moment.inputs held now settled
-        ∙ ap (λ strobe. latch_shows (record machine { strobe = strobe }) place (held (latch_point x y number))) configured.strobe
+        ∙ ap (λ strobe. latch_shows (record machine { strobe = strobe }) place (held (latch_point x y number))) configured.rests.strobe
 
     latch_stays : (p : Point) (path : Path) (gate e : PlainExpr) (bit : ℕ) → is_declared text p ≡ true → Drives text p (hold path gate e bit) → after p ≡ held p
     latch_stays p path gate e bit declared drives =
@@ -211,28 +232,10 @@ module _ (fabric : PlainFabric) (next : NextValues) (text : List PlainModule) (h
 
   -- ---- a run
 
-  -- what holds the same is configured as well
-  still_configured : (held after : Assignment) → IsConfigured fabric bits held → ((p : Point) → IsLoading text p → after p ≡ held p) → IsConfigured fabric bits after
-  still_configured held after configured same =
-      let loader = loader_of fabric.rows next in
-      let in_loader_loads : (name : List ℕ) (bit : ℕ) → is_declared text (point loader_path name bit) ≡ true → IsLoading text (point loader_path name bit) =
-      λ name bit declared. named_are_loading fabric next text has (point loader_path name bit) (in_loader refl) declared in
-      record {
-        state = λ bit few. same (point loader_path state_name bit)
-            (in_loader_loads state_name bit (declared_at text loader_path loader state_name bit has.stands (omega (arith, few, state_width fabric.rows next))))
-            ∙ configured.state bit few;
-        strobe = same (point loader_path strobe_register_name 0)
-            (in_loader_loads strobe_register_name 0 (declared_at text loader_path loader strobe_register_name 0 has.stands (omega (arith, strobe_register_width fabric.rows next))))
-            ∙ configured.strobe;
-        latches = λ x y tile there number few. same (latch_point x y number)
-            (latch_loads fabric next text has is x y number (has_latch fabric next text has is x y tile number there few))
-            ∙ configured.latches x y tile there number few;
-      }
-
   pub configuration_stays : (moments : List Moment) (held after : Assignment) → IsConfigured fabric bits held → All IsQuiet moments → IsRunOn (IsLoading text) text moments held after →
       (p : Point) → IsLoading text p → after p ≡ held p
   configuration_stays [] held after configured quiet run p loading = run p loading
   configuration_stays (moment ∷ moments) held after configured quiet (now, between, settled, low, ticks, rest) p loading =
       let stay = one_stays moment held now between configured (All-head IsQuiet moment moments quiet) settled ticks in
-      configuration_stays moments between after (still_configured held between configured stay) (All-tail IsQuiet moment moments quiet) rest p loading
+      configuration_stays moments between after (still_configured fabric next text has is bits held between configured stay) (All-tail IsQuiet moment moments quiet) rest p loading
       ∙ stay p loading

@@ -1,5 +1,5 @@
 -- The law of loading, put together.
-use Rattle.std.proofs.Common.{◌≡◌, List, [], ◌∷◌, refl, sym, ap, ◌∙◌, subst}
+use Rattle.std.proofs.Common.{List, [], ◌∷◌, refl, ap}
 use Rattle.std.proofs.lemmas.List.Elements.{All-nil}
 use Rattle.fab_syntax.specs.Plain.{PlainModule}
 use Rattle.fab_syntax.specs.Declarations.{is_input_of}
@@ -8,16 +8,15 @@ use Rattle.fab_meaning.specs.Runs.{clock_name, user_clock_name, Moment}
 use Rattle.fab_meaning.specs.Loading.{AreAlike, IsIdle, LoadingRunsAgree, LoadingPointsStay}
 use Rattle.fab_drives_laws.specs.fab_model_Grid.{PlainFabric}
 use Rattle.fab_drives_laws.specs.fab_fabric_Fabric.{IsFabric}
-use Rattle.fab_drives_laws.specs.fab_gen_loader_Loader.{NextValues, loader_of, StepsAsTheMachine}
-use Rattle.fab_drives_laws.specs.fab_fabric_text_defs_Text.{fabric_text}
+use Rattle.fab_drives_laws.specs.fab_gen_loader_Loader.{NextValues}
 use Rattle.fab_loading_laws.specs.Streams.{stream_words, StreamsLoad, TicksKeepMachines}
 use Rattle.fab_load_runs_laws.specs.Runs.{HasClocks, RunsExist}
 use Rattle.fab_text_loads_laws.specs.Loads.{RunsOnce, LoadsConfigurations}
 use Rattle.fab_drives_laws.specs.fab_fabric_text_defs_Texts.{IsFabricText}
-use Rattle.fab_text_loads_laws.proofs.Loader.{HasLoader, text_has_loader}
+use Rattle.fab_text_loads_laws.proofs.Loader.{HasLoader, has_loader}
 use Rattle.fab_text_loads_laws.proofs.Named.{named_are_loading}
 use Rattle.fab_text_loads_laws.proofs.Runs.{writing_configures, configured_shows}
-use Rattle.fab_text_loads_laws.proofs.Stays.{configuration_stays}
+use Rattle.fab_text_loads_laws.proofs.Stays.{still_configured, configuration_stays}
 use Rattle.fab_text_loads_laws.proofs.Written.{words_written}
 
 -- moments are like themselves
@@ -42,18 +41,13 @@ module _ (agree : LoadingRunsAgree) (stay : LoadingPointsStay) (exist : RunsExis
       runs = runs_once text sound
           (record { loader_clock = ap (λ m. is_input_of m clock_name) has.tiles.top_is; user_clock = ap (λ m. is_input_of m user_clock_name) has.tiles.top_is });
       loads = λ bits. record {
-        writable = words_written (stream_words fabric bits);
+        writable = words_written text (stream_words fabric bits);
         configures = writing_configures fabric next text has is keeps load bits;
         stays = configuration_stays fabric next text has is keeps bits;
+        goes = still_configured fabric next text has is bits;
         shows = configured_shows fabric next text has is bits;
       };
     }
 
     pub fabric_loads : (fabric : PlainFabric) (text : List PlainModule) → IsFabric fabric → IsFabricText fabric text → LoadsConfigurations fabric text
-    fabric_loads fabric text is is_text =
-        let loader = is_text.is_loader in
-        let made = loader_of fabric.rows loader.next in
-        let steps : StepsAsTheMachine fabric.rows made = subst (StepsAsTheMachine fabric.rows) loader.is loader.steps in
-        let text_is : text ≡ fabric_text fabric made = is_text.is ∙ ap (fabric_text fabric) loader.is in
-        subst (LoadsConfigurations fabric) (sym text_is)
-        (text_loads fabric loader.next (fabric_text fabric made) is (text_has_loader fabric loader.next is steps) (subst IsSound text_is is_text.sound))
+    fabric_loads fabric text is is_text = let found = has_loader fabric text is is_text in text_loads fabric found.0 text is found.1 is_text.sound

@@ -7,7 +7,9 @@ use Rattle.fab_meaning.specs.Points.{Point, point}
 use Rattle.fab_meaning.specs.Settled.{Assignment, IsSettledOn}
 use Rattle.fab_meaning.specs.Reads.{is_declared}
 use Rattle.fab_meaning.specs.Runs.{clock_name, Moment, IsRunOn}
-use Rattle.fab_meaning.specs.Loading.{IsLoading, IsSameStream, IsIdle, write_strobe_name, write_data_name}
+use Rattle.fab_meaning.specs.Loading.{offered, IsLoading, IsSameStream, IsIdle, write_strobe_name, write_data_name}
+use Rattle.fab_drives_laws.specs.fab_model_mode_Mode.{Mode}
+use Rattle.fab_drives_laws.specs.fab_model_mode_Mode_TheVariants as modes
 use Rattle.fab_drives_laws.specs.fab_model_Grid.{PlainFabric}
 use Rattle.fab_drives_laws.specs.fab_model_Drive.{PlainBits}
 use Rattle.fab_drives_laws.specs.fab_gen_loader_Loader.{state_name, strobe_register_name}
@@ -24,21 +26,22 @@ abbrev pub IsQuiet : Moment → Type 0
 IsQuiet moment = moment.clock ≡ clock_name → moment.inputs (point [] write_strobe_name 0) ≡ false
 
 -- Inputs that write a word, with bit 0 the least significant. Of WriteData the text of a fabric declares no further bits.
-pub record WritesWord (offered : List Bool) (inputs : Assignment) : Type 0 where
+pub record WritesWord (piece : List Bool) (inputs : Assignment) : Type 0 where
   pub strobe : inputs (point [] write_strobe_name 0) ≡ true
-  pub bits : (bit : ℕ) → bit < length offered → inputs (point [] write_data_name bit) ≡ bit_at offered bit
+  pub bits : (bit : ℕ) → bit < length piece → inputs (point [] write_data_name bit) ≡ bit_at piece bit
 
 -- What the loader sees at the end of a moment. Where another clock than CLK ticks, the inputs are free.
 abbrev pub IsTurn : Turn → Moment → Type 0
-IsTurn (word offered) moment = (moment.clock ≡ clock_name) × WritesWord offered moment.inputs
+IsTurn (word piece) moment = (moment.clock ≡ clock_name) × WritesWord piece moment.inputs
 IsTurn pause moment = (moment.clock ≡ clock_name) × (moment.inputs (point [] write_strobe_name 0) ≡ false)
 IsTurn other_clock moment = moment.clock ≢ clock_name
 
--- In these moments the words are written, one after the other. There may be ticks of CLK without a word and ticks of other clocks among them.
-pub record Writes (words : List (List Bool)) (moments : List Moment) : Type 0 where
+-- In these moments what the text is offered for words is written, one piece after the other. There may be ticks of CLK without a piece and
+-- ticks of other clocks among them.
+pub record Writes (text : List PlainModule) (words : List (List Bool)) (moments : List Moment) : Type 0 where
   pub turns : List Turn
   pub each : AllZip IsTurn turns moments
-  pub written : words_of turns ≡ words
+  pub written : words_of turns ≡ offered text words
 
 -- ---- runs
 
@@ -60,22 +63,33 @@ pub record RunsOnce (text : List PlainModule) : Type 0 where
 
 -- ---- the configuration
 
--- The loader holds that it waits and strobes no frame, and each configuration latch holds its bit.
-pub record IsConfigured (fabric : PlainFabric) (bits : PlainBits) (held : Assignment) : Type 0 where
+-- the loader holds that it waits and strobes no frame
+pub record LoaderWaits (held : Assignment) : Type 0 where
   pub state : (bit : ℕ) → bit < 2 → held (point loader_path state_name bit) ≡ false
   pub strobe : held (point loader_path strobe_register_name 0) ≡ false
-  pub latches : ShowsBits fabric bits held
+
+-- the loader, where there is one, waits
+abbrev pub LoaderRests : Mode → (held : Assignment) → Type 0
+LoaderRests modes.Frames held = LoaderWaits held
+LoaderRests modes.Chain held = Unit {0}
+
+-- The loader rests, and what keeps the configuration holds each bit. Each text is one with frames.
+pub record IsConfigured (fabric : PlainFabric) (bits : PlainBits) (held : Assignment) : Type 0 where
+  pub rests : LoaderRests modes.Frames held
+  pub bits_held : ShowsBits fabric bits held
 
 pub record LoadsBits (fabric : PlainFabric) (text : List PlainModule) (bits : PlainBits) : Type 0 where
   -- the words of the bitstream can be written,
-  pub writable : (moments : List Moment) × Writes (stream_words fabric bits) moments × All IsClockLow moments
+  pub writable : (moments : List Moment) × Writes text (stream_words fabric bits) moments × All IsClockLow moments
   -- and however they are, whatever was held, they leave the configuration,
-  pub configures : (moments : List Moment) (held after : Assignment) → Writes (stream_words fabric bits) moments →
+  pub configures : (moments : List Moment) (held after : Assignment) → Writes text (stream_words fabric bits) moments →
       IsRunOn (IsLoading text) text moments held after → IsConfigured fabric bits after
   -- which stays, whatever ticks, while no word is written,
   pub stays : (moments : List Moment) (held after : Assignment) → IsConfigured fabric bits held → All IsQuiet moments →
       IsRunOn (IsLoading text) text moments held after → (p : Point) → IsLoading text p → after p ≡ held p
-  -- and which the latches show
+  -- which is there wherever the loading points hold the same,
+  pub goes : (held after : Assignment) → IsConfigured fabric bits held → ((p : Point) → IsLoading text p → after p ≡ held p) → IsConfigured fabric bits after
+  -- and which the points of the bits show
   pub shows : (inputs held now : Assignment) → IsConfigured fabric bits held → IsSettledOn (IsLoading text) text inputs held now → ShowsBits fabric bits now
 
 -- the named points that the text declares are loading points

@@ -14,6 +14,7 @@ pub use Rattle.fab_legal.proofs.Members as fab_legal_Members
 pub use Rattle.fab_legal.proofs.Once as fab_legal_Once
 pub use Rattle.fab_legal.proofs.PackedMade as fab_legal_PackedMade
 pub use Rattle.fab_legal.proofs.SinkLaw as fab_legal_SinkLaw
+pub use Rattle.fab_text_loads_laws.proofs.Carried as fab_text_loads_laws_Carried
 pub use Rattle.fab_text_loads_laws.proofs.Declared as fab_text_loads_laws_Declared
 pub use Rattle.fab_text_loads_laws.proofs.Drivers as fab_text_loads_laws_Drivers
 pub use Rattle.fab_text_loads_laws.proofs.Loader as fab_text_loads_laws_Loader

@@ -61,8 +61,8 @@ pub record RunsFrom (fabric : PlainFabric) (text : List PlainModule) (netlist : 
 pub record RunsDesign (fabric : PlainFabric) (text : List PlainModule) (netlist : PlainNetlist) (implementation : PlainImplementation) (words : List ℕ) (state : PlainState) : Type 0 where
   pub exist : (p : Point) → DesignPoints fabric text netlist implementation p → is_declared text p ≡ true
   pub once : RunsOnce text
-  pub writable : (moments : List Moment) × Writes (map (digits 32) words) moments × All IsClockLow moments
-  pub runs : (moments : List Moment) (held after start : Assignment) → Writes (map (digits 32) words) moments → IsRunOn (IsLoading text) text moments held after →
+  pub writable : (moments : List Moment) × Writes text (map (digits 32) words) moments × All IsClockLow moments
+  pub runs : (moments : List Moment) (held after start : Assignment) → Writes text (map (digits 32) words) moments → IsRunOn (IsLoading text) text moments held after →
       ((p : Point) → IsLoading text p → start p ≡ after p) → RunsFrom fabric text netlist implementation start
   -- flip-flops that hold the state hold what the latches begin with
   pub begins : (held : Assignment) (latches : List Bool) → HoldsState state held → HoldsLatches netlist implementation held latches → IsInitial netlist latches

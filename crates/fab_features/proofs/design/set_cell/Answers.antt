@@ -1,6 +1,5 @@
-use Rattle.std.proofs.Common.{◌≡◌, cond, arith}
+use Rattle.std.proofs.Common.{◌≡◌, arith}
 use Rattle.fab_fabric.specs.Bits.{plain_bits}
-use Rattle.fab_use_defs.specs.Configuring.{cell_bit}
 use Rattle.fab_features.proofs.Setting.{lut_fits, site_adds}
 use Rattle.fab_features.proofs.design.set_cell.Goals as goal
 
@@ -19,7 +18,6 @@ set_ones-requires-3-clause-fits c =
 pub returns-clause-adds : goal.returns-clause-adds
 returns-clause-adds c =
     let table : c.from.result ≡ c.args.cell.now.table = cc in
-    let high : c.from-2.result ≡ cond (cell_bit c.args.resets c.args.cell.now 18) 1 0 = cc in
-    site_adds c.args.fabric.now c.args.resets c.in-Some.tile.now c.args.site c.args.cell.now c.first_bit-low.result c.from.result c.latch_value.result c.from-2.result
-    c.in-Some.ensures.found.0 c.first_bit-low.ensures.before table c.latch_value.ensures high
+    site_adds c.args.fabric.now c.args.resets c.in-Some.tile.now c.args.site c.args.cell.now c.first_bit-low.result c.from.result c.latch_value.result c.reset_value.result
+    c.in-Some.ensures.found.0 c.first_bit-low.ensures.before table c.latch_value.ensures c.reset_value.ensures
     (plain_bits c.args.bits.now) (plain_bits c.set_ones.new.bits) (plain_bits c.set_ones-2.new.bits) (plain_bits c.set_ones-3.new.bits) c.set_ones.ensures.adds c.set_ones-2.ensures.adds c.set_ones-3.ensures.adds

@@ -1,4 +1,5 @@
-use Rattle.std.proofs.Common.{◌≡◌, ℕ, ◌<◌, Bool, List, get_or, length, is_some, ap, ◌∙◌, subst}
+use Rattle.std.proofs.Common.{rules, ◌≡◌, ℕ, ◌<◌, Bool, List, get_or, length, is_some, ap, ◌∙◌, subst, arith}
+use Rattle.std.proofs.lemmas.Grind.{common_steps}
 use Rattle.fab_fabric.specs.Bits.{plain_bits}
 use Rattle.fab_fabric.specs.declared.wire.Site.{Site}
 use Rattle.fab_netlist.specs.Plain.{IsAt}
@@ -19,7 +20,7 @@ loop-line-preserved c =
     let few : line.0 < length packed.cells = (c.requires.lines l.line-index none c.loop-line-test.true).number in
     let cells_are : c.packed.inside.cells.items ≡ packed.cells = ap (λ (p : PlainPacked). p.cells) c.packed.view_is in
     let at : IsAt packed.cells line.0 cell = at_read packed.cells line.0 cell few (c.index.ensures ∙ ap (λ (cells : List PlainCell). get_or cells line.0 cell) cells_are) in
-    let resets_are : c.is_some.result ≡ is_some packed.reset = cc in
+    let resets_are : c.is_some.result ≡ is_some packed.reset = first_of (search rules, grind (arith, common_steps)) in
     record {
       are = c.set_cell.ensures.are;
       adds =

@@ -1,4 +1,5 @@
-use Rattle.std.proofs.Common.{◌≡◌, ◌∙◌, ℕ, List, [], Some, is_some, ap}
+use Rattle.std.proofs.Common.{rules, ◌≡◌, ◌∙◌, ℕ, List, [], Some, is_some, ap, arith}
+use Rattle.std.proofs.lemmas.Grind.{common_steps}
 use Rattle.fab_fasm.specs.declared.feature.Feature.{Feature}
 use Rattle.fab_features.specs.Design.{site_features, cell_features}
 use Rattle.fab_features.specs.inner.Listing.{site_at}
@@ -16,7 +17,7 @@ loop-bel-preserved c =
     let site = site_at c.args.x c.args.y l.bel in
     let f : ℕ → List Feature = λ bel. site_features c.args.lookup.now.packed.now c.args.lookup.now.implementation.now (site_at c.args.x c.args.y bel) in
     let packed = c.args.lookup.now.packed.now in
-    let resets : c.is_some-resets.result ≡ is_some packed.reset = cc in
+    let resets : c.is_some-resets.result ≡ is_some packed.reset = first_of (search rules, grind (arith, common_steps)) in
     elim c.match-cell_on.branch [
       | in-Some+in_ok-push_cell w ↦
           rw w.features-is (more_flat start l.features.items w.push_cell.new.features.items f l.bel l.invariant

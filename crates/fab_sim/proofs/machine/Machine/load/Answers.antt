@@ -1,7 +1,9 @@
-use Rattle.std.proofs.Common.{◌≡◌, ℕ, Bool, List, length, sym, ap, subst, ◌∙◌, arith}
+use Rattle.std.proofs.Common.{◌≡◌, ℕ, Bool, List, length, map, sym, ap, subst, ◌∙◌, arith}
 use Rattle.std.specs.List.{slice_get}
 use Rattle.std.specs.Vec.{with_items}
 use Rattle.std.proofs.lemmas.List.{with_items_is}
+use Rattle.fab_bits.specs.Bits.{digits}
+use Rattle.fab_meaning.specs.Loading.{OfferWords}
 use Rattle.fab_ternary.specs.declared.Tern.{Tern}
 use Rattle.fab_network.specs.Passes.{kept_tern}
 use Rattle.fab_ordering_laws.specs.fab_simulation_laws_Simulation.{zeros}
@@ -10,7 +12,7 @@ use Rattle.fab_phases.specs.Cycles.{IsRunningAt}
 use Rattle.fab_state_points.specs.Entries.{in_entries, out_entries, register_entries}
 use Rattle.fab_sim.specs.inner.Starting.{IsSetOut}
 use Rattle.fab_sim.proofs.Numbers.{ffs_once, numbers_within}
-use Rattle.fab_sim.proofs.Loaded.{holds_first, holds_last, solvable, strobe_within, word_within}
+use Rattle.fab_sim.proofs.Loaded.{holds_first, holds_last, solvable, strobe_within, word_within, words_whole}
 use Rattle.fab_sim.proofs.Started.{starts_as}
 use Rattle.fab_sim.proofs.machine.Machine.load.Goals as goal
 
@@ -68,13 +70,15 @@ returns-clause-runs c text state new loaded is_loaded =
     let steps = subst (λ (xs : List Tern). AreLoadSteps m.network new.loads first words (kept_tern xs) (kept_tern c.load_words.new.given))
     c.deref_mut.ensures.value
     (c.load_words.ensures.steps new.loads loading) in
+    let offers = subst (λ (pieces : List (List Bool)). OfferWords pieces is_loaded.loads.moments) (words_whole text of.stands.has (map (digits 32) words))
+    is_loaded.loads.offers in
     let begins = holds_first text m.network of.network m.points.stream of.stands.has of.stands.stream (kept_tern m.given.items) new.first in
     let holding = holds_last text m.network of.network m.points.stream of.stands.has of.stands.stream c.points_of_sound_texts_have_one_driver.ensures
     c.numbered_exists.ensures.numbers c.numbered_exists.ensures.points c.numbered_solutions.ensures.solve c.numbered_kept.ensures
     c.loading_is_known.ensures.known
     c.loading_is_known.ensures.kept new.loads new.are words is_loaded.loads.moments (kept_tern m.given.items) (kept_tern c.load_words.new.given) zeros
     is_loaded.after begins
-    steps is_loaded.loads.offers is_loaded.loads.run in
+    steps offers is_loaded.loads.run in
     -- what is set then
     let filled : (with_items m.given c.load_words.new.given).items ≡ c.load_words.new.given =
     with_items_is m.given c.load_words.new.given (c.load_words.auto.given ∙ c.deref_mut.ensures.len) in
@@ -124,13 +128,15 @@ returns-clause-fresh c text state new loaded is_loaded =
     let steps = subst (λ (xs : List Tern). AreLoadSteps m.network new.loads first words (kept_tern xs) (kept_tern c.load_words.new.given))
     c.deref_mut.ensures.value
     (c.load_words.ensures.steps new.loads loading) in
+    let offers = subst (λ (pieces : List (List Bool)). OfferWords pieces is_loaded.loads.moments) (words_whole text of.stands.has (map (digits 32) words))
+    is_loaded.loads.offers in
     let begins = holds_first text m.network of.network m.points.stream of.stands.has of.stands.stream (kept_tern m.given.items) new.first in
     let holding = holds_last text m.network of.network m.points.stream of.stands.has of.stands.stream c.points_of_sound_texts_have_one_driver.ensures
     c.numbered_exists.ensures.numbers c.numbered_exists.ensures.points c.numbered_solutions.ensures.solve c.numbered_kept.ensures
     c.loading_is_known.ensures.known
     c.loading_is_known.ensures.kept new.loads new.are words is_loaded.loads.moments (kept_tern m.given.items) (kept_tern c.load_words.new.given) zeros
     is_loaded.after begins
-    steps is_loaded.loads.offers is_loaded.loads.run in
+    steps offers is_loaded.loads.run in
     -- what is set then
     let filled : (with_items m.given c.load_words.new.given).items ≡ c.load_words.new.given =
     with_items_is m.given c.load_words.new.given (c.load_words.auto.given ∙ c.deref_mut.ensures.len) in
