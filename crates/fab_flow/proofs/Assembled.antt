@@ -39,9 +39,9 @@ use Rattle.fab_assemble.specs.fab_features_Features.{IsBitMapOf}
 use Rattle.fab_assemble.specs.fab_features_Naming.{HasPrefixes}
 use Rattle.fab_gen_tile.specs.Words.{IsNamed}
 use Rattle.fab_read.specs.Fabrics.{SpellsFabric}
-use Rattle.fab_fabric_names_laws.proofs.Prefixes.{ArePrefixed, prefixes_kept}
-use Rattle.fab_fabric_names_laws.proofs.Blocks.{names_kept}
-use Rattle.fab_fabric_names_laws.proofs.Readings.{spelled_keep}
+use Rattle.fab_spelled_fabrics_laws.proofs.Prefixes.{ArePrefixed, prefixes_kept}
+use Rattle.fab_spelled_fabrics_laws.proofs.Blocks.{names_kept}
+use Rattle.fab_spelled_fabrics_laws.proofs.Readings.{spelled_keep}
 use Rattle.fab_outputs.specs.declared.storing.Output.{Output}
 use Rattle.fab_assemble.specs.fab_use_defs_Configuring.{Configures}
 use Rattle.fab_assemble.specs.fab_use_defs_Headline.{RunsDesign}

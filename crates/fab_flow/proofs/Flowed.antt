@@ -28,9 +28,9 @@ use Rattle.fab_assemble.specs.fab_features_Naming.{HasPrefixes}
 use Rattle.fab_impl.specs.Spelled.{implementation_text}
 use Rattle.fab_map.specs.Causes.{HasMapCause}
 use Rattle.fab_read.specs.Fabrics.{SpellsFabric}
-use Rattle.fab_fabric_names_laws.proofs.Prefixes.{ArePrefixed, prefixes_kept}
-use Rattle.fab_fabric_names_laws.proofs.Blocks.{names_kept}
-use Rattle.fab_fabric_names_laws.proofs.Readings.{spelled_keep}
+use Rattle.fab_spelled_fabrics_laws.proofs.Prefixes.{ArePrefixed, prefixes_kept}
+use Rattle.fab_spelled_fabrics_laws.proofs.Blocks.{names_kept}
+use Rattle.fab_spelled_fabrics_laws.proofs.Readings.{spelled_keep}
 use Rattle.fab_designs.specs.Designs.{PlainDesign, MeetsDesign, SpellsDesign}
 use Rattle.fab_outputs.specs.declared.storing.Output.{Output}
 use Rattle.fab_outputs.specs.Storing.{PlainOutput, Leaves, plain_output}

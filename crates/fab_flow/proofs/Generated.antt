@@ -16,8 +16,8 @@ use Rattle.fab_assemble.specs.fab_drives_laws_Drives.{ShowsDrives}
 use Rattle.fab_assemble.specs.fab_text_loads_laws_Loads.{LoadsConfigurations}
 use Rattle.fab_assemble.specs.fab_fabric_text_defs_Texts.{IsFabricText}
 use Rattle.fab_read.specs.Fabrics.{SpellsFabric}
-use Rattle.fab_fabric_names_laws.proofs.Blocks.{names_kept}
-use Rattle.fab_fabric_names_laws.proofs.Readings.{spelled_keep}
+use Rattle.fab_spelled_fabrics_laws.proofs.Blocks.{names_kept}
+use Rattle.fab_spelled_fabrics_laws.proofs.Readings.{spelled_keep}
 use Rattle.fab_outputs.specs.Storing.{PlainOutput, output, Leaves}
 use Rattle.fab_flow.specs.Generating.{generated_text, text_length, most_text_bytes, IsTooLong, MakesFabric, HasGenerateCause}
 use Rattle.fab_outputs.proofs.Ending.{leaves_of_memory}

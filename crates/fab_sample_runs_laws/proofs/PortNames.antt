@@ -6,13 +6,13 @@ use Rattle.std.proofs.lemmas.Simd.{map-map}
 use Rattle.fab_netlist.specs.Plain.{PlainNetlist, name_of}
 use Rattle.fab_netlist.specs.Packing.{net_of, packed}
 use Rattle.fab_legal.specs.WellMade.{output_name, output_ports, ports}
-use Rattle.fab_sample_reads_laws.specs.Items.{Item}
-use Rattle.fab_sample_reads_laws.specs.Named.{IsOfItems}
-use Rattle.fab_sample_reads_laws.specs.Samples.{input_words, output_words}
-use Rattle.fab_sample_reads_laws.proofs.SampleItems.{inputs_are, output_words_are}
-use Rattle.fab_sample_reads_laws.proofs.ShortTexts.{short_run}
-use Rattle.fab_sample_reads_laws.proofs.TaggedWords.{run}
-use Rattle.fab_ready_flow_laws.specs.fab_short_texts_laws_Laws.{IsShortName}
+use Rattle.fab_sample_laws.specs.Items.{Item}
+use Rattle.fab_sample_laws.specs.Named.{IsOfItems}
+use Rattle.fab_sample_laws.specs.Samples.{input_words, output_words}
+use Rattle.fab_sample_laws.proofs.SampleItems.{inputs_are, output_words_are}
+use Rattle.fab_sample_laws.proofs.ShortTexts.{short_run}
+use Rattle.fab_sample_laws.proofs.TaggedWords.{run}
+use Rattle.fab_flow_laws.specs.fab_legal_states_laws_ShortLaws.{IsShortName}
 
 -- a letter and a number
 run_short : (letter size : ℕ) → size ≤ 16 → (words : List (List ℕ)) → words ≡ run letter 0 size → All IsShortName words

@@ -19,24 +19,24 @@ use Rattle.fab_stimulus.specs.Spelled as stimuli
 use Rattle.fab_impl.specs.Spelled.{implementation_text}
 use Rattle.fab_read.specs.Fabrics.{SpellsFabric}
 use Rattle.fab_designs.specs.Designs.{DesignFiles, PlainDesign, SpellsDesign}
-use Rattle.fab_ready_flow_laws.specs.fab_spelled_designs_laws_Laws.{IsSound, SpelledDesignsAreSound}
-use Rattle.fab_ready_flow_laws.specs.fab_short_texts_laws_Laws.{IsShortName, LegalImplementationsAreShort, LegalStatesAreShort}
+use Rattle.fab_flow_laws.specs.fab_spelled_designs_laws_DesignLaws.{IsSound, SpelledDesignsAreSound}
+use Rattle.fab_flow_laws.specs.fab_legal_states_laws_ShortLaws.{IsShortName, LegalImplementationsAreShort, LegalStatesAreShort}
 use Rattle.fab_outputs.specs.Storing.{PlainOutput, with_outputs}
-use Rattle.fab_ready_flow_laws.specs.fab_flow_Generating.{generated_text}
-use Rattle.fab_ready_flow_laws.specs.fab_flow_Flowing.{MakesFlow, flow_outputs}
-use Rattle.fab_ready_flow_laws.specs.fab_simulate_command_Simulating.{IsReadyToSimulate, ReadsStimulus}
-use Rattle.fab_ready_flow_laws.specs.fab_stored_flow_laws_Laws.{flow_state}
-use Rattle.fab_ready_flow_laws.proofs.fab_stored_flow_laws_HandedOut.{given_out}
-use Rattle.fab_ready_flow_laws.proofs.fab_stored_flow_laws_Ports.{input_names}
-use Rattle.fab_ready_flow_laws.specs.Laws.{FlowFilesAreReady}
+use Rattle.fab_flow_laws.specs.fab_flow_Generating.{generated_text}
+use Rattle.fab_flow_laws.specs.fab_flow_Flowing.{MakesFlow, flow_outputs}
+use Rattle.fab_flow_laws.specs.fab_simulate_command_Simulating.{IsReadyToSimulate, ReadsStimulus}
+use Rattle.fab_flow_laws.specs.StoredLaws.{flow_state}
+use Rattle.fab_flow_laws.proofs.HandedOut.{given_out}
+use Rattle.fab_flow_laws.proofs.Ports.{input_names}
+use Rattle.fab_flow_laws.specs.ReadyLaws.{FlowFilesAreReady}
 use Rattle.fab_sample.specs.Drawn.{covers, sample_latches, sample_stimulus}
 use Rattle.fab_sample.specs.Files.{file_of}
-use Rattle.fab_sample_reads_laws.specs.Laws.{SampleStimuliAreRead, stimulus_text}
-use Rattle.fab_sample_reads_laws.specs.Named.{IsOfItems}
-use Rattle.fab_sample_reads_laws.specs.Samples.{input_words, output_words, sample_items}
-use Rattle.fab_sample_designs_laws.specs.fab_sample_sizes_laws_Sizes.{SampleTextsAreSmall}
-use Rattle.fab_sample_designs_laws.specs.Designs.{SampleDesignsAreRead, TellsSample}
-use Rattle.fab_sample_designs_laws.proofs.Designs.{tells_fabric}
+use Rattle.fab_sample_laws.specs.Laws.{SampleStimuliAreRead, stimulus_text}
+use Rattle.fab_sample_laws.specs.Named.{IsOfItems}
+use Rattle.fab_sample_laws.specs.Samples.{input_words, output_words, sample_items}
+use Rattle.fab_sample_laws.specs.Sizes.{SampleTextsAreSmall}
+use Rattle.fab_sample_laws.specs.Designs.{SampleDesignsAreRead, TellsSample}
+use Rattle.fab_sample_laws.proofs.Designs.{tells_fabric}
 use Rattle.fab_sample_runs_laws.specs.Commands.{names, simulated}
 use Rattle.fab_sample_runs_laws.proofs.PortNames.{ports_short}
 use Rattle.fab_sample_runs_laws.proofs.WireNames.{sample_wires_short}

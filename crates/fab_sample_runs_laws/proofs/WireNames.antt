@@ -16,11 +16,11 @@ use Rattle.fab_fabric.proofs.Numbered.{tile_within}
 use Rattle.fab_legal.proofs.Pins.{tile_type}
 use Rattle.fab_impl.specs.Names.{list_to, place_wires, wire_names}
 use Rattle.fab_read.specs.Fabrics.{SpellsFabric}
-use Rattle.fab_sample_designs_laws.specs.fab_sample_fabrics_laws_Fabrics.{TellsFabric}
-use Rattle.fab_sample_designs_laws.proofs.fab_sample_fabrics_laws_Assembled.{east_tile, fabrics_typed, logic_tile, west_tile}
-use Rattle.fab_sample_designs_laws.proofs.fab_sample_fabrics_laws_Blocks.{east, logic, west}
-use Rattle.fab_ready_flow_laws.specs.fab_short_texts_laws_Laws.{IsShortName}
-use Rattle.fab_ready_flow_laws.proofs.fab_short_texts_laws_Rows.{place_length}
+use Rattle.fab_sample_laws.specs.Fabrics.{TellsFabric}
+use Rattle.fab_sample_laws.proofs.Assembled.{east_tile, fabrics_typed, logic_tile, west_tile}
+use Rattle.fab_sample_laws.proofs.Blocks.{east, logic, west}
+use Rattle.fab_flow_laws.specs.fab_legal_states_laws_ShortLaws.{IsShortName}
+use Rattle.fab_flow_laws.proofs.fab_legal_states_laws_Rows.{place_length}
 
 -- ---- tiles
 

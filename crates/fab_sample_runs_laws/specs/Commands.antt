@@ -1,7 +1,7 @@
 -- The commands that a sample runs through, by the names of their files.
 use Rattle.std.specs.Prelude.{ℕ, codes, None}
-use Rattle.fab_ready_flow_laws.specs.fab_flow_Flowing.{FlowFiles, flow_files}
-use Rattle.fab_ready_flow_laws.specs.fab_simulate_command_Simulating.{SimulationFiles, simulation_files}
+use Rattle.fab_flow_laws.specs.fab_flow_Flowing.{FlowFiles, flow_files}
+use Rattle.fab_flow_laws.specs.fab_simulate_command_Simulating.{SimulationFiles, simulation_files}
 
 -- `flow sample.csv sample.blif sample`, which may take 32 rounds
 abbrev pub names : FlowFiles

@@ -4,9 +4,9 @@ use Rattle.fab_base.specs.declared.TheConstants.{MAX_FILE_BYTES}
 use Rattle.fab_desk.specs.Files.{Map}
 use Rattle.fab_impl.specs.Spelled.{implementation_text}
 use Rattle.fab_outputs.specs.Storing.{PlainOutput, with_outputs}
-use Rattle.fab_ready_flow_laws.specs.fab_flow_Flowing.{MakesFlow}
-use Rattle.fab_ready_flow_laws.specs.fab_simulate_command_Simulating.{IsReadyToSimulate}
-use Rattle.fab_sample_designs_laws.specs.Designs.{TellsSample}
+use Rattle.fab_flow_laws.specs.fab_flow_Flowing.{MakesFlow}
+use Rattle.fab_flow_laws.specs.fab_simulate_command_Simulating.{IsReadyToSimulate}
+use Rattle.fab_sample_laws.specs.Designs.{TellsSample}
 use Rattle.fab_sample_runs_laws.specs.Commands.{names, simulated}
 
 -- With the stimulus of the sample nothing is refused.

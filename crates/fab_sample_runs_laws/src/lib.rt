@@ -4,17 +4,16 @@
 ghost use Rattle.fab_sample_runs_laws.specs.Laws.{SampleImplementationsAreShort, SamplesSimulate};
 
 use fab_designs::designs_are_spelled_once;
-use fab_read::fabrics_are_spelled_once;
-use fab_ready_flow_laws::{
+use fab_flow_laws::{
     flow_files_are_ready, legal_implementations_are_short, legal_states_are_short,
 };
-pub use fab_ready_flow_laws::{
+pub use fab_flow_laws::{
     do_assemble, do_bits, do_features, do_flow, do_generate, do_map, do_matrix, do_simulate,
     legal_designs_are_spelled, spelled_designs_are_sound,
 };
-use fab_sample_designs_laws::sample_texts_are_small;
-pub use fab_sample_designs_laws::{sample_designs_are_read, samples_are_ready};
-use fab_sample_reads_laws::sample_stimuli_are_read;
+use fab_read::fabrics_are_spelled_once;
+use fab_sample_laws::{sample_stimuli_are_read, sample_texts_are_small};
+pub use fab_sample_laws::{sample_designs_are_read, samples_are_ready};
 
 /// Of what a flow makes of the files of a sample `simulate` refuses nothing.
 pub fn samples_simulate()

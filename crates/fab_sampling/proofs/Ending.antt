@@ -10,7 +10,7 @@ use Rattle.fab_outputs.specs.Ending.{HasCause}
 use Rattle.fab_sample_runs_laws.specs.fab_flow_Flowing.{HasFlowCause, IsReadyToFlow, MeetsFlow}
 use Rattle.fab_sample_runs_laws.proofs.fab_flow_FlowedOnce.{flow_not_both}
 use Rattle.fab_draws.specs.Draws.{draws_of}
-use Rattle.fab_sample_runs_laws.specs.fab_sample_designs_laws_Ready.{SamplesAreReady}
+use Rattle.fab_sample_runs_laws.specs.fab_sample_laws_Ready.{SamplesAreReady}
 use Rattle.fab_sample_runs_laws.specs.Commands.{names, rounds}
 use Rattle.fab_sampling.specs.declared.outcome.Outcome.{Outcome}
 use Rattle.fab_sampling.specs.declared.outcome.Outcome.TheVariants.{Unmapped}

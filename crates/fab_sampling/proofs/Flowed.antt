@@ -23,8 +23,8 @@ use Rattle.fab_designs.proofs.Judged.{design_is_judged}
 use Rattle.fab_outputs.specs.Storing.{IsDone, PlainOutput, with_outputs}
 use Rattle.fab_sample_runs_laws.specs.fab_flow_Generating.{generated_text}
 use Rattle.fab_sample_runs_laws.specs.fab_flow_Flowing.{MakesFlow, flow_outputs}
-use Rattle.fab_sample_runs_laws.proofs.fab_stored_flow_laws_HandedOut.{found_is, given_out}
-use Rattle.fab_sample_runs_laws.specs.fab_spelled_designs_laws_Laws.{IsSound, LegalDesignsAreSpelled, SpelledDesignsAreSound}
+use Rattle.fab_sample_runs_laws.proofs.fab_flow_laws_HandedOut.{found_is, given_out}
+use Rattle.fab_sample_runs_laws.specs.fab_spelled_designs_laws_DesignLaws.{IsSound, LegalDesignsAreSpelled, SpelledDesignsAreSound}
 use Rattle.fab_draws.specs.Draws.{draws_of}
 use Rattle.fab_sample_runs_laws.specs.Commands.{names, rounds}
 use Rattle.fab_sample_runs_laws.specs.Laws.{SampleImplementationsAreShort}

@@ -11,8 +11,8 @@ use Rattle.fab_sample.specs.Grid.{fabric_lines}
 use Rattle.fab_sample.specs.Lines.{text}
 use Rattle.fab_sample.specs.Lists.{edge_lines, logic_lines}
 use Rattle.fab_sample.specs.Netlists.{netlist_lines, stimulus_text_lines}
-use Rattle.fab_sample_runs_laws.specs.fab_sample_fabrics_laws_Fabrics.{IsAbsent, Stands, place_tables}
-use Rattle.fab_sample_runs_laws.specs.fab_sample_designs_laws_Designs.{TellsSample}
+use Rattle.fab_sample_runs_laws.specs.fab_sample_laws_Fabrics.{IsAbsent, Stands, place_tables}
+use Rattle.fab_sample_runs_laws.specs.fab_sample_laws_Designs.{TellsSample}
 use Rattle.fab_sampling.specs.Sampling.{no_files, sample_map}
 
 -- six files of these names, whatever their texts

@@ -28,7 +28,7 @@ fn summary_of<P: Progress>(
 /// the sample, its fabric and its netlist, the status of `flow`, and then what the placement costs with how many edges the nets have,
 /// and that the trace is that of the netlist; or, where the status is 8 or 9, the report.
 ///
-/// No command on the way refuses anything of a sample: its files are read, the text of its fabric is small (`fab_sample_designs_laws`), and
+/// No command on the way refuses anything of a sample: its files are read, the text of its fabric is small (`fab_sample_laws`), and
 /// what `flow` stores is read by `simulate` (`fab_sample_runs_laws`). So memory alone may be wanted.
 pub fn summary<P: Progress>(
     alloc: Global,

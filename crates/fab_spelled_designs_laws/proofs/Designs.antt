@@ -26,8 +26,8 @@ use Rattle.fab_features.specs.fab_use_defs_Registers.{design_state}
 use Rattle.fab_blif.proofs.Each.{each_joined, each_kept, each_mapped, each_weaker}
 use Rattle.fab_blif.proofs.Netlists.{netlist_is_well_made}
 use Rattle.fab_designs.specs.Designs.{DesignFiles, PlainDesign, SpellsDesign}
-use Rattle.fab_port_names_laws.proofs.Named.{ports_are_words}
-use Rattle.fab_port_names_laws.proofs.SmallTables.{tables_are_small}
+use Rattle.fab_spelled_designs_laws.proofs.Named.{ports_are_words}
+use Rattle.fab_spelled_designs_laws.proofs.SmallTables.{tables_are_small}
 use Rattle.fab_spelled_fabrics_laws.proofs.Whole.{spelled_fabric, spelled_tiles, spelled_words}
 use Rattle.fab_spelled_designs_laws.proofs.Apart.{each_tested}
 use Rattle.fab_spelled_designs_laws.proofs.States.{state_spelled}

@@ -1,7 +1,25 @@
-//! The laws of designs that files spell: they are sound, and what is printed of a legal implementation is read back.
+//! The laws of designs that files spell: names of ports are words, netlists are well made, designs are sound, and what is printed of a legal
+//! implementation is read back. Each function does nothing: its contract is a law.
 #![tactic(auto)]
 
-ghost use Rattle.fab_spelled_designs_laws.specs.Laws.{LegalDesignsAreSpelled, SpelledDesignsAreSound};
+ghost use Rattle.fab_spelled_designs_laws.specs.DesignLaws.{LegalDesignsAreSpelled, SpelledDesignsAreSound};
+ghost use Rattle.fab_spelled_designs_laws.specs.PortLaws.{NetlistsAreWellMade, PortNamesAreWords, TablesAreSmall};
+
+/// In the netlist of a BLIF text the name of each data port is a word: not empty, without a blank, a tab, `#`, LF or CR. So it can stand in any
+/// line of the texts of words.
+pub fn port_names_are_words()
+    ensures { PortNamesAreWords }
+{}
+
+/// The netlist of a BLIF text is well made: among others each net that is read has one driver, and no two ports have one name.
+pub fn netlists_are_well_made()
+    ensures { NetlistsAreWellMade }
+{}
+
+/// In the netlist of a BLIF text the table of each cover is below 65536, as a value of 16 bits.
+pub fn tables_are_small()
+    ensures { TablesAreSmall }
+{}
 
 /// A design that files spell has a fabric as tables promise it, and a netlist that is well made.
 pub fn spelled_designs_are_sound()

@@ -26,8 +26,8 @@ use Rattle.fab_blocks.specs.Rows.{WireCells, bel_problem, bel_reason, kind_of, k
 use Rattle.fab_blocks.specs.Saying.{HasRoomIfEnded, Step, begin_grid, begin_parameters, begin_problem, begin_tile, end_grid, end_parameters, end_tile, grid_line, handed_out, line_problem, lines_of, may_begin, parameters_begun, row_in, said_of, say, stands, with_block, with_line, with_said}
 use Rattle.fab_blocks.specs.Words.{word_of}
 use Rattle.fab_blocks.proofs.Readings.{begin_has_room, begin_outside, failed, grid_more, lines_are_grid, no_problem, passed, plain_room, room_of_next, sound_closed, sound_lines, sound_open, sound_type}
-use Rattle.fab_fabric_names_laws.specs.fab_read_Rows.{ReadsRows, end_at, ends, ends_tile, opens_file, takes_row}
-use Rattle.fab_fabric_names_laws.specs.fab_read_Tiles.{ReadsTile}
+use Rattle.fab_spelled_fabrics_laws.specs.fab_read_Rows.{ReadsRows, end_at, ends, ends_tile, opens_file, takes_row}
+use Rattle.fab_spelled_fabrics_laws.specs.fab_read_Tiles.{ReadsTile}
 
 either : {X : Type 0} (P : X → Type 0) (test : Bool) (x y : X) → P x → P y → P (if test then x else y)
 either P true x y p q = p

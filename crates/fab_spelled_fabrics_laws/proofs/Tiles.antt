@@ -27,10 +27,10 @@ use Rattle.fab_blocks.specs.Blocks.{IsBlock, PlainBlock, bare, names, new_block,
 use Rattle.fab_blocks.specs.Rows.{WireCells, bel_problem_of, row_of, wire_problem, with_bel_of}
 use Rattle.fab_blocks.proofs.Bridge.{is_tile}
 use Rattle.fab_blocks.proofs.Fine.{block_with_bel, block_with_row, known_kind}
-use Rattle.fab_fabric_names_laws.specs.fab_read_Tiles.{End, ReadsMatrix, ReadsTable, ReadsTile, block_problem, by_default, by_table, most_names, no_matrix, number_pair, pairs_by_number, of_list, of_table, pair_of, paired}
-use Rattle.fab_fabric_names_laws.proofs.fab_read_Places.{default_table}
-use Rattle.fab_fabric_names_laws.proofs.Keeping.{Keeps}
-use Rattle.fab_fabric_names_laws.proofs.Sizes.{HasName, sizes_kept}
+use Rattle.fab_spelled_fabrics_laws.specs.fab_read_Tiles.{End, ReadsMatrix, ReadsTable, ReadsTile, block_problem, by_default, by_table, most_names, no_matrix, number_pair, pairs_by_number, of_list, of_table, pair_of, paired}
+use Rattle.fab_spelled_fabrics_laws.proofs.fab_read_Places.{default_table}
+use Rattle.fab_spelled_fabrics_laws.proofs.Keeping.{Keeps}
+use Rattle.fab_spelled_fabrics_laws.proofs.Sizes.{HasName, sizes_kept}
 
 -- ---- blocks
 

@@ -9,10 +9,10 @@ use Rattle.fab_model.specs.Tiles.{IsTile, matrix_names}
 use Rattle.fab_blocks.specs.Reading.{IsReading}
 use Rattle.fab_fabric.specs.Fabric.{AreTiles, IsFabric, wire_count}
 use Rattle.fab_gen_tile.specs.Words.{IsNamed}
-use Rattle.fab_fabric_names_laws.specs.fab_read_Fabrics.{SpellsFabric, column_count, grid_fabric, places}
-use Rattle.fab_fabric_names_laws.proofs.fab_read_Grids.{reading_is_fabric, some_lines}
-use Rattle.fab_fabric_names_laws.proofs.Blocks.{names_kept}
-use Rattle.fab_fabric_names_laws.proofs.Readings.{spelled_keep}
+use Rattle.fab_spelled_fabrics_laws.specs.fab_read_Fabrics.{SpellsFabric, column_count, grid_fabric, places}
+use Rattle.fab_spelled_fabrics_laws.proofs.fab_read_Grids.{reading_is_fabric, some_lines}
+use Rattle.fab_spelled_fabrics_laws.proofs.Blocks.{names_kept}
+use Rattle.fab_spelled_fabrics_laws.proofs.Readings.{spelled_keep}
 use Rattle.fab_spelled_fabrics_laws.proofs.Rows.{sound_rows, sound_start}
 use Rattle.fab_spelled_fabrics_laws.proofs.Tiles.{IsRead, IsStarted, tiles_kept}
 use Rattle.fab_spelled_fabrics_laws.proofs.Words.{tile_named}

@@ -5,7 +5,7 @@ use Rattle.fab_lines.specs.Names.{is_identifier}
 use Rattle.fab_model.specs.Grid.{PlainFabric}
 use Rattle.fab_model.specs.Tiles.{matrix_names}
 use Rattle.fab_fabric.specs.Fabric.{AreTiles, IsFabric}
-use Rattle.fab_fabric_names_laws.specs.fab_read_Fabrics.{SpellsFabric}
+use Rattle.fab_spelled_fabrics_laws.specs.fab_read_Fabrics.{SpellsFabric}
 
 -- its grid, its types and their tables
 abbrev pub SpelledFabricsAreFabrics : Type 0

@@ -10,7 +10,7 @@ use Rattle.fab_model.specs.Grid.{PlainFabric}
 use Rattle.fab_fabric.specs.Fabric.{AreTiles, IsFabric}
 use Rattle.fab_gen_tile.specs.Words.{IsNamed}
 use Rattle.fab_gen_loader.specs.Expressions.{loader_module}
-use Rattle.fab_fabric_names_laws.specs.fab_read_Fabrics.{SpellsFabric}
+use Rattle.fab_spelled_fabrics_laws.specs.fab_read_Fabrics.{SpellsFabric}
 use Rattle.fab_grammar_defs.specs.Grammar.{SpellsText}
 use Rattle.fab_grammar_defs.specs.Printable.{IsModule, IsPrintableText}
 use Rattle.fab_drives_laws.specs.fab_fabric_text_defs_Text.{fabric_text}

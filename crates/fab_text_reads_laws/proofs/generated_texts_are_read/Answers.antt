@@ -2,9 +2,9 @@ use Rattle.std.proofs.Common.{◌∷◌, [], All}
 use Rattle.std.proofs.lemmas.List.Elements.{All-cons, All-nil}
 use Rattle.fab_gen_tile.specs.Words.{IsNamed}
 use Rattle.fab_gen_loader.specs.Expressions.{loader_module}
-use Rattle.fab_fabric_names_laws.proofs.Blocks.{names_kept}
-use Rattle.fab_fabric_names_laws.proofs.Readings.{spelled_keep}
-use Rattle.fab_fabric_names_laws.proofs.Sizes.{HasName, IsSized, sizes_kept}
+use Rattle.fab_spelled_fabrics_laws.proofs.Blocks.{names_kept}
+use Rattle.fab_spelled_fabrics_laws.proofs.Readings.{spelled_keep}
+use Rattle.fab_spelled_fabrics_laws.proofs.Sizes.{HasName, IsSized, sizes_kept}
 use Rattle.fab_grammar_defs.proofs.Printed.{texts_form}
 use Rattle.fab_grammar_defs.specs.Printable.{IsModule}
 use Rattle.fab_drives_laws.specs.fab_fabric_text_defs_Texts.{generated_text}

@@ -13,6 +13,6 @@ returns c =
     let ended = c.has_type-ended.ensures ∙ ap (λ (ts : List PlainTile). list_any (λ (tile : PlainTile). bytes_eq name tile.name) ts) c.deref.ensures.value
     ∙ ap (λ (r : PlainReading). list_any (λ (tile : PlainTile). bytes_eq name tile.name) r.types) c.self.view_is in
     c.either.ensures
-    ∙ ap (λ (b : Bool). b || c.is_open_name-open.result) ended
-    ∙ ap (λ (b : Bool). list_any (λ (tile : PlainTile). bytes_eq name tile.name) types || b) c.is_open_name-open.ensures
+    ∙ ap (λ (b : Bool). b || c.is_open_name-begun.result) ended
+    ∙ ap (λ (b : Bool). list_any (λ (tile : PlainTile). bytes_eq name tile.name) types || b) c.is_open_name-begun.ensures
     ∙ among_names name types (open_name c.args.self.now.begun)

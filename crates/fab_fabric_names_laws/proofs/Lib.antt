@@ -1,7 +1,0 @@
-pub mod Keeping
-pub mod Blocks
-pub mod Prefixes
-pub mod Readings
-pub mod Sizes
-pub use Rattle.fab_read.proofs.Grids as fab_read_Grids
-pub use Rattle.fab_read.proofs.Places as fab_read_Places

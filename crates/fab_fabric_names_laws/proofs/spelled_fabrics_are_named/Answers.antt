@@ -1,7 +1,0 @@
-use Rattle.fab_gen_tile.specs.Words.{IsNamed}
-use Rattle.fab_fabric_names_laws.proofs.Blocks.{names_kept}
-use Rattle.fab_fabric_names_laws.proofs.Readings.{spelled_keep}
-use Rattle.fab_fabric_names_laws.proofs.spelled_fabrics_are_named.Goals as goal
-
-pub returns : goal.returns
-returns c = spelled_keep IsNamed IsNamed names_kept

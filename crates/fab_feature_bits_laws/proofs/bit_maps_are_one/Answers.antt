@@ -1,5 +1,0 @@
-use Rattle.fab_feature_bits_laws.proofs.OneMap.{bit_maps_are_one}
-use Rattle.fab_feature_bits_laws.proofs.bit_maps_are_one.Goals as goal
-
-pub returns : goal.returns
-returns c = bit_maps_are_one

@@ -1,5 +1,0 @@
-use Rattle.fab_feature_bits_laws.proofs.DesignRight.{features_right}
-use Rattle.fab_feature_bits_laws.proofs.design_features_are_right.Goals as goal
-
-pub returns : goal.returns
-returns c = features_right

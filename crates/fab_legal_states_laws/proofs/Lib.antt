@@ -1,0 +1,10 @@
+pub mod StateLines
+pub mod Ports
+pub mod Entries
+pub mod Counting
+pub mod Rows
+pub mod Lines
+pub mod Edges
+pub mod Implementations
+pub mod States
+pub mod Bitstreams

@@ -1,4 +1,0 @@
-pub mod Lines
-pub mod Spoken
-pub mod Named
-pub mod SmallTables

@@ -1,0 +1,4 @@
+pub mod BrokenFirsts
+pub mod Items
+pub mod Rules
+pub mod RefusedFirsts

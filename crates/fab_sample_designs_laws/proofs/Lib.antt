@@ -1,4 +1,0 @@
-pub mod Designs
-pub mod Ready
-pub use Rattle.fab_sample_sizes_laws.proofs.fab_sample_fabrics_laws_Assembled as fab_sample_fabrics_laws_Assembled
-pub use Rattle.fab_sample_sizes_laws.proofs.fab_sample_fabrics_laws_Blocks as fab_sample_fabrics_laws_Blocks

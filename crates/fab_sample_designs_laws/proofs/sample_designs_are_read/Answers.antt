@@ -1,5 +1,0 @@
-use Rattle.fab_sample_designs_laws.proofs.Designs.{designs_read}
-use Rattle.fab_sample_designs_laws.proofs.sample_designs_are_read.Goals as goal
-
-pub returns : goal.returns
-returns c = designs_read

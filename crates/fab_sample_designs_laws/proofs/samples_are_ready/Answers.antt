@@ -1,5 +1,0 @@
-use Rattle.fab_sample_designs_laws.proofs.Ready.{ready}
-use Rattle.fab_sample_designs_laws.proofs.samples_are_ready.Goals as goal
-
-pub returns : goal.returns
-returns c = ready

@@ -1,4 +1,0 @@
-pub mod Designs
-pub mod Ready
-pub use Rattle.fab_sample_sizes_laws.specs.fab_sample_fabrics_laws_Fabrics as fab_sample_fabrics_laws_Fabrics
-pub use Rattle.fab_sample_sizes_laws.specs.Sizes as fab_sample_sizes_laws_Sizes

@@ -1,5 +1,0 @@
-use Rattle.fab_sample_reads_laws.proofs.SampleNetlists.{netlists_read}
-use Rattle.fab_sample_reads_laws.proofs.sample_netlists_are_read.Goals as goal
-
-pub returns : goal.returns
-returns c = netlists_read

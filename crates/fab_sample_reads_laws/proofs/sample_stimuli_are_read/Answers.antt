@@ -1,5 +1,0 @@
-use Rattle.fab_sample_reads_laws.proofs.SampleStimuli.{stimuli_read}
-use Rattle.fab_sample_reads_laws.proofs.sample_stimuli_are_read.Goals as goal
-
-pub returns : goal.returns
-returns c = stimuli_read

@@ -1,5 +1,0 @@
-use Rattle.fab_short_texts_laws.proofs.Implementations.{implementation_short}
-use Rattle.fab_short_texts_laws.proofs.legal_implementations_are_short.Goals as goal
-
-pub returns : goal.returns
-returns c = λ fabric packed fixed implementation is tiles made legal wires names. implementation_short fabric is tiles packed made fixed implementation legal wires names

@@ -1,4 +1,0 @@
-pub mod Digits
-pub mod Shown
-pub mod Narrow
-pub mod Flowed

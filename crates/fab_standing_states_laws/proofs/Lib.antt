@@ -1,3 +1,0 @@
-pub mod StateLines
-pub mod Ports
-pub mod Entries

@@ -1,5 +1,0 @@
-use Rattle.fab_standing_states_laws.proofs.Ports.{stream_there}
-use Rattle.fab_standing_states_laws.proofs.fabric_texts_have_streams.Goals as goal
-
-pub returns : goal.returns
-returns c = stream_there

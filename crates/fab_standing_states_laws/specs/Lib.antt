@@ -1,2 +1,0 @@
-pub mod Laws
-pub use Rattle.fab_points_laws.specs.fab_use_defs_Registers as fab_use_defs_Registers

@@ -1,5 +1,0 @@
-use Rattle.fab_stored_flow_laws.proofs.Stored.{holds_flow}
-use Rattle.fab_stored_flow_laws.proofs.flow_files_stand.Goals as goal
-
-pub returns : goal.returns
-returns c = holds_flow
