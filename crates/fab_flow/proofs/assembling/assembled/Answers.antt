@@ -30,8 +30,8 @@ returns-in-Ok-clause-map c =
     subst (λ (d : PlainDesign). All IsNamed d.fabric.types → All HasPrefixes d.fabric.types → IsBitMapOf d.fabric c.in-Ok.assembled.features.items (plain_bits c.in-Ok.assembled.bits))
     c.design.view_is c.in-Ok.ensures.map
 
-pub returns-clause-refused : goal.returns-clause-refused
-returns-clause-refused c =
+pub returns-in-Err-clause-refused : goal.returns-in-Err-clause-refused
+returns-in-Err-clause-refused c =
     subst (λ (f : Fault). (f ≡ faults.Memory) ⊎ RefusesAssembly c.args.design.now c.args.implementation f) (sym c.from.ensures)
     (check_refused c.args.design.now c.args.implementation c.args.packed.now c.in-Err.fault c.requires.packed c.requires.fits
     (subst (λ (d : PlainDesign). Explains d.fabric c.args.packed.now d.fixed c.args.implementation c.in-Err.fault) c.design.view_is c.in-Err.ensures.err))
