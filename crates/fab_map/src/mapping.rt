@@ -16,7 +16,7 @@ use fab_fabric::Fabric;
 use fab_implementation::{Fixed, Implementation};
 use fab_netlist::Packed;
 use fab_place::place_with_progress;
-use fab_progress::{Progress, Silent};
+use fab_progress::{Progress, Silent, Step};
 use fab_route::route_with_progress;
 use std::alloc::Global;
 
@@ -47,7 +47,7 @@ pub fn map(
     map_with_progress(alloc, &mut Silent, fabric, packed, fixed, seed, rounds)
 }
 
-/// Maps a design as `map` does, and tells on the way how far placing and routing are.
+/// Maps a design as `map` does, and tells on the way how far placing and routing are, and with which seed it begins again.
 pub fn map_with_progress<P: Progress>(
     alloc: Global,
     progress: &mut P,
@@ -101,7 +101,10 @@ fn again<P: Progress>(
     ensures cause { IfErr result (HasMapCause fabric.now packed.now fixed.now rounds) }
 {
     match before {
-        Err(Fault::Overused(..)) => attempt(alloc, progress, fabric, packed, fixed, seed, rounds),
+        Err(Fault::Overused(..)) => {
+            progress.tell(Step::Retrying { seed });
+            attempt(alloc, progress, fabric, packed, fixed, seed, rounds)
+        }
         answer => answer,
     }
 }

@@ -18,7 +18,7 @@ pub fn is_asked_for<R: Env + Alloc>(rt: &R) -> bool {
 }
 
 /// Standard error. It shows each step as a line, once a second has passed since it was made: the lines of this second are
-/// held back, and come with the first later one.
+/// held back, and come with the first later one, or with one that is urgent.
 ///
 /// It shows nothing where that is not wanted, or where the clock fails. A line that standard error does not take, or for
 /// which there is no memory, is lost.
@@ -59,7 +59,7 @@ impl<R: Eprint + Clock> Progress for ErrProgress<'_, R> {
             return;
         };
         match since.elapsed(self.rt) {
-            Ok(passed) if passed >= Duration::from_secs(1) => self.show(step),
+            Ok(passed) if step.is_urgent() || passed >= Duration::from_secs(1) => self.show(step),
             Ok(_) => {
                 let _ = writeln!(self.held, "fab: {step}");
             }
@@ -127,6 +127,22 @@ mod tests {
         assert_eq!(rt; pieces(alloc, true, [0, 0, 1], &name), 2);
         assert_eq!(rt; pieces(alloc, true, [1, 0, 0], &name), 3);
         assert_eq!(rt; pieces(alloc, false, [1, 1, 1], &name), 0);
+        Ok(())
+    }
+
+    #[test]
+    fn shows_urgent_steps_at_once(rt: HostRuntime) -> Result<(), Fail> {
+        let alloc = rt.alloc();
+        let name = Name::of(alloc, b"list")?;
+        let fake = Fake {
+            seconds: Cell::new(100),
+            pieces: Cell::new(0),
+        };
+        let mut progress = ErrProgress::new(alloc, &fake, true);
+        progress.tell(Step::Reading(&name));
+        assert_eq!(rt; fake.pieces.get(), 0);
+        progress.tell(Step::Retrying { seed: 2 });
+        assert_eq!(rt; fake.pieces.get(), 2);
         Ok(())
     }
 }

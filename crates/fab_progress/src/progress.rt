@@ -5,7 +5,7 @@ use crate::step::Step;
 /// A place where a command tells what it does. It answers nothing, so nothing that a command does depends on it, and a place
 /// that cannot take a step passes it over.
 pub trait Progress {
-    /// Tells a step: of reading, loading and writing before it is taken, and of the others when it is done.
+    /// Tells a step: of reading, beginning again, loading and writing before it is taken, and of the others when it is done.
     fn tell(&mut self, step: Step<'_>);
 }
 

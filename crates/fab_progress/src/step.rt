@@ -13,12 +13,22 @@ pub enum Step<'a> {
     /// It routes a design: this round, counted from 1, is done, and left so many inputs of switch matrices in the trees of
     /// several nets.
     Routing { round: u32, shared: usize },
+    /// It begins again to place and route a design, with this seed. The last such step names the seed that answered; where there is
+    /// none, the seed that was given did.
+    Retrying { seed: u64 },
     /// It loads the words of a bitstream into a text.
     Loading,
     /// It simulates a text: this cycle of all, counted from 1, is done.
     Simulating { cycle: usize, cycles: usize },
     /// It writes a file.
     Writing(&'a Name),
+}
+
+impl Step<'_> {
+    /// Whether the step is shown however short the command is: what it comes to depends on it.
+    pub fn is_urgent(&self) -> bool {
+        matches!(self, Step::Retrying { .. })
+    }
 }
 
 /// A name as text; `?` where it is none.
@@ -36,6 +46,7 @@ impl fmt::Display for Step<'_> {
             Step::Routing { round, shared } => {
                 write!(f, "routing, round {round}, {shared} shared")
             }
+            Step::Retrying { seed } => write!(f, "mapping again, seed {seed}"),
             Step::Loading => write!(f, "loading"),
             Step::Simulating { cycle, cycles } => write!(f, "cycle {cycle} of {cycles}"),
             Step::Writing(name) => write!(f, "writing {}", text_of(name)),
@@ -69,6 +80,7 @@ mod tests {
                 },
                 "routing, round 1, 7 shared",
             ),
+            (Step::Retrying { seed: 3 }, "mapping again, seed 3"),
             (Step::Loading, "loading"),
             (
                 Step::Simulating {
