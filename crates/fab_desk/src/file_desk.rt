@@ -14,8 +14,9 @@ use std::rt::Files;
 
 /// The files of the system, with counts of the reads and the writes that failed. A name is a path.
 ///
-/// Whatever the system refuses is `Failed`, but for an absent file, which `fetch` answers by `None`. After a `store` that
-/// failed half-way the file holds a front of the bytes.
+/// Whatever the system refuses is `Failed`, but for a file that is absent or cannot be there, since a folder of its path is a file
+/// or its name is too long for the system: `fetch` answers these by `None`. After a `store` that failed half-way the file holds a
+/// front of the bytes.
 #[derive(Drop)]
 pub struct FileDesk<'a, R: Files> {
     rt: &'a R,
@@ -29,6 +30,14 @@ impl<'a, R: Files> Model for FileDesk<'a, R> {
     ghost Value = { Counts };
 
     ghost view = { λ desk. record { reads = desk.reads; writes = desk.writes } };
+}
+
+// Whether an error of the system says that no file stands under a name.
+fn is_absence(kind: ErrorKind) -> bool {
+    matches!(
+        kind,
+        ErrorKind::NotFound | ErrorKind::NotADirectory | ErrorKind::InvalidFilename
+    )
 }
 
 // Reads to the end of the file. The caller counts a `Failed`.
@@ -77,7 +86,7 @@ impl<R: Files> Desk for FileDesk<'_, R> {
         let mut file = match fs::open(self.rt, name) {
             Ok(file) => file,
             Err(error) => {
-                if error.kind() == ErrorKind::NotFound {
+                if is_absence(error.kind()) {
                     return Ok(None);
                 }
                 return Err(DeskFault::counted(&mut self.reads));
@@ -120,6 +129,15 @@ mod tests {
         fs::remove_file(&rt, name)?;
         assert_eq!(rt; back.ok_or("absent")?.as_slice(), long.as_slice());
         assert!(rt; desk.fetch(alloc, name)?.is_none());
+        // A path through a file, and a name of more bytes than a system takes.
+        desk.store(name, b"text")?;
+        let through = format!(in alloc; "{name}/")?;
+        let absent = desk.fetch(alloc, &through)?.is_none();
+        fs::remove_file(&rt, name)?;
+        assert!(rt; absent);
+        let letters = vec![in alloc; b'a'; 5_000]?;
+        let endless = String::from_utf8(letters).ok().ok_or("no text")?;
+        assert!(rt; desk.fetch(alloc, &endless)?.is_none());
         // A folder is opened, and its read fails.
         assert_eq!(rt; desk.fetch(alloc, "."), Err(DeskFault::Failed));
         assert_eq!(rt; desk.store(".", b"text"), Err(DeskFault::Failed));
