@@ -88,8 +88,8 @@ fn join_distance(fabric: &Fabric, wire: Wire) -> u32
     }
 }
 
-// The distance of the tiles of two wires.
-fn distance(fabric: &Fabric, from: Wire, to: Wire) -> u32
+/// The Manhattan distance of the tiles of two wires.
+pub fn distance(fabric: &Fabric, from: Wire, to: Wire) -> u32
     requires from { from.0 < wire_count fabric.now }
     requires to { to.0 < wire_count fabric.now }
     ensures distance { result ≡ wire_distance fabric.now from.0 to.0 }

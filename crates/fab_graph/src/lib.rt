@@ -7,7 +7,7 @@ mod outputs;
 mod reaching;
 mod scans;
 
-pub use bound::Bound;
+pub use bound::{Bound, distance};
 pub use graph::{Ends, Graph};
 pub use reaching::{reach, reach_in};
 pub use scans::{predecessors, successors};

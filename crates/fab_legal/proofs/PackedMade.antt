@@ -19,6 +19,7 @@ use Rattle.fab_implementation.specs.fab_netlist.proofs.Counts.{times_joined, dri
 use Rattle.fab_implementation.specs.fab_netlist.proofs.Marks.{few_numbers}
 use Rattle.fab_implementation.specs.fab_netlist.proofs.Packs.{place_small, from_mapped, few_ports}
 use Rattle.fab_implementation.specs.fab_netlist.proofs.Stepping.{all_of}
+use Rattle.fab_implementation.specs.fab_netlist.proofs.Wired.{wired}
 use Rattle.fab_implementation.specs.fab_netlist.proofs.Works.{IsWork, is_work}
 use Rattle.fab_legal.specs.WellMade.{IsNetId, IsWellMadeCell, IsWellMadePacked, output_name, ports, PackedIsWellMade}
 
@@ -173,7 +174,7 @@ module _ (netlist : PlainNetlist) (made : IsWellMade netlist) where
     few_ports =
         let inputs = length-map netlist.inputs (name_of netlist) in
         let outputs = length-map netlist.outputs shown in
-        omega (arith, inputs, outputs, few_ports netlist made, length-append netlist.inputs netlist.outputs);
+        omega (arith, inputs, outputs, few_ports netlist (wired made), length-append netlist.inputs netlist.outputs);
     cells = cells_made;
     nets = all_of (λ output. IsNetId design output.1) design.outputs (λ output here. let from = from_mapped shown netlist.outputs output here in subst (λ (o : List ℕ × NetId). IsNetId design o.1) from.2 (net_known from.0));
     reset_below = λ place is. let inputs = length-map netlist.inputs (name_of netlist) in omega (arith, inputs, made.reset_below place is);

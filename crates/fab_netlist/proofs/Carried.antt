@@ -6,7 +6,7 @@ use Rattle.fab_netlist.specs.declared.netlist.Latch.{Latch}
 use Rattle.fab_netlist.specs.declared.net_id.NetId.{NetId}
 use Rattle.fab_netlist.specs.declared.net_id.NetId.TheVariants as ids
 use Rattle.fab_netlist.specs.Plain.{PlainCover, PlainNetlist, IsAt, name_of}
-use Rattle.fab_netlist.specs.WellMade.{IsWellMade, times, cover_outputs, latch_outputs, latch_inputs, driven, table_bit}
+use Rattle.fab_netlist.specs.WellMade.{IsWired, times, cover_outputs, latch_outputs, latch_inputs, driven, table_bit}
 use Rattle.fab_netlist.specs.Meaning.{Meets}
 use Rattle.fab_netlist.specs.Packed.{PlainCell}
 use Rattle.fab_netlist.specs.Packing.{Work, of_cover, of_latch, no_latch, latch_at, works, latch_of, output_of, net_of, cell_of, packed, computes, held_or, Carries, ShowsAs, PackingKeepsMeaning}
@@ -17,6 +17,7 @@ use Rattle.fab_netlist.proofs.Settling.{same_inputs}
 use Rattle.fab_netlist.proofs.Levels.{level, levels_fall}
 use Rattle.fab_netlist.proofs.Meaning.{covers_once}
 use Rattle.fab_netlist.proofs.Packs.{map_twice, from_mapped}
+use Rattle.fab_netlist.proofs.Wired.{wired}
 use Rattle.fab_netlist.proofs.Works.{nowhere_or_first, IsSeen, cover_input_seen, output_seen, other_seen, IsWork, is_work, cover_work, latch_work, pair_at}
 
 -- what an item at a place of a mapped list comes from
@@ -46,7 +47,7 @@ pass_on : (bit : Bool) → table_bit 43690 (number (bit ∷ [])) ≡ bit
 pass_on true = refl
 pass_on false = refl
 
-module _ (netlist : PlainNetlist) (made : IsWellMade netlist) where
+module _ (netlist : PlainNetlist) (wiring : IsWired netlist) where
   -- the nets of the cells
   abbrev nets : List ℕ
   nets = map (output_of netlist) (works netlist)
@@ -232,13 +233,13 @@ module _ (netlist : PlainNetlist) (made : IsWellMade netlist) where
 pub keeps_meaning : PackingKeepsMeaning
 keeps_meaning netlist made none given held now meets =
     let ranked = no_cycle_rank netlist none in
-    let rank = level netlist (covers_once netlist made) ranked.0 ranked.1 in
-    let falls = levels_fall netlist (covers_once netlist made) ranked.0 ranked.1 in (
-      (chosen netlist made given held now meets, carries_chosen netlist made given held now meets),
-      (λ values carries. shows_as netlist made given held now meets rank falls values carries),
+    let rank = level netlist (covers_once netlist (wired made)) ranked.0 ranked.1 in
+    let falls = levels_fall netlist (covers_once netlist (wired made)) ranked.0 ranked.1 in (
+      (chosen netlist (wired made) given held now meets, carries_chosen netlist (wired made) given held now meets),
+      (λ values carries. shows_as netlist (wired made) given held now meets rank falls values carries),
       (λ first second carries_first carries_second place small.
           let first_work : Work = get_or (works netlist) place (of_latch 0) in
           let at : IsAt (works netlist) place first_work = at_read (works netlist) place (of_latch 0) small in
-          each_cell netlist made given held now meets rank falls first carries_first place first_work at
-          ∙ sym (each_cell netlist made given held now meets rank falls second carries_second place first_work at)),
+          each_cell netlist (wired made) given held now meets rank falls first carries_first place first_work at
+          ∙ sym (each_cell netlist (wired made) given held now meets rank falls second carries_second place first_work at)),
     )

@@ -7,7 +7,7 @@ use Rattle.std.proofs.lemmas.List.{length-set, get_or-set_same, get_or-set_other
 use Rattle.fab_netlist.specs.declared.walk.Mark.{Mark}
 use Rattle.fab_netlist.specs.declared.walk.Mark.TheVariants as marks
 use Rattle.fab_netlist.specs.Plain.{PlainCover, PlainNetlist, no_cover, cover_at, IsAt}
-use Rattle.fab_netlist.specs.WellMade.{IsWellMade, times, cover_outputs}
+use Rattle.fab_netlist.specs.WellMade.{IsWired, times, cover_outputs}
 use Rattle.fab_netlist.specs.Cycles.{Reads, ReadsOn, IsCycle, IsOneCycle, HasNoCycle}
 use Rattle.fab_netlist.specs.inner.Order.{IsOrder}
 use Rattle.fab_netlist.specs.inner.Search.{driver_at, HasDrivers, IsDriverTable, mark_at, is_new, IsSearch, IsRound, HasEnded, IsListed}
@@ -25,11 +25,11 @@ passing_set test (x ∷ xs) zero y d small = omega arith
 passing_set test (x ∷ xs) (suc place) y d small = omega (arith, passing_set test xs place y d (omega arith))
 
 -- covers of one output have one place
-same_place : (netlist : PlainNetlist) → IsWellMade netlist → (j k : ℕ) → j < length netlist.covers → k < length netlist.covers → (cover_at netlist j).output ≡ (cover_at netlist k).output → j ≡ k
-same_place netlist made j k small_j small_k same =
+same_place : (netlist : PlainNetlist) → IsWired netlist → (j k : ℕ) → j < length netlist.covers → k < length netlist.covers → (cover_at netlist j).output ≡ (cover_at netlist k).output → j ≡ k
+same_place netlist wiring j k small_j small_k same =
     let first = at_mapped (λ (cover : PlainCover). cover.output) netlist.covers j (cover_at netlist j) (small_j, get_or_default netlist.covers j (cover_at netlist j) no_cover small_j) in
     let second = at_mapped (λ (cover : PlainCover). cover.output) netlist.covers k (cover_at netlist k) (small_k, get_or_default netlist.covers k (cover_at netlist k) no_cover small_k) in
-    one_place (cover_at netlist j).output (cover_outputs netlist.covers) j k (covers_once netlist made (cover_at netlist j).output) first
+    one_place (cover_at netlist j).output (cover_outputs netlist.covers) j k (covers_once netlist wiring (cover_at netlist j).output) first
     (subst (λ (net : ℕ). IsAt (cover_outputs netlist.covers) k net) (sym same) second)
 
 -- an empty table has no driver
@@ -45,12 +45,12 @@ news_at (suc count) zero = refl
 news_at (suc count) (suc place) = news_at count place
 
 -- the table of drivers grows by one cover
-pub drivers_more : (netlist : PlainNetlist) → IsWellMade netlist → (count : ℕ) (drivers : List (Option ℕ)) → count < length netlist.covers → HasDrivers netlist count drivers →
+pub drivers_more : (netlist : PlainNetlist) → IsWired netlist → (count : ℕ) (drivers : List (Option ℕ)) → count < length netlist.covers → HasDrivers netlist count drivers →
     HasDrivers netlist (count + 1) (set drivers (cover_at netlist count).output (Some count))
-drivers_more netlist made count drivers small table =
+drivers_more netlist wiring count drivers small table =
     let output : ℕ = (cover_at netlist count).output in
     let here : Contains netlist.covers (cover_at netlist count) = (count, small, get_or_default netlist.covers count (cover_at netlist count) no_cover small) in
-    let within : (cover_at netlist count).output < length drivers = omega (arith, table.fits, output_small netlist made (cover_at netlist count) here) in
+    let within : (cover_at netlist count).output < length drivers = omega (arith, table.fits, output_small netlist wiring (cover_at netlist count) here) in
     record {
       fits = length-set drivers (cover_at netlist count).output (Some count) ∙ table.fits;
       found = λ net place driver.
@@ -76,7 +76,7 @@ drivers_more netlist made count drivers small table =
             | inr differ ↦ (
                 let less : place < count = omega (arith, below, eqb-false place count differ) in
                 get_or-set_other drivers (cover_at netlist count).output (cover_at netlist place).output (Some count) None (λ same.
-                eqb-false place count differ (same_place netlist made place count (omega (arith, less, small)) small same))
+                eqb-false place count differ (same_place netlist wiring place count (omega (arith, less, small)) small same))
                 ∙ table.all place less)
           ];
     }
@@ -107,14 +107,14 @@ module _ (netlist : PlainNetlist) (drivers : List (Option ℕ)) (table : IsDrive
       omega (arith, fits, table.found place x (get_or_default drivers place None d small ∙ is_some))
 
 -- the table has a place for each net that a cover reads
-pub cover_nets_small : (netlist : PlainNetlist) → IsWellMade netlist → (drivers : List (Option ℕ)) → IsDriverTable netlist drivers → (reader : ℕ) → reader < length netlist.covers → (nets : List ℕ) → nets ≡ (cover_at netlist reader).inputs → All (λ net. net < length drivers) nets
-cover_nets_small netlist made drivers table reader small nets same =
+pub cover_nets_small : (netlist : PlainNetlist) → IsWired netlist → (drivers : List (Option ℕ)) → IsDriverTable netlist drivers → (reader : ℕ) → reader < length netlist.covers → (nets : List ℕ) → nets ≡ (cover_at netlist reader).inputs → All (λ net. net < length drivers) nets
+cover_nets_small netlist wiring drivers table reader small nets same =
     subst (λ (list : List ℕ). All (λ net. net < length drivers) list) (sym same)
-    (λ place d within. omega (arith, table.fits, cover_inputs_below netlist made netlist.covers (length netlist.nets) refl (omega arith) reader no_cover small place d within))
+    (λ place d within. omega (arith, table.fits, cover_inputs_below netlist wiring netlist.covers (length netlist.nets) refl (omega arith) reader no_cover small place d within))
 
 -- and for the output of each cover
-pub output_in_table : (netlist : PlainNetlist) → IsWellMade netlist → (place : ℕ) → place < length netlist.covers → (cover_at netlist place).output < length netlist.nets
-output_in_table netlist made place small = cover_outputs_below netlist made netlist.covers (length netlist.nets) refl (omega arith) place no_cover small
+pub output_in_table : (netlist : PlainNetlist) → IsWired netlist → (place : ℕ) → place < length netlist.covers → (cover_at netlist place).output < length netlist.nets
+output_in_table netlist wiring place small = cover_outputs_below netlist wiring netlist.covers (length netlist.nets) refl (omega arith) place no_cover small
 
 -- fewer covers are new where one is put onto the path
 pub open_fewer : (list : List Mark) (source : ℕ) → source < length list → is_new (mark_at list source) ≡ true → passing is_new (set list source marks.Open) + 1 ≡ passing is_new list

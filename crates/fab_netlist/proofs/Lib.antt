@@ -1,3 +1,4 @@
+pub mod Wired
 pub mod Members
 pub mod Counts
 pub mod Ranks

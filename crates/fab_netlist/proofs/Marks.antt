@@ -5,7 +5,7 @@ use Rattle.std.proofs.lemmas.Bool.{cases_Bool, eqb-false, lt-ltb, ltb-true}
 use Rattle.std.proofs.lemmas.List.{length-set, get_or-set_same, get_or-set_other, get_or-replicate, drop_more, length-map, length-replicate}
 use Rattle.std.proofs.lemmas.List.Sums.{length-filter}
 use Rattle.fab_netlist.specs.Plain.{PlainCover, PlainNetlist, bit_at}
-use Rattle.fab_netlist.specs.WellMade.{IsWellMade, times, cover_outputs, latch_outputs, latch_inputs, read}
+use Rattle.fab_netlist.specs.WellMade.{IsWired, times, cover_outputs, latch_outputs, latch_inputs, read}
 use Rattle.fab_netlist.specs.Kept.{marked, is_kept, kept}
 use Rattle.fab_netlist.proofs.Members.{first_in, later_in, in_left}
 use Rattle.fab_netlist.proofs.Meaning.{covers_once, output_small}
@@ -107,16 +107,16 @@ all_below bound (x ∷ xs) below =
 pub few_numbers : (bound : ℕ) (xs : List ℕ) → ((x : ℕ) → times x xs ≤ 1) → ((x : ℕ) → Contains xs x → x < bound) → length xs ≤ bound
 few_numbers bound xs once below = omega (arith, all_below bound xs below, below_few bound xs once)
 
-module _ (netlist : PlainNetlist) (made : IsWellMade netlist) where
+module _ (netlist : PlainNetlist) (wiring : IsWired netlist) where
   -- there are no more covers than nets
   pub few_covers : length netlist.covers ≤ 16384
   few_covers =
       omega (
         arith,
-        made.small,
+        wiring.small,
         length-map netlist.covers (λ (cover : PlainCover). cover.output),
-        few_numbers (length netlist.nets) (cover_outputs netlist.covers) (covers_once netlist made) (λ net here.
-            made.driven_below net (in_left (cover_outputs netlist.covers) (latch_outputs netlist ++ netlist.inputs) net here)),
+        few_numbers (length netlist.nets) (cover_outputs netlist.covers) (covers_once netlist wiring) (λ net here.
+            wiring.driven_below net (in_left (cover_outputs netlist.covers) (latch_outputs netlist ++ netlist.inputs) net here)),
       )
 
   -- the three steps mark all that is read
@@ -132,7 +132,7 @@ module _ (netlist : PlainNetlist) (made : IsWellMade netlist) where
   kept_by : (marks : List Bool) → marks ≡ marked (read netlist) (replicate 16384 false) → count_by (λ (cover : PlainCover). bit_at marks cover.output) netlist.covers ≡ kept netlist
   kept_by marks all =
       count_same (λ (cover : PlainCover). bit_at marks cover.output) (is_kept netlist) netlist.covers (λ cover here.
-      let small : cover.output < 16384 = omega (arith, made.small, output_small netlist made cover here) in
+      let small : cover.output < 16384 = omega (arith, wiring.small, output_small netlist wiring cover here) in
       let zeros : List Bool = replicate 16384 false in
       let unmarked : bit_at (replicate 16384 false) cover.output ≡ false = get_or-replicate 16384 cover.output false false small in
       ap (λ list. bit_at list cover.output) all

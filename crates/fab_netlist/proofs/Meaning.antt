@@ -3,7 +3,7 @@ use Rattle.std.proofs.Common.{◌≡◌, ℕ, zero, suc, ◌+◌, ◌<◌, ◌�
 use Rattle.std.proofs.lemmas.List.{length-set, get_or-set_same, get_or-set_other, get_or_default, length-replicate, length-map}
 use Rattle.fab_bits.specs.Bits.{first_bits}
 use Rattle.fab_netlist.specs.Plain.{PlainCover, PlainNetlist, IsAt, bit_at, cover_at, no_cover}
-use Rattle.fab_netlist.specs.WellMade.{times, cover_outputs, latch_outputs, driven, IsWellMade}
+use Rattle.fab_netlist.specs.WellMade.{times, cover_outputs, latch_outputs, driven, IsWired}
 use Rattle.fab_netlist.specs.Meaning.{Meets, HasOneMeaning}
 use Rattle.fab_netlist.specs.Cycles.{HasNoCycle}
 use Rattle.fab_netlist.specs.inner.Order.{IsOrder}
@@ -73,25 +73,25 @@ bit_of_first zero f place small = absurd (omega arith)
 bit_of_first (suc count) f zero small = refl
 bit_of_first (suc count) f (suc place) small = bit_of_first count (λ later. f (suc later)) place (omega arith)
 
-module _ (netlist : PlainNetlist) (made : IsWellMade netlist) where
+module _ (netlist : PlainNetlist) (wiring : IsWired netlist) where
   -- no two covers drive one net
   pub covers_once : (net : ℕ) → times net (cover_outputs netlist.covers) ≤ 1
-  covers_once net = omega (arith, made.driven_once net, driven_parts netlist net)
+  covers_once net = omega (arith, wiring.driven_once net, driven_parts netlist net)
 
   -- outputs of covers are nets
   pub output_small : (cover : PlainCover) → Contains netlist.covers cover → cover.output < length netlist.nets
   output_small cover here =
-      made.driven_below cover.output (in_left (cover_outputs netlist.covers) (latch_outputs netlist ++ netlist.inputs) cover.output (mapped_in (λ (z : PlainCover). z.output) netlist.covers cover here))
+      wiring.driven_below cover.output (in_left (cover_outputs netlist.covers) (latch_outputs netlist ++ netlist.inputs) cover.output (mapped_in (λ (z : PlainCover). z.output) netlist.covers cover here))
 
   -- outputs of latches are nets
   pub latch_small : (net : ℕ) → Contains (latch_outputs netlist) net → net < length netlist.nets
   latch_small net here =
-      made.driven_below net (in_right (cover_outputs netlist.covers) (latch_outputs netlist ++ netlist.inputs) net (in_left (latch_outputs netlist) netlist.inputs net here))
+      wiring.driven_below net (in_right (cover_outputs netlist.covers) (latch_outputs netlist ++ netlist.inputs) net (in_left (latch_outputs netlist) netlist.inputs net here))
 
   -- inputs are nets
   pub input_small : (net : ℕ) → Contains netlist.inputs net → net < length netlist.nets
   input_small net here =
-      made.driven_below net (in_right (cover_outputs netlist.covers) (latch_outputs netlist ++ netlist.inputs) net (in_right (latch_outputs netlist) netlist.inputs net here))
+      wiring.driven_below net (in_right (cover_outputs netlist.covers) (latch_outputs netlist ++ netlist.inputs) net (in_right (latch_outputs netlist) netlist.inputs net here))
 
   -- there is a value for each net
   pub start_length : (given held : List Bool) → length (start netlist given held) ≡ length netlist.nets
@@ -119,15 +119,15 @@ module _ (netlist : PlainNetlist) (made : IsWellMade netlist) where
             orders.behind (none_settled netlist covers_once begun) here.0 (inr (orders.all here.0 here.1)));
         latches = λ place net at.
             let counts : 1 ≤ times net (latch_outputs netlist) = member_counts net (latch_outputs netlist) (at_in (latch_outputs netlist) place net at) in
-            still net (omega (arith, counts, made.driven_once net, driven_parts netlist net))
-            ∙ placed_at (latch_outputs netlist) held first place net (omega (arith, made.driven_once net, driven_parts netlist net))
+            still net (omega (arith, counts, wiring.driven_once net, driven_parts netlist net))
+            ∙ placed_at (latch_outputs netlist) held first place net (omega (arith, wiring.driven_once net, driven_parts netlist net))
             (held_length ∙ sym (length-map netlist.latches (λ latch. latch.output)))
             (omega (arith, latch_small net (at_in (latch_outputs netlist) place net at), placed_length netlist.inputs given zeros, length-replicate (length netlist.nets) false)) at;
         inputs = λ place net at.
             let counts : 1 ≤ times net netlist.inputs = member_counts net netlist.inputs (at_in netlist.inputs place net at) in
-            still net (omega (arith, counts, made.driven_once net, driven_parts netlist net))
-            ∙ placed_other (latch_outputs netlist) held first net (omega (arith, counts, made.driven_once net, driven_parts netlist net))
-            ∙ placed_at netlist.inputs given zeros place net (omega (arith, made.driven_once net, driven_parts netlist net)) given_length
+            still net (omega (arith, counts, wiring.driven_once net, driven_parts netlist net))
+            ∙ placed_other (latch_outputs netlist) held first net (omega (arith, counts, wiring.driven_once net, driven_parts netlist net))
+            ∙ placed_at netlist.inputs given zeros place net (omega (arith, wiring.driven_once net, driven_parts netlist net)) given_length
             (omega (arith, input_small net (at_in netlist.inputs place net at), length-replicate (length netlist.nets) false)) at;
         others = λ net apart.
             still net (omega (arith, apart, driven_parts netlist net))

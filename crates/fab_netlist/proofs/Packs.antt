@@ -8,7 +8,7 @@ use Rattle.fab_netlist.specs.declared.netlist.Latch.{Latch}
 use Rattle.fab_netlist.specs.declared.net_id.NetId.{NetId}
 use Rattle.fab_netlist.specs.declared.net_id.NetId.TheVariants as ids
 use Rattle.fab_netlist.specs.Plain.{PlainCover, PlainNetlist, IsAt, name_of}
-use Rattle.fab_netlist.specs.WellMade.{IsWellMade, times, cover_outputs, latch_inputs, read, ports}
+use Rattle.fab_netlist.specs.WellMade.{IsWired, times, cover_outputs, latch_inputs, read, ports}
 use Rattle.fab_netlist.specs.Kept.{is_kept}
 use Rattle.fab_netlist.specs.Packed.{PlainCell, PlainPacked}
 use Rattle.fab_netlist.specs.Packing.{Work, of_cover, of_latch, no_latch, latch_at, inner_reads, is_alone, place_of, pair, is_paired, others, works, output_of, input_or, cell_or, net_of, cell_of, packed}
@@ -214,22 +214,22 @@ the_cell table inputs latch = record { table = table; inputs = inputs; latch = l
 abbrev the_packed : List PlainCell → List (List ℕ) → List (List ℕ × NetId) → Option ℕ → PlainPacked
 the_packed cells inputs outputs reset = record { cells = cells; inputs = inputs; outputs = outputs; reset = reset }
 
-module _ (netlist : PlainNetlist) (made : IsWellMade netlist) where
+module _ (netlist : PlainNetlist) (wiring : IsWired netlist) where
   -- there are few ports
   pub few_ports : length (ports netlist) ≤ 16384
   few_ports =
       omega (
         arith,
-        made.small,
-        few_numbers (length netlist.nets) (ports netlist) (λ net. one_time net (ports netlist) (λ j k at_j at_k. made.ports_differ j k net net at_j at_k refl)) port_small,
+        wiring.small,
+        few_numbers (length netlist.nets) (ports netlist) (λ net. one_time net (ports netlist) (λ j k at_j at_k. wiring.ports_differ j k net net at_j at_k refl)) port_small,
       )
     where
       -- ports are nets
       port_small : (net : ℕ) → Contains (ports netlist) net → net < length netlist.nets
       port_small net here =
           elim (Contains-append_cases netlist.inputs netlist.outputs net here) [
-            | inl input ↦ input_small netlist made net input
-            | inr output ↦ made.read_below net (in_right (flat_map (λ (cover : PlainCover). cover.inputs) netlist.covers) (latch_inputs netlist ++ netlist.outputs) net (in_right (latch_inputs netlist) netlist.outputs net output))
+            | inl input ↦ input_small netlist wiring net input
+            | inr output ↦ wiring.read_below net (in_right (flat_map (λ (cover : PlainCover). cover.inputs) netlist.covers) (latch_inputs netlist ++ netlist.outputs) net (in_right (latch_inputs netlist) netlist.outputs net output))
           ]
 
   -- so there are few inputs
@@ -259,21 +259,21 @@ module _ (netlist : PlainNetlist) (made : IsWellMade netlist) where
       let inner : times net (inner_reads netlist) ≡ times net reads + times net (latch_inputs netlist) = times_joined net reads (latch_inputs netlist) in
       let once : times net (read netlist) ≡ times net reads + (times net (latch_inputs netlist) + times net netlist.outputs) =
       omega (arith, times_joined net reads (latch_inputs netlist ++ netlist.outputs), times_joined net (latch_inputs netlist) netlist.outputs) in
-      ap (λ z. not (is_nobody z)) (reader_table_at netlist net (output_small netlist made cover here))
+      ap (λ z. not (is_nobody z)) (reader_table_at netlist net (output_small netlist wiring cover here))
       ∙ ap not (nobody_few (times net all) ∙ zero_together (times net all) (times net (read netlist)) (λ none. omega (arith, none, counts, inner, once)) (λ none. omega (arith, none, counts, inner, once)))
       ∙ sym (found_counted net (read netlist))
 
   -- and paired alike
   pair_alike : (cover : PlainCover) → Contains netlist.covers cover → pair_by (survey_of netlist) cover ≡ pair netlist cover
   pair_alike cover here =
-      let small = output_small netlist made cover here in
+      let small = output_small netlist wiring cover here in
       ap (λ test. if test then get_or (place_table (length netlist.nets) (latch_inputs netlist)) cover.output None else None) (alone_by cover.output small)
       ∙ ap (λ found. if is_alone netlist cover.output then found else None) (place_table_at (length netlist.nets) (latch_inputs netlist) cover.output small)
 
   -- what a latch takes is a net
   taken_below : (latch : Latch) → Contains netlist.latches latch → latch.input < length netlist.nets
   taken_below latch here =
-      made.read_below latch.input (in_right (flat_map (λ (cover : PlainCover). cover.inputs) netlist.covers) (latch_inputs netlist ++ netlist.outputs) latch.input
+      wiring.read_below latch.input (in_right (flat_map (λ (cover : PlainCover). cover.inputs) netlist.covers) (latch_inputs netlist ++ netlist.outputs) latch.input
       (in_left (latch_inputs netlist) netlist.outputs latch.input (mapped_in (λ (z : Latch). z.input) netlist.latches latch here)))
 
   -- latches are paired alike
@@ -358,8 +358,8 @@ module _ (netlist : PlainNetlist) (made : IsWellMade netlist) where
       let latches = filter (λ latch. not (paired_by (survey_of netlist) latch)) netlist.latches in
       omega (
         arith,
-        few_covers netlist made,
-        few_latches netlist made,
+        few_covers netlist wiring,
+        few_latches netlist wiring,
         length_joined (map (net_by netlist (survey_of netlist)) covers) (map (λ (latch : Latch). latch.output) latches),
         length-map covers (net_by netlist (survey_of netlist)),
         length-map latches (λ (latch : Latch). latch.output),
@@ -369,11 +369,11 @@ module _ (netlist : PlainNetlist) (made : IsWellMade netlist) where
 
   -- a latch drives a net
   latch_output_small : (latch : Latch) → Contains netlist.latches latch → latch.output < length netlist.nets
-  latch_output_small latch here = latch_small netlist made latch.output (mapped_in (λ (z : Latch). z.output) netlist.latches latch here)
+  latch_output_small latch here = latch_small netlist wiring latch.output (mapped_in (λ (z : Latch). z.output) netlist.latches latch here)
 
   -- what a cover's cell drives is a net
   net_small : (cover : PlainCover) (latch : Option ℕ) → Contains netlist.covers cover → ((place : ℕ) → latch ≡ Some place → place < length netlist.latches) → paired_or netlist latch cover.output < length netlist.nets
-  net_small cover None here latches = output_small netlist made cover here
+  net_small cover None here latches = output_small netlist wiring cover here
   net_small cover (Some place) here latches = latch_output_small (latch_at netlist place) (stands netlist.latches place no_latch (latches place refl))
 
   -- the place of a pair is that of a latch
@@ -424,7 +424,7 @@ module _ (netlist : PlainNetlist) (made : IsWellMade netlist) where
   cover_alike : (cover : PlainCover) → Contains netlist.covers cover → cell_by netlist (survey_of netlist) table cover ≡ cell_of netlist (of_cover cover (pair netlist cover))
   cover_alike cover here =
       let inputs : map (id_at table) cover.inputs ≡ map (net_of netlist) cover.inputs = map_same (id_at table) (net_of netlist) cover.inputs (λ net reads.
-      ids_alike net (made.read_below net (in_left (flat_map (λ (z : PlainCover). z.inputs) netlist.covers) (latch_inputs netlist ++ netlist.outputs) net (in_flat (λ (z : PlainCover). z.inputs) netlist.covers cover net here reads)))) in
+      ids_alike net (wiring.read_below net (in_left (flat_map (λ (z : PlainCover). z.inputs) netlist.covers) (latch_inputs netlist ++ netlist.outputs) net (in_flat (λ (z : PlainCover). z.inputs) netlist.covers cover net here reads)))) in
       ap (λ (latch : Option ℕ). the_cell cover.table (map (id_at table) cover.inputs) (option_map (λ place. (latch_at netlist place).init) latch)) (pair_alike cover here)
       ∙ ap (λ (nets : List NetId). the_cell cover.table nets (option_map (λ place. (latch_at netlist place).init) (pair netlist cover))) inputs
 
@@ -446,4 +446,4 @@ module _ (netlist : PlainNetlist) (made : IsWellMade netlist) where
     where
       -- outputs are nets
       output_below : (net : ℕ) → Contains netlist.outputs net → net < length netlist.nets
-      output_below net here = made.read_below net (in_right (flat_map (λ (cover : PlainCover). cover.inputs) netlist.covers) (latch_inputs netlist ++ netlist.outputs) net (in_right (latch_inputs netlist) netlist.outputs net here))
+      output_below net here = wiring.read_below net (in_right (flat_map (λ (cover : PlainCover). cover.inputs) netlist.covers) (latch_inputs netlist ++ netlist.outputs) net (in_right (latch_inputs netlist) netlist.outputs net here))

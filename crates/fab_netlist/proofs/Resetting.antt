@@ -1,14 +1,14 @@
 -- A netlist with a reset port reads as it does without.
-use Rattle.std.proofs.Common.{◌≡◌, ℕ, ◌<◌, ◌≤◌, true, false, List, [], ◌∷◌, ◌++◌, Contains, Option, Some, None, length, get_or, map, nat_lt, if◌then◌else◌, refl, sym, ap, ◌∙◌, subst, arith}
+use Rattle.std.proofs.Common.{◌≡◌, ℕ, ◌<◌, ◌≤◌, true, false, List, [], ◌∷◌, ◌++◌, Option, Some, None, length, get_or, map, nat_lt, if◌then◌else◌, refl, sym, ap, ◌∙◌, subst, inl, inr, arith}
 use Rattle.std.specs.List.{position_or_len}
 use Rattle.std.specs.Str.{bytes_eq}
-use Rattle.std.proofs.lemmas.Bool.{lt-ltb, le-ltb}
+use Rattle.std.proofs.lemmas.Bool.{cases_Bool, lt-ltb, le-ltb, ltb-true}
 use Rattle.std.proofs.lemmas.List.{get_or-map, get_or_default, length-map}
 use Rattle.std.proofs.lemmas.List.Sums.{position_or_len_is}
 use Rattle.fab_netlist.specs.Plain.{PlainNetlist, name_of}
-use Rattle.fab_netlist.specs.WellMade.{IsWellMade, cover_outputs, latch_outputs, ports}
-use Rattle.fab_netlist.specs.Resets.{reset_place, with_reset}
-use Rattle.fab_netlist.specs.Cycles.{ReadsOn, IsCycle, HasNoCycle}
+use Rattle.fab_netlist.specs.WellMade.{IsWired, IsWellMade, cover_outputs, latch_outputs}
+use Rattle.fab_netlist.specs.Resets.{reset_place, with_reset, set_at, netlist_with}
+use Rattle.fab_netlist.specs.Cycles.{ReadsOn, HasNoCycle}
 use Rattle.fab_netlist.specs.inner.Order.{StandBehind, IsOrder}
 use Rattle.fab_netlist.proofs.Members.{in_right}
 use Rattle.fab_netlist.proofs.Packs.{few_ports, length_joined}
@@ -17,14 +17,14 @@ use Rattle.fab_netlist.proofs.Packs.{few_ports, length_joined}
 
 module _ (netlist : PlainNetlist) where
   -- inputs are nets, and few
-  pub inputs_below : IsWellMade netlist → (place d : ℕ) → place < length netlist.inputs → get_or netlist.inputs place d < length netlist.nets
-  inputs_below made place d small =
+  pub inputs_below : IsWired netlist → (place d : ℕ) → place < length netlist.inputs → get_or netlist.inputs place d < length netlist.nets
+  inputs_below wiring place d small =
       let net = get_or netlist.inputs place d in
-      made.driven_below net (in_right (cover_outputs netlist.covers) (latch_outputs netlist ++ netlist.inputs) net (in_right (latch_outputs netlist) netlist.inputs net
+      wiring.driven_below net (in_right (cover_outputs netlist.covers) (latch_outputs netlist ++ netlist.inputs) net (in_right (latch_outputs netlist) netlist.inputs net
       (place, small, get_or_default netlist.inputs place net d small)))
 
-  pub few_inputs : IsWellMade netlist → length netlist.inputs ≤ 16384
-  few_inputs made = omega (arith, few_ports netlist made, length_joined netlist.inputs netlist.outputs)
+  pub few_inputs : IsWired netlist → length netlist.inputs ≤ 16384
+  few_inputs wiring = omega (arith, few_ports netlist wiring, length_joined netlist.inputs netlist.outputs)
 
   module _ (port : List ℕ) where
     abbrev names : List (List ℕ)
@@ -96,3 +96,38 @@ module _ (place : ℕ) (netlist : PlainNetlist) where
     where
       some_same : (a b : ℕ) → Some a ≡ Some b → a ≡ b
       some_same a b same = cc
+
+-- ---- with the reset port of a name
+
+-- the place of a name is that of an input
+place_below : (netlist : PlainNetlist) (port : List ℕ) (place : ℕ) → reset_place netlist port ≡ Some place → place < length netlist.inputs
+place_below netlist port place =
+    by_test (position_or_len (bytes_eq port) (names netlist port)) (length (names netlist port)) (as_many netlist port)
+  where
+    by_test : (first count : ℕ) → count ≡ length netlist.inputs → (if nat_lt first count then Some first else None) ≡ Some place → place < length netlist.inputs
+    by_test first count same is =
+        elim (cases_Bool (nat_lt first count)) [
+          | inl here ↦ (
+              let some : Some first ≡ Some place = sym (ap (λ b. if b then Some first else None) here) ∙ is in
+              let equal : first ≡ place = cc in
+              omega (arith, ltb-true first count here, equal, same))
+          | inr past ↦ absurd (let none : None ≡ Some place = sym (ap (λ b. if b then Some first else None) past) ∙ is in let bad : ⊥ = cc in bad)
+        ]
+
+module _ (netlist : PlainNetlist) where
+  made_at : IsWellMade netlist → (found : Option ℕ) → ((place : ℕ) → found ≡ Some place → place < length netlist.inputs) → IsWellMade (set_at found netlist)
+  made_at made None below = made
+  made_at made (Some place) below = made_again place netlist made (below place refl)
+
+  no_cycle_at : HasNoCycle netlist → (found : Option ℕ) → HasNoCycle (set_at found netlist)
+  no_cycle_at none None = none
+  no_cycle_at none (Some place) = no_cycle_again place netlist none
+
+  -- it is well made, and has no cycle
+  pub made_with : (port : Option (List ℕ)) → IsWellMade netlist → IsWellMade (netlist_with port netlist)
+  made_with None made = made
+  made_with (Some port) made = made_at made (reset_place netlist port) (place_below netlist port)
+
+  pub no_cycle_with : (port : Option (List ℕ)) → HasNoCycle netlist → HasNoCycle (netlist_with port netlist)
+  no_cycle_with None none = none
+  no_cycle_with (Some port) none = no_cycle_at none (reset_place netlist port)

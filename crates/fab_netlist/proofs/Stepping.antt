@@ -4,10 +4,11 @@ use Rattle.std.specs.List.{All, flat_map}
 use Rattle.std.proofs.lemmas.List.{get_or_default}
 use Rattle.fab_netlist.specs.declared.netlist.Latch.{Latch}
 use Rattle.fab_netlist.specs.Plain.{PlainCover, PlainNetlist}
-use Rattle.fab_netlist.specs.WellMade.{IsWellMade, latch_inputs}
+use Rattle.fab_netlist.specs.WellMade.{IsWired, IsWellMade, latch_inputs}
 use Rattle.fab_netlist.specs.inner.Order.{IsOrder}
 use Rattle.fab_netlist.specs.inner.Passes.{IsWithin}
 use Rattle.fab_netlist.proofs.Members.{in_none, first_or_later, mapped_in, in_left, in_right}
+use Rattle.fab_netlist.proofs.Wired.{wired}
 use Rattle.fab_netlist.proofs.Orders.{order_within}
 use Rattle.fab_netlist.proofs.Meaning.{output_small, latch_small, input_small}
 
@@ -24,26 +25,26 @@ in_flat {X} {Y} f (z ∷ xs) x y here inner =
       | inr later ↦ in_right (f z) (flat_map f xs) y (in_flat f xs x y later inner)
     ]
 
-module _ (netlist : PlainNetlist) (made : IsWellMade netlist) where
+module _ (netlist : PlainNetlist) (wiring : IsWired netlist) where
   -- inputs are below the number of nets
   pub inputs_below : (nets : List ℕ) (bound : ℕ) → nets ≡ netlist.inputs → length netlist.nets ≤ bound → All (λ net. net < bound) nets
   inputs_below nets bound same fits =
       subst (λ (list : List ℕ). All (λ net. net < bound) list) (sym same)
-      (all_of (λ net. net < bound) netlist.inputs (λ net here. omega (arith, fits, input_small netlist made net here)))
+      (all_of (λ net. net < bound) netlist.inputs (λ net here. omega (arith, fits, input_small netlist wiring net here)))
 
   -- so are outputs
   pub outputs_below : (nets : List ℕ) (bound : ℕ) → nets ≡ netlist.outputs → length netlist.nets ≤ bound → All (λ net. net < bound) nets
   outputs_below nets bound same fits =
       subst (λ (list : List ℕ). All (λ net. net < bound) list) (sym same)
       (all_of (λ net. net < bound) netlist.outputs (λ net here.
-      omega (arith, fits, made.read_below net (in_right (flat_map (λ (cover : PlainCover). cover.inputs) netlist.covers) (latch_inputs netlist ++ netlist.outputs) net (in_right (latch_inputs netlist) netlist.outputs net here)))))
+      omega (arith, fits, wiring.read_below net (in_right (flat_map (λ (cover : PlainCover). cover.inputs) netlist.covers) (latch_inputs netlist ++ netlist.outputs) net (in_right (latch_inputs netlist) netlist.outputs net here)))))
 
   -- what latches drive
   pub latch_outputs_below : (latches : List Latch) (bound : ℕ) → latches ≡ netlist.latches → length netlist.nets ≤ bound → All (λ latch. latch.output < bound) latches
   latch_outputs_below latches bound same fits =
       subst (λ (list : List Latch). All (λ (latch : Latch). latch.output < bound) list) (sym same)
       (all_of (λ (latch : Latch). latch.output < bound) netlist.latches (λ latch here.
-      omega (arith, fits, latch_small netlist made latch.output (mapped_in (λ (z : Latch). z.output) netlist.latches latch here))))
+      omega (arith, fits, latch_small netlist wiring latch.output (mapped_in (λ (z : Latch). z.output) netlist.latches latch here))))
 
   -- what latches read
   pub latch_inputs_below : (latches : List Latch) (bound : ℕ) → latches ≡ netlist.latches → length netlist.nets ≤ bound → All (λ latch. latch.input < bound) latches
@@ -53,14 +54,14 @@ module _ (netlist : PlainNetlist) (made : IsWellMade netlist) where
       omega (
         arith,
         fits,
-        made.read_below latch.input (in_right (flat_map (λ (cover : PlainCover). cover.inputs) netlist.covers) (latch_inputs netlist ++ netlist.outputs) latch.input
+        wiring.read_below latch.input (in_right (flat_map (λ (cover : PlainCover). cover.inputs) netlist.covers) (latch_inputs netlist ++ netlist.outputs) latch.input
             (in_left (latch_inputs netlist) netlist.outputs latch.input (mapped_in (λ (z : Latch). z.input) netlist.latches latch here))),
       )))
 
   -- what a cover reads
   input_below : (cover : PlainCover) (net : ℕ) → Contains netlist.covers cover → Contains cover.inputs net → net < length netlist.nets
   input_below cover net here reads =
-      made.read_below net (in_left (flat_map (λ (z : PlainCover). z.inputs) netlist.covers) (latch_inputs netlist ++ netlist.outputs) net
+      wiring.read_below net (in_left (flat_map (λ (z : PlainCover). z.inputs) netlist.covers) (latch_inputs netlist ++ netlist.outputs) net
       (in_flat (λ (z : PlainCover). z.inputs) netlist.covers cover net here reads))
 
   -- what all covers read
@@ -74,18 +75,18 @@ module _ (netlist : PlainNetlist) (made : IsWellMade netlist) where
   pub cover_outputs_below : (covers : List PlainCover) (bound : ℕ) → covers ≡ netlist.covers → length netlist.nets ≤ bound → All (λ cover. cover.output < bound) covers
   cover_outputs_below covers bound same fits =
       subst (λ (list : List PlainCover). All (λ (cover : PlainCover). cover.output < bound) list) (sym same)
-      (all_of (λ (cover : PlainCover). cover.output < bound) netlist.covers (λ cover here. omega (arith, fits, output_small netlist made cover here)))
-
-  -- so each cover stays within the values
-  pub covers_within : (covers : List PlainCover) (bound : ℕ) → covers ≡ netlist.covers → length netlist.nets ≤ bound → All (IsWithin bound) covers
-  covers_within covers bound same fits =
-      subst (λ (list : List PlainCover). All (IsWithin bound) list) (sym same)
-      (all_of (IsWithin bound) netlist.covers (λ cover here. record {
-        four_inputs = made.four_inputs cover here;
-        inputs_below = all_of (λ net. net < bound) cover.inputs (λ net reads. omega (arith, fits, input_below cover net here reads));
-        output_below = omega (arith, fits, output_small netlist made cover here);
-      }))
+      (all_of (λ (cover : PlainCover). cover.output < bound) netlist.covers (λ cover here. omega (arith, fits, output_small netlist wiring cover here)))
 
   -- the places of an order are those of covers
   pub order_below : (covers : List PlainCover) (places : List ℕ) → covers ≡ netlist.covers → IsOrder netlist places → All (λ place. place < length covers) places
   order_below covers places same orders = all_of (λ place. place < length covers) places (λ place here. omega (arith, ap length same, order_within netlist [] places orders.behind place here))
+
+-- so each cover of four inputs stays within the values
+pub covers_within : (netlist : PlainNetlist) → IsWellMade netlist → (covers : List PlainCover) (bound : ℕ) → covers ≡ netlist.covers → length netlist.nets ≤ bound → All (IsWithin bound) covers
+covers_within netlist made covers bound same fits =
+    subst (λ (list : List PlainCover). All (IsWithin bound) list) (sym same)
+    (all_of (IsWithin bound) netlist.covers (λ cover here. record {
+      four_inputs = made.four_inputs cover here;
+      inputs_below = all_of (λ net. net < bound) cover.inputs (λ net reads. omega (arith, fits, input_below netlist (wired made) cover net here reads));
+      output_below = omega (arith, fits, output_small netlist (wired made) cover here);
+    }))

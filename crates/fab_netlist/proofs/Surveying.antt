@@ -4,14 +4,14 @@ use Rattle.std.specs.List.{All, flat_map}
 use Rattle.std.proofs.lemmas.List.{length-map}
 use Rattle.fab_netlist.specs.declared.netlist.Latch.{Latch}
 use Rattle.fab_netlist.specs.Plain.{PlainCover, PlainNetlist}
-use Rattle.fab_netlist.specs.WellMade.{IsWellMade, cover_outputs, latch_outputs, latch_inputs}
+use Rattle.fab_netlist.specs.WellMade.{IsWired, cover_outputs, latch_outputs, latch_inputs}
 use Rattle.fab_netlist.proofs.Members.{in_left, in_right}
 use Rattle.fab_netlist.proofs.Counts.{driven_parts}
 use Rattle.fab_netlist.proofs.Marks.{few_numbers, few_covers}
 use Rattle.fab_netlist.proofs.Meaning.{latch_small}
 use Rattle.fab_netlist.proofs.Stepping.{all_of}
 
-module _ (netlist : PlainNetlist) (made : IsWellMade netlist) where
+module _ (netlist : PlainNetlist) (wiring : IsWired netlist) where
   -- what latches take
   pub taken_small : (nets : List ℕ) (bound : ℕ) → nets ≡ latch_inputs netlist → length netlist.nets ≤ bound → All (λ net. net < bound) nets
   taken_small nets bound same fits =
@@ -20,7 +20,7 @@ module _ (netlist : PlainNetlist) (made : IsWellMade netlist) where
       omega (
         arith,
         fits,
-        made.read_below net (in_right (flat_map (λ (cover : PlainCover). cover.inputs) netlist.covers) (latch_inputs netlist ++ netlist.outputs) net (in_left (latch_inputs netlist) netlist.outputs net here)),
+        wiring.read_below net (in_right (flat_map (λ (cover : PlainCover). cover.inputs) netlist.covers) (latch_inputs netlist ++ netlist.outputs) net (in_left (latch_inputs netlist) netlist.outputs net here)),
       )))
 
   -- what covers drive
@@ -28,16 +28,16 @@ module _ (netlist : PlainNetlist) (made : IsWellMade netlist) where
   driven_small nets bound same fits =
       subst (λ (list : List ℕ). All (λ net. net < bound) list) (sym same)
       (all_of (λ net. net < bound) (cover_outputs netlist.covers) (λ net here.
-      omega (arith, fits, made.driven_below net (in_left (cover_outputs netlist.covers) (latch_outputs netlist ++ netlist.inputs) net here))))
+      omega (arith, fits, wiring.driven_below net (in_left (cover_outputs netlist.covers) (latch_outputs netlist ++ netlist.inputs) net here))))
 
   -- there are no more latches than nets
   pub few_latches : length netlist.latches ≤ 16384
   few_latches =
       omega (
         arith,
-        made.small,
+        wiring.small,
         length-map netlist.latches (λ (latch : Latch). latch.output),
-        few_numbers (length netlist.nets) (latch_outputs netlist) (λ net. omega (arith, made.driven_once net, driven_parts netlist net)) (latch_small netlist made),
+        few_numbers (length netlist.nets) (latch_outputs netlist) (λ net. omega (arith, wiring.driven_once net, driven_parts netlist net)) (latch_small netlist wiring),
       )
 
   -- so they take few nets
@@ -46,4 +46,4 @@ module _ (netlist : PlainNetlist) (made : IsWellMade netlist) where
 
   -- and covers drive few
   pub few_driven : (nets : List ℕ) → nets ≡ cover_outputs netlist.covers → length nets ≤ 65536
-  few_driven nets same = subst (λ (list : List ℕ). length list ≤ 65536) (sym same) (omega (arith, few_covers netlist made, length-map netlist.covers (λ (cover : PlainCover). cover.output)))
+  few_driven nets same = subst (λ (list : List ℕ). length list ≤ 65536) (sym same) (omega (arith, few_covers netlist wiring, length-map netlist.covers (λ (cover : PlainCover). cover.output)))

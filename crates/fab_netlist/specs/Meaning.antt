@@ -3,7 +3,7 @@ use Rattle.std.specs.Prelude.{◌≡◌, ℕ, Bool, false, List, [], ◌∷◌, 
 use Rattle.fab_bits.specs.Bits.{number}
 use Rattle.fab_netlist.specs.declared.netlist.Latch.{Latch}
 use Rattle.fab_netlist.specs.Plain.{PlainCover, PlainNetlist, IsAt, bit_at}
-use Rattle.fab_netlist.specs.WellMade.{IsWellMade, times, driven, latch_outputs, table_bit}
+use Rattle.fab_netlist.specs.WellMade.{IsWired, times, driven, latch_outputs, table_bit}
 use Rattle.fab_netlist.specs.Cycles.{HasNoCycle}
 
 -- what a cover makes of the values of its inputs
@@ -51,7 +51,7 @@ HasOneMeaning netlist =
     × ((a b : ℕ → Bool) → Meets netlist given held a → Meets netlist given held b → (net : ℕ) → a net ≡ b net)
 
 abbrev pub AcyclicMeansOne : Type 0
-AcyclicMeansOne = (netlist : PlainNetlist) → IsWellMade netlist → HasNoCycle netlist → HasOneMeaning netlist
+AcyclicMeansOne = (netlist : PlainNetlist) → IsWired netlist → HasNoCycle netlist → HasOneMeaning netlist
 
 -- two runs agree on all nets in each cycle
 abbrev pub AgreeAlways : (first second : List (ℕ → Bool)) → Type 0
@@ -62,6 +62,6 @@ AgreeAlways (a ∷ later) (b ∷ rest) = ((net : ℕ) → a net ≡ b net) × Ag
 
 abbrev pub AcyclicMeansOneRun : Type 0
 AcyclicMeansOneRun =
-    (netlist : PlainNetlist) → IsWellMade netlist → HasNoCycle netlist → (held : List Bool) (vectors : List (List Bool)) →
+    (netlist : PlainNetlist) → IsWired netlist → HasNoCycle netlist → (held : List Bool) (vectors : List (List Bool)) →
     ((nows : List (ℕ → Bool)) × IsRun netlist held vectors nows)
     × ((first second : List (ℕ → Bool)) → IsRun netlist held vectors first → IsRun netlist held vectors second → AgreeAlways first second)

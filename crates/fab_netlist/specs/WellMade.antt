@@ -38,6 +38,19 @@ ports netlist = netlist.inputs ++ netlist.outputs
 abbrev pub table_bit : (table place : ℕ) → Bool
 table_bit table place = nat_eq (table / 2 ^ place % 2) 1
 
+-- Its wires hold together, however many inputs covers have: nets are few, each that is read is driven, and none is driven twice. That is
+-- enough for a meaning.
+pub record IsWired (netlist : PlainNetlist) : Type 0 where
+  pub small : length netlist.nets ≤ most_nets
+  pub driven_below : (net : ℕ) → Contains (driven netlist) net → net < length netlist.nets
+  pub read_below : (net : ℕ) → Contains (read netlist) net → net < length netlist.nets
+  pub initials : (latch : Latch) → Contains netlist.latches latch → latch.init ≤ 3
+  pub driven_once : (net : ℕ) → times net (driven netlist) ≤ 1
+  pub read_driven : (net : ℕ) → Contains (read netlist) net → Contains (driven netlist) net
+  pub reset_below : (place : ℕ) → netlist.reset ≡ Some place → place < length netlist.inputs
+  pub ports_differ : (j k : ℕ) (first second : ℕ) → IsAt (ports netlist) j first → IsAt (ports netlist) k second → name_of netlist first ≡ name_of netlist second → j ≡ k
+
+-- It is wired, and its covers have at most four inputs and tables of 16 bits.
 pub record IsWellMade (netlist : PlainNetlist) : Type 0 where
   pub small : length netlist.nets ≤ most_nets
   pub driven_below : (net : ℕ) → Contains (driven netlist) net → net < length netlist.nets

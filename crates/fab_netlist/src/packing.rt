@@ -9,7 +9,7 @@ ghost use Rattle.fab_netlist.specs.Packing.{cell_or, input_or, latch_at, packing
 ghost use Rattle.fab_netlist.specs.Plain.{name_of};
 ghost use Rattle.fab_netlist.specs.inner.Places.{IsFor, cell_by, cells_by, id_at, ids_by, latch_cell_by, net_by, nets_by, packed_by, room, table_by};
 ghost use Rattle.fab_netlist.specs.inner.Survey.{kept_by, pair_by, paired_by, survey_of};
-ghost use Rattle.fab_netlist.specs.WellMade.{IsWellMade};
+ghost use Rattle.fab_netlist.specs.WellMade.{IsWired};
 
 use crate::net_id::NetId;
 use crate::netlist::{Cover, Latch, Netlist};
@@ -102,7 +102,7 @@ fn put_latch_nets(out: &mut Vec<u32>, netlist: &Netlist, survey: &Survey) -> Res
 
 /// The nets that the cells drive, in the order of the cells.
 fn cell_nets(alloc: Global, netlist: &Netlist, survey: &Survey) -> Result<Vec<u32>, Memory>
-    requires made { IsWellMade netlist.now }
+    requires wired { IsWired netlist.now }
     requires survey { IsFor netlist.now survey.now }
     ensures { IfOk result (λ nets. nets.items ≡ nets_by netlist.now survey.now) }
 {
@@ -142,7 +142,7 @@ fn joined_tables(
 
 /// For each net the packed net, where these are the nets that the cells drive.
 fn id_table(alloc: Global, netlist: &Netlist, nets: &[u32]) -> Result<Vec<NetId>, Memory>
-    requires made { IsWellMade netlist.now }
+    requires wired { IsWired netlist.now }
     requires below { All (λ net. net < length netlist.now.nets) nets.now }
     requires few { length nets.now ≤ 65536 }
     ensures { IfOk result (λ table. table.items ≡ table_by netlist.now nets.now) }
@@ -255,7 +255,7 @@ fn cells(
     survey: &Survey,
     table: &[NetId],
 ) -> Result<Vec<Cell>, Memory>
-    requires made { IsWellMade netlist.now }
+    requires wired { IsWired netlist.now }
     requires survey { IsFor netlist.now survey.now }
     requires table { length table.now ≡ length netlist.now.nets }
     ensures { IfOk result (λ cells. cells.items ≡ cells_by netlist.now survey.now table.now) }
@@ -304,7 +304,7 @@ fn assemble(
     survey: &Survey,
     nets: &[u32],
 ) -> Result<Packed, Memory>
-    requires made { IsWellMade netlist.now }
+    requires wired { IsWired netlist.now }
     requires survey { survey.now ≡ survey_of netlist.now }
     requires nets { nets.now ≡ nets_by netlist.now survey.now }
     ensures { IfOk result (λ packed. packed ≡ packed_by netlist.now survey.now) }

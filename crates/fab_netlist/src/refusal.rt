@@ -6,7 +6,7 @@ ghost use Rattle.fab_base.specs.Report.{spaced};
 ghost use Rattle.fab_base.specs.declared.fault.Fault.TheVariants as faults;
 ghost use Rattle.fab_netlist.specs.Cycles.{ComesFirst, HasNoCycle, IsOneCycle, NamesCycle, cycle_words};
 ghost use Rattle.fab_netlist.specs.Plain.{cover_at, name_of};
-ghost use Rattle.fab_netlist.specs.WellMade.{IsWellMade};
+ghost use Rattle.fab_netlist.specs.WellMade.{IsWired};
 
 use crate::netlist::Netlist;
 use fab_base::{Fault, Memory, Name, Place};
@@ -56,7 +56,7 @@ fn first_of(netlist: &Netlist, round: &[u32]) -> usize
 
 /// The name of the net that a cover drives.
 fn output_name(netlist: &Netlist, place: u32) -> &Name
-    requires made { IsWellMade netlist.now }
+    requires wired { IsWired netlist.now }
     requires within { place < length netlist.now.covers }
     ensures { result.now ≡ name_of netlist.now (cover_at netlist.now place).output }
 {
@@ -65,7 +65,7 @@ fn output_name(netlist: &Netlist, place: u32) -> &Name
 
 /// Writes the names of the nets that covers drive, each after a blank.
 fn put_names(out: &mut Vec<u8>, netlist: &Netlist, places: &[u32]) -> Result<(), Memory>
-    requires made { IsWellMade netlist.now }
+    requires wired { IsWired netlist.now }
     requires within { All (λ place. place < length netlist.now.covers) places.now }
     ensures { OnOk result (out.new.items ≡ out.old.items ++ flat_map (λ place. spaced (name_of netlist.now (cover_at netlist.now place).output)) places.now) }
 {
@@ -78,7 +78,7 @@ fn put_names(out: &mut Vec<u8>, netlist: &Netlist, places: &[u32]) -> Result<(),
 
 /// `cycle` and the names of the nets that the covers drive, from one of them on.
 fn words_from(alloc: Global, netlist: &Netlist, round: &[u32], first: usize) -> Result<Name, Memory>
-    requires made { IsWellMade netlist.now }
+    requires wired { IsWired netlist.now }
     requires within { All (λ place. place < length netlist.now.covers) round.now }
     requires first { first < length round.now }
     ensures { IfOk result (λ words. words ≡ cycle_words netlist.now (drop first round.now ++ take first round.now)) }
@@ -91,7 +91,7 @@ fn words_from(alloc: Global, netlist: &Netlist, round: &[u32], first: usize) -> 
 }
 
 fn fault_of(alloc: Global, file: &Name, netlist: &Netlist, round: &[u32]) -> Result<Fault, Memory>
-    requires made { IsWellMade netlist.now }
+    requires wired { IsWired netlist.now }
     requires cycle { IsOneCycle netlist.now round.now }
     ensures { IfOk result (NamesCycle file.now netlist.now) }
 {

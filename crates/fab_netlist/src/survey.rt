@@ -4,7 +4,7 @@ ghost use Rattle.std.specs.Prelude.{◌≡◌, ◌<◌, ◌≤◌, ◌++◌, IfO
 ghost use Rattle.std.specs.List.{All, flat_map};
 ghost use Rattle.fab_netlist.specs.Packing.{inner_reads};
 ghost use Rattle.fab_netlist.specs.inner.Survey.{counted, is_nobody, is_one, kept_by, more, noted, pair_by, paired_by, place_table, reader_table, survey_of};
-ghost use Rattle.fab_netlist.specs.WellMade.{IsWellMade, latch_inputs};
+ghost use Rattle.fab_netlist.specs.WellMade.{IsWired, latch_inputs};
 
 use crate::netlist::{Cover, Latch, Netlist};
 use fab_base::Memory;
@@ -130,7 +130,7 @@ fn cover_outputs(alloc: Global, covers: &[Cover]) -> Result<Vec<u32>, Memory>
 
 /// Counts all readers, where these are the nets that latches take.
 fn count_readers(netlist: &Netlist, taken: &[u32], table: &mut [Readers])
-    requires made { IsWellMade netlist.now }
+    requires wired { IsWired netlist.now }
     requires taken { taken.now ≡ latch_inputs netlist.now }
     requires fits { length table.old ≡ length netlist.now.nets }
     ensures { table.new ≡ counted (inner_reads netlist.now ++ (netlist.now.outputs ++ netlist.now.outputs)) table.old }
@@ -143,7 +143,7 @@ fn count_readers(netlist: &Netlist, taken: &[u32], table: &mut [Readers])
 
 /// For each net how many read it, where these are the nets that latches take.
 fn reader_table(alloc: Global, netlist: &Netlist, taken: &[u32]) -> Result<Vec<Readers>, Memory>
-    requires made { IsWellMade netlist.now }
+    requires wired { IsWired netlist.now }
     requires taken { taken.now ≡ latch_inputs netlist.now }
     ensures { IfOk result (λ table. table.items ≡ reader_table netlist.now) }
 {
@@ -155,7 +155,7 @@ fn reader_table(alloc: Global, netlist: &Netlist, taken: &[u32]) -> Result<Vec<R
 impl Survey {
     /// The tables of a netlist.
     pub(crate) fn of(alloc: Global, netlist: &Netlist) -> Result<Survey, Memory>
-        requires { IsWellMade netlist.now }
+        requires { IsWired netlist.now }
         ensures { IfOk result (λ survey. survey ≡ survey_of netlist.now) }
     {
         let size = netlist.nets.len();

@@ -8,7 +8,7 @@ ghost use Rattle.fab_netlist.specs.Plain.{cover_at};
 ghost use Rattle.fab_netlist.specs.Cycles.{HasNoCycle};
 ghost use Rattle.fab_netlist.specs.inner.Order.{IsFound, IsOrder};
 ghost use Rattle.fab_netlist.specs.inner.Search.{HasEnded, IsDriverTable, IsListed, IsRound, IsSearch, if_unfinished, is_done, is_open, unfinished};
-ghost use Rattle.fab_netlist.specs.WellMade.{IsWellMade};
+ghost use Rattle.fab_netlist.specs.WellMade.{IsWired};
 
 use crate::netlist::{Order, Parts};
 use fab_base::Memory;
@@ -47,7 +47,7 @@ impl Mark {
 
 /// For each net the place of the cover that drives it.
 fn driver_table(alloc: Global, netlist: &Parts) -> Result<Vec<Option<u32>>, Memory>
-    requires { IsWellMade netlist.now }
+    requires { IsWired netlist.now }
     ensures { IfOk result (λ drivers. IsDriverTable netlist.now drivers.items) }
 {
     let mut drivers = vec![in alloc; None; netlist.nets.len()]?;
@@ -84,7 +84,7 @@ fn unfinished(drivers: &[Option<u32>], marks: &[Mark], nets: &[u32]) -> Option<u
 
 /// The first cover that is not done among those that a cover reads.
 fn next_source(netlist: &Parts, drivers: &[Option<u32>], marks: &[Mark], reader: u32) -> Option<u32>
-    requires made { IsWellMade netlist.now }
+    requires wired { IsWired netlist.now }
     requires table { IsDriverTable netlist.now drivers.now }
     requires fits { length marks.now ≡ length netlist.now.covers }
     requires within { reader < length netlist.now.covers }
@@ -110,7 +110,7 @@ fn follow(
     path: &mut Vec<u32>,
     order: &mut Vec<u32>,
 ) -> Result<Option<u32>, Memory>
-    requires made { IsWellMade netlist.now }
+    requires wired { IsWired netlist.now }
     requires table { IsDriverTable netlist.now drivers.now }
     requires state { IsSearch netlist.now marks.old path.old.items }
     requires listed { IsListed netlist.now marks.old order.old.items }
@@ -145,7 +145,7 @@ fn search_from(
     path: &mut Vec<u32>,
     order: &mut Vec<u32>,
 ) -> Result<Option<u32>, Memory>
-    requires made { IsWellMade netlist.now }
+    requires wired { IsWired netlist.now }
     requires table { IsDriverTable netlist.now drivers.now }
     requires within { start < length netlist.now.covers }
     requires empty { path.old.items ≡ [] }
@@ -170,7 +170,7 @@ fn search_all(
     path: &mut Vec<u32>,
     order: &mut Vec<u32>,
 ) -> Result<Option<u32>, Memory>
-    requires made { IsWellMade netlist.now }
+    requires wired { IsWired netlist.now }
     requires table { IsDriverTable netlist.now drivers.now }
     requires empty { path.old.items ≡ [] }
     requires state { IsSearch netlist.now marks.old [] }
@@ -202,7 +202,7 @@ fn place_in(places: &[u32], sought: u32) -> usize
 
 /// An order of the covers, or those of a cycle where there is one.
 pub(crate) fn find_order(alloc: Global, netlist: &Parts) -> Result<Order, Memory>
-    requires { IsWellMade netlist.now }
+    requires { IsWired netlist.now }
     ensures { IfOk result (IsFound netlist.now) }
 {
     let drivers = driver_table(alloc, netlist)?;

@@ -4,6 +4,7 @@ use Rattle.fab_solutions_laws.specs.Laws.{DriversGrow, DriversFit}
 use Rattle.std.proofs.Common.{map}
 use Rattle.fab_bits.specs.Bits.{digits}
 use Rattle.fab_frames.specs.Stream.{stream}
+use Rattle.fab_netlist.proofs.Wired.{wired}
 use Rattle.fab_netlist_traces_laws.proofs.fab_runs_laws_Setting.{Laws, Setting}
 use Rattle.fab_ordering_laws.proofs.Cycles.{start_ready}
 use Rattle.fab_netlist_traces_laws.specs.SimulatedDesigns.{initial_latches}
@@ -31,7 +32,7 @@ legal_designs_simulate_in_order laws known stay grow fit fabric text netlist fix
       legal = legal;
       configures = configures;
     } in
-    let run = (laws.one_run netlist made acyclic (initial_latches netlist) lines).0 in
+    let run = (laws.one_run netlist (wired made) acyclic (initial_latches netlist) lines).0 in
     let first = simulation.start in
     let at : IsReadyFor s known stay grow fit narrow draws first (initial_latches netlist) = record {
       ready = start_ready (text_setting s known stay grow fit narrow) (state s known stay grow fit narrow) draws (map (digits 32) (stream fabric bits)) first

@@ -1,4 +1,5 @@
 -- A simulation of a legal implementation shows a run of its netlist.
+use Rattle.fab_netlist.proofs.Wired.{wired}
 use Rattle.fab_runs_laws.proofs.Setting.{Laws, Setting}
 use Rattle.fab_netlist_traces_laws.specs.SimulatedDesigns.{initial_latches}
 use Rattle.fab_netlist_traces_laws.specs.SimulatedLaws.{LegalDesignsSimulate}
@@ -26,7 +27,7 @@ legal_designs_simulate laws known fabric text netlist fixed implementation bits 
     } in
     let loaded = simulation.loaded in
     let is_loaded = simulation.is_loaded in
-    let run = (laws.one_run netlist made acyclic (initial_latches netlist) lines).0 in
+    let run = (laws.one_run netlist (wired made) acyclic (initial_latches netlist) lines).0 in
     let shows = cycles_show s known (start s known loaded is_loaded) simulation.last lines shown simulation.cycles (base s known loaded is_loaded)
     (initial_latches netlist) run.0 run.1
     (start_ready s known loaded is_loaded) (start_follows s known loaded is_loaded) in

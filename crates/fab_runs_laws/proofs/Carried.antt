@@ -1,5 +1,5 @@
 -- Bound pads show the netlist's nets, and flip-flops take what its latches take.
-use Rattle.std.proofs.Common.{◌≡◌, ◌<◌, ℕ, Bool, false, List, length, get_or, option_map, sym, ap, ◌∙◌, arith, Some, if◌then◌else◌}
+use Rattle.std.proofs.Common.{◌≡◌, ◌<◌, ℕ, Bool, false, List, length, get_or, option_map, refl, sym, ap, ◌∙◌, arith, None, Some, if◌then◌else◌}
 use Rattle.std.proofs.lemmas.List.{length-map, get_or_default}
 use Rattle.fab_meaning.specs.Settled.{Assignment}
 use Rattle.fab_model.specs.Grid.{PlainFabric}
@@ -28,6 +28,12 @@ use Rattle.fab_runs_laws.proofs.Values as v
 pub latched : (netlist : PlainNetlist) (work : Work) (latch : ℕ) → latch_of work ≡ Some latch → (cell_of netlist work).latch ≡ Some (latch_at netlist latch).init
 latched netlist (of_cover cover l) latch is = ap (option_map (λ place. (latch_at netlist place).init)) is
 latched netlist (of_latch place) latch is = (let e : place ≡ latch = cc in ap (λ place. Some (latch_at netlist place).init) e)
+
+-- and a cell with an initial value is that of a latch
+pub latch_behind : (netlist : PlainNetlist) (work : Work) (init : ℕ) → (cell_of netlist work).latch ≡ Some init → (latch : ℕ) × (latch_of work ≡ Some latch) × ((latch_at netlist latch).init ≡ init)
+latch_behind netlist (of_cover cover None) init is = absurd (let bad : ⊥ = cc in bad)
+latch_behind netlist (of_cover cover (Some place)) init is = (let value : Some (latch_at netlist place).init ≡ Some init = is in (place, refl, cc))
+latch_behind netlist (of_latch place) init is = (let value : Some (latch_at netlist place).init ≡ Some init = is in (place, refl, cc))
 
 pub within : (netlist : PlainNetlist) (work : Work) (latch : ℕ) → IsWork netlist work → latch_of work ≡ Some latch → latch < length (latch_inputs netlist)
 within netlist (of_cover cover l) latch made is = (pair_at netlist cover latch (made.1 ∙ is)).0

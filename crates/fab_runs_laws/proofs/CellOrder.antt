@@ -10,6 +10,7 @@ use Rattle.fab_netlist.specs.Packing.{Work, of_cover, of_latch, works, output_of
 use Rattle.fab_netlist.proofs.Members.{at_in}
 use Rattle.fab_netlist.proofs.Ranks.{no_cycle_rank}
 use Rattle.fab_netlist.proofs.Levels.{level, levels_fall}
+use Rattle.fab_netlist.proofs.Wired.{wired}
 use Rattle.fab_netlist.proofs.Meaning.{covers_once}
 use Rattle.fab_netlist.proofs.Packs.{from_mapped}
 use Rattle.fab_points_laws.proofs.fab_legal_Lists.{same_at, at_from_mapped}
@@ -17,7 +18,7 @@ use Rattle.fab_netlist.proofs.Works.{nowhere_or_first, is_work}
 
 module _ (netlist : PlainNetlist) (made : IsWellMade netlist) (acyclic : HasNoCycle netlist) where
   abbrev rank_of : ℕ → ℕ
-  rank_of = level netlist (covers_once netlist made) (no_cycle_rank netlist acyclic).0 (no_cycle_rank netlist acyclic).1
+  rank_of = level netlist (covers_once netlist (wired made)) (no_cycle_rank netlist acyclic).0 (no_cycle_rank netlist acyclic).1
 
   abbrev work_at : ℕ → Work
   work_at k = get_or (works netlist) k (of_latch 0)
@@ -72,7 +73,7 @@ module _ (netlist : PlainNetlist) (made : IsWellMade netlist) (acyclic : HasNoCy
       let output : source.cover.output ≡ net.0 = ap (output_of netlist) (sym same) ∙ work.2 in
       let source_in : Contains netlist.covers source.cover = (is_work netlist (of_cover source.cover None) (at_in (works netlist) j (of_cover source.cover None) source.stands)).0 in
       let reader_in : Contains netlist.covers reader.cover = (is_work netlist (of_cover reader.cover None) (at_in (works netlist) k (of_cover reader.cover None) reader.stands)).0 in
-      let falls = levels_fall netlist (covers_once netlist made) (no_cycle_rank netlist acyclic).0 (no_cycle_rank netlist acyclic).1 reader.cover source.cover reader_in source_in
+      let falls = levels_fall netlist (covers_once netlist (wired made)) (no_cycle_rank netlist acyclic).0 (no_cycle_rank netlist acyclic).1 reader.cover source.cover reader_in source_in
       (subst (λ (n : ℕ). Contains reader.cover.inputs n) (sym output) net.1) in
       omega (arith, falls, rank_is j source.cover source.stands, rank_is k reader.cover reader.stands)
 

@@ -21,7 +21,7 @@ use Rattle.fab_runs_laws.specs.Feeding.{AreFedAlike, AreGivenAlike, IsCycleAtLow
 use Rattle.fab_runs_laws.proofs.Behind.{one_more_instant, one_more_cycle}
 
 -- the last clock of a cycle is told by clocks alone
-ends_alike : (run instants : List Instant) → AllZip AreFedAlike run instants → EndsCycle instants → EndsCycle run
+pub ends_alike : (run instants : List Instant) → AllZip AreFedAlike run instants → EndsCycle instants → EndsCycle run
 ends_alike [] [] alike ends = ends
 ends_alike [] (j ∷ more) alike ends = absurd alike
 ends_alike (i ∷ run) [] alike ends = absurd alike
@@ -49,15 +49,15 @@ module _ (fabric : PlainFabric) (text : List PlainModule) (netlist : PlainNetlis
       ]
 
   -- an instant in which this is fed
-  record Goes (i : Instant) (held : Assignment) : Type 0 where
-    instant : Instant
-    next : Assignment
-    alike : AreFedAlike instant i
-    settled : IsSettledOn Has text instant.inputs held instant.now
-    low : AreClocksLow instant.now
-    ticks : Ticks Has text instant.clock held instant.now next
+  pub record Goes (i : Instant) (held : Assignment) : Type 0 where
+    pub instant : Instant
+    pub next : Assignment
+    pub alike : AreFedAlike instant i
+    pub settled : IsSettledOn Has text instant.inputs held instant.now
+    pub low : AreClocksLow instant.now
+    pub ticks : Ticks Has text instant.clock held instant.now next
 
-  goes : (i : Instant) (held : Assignment) → SettlesOnce Has text i.inputs held → i.inputs (point [] clock_name 0) ≡ false → i.inputs (point [] user_clock_name 0) ≡ false → Goes i held
+  pub goes : (i : Instant) (held : Assignment) → SettlesOnce Has text i.inputs held → i.inputs (point [] clock_name 0) ≡ false → i.inputs (point [] user_clock_name 0) ≡ false → Goes i held
   goes i held once low user_low =
       let found = once.exists (λ p. false) in
       let tick = once.ticks i.clock found.0 in

@@ -9,6 +9,7 @@ use Rattle.fab_netlist.specs.Kept.{is_kept}
 use Rattle.fab_netlist.specs.Packing.{Work, of_cover, of_latch, pair, is_paired, others, works, latch_of}
 use Rattle.fab_netlist.proofs.Members.{at_in}
 use Rattle.fab_netlist.proofs.Counts.{one_place, at_mapped}
+use Rattle.fab_netlist.proofs.Wired.{wired}
 use Rattle.fab_netlist.proofs.Meaning.{covers_once}
 use Rattle.fab_netlist.proofs.Works.{other_seen, IsWork, is_work, pair_at, latch_work}
 use Rattle.fab_points_laws.proofs.fab_legal_Lists.{same_at, at_from_mapped}
@@ -84,7 +85,7 @@ module _ (netlist : PlainNetlist) (made : IsWellMade netlist) where
   one_of_covers a b l m j k same at_j at_k =
       let first = place_of_cover a l j at_j in
       let second = place_of_cover b m k at_k in
-      let few = covers_once netlist made b.output in
+      let few = covers_once netlist (wired made) b.output in
       let fewer = filtered_times (is_kept netlist) netlist.covers b.output in
       one_place b.output (cover_outputs kept) j k (omega (arith, few, fewer)) (subst (IsAt (cover_outputs kept) j) same first) second
     where

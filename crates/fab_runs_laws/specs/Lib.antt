@@ -7,6 +7,7 @@ pub use Rattle.fab_points_laws.specs.fab_fabric_text_defs_Text as fab_fabric_tex
 pub use Rattle.fab_points_laws.specs.fab_fabric_text_defs_Texts as fab_fabric_text_defs_Texts
 pub use Rattle.fab_points_laws.specs.fab_fabric_text_defs_Top as fab_fabric_text_defs_Top
 pub use Rattle.fab_points_laws.specs.fab_legal_Legal as fab_legal_Legal
+pub use Rattle.fab_points_laws.specs.fab_legal_Steps as fab_legal_Steps
 pub use Rattle.fab_points_laws.specs.Known as fab_points_laws_Known
 pub use Rattle.fab_points_laws.specs.Laws as fab_points_laws_Laws
 pub use Rattle.fab_points_laws.specs.Shown as fab_points_laws_Shown

@@ -9,9 +9,9 @@ ghost use Rattle.fab_runs_laws.specs.Ranking.{DesignHasOrder, DesignRanks, Rules
 
 use fab_netlist::one_run;
 pub use fab_points_laws::{
-    configuration_goes, design_is_declared, design_is_listed, design_settles_by_sources,
-    fabric_texts_load, loaded_is_known, ranked_design_settles_once, registers_tick,
-    sources_are_known,
+    configuration_goes, design_is_declared, design_is_listed, design_settles_by_shown_sources,
+    design_settles_by_sources, fabric_texts_load, loaded_is_known, ranked_design_settles_once,
+    registers_tick, shown_design_settles_once, shown_is_known, sources_are_known,
 };
 
 /// Where each design point has the value of its source, bound pads show the nets of the netlist, and flip-flops take what its latches take.

@@ -1,5 +1,5 @@
 -- What is proved of the text of a fabric that is loaded with the bitstream of a legal implementation.
-use Rattle.std.specs.Prelude.{◌≡◌, ℕ, Bool, true, List, All, map}
+use Rattle.std.specs.Prelude.{◌≡◌, ℕ, Bool, true, List, All, map, Some}
 use Rattle.fab_bits.specs.Bits.{digits}
 use Rattle.fab_syntax.specs.Plain.{PlainModule}
 use Rattle.fab_meaning.specs.Points.{Point}
@@ -11,7 +11,7 @@ use Rattle.fab_model.specs.Grid.{PlainFabric}
 use Rattle.fab_model.specs.Drive.{PlainBits}
 use Rattle.fab_text_loads_laws.specs.fab_fabric_Fabric.{IsFabric, AreTiles}
 use Rattle.fab_text_loads_laws.specs.fab_frames_Stream.{stream}
-use Rattle.fab_state.specs.fab_netlist.specs.Plain.{PlainNetlist}
+use Rattle.fab_state.specs.fab_netlist.specs.Plain.{PlainNetlist, bit_at}
 use Rattle.fab_state.specs.fab_netlist.specs.WellMade.{IsWellMade}
 use Rattle.fab_state.specs.fab_netlist.specs.Meaning.{IsRun}
 use Rattle.fab_state.specs.fab_netlist.specs.Cycles.{HasNoCycle}
@@ -24,7 +24,7 @@ use Rattle.fab_text_loads_laws.specs.Loads.{Writes, RunsOnce}
 use Rattle.fab_text_loads_laws.specs.fab_fabric_text_defs_Texts.{IsFabricText}
 use Rattle.fab_use_defs.specs.Design.{IsDesignPoint}
 use Rattle.fab_use_defs.specs.Configuring.{Configures}
-use Rattle.fab_use_defs.specs.Cycles.{Instant, AreInstants, Feeds, Cycle, AreCycles, EachShows}
+use Rattle.fab_use_defs.specs.Cycles.{Instant, AreInstants, Feeds, Cycle, IsCycle, AreCycles, EachShows}
 use Rattle.fab_use_defs.specs.Registers.{HoldsLatches, design_state, HoldsState, IsInitial}
 
 -- Whatever the other points have, exactly one assignment of a set of points is settled, and any clock can tick behind any assignment.
@@ -36,6 +36,10 @@ pub record SettlesOnce (Has : Point → Type 0) (text : List PlainModule) (input
 -- an instant before the last of a cycle, in which these values are given
 abbrev pub IsFed : PlainNetlist → PlainImplementation → (given : List Bool) → Instant → Type 0
 IsFed netlist implementation given i = Feeds netlist implementation given i.inputs × (i.clock ≡ clock_name)
+
+-- the netlist has a reset port, and 1 is given for it
+abbrev pub IsGivenReset : PlainNetlist → (given : List Bool) → Type 0
+IsGivenReset netlist given = (place : ℕ) × (netlist.reset ≡ Some place) × (bit_at given place ≡ true)
 
 -- the design points of a netlist, as a set
 abbrev pub DesignPoints : PlainFabric → List PlainModule → PlainNetlist → PlainImplementation → Point → Type 0
@@ -50,6 +54,12 @@ pub record RunsFrom (fabric : PlainFabric) (text : List PlainModule) (netlist : 
       AreCycles (DesignPoints fabric text netlist implementation) text netlist implementation cycles start after →
       HoldsLatches netlist implementation start latches →
       (nows : List (ℕ → Bool)) × IsRun netlist latches (map (λ c. c.given) cycles) nows × EachShows netlist implementation cycles nows
+  -- A reset starts it anew: behind a cycle in which 1 is given for the reset port, each flip-flop of a latch holds what the state file says of it,
+  -- whatever any flip-flop held before.
+  pub resets : (cycles : List Cycle) (cycle : Cycle) (between after : Assignment) →
+      AreCycles (DesignPoints fabric text netlist implementation) text netlist implementation cycles start between → IsCycle netlist implementation cycle →
+      AreInstants (DesignPoints fabric text netlist implementation) text cycle.instants between after → IsGivenReset netlist cycle.given →
+      HoldsState (design_state (packed netlist) implementation) after
   -- There are such runs: behind any cycles, and any ticks of CLK in the next one, exactly one assignment is settled, and it can be ticked.
   pub settles : (cycles : List Cycle) (instants : List Instant) (between held : Assignment) (given : List Bool) (inputs : Assignment) →
       AreCycles (DesignPoints fabric text netlist implementation) text netlist implementation cycles start between →

@@ -1,4 +1,4 @@
-use Rattle.std.proofs.Common.{◌≡◌, ◌+◌, ◌∙◌, ap, arith, map, take, set, if◌then◌else◌}
+use Rattle.std.proofs.Common.{◌+◌, ◌∙◌, ap, arith, take, set, if◌then◌else◌}
 use Rattle.fab_netlist.specs.declared.netlist.Latch.{Latch}
 use Rattle.fab_netlist.specs.Meaning.{first_value}
 use Rattle.fab_netlist.specs.Plain.{bit_at}

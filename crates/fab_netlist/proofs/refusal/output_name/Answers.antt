@@ -7,11 +7,11 @@ use Rattle.fab_netlist.proofs.refusal.output_name.Goals as goal
 pub index-requires : goal.index-requires
 index-requires c =
     let nets : vec_len c.netlist.inside.nets ≡ length c.args.netlist.now.nets = search rules in
-    omega (arith, nets, c.output_of.ensures, output_in_table c.args.netlist.now c.requires.made c.args.place c.requires.within)
+    omega (arith, nets, c.output_of.ensures, output_in_table c.args.netlist.now c.requires.wired c.args.place c.requires.within)
 
 pub returns : goal.returns
 returns c =
     let nets = c.args.netlist.now.nets in
-    let small : c.output_of.result < length nets = omega (arith, c.output_of.ensures, output_in_table c.args.netlist.now c.requires.made c.args.place c.requires.within) in
+    let small : c.output_of.result < length nets = omega (arith, c.output_of.ensures, output_in_table c.args.netlist.now c.requires.wired c.args.place c.requires.within) in
     let read : c.index.result.now ≡ get_or nets c.output_of.result c.index.result.now = search rules in
     get_or_read nets c.output_of.result c.index.result.now small read [] ∙ ap (name_of c.args.netlist.now) c.output_of.ensures

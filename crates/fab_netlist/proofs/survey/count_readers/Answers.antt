@@ -8,16 +8,16 @@ use Rattle.fab_netlist.proofs.Surveying.{taken_small}
 use Rattle.fab_netlist.proofs.survey.count_readers.Goals as goal
 
 pub count_cover_inputs-requires : goal.count_cover_inputs-requires
-count_cover_inputs-requires c = cover_inputs_below c.args.netlist.now c.requires.made c.deref.result.now (length c.args.table.now) (search rules) (omega (arith, c.requires.fits))
+count_cover_inputs-requires c = cover_inputs_below c.args.netlist.now c.requires.wired c.deref.result.now (length c.args.table.now) (search rules) (omega (arith, c.requires.fits))
 
 pub count-requires : goal.count-requires
-count-requires c = taken_small c.args.netlist.now c.requires.made c.args.taken.now (length c.count_cover_inputs.new.table) c.requires.taken (omega (arith, c.requires.fits, c.count_cover_inputs.auto.table))
+count-requires c = taken_small c.args.netlist.now c.requires.wired c.args.taken.now (length c.count_cover_inputs.new.table) c.requires.taken (omega (arith, c.requires.fits, c.count_cover_inputs.auto.table))
 
 pub count-requires-2 : goal.count-requires-2
-count-requires-2 c = outputs_below c.args.netlist.now c.requires.made c.deref-2.result.now (length c.count.new.table) (search rules) (omega (arith, c.requires.fits, c.count_cover_inputs.auto.table, c.count.auto.table))
+count-requires-2 c = outputs_below c.args.netlist.now c.requires.wired c.deref-2.result.now (length c.count.new.table) (search rules) (omega (arith, c.requires.fits, c.count_cover_inputs.auto.table, c.count.auto.table))
 
 pub count-requires-3 : goal.count-requires-3
-count-requires-3 c = outputs_below c.args.netlist.now c.requires.made c.deref-3.result.now (length c.count-2.new.table) (search rules) (omega (arith, c.requires.fits, c.count_cover_inputs.auto.table, c.count.auto.table, c.count-2.auto.table))
+count-requires-3 c = outputs_below c.args.netlist.now c.requires.wired c.deref-3.result.now (length c.count-2.new.table) (search rules) (omega (arith, c.requires.fits, c.count_cover_inputs.auto.table, c.count.auto.table, c.count-2.auto.table))
 
 pub returns : goal.returns
 returns c =

@@ -10,7 +10,7 @@ unfinished-requires-clause-nets c =
     let read : c.index.result.now ≡ get_or c.args.netlist.now.covers c.args.reader c.index.result.now = search rules in
     let cover : c.index.result.now ≡ cover_at c.args.netlist.now c.args.reader = get_or_read c.args.netlist.now.covers c.args.reader c.index.result.now c.requires.within read no_cover in
     let nets : c.deref.result.now ≡ c.index.result.now.inputs = search rules in
-    cover_nets_small c.args.netlist.now c.requires.made c.args.drivers.now c.requires.table c.args.reader c.requires.within c.deref.result.now (nets ∙ ap (λ (z : PlainCover). z.inputs) cover)
+    cover_nets_small c.args.netlist.now c.requires.wired c.args.drivers.now c.requires.table c.args.reader c.requires.within c.deref.result.now (nets ∙ ap (λ (z : PlainCover). z.inputs) cover)
 
 pub unfinished-requires-clause-drivers : goal.unfinished-requires-clause-drivers
 unfinished-requires-clause-drivers c = drivers_small c.args.netlist.now c.args.drivers.now c.requires.table c.args.marks.now c.requires.fits

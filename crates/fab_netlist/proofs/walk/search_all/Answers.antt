@@ -6,7 +6,7 @@ use Rattle.fab_netlist.proofs.walk.search_all.Goals as goal
 pub overflow_cast-start : goal.overflow_cast-start
 overflow_cast-start c =
     let count : c.len-start-end.result ≡ length c.args.netlist.now.covers = search rules in
-    omega (arith, count, c.loop-start-test.true, few_covers c.args.netlist.now c.requires.made)
+    omega (arith, count, c.loop-start-test.true, few_covers c.args.netlist.now c.requires.wired)
 
 pub loop-start-preserved : goal.loop-start-preserved
 loop-start-preserved c =
