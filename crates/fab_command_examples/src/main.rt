@@ -22,6 +22,7 @@ fn main(rt: HostRuntime) -> Result<(), Stop> {
         "assemble.cases",
         "flow.cases",
         "search.cases",
+        "reset.cases",
         "bits.cases",
         "faults.cases",
         "cuts.cases",

@@ -28,7 +28,7 @@ refusals_lack (Matrix list out) = (refl, refl, refl, refl, refl)
 refusals_lack (Generate fabric out) = (refl, refl, refl, refl, refl)
 refusals_lack (Assemble fabric blif pcf implementation base) = (refl, refl, refl, refl, refl)
 refusals_lack (Mapping fabric blif pcf seed rounds out) = (refl, refl, refl, refl, refl)
-refusals_lack (Flow fabric blif pcf seed rounds base) = (refl, refl, refl, refl, refl)
+refusals_lack (Flow fabric blif pcf seed rounds reset base) = (refl, refl, refl, refl, refl)
 refusals_lack (Bits fabric fasm out) = (refl, refl, refl, refl, refl)
 refusals_lack (Features fabric bit out) = (refl, refl, refl, refl, refl)
 refusals_lack (Simulate verilog bit state stimulus order trace) = (refl, refl, refl, refl, refl)
@@ -45,7 +45,7 @@ failures_lack (Matrix list out) = (refl, refl, refl)
 failures_lack (Generate fabric out) = (refl, refl, refl)
 failures_lack (Assemble fabric blif pcf implementation base) = (refl, refl, refl)
 failures_lack (Mapping fabric blif pcf seed rounds out) = (refl, refl, refl)
-failures_lack (Flow fabric blif pcf seed rounds base) = (refl, refl, refl)
+failures_lack (Flow fabric blif pcf seed rounds reset base) = (refl, refl, refl)
 failures_lack (Bits fabric fasm out) = (refl, refl, refl)
 failures_lack (Features fabric bit out) = (refl, refl, refl)
 failures_lack (Simulate verilog bit state stimulus order trace) = (refl, refl, refl)
@@ -112,8 +112,8 @@ job_left (Assemble fabric blif pcf implementation base) told after fault n few i
     left_as_was (Assemble fabric blif pcf implementation base) told after fault n few is leaves
 job_left (Mapping fabric blif pcf seed rounds out) told after fault n few is leaves =
     left_as_was (Mapping fabric blif pcf seed rounds out) told after fault n few is leaves
-job_left (Flow fabric blif pcf seed rounds base) told after fault n few is leaves =
-    left_as_was (Flow fabric blif pcf seed rounds base) told after fault n few is leaves
+job_left (Flow fabric blif pcf seed rounds reset base) told after fault n few is leaves =
+    left_as_was (Flow fabric blif pcf seed rounds reset base) told after fault n few is leaves
 job_left (Bits fabric fasm out) told after fault n few is leaves = left_as_was (Bits fabric fasm out) told after fault n few is leaves
 job_left (Features fabric bit out) told after fault n few is leaves = left_as_was (Features fabric bit out) told after fault n few is leaves
 job_left (Simulate verilog bit state stimulus order trace) told after fault n few is leaves =
@@ -230,7 +230,7 @@ cause_later (Some (Matrix list out)) told reads writes before after fault more c
 cause_later (Some (Generate fabric out)) told reads writes before after fault more cause = cause
 cause_later (Some (Assemble fabric blif pcf implementation base)) told reads writes before after fault more cause = cause
 cause_later (Some (Mapping fabric blif pcf seed rounds out)) told reads writes before after fault more cause = cause
-cause_later (Some (Flow fabric blif pcf seed rounds base)) told reads writes before after fault more cause = cause
+cause_later (Some (Flow fabric blif pcf seed rounds reset base)) told reads writes before after fault more cause = cause
 cause_later (Some (Bits fabric fasm out)) told reads writes before after fault more cause = cause
 cause_later (Some (Features fabric bit out)) told reads writes before after fault more cause = cause
 cause_later (Some (Simulate verilog bit state stimulus order trace)) told reads writes before after fault more cause = cause

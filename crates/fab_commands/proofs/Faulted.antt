@@ -37,7 +37,7 @@ refused_once (Generate fabric out) files a b x y = ap number_of (generating.one_
 refused_once (Assemble fabric blif pcf implementation base) files a b x y =
     assembling.one_number files (assembly_files fabric blif pcf implementation base) a b x y
 refused_once (Mapping fabric blif pcf seed rounds out) files a b x y = mapping.one_number files (mapping_files (design_files fabric blif pcf) out) a b x y
-refused_once (Flow fabric blif pcf seed rounds base) files a b x y = one_flow_number files (flow_files fabric blif pcf base) a b x y
+refused_once (Flow fabric blif pcf seed rounds reset base) files a b x y = one_flow_number files (flow_files fabric blif pcf reset base) a b x y
 refused_once (Bits fabric fasm out) files a b x y = ap number_of (bits.one_refusal files (bits_files fabric fasm out) a b x y)
 refused_once (Features fabric bit out) files a b x y = ap number_of (features.one_refusal files (features_files fabric bit out) a b x y)
 refused_once (Simulate verilog bit state stimulus order trace) files a b x y =
@@ -51,7 +51,7 @@ not_refused (Assemble fabric blif pcf implementation base) files fault ready x =
     assembling.not_both files (assembly_files fabric blif pcf implementation base) fault ready x
 not_refused (Mapping fabric blif pcf seed rounds out) files fault ready x =
     mapping.not_both files (mapping_files (design_files fabric blif pcf) out) fault ready x
-not_refused (Flow fabric blif pcf seed rounds base) files fault ready x = flow_not_both files (flow_files fabric blif pcf base) fault ready x
+not_refused (Flow fabric blif pcf seed rounds reset base) files fault ready x = flow_not_both files (flow_files fabric blif pcf reset base) fault ready x
 not_refused (Bits fabric fasm out) files fault ready x = bits.not_both files (bits_files fabric fasm out) fault ready x
 not_refused (Features fabric bit out) files fault ready x = features.not_both files (features_files fabric bit out) fault ready x
 not_refused (Simulate verilog bit state stimulus order trace) files fault ready x =
@@ -70,13 +70,14 @@ done_ready (Assemble fabric blif pcf implementation base) files told after is do
       implementation = made.implementation;
       spelled = made.spelled;
       implemented = made.implemented;
+      resets = made.resets;
       fits = made.fits;
       legal = made.legal;
     }
 done_ready (Mapping fabric blif pcf seed rounds out) files told after is done =
     let made = done.made files is in record { design = made.design; spelled = made.spelled; fits = made.fits }
-done_ready (Flow fabric blif pcf seed rounds base) files told after is done =
-    let made = done.made files is in record { design = made.design; spelled = made.spelled; short = made.made.short; fits = made.fits }
+done_ready (Flow fabric blif pcf seed rounds reset base) files told after is done =
+    let made = done.made files is in record { design = made.design; spelled = made.spelled; short = made.made.short; resets = made.resets; fits = made.fits }
 done_ready (Bits fabric fasm out) files told after is done =
     let made = done.made files is in record { fabric = made.fabric; features = made.features; spelled = made.spelled; read = made.read; right = made.right }
 done_ready (Features fabric bit out) files told after is done =
@@ -138,10 +139,10 @@ map_ready : (files : Map) (fabric blif : List ℕ) (pcf : Option (List ℕ)) (ro
     → FailsToMap files (mapping_files (design_files fabric blif pcf) out) rounds fault → IsReady (Mapping fabric blif pcf seed rounds out) files
 map_ready files fabric blif pcf rounds out seed fault fails = record { design = fails.design; spelled = fails.spelled; fits = fails.fits }
 
-flow_ready : (files : Map) (fabric blif : List ℕ) (pcf : Option (List ℕ)) (rounds : ℕ) (base : List ℕ) (seed : ℕ) (fault : Fault)
-    → FailsToFlow files (flow_files fabric blif pcf base) rounds fault → IsReady (Flow fabric blif pcf seed rounds base) files
-flow_ready files fabric blif pcf rounds base seed fault fails =
-    record { design = fails.design; spelled = fails.spelled; short = fails.short; fits = fails.fits }
+flow_ready : (files : Map) (fabric blif : List ℕ) (pcf reset : Option (List ℕ)) (rounds : ℕ) (base : List ℕ) (seed : ℕ) (fault : Fault)
+    → FailsToFlow files (flow_files fabric blif pcf reset base) rounds fault → IsReady (Flow fabric blif pcf seed rounds reset base) files
+flow_ready files fabric blif pcf reset rounds base seed fault fails =
+    record { design = fails.design; spelled = fails.spelled; short = fails.short; resets = fails.resets; fits = fails.fits }
 
 sample_kind : (told : Option Map) (reads writes : Type 0) (size seed : ℕ) (fault : Fault) → HasJobCause (Sample size seed) told reads writes fault
     → Kind told reads writes (Sample size seed) fault
@@ -156,9 +157,9 @@ kind told reads writes (Assemble fabric blif pcf implementation base) fault caus
 kind told reads writes (Mapping fabric blif pcf seed rounds out) fault cause =
     search_kind told reads writes (Mapping fabric blif pcf seed rounds out) (λ files. FailsToMap files (mapping_files
     (design_files fabric blif pcf) out) rounds) refl (λ files f fails. map_ready files fabric blif pcf rounds out seed f fails) fault cause
-kind told reads writes (Flow fabric blif pcf seed rounds base) fault cause =
-    search_kind told reads writes (Flow fabric blif pcf seed rounds base) (λ files. FailsToFlow files (flow_files fabric blif pcf base) rounds) refl
-    (λ files f fails. flow_ready files fabric blif pcf rounds base seed f fails) fault cause
+kind told reads writes (Flow fabric blif pcf seed rounds reset base) fault cause =
+    search_kind told reads writes (Flow fabric blif pcf seed rounds reset base) (λ files. FailsToFlow files (flow_files fabric blif pcf reset base) rounds) refl
+    (λ files f fails. flow_ready files fabric blif pcf reset rounds base seed f fails) fault cause
 kind told reads writes (Bits fabric fasm out) fault cause = kind_of told reads writes (Bits fabric fasm out) fault cause
 kind told reads writes (Features fabric bit out) fault cause = kind_of told reads writes (Features fabric bit out) fault cause
 kind told reads writes (Simulate verilog bit state stimulus order trace) fault cause =
@@ -172,7 +173,7 @@ memory_causes (Some (Matrix list out)) told reads cut = tt
 memory_causes (Some (Generate fabric out)) told reads cut = tt
 memory_causes (Some (Assemble fabric blif pcf implementation base)) told reads cut = tt
 memory_causes (Some (Mapping fabric blif pcf seed rounds out)) told reads cut = tt
-memory_causes (Some (Flow fabric blif pcf seed rounds base)) told reads cut = tt
+memory_causes (Some (Flow fabric blif pcf seed rounds reset base)) told reads cut = tt
 memory_causes (Some (Bits fabric fasm out)) told reads cut = tt
 memory_causes (Some (Features fabric bit out)) told reads cut = tt
 memory_causes (Some (Simulate verilog bit state stimulus order trace)) told reads cut = tt

@@ -31,7 +31,7 @@ Makes (Matrix list out) files outputs = MakesMatrix files list out outputs
 Makes (Generate fabric out) files outputs = MakesFabric files fabric out outputs
 Makes (Assemble fabric blif pcf implementation base) files outputs = MakesAssembly files (assembly_files fabric blif pcf implementation base) outputs
 Makes (Mapping fabric blif pcf seed rounds out) files outputs = MakesMapping files (mapping_files (design_files fabric blif pcf) out) rounds outputs
-Makes (Flow fabric blif pcf seed rounds base) files outputs = MakesFlow files (flow_files fabric blif pcf base) rounds outputs
+Makes (Flow fabric blif pcf seed rounds reset base) files outputs = MakesFlow files (flow_files fabric blif pcf reset base) rounds outputs
 Makes (Bits fabric fasm out) files outputs = MakesBits files (bits_files fabric fasm out) outputs
 Makes (Features fabric bit out) files outputs = MakesFeatures files (features_files fabric bit out) outputs
 Makes (Simulate verilog bit state stimulus order trace) files outputs = MakesTrace files (simulation_files verilog bit state stimulus trace) order outputs
@@ -43,7 +43,7 @@ Meets (Matrix list out) files event = MeetsPairs files list event
 Meets (Generate fabric out) files event = MeetsGenerate files fabric event
 Meets (Assemble fabric blif pcf implementation base) files event = MeetsAssembly files (assembly_files fabric blif pcf implementation base) event
 Meets (Mapping fabric blif pcf seed rounds out) files event = MeetsMapping files (mapping_files (design_files fabric blif pcf) out) event
-Meets (Flow fabric blif pcf seed rounds base) files event = MeetsFlow files (flow_files fabric blif pcf base) event
+Meets (Flow fabric blif pcf seed rounds reset base) files event = MeetsFlow files (flow_files fabric blif pcf reset base) event
 Meets (Bits fabric fasm out) files event = MeetsBits files (bits_files fabric fasm out) event
 Meets (Features fabric bit out) files event = MeetsBitFeatures files (features_files fabric bit out) event
 Meets (Simulate verilog bit state stimulus order trace) files event = MeetsSimulation files (simulation_files verilog bit state stimulus trace) event
@@ -55,7 +55,7 @@ IsReady (Matrix list out) files = IsReadyForMatrix files list
 IsReady (Generate fabric out) files = IsReadyToGenerate files fabric
 IsReady (Assemble fabric blif pcf implementation base) files = IsReadyToAssemble files (assembly_files fabric blif pcf implementation base)
 IsReady (Mapping fabric blif pcf seed rounds out) files = IsReadyToMap files (mapping_files (design_files fabric blif pcf) out)
-IsReady (Flow fabric blif pcf seed rounds base) files = IsReadyToFlow files (flow_files fabric blif pcf base)
+IsReady (Flow fabric blif pcf seed rounds reset base) files = IsReadyToFlow files (flow_files fabric blif pcf reset base)
 IsReady (Bits fabric fasm out) files = IsReadyForBits files (bits_files fabric fasm out)
 IsReady (Features fabric bit out) files = IsReadyForFeatures files (features_files fabric bit out)
 IsReady (Simulate verilog bit state stimulus order trace) files = IsReadyToSimulate files (simulation_files verilog bit state stimulus trace)
@@ -67,7 +67,7 @@ refusals (Matrix list out) = matrix_refusals
 refusals (Generate fabric out) = generate_refusals
 refusals (Assemble fabric blif pcf implementation base) = assemble_refusals
 refusals (Mapping fabric blif pcf seed rounds out) = map_refusals
-refusals (Flow fabric blif pcf seed rounds base) = flow_refusals
+refusals (Flow fabric blif pcf seed rounds reset base) = flow_refusals
 refusals (Bits fabric fasm out) = bits_refusals
 refusals (Features fabric bit out) = features_refusals
 refusals (Simulate verilog bit state stimulus order trace) = simulate_refusals
@@ -79,7 +79,7 @@ failures (Matrix list out) = []
 failures (Generate fabric out) = []
 failures (Assemble fabric blif pcf implementation base) = []
 failures (Mapping fabric blif pcf seed rounds out) = 8 ∷ 9 ∷ []
-failures (Flow fabric blif pcf seed rounds base) = 8 ∷ 9 ∷ []
+failures (Flow fabric blif pcf seed rounds reset base) = 8 ∷ 9 ∷ []
 failures (Bits fabric fasm out) = []
 failures (Features fabric bit out) = []
 failures (Simulate verilog bit state stimulus order trace) = []
@@ -93,8 +93,8 @@ HasJobCause (Assemble fabric blif pcf implementation base) told reads_rose write
     HasAssembleCause told (assembly_files fabric blif pcf implementation base) reads_rose write_failed fault
 HasJobCause (Mapping fabric blif pcf seed rounds out) told reads_rose write_failed fault =
     HasMappingCause told (mapping_files (design_files fabric blif pcf) out) rounds reads_rose write_failed fault
-HasJobCause (Flow fabric blif pcf seed rounds base) told reads_rose write_failed fault =
-    HasFlowCause told (flow_files fabric blif pcf base) rounds reads_rose write_failed fault
+HasJobCause (Flow fabric blif pcf seed rounds reset base) told reads_rose write_failed fault =
+    HasFlowCause told (flow_files fabric blif pcf reset base) rounds reads_rose write_failed fault
 HasJobCause (Bits fabric fasm out) told reads_rose write_failed fault = HasBitsCause told (bits_files fabric fasm out) reads_rose write_failed fault
 HasJobCause (Features fabric bit out) told reads_rose write_failed fault = HasFeaturesCause told (features_files fabric bit out) reads_rose write_failed fault
 HasJobCause (Simulate verilog bit state stimulus order trace) told reads_rose write_failed fault =

@@ -80,7 +80,7 @@ fn perform<D: Desk, P: Progress, S: Sink>(
             rounds,
             &out,
         ),
-        Job::Flow(fabric, blif, pcf, seed, rounds, base) => do_flow(
+        Job::Flow(fabric, blif, pcf, seed, rounds, reset, base) => do_flow(
             alloc,
             desk,
             progress,
@@ -89,6 +89,7 @@ fn perform<D: Desk, P: Progress, S: Sink>(
             pcf.as_ref(),
             seed,
             rounds,
+            reset.as_ref(),
             &base,
         ),
         Job::Bits(fabric, fasm, out) => do_bits(alloc, desk, progress, &fabric, &fasm, &out),
@@ -123,8 +124,9 @@ fn report<S: Sink>(alloc: Global, fault: &Fault, out: &mut S) -> Status
 /// The status is 0, or the number of the fault, whose report is put to `out`: 1 for words that spell no command, 2 and
 /// 3 for a file of the words, or one that such a file names, that is absent or longer than `MAX_FILE_BYTES`, 4 to 6 for
 /// the first row that is refused, 6 for a generated text that is too long, 7 for a design for which the fabric has too
-/// few sites, 10 for an implementation that breaks a rule, 11 and 12 for a device that fails, and 13 for want of memory,
-/// which may come at any time. Where `out` fails at a summary, a front of it stands before the report.
+/// few sites, 8 and 9 for one that is not routed, 10 for a reset port that is no data input and for an implementation that
+/// breaks a rule, 11 and 12 for a device that fails, and 13 for want of memory, which may come at any time. Where `out`
+/// fails at a summary, a front of it stands before the report.
 pub fn run<D: Desk, P: Progress, S: Sink>(
     alloc: Global,
     words: &[String],

@@ -20,6 +20,7 @@ use Rattle.fab_fabric.specs.declared.wire.Site.{Site}
 use Rattle.fab_netlist.specs.Plain.{PlainNetlist}
 use Rattle.fab_netlist.specs.Packed.{PlainCell, PlainPacked}
 use Rattle.fab_netlist.specs.Packing.{packed, packing, works}
+use Rattle.fab_netlist.specs.Resets.{netlist_with}
 use Rattle.fab_netlist.specs.WellMade.{ports}
 use Rattle.fab_implementation.specs.Plain.{Pad, PlainImplementation}
 use Rattle.fab_implementation.specs.OnFabric.{IsOnFabric, IsSite}
@@ -49,9 +50,11 @@ use Rattle.fab_assemble.specs.fab_use_defs_Registers.{bound_pad, design_state, r
 use Rattle.fab_assemble.specs.fab_settling_laws_Settling.{SettlesDesign}
 use Rattle.fab_designs.specs.Designs.{PlainDesign, MeetsDesign, SpellsDesign}
 use Rattle.fab_designs.specs.Implementations.{MeetsImplementation, ReadsImplementation}
-use Rattle.fab_flow.specs.Assembling.{AssemblyFiles, Fits, HasAssembleCause, IsAssembly, IsReadyToAssemble, MeetsAssembly, RefusesAssembly, assemble_refusals, assembly_outputs, illegal, packing_for, short}
+use Rattle.fab_flow.specs.Resetting.{HasReset, LacksReset}
+use Rattle.fab_flow.specs.Assembling.{AssemblyFiles, Fits, HasAssembleCause, IsAssembly, IsReadyToAssemble, MeetsAssembly, RefusesAssembly, RefusesImplementation, assemble_refusals, assembly_outputs, illegal, no_input, packing_for, short, unfit}
 use Rattle.fab_outputs.specs.Storing.{PlainOutput, Leaves, plain_output}
 use Rattle.fab_outputs.proofs.Ending.{Reads, cause_of_read, leaves_of_memory}
+use Rattle.fab_flow.proofs.ResetPorts.{lacks_illegal}
 
 -- ---- letters
 
@@ -149,18 +152,19 @@ pub packed_given : (netlist : PlainNetlist) (luts pads : ℕ) (result : Result P
 packed_given netlist luts pads (Ok given) is = packed_is netlist luts pads given is
 packed_given netlist luts pads (Err fault) is = tt
 
--- a fabric that is short of sites is a refusal
-pub short_refused : (design : PlainDesign) (implementation : PlainImplementation) (fault : Fault) → (fault ≡ faults.Memory) ⊎ (packing_for design.fabric design.netlist ≡ Err fault)
-    → (fault ≡ faults.Memory) ⊎ RefusesAssembly design implementation fault
-short_refused design implementation fault (inl memory) = inl memory
-short_refused design implementation fault (inr is) = inr (short is)
+module _ (fabric : PlainFabric) (netlist : PlainNetlist) (fixed : List Pad) (implementation : PlainImplementation) where
+  -- a fabric that is short of sites is a refusal
+  pub short_refused : (fault : Fault) → (fault ≡ faults.Memory) ⊎ (packing_for fabric netlist ≡ Err fault)
+      → (fault ≡ faults.Memory) ⊎ RefusesImplementation fabric netlist fixed implementation fault
+  short_refused fault (inl memory) = inl memory
+  short_refused fault (inr is) = inr (short is)
 
--- and so is what a check explains
-pub check_refused : (design : PlainDesign) (implementation : PlainImplementation) (given : PlainPacked) (fault : CheckFault) → given ≡ packed design.netlist → Fits design.fabric design.netlist
-    → Explains design.fabric given design.fixed implementation fault → (fault_of fault ≡ faults.Memory) ⊎ RefusesAssembly design implementation (fault_of fault)
-check_refused design implementation given (checks.Broken broken) is fits explained =
-    inr (illegal fits (subst (λ (p : PlainPacked). IsFirstBroken design.fabric p design.fixed implementation broken.rule broken.item) is explained))
-check_refused design implementation given checks.Memory is fits explained = inl refl
+  -- and so is what a check explains
+  pub check_refused : (given : PlainPacked) (fault : CheckFault) → given ≡ packed netlist → Fits fabric netlist → Explains fabric given fixed implementation fault
+      → (fault_of fault ≡ faults.Memory) ⊎ RefusesImplementation fabric netlist fixed implementation (fault_of fault)
+  check_refused given (checks.Broken broken) is fits explained =
+      inr (illegal fits (subst (λ (p : PlainPacked). IsFirstBroken fabric p fixed implementation broken.rule broken.item) is explained))
+  check_refused given checks.Memory is fits explained = inl refl
 
 -- packing is refused for want of sites alone
 pub is_short : (netlist : PlainNetlist) (luts pads : ℕ) (fault : Fault) → packing netlist luts pads ≡ Err fault → (kind : SiteKind) × (need : ℕ) × (have : ℕ) × (fault ≡ faults.Short kind need have)
@@ -178,32 +182,62 @@ module _ (told : Option Map) (names : AssemblyFiles) (design : PlainDesign) (imp
   meets : (files : Map) (fault : Fault) → told ≡ Some files → RefusesAssembly design implementation fault → MeetsAssembly files names (refuses fault)
   meets files fault is refused = behind_it (spelled files is) (behind_it (implemented files is) (fault, refl, refused))
 
-  refusal_cause : (reads writes : Type 0) (fault : Fault) → RefusesAssembly design implementation fault → HasAssembleCause told names reads writes fault
-  refusal_cause reads writes fault (short is) =
-      let told_short = is_short design.netlist _ _ fault is in
-      let given : Fault = faults.Short told_short.0 told_short.1 told_short.2 in
-      subst (HasAssembleCause told names reads writes) (sym told_short.3)
-      (record { possible = refl; met = λ files there. subst (λ f. MeetsAssembly files names (refuses f)) told_short.3 (meets files fault there (short is)) })
-  refusal_cause reads writes fault (illegal {rule = rule} {item = item} fits broken) =
-      record { possible = refl; met = λ files there. meets files (faults.Illegal rule item) there (illegal fits broken) }
+  -- a fault of this form is such a refusal
+  module _ (reads writes : Type 0) where
+    illegal_cause : (rule : ℕ) (item : List ℕ) → RefusesAssembly design implementation (faults.Illegal rule item)
+        → HasAssembleCause told names reads writes (faults.Illegal rule item)
+    illegal_cause rule item is = record { possible = refl; met = λ files there. meets files (faults.Illegal rule item) there is }
+
+    short_cause : (kind : SiteKind) (need have : ℕ) → RefusesAssembly design implementation (faults.Short kind need have)
+        → HasAssembleCause told names reads writes (faults.Short kind need have)
+    short_cause kind need have is = record { possible = refl; met = λ files there. meets files (faults.Short kind need have) there is }
+
+    refusal_cause : (fault : Fault) → RefusesAssembly design implementation fault → HasAssembleCause told names reads writes fault
+    refusal_cause fault (no_input lacks) =
+        let told_illegal = lacks_illegal implementation.reset design.netlist fault lacks in
+        subst (HasAssembleCause told names reads writes) (sym told_illegal.1)
+        (illegal_cause 12 told_illegal.0 (subst (RefusesAssembly design implementation) told_illegal.1 (no_input lacks)))
+    refusal_cause fault (unfit has (short is)) =
+        let told_short = is_short (netlist_with implementation.reset design.netlist) _ _ fault is in
+        subst (HasAssembleCause told names reads writes) (sym told_short.3)
+        (short_cause told_short.0 told_short.1 told_short.2 (subst (RefusesAssembly design implementation) told_short.3 (unfit has (short is))))
+    refusal_cause fault (unfit has (illegal {rule = rule} {item = item} fits broken)) = illegal_cause rule item (unfit has (illegal fits broken))
 
   -- an implementation is refused for its own sake, or memory was refused
   pub assembly_cause : (reads writes : Type 0) (fault : Fault) → (fault ≡ faults.Memory) ⊎ RefusesAssembly design implementation fault → HasAssembleCause told names reads writes fault
   assembly_cause reads writes fault (inl memory) = subst (HasAssembleCause told names reads writes) (sym memory) tt
-  assembly_cause reads writes fault (inr refused) = refusal_cause reads writes fault refused
+  assembly_cause reads writes fault (inr is) = refusal_cause reads writes fault is
 
 refusal_leaves : (makes : Map → List PlainOutput → Type 0) (told after : Option Map) (design : PlainDesign) (implementation : PlainImplementation) (fault : Fault) → after ≡ told
     → RefusesAssembly design implementation fault → Leaves makes told after fault
-refusal_leaves makes told after design implementation fault kept (short is) =
-    let told_short = is_short design.netlist _ _ fault is in
+refusal_leaves makes told after design implementation fault kept (no_input lacks) =
+    let told_illegal = lacks_illegal implementation.reset design.netlist fault lacks in
+    subst (Leaves makes told after) (sym told_illegal.1) kept
+refusal_leaves makes told after design implementation fault kept (unfit has (short is)) =
+    let told_short = is_short (netlist_with implementation.reset design.netlist) _ _ fault is in
     subst (Leaves makes told after) (sym told_short.3) kept
-refusal_leaves makes told after design implementation fault kept (illegal fits broken) = kept
+refusal_leaves makes told after design implementation fault kept (unfit has (illegal fits broken)) = kept
 
 -- and then the files are as they were
 pub assembly_leaves : (makes : Map → List PlainOutput → Type 0) (told after : Option Map) (design : PlainDesign) (implementation : PlainImplementation) (fault : Fault) → after ≡ told
     → (fault ≡ faults.Memory) ⊎ RefusesAssembly design implementation fault → Leaves makes told after fault
 assembly_leaves makes told after design implementation fault kept (inl memory) = leaves_of_memory makes told after fault memory kept
-assembly_leaves makes told after design implementation fault kept (inr refused) = refusal_leaves makes told after design implementation fault kept refused
+assembly_leaves makes told after design implementation fault kept (inr is) = refusal_leaves makes told after design implementation fault kept is
+
+-- ---- a reset port
+
+-- nothing is made for want of memory, or of the reset port
+pub reset_refused : (design : PlainDesign) (implementation : PlainImplementation) (fault : Fault) → (fault ≡ faults.Memory) ⊎ LacksReset implementation.reset design.netlist fault
+    → (fault ≡ faults.Memory) ⊎ RefusesAssembly design implementation fault
+reset_refused design implementation fault (inl memory) = inl memory
+reset_refused design implementation fault (inr lacks) = inr (no_input lacks)
+
+-- what is refused of the netlist with its reset port
+pub used_refused : (design : PlainDesign) (implementation : PlainImplementation) (fault : Fault) → HasReset implementation.reset design.netlist
+    → (fault ≡ faults.Memory) ⊎ RefusesImplementation design.fabric (netlist_with implementation.reset design.netlist) design.fixed implementation fault
+    → (fault ≡ faults.Memory) ⊎ RefusesAssembly design implementation fault
+used_refused design implementation fault has (inl memory) = inl memory
+used_refused design implementation fault has (inr is) = inr (unfit has is)
 
 -- ---- files
 

@@ -7,7 +7,9 @@ use Rattle.fab_files.specs.Files.{refuses}
 use Rattle.fab_files.specs.Stages.{MeetsLast, IsJudged}
 use Rattle.fab_files.proofs.Stages.{turn_is_judged}
 use Rattle.fab_netlist.specs.Packing.{packed}
+use Rattle.fab_netlist.specs.Resets.{netlist_with}
 use Rattle.fab_netlist.specs.WellMade.{IsWellMade}
+use Rattle.fab_netlist.proofs.Resetting.{made_with}
 use Rattle.fab_implementation.specs.Plain.{PlainImplementation}
 use Rattle.fab_legal.specs.Legal.{IsLegal}
 use Rattle.fab_legal.proofs.NotLegal.{broken_is_not_legal}
@@ -16,27 +18,37 @@ use Rattle.fab_blif.proofs.Netlists.{netlist_is_well_made}
 use Rattle.fab_designs.specs.Designs.{PlainDesign, SpellsDesign, MeetsDesign}
 use Rattle.fab_designs.specs.Implementations.{ReadsImplementation, MeetsImplementation}
 use Rattle.fab_designs.proofs.Judged.{SameNumber, design_is_judged, implementation_is_judged}
-use Rattle.fab_flow.specs.Assembling.{AssemblyFiles, Fits, IsReadyToAssemble, MeetsAssembly, MeetsBehindDesign, RefusesAssembly, short, illegal}
+use Rattle.fab_flow.specs.Resetting.{HasReset}
+use Rattle.fab_flow.specs.Assembling.{AssemblyFiles, Fits, IsReadyToAssemble, MeetsAssembly, MeetsBehindDesign, RefusesAssembly, no_input, unfit, short, illegal}
+use Rattle.fab_flow.proofs.ResetPorts.{has_apart, lacks_once}
 
 pub refuses_is : {a b : Fault} → refuses a ≡ refuses b → a ≡ b
 refuses_is same = cc
 
--- the fabric has sites enough, and the implementation is legal
+-- the reset port is a data input, the fabric has sites enough, and the implementation is legal
 abbrev IsTaken : PlainDesign → PlainImplementation → Unit {0} → Type 0
-IsTaken design implementation _ = Fits design.fabric design.netlist × IsLegal design.fabric (packed design.netlist) design.fixed implementation
+IsTaken design implementation _ =
+    HasReset implementation.reset design.netlist × Fits design.fabric (netlist_with implementation.reset design.netlist)
+    × IsLegal design.fabric (packed (netlist_with implementation.reset design.netlist)) design.fixed implementation
 
 refused_number : (design : PlainDesign) (implementation : PlainImplementation) (a b : Fault)
     → RefusesAssembly design implementation a → RefusesAssembly design implementation b → number_of a ≡ number_of b
-refused_number design implementation a b (short is) (short also) = ap number_of (let same = sym is ∙ also in cc)
-refused_number design implementation a b (short is) (illegal fits broken) = absurd (let differ = sym is ∙ fits in cc)
-refused_number design implementation a b (illegal fits broken) (short is) = absurd (let differ = sym is ∙ fits in cc)
-refused_number design implementation a b (illegal fits broken) (illegal also other) = refl
+refused_number design implementation a b (no_input lacks) (no_input also) = ap number_of (lacks_once implementation.reset design.netlist a b lacks also)
+refused_number design implementation a b (no_input lacks) (unfit has is) = absurd (has_apart implementation.reset design.netlist a has lacks)
+refused_number design implementation a b (unfit has is) (no_input lacks) = absurd (has_apart implementation.reset design.netlist b has lacks)
+refused_number design implementation a b (unfit has (short is)) (unfit here (short also)) = ap number_of (let same = sym is ∙ also in cc)
+refused_number design implementation a b (unfit has (short is)) (unfit here (illegal fits broken)) = absurd (let differ = sym is ∙ fits in cc)
+refused_number design implementation a b (unfit has (illegal fits broken)) (unfit here (short is)) = absurd (let differ = sym is ∙ fits in cc)
+refused_number design implementation a b (unfit has (illegal fits broken)) (unfit here (illegal also other)) = refl
 
 module _ (design : PlainDesign) (made : IsWellMade design.netlist) (implementation : PlainImplementation) where
   taken_apart : (fault : Fault) → IsTaken design implementation tt → RefusesAssembly design implementation fault → ⊥
-  taken_apart fault taken (short is) = let differ = sym is ∙ taken.0 in cc
-  taken_apart fault taken (illegal {rule = rule} {item = item} fits broken) =
-      broken_is_not_legal design.fabric (packed design.netlist) design.fixed implementation rule item (packed_is_well_made design.netlist _ _ (packed design.netlist) made fits) broken taken.1
+  taken_apart fault taken (no_input lacks) = has_apart implementation.reset design.netlist fault taken.0 lacks
+  taken_apart fault taken (unfit has (short is)) = let differ = sym is ∙ taken.1 in cc
+  taken_apart fault taken (unfit has (illegal {rule = rule} {item = item} fits broken)) =
+      let netlist = netlist_with implementation.reset design.netlist in
+      broken_is_not_legal design.fabric (packed netlist) design.fixed implementation rule item
+      (packed_is_well_made netlist _ _ (packed netlist) (made_with design.netlist implementation.reset made) fits) broken taken.2
 
   assembling_is_judged : IsJudged SameNumber (IsTaken design implementation) (MeetsLast (RefusesAssembly design implementation))
   assembling_is_judged = record {
@@ -81,4 +93,4 @@ module _ (files : Map) (names : AssemblyFiles) where
 
   -- what is ready is not refused
   pub not_both : (fault : Fault) → IsReadyToAssemble files names → MeetsAssembly files names (refuses fault) → ⊥
-  not_both fault ready = assembly_is_judged.apart (ready.design, (ready.implementation, tt)) fault (ready.spelled, (ready.implemented, (ready.fits, ready.legal)))
+  not_both fault ready = assembly_is_judged.apart (ready.design, (ready.implementation, tt)) fault (ready.spelled, (ready.implemented, (ready.resets, ready.fits, ready.legal)))

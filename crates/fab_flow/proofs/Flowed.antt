@@ -14,6 +14,7 @@ use Rattle.fab_syntax.specs.Spelling.{text_bytes}
 use Rattle.fab_model.specs.Grid.{PlainFabric}
 use Rattle.fab_netlist.specs.Plain.{PlainNetlist}
 use Rattle.fab_netlist.specs.Packing.{packed}
+use Rattle.fab_netlist.specs.Resets.{netlist_with}
 use Rattle.fab_netlist.specs.WellMade.{IsWellMade}
 use Rattle.fab_implementation.specs.Plain.{Pad, PlainImplementation}
 use Rattle.fab_legal.specs.Legal.{IsLegal}
@@ -35,9 +36,11 @@ use Rattle.fab_designs.specs.Designs.{PlainDesign, MeetsDesign, SpellsDesign}
 use Rattle.fab_outputs.specs.declared.storing.Output.{Output}
 use Rattle.fab_outputs.specs.Storing.{PlainOutput, Leaves, plain_output}
 use Rattle.fab_flow.specs.Generating.{generated_text, text_length, most_text_bytes, IsTooLong}
-use Rattle.fab_flow.specs.Assembling.{Fits, IsAssembly, RefusesAssembly, short as short_of_sites, illegal}
+use Rattle.fab_flow.specs.Assembling.{Fits, IsAssembly, RefusesImplementation, short as short_of_sites, illegal}
 use Rattle.fab_flow.specs.Mapping.{EndsUnmapped, memory, refused, failed}
-use Rattle.fab_flow.specs.Flowing.{FlowFiles, EndsFlow, FailsToFlow, HasFlowCause, IsFlow, IsReadyToFlow, MeetsFlow, RefusesFlow, flow_outputs, flow_refusals, long, short, no_memory, not_taken, not_mapped}
+use Rattle.fab_flow.specs.Flowing.{FlowFiles, EndsFlow, FailsToFlow, HasFlowCause, IsFlow, IsReadyToFlow, MeetsFlow, RefusesFlow, flow_outputs, flow_refusals, used, long, no_input, short, no_memory, not_taken, not_mapped}
+use Rattle.fab_flow.specs.Resetting.{HasReset, LacksReset}
+use Rattle.fab_flow.proofs.ResetPorts.{lacks_illegal}
 use Rattle.fab_flow.proofs.Assembled.{is_short}
 use Rattle.fab_outputs.proofs.Ending.{Reads, cause_of_read, searched}
 
@@ -81,25 +84,31 @@ flow_of files name fabric netlist fixed allowed base made stored same spelled is
 -- ---- why nothing is made
 
 -- what is legal and has sites is not refused where it is assembled
-pub legal_is_assembled : (design : PlainDesign) (implementation : PlainImplementation) (fault : Fault) → IsWellMade design.netlist → Fits design.fabric design.netlist
-    → IsLegal design.fabric (packed design.netlist) design.fixed implementation → (fault ≡ faults.Memory) ⊎ RefusesAssembly design implementation fault → fault ≡ faults.Memory
-legal_is_assembled design implementation fault made fits legal (inl is) = is
-legal_is_assembled design implementation fault made fits legal (inr (short_of_sites is)) = absurd (let differ = sym is ∙ fits in cc)
-legal_is_assembled design implementation fault made fits legal (inr (illegal {rule = rule} {item = item} also broken)) =
-    absurd (broken_is_not_legal design.fabric (packed design.netlist) design.fixed implementation rule item (packed_is_well_made design.netlist _ _ (packed design.netlist) made fits) broken legal)
+pub legal_is_assembled : (fabric : PlainFabric) (netlist : PlainNetlist) (fixed : List Pad) (implementation : PlainImplementation) (fault : Fault) → IsWellMade netlist
+    → Fits fabric netlist → IsLegal fabric (packed netlist) fixed implementation
+    → (fault ≡ faults.Memory) ⊎ RefusesImplementation fabric netlist fixed implementation fault → fault ≡ faults.Memory
+legal_is_assembled fabric netlist fixed implementation fault made fits legal (inl is) = is
+legal_is_assembled fabric netlist fixed implementation fault made fits legal (inr (short_of_sites is)) = absurd (let differ = sym is ∙ fits in cc)
+legal_is_assembled fabric netlist fixed implementation fault made fits legal (inr (illegal {rule = rule} {item = item} also broken)) =
+    absurd (broken_is_not_legal fabric (packed netlist) fixed implementation rule item (packed_is_well_made netlist _ _ (packed netlist) made fits) broken legal)
 
-module _ (name : List ℕ) (design : PlainDesign) (allowed : ℕ) where
-  pub text_ends : (fault : Fault) → (fault ≡ faults.Memory) ⊎ IsTooLong name design.fabric fault → EndsFlow name design allowed fault
-  text_ends fault (inl is) = subst (EndsFlow name design allowed) (sym is) no_memory
+module _ (name : List ℕ) (reset : Option (List ℕ)) (design : PlainDesign) (allowed : ℕ) where
+  pub text_ends : (fault : Fault) → (fault ≡ faults.Memory) ⊎ IsTooLong name design.fabric fault → EndsFlow name reset design allowed fault
+  text_ends fault (inl is) = subst (EndsFlow name reset design allowed) (sym is) no_memory
   text_ends fault (inr is) = not_taken (long is)
 
-  pub mapping_ends : (fault : Fault) → text_length design.fabric ≤ most_text_bytes → EndsUnmapped design allowed fault → EndsFlow name design allowed fault
-  mapping_ends fault few memory = no_memory
-  mapping_ends fault few (refused is) = not_taken (short few is)
-  mapping_ends fault few (failed fits cause) = not_mapped few fits cause
+  pub reset_ends : (fault : Fault) → text_length design.fabric ≤ most_text_bytes → (fault ≡ faults.Memory) ⊎ LacksReset reset design.netlist fault
+      → EndsFlow name reset design allowed fault
+  reset_ends fault few (inl is) = subst (EndsFlow name reset design allowed) (sym is) no_memory
+  reset_ends fault few (inr lacks) = not_taken (no_input few lacks)
 
-  pub memory_ends : (fault : Fault) → fault ≡ faults.Memory → EndsFlow name design allowed fault
-  memory_ends fault is = subst (EndsFlow name design allowed) (sym is) no_memory
+  -- the design with its reset port is not mapped
+  pub mapping_ends : (fault : Fault) → text_length design.fabric ≤ most_text_bytes → HasReset reset design.netlist
+      → EndsUnmapped (record { fabric = design.fabric; netlist = netlist_with reset design.netlist; fixed = design.fixed }) allowed fault
+      → EndsFlow name reset design allowed fault
+  mapping_ends fault few has memory = no_memory
+  mapping_ends fault few has (refused is) = not_taken (short few has is)
+  mapping_ends fault few has (failed fits cause) = not_mapped few has fits cause
 
 -- ---- the cause
 
@@ -115,49 +124,59 @@ module _ (told : Option Map) (names : FlowFiles) (allowed : ℕ) (reads writes :
       (λ files. MeetsDesign files names.design) (λ files event is x. at_first x) fault cause)
 
   module _ (design : PlainDesign) (spelled : ForSome told (λ files. SpellsDesign files names.design design)) where
-    refusal_cause : (fault : Fault) → RefusesFlow names.design.fabric design fault → HasFlowCause told names allowed reads writes fault
+    refusal_cause : (fault : Fault) → RefusesFlow names.design.fabric names.reset design fault → HasFlowCause told names allowed reads writes fault
     refusal_cause fault (long is) =
         let limit = fault_at names.design.fabric 0 (problems.Limit quantities.TextBytes (text_length design.fabric) most_text_bytes) in
         subst (HasFlowCause told names allowed reads writes) (sym is.is)
         (record { possible = refl; met = λ files there. behind_it (spelled files there) (limit, refl, long (record { long = is.long; is = refl })) })
-    refusal_cause fault (short few is) =
-        let told_short = is_short design.netlist _ _ fault is in
+    refusal_cause fault (no_input few lacks) =
+        let told_illegal = lacks_illegal names.reset design.netlist fault lacks in
+        let given : Fault = faults.Illegal 12 told_illegal.0 in
+        let own = subst (RefusesFlow names.design.fabric names.reset design) told_illegal.1 (no_input few lacks) in
+        subst (HasFlowCause told names allowed reads writes) (sym told_illegal.1)
+        (record { possible = refl; met = λ files there. behind_it (spelled files there) (given, refl, own) })
+    refusal_cause fault (short few has is) =
+        let told_short = is_short (netlist_with names.reset design.netlist) _ _ fault is in
         let given : Fault = faults.Short told_short.0 told_short.1 told_short.2 in
+        let own = subst (RefusesFlow names.design.fabric names.reset design) told_short.3 (short few has is) in
         subst (HasFlowCause told names allowed reads writes) (sym told_short.3)
-        (record { possible = refl; met = λ files there. behind_it (spelled files there) (given, refl, subst (RefusesFlow names.design.fabric design) told_short.3 (short few is)) })
+        (record { possible = refl; met = λ files there. behind_it (spelled files there) (given, refl, own) })
 
-    failure_cause : (fault : Fault) → text_length design.fabric ≤ most_text_bytes → Fits design.fabric design.netlist
-        → HasMapCause design.fabric (packed design.netlist) design.fixed allowed fault → HasFlowCause told names allowed reads writes fault
-    failure_cause faults.Memory few fits cause = tt
-    failure_cause (faults.NoPath net wire text) few fits cause =
-        λ files there. record { design = design; spelled = spelled files there; short = few; fits = fits; cause = cause }
-    failure_cause (faults.Overused wire first second text) few fits cause =
-        λ files there. record { design = design; spelled = spelled files there; short = few; fits = fits; cause = cause }
-    failure_cause fault few fits cause = absurd cause
+    failure_cause : (fault : Fault) → text_length design.fabric ≤ most_text_bytes → HasReset names.reset design.netlist → Fits design.fabric (used names design)
+        → HasMapCause design.fabric (packed (used names design)) design.fixed allowed fault → HasFlowCause told names allowed reads writes fault
+    failure_cause faults.Memory few has fits cause = tt
+    failure_cause (faults.NoPath net wire text) few has fits cause =
+        λ files there. record { design = design; spelled = spelled files there; short = few; resets = has; fits = fits; cause = cause }
+    failure_cause (faults.Overused wire first second text) few has fits cause =
+        λ files there. record { design = design; spelled = spelled files there; short = few; resets = has; fits = fits; cause = cause }
+    failure_cause fault few has fits cause = absurd cause
 
     -- nothing is made of the design
-    pub flow_cause : (fault : Fault) → EndsFlow names.design.fabric design allowed fault → HasFlowCause told names allowed reads writes fault
+    pub flow_cause : (fault : Fault) → EndsFlow names.design.fabric names.reset design allowed fault → HasFlowCause told names allowed reads writes fault
     flow_cause fault no_memory = tt
     flow_cause fault (not_taken is) = refusal_cause fault is
-    flow_cause fault (not_mapped few fits cause) = failure_cause fault few fits cause
+    flow_cause fault (not_mapped few has fits cause) = failure_cause fault few has fits cause
 
 -- ---- what is left
 
-module _ (makes : Map → List PlainOutput → Type 0) (told after : Option Map) (kept : after ≡ told) (name : List ℕ) (design : PlainDesign) (allowed : ℕ) where
-  refusal_leaves : (fault : Fault) → RefusesFlow name design fault → Leaves makes told after fault
+module _ (makes : Map → List PlainOutput → Type 0) (told after : Option Map) (kept : after ≡ told) (name : List ℕ) (reset : Option (List ℕ)) (design : PlainDesign) (allowed : ℕ) where
+  refusal_leaves : (fault : Fault) → RefusesFlow name reset design fault → Leaves makes told after fault
   refusal_leaves fault (long is) = subst (Leaves makes told after) (sym is.is) kept
-  refusal_leaves fault (short few is) =
-      let told_short = is_short design.netlist _ _ fault is in
+  refusal_leaves fault (no_input few lacks) =
+      let told_illegal = lacks_illegal reset design.netlist fault lacks in
+      subst (Leaves makes told after) (sym told_illegal.1) kept
+  refusal_leaves fault (short few has is) =
+      let told_short = is_short (netlist_with reset design.netlist) _ _ fault is in
       subst (Leaves makes told after) (sym told_short.3) kept
 
-  failure_leaves : (fault : Fault) → HasMapCause design.fabric (packed design.netlist) design.fixed allowed fault → Leaves makes told after fault
+  failure_leaves : (fault : Fault) → HasMapCause design.fabric (packed (netlist_with reset design.netlist)) design.fixed allowed fault → Leaves makes told after fault
   failure_leaves faults.Memory cause = inl kept
   failure_leaves (faults.NoPath net wire text) cause = kept
   failure_leaves (faults.Overused wire first second text) cause = kept
   failure_leaves fault cause = absurd cause
 
   -- the files are as they were
-  pub flow_leaves : (fault : Fault) → EndsFlow name design allowed fault → Leaves makes told after fault
+  pub flow_leaves : (fault : Fault) → EndsFlow name reset design allowed fault → Leaves makes told after fault
   flow_leaves fault no_memory = inl kept
   flow_leaves fault (not_taken is) = refusal_leaves fault is
-  flow_leaves fault (not_mapped few fits cause) = failure_leaves fault cause
+  flow_leaves fault (not_mapped few has fits cause) = failure_leaves fault cause

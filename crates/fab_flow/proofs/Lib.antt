@@ -2,6 +2,7 @@ pub mod Once
 pub mod Lengths
 pub mod Spelled
 pub mod Generated
+pub mod ResetPorts
 pub mod Assembled
 pub mod AssembledOnce
 pub mod BitsMade

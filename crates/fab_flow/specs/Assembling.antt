@@ -11,7 +11,8 @@ use Rattle.fab_model.specs.Drive.{PlainBits}
 use Rattle.fab_netlist.specs.Plain.{PlainNetlist}
 use Rattle.fab_netlist.specs.Packed.{PlainPacked}
 use Rattle.fab_netlist.specs.Packing.{packed, packing}
-use Rattle.fab_implementation.specs.Plain.{PlainImplementation}
+use Rattle.fab_netlist.specs.Resets.{netlist_with}
+use Rattle.fab_implementation.specs.Plain.{Pad, PlainImplementation}
 use Rattle.fab_legal.specs.Legal.{IsLegal}
 use Rattle.fab_legal.specs.Broken.{IsFirstBroken}
 use Rattle.fab_fabric.specs.Sites.{sites_of_kind}
@@ -34,6 +35,7 @@ use Rattle.fab_designs.specs.Designs.{DesignFiles, PlainDesign, design_files, Sp
 use Rattle.fab_designs.specs.Implementations.{ReadsImplementation, MeetsImplementation}
 use Rattle.fab_outputs.specs.Storing.{PlainOutput, output}
 use Rattle.fab_outputs.specs.Ending.{HasCause}
+use Rattle.fab_flow.specs.Resetting.{HasReset, LacksReset}
 
 -- the names of the files of a design and of its implementation, and what the names of the outputs begin with
 pub record AssemblyFiles : Type 0 where
@@ -72,24 +74,33 @@ pub record IsAssembly (fabric : PlainFabric) (netlist : PlainNetlist) (implement
   pub runs : (text : List PlainModule) → IsFabricText fabric text → RunsDesign fabric text netlist implementation (stream fabric bits) (design_state (packed netlist) implementation)
   pub settles : (text : List PlainModule) → IsFabricText fabric text → SettlesDesign fabric text netlist implementation (stream fabric bits)
 
--- The files spell a design and an implementation of it, which is legal under the design's constraints, and the outputs are what is made of these.
+-- The files spell a design and an implementation of it, which is legal under the design's constraints, and the outputs are what is made of these. The
+-- netlist has the reset port that the implementation names.
 pub record MakesAssembly (files : Map) (names : AssemblyFiles) (outputs : List PlainOutput) : Type 0 where
   pub design : PlainDesign
   pub implementation : PlainImplementation
   pub spelled : SpellsDesign files names.design design
   pub implemented : ReadsImplementation files names.implementation design.fabric implementation
-  pub fits : Fits design.fabric design.netlist
-  pub legal : IsLegal design.fabric (packed design.netlist) design.fixed implementation
-  pub made : IsAssembly design.fabric design.netlist implementation names.base outputs
+  pub resets : HasReset implementation.reset design.netlist
+  pub fits : Fits design.fabric (netlist_with implementation.reset design.netlist)
+  pub legal : IsLegal design.fabric (packed (netlist_with implementation.reset design.netlist)) design.fixed implementation
+  pub made : IsAssembly design.fabric (netlist_with implementation.reset design.netlist) implementation names.base outputs
 
 -- ---- the first refusal
 
--- An implementation that was read is refused: the fabric is short of sites for the design; or else it breaks a rule. Then the first broken rule is
--- told, and what breaks it first.
+-- An implementation of a netlist is refused: the fabric is short of sites for the netlist; or else it breaks a rule. Then the first broken rule is told,
+-- and what breaks it first.
+pub data RefusesImplementation (fabric : PlainFabric) (netlist : PlainNetlist) (fixed : List Pad) (implementation : PlainImplementation) : Fault → Type 0 where
+  short : {fault : Fault} → packing_for fabric netlist ≡ Err fault → RefusesImplementation fabric netlist fixed implementation fault
+  illegal : {rule : ℕ} {item : List ℕ} → Fits fabric netlist → IsFirstBroken fabric (packed netlist) fixed implementation rule item
+      → RefusesImplementation fabric netlist fixed implementation (faults.Illegal rule item)
+
+-- An implementation that was read is refused: the reset port that it names is no data input of the design; or else it is refused for the netlist with
+-- this reset port.
 pub data RefusesAssembly (design : PlainDesign) (implementation : PlainImplementation) : Fault → Type 0 where
-  short : {fault : Fault} → packing_for design.fabric design.netlist ≡ Err fault → RefusesAssembly design implementation fault
-  illegal : {rule : ℕ} {item : List ℕ} → Fits design.fabric design.netlist → IsFirstBroken design.fabric (packed design.netlist) design.fixed implementation rule item
-      → RefusesAssembly design implementation (faults.Illegal rule item)
+  no_input : {fault : Fault} → LacksReset implementation.reset design.netlist fault → RefusesAssembly design implementation fault
+  unfit : {fault : Fault} → HasReset implementation.reset design.netlist
+      → RefusesImplementation design.fabric (netlist_with implementation.reset design.netlist) design.fixed implementation fault → RefusesAssembly design implementation fault
 
 -- what is come upon behind the files of a design
 abbrev pub MeetsBehindDesign : (files : Map) → (implementation : List ℕ) → PlainDesign → Event → Type 0
@@ -106,8 +117,9 @@ pub record IsReadyToAssemble (files : Map) (names : AssemblyFiles) : Type 0 wher
   pub implementation : PlainImplementation
   pub spelled : SpellsDesign files names.design design
   pub implemented : ReadsImplementation files names.implementation design.fabric implementation
-  pub fits : Fits design.fabric design.netlist
-  pub legal : IsLegal design.fabric (packed design.netlist) design.fixed implementation
+  pub resets : HasReset implementation.reset design.netlist
+  pub fits : Fits design.fabric (netlist_with implementation.reset design.netlist)
+  pub legal : IsLegal design.fabric (packed (netlist_with implementation.reset design.netlist)) design.fixed implementation
 
 -- ---- why the command ends with a fault
 

@@ -8,6 +8,7 @@ use Rattle.fab_syntax.specs.Spelling.{text_bytes}
 use Rattle.fab_model.specs.Grid.{PlainFabric}
 use Rattle.fab_netlist.specs.Plain.{PlainNetlist}
 use Rattle.fab_netlist.specs.Packing.{packed}
+use Rattle.fab_netlist.specs.Resets.{netlist_with}
 use Rattle.fab_implementation.specs.Plain.{Pad, PlainImplementation}
 use Rattle.fab_legal.specs.Legal.{IsLegal}
 use Rattle.fab_ways_laws.specs.Mapping.{IsMapping}
@@ -26,15 +27,21 @@ use Rattle.fab_designs.specs.Designs.{DesignFiles, PlainDesign, design_files, Sp
 use Rattle.fab_outputs.specs.Storing.{PlainOutput, output}
 use Rattle.fab_outputs.specs.Ending.{HasSearchCause}
 use Rattle.fab_flow.specs.Generating.{generated_text, text_length, most_text_bytes, IsTooLong}
+use Rattle.fab_flow.specs.Resetting.{HasReset, LacksReset}
 use Rattle.fab_flow.specs.Assembling.{Fits, IsAssembly, packing_for}
 
--- the names of the files of a design, and what the names of the outputs begin with
+-- the names of the files of a design, the reset port where one is named, and what the names of the outputs begin with
 pub record FlowFiles : Type 0 where
   pub design : DesignFiles
+  pub reset : Option (List ℕ)
   pub base : List ℕ
 
-abbrev pub flow_files : (fabric blif : List ℕ) → (pcf : Option (List ℕ)) → (base : List ℕ) → FlowFiles
-flow_files fabric blif pcf base = record { design = design_files fabric blif pcf; base = base }
+abbrev pub flow_files : (fabric blif : List ℕ) → (pcf reset : Option (List ℕ)) → (base : List ℕ) → FlowFiles
+flow_files fabric blif pcf reset base = record { design = design_files fabric blif pcf; reset = reset; base = base }
+
+-- the netlist that is to run: that of the design, with the reset port that is named
+abbrev pub used : (names : FlowFiles) → PlainDesign → PlainNetlist
+used names design = netlist_with names.reset design.netlist
 
 -- ---- what is done
 
@@ -68,52 +75,57 @@ pub record IsFlow (fabric : PlainFabric) (netlist : PlainNetlist) (fixed : List 
   -- These are the five files, in the order in which they are stored.
   pub outputs_are : outputs ≡ flow_outputs base (text_bytes (generated_text fabric)) (implementation_text fabric implementation) assembled
 
--- The files spell a design that its fabric has sites for, and the outputs are those of a flow from it.
+-- The files spell a design that its fabric has sites for, and the outputs are those of a flow from it, with the reset port that is named.
 pub record MakesFlow (files : Map) (names : FlowFiles) (allowed : ℕ) (outputs : List PlainOutput) : Type 0 where
   pub design : PlainDesign
   pub spelled : SpellsDesign files names.design design
-  pub fits : Fits design.fabric design.netlist
-  pub made : IsFlow design.fabric design.netlist design.fixed allowed names.base outputs
+  pub resets : HasReset names.reset design.netlist
+  pub fits : Fits design.fabric (used names design)
+  pub made : IsFlow design.fabric (used names design) design.fixed allowed names.base outputs
 
 -- ---- the first refusal
 
--- A design that was read is refused: the text of its fabric is too long, which is told at line 0 of the fabric file; or else the fabric is short of
--- sites for it.
-pub data RefusesFlow (name : List ℕ) (design : PlainDesign) : Fault → Type 0 where
-  long : {fault : Fault} → IsTooLong name design.fabric fault → RefusesFlow name design fault
-  short : {fault : Fault} → text_length design.fabric ≤ most_text_bytes → packing_for design.fabric design.netlist ≡ Err fault → RefusesFlow name design fault
+-- A design that was read is refused: the text of its fabric is too long, which is told at line 0 of the fabric file; or else the reset port that is named
+-- is no data input of it; or else the fabric is short of sites for it.
+pub data RefusesFlow (name : List ℕ) (reset : Option (List ℕ)) (design : PlainDesign) : Fault → Type 0 where
+  long : {fault : Fault} → IsTooLong name design.fabric fault → RefusesFlow name reset design fault
+  no_input : {fault : Fault} → text_length design.fabric ≤ most_text_bytes → LacksReset reset design.netlist fault → RefusesFlow name reset design fault
+  short : {fault : Fault} → text_length design.fabric ≤ most_text_bytes → HasReset reset design.netlist
+      → packing_for design.fabric (netlist_with reset design.netlist) ≡ Err fault → RefusesFlow name reset design fault
 
 -- What the command comes upon: first in the files of the design, and then in what these spell.
 abbrev pub MeetsFlow : (files : Map) (names : FlowFiles) → Event → Type 0
-MeetsFlow files names event = MeetsBehind (SpellsDesign files names.design) (MeetsDesign files names.design) (λ design. MeetsLast (RefusesFlow names.design.fabric design)) event
+MeetsFlow files names event = MeetsBehind (SpellsDesign files names.design) (MeetsDesign files names.design) (λ design. MeetsLast (RefusesFlow names.design.fabric names.reset design)) event
 
 -- nothing is refused
 pub record IsReadyToFlow (files : Map) (names : FlowFiles) : Type 0 where
   pub design : PlainDesign
   pub spelled : SpellsDesign files names.design design
   pub short : text_length design.fabric ≤ most_text_bytes
-  pub fits : Fits design.fabric design.netlist
+  pub resets : HasReset names.reset design.netlist
+  pub fits : Fits design.fabric (used names design)
 
 -- ---- why the command ends with a fault
 
 -- Why nothing is made of a design that was read: memory was refused, the design is, or it is not, and there is a cause why it is not mapped.
-pub data EndsFlow (name : List ℕ) (design : PlainDesign) (allowed : ℕ) : Fault → Type 0 where
-  no_memory : EndsFlow name design allowed faults.Memory
-  not_taken : {fault : Fault} → RefusesFlow name design fault → EndsFlow name design allowed fault
-  not_mapped : {fault : Fault} → text_length design.fabric ≤ most_text_bytes → Fits design.fabric design.netlist
-      → HasMapCause design.fabric (packed design.netlist) design.fixed allowed fault → EndsFlow name design allowed fault
+pub data EndsFlow (name : List ℕ) (reset : Option (List ℕ)) (design : PlainDesign) (allowed : ℕ) : Fault → Type 0 where
+  no_memory : EndsFlow name reset design allowed faults.Memory
+  not_taken : {fault : Fault} → RefusesFlow name reset design fault → EndsFlow name reset design allowed fault
+  not_mapped : {fault : Fault} → text_length design.fabric ≤ most_text_bytes → HasReset reset design.netlist → Fits design.fabric (netlist_with reset design.netlist)
+      → HasMapCause design.fabric (packed (netlist_with reset design.netlist)) design.fixed allowed fault → EndsFlow name reset design allowed fault
 
 -- nothing is refused, and for this cause the design that the files spell is not mapped
 pub record FailsToFlow (files : Map) (names : FlowFiles) (allowed : ℕ) (fault : Fault) : Type 0 where
   pub design : PlainDesign
   pub spelled : SpellsDesign files names.design design
   pub short : text_length design.fabric ≤ most_text_bytes
-  pub fits : Fits design.fabric design.netlist
-  pub cause : HasMapCause design.fabric (packed design.netlist) design.fixed allowed fault
+  pub resets : HasReset names.reset design.netlist
+  pub fits : Fits design.fabric (used names design)
+  pub cause : HasMapCause design.fabric (packed (used names design)) design.fixed allowed fault
 
--- absent, too long, malformed, unsupported, over a limit, and short of sites
+-- absent, too long, malformed, unsupported, over a limit, short of sites, and illegal
 abbrev pub flow_refusals : List ℕ
-flow_refusals = 2 ∷ 3 ∷ 4 ∷ 5 ∷ 6 ∷ 7 ∷ []
+flow_refusals = 2 ∷ 3 ∷ 4 ∷ 5 ∷ 6 ∷ 7 ∷ 10 ∷ []
 
 abbrev pub HasFlowCause : (told : Option Map) → (names : FlowFiles) → (allowed : ℕ) → (reads_rose writes_rose : Type 0) → Fault → Type 0
 HasFlowCause told names allowed reads_rose writes_rose fault =

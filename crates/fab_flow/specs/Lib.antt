@@ -1,5 +1,6 @@
 pub mod Generating
 pub mod Matrix
+pub mod Resetting
 pub mod Assembling
 pub mod Bits
 pub mod Mapping

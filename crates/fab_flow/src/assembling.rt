@@ -22,9 +22,12 @@ ghost use Rattle.fab_gen_tile.specs.Words.{IsNamed};
 ghost use Rattle.fab_assemble.specs.fab_features_Design.{design_features};
 ghost use Rattle.fab_assemble.specs.fab_features_Features.{IsBitMapOf};
 ghost use Rattle.fab_assemble.specs.fab_features_Naming.{HasPrefixes};
-ghost use Rattle.fab_flow.specs.Assembling.{Fits, HasAssembleCause, IsAssembly, MakesAssembly, RefusesAssembly, assembly_files, assembly_outputs, packing_for};
+ghost use Rattle.fab_netlist.specs.Resets.{netlist_with};
+ghost use Rattle.fab_flow.specs.Resetting.{HasReset};
+ghost use Rattle.fab_flow.specs.Assembling.{Fits, HasAssembleCause, IsAssembly, MakesAssembly, RefusesAssembly, RefusesImplementation, assembly_files, assembly_outputs, packing_for};
 ghost use Rattle.fab_outputs.specs.Storing.{IsDone, Leaves, output, plain_output};
 
+use crate::resetting::take_reset;
 use fab_assemble::{Assembled, assemble};
 use fab_base::{Fault, Memory, Name};
 use fab_designs::{Design, read_design, read_implementation};
@@ -70,7 +73,7 @@ fn assembled(
     ensures state { IfOk result (λ it. it.state ≡ design_state (packed_of design.now.netlist) implementation) }
     ensures runs { IfOk result (λ it. (text : List PlainModule) → IsFabricText design.now.fabric text → RunsDesign design.now.fabric text design.now.netlist implementation it.words.items it.state) }
     ensures settles { IfOk result (λ it. (text : List PlainModule) → IsFabricText design.now.fabric text → SettlesDesign design.now.fabric text design.now.netlist implementation it.words.items) }
-    ensures refused { IfErr result (λ fault. (fault ≡ faults.Memory) ⊎ RefusesAssembly design.now implementation fault) }
+    ensures refused { IfErr result (λ fault. (fault ≡ faults.Memory) ⊎ RefusesImplementation design.now.fabric design.now.netlist design.now.fixed implementation fault) }
 {
     let made = assemble(
         alloc,
@@ -119,7 +122,7 @@ pub(crate) fn assembly(
     ensures made { IfOk result (λ outputs. All IsNamed design.now.fabric.types → All HasPrefixes design.now.fabric.types
         → IsAssembly design.now.fabric design.now.netlist implementation base.now (map plain_output outputs.items)) }
     ensures names { IsUtf8 base.now → IfOk result (λ outputs. All (λ output. IsUtf8 output.name) outputs.items) }
-    ensures refused { IfErr result (λ fault. (fault ≡ faults.Memory) ⊎ RefusesAssembly design.now implementation fault) }
+    ensures refused { IfErr result (λ fault. (fault ≡ faults.Memory) ⊎ RefusesImplementation design.now.fabric design.now.netlist design.now.fixed implementation fault) }
 {
     design.fabric.is_well_made();
     let assembled = assembled(alloc, design, packed, implementation)?;
@@ -141,18 +144,43 @@ fn packed_assembly(
     ensures made { IfOk result (λ outputs. All IsNamed design.now.fabric.types → All HasPrefixes design.now.fabric.types
         → IsAssembly design.now.fabric design.now.netlist implementation base.now (map plain_output outputs.items)) }
     ensures names { IsUtf8 base.now → IfOk result (λ outputs. All (λ output. IsUtf8 output.name) outputs.items) }
-    ensures refused { IfErr result (λ fault. (fault ≡ faults.Memory) ⊎ RefusesAssembly design.now implementation fault) }
+    ensures refused { IfErr result (λ fault. (fault ≡ faults.Memory) ⊎ RefusesImplementation design.now.fabric design.now.netlist design.now.fixed implementation fault) }
 {
     let packed = packed_design(alloc, design)?;
     assembly(alloc, design, &packed, implementation, base)
 }
 
+/// The same of a design that takes the reset port of the implementation, where this names one.
+fn reset_assembly(
+    alloc: Global,
+    mut design: Design,
+    implementation: Implementation,
+    base: &Name,
+) -> Result<Vec<Output>, Fault>
+    requires no_cycle { HasNoCycle design.netlist }
+    requires on_fabric { IsOnFabric design.fabric implementation }
+    requires lines { InputsAreLines implementation }
+    ensures resets { OnOk result (HasReset implementation.reset design.netlist) }
+    ensures fits { OnOk result (Fits design.fabric (netlist_with implementation.reset design.netlist)) }
+    ensures legal { OnOk result (IsLegal design.fabric (packed_of (netlist_with implementation.reset design.netlist)) design.fixed implementation) }
+    ensures made { IfOk result (λ outputs. All IsNamed design.fabric.types → All HasPrefixes design.fabric.types
+        → IsAssembly design.fabric (netlist_with implementation.reset design.netlist) implementation base.now (map plain_output outputs.items)) }
+    ensures names { IsUtf8 base.now → IfOk result (λ outputs. All (λ output. IsUtf8 output.name) outputs.items) }
+    ensures refused { IfErr result (λ fault. (fault ≡ faults.Memory) ⊎ RefusesAssembly design implementation fault) }
+{
+    take_reset(alloc, &mut design.netlist, implementation.reset.as_ref())?;
+    packed_assembly(alloc, &design, implementation, base)
+}
+
 /// Reads a design and an implementation of it, and stores what a device is given: the features in BASE.fasm, the
 /// bitstream in BASE.bit, and in BASE.state the ports at their pads with what the flip-flops hold at first.
 ///
-/// The faults of the files come as `read_design` and `read_implementation` give them. Behind them come `Short`, where the fabric has fewer LUT4c than the
-/// packed netlist has cells, or fewer IO pads than it has data ports, and `Illegal`, with the first rule that the implementation breaks and what breaks it
-/// first. `WriteFault` names an output; those before it are stored. With any other fault but want of memory the files that the desk tells are as before.
+/// The netlist takes the reset port that the implementation names, if it names one.
+///
+/// The faults of the files come as `read_design` and `read_implementation` give them. Behind them come `Illegal` with rule 12, where the reset port is no
+/// data input of the netlist, `Short`, where the fabric has fewer LUT4c than the packed netlist has cells, or fewer IO pads than it has data ports, and
+/// `Illegal`, with the first rule that the implementation breaks and what breaks it first. `WriteFault` names an output; those before it are stored. With any
+/// other fault but want of memory the files that the desk tells are as before.
 pub fn do_assemble<D: Desk, P: Progress>(
     alloc: Global,
     desk: &mut D,
@@ -172,6 +200,6 @@ pub fn do_assemble<D: Desk, P: Progress>(
     let design = read_design(alloc, desk, progress, fabric, blif, pcf)?;
     progress.tell(Step::Reading(implementation));
     let read = read_implementation(alloc, desk, implementation, &design.fabric)?;
-    let outputs = packed_assembly(alloc, &design, read, base)?;
+    let outputs = reset_assembly(alloc, design, read, base)?;
     store_all(alloc, desk, progress, &outputs)
 }

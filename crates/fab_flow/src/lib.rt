@@ -9,6 +9,7 @@ mod generating;
 mod mapping;
 mod matrix;
 mod printing;
+mod resetting;
 
 pub use assembling::do_assemble;
 pub use bit_features::do_features;

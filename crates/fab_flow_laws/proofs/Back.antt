@@ -14,6 +14,7 @@ use Rattle.fab_fasm.specs.declared.feature.Feature.{Feature}
 use Rattle.fab_frames.specs.Bytes.{word_bytes}
 use Rattle.fab_frames.specs.Stream.{stream}
 use Rattle.fab_netlist.specs.Packing.{packed}
+use Rattle.fab_netlist.specs.Resets.{netlist_with}
 use Rattle.fab_read.proofs.FabricsOnce.{one_fabric}
 use Rattle.fab_outputs.specs.Storing.{PlainOutput, output, with_outputs}
 use Rattle.fab_flow_laws.specs.BitsLaws.{AreSaid, BitMapsAreOne, BitMapsSelectInputs, HaveSameBits, SelectsInputs, SpelledBitsAreSaid}
@@ -24,6 +25,7 @@ use Rattle.fab_flow_laws.specs.fab_use_defs_Registers.{design_state}
 use Rattle.fab_flow_laws.specs.fab_fabric_text_defs_Places.{placed_tiles}
 use Rattle.fab_flow_laws.proofs.fab_features_Fields.{field_fits}
 use Rattle.fab_flow_laws.specs.fab_flow_BitFeatures.{FeaturesFiles, MakesFeatures}
+use Rattle.fab_flow_laws.specs.fab_flow_Flowing.{used}
 use Rattle.fab_flow_laws.proofs.HandedOut.{found_is}
 use Rattle.fab_flow_laws.proofs.Stored.{flow_words_stand}
 use Rattle.fab_flow_laws.specs.FeaturesLaws.{AssembledBitstreamsComeBack, ComesBack, FeaturesGiveBitsBack, FlowBitstreamsComeBack, GivesBack, SpelledFeaturesAreWritten, SpelledPairsStandOnce, StandsBehind}
@@ -115,17 +117,18 @@ module _ (one : BitMapsAreOne) (select : BitMapsSelectInputs) (said : SpelledBit
   pub assembled_back : AssembledBitstreamsComeBack
   assembled_back files names stored made =
       let fabric = made.design.fabric in
-      let features = design_features fabric (packed made.design.netlist) made.implementation in
+      let cells = packed (netlist_with made.implementation.reset made.design.netlist) in
+      let features = design_features fabric cells made.implementation in
       comes_back fabric (spelled_is_promised files names.design.fabric fabric made.spelled.fabric).is features made.made.bits made.made.bit_map names.base
       (with_outputs stored files)
       (ap (λ (list : List PlainOutput). with_outputs list files (names.base ++ codes ".bit")) made.made.outputs_are
-      ∙ words_assembled files names.base features (stream fabric made.made.bits) (design_state (packed made.design.netlist) made.implementation))
+      ∙ words_assembled files names.base features (stream fabric made.made.bits) (design_state cells made.implementation))
 
   pub flows_back : FlowBitstreamsComeBack
   flows_back files names allowed stored made =
       let fabric = made.design.fabric in
       comes_back fabric (spelled_is_promised files names.design.fabric fabric made.spelled.fabric).is
-      (design_features fabric (packed made.design.netlist) made.made.implementation)
+      (design_features fabric (packed (used names made.design)) made.made.implementation)
       made.made.assembly.bits
       made.made.assembly.bit_map
       names.base

@@ -13,6 +13,8 @@ use Rattle.fab_netlist.specs.Cycles.{HasNoCycle}
 use Rattle.fab_netlist.specs.Meaning.{IsRun}
 use Rattle.fab_netlist.specs.Packing.{packed}
 use Rattle.fab_netlist.specs.Plain.{PlainNetlist}
+use Rattle.fab_netlist.specs.WellMade.{IsWellMade}
+use Rattle.fab_netlist.proofs.Resetting.{made_with, no_cycle_with}
 use Rattle.fab_model.specs.Grid.{PlainFabric}
 use Rattle.fab_implementation.specs.Plain.{PlainImplementation}
 use Rattle.fab_frames.specs.Bytes.{word_bytes}
@@ -39,7 +41,7 @@ use Rattle.fab_netlist_traces_laws.specs.OrderedLaws.{LegalDesignsSimulateInOrde
 use Rattle.fab_spelled_designs_laws.specs.DesignLaws.{IsSound, LegalDesignsAreSpelled, SpelledDesignsAreSound}
 use Rattle.fab_outputs.specs.Storing.{PlainOutput, output, with_outputs}
 use Rattle.fab_flow_laws.specs.fab_flow_Generating.{generated_text}
-use Rattle.fab_flow_laws.specs.fab_flow_Flowing.{FlowFiles, MakesFlow}
+use Rattle.fab_flow_laws.specs.fab_flow_Flowing.{FlowFiles, MakesFlow, used}
 use Rattle.fab_simulate_command.specs.Simulating.{MakesTrace, Shows, SimulationFiles, simulation_files}
 use Rattle.fab_flow_laws.specs.StoredLaws.{FlowFilesStand, HoldsFlow, KeepsFlowFiles, flow_state}
 use Rattle.fab_flow_laws.proofs.HandedOut.{found_is, found_short}
@@ -90,7 +92,7 @@ module _ (stand : FlowFilesStand) (read_again : GeneratedTextsAreRead) (simulate
   fabric = flow.design.fabric
 
   abbrev netlist : PlainNetlist
-  netlist = flow.design.netlist
+  netlist = used names flow.design
 
   abbrev implementation : PlainImplementation
   implementation = flow.made.implementation
@@ -107,11 +109,15 @@ module _ (stand : FlowFilesStand) (read_again : GeneratedTextsAreRead) (simulate
   sound : IsSound flow.design
   sound = are_sound files names.design flow.design flow.spelled
 
+  netlist_made : IsWellMade netlist
+  netlist_made = made_with flow.design.netlist names.reset sound.netlist
+
   has : HasSpelling state
-  has = (are_spelled files names.design flow.design implementation flow.spelled flow.made.legal).state
+  has = (are_spelled files names.design flow.design names.reset implementation flow.spelled flow.made.legal).state
 
   no_cycle : HasNoCycle netlist
-  no_cycle = subst HasNoCycle (sym flow.spelled.netlist.spelled.1) flow.spelled.netlist.spelled.0.acyclic
+  no_cycle =
+      no_cycle_with flow.design.netlist names.reset (subst HasNoCycle (sym flow.spelled.netlist.spelled.1) flow.spelled.netlist.spelled.0.acyclic)
 
   printed : IsPrintableText (generated_text fabric) × SpellsText 300 128 (text_bytes (generated_text fabric)) (generated_text fabric)
   printed = read_again files names.design.fabric fabric flow.spelled.fabric sound.fabric sound.tiles
@@ -147,11 +153,11 @@ module _ (stand : FlowFilesStand) (read_again : GeneratedTextsAreRead) (simulate
       ShowsRun fabric netlist implementation (generated_text fabric) state chosen (map (digits 32) words) lines seen simulation
   runs None lines seen simulates =
       let it = simulate fabric (generated_text fabric) netlist flow.design.fixed implementation flow.made.assembly.bits sound.fabric sound.tiles flow.made.text
-      sound.netlist no_cycle flow.made.legal flow.made.assembly.configures lines seen simulates in
+      netlist_made no_cycle flow.made.legal flow.made.assembly.configures lines seen simulates in
       record { nows = it.nows; run = it.run; shows = it.shows; knows = it.knows }
   runs (Some seed) lines seen ordered =
       let it = in_order fabric (generated_text fabric) netlist flow.design.fixed implementation flow.made.assembly.bits sound.fabric sound.tiles flow.made.text narrow
-      sound.netlist no_cycle flow.made.legal flow.made.assembly.configures (draws_of seed) lines ordered.bits ordered.simulates in
+      netlist_made no_cycle flow.made.legal flow.made.assembly.configures (draws_of seed) lines ordered.bits ordered.simulates in
       record { nows = it.nows; run = it.run; shows = ordered.known_is ∙ ap (map (map known)) it.shows ∙ lines_known netlist it.nows; knows = it.right }
 
   -- so it is in the text, from the state and over the words that were read

@@ -27,7 +27,7 @@ use Rattle.fab_legal_states_laws.specs.StandingLaws.{FabricTextsHaveStreams, Leg
 use Rattle.fab_legal_states_laws.specs.ShortLaws.{BitstreamsAreShort}
 use Rattle.fab_outputs.specs.Storing.{PlainOutput, with_outputs}
 use Rattle.fab_flow_laws.specs.fab_flow_Generating.{generated_text}
-use Rattle.fab_flow_laws.specs.fab_flow_Flowing.{FlowFiles, MakesFlow}
+use Rattle.fab_flow_laws.specs.fab_flow_Flowing.{FlowFiles, MakesFlow, used}
 use Rattle.fab_simulate_command.specs.Simulating.{HasPoints, IsReadyToSimulate, ReadsDevice, ReadsState, ReadsStimulus, ReadsWords, simulation_files}
 use Rattle.fab_flow_laws.specs.StoredLaws.{FlowFilesStand, HoldsFlow, KeepsFlowFiles, flow_state}
 use Rattle.fab_flow_laws.proofs.HandedOut.{given_out}
@@ -83,7 +83,7 @@ module _ (stand : FlowFilesStand) (read_again : GeneratedTextsAreRead) (are_soun
   sound = are_sound files names.design flow.design flow.spelled
 
   has : HasSpelling state
-  has = (are_spelled files names.design flow.design implementation flow.spelled flow.made.legal).state
+  has = (are_spelled files names.design flow.design names.reset implementation flow.spelled flow.made.legal).state
 
   device : ReadsDevice later (names.base ++ codes ".v") (generated_text fabric)
   device = record {
@@ -107,7 +107,7 @@ module _ (stand : FlowFilesStand) (read_again : GeneratedTextsAreRead) (are_soun
   points : HasPoints (generated_text fabric) state
   points = record {
     stream = have_streams fabric (generated_text fabric) flow.made.text;
-    entries = have_entries fabric (generated_text fabric) (packed flow.design.netlist) flow.design.fixed implementation sound.fabric sound.tiles flow.made.text flow.made.legal;
+    entries = have_entries fabric (generated_text fabric) (packed (used names flow.design)) flow.design.fixed implementation sound.fabric sound.tiles flow.made.text flow.made.legal;
   }
 
   spells : Spells (rows_of (state_text state)) state

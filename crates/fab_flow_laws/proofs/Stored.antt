@@ -18,7 +18,7 @@ use Rattle.fab_outputs.specs.Storing.{PlainOutput, with_outputs}
 use Rattle.fab_flow.specs.fab_features_Design.{design_features}
 use Rattle.fab_flow.specs.Assembling.{assembly_outputs}
 use Rattle.fab_flow.specs.Generating.{generated_text}
-use Rattle.fab_flow.specs.Flowing.{FlowFiles, MakesFlow, flow_outputs}
+use Rattle.fab_flow.specs.Flowing.{FlowFiles, MakesFlow, flow_outputs, used}
 use Rattle.fab_flow_laws.specs.StoredLaws.{FlowFilesStand, HoldsFlow, KeepsFlowFiles, flow_state}
 
 -- names with one beginning differ as their endings do
@@ -66,7 +66,7 @@ module _ (files : Map) (names : FlowFiles) (allowed : ℕ) (stored : List PlainO
   implementation = flow.made.implementation
 
   abbrev flow_features : List Feature
-  flow_features = design_features fabric (packed flow.design.netlist) implementation
+  flow_features = design_features fabric (packed (used names flow.design)) implementation
 
   abbrev flow_words : List ℕ
   flow_words = stream fabric flow.made.assembly.bits

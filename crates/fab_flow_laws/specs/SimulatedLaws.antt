@@ -16,7 +16,7 @@ use Rattle.fab_netlist_traces_laws.specs.SimulatedDesigns.{EachKnows, initial_la
 use Rattle.fab_netlist_traces_laws.specs.OrderedDesigns.{EachRight}
 use Rattle.fab_outputs.specs.Storing.{PlainOutput, output, with_outputs}
 use Rattle.fab_flow_laws.specs.fab_use_defs_Design.{IsSourced}
-use Rattle.fab_flow_laws.specs.fab_flow_Flowing.{FlowFiles, MakesFlow}
+use Rattle.fab_flow_laws.specs.fab_flow_Flowing.{FlowFiles, MakesFlow, used}
 use Rattle.fab_flow_laws.specs.StoredLaws.{KeepsFlowFiles}
 use Rattle.fab_simulate_command.specs.Simulating.{MakesTrace, SimulationFiles, simulation_files}
 
@@ -45,8 +45,8 @@ KnowsDesign fabric netlist implementation None made = EachKnows (IsSourced fabri
 KnowsDesign fabric netlist implementation (Some seed) made =
     EachRight (IsSourced fabric (packed netlist) implementation) made.made.traces.simulates.simulates.cycles
 
--- As long as BASE.v, BASE.bit and BASE.state of a flow stand, what `simulate` makes of them is the trace of the netlist. That is so without an order, and
--- with one for every seed: whatever is drawn for points at power-up, and in whichever order points change.
+-- As long as BASE.v, BASE.bit and BASE.state of a flow stand, what `simulate` makes of them is the trace of the netlist, with the reset port that was
+-- named. That is so without an order, and with one for every seed: whatever is drawn for points at power-up, and in whichever order points change.
 abbrev pub FlowFilesSimulate : Type 0
 FlowFilesSimulate =
     (files : Map) (names : FlowFiles) (allowed : ℕ) (stored : List PlainOutput) (flow : MakesFlow files names allowed stored) →
@@ -54,5 +54,5 @@ FlowFilesSimulate =
     (stimulus trace : List ℕ) (order : Option ℕ) (outputs : List PlainOutput)
     (made : MakesTrace later
     (simulation_files (names.base ++ codes ".v") (names.base ++ codes ".bit") (names.base ++ codes ".state") stimulus trace) order outputs) →
-    TracesNetlist later stimulus trace flow.design.netlist outputs
-    × KnowsDesign flow.design.fabric flow.design.netlist flow.made.implementation order made
+    TracesNetlist later stimulus trace (used names flow.design) outputs
+    × KnowsDesign flow.design.fabric (used names flow.design) flow.made.implementation order made

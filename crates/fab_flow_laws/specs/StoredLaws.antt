@@ -11,11 +11,11 @@ use Rattle.fab_state.specs.Spelled.{state_text}
 use Rattle.fab_outputs.specs.Storing.{PlainOutput, with_outputs}
 use Rattle.fab_flow.specs.fab_use_defs_Registers.{design_state}
 use Rattle.fab_flow.specs.Generating.{generated_text}
-use Rattle.fab_flow.specs.Flowing.{FlowFiles, MakesFlow}
+use Rattle.fab_flow.specs.Flowing.{FlowFiles, MakesFlow, used}
 
 -- the state that stands behind the files
 abbrev pub flow_state : {files : Map} {names : FlowFiles} {allowed : ℕ} {stored : List PlainOutput} → MakesFlow files names allowed stored → PlainState
-flow_state flow = design_state (packed flow.design.netlist) flow.made.implementation
+flow_state {files} {names} flow = design_state (packed (used names flow.design)) flow.made.implementation
 
 -- BASE.v, BASE.bit and BASE.state are what a flow stored. Any other file may have changed since, as where a stimulus is written afterwards.
 pub record KeepsFlowFiles (base : List ℕ) (stored later : Map) : Type 0 where

@@ -1,4 +1,5 @@
 pub mod Follows
+pub mod Dues
 pub mod WireNames
 pub mod FirstPads
 pub mod Edges

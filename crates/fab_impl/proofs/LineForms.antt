@@ -16,6 +16,7 @@ equal_words a b same = (bytes_eq-Decides a b).0 same
 -- the words that each line of a kind has
 abbrev pub IsForm : Kind → List Word → Type 0
 IsForm kinds.Header line = line ≡ codes "fabulous-impl" ∷ word_at line 1 ∷ []
+IsForm kinds.Reset line = line ≡ codes "reset" ∷ word_at line 1 ∷ []
 IsForm kinds.Cell line = line ≡ codes "cell" ∷ word_at line 1 ∷ word_at line 2 ∷ []
 IsForm kinds.In line = line ≡ codes "pad" ∷ codes "in" ∷ word_at line 2 ∷ word_at line 3 ∷ []
 IsForm kinds.Out line = line ≡ codes "pad" ∷ codes "out" ∷ word_at line 2 ∷ word_at line 3 ∷ []
@@ -36,10 +37,12 @@ constant_by a b true one net is other = ap (λ (w : Word). w ∷ b ∷ []) net �
 constant_by a b false true net other is = ap (λ (w : Word). w ∷ b ∷ []) net ∙ ap (λ (w : Word). codes "net" ∷ w ∷ []) (equal_words b (codes "one") is)
 constant_by a b false false net other others = tt
 
-two_by : (a b : Word) (first net : Bool) → bytes_eq a (codes "fabulous-impl") ≡ first → bytes_eq a (codes "net") ≡ net → IsForm (cond first kinds.Header (cond net (constant_kind b) kinds.Other)) (a ∷ b ∷ [])
-two_by a b true net is other = ap (λ (w : Word). w ∷ b ∷ []) (equal_words a (codes "fabulous-impl") is)
-two_by a b false true other is = constant_by a b (bytes_eq b (codes "zero")) (bytes_eq b (codes "one")) (equal_words a (codes "net") is) refl refl
-two_by a b false false other others = tt
+two_by : (a b : Word) (first reset net : Bool) → bytes_eq a (codes "fabulous-impl") ≡ first → bytes_eq a (codes "reset") ≡ reset → bytes_eq a (codes "net") ≡ net
+    → IsForm (cond first kinds.Header (cond reset kinds.Reset (cond net (constant_kind b) kinds.Other))) (a ∷ b ∷ [])
+two_by a b true reset net is other others = ap (λ (w : Word). w ∷ b ∷ []) (equal_words a (codes "fabulous-impl") is)
+two_by a b false true net other is others = ap (λ (w : Word). w ∷ b ∷ []) (equal_words a (codes "reset") is)
+two_by a b false false true other others is = constant_by a b (bytes_eq b (codes "zero")) (bytes_eq b (codes "one")) (equal_words a (codes "net") is) refl refl
+two_by a b false false false other others none = tt
 
 net_by : (a b c : Word) (input cell : Bool) → a ≡ codes "net" → bytes_eq b (codes "in") ≡ input → bytes_eq b (codes "cell") ≡ cell → IsForm (cond input kinds.NetIn (cond cell kinds.NetCell kinds.Other)) (a ∷ b ∷ c ∷ [])
 net_by a b c true cell net is other = ap (λ (w : Word). w ∷ b ∷ c ∷ []) net ∙ ap (λ (w : Word). codes "net" ∷ w ∷ c ∷ []) (equal_words b (codes "in") is)
@@ -74,7 +77,7 @@ long line more =
 pub form_of : (line : List Word) → IsForm (kind_of line) line
 form_of [] = tt
 form_of (a ∷ []) = one_by a (bytes_eq a (codes "end")) refl
-form_of (a ∷ b ∷ []) = two_by a b (bytes_eq a (codes "fabulous-impl")) (bytes_eq a (codes "net")) refl refl
+form_of (a ∷ b ∷ []) = two_by a b (bytes_eq a (codes "fabulous-impl")) (bytes_eq a (codes "reset")) (bytes_eq a (codes "net")) refl refl refl
 form_of (a ∷ b ∷ c ∷ []) = three_by a b c (bytes_eq a (codes "edge")) (bytes_eq a (codes "cell")) (bytes_eq a (codes "net")) refl refl refl
 form_of (a ∷ b ∷ c ∷ d ∷ []) = four_by a b c d (bytes_eq a (codes "pad")) refl
 form_of (a ∷ b ∷ c ∷ d ∷ e ∷ more) = subst (λ (kind : Kind). IsForm kind (a ∷ b ∷ c ∷ d ∷ e ∷ more)) (sym (long (a ∷ b ∷ c ∷ d ∷ e ∷ more) (omega arith))) tt

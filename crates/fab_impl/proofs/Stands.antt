@@ -1,5 +1,5 @@
 -- What lines say stands on the fabric.
-use Rattle.std.proofs.Common.{◌≡◌, ℕ, ◌<◌, ◌≤◌, cond, List, [], ◌∷◌, ◌++◌, length, get_or, position, All, Option, Some, None, Ok, refl, ap, subst, arith, length-append}
+use Rattle.std.proofs.Common.{◌≡◌, ℕ, ◌<◌, ◌≤◌, true, false, cond, List, [], ◌∷◌, ◌++◌, length, get_or, position, All, Option, Some, None, Result, Ok, Err, refl, ap, subst, arith, length-append}
 use Rattle.std.specs.Prelude.{is_some}
 use Rattle.std.specs.Option.{option_map, option_map_or, option_and_then}
 use Rattle.std.specs.Str.{bytes_eq}
@@ -18,22 +18,27 @@ use Rattle.fab_netlist.specs.declared.net_id.NetId.{NetId}
 use Rattle.fab_netlist.specs.declared.net_id.NetId.TheVariants as nets
 use Rattle.fab_implementation.specs.OnFabric.{kind_at, IsSite, HasSites, HasWires, IsOnFabric}
 use Rattle.fab_implementation.specs.Plain.{Edge, Pad, PlainTree, ports_of}
+use Rattle.fab_base.specs.declared.problem.Problem.{Problem}
 use Rattle.fab_lines.specs.Order.{IsFine}
 use Rattle.fab_texts.specs.Rows.{Word, PlainRow, words_of}
 use Rattle.fab_lines.specs.Items.{word_at, with_last}
 use Rattle.fab_texts.specs.Places.{place_at, site_of, after_byte, ◌>>=◌}
-use Rattle.fab_texts.specs.Sections.{cut_short}
+use Rattle.fab_texts.specs.Sections.{cut_short, has_ended, may_follow}
 use Rattle.fab_texts.proofs.Formats.{each_line}
-use Rattle.fab_texts.proofs.InSections.{IsPlaced, placed, versioned}
+use Rattle.fab_texts.proofs.InSections.{placed}
 use Rattle.fab_impl.specs.declared.kind.Kind.{Kind}
 use Rattle.fab_impl.specs.declared.kind.Kind.TheVariants as kinds
 use Rattle.fab_impl.specs.Names.{cell_of, on_fabric, site_in, wire_of, named_wire}
 use Rattle.fab_impl.specs.FirstPlaces.{first_place}
 use Rattle.fab_impl.specs.Kinds.{kind_of, part_of}
-use Rattle.fab_impl.specs.Lines.{Cell, Known, nothing, known, take, take_kind, set_cells, set_ins, set_outs, set_trees, cell_at, pad_at, input_at, cell_net_at, with_net, with_edge, with_wires}
+use Rattle.fab_impl.specs.declared.opening.Opening.{Opening}
+use Rattle.fab_impl.specs.declared.opening.Opening.TheVariants as openings
+use Rattle.fab_impl.specs.Openings.{may_come, opening_of, where_due}
+use Rattle.fab_impl.specs.Lines.{Cell, Known, nothing, known, take, take_kind, set_opening, set_cells, set_ins, set_outs, set_trees, cell_at, pad_at, input_at, cell_net_at, with_net, with_edge, with_wires}
 use Rattle.fab_implementation.specs.Inputs.{NamesInput}
 use Rattle.fab_impl.specs.Spelled.{implementation_of, implementation_format}
 use Rattle.fab_impl.proofs.Follows.{at_kind, keeps}
+use Rattle.fab_impl.proofs.Dues.{due_taken}
 
 -- ---- words
 
@@ -92,6 +97,12 @@ all_last P change (x ∷ []) keep all = All-cons P (change x) [] (keep x (All-he
 all_last P change (x ∷ y ∷ more) keep all = All-cons P x (with_last change (y ∷ more)) (All-head P x (y ∷ more) all) (all_last P change (y ∷ more) keep (All-tail P x (y ∷ more) all))
 
 module _ (fabric : PlainFabric) (old next : Known) (stands : Stands fabric old) where
+  opening_stands : (opening : Result Opening Problem) → set_opening old opening ≡ Ok next → Stands fabric next
+  opening_stands (Err problem) so = absurd cc
+  opening_stands (Ok opening) so =
+      let same : record old { opening = opening } ≡ next = cc in
+      subst (Stands fabric) same (record { same = stands.same; cells = stands.cells; ins = stands.ins; outs = stands.outs; wires = stands.wires; nets = stands.nets })
+
   cell_stands : (cell : Option ℕ) (site : Option Site) → ((s : Site) → site ≡ Some s → IsSite fabric s) → set_cells old (cell_at old.cells cell site) ≡ Ok next → Stands fabric next
   cell_stands None site is so = absurd cc
   cell_stands (Some cell) None is so = absurd cc
@@ -165,7 +176,8 @@ module _ (fabric : PlainFabric) (old next : Known) (stands : Stands fabric old) 
   wire_here word wire so = subst (λ (f : PlainFabric). wire.0 < wire_count f) stands.same (wire_found old.fabric word wire so)
 
   kind_stands : (kind : Kind) (line : List Word) → take_kind old kind line ≡ Ok next → Stands fabric next
-  kind_stands kinds.Header line so = subst (Stands fabric) (versioned (word_at line 1) old next so).1 stands
+  kind_stands kinds.Header line so = opening_stands (opening_of (word_at line 1)) so
+  kind_stands kinds.Reset line so = opening_stands (Ok (openings.Reset (word_at line 1))) so
   kind_stands kinds.Cell line so = cell_stands (cell_of (word_at line 1)) (site_in old.fabric (word_at line 2)) (site_here (word_at line 2)) so
   kind_stands kinds.In line so = in_stands (word_at line 2) (site_in old.fabric (word_at line 3)) (site_here (word_at line 3)) so
   kind_stands kinds.Out line so = out_stands (word_at line 2) (site_in old.fabric (word_at line 3)) (site_here (word_at line 3)) so
@@ -180,14 +192,24 @@ module _ (fabric : PlainFabric) (old next : Known) (stands : Stands fabric old) 
   kind_stands kinds.End line so = let same : old ≡ next = cc in subst (Stands fabric) same stands
   kind_stands kinds.Other line so = absurd cc
 
--- where a line is taken, it has its place
-pub line_placed : (old next : Known) (line : List Word) → take old line ≡ Ok next → IsPlaced old.last (part_of (kind_of line)) (take_kind (at_kind old (kind_of line)) (kind_of line) line) next
-line_placed old next line so = placed old.last (part_of (kind_of line)) (take_kind (at_kind old (kind_of line)) (kind_of line) line) next so
+-- a line of a kind that is taken has its place, and may come there
+pub record IsTaken (old next : Known) (kind : Kind) (line : List Word) : Type 0 where
+  pub opened : has_ended old.last ≡ false
+  pub follows : may_follow old.last (part_of kind) ≡ true
+  pub due : may_come old.opening kind ≡ true
+  pub takes : take_kind (at_kind old kind) kind line ≡ Ok next
+
+pub line_taken : (old next : Known) (line : List Word) → take old line ≡ Ok next → IsTaken old next (kind_of line) line
+line_taken old next line so =
+    let kind = kind_of line in
+    let stands = placed old.last (part_of kind) (where_due old.opening kind (take_kind (at_kind old kind) kind line)) next so in
+    let due = due_taken old.opening kind (take_kind (at_kind old kind) kind line) next stands.takes in
+    record { opened = stands.opened; follows = stands.follows; due = due.0; takes = due.1 }
 
 line_keeps : (fabric : PlainFabric) (old next : Known) (line : List Word) → Stands fabric old → take old line ≡ Ok next → Stands fabric next
 line_keeps fabric old next line stands so =
     let here : Stands fabric (at_kind old (kind_of line)) = record { same = stands.same; cells = stands.cells; ins = stands.ins; outs = stands.outs; wires = stands.wires; nets = stands.nets } in
-    kind_stands fabric (at_kind old (kind_of line)) next here (kind_of line) line (line_placed old next line so).takes
+    kind_stands fabric (at_kind old (kind_of line)) next here (kind_of line) line (line_taken old next line so).takes
 
 nothing_stands : (fabric : PlainFabric) → Stands fabric (nothing fabric)
 nothing_stands fabric = record { same = refl; cells = All-nil (λ c. IsSite fabric c.1); ins = All-nil (λ p. IsSite fabric p.1); outs = All-nil (λ p. IsSite fabric p.1); wires = All-nil (λ t. All (HasWires fabric) t.edges); nets = All-nil (λ t. NamesInput 0 t.net) }

@@ -32,6 +32,7 @@ constant_kind second = if bytes_eq second (codes "zero") then kinds.NetZero else
 abbrev pub kind_of_two : (first second : Word) → Kind
 kind_of_two first second =
     if bytes_eq first (codes "fabulous-impl") then kinds.Header
+    else if bytes_eq first (codes "reset") then kinds.Reset
     else if bytes_eq first (codes "net") then constant_kind second
     else kinds.Other
 
@@ -44,9 +45,10 @@ kind_of line =
     else if is_ending line then kinds.End
     else kinds.Other
 
--- where a line of a kind stands
+-- where a line of a kind stands; the section of the reset port is below all others
 abbrev pub part_of : Kind → Part
 part_of kinds.Header = parts.Header
+part_of kinds.Reset = parts.Section 0
 part_of kinds.Cell = parts.Section 1
 part_of kinds.In = parts.Section 2
 part_of kinds.Out = parts.Section 3

@@ -13,28 +13,32 @@ use Rattle.fab_texts.specs.Rows.{Word}
 use Rattle.fab_lines.specs.Items.{word_at, with_last}
 use Rattle.fab_texts.specs.Formats.{refused}
 use Rattle.fab_texts.specs.declared.sections.Part.{Part}
-use Rattle.fab_texts.specs.Sections.{with_version, in_place}
+use Rattle.fab_texts.specs.Sections.{in_place}
 use Rattle.fab_impl.specs.declared.kind.Kind.{Kind}
 use Rattle.fab_impl.specs.declared.kind.Kind.TheVariants as kinds
 use Rattle.fab_impl.specs.Names.{cell_of, site_in, wire_of}
 use Rattle.fab_impl.specs.FirstPlaces.{first_place}
 use Rattle.fab_impl.specs.Kinds.{kind_of, part_of}
+use Rattle.fab_impl.specs.Openings.{opening_of, where_due}
+use Rattle.fab_impl.specs.declared.opening.Opening.{Opening}
+use Rattle.fab_impl.specs.declared.opening.Opening.TheVariants as openings
 
 -- a cell by its number, and its site
 abbrev pub Cell : Type 0
 Cell = ℕ × Site
 
--- the fabric, where the last of the lines so far stands, and what they say
+-- the fabric, where the last of the lines so far stands, how they begin, and what they say
 pub record Known : Type 0 where
   pub fabric : PlainFabric
   pub last : Option Part
+  pub opening : Opening
   pub cells : List Cell
   pub ins : List Pad
   pub outs : List Pad
   pub trees : List PlainTree
 
 abbrev pub nothing : PlainFabric → Known
-nothing fabric = record { fabric = fabric; last = None; cells = []; ins = []; outs = []; trees = [] }
+nothing fabric = record { fabric = fabric; last = None; opening = openings.Plain; cells = []; ins = []; outs = []; trees = [] }
 
 -- ---- cells and pads
 
@@ -81,6 +85,10 @@ with_wires (tree ∷ more) from to = edge_at (tree ∷ more) from to
 
 -- ---- one line
 
+abbrev pub set_opening : Known → Result Opening Problem → Result Known Problem
+set_opening old (Ok opening) = Ok (record old { opening = opening })
+set_opening old (Err problem) = Err problem
+
 abbrev pub set_cells : Known → Result (List Cell) Problem → Result Known Problem
 set_cells old (Ok cells) = Ok (record old { cells = cells })
 set_cells old (Err problem) = Err problem
@@ -99,7 +107,8 @@ set_trees old (Err problem) = Err problem
 
 -- what a line of a kind adds to what is known
 abbrev pub take_kind : Known → Kind → List Word → Result Known Problem
-take_kind old kinds.Header line = with_version (word_at line 1) old
+take_kind old kinds.Header line = set_opening old (opening_of (word_at line 1))
+take_kind old kinds.Reset line = set_opening old (Ok (openings.Reset (word_at line 1)))
 take_kind old kinds.Cell line = set_cells old (with_cell old.fabric old.cells (word_at line 1) (word_at line 2))
 take_kind old kinds.In line = set_ins old (with_pad old.fabric old.ins (word_at line 2) (word_at line 3))
 take_kind old kinds.Out line = set_outs old (with_pad old.fabric old.outs (word_at line 2) (word_at line 3))
@@ -111,9 +120,9 @@ take_kind old kinds.Edge line = set_trees old (with_wires old.trees (wire_of old
 take_kind old kinds.End line = Ok old
 take_kind old kinds.Other line = refused reasons.Row
 
--- a line of a kind that has its place
+-- a line of a kind that has its place, and is due where it names the reset port
 abbrev pub take_placed : Known → Kind → List Word → Result Known Problem
-take_placed old kind line = in_place old.last (part_of kind) (take_kind (record old { last = Some (part_of kind) }) kind line)
+take_placed old kind line = in_place old.last (part_of kind) (where_due old.opening kind (take_kind (record old { last = Some (part_of kind) }) kind line))
 
 -- what is known after a line more, or why the line is refused
 abbrev pub take : Known → List Word → Result Known Problem

@@ -1,5 +1,5 @@
 -- Which implementation a text spells.
-use Rattle.std.specs.Prelude.{◌≡◌, ℕ, ◌≤◌, true, List, [], ◌∷◌, ◌++◌, map, codes, slice_index_or, Some, None}
+use Rattle.std.specs.Prelude.{◌≡◌, ℕ, ◌≤◌, true, List, [], ◌∷◌, ◌++◌, map, codes, slice_index_or, Option, Some, None}
 use Rattle.std.specs.List.{AllByRecursion, flat_map, list_all}
 use Rattle.fab_lines.specs.Order.{Format, IsWhole}
 use Rattle.fab_model.specs.Grid.{PlainFabric}
@@ -16,11 +16,20 @@ use Rattle.fab_texts.specs.Printed.{rows_text, is_row}
 use Rattle.fab_impl.specs.Names.{cell_text, wire_text, most_cell}
 use Rattle.fab_impl.specs.Lines.{Cell, Known, known, take}
 use Rattle.fab_impl.specs.FirstPlaces.{first_place}
+use Rattle.fab_impl.specs.Openings.{port_of, reset_version}
 
 -- ---- the lines of an implementation
 
-abbrev pub header : List Word
-header = codes "fabulous-impl" ∷ version ∷ []
+abbrev pub header : (version : Word) → List Word
+header word = codes "fabulous-impl" ∷ word ∷ []
+
+abbrev pub reset_line : (port : Word) → List Word
+reset_line port = codes "reset" ∷ port ∷ []
+
+-- the first lines: of version 1, and with a reset port of version 2, where the second line names it
+abbrev pub headers : (reset : Option Word) → List (List Word)
+headers None = header version ∷ []
+headers (Some port) = header reset_version ∷ reset_line port ∷ []
 
 abbrev pub cell_line : Cell → List Word
 cell_line cell = codes "cell" ∷ cell_text cell.0 ∷ site_text cell.1 ∷ []
@@ -48,9 +57,9 @@ inner_lines fabric it =
     ++ map (pad_line (codes "out")) it.outs
     ++ flat_map (tree_lines fabric it.ins) it.trees
 
--- the first line, a line for each cell and each port, for each net a line and those of its edges, and the last line
+-- the first lines, a line for each cell and each port, for each net a line and those of its edges, and the last line
 abbrev pub implementation_lines : PlainFabric → PlainImplementation → List (List Word)
-implementation_lines fabric it = header ∷ (inner_lines fabric it ++ ending ∷ [])
+implementation_lines fabric it = headers it.reset ++ (inner_lines fabric it ++ ending ∷ [])
 
 -- the text that is printed
 abbrev pub implementation_text : PlainFabric → PlainImplementation → List ℕ
@@ -65,12 +74,11 @@ IsNamed ins nets.One = Unit {0}
 IsNamed ins (nets.In place) = first_place ins (slice_index_or (ports_of ins) place []) ≡ Some place
 IsNamed ins (nets.Cell cell) = cell ≤ most_cell
 
--- the fabric has its sites and wires, its cells and nets can be named, and it has no reset port, for which there is no line
+-- the fabric has its sites and wires, and its cells and nets can be named
 pub record IsNameable (fabric : PlainFabric) (it : PlainImplementation) : Type 0 where
   pub on_fabric : IsOnFabric fabric it
   pub cells : AllByRecursion (λ cell. cell.0 ≤ most_cell) it.cells
   pub nets : AllByRecursion (λ tree. IsNamed it.ins tree.net) it.trees
-  pub no_reset : it.reset ≡ None
 
 -- The lines of a text that hold a word are those of the implementation, and its sites, wires, cells and nets can be named.
 pub record Spells (fabric : PlainFabric) (rows : List PlainRow) (it : PlainImplementation) : Type 0 where
@@ -86,7 +94,7 @@ pub record HasSpelling (fabric : PlainFabric) (it : PlainImplementation) : Type 
 -- ---- the refusals of texts
 
 abbrev pub implementation_of : Known → PlainImplementation
-implementation_of old = record { cells = old.cells; ins = old.ins; outs = old.outs; trees = old.trees; reset = None }
+implementation_of old = record { cells = old.cells; ins = old.ins; outs = old.outs; trees = old.trees; reset = port_of old.opening }
 
 abbrev pub implementation_format : PlainFabric → Format PlainRow
 implementation_format fabric = text_format (known fabric) take (λ old. cut_short old.last)

@@ -11,6 +11,8 @@ use fab_texts::{Part, is_ending};
 pub enum Kind {
     /// The first line.
     Header,
+    /// The reset port.
+    Reset,
     /// A cell and its site.
     Cell,
     /// An input port and its site.
@@ -99,6 +101,9 @@ fn kind_of_two(first: &[u8], second: &[u8]) -> Kind
     if first == b"fabulous-impl".as_slice() {
         return Kind::Header;
     }
+    if first == b"reset".as_slice() {
+        return Kind::Reset;
+    }
     if first == b"net".as_slice() {
         return constant_kind(second);
     }
@@ -132,6 +137,7 @@ impl Kind {
     {
         match self {
             Kind::Header => Part::Header,
+            Kind::Reset => Part::Section(0),
             Kind::Cell => Part::Section(1),
             Kind::In => Part::Section(2),
             Kind::Out => Part::Section(3),

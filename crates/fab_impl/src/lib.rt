@@ -6,6 +6,7 @@ mod input_pads;
 mod kind;
 mod laws;
 mod names;
+mod opening;
 mod reader;
 mod writer;
 

@@ -10,8 +10,10 @@ ghost use Rattle.fab_texts.specs.Rows.{after_row, rows_of, words_of};
 ghost use Rattle.fab_texts.specs.Sections.{cut_short};
 ghost use Rattle.fab_netlist.specs.declared.net_id.NetId.TheVariants.{Zero, One};
 ghost use Rattle.fab_impl.specs.FirstPlaces.{first_place};
+ghost use Rattle.fab_impl.specs.Openings.{opening_of};
+ghost use Rattle.fab_impl.specs.declared.opening.Opening.TheVariants.{Reset};
 ghost use Rattle.fab_impl.specs.Names.{cell_of, wire_of};
-ghost use Rattle.fab_impl.specs.Lines.{cell_net_at, input_at, known, nothing, set_cells, set_ins, set_outs, set_trees, take, take_kind, with_cell, with_net, with_pad, with_wires};
+ghost use Rattle.fab_impl.specs.Lines.{cell_net_at, input_at, known, nothing, set_cells, set_ins, set_opening, set_outs, set_trees, take, take_kind, with_cell, with_net, with_pad, with_wires};
 ghost use Rattle.fab_implementation.specs.Inputs.{InputsAreLines};
 ghost use Rattle.fab_impl.specs.Spelled.{Spells, implementation_format, implementation_of};
 
@@ -20,12 +22,13 @@ use crate::entries::{
 };
 use crate::input_pads::InputPads;
 use crate::kind::{Kind, kind_of};
+use crate::opening::{Opening, opening_of};
 use fab_base::{Fault, MAX_FILE_BYTES, Name, Problem, Reason};
 use fab_fabric::{Fabric, Site};
 use fab_implementation::{Implementation, Tree};
 use fab_lines::{last_line, word_at};
 use fab_netlist::NetId;
-use fab_texts::{Part, WordReader, check_end, check_place, check_version, read_words};
+use fab_texts::{Part, WordReader, check_end, check_place, read_words};
 use std::alloc::Global;
 use std::marker::Model;
 
@@ -34,6 +37,7 @@ use std::marker::Model;
 struct Known<'a> {
     fabric: &'a Fabric,
     last: Option<Part>,
+    opening: Opening,
     cells: Vec<(u32, Site)>,
     ins: InputPads,
     outs: Vec<(Name, Site)>,
@@ -48,6 +52,7 @@ impl<'a> Model for Known<'a> {
     ghost view = { λ k. record {
       fabric = k.fabric.now;
       last = k.last;
+      opening = k.opening;
       cells = k.cells.items;
       ins = k.ins;
       outs = k.outs.items;
@@ -62,11 +67,26 @@ impl<'a> Known<'a> {
         Known {
             fabric,
             last: None,
+            opening: Opening::Plain,
             cells: Vec::new(alloc),
             ins: InputPads::new(alloc),
             outs: Vec::new(alloc),
             trees: Vec::new(alloc),
         }
+    }
+
+    fn take_header(&mut self, version: &[u8]) -> Result<(), Problem>
+        ensures { Answers (λ _. self.new) result (set_opening self.old (opening_of version.now)) }
+    {
+        self.opening = opening_of(version)?;
+        Ok(())
+    }
+
+    fn take_reset(&mut self, alloc: Global, port: &[u8]) -> Result<(), Problem>
+        ensures { Answers (λ _. self.new) result (set_opening self.old (Ok (Reset port.now))) }
+    {
+        self.opening = Opening::Reset(Name::of(alloc, port)?);
+        Ok(())
     }
 
     fn take_cell(&mut self, cell: &[u8], site: &[u8]) -> Result<(), Problem>
@@ -125,7 +145,8 @@ impl<'a> Known<'a> {
         ensures { Answers (λ _. self.new) result (take_kind self.old kind (map (λ w. w.now) words.now)) }
     {
         match kind {
-            Kind::Header => check_version(word_at(words, 1)),
+            Kind::Header => self.take_header(word_at(words, 1)),
+            Kind::Reset => self.take_reset(alloc, word_at(words, 1)),
             Kind::Cell => self.take_cell(word_at(words, 1), word_at(words, 2)),
             Kind::In => self.take_in(alloc, word_at(words, 2), word_at(words, 3)),
             Kind::Out => self.take_out(alloc, word_at(words, 2), word_at(words, 3)),
@@ -145,6 +166,7 @@ impl<'a> Known<'a> {
         let kind = kind_of(words);
         let part = kind.part();
         check_place(self.last, part)?;
+        self.opening.check_due(kind)?;
         self.last = Some(part);
         self.take_kind(alloc, kind, words)
     }
@@ -155,6 +177,7 @@ impl<'a> Known<'a> {
     {
         check_end(self.last)?;
         let Known {
+            opening,
             cells,
             ins,
             outs,
@@ -166,7 +189,7 @@ impl<'a> Known<'a> {
             ins: ins.into_vec(),
             outs,
             trees,
-            reset: None,
+            reset: opening.into_port(),
         })
     }
 }
@@ -191,9 +214,10 @@ fn read(alloc: Global, file: &Name, bytes: &[u8], fabric: &Fabric) -> Result<Imp
     }
 }
 
-/// The implementation that a text spells: its first line is `fabulous-impl 1`, then come lines `cell cN SITE`, lines `pad in PORT SITE`,
-/// lines `pad out PORT SITE`, and nets, each a line `net zero`, `net one`, `net in PORT` or `net cell cN` with lines `edge WIRE WIRE`
-/// after it; the last line is `end`. `net in PORT` is the net of the first `pad in` line that names PORT.
+/// The implementation that a text spells. Its first line is `fabulous-impl 1`, or `fabulous-impl 2` with a second line `reset PORT`,
+/// which names the reset port. Then come lines `cell cN SITE`, lines `pad in PORT SITE`, lines `pad out PORT SITE`, and nets, each a
+/// line `net zero`, `net one`, `net in PORT` or `net cell cN` with lines `edge WIRE WIRE` after it. The last line is `end`.
+/// `net in PORT` is the net of the first `pad in` line that names PORT.
 ///
 /// `Malformed` comes with the least line that is refused, or with the last line. The reasons are, in the order in which they
 /// are tried on a line, `after end`, `row`, `number`, `wire`, `site` and `port`, and `end of file` where the last line does not come.

@@ -9,7 +9,7 @@ ghost use Rattle.fab_fabric.specs.Names.{site_text};
 ghost use Rattle.fab_texts.specs.Rows.{rows_of};
 ghost use Rattle.fab_impl.specs.Names.{wire_text};
 ghost use Rattle.fab_implementation.specs.Inputs.{InputsAreLines, NamesInput};
-ghost use Rattle.fab_impl.specs.Spelled.{HasSpelling, Says, Spells, cell_line, edge_line, implementation_text, net_line, pad_line, tree_lines};
+ghost use Rattle.fab_impl.specs.Spelled.{HasSpelling, Says, Spells, cell_line, edge_line, headers, implementation_text, net_line, pad_line, tree_lines};
 
 use crate::names::cell_text;
 use fab_base::{Memory, Name};
@@ -25,6 +25,16 @@ fn site_text(alloc: Global, fabric: &Fabric, site: Site) -> Result<Name, Memory>
 {
     fabric.is_well_made();
     site.name(alloc)
+}
+
+fn put_headers(out: &mut Vec<u8>, reset: &Option<Name>) -> Result<(), Memory>
+    ensures { OnOk result (out.new.items ≡ out.old.items ++ rows_text (headers reset.now)) }
+{
+    let Some(port) = reset else {
+        return put_row(out, &[b"fabulous-impl", b"1"]);
+    };
+    put_row(out, &[b"fabulous-impl", b"2"])?;
+    put_row(out, &[b"reset", port.bytes()])
 }
 
 fn put_cells(
@@ -124,7 +134,7 @@ fn print(alloc: Global, fabric: &Fabric, implementation: &Implementation) -> Res
     ensures text { IfOk result (λ text. text.items ≡ implementation_text fabric.now implementation.now) }
 {
     let mut out = Vec::new(alloc);
-    put_row(&mut out, &[b"fabulous-impl", b"1"])?;
+    put_headers(&mut out, &implementation.reset)?;
     put_cells(&mut out, alloc, fabric, &implementation.cells)?;
     put_pads(&mut out, alloc, fabric, b"in", &implementation.ins)?;
     put_pads(&mut out, alloc, fabric, b"out", &implementation.outs)?;
@@ -139,8 +149,9 @@ fn print(alloc: Global, fabric: &Fabric, implementation: &Implementation) -> Res
     Ok(out)
 }
 
-/// The text of an implementation: its cells, ports, nets and edges in their order, one blank between words, LF at the end of
-/// each line, and no comment. Where the implementation has a spelling, this text spells it, and `read_impl` gives it back.
+/// The text of an implementation, in version 2 where it has a reset port, which its second line names, and else in version 1: its
+/// cells, ports, nets and edges in their order, one blank between words, LF at the end of each line, and no comment. Where the
+/// implementation has a spelling, this text spells it, and `read_impl` gives it back.
 pub fn print_impl(
     alloc: Global,
     fabric: &Fabric,

@@ -1,6 +1,7 @@
 -- The text of a legal implementation is short where names are.
-use Rattle.std.proofs.Common.{ℕ, ◌+◌, ◌*◌, ◌<◌, ◌≤◌, List, [], ◌∷◌, ◌++◌, codes, decimal, length, map, take, get_or, slice_index_or, All, Contains, refl, sym, ◌∙◌, subst, arith, length-append}
+use Rattle.std.proofs.Common.{◌≡◌, ℕ, ◌+◌, ◌*◌, ◌<◌, ◌≤◌, List, [], ◌∷◌, ◌++◌, codes, decimal, length, map, take, get_or, slice_index_or, All, Contains, Option, Some, None, refl, sym, ◌∙◌, subst, arith, length-append}
 use Rattle.std.specs.List.{flat_map, range_with_len}
+use Rattle.std.specs.Option.{option_map}
 use Rattle.std.proofs.lemmas.Fmt.{length-decimal-le}
 use Rattle.std.proofs.lemmas.List.{length-map}
 use Rattle.std.proofs.lemmas.List.Elements.{All-contains_itself}
@@ -13,7 +14,7 @@ use Rattle.fab_netlist.specs.declared.net_id.NetId.{NetId}
 use Rattle.fab_netlist.specs.declared.net_id.NetId.TheVariants as ids
 use Rattle.fab_netlist.specs.Packed.{PlainPacked}
 use Rattle.fab_netlist.proofs.Members.{first_in, later_in, in_left, in_right, mapped_in}
-use Rattle.fab_implementation.specs.Plain.{Edge, Pad, PlainTree, PlainImplementation, ports_of}
+use Rattle.fab_implementation.specs.Plain.{Edge, Pad, PlainTree, PlainImplementation, ports_of, reset_name}
 use Rattle.fab_legal.specs.Legal.{IsLegal}
 use Rattle.fab_legal.specs.Lines.{IsCell, IsInput, IsOutput}
 use Rattle.fab_legal.specs.Nets.{IsNet, Net, cell_net, net_of, one_net, port_net, zero_net}
@@ -23,11 +24,13 @@ use Rattle.fab_legal.proofs.Lists.{at_default, at_from_mapped}
 use Rattle.fab_legal.proofs.Members.{from_mapped}
 use Rattle.fab_legal.proofs.Once.{before_in, known_thing}
 use Rattle.fab_fabric.specs.Names.{site_text}
+use Rattle.fab_texts.specs.Rows.{Word}
 use Rattle.fab_texts.specs.Printed.{row_text, rows_text}
 use Rattle.fab_texts.specs.Sections.{ending}
 use Rattle.fab_impl.specs.Lines.{Cell}
 use Rattle.fab_impl.specs.Names.{cell_text, wire_names, wire_text}
-use Rattle.fab_impl.specs.Spelled.{cell_line, edge_line, header, implementation_text, inner_lines, net_line, pad_line, tree_lines}
+use Rattle.fab_impl.specs.Openings.{reset_version}
+use Rattle.fab_impl.specs.Spelled.{cell_line, edge_line, header, headers, implementation_text, inner_lines, net_line, pad_line, reset_line, tree_lines}
 use Rattle.fab_legal_states_laws.specs.ShortLaws.{IsShortName}
 use Rattle.fab_legal_states_laws.proofs.Counting.{Differ, below_there, no_more}
 use Rattle.fab_legal_states_laws.proofs.Rows.{name_or_none, row_length, rows_behind, rows_within}
@@ -154,6 +157,20 @@ module _ (fabric : PlainFabric) (is : IsFabric fabric) (tiles : AreTiles fabric)
         name_or_none (wire_names fabric) wires edge.1.0,
       )
 
+  -- the first line and, where there is one, that of the reset port, which is an input
+  short_headers : (reset : Option ℕ) → packed.reset ≡ reset → length (rows_text (headers (option_map (λ place. get_or packed.inputs place []) reset))) ≤ 48
+  short_headers None is = omega arith
+  short_headers (Some place) is =
+      let port = get_or packed.inputs place [] in
+      let below = made.reset_below place is in
+      omega (
+        arith,
+        length-append (row_text (header reset_version)) (rows_text (reset_line port ∷ [])),
+        length-append (row_text (reset_line port)) [],
+        row_length (codes "reset") (port ∷ []),
+        input_short packed names port (place, below, (at_default packed.inputs place [] below).1),
+      )
+
   -- ---- the text
 
   abbrev edges : List PlainTree → List Edge
@@ -174,15 +191,16 @@ module _ (fabric : PlainFabric) (is : IsFabric fabric) (tiles : AreTiles fabric)
         trees_within trees (λ other here. known other (later_in tree trees other here)),
       )
 
-  pub implementation_short : length (implementation_text fabric it) ≤ MAX_FILE_BYTES
-  implementation_short =
+  pub implementation_short : it.reset ≡ reset_name packed → length (implementation_text fabric it) ≤ MAX_FILE_BYTES
+  implementation_short is_design =
       let cells = map cell_line it.cells in
       let ins = map (pad_line (codes "in")) it.ins in
       let outs = map (pad_line (codes "out")) it.outs in
       let trees = flat_map (tree_lines fabric it.ins) it.trees in
       omega (
         arith,
-        length-append (row_text header) (rows_text (inner_lines fabric it ++ ending ∷ [])),
+        subst (λ (reset : Option Word). length (rows_text (headers reset)) ≤ 48) (sym is_design) (short_headers packed.reset refl),
+        rows_behind (headers it.reset) (inner_lines fabric it ++ ending ∷ []),
         rows_behind (inner_lines fabric it) (ending ∷ []),
         rows_behind (cells ++ ins ++ outs) trees,
         rows_behind (cells ++ ins) outs,

@@ -1,12 +1,12 @@
 -- What is printed of a legal implementation is no longer than a file may be.
-use Rattle.std.specs.Prelude.{◌≤◌, ℕ, All, List, length}
+use Rattle.std.specs.Prelude.{◌≡◌, ◌≤◌, ℕ, All, List, length}
 use Rattle.std.specs.List.{flat_map}
 use Rattle.fab_base.specs.declared.TheConstants.{MAX_FILE_BYTES}
 use Rattle.fab_model.specs.Drive.{PlainBits}
 use Rattle.fab_model.specs.Grid.{PlainFabric}
 use Rattle.fab_fabric.specs.Fabric.{IsFabric, AreTiles}
 use Rattle.fab_netlist.specs.Packed.{PlainPacked}
-use Rattle.fab_implementation.specs.Plain.{Pad, PlainImplementation}
+use Rattle.fab_implementation.specs.Plain.{Pad, PlainImplementation, reset_name}
 use Rattle.fab_legal.specs.Legal.{IsLegal}
 use Rattle.fab_legal.specs.WellMade.{IsWellMadePacked, ports}
 use Rattle.fab_frames.specs.Bytes.{word_bytes}
@@ -27,11 +27,11 @@ most_name_bytes = 24
 abbrev pub IsShortName : List ℕ → Type 0
 IsShortName name = length name ≤ most_name_bytes
 
--- the text of a legal implementation, where the names of the fabric's wires and of the design's ports are short
+-- the text of a legal implementation that has the reset port of the design, where the names of the fabric's wires and of the design's ports are short
 abbrev pub LegalImplementationsAreShort : Type 0
 LegalImplementationsAreShort =
     (fabric : PlainFabric) (packed : PlainPacked) (fixed : List Pad) (implementation : PlainImplementation) → IsFabric fabric → AreTiles fabric → IsWellMadePacked packed →
-    IsLegal fabric packed fixed implementation → All IsShortName (wire_names fabric) → All IsShortName (ports packed) →
+    IsLegal fabric packed fixed implementation → implementation.reset ≡ reset_name packed → All IsShortName (wire_names fabric) → All IsShortName (ports packed) →
     length (implementation_text fabric implementation) ≤ MAX_FILE_BYTES
 
 -- and the text of its state, where those of the ports are

@@ -21,4 +21,4 @@ ready files size draws least most told =
     let read = designs_read files size draws least most told in
     let fabric : PlainFabric = read.0.fabric in
     let small = texts_small files size least most (tells_fabric files size draws told) fabric read.1.spelled.fabric in
-    record { design = read.0; spelled = read.1.spelled; short = short_text fabric small.bytes; fits = read.1.fits }
+    record { design = read.0; spelled = read.1.spelled; short = short_text fabric small.bytes; resets = tt; fits = read.1.fits }

@@ -8,4 +8,4 @@ use Rattle.fab_sample_laws.specs.Designs.{TellsSample}
 abbrev pub SamplesAreReady : Type 0
 SamplesAreReady =
     (files : Map) (size : ℕ) (draws : ℕ → ℕ) → 2 ≤ size → size ≤ 16 → TellsSample files size draws →
-    IsReadyToFlow files (flow_files (codes "sample.csv") (codes "sample.blif") None (codes "sample"))
+    IsReadyToFlow files (flow_files (codes "sample.csv") (codes "sample.blif") None None (codes "sample"))

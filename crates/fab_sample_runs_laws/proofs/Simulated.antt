@@ -81,7 +81,9 @@ module _ (designs_read : SampleDesignsAreRead) (designs_once : DesignsOnce) (are
 
   pub implementation_short : FabricsOnce → LegalImplementationsAreShort → length (implementation_text design.fabric flow.made.implementation) ≤ MAX_FILE_BYTES
   implementation_short fabrics_once are_short =
-      are_short design.fabric (packed design.netlist) design.fixed flow.made.implementation sound.fabric sound.tiles made flow.made.legal
+      let mapping = flow.made.mapping in
+      let reset_is = ap (λ (i : PlainImplementation). i.reset) mapping.is ∙ mapping.good.reset in
+      are_short design.fabric (packed design.netlist) design.fixed flow.made.implementation sound.fabric sound.tiles made flow.made.legal reset_is
       (sample_wires_short fabrics_once files size least most (tells_fabric files size draws told) design.fabric flow.spelled.fabric sound.fabric) short_ports
 
   -- ---- the simulation

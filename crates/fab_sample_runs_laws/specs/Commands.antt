@@ -5,7 +5,7 @@ use Rattle.fab_flow_laws.specs.fab_simulate_command_Simulating.{SimulationFiles,
 
 -- `flow sample.csv sample.blif sample`, which may take 32 rounds
 abbrev pub names : FlowFiles
-names = flow_files (codes "sample.csv") (codes "sample.blif") None (codes "sample")
+names = flow_files (codes "sample.csv") (codes "sample.blif") None None (codes "sample")
 
 abbrev pub rounds : ℕ
 rounds = 32

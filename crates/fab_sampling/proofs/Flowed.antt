@@ -1,5 +1,5 @@
 -- What stands behind the files that `flow` stored of a sample.
-use Rattle.std.proofs.Common.{◌≡◌, ◌≤◌, ◌∙◌, ℕ, List, length, codes, Some, refl, sym, ap, subst}
+use Rattle.std.proofs.Common.{◌≡◌, ◌≤◌, ◌∙◌, ℕ, List, length, codes, None, Some, refl, sym, ap, subst}
 use Rattle.fab_base.specs.declared.TheConstants.{MAX_FILE_BYTES}
 use Rattle.fab_desk.specs.Files.{Map}
 use Rattle.fab_desk.specs.Memory.{map_of}
@@ -96,7 +96,7 @@ module _ (sound : SpelledDesignsAreSound) (spelled : LegalDesignsAreSpelled) (ru
   spells bytes is =
       let mapping = flowed.flow.made.mapping in
       let reset_is = ap (λ (i : PlainImplementation). i.reset) mapping.is ∙ mapping.good.reset in
-      let has = (spelled (files_of run) names.design flowed.flow.design implementation flowed.flow.spelled flowed.flow.made.legal).text reset_is in
+      let has = (spelled (files_of run) names.design flowed.flow.design None implementation flowed.flow.spelled flowed.flow.made.legal).text reset_is in
       printed_spells fabric implementation bytes (subst (λ (d : PlainDesign). HasSpelling d.fabric implementation) flowed.design has) is
 
   said : (bytes : List ℕ) → bytes ≡ implementation_text fabric implementation → Says fabric (rows_of bytes) implementation

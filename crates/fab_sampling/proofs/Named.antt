@@ -9,10 +9,10 @@ pub design_named : (P : DesignFiles → Type 0) (fabric blif : List ℕ) → fab
 design_named P fabric blif f b p = subst (λ (n : List ℕ). P (design_files n (codes "sample.blif") None)) f (subst (λ (n : List ℕ). P (design_files fabric n None)) b p)
 
 pub flow_named : (P : FlowFiles → Type 0) (fabric blif base : List ℕ) → fabric ≡ codes "sample.csv" → blif ≡ codes "sample.blif" → base ≡ codes "sample"
-    → P (flow_files fabric blif None base) → P names
+    → P (flow_files fabric blif None None base) → P names
 flow_named P fabric blif base f b e p =
-    subst (λ (n : List ℕ). P (flow_files n (codes "sample.blif") None (codes "sample"))) f
-    (subst (λ (n : List ℕ). P (flow_files fabric n None (codes "sample"))) b (subst (λ (n : List ℕ). P (flow_files fabric blif None n)) e p))
+    subst (λ (n : List ℕ). P (flow_files n (codes "sample.blif") None None (codes "sample"))) f
+    (subst (λ (n : List ℕ). P (flow_files fabric n None None (codes "sample"))) b (subst (λ (n : List ℕ). P (flow_files fabric blif None None n)) e p))
 
 pub simulation_named : (P : SimulationFiles → Type 0) (verilog bit state stimulus trace : List ℕ) → verilog ≡ codes "sample.v" → bit ≡ codes "sample.bit" → state ≡ codes "sample.state"
     → stimulus ≡ codes "sample.stim" → trace ≡ codes "sample.trace" → P (simulation_files verilog bit state stimulus trace) → P simulated

@@ -101,6 +101,7 @@ impl Run {
             None,
             self.seed,
             32,
+            None,
             &base,
         )
     }

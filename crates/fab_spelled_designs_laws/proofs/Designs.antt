@@ -1,5 +1,5 @@
 -- What the laws of fabrics, of netlists and of legal implementations say together of a design that files spell.
-use Rattle.std.proofs.Common.{◌≡◌, ◌<◌, ◌++◌, ℕ, true, All, List, [], ◌∷◌, None, map, sym, ap, subst, ◌∙◌, arith}
+use Rattle.std.proofs.Common.{◌≡◌, ◌<◌, ◌++◌, ℕ, true, All, List, [], ◌∷◌, Option, Some, None, map, sym, ap, subst, ◌∙◌, arith}
 use Rattle.std.specs.List.{AllByRecursion as Each, filter, list_all}
 use Rattle.std.proofs.lemmas.Bool.{and_parts}
 use Rattle.std.proofs.lemmas.List.{map-append}
@@ -11,7 +11,9 @@ use Rattle.fab_netlist.specs.Kept.{is_kept}
 use Rattle.fab_netlist.specs.Packed.{PlainCell}
 use Rattle.fab_netlist.specs.Packing.{Work, cell_of, net_of, of_cover, of_latch, others, packed, pair, works}
 use Rattle.fab_netlist.specs.Plain.{PlainCover, PlainNetlist, name_of}
+use Rattle.fab_netlist.specs.Resets.{netlist_with, reset_place, set_at, with_reset}
 use Rattle.fab_netlist.specs.WellMade.{IsWellMade, ports}
+use Rattle.fab_netlist.proofs.Resetting.{made_with}
 use Rattle.fab_implementation.specs.Plain.{PlainImplementation, reset_name}
 use Rattle.fab_legal.specs.Legal.{IsLegal}
 use Rattle.fab_legal.specs.WellMade.{IsWellMadePacked, output_name, ports as design_ports}
@@ -34,6 +36,16 @@ use Rattle.fab_spelled_designs_laws.proofs.States.{state_spelled}
 use Rattle.fab_spelled_designs_laws.proofs.Implementations.{implementation_spelled}
 use Rattle.fab_spelled_designs_laws.proofs.Features.{features_spelled}
 
+-- what holds of a netlist, with any reset port too, holds of it with the one that is named
+holds_at : (P : PlainNetlist → Type 0) (netlist : PlainNetlist) → P netlist → ((place : ℕ) → P (with_reset place netlist)) → (place : Option ℕ) → P (set_at place netlist)
+holds_at P netlist alone any None = alone
+holds_at P netlist alone any (Some place) = any place
+
+holds_with : (P : PlainNetlist → Type 0) (netlist : PlainNetlist) → P netlist → ((place : ℕ) → P (with_reset place netlist)) → (port : Option (List ℕ))
+    → P (netlist_with port netlist)
+holds_with P netlist alone any None = alone
+holds_with P netlist alone any (Some port) = holds_at P netlist alone any (reset_place netlist port)
+
 abbrev IsLast : Word → Type 0
 IsLast word = is_last_word word ≡ true
 
@@ -43,7 +55,10 @@ ports_are netlist =
     ap (λ (outputs : List Word). map (name_of netlist) netlist.inputs ++ outputs) (map-map output_name (λ net. (name_of netlist net, net_of netlist net)) netlist.outputs)
     ∙ sym (map-append (name_of netlist) netlist.inputs netlist.outputs)
 
-port_words : (netlist : PlainNetlist) → All (λ net. IsLast (name_of netlist net)) (ports netlist) → All IsLast (design_ports (packed netlist))
+abbrev HaveWords : PlainNetlist → Type 0
+HaveWords netlist = All (λ net. IsLast (name_of netlist net)) (ports netlist)
+
+port_words : (netlist : PlainNetlist) → HaveWords netlist → All IsLast (design_ports (packed netlist))
 port_words netlist all = subst (All IsLast) (sym (ports_are netlist)) (All-map IsLast (name_of netlist) (ports netlist) all)
 
 all_words : (names : List Word) → All IsLast names → list_all is_word names ≡ true
@@ -59,8 +74,11 @@ each_number : (P : ℕ → Type 0) (all : (n : ℕ) → P n) (numbers : List ℕ
 each_number P all [] = tt
 each_number P all (n ∷ numbers) = (all n, each_number P all numbers)
 
+abbrev HaveSmallTables : PlainNetlist → Type 0
+HaveSmallTables netlist = Each (λ cover. cover.table < 65536) netlist.covers
+
 -- a cell has the table of its cover, or that which passes its input on
-small_cells : (netlist : PlainNetlist) → Each (λ cover. cover.table < 65536) netlist.covers → All HasSmallTable (packed netlist).cells
+small_cells : (netlist : PlainNetlist) → HaveSmallTables netlist → All HasSmallTable (packed netlist).cells
 small_cells netlist covers =
     let kept = filter (is_kept netlist) netlist.covers in
     let lone = others netlist 0 netlist.latches in
@@ -83,31 +101,32 @@ module _ (files : Map) (names : DesignFiles) (design : PlainDesign) (spelled : S
   pub netlist_made : IsWellMade design.netlist
   netlist_made = subst IsWellMade (sym spelled.netlist.spelled.1) (netlist_is_well_made spelled.netlist.bytes spelled.netlist.spelled.0)
 
-  pub design_made : IsWellMadePacked (packed design.netlist)
-  design_made = packed_made design.netlist netlist_made
+  module _ (reset : Option (List ℕ)) where
+    -- the netlist with its reset port
+    abbrev used : PlainNetlist
+    used = netlist_with reset design.netlist
 
-  pub names_are : All IsLast (design_ports (packed design.netlist))
-  names_are =
-      port_words design.netlist (subst (λ (netlist : PlainNetlist). All (λ net. IsLast (name_of netlist net)) (ports netlist)) (sym spelled.netlist.spelled.1)
-      (ports_are_words spelled.netlist.bytes spelled.netlist.spelled.0))
+    pub design_made : IsWellMadePacked (packed used)
+    design_made = packed_made used (made_with design.netlist reset netlist_made)
 
-  tables_small : All HasSmallTable (packed design.netlist).cells
-  tables_small =
-      small_cells design.netlist (subst (λ (netlist : PlainNetlist). Each (λ cover. cover.table < 65536) netlist.covers) (sym spelled.netlist.spelled.1) (tables_are_small spelled.netlist.bytes))
+    pub names_are : All IsLast (design_ports (packed used))
+    names_are =
+        let all = subst HaveWords (sym spelled.netlist.spelled.1) (ports_are_words spelled.netlist.bytes spelled.netlist.spelled.0) in
+        port_words used (holds_with HaveWords design.netlist all (λ place. all) reset)
 
-  -- a text names no reset port
-  no_reset : reset_name (packed design.netlist) ≡ None
-  no_reset = ap (λ (netlist : PlainNetlist). reset_name (packed netlist)) spelled.netlist.spelled.1
+    tables_small : All HasSmallTable (packed used).cells
+    tables_small =
+        let all = subst HaveSmallTables (sym spelled.netlist.spelled.1) (tables_are_small spelled.netlist.bytes) in
+        small_cells used (holds_with HaveSmallTables design.netlist all (λ place. all) reset)
 
-  module _ (implementation : PlainImplementation) (legal : IsLegal design.fabric (packed design.netlist) design.fixed implementation) where
-    pub has_state : states.HasSpelling (design_state (packed design.netlist) implementation)
-    has_state = state_spelled design.fabric fabric_is (packed design.netlist) design_made design.fixed implementation legal (all_words (design_ports (packed design.netlist)) names_are)
+    module _ (implementation : PlainImplementation) (legal : IsLegal design.fabric (packed used) design.fixed implementation) where
+      pub has_state : states.HasSpelling (design_state (packed used) implementation)
+      has_state = state_spelled design.fabric fabric_is (packed used) design_made design.fixed implementation legal (all_words (design_ports (packed used)) names_are)
 
-    pub has_text : implementation.reset ≡ reset_name (packed design.netlist) → texts.HasSpelling design.fabric implementation
-    has_text is =
-        implementation_spelled design.fabric fabric_is tiles_are (spelled_words files names.fabric design.fabric spelled.fabric) (packed design.netlist) design_made names_are design.fixed implementation legal
-        (is ∙ no_reset)
+      pub has_text : implementation.reset ≡ reset_name (packed used) → texts.HasSpelling design.fabric implementation
+      has_text is =
+          implementation_spelled design.fabric fabric_is tiles_are (spelled_words files names.fabric design.fabric spelled.fabric) (packed used) design_made names_are design.fixed implementation legal is
 
-    pub has_lines : All lines.HasSpelling (design_features design.fabric (packed design.netlist) implementation)
-    has_lines =
-        features_spelled design.fabric fabric_is tiles_are (spelled_words files names.fabric design.fabric spelled.fabric) (packed design.netlist) tables_small design.fixed implementation legal
+      pub has_lines : All lines.HasSpelling (design_features design.fabric (packed used) implementation)
+      has_lines =
+          features_spelled design.fabric fabric_is tiles_are (spelled_words files names.fabric design.fabric spelled.fabric) (packed used) tables_small design.fixed implementation legal

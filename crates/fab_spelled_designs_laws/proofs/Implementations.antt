@@ -1,6 +1,7 @@
 -- A legal implementation of a packed netlist whose ports are words is spelled by its own text.
-use Rattle.std.proofs.Common.{◌≡◌, ℕ, ◌<◌, ◌≤◌, ◌++◌, Bool, true, All, List, [], ◌∷◌, map, take, length, get_or, codes, nat_lt, cond, Contains, Some, None, refl, sym, ap, subst, ◌∙◌, inl, inr, arith, lt-ltb}
+use Rattle.std.proofs.Common.{◌≡◌, ℕ, ◌<◌, ◌≤◌, ◌++◌, Bool, true, All, List, [], ◌∷◌, map, take, length, get_or, codes, nat_lt, cond, Contains, Option, Some, None, refl, sym, ap, subst, ◌∙◌, inl, inr, arith, lt-ltb}
 use Rattle.std.specs.Prelude.{position}
+use Rattle.std.specs.Option.{option_map}
 use Rattle.std.specs.List.{AllByRecursion as Each, flat_map}
 use Rattle.std.specs.Str.{bytes_eq}
 use Rattle.std.proofs.lemmas.Bool.{cases_lt, false≢true}
@@ -16,7 +17,7 @@ use Rattle.fab_netlist.specs.declared.net_id.NetId.TheVariants as nets
 use Rattle.fab_netlist.specs.Packed.{PlainPacked}
 use Rattle.fab_netlist.proofs.Members.{in_left, in_right, mapped_in}
 use Rattle.fab_implementation.specs.OnFabric.{HasSites, HasWires, IsOnFabric}
-use Rattle.fab_implementation.specs.Plain.{Edge, Pad, PlainImplementation, PlainTree}
+use Rattle.fab_implementation.specs.Plain.{Edge, Pad, PlainImplementation, PlainTree, reset_name}
 use Rattle.fab_legal.specs.Legal.{IsLegal}
 use Rattle.fab_legal.specs.Lines.{HaveSites, IsCell, IsInput, IsOutput, named}
 use Rattle.fab_legal.specs.Nets.{IsNet, net_among}
@@ -27,7 +28,7 @@ use Rattle.fab_legal.proofs.PortNumbers.{own_number}
 use Rattle.fab_ways_laws.proofs.Bounded.{step_from_within, step_within}
 use Rattle.fab_designs.specs.fab_impl_Lines.{Cell}
 use Rattle.fab_designs.specs.fab_impl_Names.{most_cell}
-use Rattle.fab_designs.specs.fab_impl_Spelled.{HasSpelling, IsNameable, IsNamed, cell_line, edge_line, implementation_lines, inner_lines, net_line, pad_line, tree_lines}
+use Rattle.fab_designs.specs.fab_impl_Spelled.{HasSpelling, IsNameable, IsNamed, cell_line, edge_line, headers, implementation_lines, inner_lines, net_line, pad_line, reset_line, tree_lines}
 use Rattle.fab_fabric.specs.Names.{site_text}
 use Rattle.fab_texts.specs.Printed.{is_last_word, is_row}
 use Rattle.fab_texts.specs.Rows.{Word}
@@ -120,15 +121,23 @@ module _ (fabric : PlainFabric) (is : IsFabric fabric) (tiles : AreTiles fabric)
   tree_net : (tree : PlainTree) → Contains it.trees tree → IsNet packed (net_among (named it.ins) tree.net)
   tree_net tree here = (legal.nets here.0 tree here.1 (here.1, here.2)).name.exists
 
-  nameable : it.reset ≡ None → IsNameable fabric it
-  nameable no_reset = record {
+  nameable : IsNameable fabric it
+  nameable = record {
     on_fabric = on_fabric;
     cells = each_from_members (λ cell. cell.0 ≤ most_cell) it.cells (λ cell here. few_cells cell.0 (line_known fabric kinds.Lut4c (IsCell packed) it.cells legal.placed.cells cell here));
     nets = each_from_members (λ tree. IsNamed it.ins tree.net) it.trees (λ tree here. net_named tree.net (tree_net tree here));
-    no_reset = no_reset;
   }
 
   -- ---- lines of words
+
+  -- the reset port is an input
+  header_rows : (reset : Option ℕ) → packed.reset ≡ reset → Each IsRow (headers (option_map (λ place. get_or packed.inputs place []) reset))
+  header_rows None is = (refl, tt)
+  header_rows (Some place) is =
+      let port = get_or packed.inputs place [] in
+      let below = made.reset_below place is in
+      let word = input_word port (place, below, (at_default packed.inputs place [] below).1) in
+      (refl, (row_of (reset_line port) (omega arith) (refl, (word, tt)), tt))
 
   cell_row : (cell : Cell) → Contains it.cells cell → IsRow (cell_line cell)
   cell_row cell here =
@@ -178,8 +187,10 @@ module _ (fabric : PlainFabric) (is : IsFabric fabric) (tiles : AreTiles fabric)
       each_joined IsRow (cells ++ ins ++ outs) (flat_map (tree_lines fabric it.ins) it.trees)
       (each_joined IsRow (cells ++ ins) outs (each_joined IsRow cells ins cell_rows in_rows) out_rows) all_trees
 
-  pub implementation_spelled : it.reset ≡ None → HasSpelling fabric it
-  implementation_spelled no_reset = record {
-    nameable = nameable no_reset;
-    rows = each_tested is_row (implementation_lines fabric it) (refl, each_joined IsRow (inner_lines fabric it) (ending ∷ []) inner_rows (refl, tt));
+  pub implementation_spelled : it.reset ≡ reset_name packed → HasSpelling fabric it
+  implementation_spelled is_design = record {
+    nameable = nameable;
+    rows = each_tested is_row (implementation_lines fabric it)
+        (each_joined IsRow (headers it.reset) (inner_lines fabric it ++ ending ∷ []) (subst (λ (reset : Option Word). Each IsRow (headers reset)) (sym is_design) (header_rows packed.reset refl))
+        (each_joined IsRow (inner_lines fabric it) (ending ∷ []) inner_rows (refl, tt)));
   }

@@ -1,8 +1,11 @@
 -- What is printed of a design that files spell is read back.
-use Rattle.std.specs.Prelude.{◌≡◌, All}
+use Rattle.std.specs.Prelude.{◌≡◌, ℕ, All, List, Option}
 use Rattle.fab_desk.specs.Files.{Map}
 use Rattle.fab_fabric.specs.Fabric.{AreTiles, IsFabric}
+use Rattle.fab_model.specs.Grid.{PlainFabric}
+use Rattle.fab_netlist.specs.Plain.{PlainNetlist}
 use Rattle.fab_netlist.specs.Packing.{packed}
+use Rattle.fab_netlist.specs.Resets.{netlist_with}
 use Rattle.fab_netlist.specs.WellMade.{IsWellMade}
 use Rattle.fab_implementation.specs.Plain.{PlainImplementation, reset_name}
 use Rattle.fab_legal.specs.Legal.{IsLegal}
@@ -22,14 +25,15 @@ pub record IsSound (design : PlainDesign) : Type 0 where
 abbrev pub SpelledDesignsAreSound : Type 0
 SpelledDesignsAreSound = (files : Map) (names : DesignFiles) (design : PlainDesign) → SpellsDesign files names design → IsSound design
 
--- The text of an implementation can spell it, where it has the reset port of the design; that of its state the state; and each feature of it has a line
+-- The text of an implementation can spell it, where it has the reset port of the netlist; that of its state the state; and each feature of it has a line
 -- that can spell it.
-pub record IsSpelled (design : PlainDesign) (implementation : PlainImplementation) : Type 0 where
-  pub text : implementation.reset ≡ reset_name (packed design.netlist) → texts.HasSpelling design.fabric implementation
-  pub state : states.HasSpelling (design_state (packed design.netlist) implementation)
-  pub features : All lines.HasSpelling (design_features design.fabric (packed design.netlist) implementation)
+pub record IsSpelled (fabric : PlainFabric) (netlist : PlainNetlist) (implementation : PlainImplementation) : Type 0 where
+  pub text : implementation.reset ≡ reset_name (packed netlist) → texts.HasSpelling fabric implementation
+  pub state : states.HasSpelling (design_state (packed netlist) implementation)
+  pub features : All lines.HasSpelling (design_features fabric (packed netlist) implementation)
 
+-- So it is with the netlist of the files, and with the reset port that is named beside them, where one is.
 abbrev pub LegalDesignsAreSpelled : Type 0
 LegalDesignsAreSpelled =
-    (files : Map) (names : DesignFiles) (design : PlainDesign) (implementation : PlainImplementation) → SpellsDesign files names design →
-    IsLegal design.fabric (packed design.netlist) design.fixed implementation → IsSpelled design implementation
+    (files : Map) (names : DesignFiles) (design : PlainDesign) (reset : Option (List ℕ)) (implementation : PlainImplementation) → SpellsDesign files names design →
+    IsLegal design.fabric (packed (netlist_with reset design.netlist)) design.fixed implementation → IsSpelled design.fabric (netlist_with reset design.netlist) implementation

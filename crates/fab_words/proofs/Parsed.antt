@@ -159,7 +159,7 @@ forms_built form.Flow = record {
   top = refl;
   subs = refl;
   places = (refl, refl, (refl, refl, (refl, refl, tt)));
-  options = ((refl, refl, refl), ((refl, refl, refl), ((refl, refl, refl), tt)));
+  options = ((refl, refl, refl), ((refl, refl, refl), ((refl, refl, refl), ((refl, refl, refl), tt))));
   distinct = refl;
   few = omega arith;
 }

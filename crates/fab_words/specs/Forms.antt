@@ -19,7 +19,8 @@ synopsis form.Matrix = line (codes "matrix") (codes "LIST" ∷ codes "OUT" ∷ [
 synopsis form.Generate = line (codes "generate") (codes "FABRIC" ∷ codes "OUT" ∷ []) []
 synopsis form.Assemble = line (codes "assemble") (codes "FABRIC" ∷ codes "BLIF" ∷ codes "IMPL" ∷ codes "BASE" ∷ []) (codes "pcf" ∷ [])
 synopsis form.Map = line (codes "map") (codes "FABRIC" ∷ codes "BLIF" ∷ codes "OUT" ∷ []) (codes "pcf" ∷ codes "seed" ∷ codes "rounds" ∷ [])
-synopsis form.Flow = line (codes "flow") (codes "FABRIC" ∷ codes "BLIF" ∷ codes "BASE" ∷ []) (codes "pcf" ∷ codes "seed" ∷ codes "rounds" ∷ [])
+synopsis form.Flow =
+    line (codes "flow") (codes "FABRIC" ∷ codes "BLIF" ∷ codes "BASE" ∷ []) (codes "pcf" ∷ codes "seed" ∷ codes "rounds" ∷ codes "reset" ∷ [])
 synopsis form.Bits = line (codes "bits") (codes "FABRIC" ∷ codes "FASM" ∷ codes "OUT" ∷ []) []
 synopsis form.Features = line (codes "features") (codes "FABRIC" ∷ codes "BIT" ∷ codes "OUT" ∷ []) []
 synopsis form.Simulate = line (codes "simulate") (codes "VERILOG" ∷ codes "BIT" ∷ codes "STATE" ∷ codes "STIM" ∷ codes "TRACE" ∷ []) (codes "order" ∷ [])

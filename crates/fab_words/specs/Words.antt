@@ -4,7 +4,7 @@ use Rattle.std.specs.Option.{ForSome}
 use Rattle.std.specs.Str.{IsUtf8}
 use Rattle.fab_lines.specs.Names.{is_name}
 use Rattle.fab_paths.specs.Paths.{stem}
-use Rattle.fab_words.specs.Arguments.{value_of}
+use Rattle.fab_words.specs.Arguments.{is_positional, value_of}
 use Rattle.fab_words.specs.Forms.{form_of, synopsis, values_in}
 use Rattle.fab_words.specs.Numbers.{any_number, seed_of, rounds_of, order_of, size_of}
 use Rattle.fab_words.specs.declared.forms.Form.{Form}
@@ -32,9 +32,15 @@ abbrev pub map_job : (fabric blif out pcf : Option (List ℕ)) (seed rounds : Op
 map_job (Some fabric) (Some blif) (Some out) pcf (Some seed) (Some rounds) = Some (Map fabric blif pcf seed rounds out)
 map_job fabric blif out pcf seed rounds = None
 
-abbrev pub flow_job : (fabric blif base pcf : Option (List ℕ)) (seed rounds : Option ℕ) → Option Job
-flow_job (Some fabric) (Some blif) (Some base) pcf (Some seed) (Some rounds) = Some (Flow fabric blif pcf seed rounds base)
-flow_job fabric blif base pcf seed rounds = None
+-- The reset port that the value of `--reset PORT` names, where it is a positional word; so `--reset=-x` names none. Without the option there is no such port.
+abbrev pub reset_of : (value : Option (List ℕ)) → Option (Option (List ℕ))
+reset_of None = Some None
+reset_of (Some word) = if is_positional word then Some (Some word) else None
+
+-- the reset port is given where its option is absent or names one
+abbrev pub flow_job : (fabric blif base pcf : Option (List ℕ)) (seed rounds : Option ℕ) (reset : Option (Option (List ℕ))) → Option Job
+flow_job (Some fabric) (Some blif) (Some base) pcf (Some seed) (Some rounds) (Some reset) = Some (Flow fabric blif pcf seed rounds reset base)
+flow_job fabric blif base pcf seed rounds reset = None
 
 abbrev pub bits_job : (fabric fasm out : Option (List ℕ)) → Option Job
 bits_job (Some fabric) (Some fasm) (Some out) = Some (Bits fabric fasm out)
@@ -65,7 +71,7 @@ job_of_form form.Map value =
     (rounds_of (value (codes "rounds")))
 job_of_form form.Flow value =
     flow_job (value (codes "FABRIC")) (value (codes "BLIF")) (value (codes "BASE")) (value (codes "pcf")) (seed_of (value (codes "seed")))
-    (rounds_of (value (codes "rounds")))
+    (rounds_of (value (codes "rounds"))) (reset_of (value (codes "reset")))
 job_of_form form.Bits value = bits_job (value (codes "FABRIC")) (value (codes "FASM")) (value (codes "OUT"))
 job_of_form form.Features value = features_job (value (codes "FABRIC")) (value (codes "BIT")) (value (codes "OUT"))
 job_of_form form.Simulate value =
@@ -90,7 +96,7 @@ IsText (Matrix list out) = IsUtf8 list × IsUtf8 out
 IsText (Generate fabric out) = IsUtf8 fabric × IsUtf8 out
 IsText (Assemble fabric blif pcf implementation base) = IsUtf8 fabric × IsUtf8 blif × ForSome pcf IsUtf8 × IsUtf8 implementation × IsUtf8 base
 IsText (Map fabric blif pcf seed rounds out) = IsUtf8 fabric × IsUtf8 blif × ForSome pcf IsUtf8 × IsUtf8 out × (1 ≤ rounds) × (rounds ≤ 64)
-IsText (Flow fabric blif pcf seed rounds base) = IsUtf8 fabric × IsUtf8 blif × ForSome pcf IsUtf8 × IsUtf8 base × (1 ≤ rounds) × (rounds ≤ 64)
+IsText (Flow fabric blif pcf seed rounds reset base) = IsUtf8 fabric × IsUtf8 blif × ForSome pcf IsUtf8 × IsUtf8 base × (1 ≤ rounds) × (rounds ≤ 64)
 IsText (Bits fabric fasm out) = IsUtf8 fabric × IsUtf8 fasm × IsUtf8 out
 IsText (Features fabric bit out) = IsUtf8 fabric × IsUtf8 bit × IsUtf8 out
 IsText (Simulate verilog bit state stimulus order trace) = IsUtf8 verilog × IsUtf8 bit × IsUtf8 state × IsUtf8 stimulus × IsUtf8 trace

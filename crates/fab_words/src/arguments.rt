@@ -24,7 +24,8 @@ pub struct Arguments<'a> {
     pub settings: Vec<Setting<'a>>,
 }
 
-fn is_positional(word: &str) -> bool
+/// Whether the word is not empty and does not begin with `-`.
+pub fn is_positional(word: &str) -> bool
     ensures { result ≡ is_positional word.now }
 {
     !word.is_empty() && word.as_bytes()[0] != b'-'

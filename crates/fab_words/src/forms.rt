@@ -67,7 +67,7 @@ impl Form {
             Form::Flow => line(
                 "flow",
                 &["FABRIC", "BLIF", "BASE"],
-                &["pcf", "seed", "rounds"],
+                &["pcf", "seed", "rounds", "reset"],
             ),
             Form::Bits => line("bits", &["FABRIC", "FASM", "OUT"], &[]),
             Form::Features => line("features", &["FABRIC", "BIT", "OUT"], &[]),

@@ -15,9 +15,9 @@ pub enum Job {
     /// `map FABRIC BLIF OUT` with `--pcf FILE`, `--seed N` and `--rounds N`: fabric, netlist, constraints, seed, the
     /// number of rounds, and the implementation.
     Map(Name, Name, Option<Name>, u64, u32, Name),
-    /// `flow FABRIC BLIF BASE` with the same options: fabric, netlist, constraints, seed, the number of rounds, and what
-    /// the names of the outputs begin with.
-    Flow(Name, Name, Option<Name>, u64, u32, Name),
+    /// `flow FABRIC BLIF BASE` with the same options and `--reset PORT`: fabric, netlist, constraints, seed, the number of
+    /// rounds, the reset port, and what the names of the outputs begin with.
+    Flow(Name, Name, Option<Name>, u64, u32, Option<Name>, Name),
     /// `bits FABRIC FASM OUT`: the bitstream of a list of features.
     Bits(Name, Name, Name),
     /// `features FABRIC BIT OUT`: the features that a bitstream spells.

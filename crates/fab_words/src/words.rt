@@ -1,15 +1,15 @@
 //! The words of a command line: the job that they spell.
 
-ghost use Rattle.std.specs.Prelude.{◌≡◌, ◌≤◌, is_some, true, map, option_copied, string_bytes, None, Some, IfOk, IfErr};
+ghost use Rattle.std.specs.Prelude.{◌≡◌, ◌≤◌, is_some, true, map, option_map, option_copied, string_bytes, None, Some, IfOk, IfErr};
 ghost use Rattle.std.specs.Option.{ForSome};
 ghost use Rattle.std.specs.Str.{IsUtf8};
 ghost use Rattle.clap.specs.Words.{found_of, first_value};
 ghost use Rattle.fab_words.specs.Arguments.{IsUsage};
 ghost use Rattle.fab_words.specs.Forms.{synopsis, values_in};
-ghost use Rattle.fab_words.specs.Words.{job_of_form, job_in, job_of, IsText};
+ghost use Rattle.fab_words.specs.Words.{reset_of, job_of_form, job_in, job_of, IsText};
 ghost use Rattle.fab_words.specs.declared.forms.Form.TheVariants as form;
 
-use crate::arguments::Arguments;
+use crate::arguments::{Arguments, is_positional};
 use crate::forms::Form;
 use crate::job::Job;
 use crate::matching::matches_of;
@@ -104,7 +104,18 @@ fn mapping(alloc: Global, matches: &ArgMatches<'_>) -> Result<Job, Fault>
     Ok(Job::Map(fabric, blif, pcf, seed, rounds, out))
 }
 
-/// `flow FABRIC BLIF BASE [--pcf FILE] [--seed N] [--rounds N]`.
+/// The reset port that the value of its option names, if that is a positional word; without the option there is none.
+fn reset_of(value: Option<&str>) -> Option<Option<&str>>
+    ensures { option_map (λ port. option_copied port) result ≡ reset_of (option_copied value.entry) }
+{
+    match value {
+        None => Some(None),
+        Some(word) if is_positional(word) => Some(Some(word)),
+        Some(_) => None,
+    }
+}
+
+/// `flow FABRIC BLIF BASE [--pcf FILE] [--seed N] [--rounds N] [--reset PORT]`.
 fn flow(alloc: Global, matches: &ArgMatches<'_>) -> Result<Job, Fault>
     ensures job { IfOk result (λ job. job_of_form form.Flow (first_value (found_of matches.now)) ≡ Some job) }
     ensures text { IfOk result IsText }
@@ -113,13 +124,15 @@ fn flow(alloc: Global, matches: &ArgMatches<'_>) -> Result<Job, Fault>
     let fabric = matches.get_str("FABRIC").ok_or(Fault::Usage)?;
     let blif = matches.get_str("BLIF").ok_or(Fault::Usage)?;
     let base = matches.get_str("BASE").ok_or(Fault::Usage)?;
+    let reset = reset_of(matches.get_str("reset")).ok_or(Fault::Usage)?;
     let seed = seed_of(matches.get_str("seed")).ok_or(Fault::Usage)?;
     let rounds = rounds_of(matches.get_str("rounds")).ok_or(Fault::Usage)?;
     let fabric = name_of(alloc, fabric)?;
     let blif = name_of(alloc, blif)?;
     let base = name_of(alloc, base)?;
     let pcf = name_of_option(alloc, matches.get_str("pcf"))?;
-    Ok(Job::Flow(fabric, blif, pcf, seed, rounds, base))
+    let reset = name_of_option(alloc, reset)?;
+    Ok(Job::Flow(fabric, blif, pcf, seed, rounds, reset, base))
 }
 
 /// `bits FABRIC FASM OUT`.

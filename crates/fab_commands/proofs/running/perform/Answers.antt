@@ -1,4 +1,4 @@
-use Rattle.std.proofs.Common.{◌<◌, ◌∙◌, ℕ, IfErr, List, OnOk, Option, Some, ap, map, string_bytes, subst, sym}
+use Rattle.std.proofs.Common.{◌<◌, ◌∙◌, ℕ, IfErr, List, OnOk, Option, Some, ap, map, option_copied, string_bytes, subst, sym}
 use Rattle.std.proofs.lemmas.Result.{err_from_is_err_and}
 use Rattle.fab_words.specs.Words.{job_of}
 use Rattle.fab_words.specs.declared.job.Job.{Job}
@@ -105,15 +105,18 @@ returns-in-Map-clause-cause g c =
 pub returns-in-Flow-clause-done : goal.returns-in-Flow-clause-done
 returns-in-Flow-clause-done g c =
     let P : Option Job → Type 0 = λ job. OnOk c.do_flow.result (DoesJob job (g.D.Desk.told c.args.desk.now) (g.D.Desk.told c.do_flow.new.desk)) in
+    let it : (pcf reset : Option (List ℕ)) → Job = λ pcf reset. Flow c.in-Flow.fabric c.in-Flow.blif pcf c.in-Flow.seed c.in-Flow.rounds reset c.in-Flow.base in
     subst P (sym (c.in_ok-list.ensures.job ∙ ap (λ (job : Job). Some job) c.in-Flow.is))
-    (subst (λ (pcf : Option (List ℕ)). P (Some (Flow c.in-Flow.fabric c.in-Flow.blif pcf c.in-Flow.seed c.in-Flow.rounds c.in-Flow.base))) c.as_ref-in-Flow.ensures.value c.do_flow.ensures.done)
+    (subst (λ (reset : Option (List ℕ)). P (Some (it c.in-Flow.pcf reset))) c.as_ref-in-Flow-2.ensures.value
+    (subst (λ (pcf : Option (List ℕ)). P (Some (it pcf (option_copied c.as_ref-in-Flow-2.result)))) c.as_ref-in-Flow.ensures.value c.do_flow.ensures.done))
 
 pub returns-in-Flow-clause-leaves : goal.returns-in-Flow-clause-leaves
 returns-in-Flow-clause-leaves g c =
     let P : Option Job → Type 0 = λ job. IfErr c.do_flow.result (JobLeaves job (g.D.Desk.told c.args.desk.now) (g.D.Desk.told c.do_flow.new.desk)) in
+    let it : (pcf reset : Option (List ℕ)) → Job = λ pcf reset. Flow c.in-Flow.fabric c.in-Flow.blif pcf c.in-Flow.seed c.in-Flow.rounds reset c.in-Flow.base in
     subst P (sym (c.in_ok-list.ensures.job ∙ ap (λ (job : Job). Some job) c.in-Flow.is))
-    (subst (λ (pcf : Option (List ℕ)). P (Some
-    (Flow c.in-Flow.fabric c.in-Flow.blif pcf c.in-Flow.seed c.in-Flow.rounds c.in-Flow.base))) c.as_ref-in-Flow.ensures.value c.do_flow.ensures.leaves)
+    (subst (λ (reset : Option (List ℕ)). P (Some (it c.in-Flow.pcf reset))) c.as_ref-in-Flow-2.ensures.value
+    (subst (λ (pcf : Option (List ℕ)). P (Some (it pcf (option_copied c.as_ref-in-Flow-2.result)))) c.as_ref-in-Flow.ensures.value c.do_flow.ensures.leaves))
 
 pub returns-in-Flow-clause-cause : goal.returns-in-Flow-clause-cause
 returns-in-Flow-clause-cause g c =
@@ -121,8 +124,10 @@ returns-in-Flow-clause-cause g c =
     (g.D.Desk.reads c.args.desk.now < g.D.Desk.reads c.do_flow.new.desk)
     (WriteFailed job (g.D.Desk.writes c.args.desk.now < g.D.Desk.writes c.do_flow.new.desk)
     (g.S.Sink.faults c.args.out.now < g.S.Sink.faults c.args.out.now))) in
+    let it : (pcf reset : Option (List ℕ)) → Job = λ pcf reset. Flow c.in-Flow.fabric c.in-Flow.blif pcf c.in-Flow.seed c.in-Flow.rounds reset c.in-Flow.base in
     subst P (sym (c.in_ok-list.ensures.job ∙ ap (λ (job : Job). Some job) c.in-Flow.is))
-    (subst (λ (pcf : Option (List ℕ)). P (Some (Flow c.in-Flow.fabric c.in-Flow.blif pcf c.in-Flow.seed c.in-Flow.rounds c.in-Flow.base))) c.as_ref-in-Flow.ensures.value c.do_flow.ensures.cause)
+    (subst (λ (reset : Option (List ℕ)). P (Some (it c.in-Flow.pcf reset))) c.as_ref-in-Flow-2.ensures.value
+    (subst (λ (pcf : Option (List ℕ)). P (Some (it pcf (option_copied c.as_ref-in-Flow-2.result)))) c.as_ref-in-Flow.ensures.value c.do_flow.ensures.cause))
 
 pub returns-in-Simulate-clause-done : goal.returns-in-Simulate-clause-done
 returns-in-Simulate-clause-done g c =

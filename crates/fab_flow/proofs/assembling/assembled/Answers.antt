@@ -11,7 +11,7 @@ use Rattle.fab_assemble.specs.fab_features_Features.{IsBitMapOf}
 use Rattle.fab_assemble.specs.fab_features_Naming.{HasPrefixes}
 use Rattle.fab_legal.specs.Broken.{Explains}
 use Rattle.fab_designs.specs.Designs.{PlainDesign}
-use Rattle.fab_flow.specs.Assembling.{RefusesAssembly}
+use Rattle.fab_flow.specs.Assembling.{RefusesImplementation}
 use Rattle.fab_flow.proofs.Assembled.{check_refused}
 use Rattle.fab_flow.proofs.assembling.assembled.Goals as goal
 
@@ -32,6 +32,7 @@ returns-in-Ok-clause-map c =
 
 pub returns-in-Err-clause-refused : goal.returns-in-Err-clause-refused
 returns-in-Err-clause-refused c =
-    subst (λ (f : Fault). (f ≡ faults.Memory) ⊎ RefusesAssembly c.args.design.now c.args.implementation f) (sym c.from.ensures)
-    (check_refused c.args.design.now c.args.implementation c.args.packed.now c.in-Err.fault c.requires.packed c.requires.fits
+    let design = c.args.design.now in
+    subst (λ (f : Fault). (f ≡ faults.Memory) ⊎ RefusesImplementation design.fabric design.netlist design.fixed c.args.implementation f) (sym c.from.ensures)
+    (check_refused design.fabric design.netlist design.fixed c.args.implementation c.args.packed.now c.in-Err.fault c.requires.packed c.requires.fits
     (subst (λ (d : PlainDesign). Explains d.fabric c.args.packed.now d.fixed c.args.implementation c.in-Err.fault) c.design.view_is c.in-Err.ensures.err))

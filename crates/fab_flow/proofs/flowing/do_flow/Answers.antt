@@ -6,7 +6,7 @@ use Rattle.fab_desk.specs.Files.{Map}
 use Rattle.fab_files.specs.Files.{Event}
 use Rattle.fab_outputs.specs.declared.storing.Output.{Output}
 use Rattle.fab_outputs.specs.Storing.{PlainOutput, plain_output}
-use Rattle.fab_flow.specs.Flowing.{FlowFiles, FailsToFlow, IsFlow, IsReadyToFlow, MakesFlow, MeetsFlow, flow_files, flow_refusals}
+use Rattle.fab_flow.specs.Flowing.{FlowFiles, FailsToFlow, IsFlow, IsReadyToFlow, MakesFlow, MeetsFlow, flow_files, flow_refusals, used}
 use Rattle.fab_outputs.proofs.Ending.{cause_of_store, leaves_of_store, done_of_store, searched}
 use Rattle.fab_flow.proofs.Flowed.{design_cause, flow_cause, flow_leaves, flow_of}
 use Rattle.fab_flow.proofs.flowing.do_flow.Goals as goal
@@ -16,7 +16,7 @@ use Rattle.fab_flow.proofs.flowing.do_flow.Goals as goal
 pub returns-in_err-design-clause-cause : goal.returns-in_err-design-clause-cause
 returns-in_err-design-clause-cause g c =
     let residual = err_from_is_err_and c.from_residual.result c.from_residual.ensures.1 in
-    let names : FlowFiles = flow_files c.args.fabric.now c.args.blif.now (option_copied c.args.pcf) c.args.base.now in
+    let names : FlowFiles = flow_files c.args.fabric.now c.args.blif.now (option_copied c.args.pcf) (option_copied c.args.reset) c.args.base.now in
     rw (residual.1, residual.2) (design_cause (g.D.Desk.told c.args.desk.now) names c.args.rounds _ _ c.in_err-design.field-0.0 c.in_err-design.ensures.cause)
 
 -- ---- nothing is made of the design
@@ -24,15 +24,15 @@ returns-in_err-design-clause-cause g c =
 pub returns-in_err-outputs-clause-leaves : goal.returns-in_err-outputs-clause-leaves
 returns-in_err-outputs-clause-leaves g c =
     let residual = err_from_is_err_and c.from_residual-in_err-outputs.result c.from_residual-in_err-outputs.ensures.1 in
-    let names : FlowFiles = flow_files c.args.fabric.now c.args.blif.now (option_copied c.args.pcf) c.args.base.now in
+    let names : FlowFiles = flow_files c.args.fabric.now c.args.blif.now (option_copied c.args.pcf) (option_copied c.args.reset) c.args.base.now in
     rw (residual.1, residual.2)
     (flow_leaves (λ files. MakesFlow files names c.args.rounds) (g.D.Desk.told c.args.desk.now) (g.D.Desk.told c.read_design.new.desk) c.in_ok-design.ensures.told
-    c.args.fabric.now c.in_ok-design.design c.args.rounds c.in_err-outputs.field-0.0 c.in_err-outputs.ensures.ends)
+    c.args.fabric.now (option_copied c.args.reset) c.in_ok-design.design c.args.rounds c.in_err-outputs.field-0.0 c.in_err-outputs.ensures.ends)
 
 pub returns-in_err-outputs-clause-cause : goal.returns-in_err-outputs-clause-cause
 returns-in_err-outputs-clause-cause g c =
     let residual = err_from_is_err_and c.from_residual-in_err-outputs.result c.from_residual-in_err-outputs.ensures.1 in
-    let names : FlowFiles = flow_files c.args.fabric.now c.args.blif.now (option_copied c.args.pcf) c.args.base.now in
+    let names : FlowFiles = flow_files c.args.fabric.now c.args.blif.now (option_copied c.args.pcf) (option_copied c.args.reset) c.args.base.now in
     rw (residual.1, residual.2)
     (flow_cause (g.D.Desk.told c.args.desk.now) names c.args.rounds _ _ c.in_ok-design.design c.in_ok-design.ensures.spelled c.in_err-outputs.field-0.0 c.in_err-outputs.ensures.ends)
 
@@ -44,37 +44,39 @@ store_all-requires g c =
 
 pub returns-clause-done : goal.returns-clause-done
 returns-clause-done g c =
-    let names : FlowFiles = flow_files c.args.fabric.now c.args.blif.now (option_copied c.args.pcf) c.args.base.now in
+    let names : FlowFiles = flow_files c.args.fabric.now c.args.blif.now (option_copied c.args.pcf) (option_copied c.args.reset) c.args.base.now in
     let told = g.D.Desk.told c.args.desk.now in
     let design = c.in_ok-design.design in
     let outputs = map plain_output c.deref.result.now in
     let of = c.in_ok-outputs.ensures in
-    let made : ForSome told (λ files. IsFlow design.fabric design.netlist design.fixed c.args.rounds c.args.base.now outputs) =
-    λ files is. flow_of files names.design.fabric design.fabric design.netlist design.fixed c.args.rounds c.args.base.now c.in_ok-outputs.outputs.items c.deref.result.now
+    let netlist = used names design in
+    let made : ForSome told (λ files. IsFlow design.fabric netlist design.fixed c.args.rounds c.args.base.now outputs) =
+    λ files is. flow_of files names.design.fabric design.fabric netlist design.fixed c.args.rounds c.args.base.now c.in_ok-outputs.outputs.items c.deref.result.now
     c.deref.ensures.value (c.in_ok-design.ensures.spelled files is).fabric of.made in
     let makes : Map → List PlainOutput → Type 0 = λ files. MakesFlow files names c.args.rounds in
     on_ok_weaker c.store_all.result (λ stored. done_of_store makes told outputs (g.D.Desk.told c.read_design.new.desk) (g.D.Desk.told c.store_all.new.desk)
-    (λ files is. record { design = design; spelled = c.in_ok-design.ensures.spelled files is; fits = of.fits; made = made files is })
+    (λ files is. record { design = design; spelled = c.in_ok-design.ensures.spelled files is; resets = of.resets; fits = of.fits; made = made files is })
     c.in_ok-design.ensures.told stored) c.store_all.ensures.done
 
 pub returns-clause-leaves : goal.returns-clause-leaves
 returns-clause-leaves g c =
-    let names : FlowFiles = flow_files c.args.fabric.now c.args.blif.now (option_copied c.args.pcf) c.args.base.now in
+    let names : FlowFiles = flow_files c.args.fabric.now c.args.blif.now (option_copied c.args.pcf) (option_copied c.args.reset) c.args.base.now in
     let told = g.D.Desk.told c.args.desk.now in
     let design = c.in_ok-design.design in
     let outputs = map plain_output c.deref.result.now in
     let of = c.in_ok-outputs.ensures in
-    let made : ForSome told (λ files. IsFlow design.fabric design.netlist design.fixed c.args.rounds c.args.base.now outputs) =
-    λ files is. flow_of files names.design.fabric design.fabric design.netlist design.fixed c.args.rounds c.args.base.now c.in_ok-outputs.outputs.items c.deref.result.now
+    let netlist = used names design in
+    let made : ForSome told (λ files. IsFlow design.fabric netlist design.fixed c.args.rounds c.args.base.now outputs) =
+    λ files is. flow_of files names.design.fabric design.fabric netlist design.fixed c.args.rounds c.args.base.now c.in_ok-outputs.outputs.items c.deref.result.now
     c.deref.ensures.value (c.in_ok-design.ensures.spelled files is).fabric of.made in
     let makes : Map → List PlainOutput → Type 0 = λ files. MakesFlow files names c.args.rounds in
     IfErr-weaker c.store_all.result _ _ (λ fault stopped. leaves_of_store makes told outputs (g.D.Desk.told c.read_design.new.desk) (g.D.Desk.told c.store_all.new.desk) _ fault
-    (λ files is. record { design = design; spelled = c.in_ok-design.ensures.spelled files is; fits = of.fits; made = made files is })
+    (λ files is. record { design = design; spelled = c.in_ok-design.ensures.spelled files is; resets = of.resets; fits = of.fits; made = made files is })
     c.in_ok-design.ensures.told stopped) c.store_all.ensures.stopped
 
 pub returns-clause-cause : goal.returns-clause-cause
 returns-clause-cause g c =
-    let names : FlowFiles = flow_files c.args.fabric.now c.args.blif.now (option_copied c.args.pcf) c.args.base.now in
+    let names : FlowFiles = flow_files c.args.fabric.now c.args.blif.now (option_copied c.args.pcf) (option_copied c.args.reset) c.args.base.now in
     let told = g.D.Desk.told c.args.desk.now in
     let wrote = c.in_ok-design.ensures.writes in
     let of = c.in_ok-outputs.ensures in
@@ -82,5 +84,5 @@ returns-clause-cause g c =
     let ready : Map → Type 0 = λ files. IsReadyToFlow files names in
     IfErr-weaker c.store_all.result _ _ (λ fault stopped. searched told _ _ meets ready (λ files. FailsToFlow files names c.args.rounds) flow_refusals refl refl fault
     (cause_of_store told _ _ meets ready flow_refusals (map plain_output c.deref.result.now) _ _ _ fault
-    (λ files is. record { design = c.in_ok-design.design; spelled = c.in_ok-design.ensures.spelled files is; short = of.short; fits = of.fits }) (λ rose. omega (arith, rose, wrote)) stopped))
+    (λ files is. record { design = c.in_ok-design.design; spelled = c.in_ok-design.ensures.spelled files is; short = of.short; resets = of.resets; fits = of.fits }) (λ rose. omega (arith, rose, wrote)) stopped))
     c.store_all.ensures.stopped

@@ -2,10 +2,10 @@ use Rattle.std.proofs.Common.{ℕ, ◌++◌, List, ◌∙◌, ap, sym, subst, co
 use Rattle.std.specs.List.{flat_map}
 use Rattle.fab_implementation.specs.Plain.{Pad, PlainTree, PlainImplementation}
 use Rattle.fab_implementation.specs.OnFabric.{HasSites}
-use Rattle.fab_texts.specs.Printed.{row_text, rows_text}
+use Rattle.fab_texts.specs.Printed.{rows_text}
 use Rattle.fab_impl.specs.Lines.{Cell}
 use Rattle.fab_texts.specs.Sections.{ending}
-use Rattle.fab_impl.specs.Spelled.{header, cell_line, pad_line, tree_lines}
+use Rattle.fab_impl.specs.Spelled.{headers, cell_line, pad_line, tree_lines}
 use Rattle.fab_impl.proofs.Parts.{six_parts}
 use Rattle.fab_impl.proofs.writer.print.Goals as goal
 
@@ -34,12 +34,12 @@ returns c =
     let ins_again = c.deref-4.ensures.value ∙ ap (λ (i : PlainImplementation). i.ins) c.implementation.view_is in
     let trees = c.deref-5.ensures.value ∙ ap (λ (i : PlainImplementation). i.trees) c.implementation.view_is in
     record {
-      text = six_parts header ending (map cell_line it.cells) (map (pad_line (codes "in")) it.ins) (map (pad_line (codes "out")) it.outs) (flat_map (tree_lines fabric it.ins) it.trees)
-          c.put_row.new.out.items c.put_cells.new.out.items c.put_pads.new.out.items c.put_pads-2.new.out.items c.put_trees.new.out.items c.put_row-2.new.out.items
-          (c.in_ok-put_row.ensures ∙ ap (λ (l : List ℕ). l ++ row_text header) c.new-out.ensures.items)
-          (c.in_ok-put_cells.ensures ∙ ap (λ (l : List Cell). c.put_row.new.out.items ++ rows_text (map cell_line l)) cells)
+      text = six_parts (headers it.reset) ending (map cell_line it.cells) (map (pad_line (codes "in")) it.ins) (map (pad_line (codes "out")) it.outs) (flat_map (tree_lines fabric it.ins) it.trees)
+          c.put_headers.new.out.items c.put_cells.new.out.items c.put_pads.new.out.items c.put_pads-2.new.out.items c.put_trees.new.out.items c.put_row.new.out.items
+          (c.in_ok-put_headers.ensures ∙ ap (λ (l : List ℕ). l ++ rows_text (headers c.implementation.inside.reset)) c.new-out.ensures.items ∙ ap (λ (i : PlainImplementation). rows_text (headers i.reset)) c.implementation.view_is)
+          (c.in_ok-put_cells.ensures ∙ ap (λ (l : List Cell). c.put_headers.new.out.items ++ rows_text (map cell_line l)) cells)
           (c.in_ok-put_pads.ensures ∙ ap (λ (l : List Pad). c.put_cells.new.out.items ++ rows_text (map (pad_line (codes "in")) l)) ins)
           (c.in_ok-put_pads-2.ensures ∙ ap (λ (l : List Pad). c.put_pads.new.out.items ++ rows_text (map (pad_line (codes "out")) l)) outs)
           (c.in_ok-put_trees.ensures ∙ ap (λ (l : List Pad). c.put_pads-2.new.out.items ++ rows_text (flat_map (tree_lines fabric l) c.deref-5.result.now)) ins_again ∙ ap (λ (l : List PlainTree). c.put_pads-2.new.out.items ++ rows_text (flat_map (tree_lines fabric it.ins) l)) trees)
-          c.in_ok-put_row-2.ensures;
+          c.in_ok-put_row.ensures;
     }
