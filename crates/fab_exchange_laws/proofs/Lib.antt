@@ -1,0 +1,10 @@
+pub mod Within
+pub mod Chosen
+pub mod Words
+pub mod Unread
+pub mod Along
+pub mod Instants
+pub mod Cycles
+pub mod Settles
+pub mod Feeding
+pub mod Law
