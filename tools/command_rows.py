@@ -99,6 +99,7 @@ def rows(is_small=False):
     parts = dict(TABLES, **fixtures("log.list"))
     inv = dict(duo, **fixtures("inv.blif", "inv.pcf"))
     tog = dict(duo, **fixtures("tog.blif", "tog.pcf"))
+    rtog = fixtures("duor.csv", "io.list", "logr.list", "rtog.blif")
     grid = read(*("examples/counter/" + name for name in (
         "fabric.csv", "logic.csv", "logic.list", "pads.csv", "pads.list")))
     found = [
@@ -112,11 +113,15 @@ def rows(is_small=False):
         row(4, "flow duo.csv inv.blif inv --pcf inv.pcf", inv),
         row(4, "flow duo.csv tog.blif made --pcf tog.pcf", tog),
         row(4, "flow turn.csv k.blif made --seed=7", turn),
+        row(4, "flow duor.csv rtog.blif rtog --reset r", rtog),
+        row(3, "assemble duor.csv rtog.blif rtog.impl made --pcf rtog.pcf", dict(rtog, **fixtures("rtog.impl", "rtog.pcf"))),
         row(6, "flow fabric.csv top.blif made", dict(grid, **{"top.blif": NESTED})),
         row(8, "bits duo.csv tog.fasm b", dict(duo, **fixtures("tog.fasm"))),
         row(4, "bits duo.csv ring.fasm ring.bit", dict(duo, **fixtures("ring.fasm"))),
         row(6, "features duo.csv inv.bit f", dict(duo, **fixtures("inv.bit"))),
         row(6, "features parts.csv last.bit f", dict(parts, **{"last.bit": fixtures("inv.bit")["inv.bit"]})),
+        row(4, "partial trio.csv inv.impl part.fasm 2 2 p.bit", fixtures(
+            "trio.csv", "io.list", "log.list", "inv.impl", "part.fasm")),
         row(6, "simulate duo.v inv.bit inv.state inv.stim t", dict(
             fixtures("duo.v", "inv.bit", "inv.state"), **{"inv.stim": b"a\n0\n1\n1\n"})),
         row(4, "simulate duo.v tog.bit tog.state tog.stim t", dict(
@@ -156,6 +161,7 @@ def refused_rows():
         row(1, "map pair.csv k.blif i --rounds 2", pair),
         row(1, "assemble duo.csv inv.blif inv.impl made", dict(inv, **{
             "inv.impl": inv["inv.impl"].replace(b"edge X0Y0/VCC0 X0Y0/B_T\n", b"")})),
+        row(1, "flow duo.csv inv.blif made --reset z", inv),
         row(1, "bits duo.csv f.fasm b", dict(duo, **{"f.fasm": b"X1Y0.A.FG\n"})),
         row(1, "simulate duo.v inv.bit f.state f.stim t", dict(
             fixtures("duo.v", "inv.bit"), **{"f.state": b"fabulous-state 1\nff X1Y0.B 1\nend\n"})),

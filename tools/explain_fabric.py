@@ -1,9 +1,11 @@
 """What of a line of a fabric file or a file of tiles is wrong, for tools/explain."""
 import re
 
-from explain_files import KINDS, PINS, STEPS, Wires, cells_of
+from explain_files import cells_of, place_of
 from explain_lists import WIRE
 from explain_text import lines_of, listed, near_words, plural, shown
+from fabric import STEPS, Bel
+from read_tables import KINDS, MAX_NAMES, wire_row
 
 NAME = re.compile(r"[A-Za-z_][A-Za-z0-9_]*\Z")
 ENDS = {"FabricBegin": "FabricEnd", "ParametersBegin": "ParametersEnd", "TILE": "EndTILE"}
@@ -94,14 +96,14 @@ def cells_without_tile(case, cells):
 
 def names_of_row(cells):
     """The matrix names that a row of wires or a BEL gives its tile, in their order."""
-    if cells[0] in STEPS and len(cells) >= 6:
-        row = Wires(cells)
-        return row.sources + row.destinations
-    if cells[0] == "BEL" and len(cells) > 1:
+    part = None
+    if cells[0] in STEPS:
+        part = wire_row(cells, "", 0)[1]
+        part = part if part and part.bits <= MAX_NAMES else None
+    elif cells[0] == "BEL" and len(cells) > 1:
         stem = cells[1].rsplit("/", 1)[-1].rsplit(".", 1)[0]
-        prefix = cells[2] if len(cells) > 2 else ""
-        return [prefix + pin for pins in PINS.get(KINDS.get(stem), ()) for pin in pins.split()]
-    return []
+        part = Bel(KINDS[stem], cells[2] if len(cells) > 2 else "", "A") if stem in KINDS else None
+    return [wire.name for wire in part.wires()] if part else []
 
 
 def twice(case, cells, block, begin):
@@ -125,15 +127,13 @@ def first_place(case, names):
     """Where a name of the tile stands for the first time, in rows before this one."""
     tiles = case.fabric.tiles.values() if case.fabric else ()
     for tile in tiles:
-        rows = [(path, line) for side in (tile.inputs, tile.outputs) for path, line in side.values()]
-        is_tile = (tile.path == case.path and tile.line < case.line) or any(path == case.path for path, _ in rows)
-        if not is_tile:
+        places = {name: place_of(wire) for name, wire in tile.wires.items()}
+        is_tile = (tile.path == case.path and tile.line < case.line) or any(path == case.path for path, _ in places.values())
+        if not is_tile or last_tile_line(case) not in (None, tile.line):
             continue
-        for side in (tile.outputs, tile.inputs):
-            for name in names:
-                if name in side and side[name] != (case.path, case.line) and (side[name][0] != case.path or side[name][1] < case.line):
-                    if last_tile_line(case) in (None, tile.line):
-                        return (name,) + side[name]
+        for name, (path, line) in places.items():
+            if name in names and (path != case.path or line < case.line):
+                return name, path, line
     return None
 
 

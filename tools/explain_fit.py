@@ -2,7 +2,7 @@
 import collections
 
 from explain_text import families, listed, plural, shown, sides
-from explain_wires import MOST_WIRES, Network, described, parted, pin_of, written
+from explain_wires import MOST_WIRES, Network, described, parted, written
 
 KINDS = ("LUT4c", "IO")
 USUAL_ROUNDS = 32
@@ -73,7 +73,7 @@ def no_path(case, words):
     if described(case.fabric, wire):
         yield described(case.fabric, wire)
     node = parted(wire)
-    tile = case.fabric and node and case.fabric.at(f"X{node[0]}Y{node[1]}")[0]
+    tile = case.fabric and node and case.fabric.at(node[0], node[1])
     if not tile:
         return
     network = Network(case.fabric)
@@ -95,7 +95,7 @@ def from_source(case, network, net, node, tile):
             yield f"no tile has the constant: add a row JUMP,NULL,0,0,{name},1 to a tile, and pairs with {name}0"
         return
     if len(begins) == 1:
-        own = network.tiles[begins[0][:2]]
+        own = case.fabric.at(*begins[0][:2])
         outputs = network.outputs_of(own, begins[0][2])
         yield f"the net begins at {written(begins[0])}" + (
             f", which leads to {families(outputs)}" if outputs else f": no pair of tile {own.name} takes {begins[0][2]}, so add some")
@@ -106,7 +106,7 @@ def from_source(case, network, net, node, tile):
     places = {(x, y) for x, y, _ in found}
     is_all = len(found) < MOST_WIRES
     yield f"from there {'' if is_all else 'more than '}{plural(len(found), 'wire')} in {plural(len(places), 'tile')} can be reached"
-    here = sorted(name for x, y, name in found if (x, y) == node[:2] and name in tile.inputs)
+    here = sorted(name for x, y, name in found if (x, y) == node[:2] and not tile.wires[name].is_output)
     if here:
         yield f"at X{node[0]}Y{node[1]} these are {families(here)}: a pair of {node[2]} with one of them gives a path"
     elif is_all:
@@ -119,13 +119,8 @@ def sources(case, network, net):
         return network.constants("GND" if net == ["zero"] else "VCC")
     site = case.implementation.cells.get(net[-1]) if net[0] == "cell" else next(
         (site for side, port, site in case.implementation.pads if side == "in" and port == net[-1]), None)
-    place, _, letter = (site or "").partition(".")
-    tile = case.fabric.at(place)[0]
-    if not tile or not letter or ord(letter) - 65 >= len(tile.bels):
-        return []
-    x, y = (int(part) for part in place[1:].split("Y"))
-    pin = tile.bels[ord(letter) - 65][1] + "O"
-    return [(x, y, pin)]
+    found = case.fabric.site(site or "")
+    return [(found[0], found[1], found[2].prefix + "O")] if found else []
 
 
 def overused(case, words):
@@ -153,9 +148,9 @@ def used_up(fabric, users, places):
     """Of the most crowded tiles, the rows of wires of which most are in use."""
     used, there = collections.Counter(), collections.Counter()
     for place in places:
-        tile = fabric.at(place)[0]
-        for name in tile.outputs if tile else ():
-            if pin_of(tile, name) is None:
+        tile = fabric.tile_at(place)[0]
+        for name in tile.names(True) if tile else ():
+            if not tile.wires[name].bel:
                 there[sides(name)[0]] += 1
                 used[sides(name)[0]] += f"{place}/{name}" in users
     full = sorted((name for name in there if used[name]), key=lambda name: -used[name] / there[name])
@@ -173,7 +168,7 @@ def advice(shared, used, rounds):
 
 
 def used_sites(fabric, implementation):
-    sites = {kind: sum(tile.sites(kind) for _, _, tile in fabric.places()) for kind in KINDS}
+    sites = {kind: fabric.sites(kind) for kind in KINDS}
     counts = {"LUT4c": len(implementation.cells), "IO": len(implementation.pads)}
     yield "sites in use: " + ", ".join(f"{counts[kind]} of {sites[kind]} {kind} ({percent(counts[kind], sites[kind])})" for kind in KINDS)
 
@@ -185,7 +180,7 @@ def fitted(case):
     yield from used_sites(case.fabric, case.implementation)
     edges = sum(map(len, case.implementation.nets.values()))
     wires = len({wire for net in case.implementation.nets.values() for edge in net for wire in edge})
-    there = sum(len(tile.inputs) + len(tile.outputs) for _, _, tile in case.fabric.places())
+    there = sum(len(tile.wires) for _, _, tile in case.fabric.places())
     cost = placed_cost(case)
     yield (f"routing: {plural(len(case.implementation.nets), 'net')}, {plural(edges, 'edge')}, "
            f"{wires} of {plural(there, 'wire')} and pins ({percent(wires, there)})" + (f"; placement cost {cost}" if cost is not None else ""))

@@ -54,16 +54,16 @@ def no_site(fabric, site, kind):
         return
     if fabric is None:
         return
-    tile, why = fabric.at(found.group(1))
+    tile, why = fabric.tile_at(found.group(1))
     if tile is None:
         yield why
     else:
-        letter = ord(found.group(2)) - 65
-        there = [f"{chr(65 + i)} ({bel[0]})" for i, bel in enumerate(tile.bels)]
-        if letter >= len(tile.bels):
+        bel = next((bel for bel in tile.bels if bel.letter == found.group(2)), None)
+        there = [f"{other.letter} ({other.kind})" for other in tile.bels]
+        if not bel:
             yield f"tile {tile.name} at {found.group(1)} has no BEL {found.group(2)}; it has {listed(there, 12) or 'none'}"
-        elif tile.bels[letter][0] != kind:
-            yield f"{site} is a site of {tile.bels[letter][0]}, and not of {kind}; tile {tile.name} has {listed(there, 12)}"
+        elif bel.kind != kind:
+            yield f"{site} is a site of {bel.kind}, and not of {kind}; tile {tile.name} has {listed(there, 12)}"
     if tile is None or tile.sites(kind) == 0:
         with_kind = [f"X{x}Y{y}" for x, y, other in fabric.places() if other.sites(kind)]
         yield f"places with {kind}: {listed(with_kind, 10) or 'none'}"
@@ -77,11 +77,11 @@ def no_wire(fabric, wire):
         return
     if fabric is None:
         return
-    tile, why = fabric.at(place)
+    tile, why = fabric.tile_at(place)
     if tile is None:
         yield why
-    elif name not in tile.inputs and name not in tile.outputs:
-        yield f"tile {tile.name} at {place} has no wire or pin {shown(name)}{near_words(name, list(tile.inputs) + list(tile.outputs))}"
+    elif name not in tile.wires:
+        yield f"tile {tile.name} at {place} has no wire or pin {shown(name)}{near_words(name, tile.wires)}"
 
 
 def explain_implementation(case):
@@ -89,8 +89,10 @@ def explain_implementation(case):
     words = words_of(case.text)
     forms = {"cell": "cell cN SITE", "pad": "pad in PORT SITE or pad out PORT SITE", "edge": "edge WIRE WIRE",
              "net": "net zero, net one, net in PORT or net cell cN", "end": "end"}
-    if case.reason == "row":
-        yield from row_of(case, words, forms, "fabulous-impl 1")
+    if case.reason == "row" and (reset_is_due(case) or words[:1] == ["reset"]):
+        yield "a line reset PORT is the second of version 2 (fabulous-impl 2), and stands nowhere else"
+    elif case.reason == "row":
+        yield from row_of(case, words, forms, "fabulous-impl 1 or fabulous-impl 2")
     elif case.reason == "wire":
         for wire in words[1:3]:
             yield from no_wire(case.fabric, wire)
@@ -102,6 +104,12 @@ def explain_implementation(case):
         yield f"no line pad in {shown(words[2])} stands before{near_words(words[2], ports)}"
     elif case.reason == "number" and len(words) > 1:
         yield f"{shown(words[-1] if words[0] != 'cell' else words[1], 40)} is none"
+
+
+def reset_is_due(case):
+    """Whether of an implementation only the first line stands before, and is that of version 2."""
+    before = [words_of(text) for _, text in lines_of(case.path, case.line - 1)]
+    return [words for words in before if words] == [["fabulous-impl", "2"]]
 
 
 def row_of(case, words, forms, first):
@@ -201,8 +209,8 @@ def explain_bitstream(case):
         return
     if not case.fabric or not case.fabric.grid:
         return
-    columns, rows = len(case.fabric.grid[0]), len(case.fabric.grid)
-    length, at = 39 + 20 * columns * (rows + 1), case.line - 39
+    columns, rows = case.fabric.columns, case.fabric.rows
+    length, at = case.fabric.bitstream_words(), case.line - 39
     grid = f"{plural(columns, 'column')} and {plural(rows, 'row')}"
     yield f"a stream of this fabric of {grid} has {length} words, and the file has {size // 4}"
     if case.line <= 38:

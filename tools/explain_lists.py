@@ -14,7 +14,7 @@ def not_wires(names):
 def unknown(name, side, tiles):
     """Why a name is none of this side of the switch matrix: it is of the other side, or of none."""
     for tile in tiles:
-        here, other = (tile.outputs, tile.inputs) if side == "output" else (tile.inputs, tile.outputs)
+        here, other = tile.names(side == "output"), tile.names(side != "output")
         another = "input" if side == "output" else "output"
         if name in other and name not in here:
             return f"{shown(name)} is an {another} of the switch matrix of tile {tile.name}, and here an {side} has to stand"
@@ -45,7 +45,7 @@ def explain_list(case):
     elif case.reason == "counts differ":
         yield "the first cell stands for {}, the second one for {}".format(*(plural(len(expanded(cell)), "name") for cell in cells))
     elif case.reason == "unknown name":
-        tiles = case.fabric.tile_of(case.path) if case.fabric else []
+        tiles = case.fabric.tiles_with(case.path) if case.fabric else []
         yield from unknown_names(expanded(cells[0]), "output", tiles)
         yield from unknown_names(expanded(cells[1]), "input", tiles)
     elif case.reason == "both sides":
@@ -107,7 +107,7 @@ def explain_matrix_table(case):
     if not cells or not rows:
         return
     header, is_first = rows[0][1], rows[0][0] == case.line
-    tiles = case.fabric.tile_of(case.path) if case.fabric else []
+    tiles = case.fabric.tiles_with(case.path) if case.fabric else []
     if case.reason == "row":
         yield f"the first row has {plural(len(header), 'cell')}, and this one has {len(cells)}"
     elif case.reason == "name":

@@ -1,6 +1,7 @@
 """What breaks a rule of implementations or features, for tools/explain (status 10)."""
 import re
 
+from explain_files import pairs_of
 from explain_lines import no_wire
 from explain_text import FEW, families, lines_of, listed, near_words, plural, quoted, shown
 from explain_wires import Network, described, parted, pin_of, written
@@ -8,20 +9,21 @@ from explain_wires import Network, described, parted, pin_of, written
 
 def illegal(case, rule, item):
     """The item, and the lines that name it."""
-    if case.call.command == "bits":
+    if rule in ("10", "11"):
         yield from feature_item(case, rule, item)
         return
     yield from meaning(case, item)
-    if case.implementation:
-        path = case.call.file("implementation")
+    path = case.call.file("implementation")
+    if case.implementation and path:
         lines = list(lines_with(case.implementation, rule, item))
         for line, words, net in lines[:4]:
             yield quoted(path, line, " ".join(words), f"   (of net {shown(net)})" if net else "")
         if len(lines) > 4:
             yield f"and {len(lines) - 4} lines more"
-        if not lines:
+        if not lines and rule != "14":
             yield f"no line of {shown(path)} names {shown(item)} in this way"
-    special = {"1": whole, "3": whole, "4": constrained, "5": no_edge, "8": missing_sink, "9": nets_with}.get(rule)
+    special = {"1": whole, "3": whole, "4": constrained, "5": no_edge, "8": missing_sink, "9": nets_with, "12": no_input,
+               "14": no_column}.get(rule)
     if special:
         yield from special(case, item)
 
@@ -42,9 +44,11 @@ def meaning(case, item):
 def lines_with(implementation, rule, item):
     for line, words, net in implementation.lines:
         is_edge = words[0] == "edge"
-        if is_edge and rule in ("5", "6", "8") and words[-1] == item:
+        if is_edge and rule in ("5", "6", "8", "13") and words[-1] == item:
             yield line, words, net
         elif is_edge and rule in ("7", "9") and item in words:
+            yield line, words, net
+        elif words[0] == "reset" and rule == "12" and words[1:] == [item]:
             yield line, words, net
         elif words[0] == "net" and " ".join(words[1:]) == item or words[0] in ("cell", "pad") and item in words[1:]:
             yield line, words, net
@@ -66,6 +70,18 @@ def whole(case, item):
         yield f"the netlist has no port {shown(item)}{near_words(item, inputs + outputs)}"
 
 
+def no_input(case, item):
+    """A reset port that is no input of the netlist, and which ports are."""
+    yield from whole(case, item)
+    if case.netlist and case.netlist.is_flat:
+        yield f"a reset port is one of the inputs: {listed(case.netlist.data_inputs) or 'there are none'}"
+
+
+def no_column(case, item):
+    if case.fabric:
+        yield f"the grid has {plural(case.fabric.columns, 'column')}, of which the last is {case.fabric.columns - 1}, and LAST is {item}"
+
+
 def constrained(case, item):
     path = case.call.file("constraints")
     for line, text in lines_of(path) if path else ():
@@ -80,13 +96,13 @@ def no_edge(case, item):
     node = parted(item)
     if not case.fabric or not node or not edges:
         return
-    tile, network = case.fabric.at(f"X{node[0]}Y{node[1]}")[0], Network(case.fabric)
-    if tile and node[2] in tile.outputs:
+    tile, network = case.fabric.at(node[0], node[1]), Network(case.fabric)
+    if tile and tile.wires.get(node[2]) and tile.wires[node[2]].is_output:
         inputs = network.inputs_of(tile, node[2])
         yield choices(tile, node[2], inputs, edges[0].split("/")[-1])
         return
     source = parted(edges[0])
-    if source and source[:2] in network.tiles:
+    if source and network.has(source):
         other = network.joined(*source)
         yield f"{edges[0]} is joined to {written(other)}" if other else f"{edges[0]} is joined to nothing"
 
@@ -100,7 +116,7 @@ def choices(tile, output, inputs, name):
 def missing_sink(case, item):
     """Which net has to reach a pin."""
     node = parted(item)
-    tile = case.fabric.at(f"X{node[0]}Y{node[1]}")[0] if case.fabric and node else None
+    tile = case.fabric.at(node[0], node[1]) if case.fabric and node else None
     pin = pin_of(tile, node[2]) if tile else None
     if not pin or not case.implementation:
         return
@@ -114,8 +130,10 @@ def missing_sink(case, item):
 
 
 def wanted_net(case, holder, pin):
-    if pin in ("EN", "SR"):
-        return "one" if pin == "EN" else "zero"
+    if pin == "EN":
+        return "one"
+    if pin == "SR":
+        return next((f"in {words[1]}" for _, words, _ in case.implementation.lines if words[0] == "reset" and len(words) == 2), "zero")
     if pin == "T":
         return "zero" if holder.startswith("in ") else "one"
     if not case.netlist or not case.netlist.is_flat:
@@ -152,7 +170,7 @@ def feature_item(case, rule, item):
                 yield quoted(path, line, text.strip())
     if rule != "10" or not case.fabric:
         return
-    tile, why = case.fabric.at(place)
+    tile, why = case.fabric.tile_at(place)
     yield from feature_faults(tile, rest) if tile else [why]
 
 
@@ -161,7 +179,7 @@ FIELDS = {"LUT4c": ["INIT", "FF", "IOmux", "SET_NORESET"], "MUX8LUT": ["c0", "c1
 
 def feature_faults(tile, rest):
     first, _, second = rest.partition(".")
-    letters = {chr(65 + i): bel[0] for i, bel in enumerate(tile.bels)}
+    letters = {bel.letter: bel.kind for bel in tile.bels}
     if first in letters:
         fields = FIELDS.get(letters[first], [])
         yield f"{first} is a {letters[first]} of tile {tile.name}, with the fields {listed(fields) or 'none'}{near_words(second, fields)}"
@@ -169,10 +187,10 @@ def feature_faults(tile, rest):
     if not second:
         yield "behind the place stand two names: a BEL's letter and its field, or INPUT.OUTPUT"
         yield f"tile {tile.name} has the BELs {listed(letters, 12) or 'none'}"
-    elif second not in tile.outputs:
-        what = "an input" if second in tile.inputs else "no output"
-        yield f"{shown(second)} is {what} of the switch matrix of tile {tile.name}{near_words(second, tile.outputs)}"
-        if first in tile.outputs:
+    elif second not in tile.names(True):
+        what = "an input" if second in tile.wires else "no output"
+        yield f"{shown(second)} is {what} of the switch matrix of tile {tile.name}{near_words(second, tile.names(True))}"
+        if first in tile.names(True):
             yield "this is a step along a wire, which no bit chooses: tools/nextpnr_fasm takes such lines out"
     else:
-        yield choices(tile, second, tile.pairs().get(second, []), first)
+        yield choices(tile, second, pairs_of(tile).get(second, []), first)

@@ -3,7 +3,7 @@ takes of them. docs/FORMATS.md has the rules, under "Wires of a fabric"."""
 import collections
 import re
 
-from explain_files import PINS, STEPS
+from explain_files import pairs_of
 from explain_text import lines_of
 
 MOST_WIRES = 150000
@@ -59,39 +59,38 @@ def written(node):
 
 def pin_of(tile, name):
     """Site letter, kind and pin of a matrix name that is a pin of the tile; None of any other."""
-    for i, (kind, prefix, _, _) in enumerate(tile.bels):
-        for pins in PINS.get(kind, ()):
-            if name.startswith(prefix) and name[len(prefix):] in pins.split():
-                return chr(65 + i), kind, name[len(prefix):]
-    return None
+    wire = tile.wires.get(name)
+    return (wire.bel.letter, wire.bel.kind, wire.pin) if wire and wire.bel else None
 
 
 def described(fabric, wire):
     """What a wire of the fabric is, in some words."""
     node = parted(wire)
-    tile = fabric.at(f"X{node[0]}Y{node[1]}")[0] if fabric and node else None
-    if tile is None or node[2] not in tile.inputs and node[2] not in tile.outputs:
+    tile = fabric.at(node[0], node[1]) if fabric and node else None
+    if tile is None or node[2] not in tile.wires:
         return None
     pin = pin_of(tile, node[2])
-    side = "an output" if node[2] in tile.outputs else "an input"
+    side = "an output" if tile.wires[node[2]].is_output else "an input"
     if pin:
         return f"{wire}: pin {pin[2]} of the {pin[1]} {pin[0]} in tile {tile.name}, {side} of its switch matrix"
     return f"{wire}: a wire of tile {tile.name}, {side} of its switch matrix"
 
 
 class Network:
-    """Joins and switches of a fabric."""
+    """Joins and switches of a fabric. A wire is its column, its row and its name."""
 
     def __init__(self, fabric):
-        self.fabric = fabric
-        self.tiles = {(x, y): tile for x, y, tile in fabric.places()}
-        self.pairs, self.fans = {}, {}
-        self.leaving = {name: leaving(tile) for name, tile in fabric.tiles.items()}
-        self.arriving = {name: arriving(tile) for name, tile in fabric.tiles.items()}
+        self.fabric, self.pairs, self.fans = fabric, {}, {}
+
+    def has(self, node):
+        """Whether the fabric has a wire."""
+        tile = self.fabric.at(node[0], node[1])
+        return tile is not None and node[2] in tile.wires
 
     def inputs_of(self, tile, output):
+        """The inputs that an output of the switch matrix may take."""
         if tile.name not in self.pairs:
-            self.pairs[tile.name] = tile.pairs()
+            self.pairs[tile.name] = pairs_of(tile)
         return self.pairs[tile.name].get(output, [])
 
     def outputs_of(self, tile, name):
@@ -107,35 +106,21 @@ class Network:
 
     def joined(self, x, y, name):
         """The destination bit to which a source bit is joined, or None."""
-        leaves = self.leaving[self.tiles[x, y].name].get(name)
-        if leaves is None:
-            return None
-        direction, place, bit, border = leaves
-        if direction == "JUMP":
-            return x, y, bit
-        dx, dy = STEPS[direction]
-        while True:
-            x, y = x + dx, y + dy
-            tile = self.tiles.get((x, y))
-            rows = self.arriving[tile.name][direction] if tile else ()
-            if place >= len(rows) or rows[place][0].border != border:
-                return None
-            row, place = rows[place]
-            if place is None or bit < row.count:
-                return (x, y, row.destinations[bit]) if bit < len(row.destinations) else None
-            bit -= row.count
+        wire = self.fabric.at(x, y).wires[name]
+        return self.fabric.end_of(x, y, wire.row, wire.bit) if wire.row and wire.is_output else None
 
     def next(self, node):
+        """The wires to which a wire leads."""
         x, y, name = node
-        tile = self.tiles[x, y]
-        if name in tile.outputs:
+        tile = self.fabric.at(x, y)
+        if tile.wires[name].is_output:
             other = self.joined(x, y, name)
             return [other] if other else []
-        return [(x, y, output) for output in self.outputs_of(tile, name)]
+        return [(x, y, output) for output in self.outputs_of(tile, name) if output in tile.wires]
 
     def reached(self, nodes):
         """All wires that can be reached from some of these, by joins and switches."""
-        found = {node for node in nodes if (node[0], node[1]) in self.tiles}
+        found = {node for node in nodes if self.has(node)}
         todo = collections.deque(found)
         while todo and len(found) < MOST_WIRES:
             for other in self.next(todo.popleft()):
@@ -146,33 +131,5 @@ class Network:
 
     def constants(self, name):
         """The wires that are constant: those of `GND` or `VCC`."""
-        return [(x, y, wire) for (x, y), tile in self.tiles.items() for row in tile.rows
-                if row.direction == "JUMP" and not row.sources and row.destination == name for wire in row.destinations]
-
-
-def leaving(tile):
-    """For each source bit of a tile its direction, the number of its row among those that leave so, its bit at the border, and
-    how many bits the row has there. For a jump the third is the destination."""
-    found, count = {}, collections.Counter()
-    for row in tile.rows:
-        if not row.sources:
-            continue
-        first = (row.span - 1) * row.count if row.destinations else 0
-        for i, name in enumerate(row.sources):
-            bit = first + i
-            if row.direction == "JUMP":
-                bit = row.destinations[i] if i < len(row.destinations) else ""
-            found[name] = (row.direction, count[row.direction], bit, row.border)
-        count[row.direction] += 1
-    return found
-
-
-def arriving(tile):
-    """For each direction the rows that arrive so, each with its number among those that leave, or None where it ends here."""
-    found, count = collections.defaultdict(list), collections.Counter()
-    for row in tile.rows:
-        if row.destinations:
-            found[row.direction].append((row, count[row.direction] if row.sources else None))
-        if row.sources:
-            count[row.direction] += 1
-    return found
+        return [(x, y, wire.name) for x, y, tile in self.fabric.places() for wire in tile.wires.values()
+                if wire.row and wire.row.direction == "JUMP" and wire.row.source is None and wire.row.destination == name]

@@ -8,7 +8,8 @@ from explain_text import listed, near_words, plural, shown
 # What a word of a form names. The others are outputs, numbers, or a file by the name of its option.
 ROLES = {"LIST": "switch list", "FABRIC": "fabric", "BLIF": "netlist", "IMPL": "implementation", "FASM": "FASM",
          "BIT": "bitstream", "VERILOG": "Verilog", "STATE": "state", "STIM": "stimulus"}
-BOUNDS = {"--seed": (0, 2 ** 64 - 1), "--rounds": (1, 64), "--order": (0, 2 ** 64 - 1), "N": (2, 16), "SEED": (0, 2 ** 64 - 1)}
+BOUNDS = {"--seed": (0, 2 ** 64 - 1), "--rounds": (1, 64), "--order": (0, 2 ** 64 - 1), "N": (2, 16), "SEED": (0, 2 ** 64 - 1),
+          "FIRST": (0, 31), "LAST": (0, 31)}
 
 
 def read_forms(path=None):
@@ -111,3 +112,6 @@ def number_faults(call):
         least, most = BOUNDS[name]
         if not re.fullmatch(r"[0-9]{1,20}", value) or not least <= int(value) <= most:
             yield f"{name} is a number from {least} to {most}, and {shown(value)} is none"
+    first, last = call.word("FIRST") or "", call.word("LAST") or ""
+    if first.isdigit() and last.isdigit() and int(first) > int(last):
+        yield f"FIRST is not above LAST, and {first} is above {last}"

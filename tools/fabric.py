@@ -25,6 +25,13 @@ Wire = collections.namedtuple("Wire", "name is_output row bit bel pin")
 Place = collections.namedtuple("Place", "x y wire")
 
 
+class WireClass(collections.namedtuple("WireClass", "is_jump way span")):
+    """A class of wires, for figures of what is there and what is in use. Jumps are one class."""
+
+    def __str__(self):
+        return "jumps" if self.is_jump else f"{self.way}, span {self.span}"
+
+
 class Row:
     """A row of wires, `DIR,SOURCE,DX,DY,DEST,COUNT`. A missing end, written NULL, is None."""
 
@@ -42,6 +49,13 @@ class Row:
     def border_bits(self):
         """How many wires cross each border between two tiles."""
         return self.count * self.span
+
+    @property
+    def wire_class(self):
+        """The class of the row's wires."""
+        if self.direction == "JUMP":
+            return WireClass(True, "within tiles", 0)
+        return WireClass(False, "across" if self.direction in ("EAST", "WEST") else "up and down", self.span)
 
     def wires(self):
         """The wires of the row, its sources before its destinations."""
@@ -68,16 +82,29 @@ class Tile:
     def __init__(self, name, path="", line=0):
         self.name, self.path, self.line = name, path, line
         self.rows, self.bels, self.pairs, self.matrix = [], [], [], None
-        self.wires = {}
+        # the wires by their names, and the rows of wires by direction and by an end that they have
+        self.wires, self.rows_by_end = {}, collections.defaultdict(list)
 
     def add(self, part):
         """Adds a row of wires or a BEL."""
         (self.rows if isinstance(part, Row) else self.bels).append(part)
         self.wires.update((wire.name, wire) for wire in part.wires())
+        if isinstance(part, Row):
+            for end in ("source", "destination"):
+                if getattr(part, end) is not None:
+                    self.rows_by_end[part.direction, end].append(part)
 
     def rows_of(self, direction, end):
         """The rows of a direction that have the end `source` or `destination`, in their order."""
-        return [row for row in self.rows if row.direction == direction and getattr(row, end) is not None]
+        return self.rows_by_end.get((direction, end), [])
+
+    def names(self, is_output):
+        """The names of the outputs or of the inputs of the switch matrix."""
+        return [name for name, wire in self.wires.items() if wire.is_output == is_output]
+
+    def sites(self, kind):
+        """How many sites of a kind of BEL there are."""
+        return sum(bel.kind == kind for bel in self.bels)
 
     def inputs_of(self):
         """The inputs of each matrix output that has a pair, in the order of the pairs."""
@@ -129,7 +156,16 @@ class Fabric:
 
     def sites(self, kind):
         """How many sites of a kind of BEL there are."""
-        return sum(bel.kind == kind for _, _, tile in self.places() for bel in tile.bels)
+        return sum(tile.sites(kind) for _, _, tile in self.places())
+
+    def wires_by_class(self):
+        """How many wires begin, by their classes, in the order of these."""
+        counts = collections.Counter()
+        for _, _, tile in self.places():
+            for row in tile.rows:
+                if row.source is not None:
+                    counts[row.wire_class] += row.bits
+        return dict(sorted(counts.items()))
 
     def wire(self, word):
         """The wire that a word as X1Y2/NAME names, or None."""

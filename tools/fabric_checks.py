@@ -45,6 +45,9 @@ class TileCheck:
             elif bel.kind == "IO":
                 self._pad(bel)
             spare += self._pins(bel)
+        without = [bel.prefix + "SR" for bel in self.tile.bels if bel.kind == "LUT4c" and self._is_never_reset(bel)]
+        if without:
+            self._tell("note", self.tile, f"no wire reaches {listed(without)}: no design with a reset port can use these flip-flops")
         if spare:
             pins = counted(len(spare), "pin")
             self._tell("note", self.tile, f"no pair has {pins} that netlists of fab do not need: {listed(spare)}")
@@ -86,6 +89,11 @@ class TileCheck:
                 self._tell("warning", bel, f"no VCC reaches {name} within the tile; its 1 has to come by a wire from another tile")
             else:
                 self._tell("warning", bel, f"no {constant} and no wire reaches {name}: no cell with a flip-flop can stand here")
+
+    def _is_never_reset(self, bel):
+        """Whether SR can be 0 alone. Where nothing reaches it, a warning says so."""
+        drivers = self.drivers(bel.prefix + "SR")
+        return bool(drivers.zeros) and not drivers.wires
 
     def _pad(self, bel):
         """An unused pad takes the first input of T, and 1 there drives. An output needs 1, and an input 0."""
@@ -199,13 +207,11 @@ def choices_of(tile, kind, pins):
     return (min(counts), sum(counts) / len(counts)) if counts else None
 
 
-def wires_by_class(fabric):
-    """By direction and span, how many wires begin, and how many of them end nowhere."""
-    totals, ways = collections.defaultdict(lambda: [0, 0]), {"JUMP": "jump", "EAST": "across", "WEST": "across"}
+def wires_to_nowhere(fabric):
+    """How many wires end nowhere, by their classes."""
+    counts = collections.Counter()
     for x, y, tile in fabric.places():
         for row in tile.rows:
             if row.source is not None:
-                key = (ways.get(row.direction, "up and down"), row.span)
-                totals[key][0] += row.bits
-                totals[key][1] += sum(fabric.end_of(x, y, row, bit) is None for bit in range(row.bits))
-    return dict(sorted(totals.items(), key=lambda item: (item[0][0] == "jump", item[0])))
+                counts[row.wire_class] += sum(fabric.end_of(x, y, row, bit) is None for bit in range(row.bits))
+    return counts

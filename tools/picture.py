@@ -46,31 +46,19 @@ class Usage:
     """What a design uses of its fabric: wires of nets, and matrix outputs of places."""
 
     def __init__(self, fabric, trees):
-        self.used, self.taken, self.total = collections.Counter(), collections.Counter(), collections.Counter()
+        self.used, self.taken, self.total = collections.Counter(), collections.Counter(), fabric.wires_by_class()
         for wire in {edge[1] for edges in trees.values() for edge in edges}:
             self.used[wire.x, wire.y] += wire.wire.is_output
         self.outputs = {(x, y): tile.outputs() for x, y, tile in fabric.places()}
         shares = [self.share(place) for place in self.used]
         self.hottest = max(shares + [0.01])
-        for _, _, tile in fabric.places():
-            for row in tile.rows:
-                if row.source is not None:
-                    self.total[wire_class(row)] += row.bits
         for end in {end for edges in trees.values() for edge in edges for end in edge}:
             if end.wire.row and end.wire.is_output:
-                self.taken[wire_class(end.wire.row)] += 1
+                self.taken[end.wire.row.wire_class] += 1
 
     def share(self, place):
         """The share of the matrix outputs of a place that an edge enters."""
         return self.used[place] / max(self.outputs[place], 1)
-
-
-def wire_class(row):
-    """The class of a row of wires, which sorts as it is listed: order, name."""
-    across = row.direction in ("EAST", "WEST")
-    if row.direction == "JUMP":
-        return 2, 0, "jumps"
-    return (0 if across else 1), row.span, f"{'across' if across else 'up and down'}, span {row.span}"
 
 
 class Picture:
@@ -86,9 +74,19 @@ class Picture:
         counts = give_lanes([shape for net, shape in self.shapes.items() if net not in CONSTANTS])
         give_lanes([shape for net, shape in self.shapes.items() if net in CONSTANTS])
         self.sheet = Sheet(fabric, counts)
+        self.sums = self._sums()
         self.usage = Usage(fabric, self.trees)
         self.shared = design.shared_wires()
         self.thin = max(0.7, min(1.9, min(self.sheet.pitch.values()) * 0.62))
+
+    def _sums(self):
+        """The sites on the longest path, as (x, y, BEL), each with the first stop there: its sum and its wire."""
+        sums = {}
+        for total, word in self.timing.stops if self.timing else ():
+            stop = self.fabric.wire(word)
+            if stop.wire.bel and stop.wire.bel.kind != "MUX8LUT":
+                sums.setdefault((stop.x, stop.y, stop.wire.bel), (total, word))
+        return sums
 
     def text(self):
         """The whole text."""
@@ -190,6 +188,8 @@ class Picture:
         # a long name is written smaller, and cut where even that does not help
         size = min(12, height * 0.66, max(9.0, (width - 12) / (0.56 * max(len(shown), 1))))
         room = int((width - 12) / (size * 0.56) + 0.01)
+        if (x, y, bel) in self.sums:
+            told += "; longest path: {} units up to {}".format(*self.sums[x, y, bel])
         self.out.append(f"<g{data}><title>{html.escape(told)}</title>")
         self._rect(left + 1, top + 1, width - 5, height - 2, fill, ' rx="2.5" stroke="#7a7a74" stroke-width=".6"')
         if shown:
@@ -243,36 +243,35 @@ class Picture:
     def _path(self):
         """The stops of a timing text along the lanes of their nets, and at each cell on the way the sum up to it."""
         net_of = {end: self.shapes[net] for net, edges in self.trees.items() for edge in edges for end in edge}
-        points, sums, before = [], {}, None
-        for total, word in self.timing.stops:
+        points, before = [], None
+        for _, word in self.timing.stops:
             stop = self.fabric.wire(word)
-            shape = net_of.get(stop)
-            if shape is None:
-                continue
+            shape = net_of[stop]
             if stop.wire.bel and stop.wire.bel.kind != "MUX8LUT":
                 level = self.sheet.pin(stop.x, stop.y, stop.wire)
                 leg = [(self.sheet.crossing(shape, stop.x, stop.y)[0], level[1]), level]
                 points += leg if stop.wire.is_output else leg[::-1]
-                sums.setdefault((stop.x, stop.y, stop.wire.bel), total)
             elif before and before.y == stop.y and before.x != stop.x:
                 points += [self.sheet.crossing(shape, end.x, end.y) for end in (before, stop)]
             before = stop
         if points:
-            self._path_line(points, sums)
+            self._path_line(points)
 
-    def _path_line(self, points, sums):
+    def _path_line(self, points):
         wide = 2.6 * min(2, self.sheet.scale)
         path = "M" + "L".join(f"{number(a)} {number(b)}" for a, b in points)
         self.out.append('<g id="path" stroke-linejoin="round" stroke-linecap="round" pointer-events="none">')
         for colour, width in (("#fff", 2.2 * wide), (PATH, wide)):
             self.out.append(f'<path d="{path}" fill="none" stroke="{colour}" stroke-width="{number(width)}"/>')
-        for (x, y, bel), total in sums.items():
+        for (x, y, bel), (total, _) in self.sums.items():
             left, top, width, height = self.sheet.slot(x, y, bel)
             size = min(10, height * 0.62)
-            room = 5 + size * 0.6 * len(total)
+            room = 5 + size * 0.6 * len(str(total))
+            self.out.append(f'<g data-sum="X{x}Y{y}.{bel.letter} {total}">')
             self._rect(left + 1, top + 1, width - 5, height - 2, "none", f' rx="2.5" stroke="{PATH}" stroke-width="1.6"')
             self._rect(left + width - 4 - room, top + 1, room, height - 2, PATH, ' rx="2"')
-            self._write(left + width - 4 - room / 2, top + height / 2 + size * 0.36, total, size, "#fff", "middle")
+            self._write(left + width - 4 - room / 2, top + height / 2 + size * 0.36, str(total), size, "#fff", "middle")
+            self.out.append("</g>")
         for (x, y), fill, edge in ((points[0], "#fff", PATH), (points[-1], PATH, "#fff")):
             self.out.append(f'<circle cx="{number(x)}" cy="{number(y)}" r="{number(1.5 * wide)}" fill="{fill}" stroke="{edge}" '
                             f'stroke-width="{number(0.7 * wide)}"/>')
@@ -297,7 +296,7 @@ class Picture:
             self._write(x + 28 * scale, y + scale, words, 12 * scale)
             x += (48 + 6.2 * len(words)) * scale
         self._scale_of_heat(sheet.left, y + 30 * scale)
-        used = [f"{key[2]}: {self.usage.taken[key]} of {self.usage.total[key]}" for key in sorted(self.usage.total)]
+        used = [f"{kind}: {self.usage.taken[kind]} of {count}" for kind, count in self.usage.total.items()]
         self._write(sheet.left, y + 74 * scale, "wires in use    " + "    ·    ".join(used), 12 * scale, "#555")
         self.out.append("</g>")
 

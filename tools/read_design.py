@@ -149,14 +149,15 @@ class Implementation:
     """An implementation, or a report of `fab` with status 8 or 9, in which one follows the first line.
 
     `cells` and `ports` have the words of their sites, by `c5` and by (direction, port); `nets` the edges of each net, by
-    `zero`, `one`, `in PORT` or `cell c5`. `report` is the first line of a report, or empty."""
+    `zero`, `one`, `in PORT` or `cell c5`. `reset` is the port that resets all flip-flops, or None. `report` is the first line of a
+    report, or empty."""
 
     def __init__(self, path):
-        self.path, self.cells, self.ports, self.nets, self.report = path, {}, {}, {}, ""
+        self.path, self.cells, self.ports, self.nets, self.reset, self.report = path, {}, {}, {}, None, ""
         lines = words_of_lines(path)
         begins = [at for at, (_, words) in enumerate(lines) if words[0] == "fabulous-impl"]
         if not begins or begins[0] > 1:
-            sys.exit(f"{path}: no implementation (its first line is `fabulous-impl 1`)")
+            sys.exit(f"{path}: no implementation (its first line is `fabulous-impl 1` or `fabulous-impl 2`)")
         if begins[0]:
             self.report = " ".join(lines[0][1])
         edges = None
@@ -165,6 +166,8 @@ class Implementation:
                 self.cells[words[1]] = words[2]
             elif words[0] == "pad" and len(words) == 4:
                 self.ports[words[1], words[2]] = words[3]
+            elif words[0] == "reset" and len(words) == 2:
+                self.reset = words[1]
             elif words[0] == "net" and len(words) in (2, 3):
                 edges = self.nets.setdefault(" ".join(words[1:]), [])
             elif words[0] == "edge" and len(words) == 3 and edges is not None:
@@ -233,10 +236,10 @@ class Timing:
             sys.exit(f"{path}: no timing text (its first line is `fabulous-timing 1`)")
         self.path, self.delay, self.stops = path, None, []
         for line, words in lines[1:]:
-            if words[0] == "delay" and len(words) == 2:
-                self.delay = words[1]
-            elif words[0] == "at" and len(words) == 3:
-                self.stops.append((words[1], words[2]))
+            if words[0] == "delay" and len(words) == 2 and words[1].isdigit():
+                self.delay = int(words[1])
+            elif words[0] == "at" and len(words) == 3 and words[1].isdigit():
+                self.stops.append((int(words[1]), words[2]))
             elif words != ["end"]:
                 sys.exit(f"{path}:{line}: no line of a timing text: {' '.join(words)}")
 

@@ -42,10 +42,12 @@ class Block:
 
 
 class FabricReader:
-    """Takes the rows of a fabric's files one after the other."""
+    """Takes the rows of a fabric's files one after the other. reads_matrices: whether the files of switch matrices and of
+    configuration bits are read too. `files` has what each file is, with the file and the line that name it."""
 
-    def __init__(self, path):
+    def __init__(self, path, reads_matrices=True):
         self.fabric, self.faults, self.block = Fabric(path), Faults(), None
+        self.reads_matrices, self.files = reads_matrices, {}
         # what stands once, where the cells of the grid stand, and the rows that are passed over behind an unsupported one
         self.seen, self.cells, self.skipping = set(), {}, None
         # the tiles whose block began
@@ -69,6 +71,7 @@ class FabricReader:
 
     def _file(self, path, named_at, depth, is_fabric):
         """Reads a file of rows, and answers the number of its last line."""
+        self.files.setdefault(path, ("fabric", named_at))
         table = read_table(path, self.faults, named_at)
         if not table:
             return None
@@ -181,6 +184,8 @@ class FabricReader:
         if names > MAX_NAMES:
             self.faults.limit(path, line, "matrix names", min(names, (1 << 64) - 1), MAX_NAMES)
             return
+        if not self.reads_matrices:
+            return
         is_clean = not block.faulty
         if block.matrix:
             is_clean = self._matrix(tile, block, depth) and is_clean
@@ -201,7 +206,6 @@ class FabricReader:
         line, named, path = block.matrix
         where = (path, line)
         file = MatrixTable(named, self.faults, where) if named.endswith(".csv") else SwitchList(named, self.faults, where, depth)
-        tile.matrix = named
         tile.pairs = list(dict.fromkeys(file.close(tile, block.forgives)))
         return not len(file.faults)
 
@@ -309,7 +313,9 @@ class FabricReader:
         elif not cells[1].endswith((".list", ".csv")):
             self.faults.add(path, line, "unsupported", "matrix file", "a matrix is a switch list (.list) or a table (.csv)")
         else:
-            self.block.matrix = (line, resolved(cells[1], path), path)
+            named = resolved(cells[1], path)
+            self.block.matrix, self.block.tile.matrix = (line, named, path), named
+            self.files.setdefault(named, ("matrix table" if named.endswith(".csv") else "switch list", (path, line)))
 
 
 def wire_row(cells, path, line):

@@ -134,6 +134,9 @@ def implementations():
         ("GND0 X0Y0/A_T", "GND0 X0Y0/A_TT", "malformed inv.impl:6 wire", "tile IO at X0Y0 has no wire or pin A_TT; near: A_T"),
         ("net in a", "net in b", "malformed inv.impl:9 port", "no line pad in b stands before"),
         ("end\n", "", "malformed inv.impl:16 end of file", "The last line has to be end"),
+        ("impl 1\n", "impl 2\n", "malformed inv.impl:2 row", "a line reset PORT is the second of version 2"),
+        ("impl 1\n", "impl 1\nreset a\n", "malformed inv.impl:2 row", "a line reset PORT is the second of version 2"),
+        ("impl 1\n", "impl 3\n", "malformed inv.impl:1 number", "3 is none"),
         ("cell c0 X1Y0.A\n", "", "illegal 1 c0", "c0: the table that drives net z (inv.blif:4)"),
         ("z X0Y0.B", "z X0Y0.A", "illegal 2 X0Y0.A", "inv.impl:3 | pad in a X0Y0.A"),
         ("pad out z X0Y0.B\n", "", "illegal 3 z", "z is an output of the netlist"),
@@ -204,6 +207,8 @@ def words():
         ("flow duo.csv inv.blif", "usage", "missing: BASE"),
         ("flow duo.csv inv.blif o --seeds 2", "usage", "near: --seed"),
         ("map duo.csv inv.blif o --rounds 0", "usage", "--rounds is a number from 1 to 64"),
+        ("flow duo.csv inv.blif o --reset b", "illegal 12 b", "a reset port is one of the inputs: a"),
+        ("flow duo.csv inv.blif o --reset z", "illegal 12 z", "z is an output of the netlist"),
         ("flwo duo.csv inv.blif o", "usage", "there is no command flwo; near: flow"),
         ("assemble duo.csv inv.blif inv.impl o", "", "sites in use: 1 of 1 LUT4c (100 %), 2 of 2 IO (100 %)"),
     ):

@@ -57,6 +57,14 @@ def counted(count, noun):
     return f"{count} {noun}" + ("" if count == 1 else "s")
 
 
+def aligned(rows):
+    """Rows of cells as lines, each cell as wide as the widest of its column; the first column begins at the left."""
+    widths = [max(len(row[at]) for row in rows) for at in range(len(rows[0]))]
+    for row in rows:
+        cells = [cell.ljust(width) if at == 0 else cell.rjust(width) for at, (cell, width) in enumerate(zip(row, widths))]
+        yield "  " + "  ".join(cells).rstrip()
+
+
 def lines_of(path):
     """The lines of a text, without their ends (LF or CRLF). Bytes that are no UTF-8 stay as surrogates."""
     with open(path, encoding="utf-8", errors="surrogateescape", newline="") as file:

@@ -214,6 +214,9 @@ judge_grammar() {
       if [ -z "${word#*=}" ]; then
         refuse_words "nothing stands behind '$word'"
       fi
+      if [[ $word == --reset=-* ]]; then
+        refuse_words "a port does not begin with a dash, as '${word#*=}' does"
+      fi
       take_option "${word%%=*}" "${word#*=}"
     elif [[ $word == -* ]]; then
       judge_option "$word"
@@ -247,6 +250,13 @@ judge_stem() {
   stem=${stem%.*}
   if [[ ! $stem =~ ^[A-Za-z_][A-Za-z0-9_]*$ ]]; then
     refuse_words "the module is named by the file of LIST, and '$stem' is no name: letters, digits and _, with no digit in front"
+  fi
+}
+
+# judge_columns: `partial` takes the columns from FIRST to LAST
+judge_columns() {
+  if [ $((10#${value[FIRST]})) -gt $((10#${value[LAST]})) ]; then
+    refuse_words "FIRST is not above LAST, and ${value[FIRST]} is above ${value[LAST]}"
   fi
 }
 
@@ -344,6 +354,8 @@ judge_words() {
   judge_grammar "${@:2}"
   if [ "$command" = matrix ]; then
     judge_stem
+  elif [ "$command" = partial ]; then
+    judge_columns
   fi
   judge_files
 }
