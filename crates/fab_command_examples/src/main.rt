@@ -24,6 +24,7 @@ fn main(rt: HostRuntime) -> Result<(), Stop> {
         "search.cases",
         "reset.cases",
         "bits.cases",
+        "partial.cases",
         "faults.cases",
         "cuts.cases",
         "refused.cases",

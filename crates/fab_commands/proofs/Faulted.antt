@@ -12,6 +12,7 @@ use Rattle.fab_sampling.specs.fab_flow_Assembling.{assembly_files}
 use Rattle.fab_sampling.specs.fab_flow_BitFeatures.{features_files}
 use Rattle.fab_sampling.specs.fab_flow_Bits.{bits_files}
 use Rattle.fab_sampling.specs.fab_flow_Flowing.{flow_files, FailsToFlow}
+use Rattle.fab_sampling.specs.fab_flow_Partial.{partial_files}
 use Rattle.fab_sampling.specs.fab_flow_Mapping.{mapping_files, FailsToMap}
 use Rattle.fab_sampling.proofs.fab_flow_AssembledOnce as assembling
 use Rattle.fab_sampling.proofs.fab_flow_BitFeaturesOnce as features
@@ -19,6 +20,7 @@ use Rattle.fab_sampling.proofs.fab_flow_BitsOnce as bits
 use Rattle.fab_sampling.proofs.fab_flow_FlowedOnce.{one_flow_number, flow_not_both}
 use Rattle.fab_sampling.proofs.fab_flow_MappedOnce as mapping
 use Rattle.fab_sampling.proofs.fab_flow_Once as generating
+use Rattle.fab_sampling.proofs.fab_flow_PartialOnce as exchanging
 use Rattle.fab_sampling.specs.fab_simulate_command_Simulating.{simulation_files}
 use Rattle.fab_sampling.proofs.fab_simulate_command_Behind.{ready_of}
 use Rattle.fab_sampling.proofs.fab_simulate_command_SimulatedOnce as simulating
@@ -26,7 +28,7 @@ use Rattle.fab_designs.specs.Designs.{design_files}
 use Rattle.fab_list_files.proofs.Once.{one_refusal, not_both}
 use Rattle.fab_words.specs.Arguments.{IsUsage}
 use Rattle.fab_words.specs.declared.job.Job.{Job}
-use Rattle.fab_words.specs.declared.job.Job.TheVariants.{Matrix, Generate, Assemble, Map as Mapping, Flow, Bits, Features, Simulate, Sample}
+use Rattle.fab_words.specs.declared.job.Job.TheVariants.{Matrix, Generate, Assemble, Map as Mapping, Flow, Bits, Features, Simulate, Partial, Sample}
 use Rattle.fab_commands.specs.Running.{Makes, Meets, IsReady, refusals, failures, HasJobCause, JobHasCause}
 
 -- ---- each command has one first refusal, or is ready
@@ -42,6 +44,8 @@ refused_once (Bits fabric fasm out) files a b x y = ap number_of (bits.one_refus
 refused_once (Features fabric bit out) files a b x y = ap number_of (features.one_refusal files (features_files fabric bit out) a b x y)
 refused_once (Simulate verilog bit state stimulus order trace) files a b x y =
     ap number_of (simulating.one_refusal files (simulation_files verilog bit state stimulus trace) a b x y)
+refused_once (Partial fabric implementation fasm first last out) files a b x y =
+    ap number_of (exchanging.one_refusal files (partial_files fabric implementation fasm first last out) a b x y)
 refused_once (Sample size seed) files a b x y = absurd x
 
 pub not_refused : (job : Job) (files : Map) (fault : Fault) → IsReady job files → Meets job files (refuses fault) → ⊥
@@ -56,6 +60,8 @@ not_refused (Bits fabric fasm out) files fault ready x = bits.not_both files (bi
 not_refused (Features fabric bit out) files fault ready x = features.not_both files (features_files fabric bit out) fault ready x
 not_refused (Simulate verilog bit state stimulus order trace) files fault ready x =
     simulating.not_both files (simulation_files verilog bit state stimulus trace) fault ready x
+not_refused (Partial fabric implementation fasm first last out) files fault ready x =
+    exchanging.not_both files (partial_files fabric implementation fasm first last out) fault ready x
 not_refused (Sample size seed) files fault ready x = x
 
 -- what is done was ready
@@ -84,6 +90,19 @@ done_ready (Features fabric bit out) files told after is done =
     let made = done.made files is in record { fabric = made.fabric; bits = made.bits; spelled = made.spelled; read = made.read }
 done_ready (Simulate verilog bit state stimulus order trace) files told after is done =
     ready_of files (simulation_files verilog bit state stimulus trace) order done.outputs (done.made files is)
+done_ready (Partial fabric implementation fasm first last out) files told after is done =
+    let made = done.made files is in
+    record {
+      fabric = made.fabric;
+      implementation = made.implementation;
+      features = made.features;
+      spelled = made.spelled;
+      implemented = made.implemented;
+      read = made.read;
+      within = made.within;
+      unused = made.unused;
+      right = made.right;
+    }
 done_ready (Sample size seed) files told after is done = tt
 
 -- ---- the fault behind an end
@@ -164,6 +183,8 @@ kind told reads writes (Bits fabric fasm out) fault cause = kind_of told reads w
 kind told reads writes (Features fabric bit out) fault cause = kind_of told reads writes (Features fabric bit out) fault cause
 kind told reads writes (Simulate verilog bit state stimulus order trace) fault cause =
     kind_of told reads writes (Simulate verilog bit state stimulus order trace) fault cause
+kind told reads writes (Partial fabric implementation fasm first last out) fault cause =
+    kind_of told reads writes (Partial fabric implementation fasm first last out) fault cause
 kind told reads writes (Sample size seed) fault cause = sample_kind told reads writes size seed fault cause
 
 -- memory may be refused at any time, also while the words are read
@@ -177,6 +198,7 @@ memory_causes (Some (Flow fabric blif pcf seed rounds reset base)) told reads cu
 memory_causes (Some (Bits fabric fasm out)) told reads cut = tt
 memory_causes (Some (Features fabric bit out)) told reads cut = tt
 memory_causes (Some (Simulate verilog bit state stimulus order trace)) told reads cut = tt
+memory_causes (Some (Partial fabric implementation fasm first last out)) told reads cut = tt
 memory_causes (Some (Sample size seed)) told reads cut = inl refl
 
 pub words_cause : (job : Option Job) (told : Option Map) (reads cut : Type 0) (fault : Fault) → IsUsage (job ≡ None) fault

@@ -17,11 +17,12 @@ use Rattle.fab_sampling.specs.fab_flow_Generating.{MakesFabric, MeetsGenerate, I
 use Rattle.fab_sampling.specs.fab_flow_Flowing.{flow_files, MakesFlow, MeetsFlow, IsReadyToFlow, HasFlowCause, flow_refusals}
 use Rattle.fab_sampling.specs.fab_flow_Mapping.{mapping_files, MakesMapping, MeetsMapping, IsReadyToMap, HasMappingCause, map_refusals}
 use Rattle.fab_sampling.specs.fab_flow_Matrix.{MakesMatrix, IsReadyForMatrix, HasMatrixCause, matrix_refusals}
+use Rattle.fab_sampling.specs.fab_flow_Partial.{partial_files, MakesPartial, MeetsPartial, IsReadyToExchange, HasPartialCause, partial_refusals}
 use Rattle.fab_sampling.specs.fab_simulate_command_Simulating.{simulation_files, MakesTrace, MeetsSimulation, IsReadyToSimulate, HasSimulateCause, simulate_refusals}
 use Rattle.fab_sampling.specs.Sampling.{IsSummary}
 use Rattle.fab_list_files.specs.Sides.{MeetsPairs}
 use Rattle.fab_words.specs.declared.job.Job.{Job}
-use Rattle.fab_words.specs.declared.job.Job.TheVariants.{Matrix, Generate, Assemble, Map as Mapping, Flow, Bits, Features, Simulate, Sample}
+use Rattle.fab_words.specs.declared.job.Job.TheVariants.{Matrix, Generate, Assemble, Map as Mapping, Flow, Bits, Features, Simulate, Partial, Sample}
 
 -- ---- the commands
 
@@ -35,6 +36,7 @@ Makes (Flow fabric blif pcf seed rounds reset base) files outputs = MakesFlow fi
 Makes (Bits fabric fasm out) files outputs = MakesBits files (bits_files fabric fasm out) outputs
 Makes (Features fabric bit out) files outputs = MakesFeatures files (features_files fabric bit out) outputs
 Makes (Simulate verilog bit state stimulus order trace) files outputs = MakesTrace files (simulation_files verilog bit state stimulus trace) order outputs
+Makes (Partial fabric implementation fasm first last out) files outputs = MakesPartial files (partial_files fabric implementation fasm first last out) outputs
 Makes (Sample size seed) files outputs = outputs ≡ []
 
 -- what it comes upon before anything is refused: files that it asks for, and its first refusal; a sample asks for none
@@ -47,6 +49,7 @@ Meets (Flow fabric blif pcf seed rounds reset base) files event = MeetsFlow file
 Meets (Bits fabric fasm out) files event = MeetsBits files (bits_files fabric fasm out) event
 Meets (Features fabric bit out) files event = MeetsBitFeatures files (features_files fabric bit out) event
 Meets (Simulate verilog bit state stimulus order trace) files event = MeetsSimulation files (simulation_files verilog bit state stimulus trace) event
+Meets (Partial fabric implementation fasm first last out) files event = MeetsPartial files (partial_files fabric implementation fasm first last out) event
 Meets (Sample size seed) files event = ⊥
 
 -- nothing is refused; nothing of a sample ever is
@@ -59,6 +62,7 @@ IsReady (Flow fabric blif pcf seed rounds reset base) files = IsReadyToFlow file
 IsReady (Bits fabric fasm out) files = IsReadyForBits files (bits_files fabric fasm out)
 IsReady (Features fabric bit out) files = IsReadyForFeatures files (features_files fabric bit out)
 IsReady (Simulate verilog bit state stimulus order trace) files = IsReadyToSimulate files (simulation_files verilog bit state stimulus trace)
+IsReady (Partial fabric implementation fasm first last out) files = IsReadyToExchange files (partial_files fabric implementation fasm first last out)
 IsReady (Sample size seed) files = Unit {0}
 
 -- the numbers of the faults for which it refuses
@@ -71,6 +75,7 @@ refusals (Flow fabric blif pcf seed rounds reset base) = flow_refusals
 refusals (Bits fabric fasm out) = bits_refusals
 refusals (Features fabric bit out) = features_refusals
 refusals (Simulate verilog bit state stimulus order trace) = simulate_refusals
+refusals (Partial fabric implementation fasm first last out) = partial_refusals
 refusals (Sample size seed) = []
 
 -- The numbers of the faults with which it may end though nothing is refused: a command that places and routes may find no path, or leave a wire shared.
@@ -83,6 +88,7 @@ failures (Flow fabric blif pcf seed rounds reset base) = 8 ∷ 9 ∷ []
 failures (Bits fabric fasm out) = []
 failures (Features fabric bit out) = []
 failures (Simulate verilog bit state stimulus order trace) = []
+failures (Partial fabric implementation fasm first last out) = []
 failures (Sample size seed) = []
 
 -- Why it ends with a fault. Of a sample memory is refused, or its summary is not put whole, which is told as the fault of a file whose name is a dash.
@@ -99,6 +105,8 @@ HasJobCause (Bits fabric fasm out) told reads_rose write_failed fault = HasBitsC
 HasJobCause (Features fabric bit out) told reads_rose write_failed fault = HasFeaturesCause told (features_files fabric bit out) reads_rose write_failed fault
 HasJobCause (Simulate verilog bit state stimulus order trace) told reads_rose write_failed fault =
     HasSimulateCause told (simulation_files verilog bit state stimulus trace) reads_rose write_failed fault
+HasJobCause (Partial fabric implementation fasm first last out) told reads_rose write_failed fault =
+    HasPartialCause told (partial_files fabric implementation fasm first last out) reads_rose write_failed fault
 HasJobCause (Sample size seed) told reads_rose write_failed fault =
     (fault ≡ faults.Memory) ⊎ (write_failed × (fault ≡ faults.WriteFault (codes "-")))
 

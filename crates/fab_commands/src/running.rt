@@ -10,8 +10,8 @@ use fab_base::{Fault, Memory, Name, Status};
 use fab_desk::{Desk, Sink, SinkFault};
 use fab_progress::Progress;
 use fab_sampling::{
-    do_assemble, do_bits, do_features, do_flow, do_generate, do_map, do_matrix, do_simulate,
-    summary,
+    do_assemble, do_bits, do_features, do_flow, do_generate, do_map, do_matrix, do_partial,
+    do_simulate, summary,
 };
 use fab_words::{Job, parse};
 use std::alloc::Global;
@@ -96,6 +96,17 @@ fn perform<D: Desk, P: Progress, S: Sink>(
         Job::Features(fabric, bit, out) => do_features(alloc, desk, progress, &fabric, &bit, &out),
         Job::Simulate(verilog, bit, state, stimulus, order, trace) => do_simulate(
             alloc, desk, progress, &verilog, &bit, &state, &stimulus, order, &trace,
+        ),
+        Job::Partial(fabric, implementation, fasm, first, last, out) => do_partial(
+            alloc,
+            desk,
+            progress,
+            &fabric,
+            &implementation,
+            &fasm,
+            first,
+            last,
+            &out,
         ),
         Job::Sample(size, seed) => sum_up(alloc, progress, size, seed, out),
     }

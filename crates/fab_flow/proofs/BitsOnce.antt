@@ -70,10 +70,10 @@ first_once fabric features first second = elim (cases_lt first.place second.plac
   ]
 ]
 
-wrong_once : (fabric : PlainFabric) (features : List Feature) (a b : Fault) → RefusesBits fabric features a → RefusesBits fabric features b → a ≡ b
+pub wrong_once : (fabric : PlainFabric) (features : List Feature) (a b : Fault) → RefusesBits fabric features a → RefusesBits fabric features b → a ≡ b
 wrong_once fabric features a b (illegal first) (illegal second) = first_once fabric features first second
 
-wrong_apart : (fabric : PlainFabric) (features : List Feature) (fault : Fault) → AreRight (IsRightFeature fabric) features → RefusesBits fabric features fault → ⊥
+pub wrong_apart : (fabric : PlainFabric) (features : List Feature) (fault : Fault) → AreRight (IsRightFeature fabric) features → RefusesBits fabric features fault → ⊥
 wrong_apart fabric features fault right (illegal {rule = rule} {item = item} first) = wrong_not_right fabric features rule item first right
 
 -- no line is wrong

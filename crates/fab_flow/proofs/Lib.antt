@@ -13,3 +13,5 @@ pub mod Flowed
 pub mod FlowedOnce
 pub mod BitFeaturesMade
 pub mod BitFeaturesOnce
+pub mod PartialMade
+pub mod PartialOnce

@@ -25,7 +25,11 @@ use fab_read::read_fabric;
 use std::alloc::Global;
 
 /// The features of a FASM file that has to be there.
-fn read_features<D: Desk>(alloc: Global, desk: &mut D, file: &Name) -> Result<Vec<Feature>, Fault>
+pub(crate) fn read_features<D: Desk>(
+    alloc: Global,
+    desk: &mut D,
+    file: &Name,
+) -> Result<Vec<Feature>, Fault>
     ensures told { D.told desk.new ≡ D.told desk.old }
     ensures writes { D.writes desk.new ≡ D.writes desk.old }
     ensures reads { D.reads desk.old ≤ D.reads desk.new }
@@ -37,7 +41,11 @@ fn read_features<D: Desk>(alloc: Global, desk: &mut D, file: &Name) -> Result<Ve
 }
 
 /// The configuration bits that features set, where none of them is wrong.
-fn right_bits(alloc: Global, fabric: &Fabric, features: &[Feature]) -> Result<Bits, Fault>
+pub(crate) fn right_bits(
+    alloc: Global,
+    fabric: &Fabric,
+    features: &[Feature],
+) -> Result<Bits, Fault>
     ensures are { IfOk result (AreBitsOf fabric.now) }
     ensures bits { IfOk result (λ bits. IsBitMapOf fabric.now features.now (plain_bits bits)) }
     ensures right { OnOk result (AreRight (IsRightFeature fabric.now) features.now) }

@@ -8,6 +8,7 @@ mod flowing;
 mod generating;
 mod mapping;
 mod matrix;
+mod partial;
 mod printing;
 mod resetting;
 
@@ -18,3 +19,4 @@ pub use flowing::do_flow;
 pub use generating::do_generate;
 pub use mapping::do_map;
 pub use matrix::do_matrix;
+pub use partial::do_partial;

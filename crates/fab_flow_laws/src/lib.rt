@@ -8,7 +8,9 @@ ghost use Rattle.fab_flow_laws.specs.ReadyLaws.{FlowFilesAreReady};
 ghost use Rattle.fab_flow_laws.specs.SimulatedLaws.{FlowFilesSimulate};
 ghost use Rattle.fab_flow_laws.specs.StoredLaws.{FlowFilesStand};
 
-pub use fab_flow::{do_assemble, do_bits, do_features, do_flow, do_generate, do_map, do_matrix};
+pub use fab_flow::{
+    do_assemble, do_bits, do_features, do_flow, do_generate, do_map, do_matrix, do_partial,
+};
 pub use fab_legal_states_laws::{legal_implementations_are_short, legal_states_are_short};
 use fab_legal_states_laws::{
     bitstreams_are_short, fabric_texts_have_streams, legal_states_have_entries,

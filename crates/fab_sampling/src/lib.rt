@@ -11,6 +11,7 @@ mod shelf;
 mod stocking;
 
 pub use fab_sample_runs_laws::{
-    do_assemble, do_bits, do_features, do_flow, do_generate, do_map, do_matrix, do_simulate,
+    do_assemble, do_bits, do_features, do_flow, do_generate, do_map, do_matrix, do_partial,
+    do_simulate,
 };
 pub use sampling::summary;

@@ -190,6 +190,15 @@ forms_built form.Simulate = record {
   distinct = refl;
   few = omega arith;
 }
+forms_built form.Partial = record {
+  simple = refl;
+  top = refl;
+  subs = refl;
+  places = (refl, refl, (refl, refl, (refl, refl, (refl, refl, (refl, refl, (refl, refl, tt))))));
+  options = tt;
+  distinct = refl;
+  few = omega arith;
+}
 forms_built form.Sample = record {
   simple = refl;
   top = refl;

@@ -24,10 +24,13 @@ synopsis form.Flow =
 synopsis form.Bits = line (codes "bits") (codes "FABRIC" ∷ codes "FASM" ∷ codes "OUT" ∷ []) []
 synopsis form.Features = line (codes "features") (codes "FABRIC" ∷ codes "BIT" ∷ codes "OUT" ∷ []) []
 synopsis form.Simulate = line (codes "simulate") (codes "VERILOG" ∷ codes "BIT" ∷ codes "STATE" ∷ codes "STIM" ∷ codes "TRACE" ∷ []) (codes "order" ∷ [])
+synopsis form.Partial =
+    line (codes "partial") (codes "FABRIC" ∷ codes "IMPL" ∷ codes "FASM" ∷ codes "FIRST" ∷ codes "LAST" ∷ codes "OUT" ∷ []) []
 synopsis form.Sample = line (codes "sample") (codes "N" ∷ codes "SEED" ∷ []) []
 
 abbrev pub forms : List Form
-forms = form.Matrix ∷ form.Generate ∷ form.Assemble ∷ form.Map ∷ form.Flow ∷ form.Bits ∷ form.Features ∷ form.Simulate ∷ form.Sample ∷ []
+forms =
+    form.Matrix ∷ form.Generate ∷ form.Assemble ∷ form.Map ∷ form.Flow ∷ form.Bits ∷ form.Features ∷ form.Simulate ∷ form.Partial ∷ form.Sample ∷ []
 
 -- the form of a command, if there is one
 abbrev pub form_of : (command : List ℕ) → Option Form

@@ -19,6 +19,10 @@ any_number word = number_within 0 18446744073709551615 word
 abbrev pub size_of : (word : List ℕ) → Option ℕ
 size_of word = number_within 2 16 word
 
+-- a column of a fabric, from 0 to 31
+abbrev pub column_of : (word : List ℕ) → Option ℕ
+column_of word = number_within 0 31 word
+
 -- the number that an option gives; without it the usual one
 abbrev pub number_or : (usual least most : ℕ) → (value : Option (List ℕ)) → Option ℕ
 number_or usual least most None = Some usual

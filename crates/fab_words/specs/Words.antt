@@ -1,16 +1,16 @@
 -- The job that the words of a command line spell.
-use Rattle.std.specs.Prelude.{ℕ, ◌≤◌, List, [], ◌∷◌, codes, Option, Some, None, option_and_then, if◌then◌else◌}
+use Rattle.std.specs.Prelude.{ℕ, ◌<◌, ◌≤◌, List, [], ◌∷◌, codes, Option, Some, None, option_and_then, if◌then◌else◌, nat_le}
 use Rattle.std.specs.Option.{ForSome}
 use Rattle.std.specs.Str.{IsUtf8}
 use Rattle.fab_lines.specs.Names.{is_name}
 use Rattle.fab_paths.specs.Paths.{stem}
 use Rattle.fab_words.specs.Arguments.{is_positional, value_of}
 use Rattle.fab_words.specs.Forms.{form_of, synopsis, values_in}
-use Rattle.fab_words.specs.Numbers.{any_number, seed_of, rounds_of, order_of, size_of}
+use Rattle.fab_words.specs.Numbers.{any_number, column_of, seed_of, rounds_of, order_of, size_of}
 use Rattle.fab_words.specs.declared.forms.Form.{Form}
 use Rattle.fab_words.specs.declared.forms.Form.TheVariants as form
 use Rattle.fab_words.specs.declared.job.Job.{Job}
-use Rattle.fab_words.specs.declared.job.Job.TheVariants.{Matrix, Generate, Assemble, Map, Flow, Bits, Features, Simulate, Sample}
+use Rattle.fab_words.specs.declared.job.Job.TheVariants.{Matrix, Generate, Assemble, Map, Flow, Bits, Features, Simulate, Partial, Sample}
 
 -- ---- the job of each form
 
@@ -55,6 +55,12 @@ abbrev pub simulate_job : (verilog bit state stimulus trace : Option (List ℕ))
 simulate_job (Some verilog) (Some bit) (Some state) (Some stimulus) (Some trace) (Some order) = Some (Simulate verilog bit state stimulus order trace)
 simulate_job verilog bit state stimulus trace order = None
 
+-- the words write two columns, the first of which is not above the last
+abbrev pub partial_job : (fabric implementation fasm : Option (List ℕ)) (first last : Option ℕ) (out : Option (List ℕ)) → Option Job
+partial_job (Some fabric) (Some implementation) (Some fasm) (Some first) (Some last) (Some out) =
+    if nat_le first last then Some (Partial fabric implementation fasm first last out) else None
+partial_job fabric implementation fasm first last out = None
+
 -- the words write a size and a seed
 abbrev pub sample_job : (size seed : Option ℕ) → Option Job
 sample_job (Some size) (Some seed) = Some (Sample size seed)
@@ -77,6 +83,9 @@ job_of_form form.Features value = features_job (value (codes "FABRIC")) (value (
 job_of_form form.Simulate value =
     simulate_job (value (codes "VERILOG")) (value (codes "BIT")) (value (codes "STATE")) (value (codes "STIM")) (value (codes "TRACE"))
     (order_of (value (codes "order")))
+job_of_form form.Partial value =
+    partial_job (value (codes "FABRIC")) (value (codes "IMPL")) (value (codes "FASM")) (option_and_then column_of (value (codes "FIRST")))
+    (option_and_then column_of (value (codes "LAST"))) (value (codes "OUT"))
 job_of_form form.Sample value = sample_job (option_and_then size_of (value (codes "N"))) (option_and_then any_number (value (codes "SEED")))
 
 -- ---- the words
@@ -90,7 +99,8 @@ abbrev pub job_of : List (List ℕ) → Option Job
 job_of [] = None
 job_of (command ∷ words) = option_and_then (job_in (command ∷ words)) (form_of command)
 
--- what is needed of a job: its file names are text, rounds are from 1 to 64, and the size of a sample is from 2 to 16
+-- what is needed of a job: its file names are text, rounds are from 1 to 64, columns are below 32 and the first is not above the last, and the size of a
+-- sample is from 2 to 16
 abbrev pub IsText : Job → Type 0
 IsText (Matrix list out) = IsUtf8 list × IsUtf8 out
 IsText (Generate fabric out) = IsUtf8 fabric × IsUtf8 out
@@ -100,4 +110,6 @@ IsText (Flow fabric blif pcf seed rounds reset base) = IsUtf8 fabric × IsUtf8 b
 IsText (Bits fabric fasm out) = IsUtf8 fabric × IsUtf8 fasm × IsUtf8 out
 IsText (Features fabric bit out) = IsUtf8 fabric × IsUtf8 bit × IsUtf8 out
 IsText (Simulate verilog bit state stimulus order trace) = IsUtf8 verilog × IsUtf8 bit × IsUtf8 state × IsUtf8 stimulus × IsUtf8 trace
+IsText (Partial fabric implementation fasm first last out) =
+    IsUtf8 fabric × IsUtf8 implementation × IsUtf8 fasm × IsUtf8 out × (first ≤ last) × (last < 32)
 IsText (Sample size seed) = (2 ≤ size) × (size ≤ 16)

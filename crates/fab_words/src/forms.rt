@@ -18,6 +18,7 @@ pub enum Form {
     Bits,
     Features,
     Simulate,
+    Partial,
     Sample,
 }
 
@@ -31,7 +32,7 @@ pub struct Synopsis {
 }
 
 /// All forms.
-const FORMS: [Form; 9] = [
+const FORMS: [Form; 10] = [
     Form::Matrix,
     Form::Generate,
     Form::Assemble,
@@ -40,6 +41,7 @@ const FORMS: [Form; 9] = [
     Form::Bits,
     Form::Features,
     Form::Simulate,
+    Form::Partial,
     Form::Sample,
 ];
 
@@ -75,6 +77,11 @@ impl Form {
                 "simulate",
                 &["VERILOG", "BIT", "STATE", "STIM", "TRACE"],
                 &["order"],
+            ),
+            Form::Partial => line(
+                "partial",
+                &["FABRIC", "IMPL", "FASM", "FIRST", "LAST", "OUT"],
+                &[],
             ),
             Form::Sample => line("sample", &["N", "SEED"], &[]),
         }

@@ -25,6 +25,10 @@ pub enum Job {
     /// `simulate VERILOG BIT STATE STIM TRACE` with `--order SEED`: what a text shows, loaded with a bitstream, in the state of its
     /// flip-flops and with a stimulus, as a trace; with a seed its points are activated one by one, in the order that it draws.
     Simulate(Name, Name, Name, Name, Option<u64>, Name),
+    /// `partial FABRIC IMPL FASM FIRST LAST OUT`: the bitstream that gives the columns from FIRST to LAST new content while the rest
+    /// of the fabric runs on. The names are those of the fabric, of the implementation that runs and of the features of the new
+    /// content; behind them come the two columns, and the bitstream.
+    Partial(Name, Name, Name, u32, u32, Name),
     /// `sample N SEED`: a fabric and a design that are made of a size and a seed, run from the files to a trace, and summed up.
     Sample(usize, u64),
 }

@@ -1,8 +1,8 @@
 //! Numbers as values of options.
 
-ghost use Rattle.std.specs.Prelude.{◌≡◌, ◌≤◌, option_copied};
+ghost use Rattle.std.specs.Prelude.{◌≡◌, ◌<◌, ◌≤◌, option_copied};
 ghost use Rattle.std.specs.Option.{ForSome};
-ghost use Rattle.fab_words.specs.Numbers.{any_number, is_decimal, number_or, number_within, order_of, rounds_of, seed_of, size_of};
+ghost use Rattle.fab_words.specs.Numbers.{any_number, column_of, is_decimal, number_or, number_within, order_of, rounds_of, seed_of, size_of};
 
 use fab_lines::has_only_digits;
 
@@ -72,6 +72,15 @@ pub fn order_of(value: Option<&str>) -> Option<Option<u64>>
         None => Some(None),
         Some(word) => decimal(word).map(Some),
     }
+}
+
+/// The column of a fabric that a word writes, if it writes one.
+pub fn column_of(word: &str) -> Option<u32>
+    ensures column { result ≡ column_of word.now }
+    ensures below { ForSome result (λ column. column < 32) }
+{
+    let column = number_within(word, 0, 31)?;
+    u32::try_from(column).ok()
 }
 
 /// The size of a sample that a word writes, if it writes one.

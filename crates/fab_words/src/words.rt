@@ -13,7 +13,7 @@ use crate::arguments::{Arguments, is_positional};
 use crate::forms::Form;
 use crate::job::Job;
 use crate::matching::matches_of;
-use crate::numbers::{decimal, order_of, rounds_of, seed_of, size_of};
+use crate::numbers::{column_of, decimal, order_of, rounds_of, seed_of, size_of};
 use clap::ArgMatches;
 use fab_base::{Fault, Memory, Name};
 use fab_lines::is_name;
@@ -185,6 +185,30 @@ fn simulate(alloc: Global, matches: &ArgMatches<'_>) -> Result<Job, Fault>
     Ok(Job::Simulate(verilog, bit, state, stimulus, order, trace))
 }
 
+/// `partial FABRIC IMPL FASM FIRST LAST OUT`, where FIRST is not above LAST.
+fn partial(alloc: Global, matches: &ArgMatches<'_>) -> Result<Job, Fault>
+    ensures job { IfOk result (λ job. job_of_form form.Partial (first_value (found_of matches.now)) ≡ Some job) }
+    ensures text { IfOk result IsText }
+    ensures usage { IfErr result (IsUsage (job_of_form form.Partial (first_value (found_of matches.now)) ≡ None)) }
+{
+    let fabric = matches.get_str("FABRIC").ok_or(Fault::Usage)?;
+    let implementation = matches.get_str("IMPL").ok_or(Fault::Usage)?;
+    let fasm = matches.get_str("FASM").ok_or(Fault::Usage)?;
+    let first = matches.get_str("FIRST").ok_or(Fault::Usage)?;
+    let last = matches.get_str("LAST").ok_or(Fault::Usage)?;
+    let out = matches.get_str("OUT").ok_or(Fault::Usage)?;
+    let first = column_of(first).ok_or(Fault::Usage)?;
+    let last = column_of(last).ok_or(Fault::Usage)?;
+    if first > last {
+        return Err(Fault::Usage);
+    }
+    let fabric = name_of(alloc, fabric)?;
+    let implementation = name_of(alloc, implementation)?;
+    let fasm = name_of(alloc, fasm)?;
+    let out = name_of(alloc, out)?;
+    Ok(Job::Partial(fabric, implementation, fasm, first, last, out))
+}
+
 /// `sample N SEED`.
 fn sample(matches: &ArgMatches<'_>) -> Result<Job, Fault>
     ensures job { IfOk result (λ job. job_of_form form.Sample (first_value (found_of matches.now)) ≡ Some job) }
@@ -213,6 +237,7 @@ fn job_of_form(alloc: Global, form: Form, matches: &ArgMatches<'_>) -> Result<Jo
         Form::Bits => bits(alloc, matches),
         Form::Features => features(alloc, matches),
         Form::Simulate => simulate(alloc, matches),
+        Form::Partial => partial(alloc, matches),
         Form::Sample => sample(matches),
     }
 }

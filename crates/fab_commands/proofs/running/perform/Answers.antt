@@ -138,3 +138,13 @@ pub returns-in-Simulate-clause-leaves : goal.returns-in-Simulate-clause-leaves
 returns-in-Simulate-clause-leaves g c =
     subst (λ (job : Option Job). IfErr c.do_simulate.result (JobLeaves job (g.D.Desk.told c.args.desk.now) (g.D.Desk.told c.do_simulate.new.desk)))
     (sym (c.in_ok-list.ensures.job ∙ ap (λ (job : Job). Some job) c.in-Simulate.is)) c.do_simulate.ensures.leaves
+
+pub returns-in-Partial-clause-done : goal.returns-in-Partial-clause-done
+returns-in-Partial-clause-done g c =
+    subst (λ (job : Option Job). OnOk c.do_partial.result (DoesJob job (g.D.Desk.told c.args.desk.now) (g.D.Desk.told c.do_partial.new.desk)))
+    (sym (c.in_ok-list.ensures.job ∙ ap (λ (job : Job). Some job) c.in-Partial.is)) c.do_partial.ensures.done
+
+pub returns-in-Partial-clause-leaves : goal.returns-in-Partial-clause-leaves
+returns-in-Partial-clause-leaves g c =
+    subst (λ (job : Option Job). IfErr c.do_partial.result (JobLeaves job (g.D.Desk.told c.args.desk.now) (g.D.Desk.told c.do_partial.new.desk)))
+    (sym (c.in_ok-list.ensures.job ∙ ap (λ (job : Job). Some job) c.in-Partial.is)) c.do_partial.ensures.leaves
