@@ -44,16 +44,18 @@ class LoadedDesign:
 
 
 def limits_of(options, text, designs):
-    """How often of a thousand times each pad is 1. options: words PORT=CHANCE."""
-    limits, ins = [CHANCE] * len(text.pads), {port: pad for design in designs for port, pad in design.ins.items()}
+    """How often of a thousand times each pad is 1. options: words PORT=CHANCE, of each design that has the port."""
+    limits = [CHANCE] * len(text.pads)
     for design in designs:
         if design.reset is not None:
             limits[design.reset] = RESET_CHANCE
     for option in options:
         port, _, chance = option.rpartition("=")
-        if port not in ins:
+        pads = [design.ins[port] for design in designs if port in design.ins]
+        if not pads:
             sys.exit(f"{option}: no input of the design")
-        limits[ins[port]] = round(1000 * float(chance))
+        for pad in pads:
+            limits[pad] = round(1000 * float(chance))
     return limits
 
 
