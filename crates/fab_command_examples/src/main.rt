@@ -20,6 +20,7 @@ fn main(rt: HostRuntime) -> Result<(), Stop> {
         "words.cases",
         "texts.cases",
         "assemble.cases",
+        "timing.cases",
         "flow.cases",
         "search.cases",
         "reset.cases",

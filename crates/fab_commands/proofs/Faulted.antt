@@ -28,7 +28,7 @@ use Rattle.fab_designs.specs.Designs.{design_files}
 use Rattle.fab_list_files.proofs.Once.{one_refusal, not_both}
 use Rattle.fab_words.specs.Arguments.{IsUsage}
 use Rattle.fab_words.specs.declared.job.Job.{Job}
-use Rattle.fab_words.specs.declared.job.Job.TheVariants.{Matrix, Generate, Assemble, Map as Mapping, Flow, Bits, Features, Simulate, Partial, Sample}
+use Rattle.fab_words.specs.declared.job.Job.TheVariants.{Matrix, Generate, Assemble, Map as Mapping, Flow, Bits, Features, Simulate, Partial, Timing, Sample}
 use Rattle.fab_commands.specs.Running.{Makes, Meets, IsReady, refusals, failures, HasJobCause, JobHasCause}
 
 -- ---- each command has one first refusal, or is ready
@@ -46,6 +46,8 @@ refused_once (Simulate verilog bit state stimulus order trace) files a b x y =
     ap number_of (simulating.one_refusal files (simulation_files verilog bit state stimulus trace) a b x y)
 refused_once (Partial fabric implementation fasm first last out) files a b x y =
     ap number_of (exchanging.one_refusal files (partial_files fabric implementation fasm first last out) a b x y)
+refused_once (Timing fabric blif pcf implementation out) files a b x y =
+    assembling.one_number files (assembly_files fabric blif pcf implementation out) a b x y
 refused_once (Sample size seed) files a b x y = absurd x
 
 pub not_refused : (job : Job) (files : Map) (fault : Fault) → IsReady job files → Meets job files (refuses fault) → ⊥
@@ -62,6 +64,8 @@ not_refused (Simulate verilog bit state stimulus order trace) files fault ready 
     simulating.not_both files (simulation_files verilog bit state stimulus trace) fault ready x
 not_refused (Partial fabric implementation fasm first last out) files fault ready x =
     exchanging.not_both files (partial_files fabric implementation fasm first last out) fault ready x
+not_refused (Timing fabric blif pcf implementation out) files fault ready x =
+    assembling.not_both files (assembly_files fabric blif pcf implementation out) fault ready x
 not_refused (Sample size seed) files fault ready x = x
 
 -- what is done was ready
@@ -102,6 +106,17 @@ done_ready (Partial fabric implementation fasm first last out) files told after 
       within = made.within;
       unused = made.unused;
       right = made.right;
+    }
+done_ready (Timing fabric blif pcf implementation out) files told after is done =
+    let made = done.made files is in
+    record {
+      design = made.design;
+      implementation = made.implementation;
+      spelled = made.spelled;
+      implemented = made.implemented;
+      resets = made.resets;
+      fits = made.fits;
+      legal = made.legal;
     }
 done_ready (Sample size seed) files told after is done = tt
 
@@ -185,6 +200,8 @@ kind told reads writes (Simulate verilog bit state stimulus order trace) fault c
     kind_of told reads writes (Simulate verilog bit state stimulus order trace) fault cause
 kind told reads writes (Partial fabric implementation fasm first last out) fault cause =
     kind_of told reads writes (Partial fabric implementation fasm first last out) fault cause
+kind told reads writes (Timing fabric blif pcf implementation out) fault cause =
+    kind_of told reads writes (Timing fabric blif pcf implementation out) fault cause
 kind told reads writes (Sample size seed) fault cause = sample_kind told reads writes size seed fault cause
 
 -- memory may be refused at any time, also while the words are read
@@ -199,6 +216,7 @@ memory_causes (Some (Bits fabric fasm out)) told reads cut = tt
 memory_causes (Some (Features fabric bit out)) told reads cut = tt
 memory_causes (Some (Simulate verilog bit state stimulus order trace)) told reads cut = tt
 memory_causes (Some (Partial fabric implementation fasm first last out)) told reads cut = tt
+memory_causes (Some (Timing fabric blif pcf implementation out)) told reads cut = tt
 memory_causes (Some (Sample size seed)) told reads cut = inl refl
 
 pub words_cause : (job : Option Job) (told : Option Map) (reads cut : Type 0) (fault : Fault) → IsUsage (job ≡ None) fault

@@ -18,11 +18,12 @@ use Rattle.fab_sampling.specs.fab_flow_Flowing.{flow_files, MakesFlow, MeetsFlow
 use Rattle.fab_sampling.specs.fab_flow_Mapping.{mapping_files, MakesMapping, MeetsMapping, IsReadyToMap, HasMappingCause, map_refusals}
 use Rattle.fab_sampling.specs.fab_flow_Matrix.{MakesMatrix, IsReadyForMatrix, HasMatrixCause, matrix_refusals}
 use Rattle.fab_sampling.specs.fab_flow_Partial.{partial_files, MakesPartial, MeetsPartial, IsReadyToExchange, HasPartialCause, partial_refusals}
+use Rattle.fab_sampling.specs.fab_flow_Timing.{MakesTiming}
 use Rattle.fab_sampling.specs.fab_simulate_command_Simulating.{simulation_files, MakesTrace, MeetsSimulation, IsReadyToSimulate, HasSimulateCause, simulate_refusals}
 use Rattle.fab_sampling.specs.Sampling.{IsSummary}
 use Rattle.fab_list_files.specs.Sides.{MeetsPairs}
 use Rattle.fab_words.specs.declared.job.Job.{Job}
-use Rattle.fab_words.specs.declared.job.Job.TheVariants.{Matrix, Generate, Assemble, Map as Mapping, Flow, Bits, Features, Simulate, Partial, Sample}
+use Rattle.fab_words.specs.declared.job.Job.TheVariants.{Matrix, Generate, Assemble, Map as Mapping, Flow, Bits, Features, Simulate, Partial, Timing, Sample}
 
 -- ---- the commands
 
@@ -37,6 +38,7 @@ Makes (Bits fabric fasm out) files outputs = MakesBits files (bits_files fabric 
 Makes (Features fabric bit out) files outputs = MakesFeatures files (features_files fabric bit out) outputs
 Makes (Simulate verilog bit state stimulus order trace) files outputs = MakesTrace files (simulation_files verilog bit state stimulus trace) order outputs
 Makes (Partial fabric implementation fasm first last out) files outputs = MakesPartial files (partial_files fabric implementation fasm first last out) outputs
+Makes (Timing fabric blif pcf implementation out) files outputs = MakesTiming files (assembly_files fabric blif pcf implementation out) outputs
 Makes (Sample size seed) files outputs = outputs ≡ []
 
 -- what it comes upon before anything is refused: files that it asks for, and its first refusal; a sample asks for none
@@ -50,6 +52,7 @@ Meets (Bits fabric fasm out) files event = MeetsBits files (bits_files fabric fa
 Meets (Features fabric bit out) files event = MeetsBitFeatures files (features_files fabric bit out) event
 Meets (Simulate verilog bit state stimulus order trace) files event = MeetsSimulation files (simulation_files verilog bit state stimulus trace) event
 Meets (Partial fabric implementation fasm first last out) files event = MeetsPartial files (partial_files fabric implementation fasm first last out) event
+Meets (Timing fabric blif pcf implementation out) files event = MeetsAssembly files (assembly_files fabric blif pcf implementation out) event
 Meets (Sample size seed) files event = ⊥
 
 -- nothing is refused; nothing of a sample ever is
@@ -63,6 +66,7 @@ IsReady (Bits fabric fasm out) files = IsReadyForBits files (bits_files fabric f
 IsReady (Features fabric bit out) files = IsReadyForFeatures files (features_files fabric bit out)
 IsReady (Simulate verilog bit state stimulus order trace) files = IsReadyToSimulate files (simulation_files verilog bit state stimulus trace)
 IsReady (Partial fabric implementation fasm first last out) files = IsReadyToExchange files (partial_files fabric implementation fasm first last out)
+IsReady (Timing fabric blif pcf implementation out) files = IsReadyToAssemble files (assembly_files fabric blif pcf implementation out)
 IsReady (Sample size seed) files = Unit {0}
 
 -- the numbers of the faults for which it refuses
@@ -76,6 +80,7 @@ refusals (Bits fabric fasm out) = bits_refusals
 refusals (Features fabric bit out) = features_refusals
 refusals (Simulate verilog bit state stimulus order trace) = simulate_refusals
 refusals (Partial fabric implementation fasm first last out) = partial_refusals
+refusals (Timing fabric blif pcf implementation out) = assemble_refusals
 refusals (Sample size seed) = []
 
 -- The numbers of the faults with which it may end though nothing is refused: a command that places and routes may find no path, or leave a wire shared.
@@ -89,6 +94,7 @@ failures (Bits fabric fasm out) = []
 failures (Features fabric bit out) = []
 failures (Simulate verilog bit state stimulus order trace) = []
 failures (Partial fabric implementation fasm first last out) = []
+failures (Timing fabric blif pcf implementation out) = []
 failures (Sample size seed) = []
 
 -- Why it ends with a fault. Of a sample memory is refused, or its summary is not put whole, which is told as the fault of a file whose name is a dash.
@@ -107,6 +113,8 @@ HasJobCause (Simulate verilog bit state stimulus order trace) told reads_rose wr
     HasSimulateCause told (simulation_files verilog bit state stimulus trace) reads_rose write_failed fault
 HasJobCause (Partial fabric implementation fasm first last out) told reads_rose write_failed fault =
     HasPartialCause told (partial_files fabric implementation fasm first last out) reads_rose write_failed fault
+HasJobCause (Timing fabric blif pcf implementation out) told reads_rose write_failed fault =
+    HasAssembleCause told (assembly_files fabric blif pcf implementation out) reads_rose write_failed fault
 HasJobCause (Sample size seed) told reads_rose write_failed fault =
     (fault ≡ faults.Memory) ⊎ (write_failed × (fault ≡ faults.WriteFault (codes "-")))
 

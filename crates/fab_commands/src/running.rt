@@ -11,7 +11,7 @@ use fab_desk::{Desk, Sink, SinkFault};
 use fab_progress::Progress;
 use fab_sampling::{
     do_assemble, do_bits, do_features, do_flow, do_generate, do_map, do_matrix, do_partial,
-    do_simulate, summary,
+    do_simulate, do_timing, summary,
 };
 use fab_words::{Job, parse};
 use std::alloc::Global;
@@ -106,6 +106,16 @@ fn perform<D: Desk, P: Progress, S: Sink>(
             &fasm,
             first,
             last,
+            &out,
+        ),
+        Job::Timing(fabric, blif, pcf, implementation, out) => do_timing(
+            alloc,
+            desk,
+            progress,
+            &fabric,
+            &blif,
+            pcf.as_ref(),
+            &implementation,
             &out,
         ),
         Job::Sample(size, seed) => sum_up(alloc, progress, size, seed, out),

@@ -11,6 +11,7 @@ mod matrix;
 mod partial;
 mod printing;
 mod resetting;
+mod timing;
 
 pub use assembling::do_assemble;
 pub use bit_features::do_features;
@@ -20,3 +21,4 @@ pub use generating::do_generate;
 pub use mapping::do_map;
 pub use matrix::do_matrix;
 pub use partial::do_partial;
+pub use timing::do_timing;

@@ -199,6 +199,15 @@ forms_built form.Partial = record {
   distinct = refl;
   few = omega arith;
 }
+forms_built form.Timing = record {
+  simple = refl;
+  top = refl;
+  subs = refl;
+  places = (refl, refl, (refl, refl, (refl, refl, (refl, refl, tt))));
+  options = ((refl, refl, refl), tt);
+  distinct = refl;
+  few = omega arith;
+}
 forms_built form.Sample = record {
   simple = refl;
   top = refl;

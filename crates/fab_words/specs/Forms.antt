@@ -26,11 +26,13 @@ synopsis form.Features = line (codes "features") (codes "FABRIC" ∷ codes "BIT"
 synopsis form.Simulate = line (codes "simulate") (codes "VERILOG" ∷ codes "BIT" ∷ codes "STATE" ∷ codes "STIM" ∷ codes "TRACE" ∷ []) (codes "order" ∷ [])
 synopsis form.Partial =
     line (codes "partial") (codes "FABRIC" ∷ codes "IMPL" ∷ codes "FASM" ∷ codes "FIRST" ∷ codes "LAST" ∷ codes "OUT" ∷ []) []
+synopsis form.Timing = line (codes "timing") (codes "FABRIC" ∷ codes "BLIF" ∷ codes "IMPL" ∷ codes "OUT" ∷ []) (codes "pcf" ∷ [])
 synopsis form.Sample = line (codes "sample") (codes "N" ∷ codes "SEED" ∷ []) []
 
 abbrev pub forms : List Form
 forms =
-    form.Matrix ∷ form.Generate ∷ form.Assemble ∷ form.Map ∷ form.Flow ∷ form.Bits ∷ form.Features ∷ form.Simulate ∷ form.Partial ∷ form.Sample ∷ []
+    form.Matrix ∷ form.Generate ∷ form.Assemble ∷ form.Map ∷ form.Flow ∷ form.Bits ∷ form.Features ∷ form.Simulate ∷ form.Partial ∷ form.Timing ∷ form.Sample
+    ∷ []
 
 -- the form of a command, if there is one
 abbrev pub form_of : (command : List ℕ) → Option Form

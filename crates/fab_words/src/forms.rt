@@ -19,6 +19,7 @@ pub enum Form {
     Features,
     Simulate,
     Partial,
+    Timing,
     Sample,
 }
 
@@ -32,7 +33,7 @@ pub struct Synopsis {
 }
 
 /// All forms.
-const FORMS: [Form; 10] = [
+const FORMS: [Form; 11] = [
     Form::Matrix,
     Form::Generate,
     Form::Assemble,
@@ -42,6 +43,7 @@ const FORMS: [Form; 10] = [
     Form::Features,
     Form::Simulate,
     Form::Partial,
+    Form::Timing,
     Form::Sample,
 ];
 
@@ -83,6 +85,7 @@ impl Form {
                 &["FABRIC", "IMPL", "FASM", "FIRST", "LAST", "OUT"],
                 &[],
             ),
+            Form::Timing => line("timing", &["FABRIC", "BLIF", "IMPL", "OUT"], &["pcf"]),
             Form::Sample => line("sample", &["N", "SEED"], &[]),
         }
     }

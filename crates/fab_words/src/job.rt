@@ -29,6 +29,9 @@ pub enum Job {
     /// of the fabric runs on. The names are those of the fabric, of the implementation that runs and of the features of the new
     /// content; behind them come the two columns, and the bitstream.
     Partial(Name, Name, Name, u32, u32, Name),
+    /// `timing FABRIC BLIF IMPL OUT` with `--pcf FILE`: fabric, netlist, constraints and implementation, and the longest walk of
+    /// the implementation.
+    Timing(Name, Name, Option<Name>, Name, Name),
     /// `sample N SEED`: a fabric and a design that are made of a size and a seed, run from the files to a trace, and summed up.
     Sample(usize, u64),
 }

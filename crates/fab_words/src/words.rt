@@ -209,6 +209,24 @@ fn partial(alloc: Global, matches: &ArgMatches<'_>) -> Result<Job, Fault>
     Ok(Job::Partial(fabric, implementation, fasm, first, last, out))
 }
 
+/// `timing FABRIC BLIF IMPL OUT [--pcf FILE]`.
+fn timing(alloc: Global, matches: &ArgMatches<'_>) -> Result<Job, Fault>
+    ensures job { IfOk result (λ job. job_of_form form.Timing (first_value (found_of matches.now)) ≡ Some job) }
+    ensures text { IfOk result IsText }
+    ensures usage { IfErr result (IsUsage (job_of_form form.Timing (first_value (found_of matches.now)) ≡ None)) }
+{
+    let fabric = matches.get_str("FABRIC").ok_or(Fault::Usage)?;
+    let blif = matches.get_str("BLIF").ok_or(Fault::Usage)?;
+    let implementation = matches.get_str("IMPL").ok_or(Fault::Usage)?;
+    let out = matches.get_str("OUT").ok_or(Fault::Usage)?;
+    let fabric = name_of(alloc, fabric)?;
+    let blif = name_of(alloc, blif)?;
+    let implementation = name_of(alloc, implementation)?;
+    let out = name_of(alloc, out)?;
+    let pcf = name_of_option(alloc, matches.get_str("pcf"))?;
+    Ok(Job::Timing(fabric, blif, pcf, implementation, out))
+}
+
 /// `sample N SEED`.
 fn sample(matches: &ArgMatches<'_>) -> Result<Job, Fault>
     ensures job { IfOk result (λ job. job_of_form form.Sample (first_value (found_of matches.now)) ≡ Some job) }
@@ -238,6 +256,7 @@ fn job_of_form(alloc: Global, form: Form, matches: &ArgMatches<'_>) -> Result<Jo
         Form::Features => features(alloc, matches),
         Form::Simulate => simulate(alloc, matches),
         Form::Partial => partial(alloc, matches),
+        Form::Timing => timing(alloc, matches),
         Form::Sample => sample(matches),
     }
 }

@@ -2,7 +2,7 @@ use Rattle.std.proofs.Common.{◌<◌, ◌∙◌, ℕ, IfErr, List, OnOk, Option
 use Rattle.std.proofs.lemmas.Result.{err_from_is_err_and}
 use Rattle.fab_words.specs.Words.{job_of}
 use Rattle.fab_words.specs.declared.job.Job.{Job}
-use Rattle.fab_words.specs.declared.job.Job.TheVariants.{Assemble, Map, Flow}
+use Rattle.fab_words.specs.declared.job.Job.TheVariants.{Assemble, Map, Flow, Timing}
 use Rattle.fab_commands.specs.Running.{DoesJob, JobLeaves, JobHasCause, WriteFailed}
 use Rattle.fab_commands.proofs.Faulted.{words_cause}
 use Rattle.fab_commands.proofs.running.perform.Goals as goal
@@ -148,3 +148,27 @@ pub returns-in-Partial-clause-leaves : goal.returns-in-Partial-clause-leaves
 returns-in-Partial-clause-leaves g c =
     subst (λ (job : Option Job). IfErr c.do_partial.result (JobLeaves job (g.D.Desk.told c.args.desk.now) (g.D.Desk.told c.do_partial.new.desk)))
     (sym (c.in_ok-list.ensures.job ∙ ap (λ (job : Job). Some job) c.in-Partial.is)) c.do_partial.ensures.leaves
+
+pub returns-in-Timing-clause-done : goal.returns-in-Timing-clause-done
+returns-in-Timing-clause-done g c =
+    let P : Option Job → Type 0 = λ job. OnOk c.do_timing.result (DoesJob job (g.D.Desk.told c.args.desk.now) (g.D.Desk.told c.do_timing.new.desk)) in
+    subst P (sym (c.in_ok-list.ensures.job ∙ ap (λ (job : Job). Some job) c.in-Timing.is))
+    (subst (λ (pcf : Option (List ℕ)). P (Some (Timing c.in-Timing.fabric c.in-Timing.blif pcf c.in-Timing.implementation c.in-Timing.out)))
+    c.as_ref-in-Timing.ensures.value c.do_timing.ensures.done)
+
+pub returns-in-Timing-clause-leaves : goal.returns-in-Timing-clause-leaves
+returns-in-Timing-clause-leaves g c =
+    let P : Option Job → Type 0 = λ job. IfErr c.do_timing.result (JobLeaves job (g.D.Desk.told c.args.desk.now) (g.D.Desk.told c.do_timing.new.desk)) in
+    subst P (sym (c.in_ok-list.ensures.job ∙ ap (λ (job : Job). Some job) c.in-Timing.is))
+    (subst (λ (pcf : Option (List ℕ)). P (Some (Timing c.in-Timing.fabric c.in-Timing.blif pcf c.in-Timing.implementation c.in-Timing.out)))
+    c.as_ref-in-Timing.ensures.value c.do_timing.ensures.leaves)
+
+pub returns-in-Timing-clause-cause : goal.returns-in-Timing-clause-cause
+returns-in-Timing-clause-cause g c =
+    let P : Option Job → Type 0 = λ job. IfErr c.do_timing.result (JobHasCause job (g.D.Desk.told c.args.desk.now)
+    (g.D.Desk.reads c.args.desk.now < g.D.Desk.reads c.do_timing.new.desk)
+    (WriteFailed job (g.D.Desk.writes c.args.desk.now < g.D.Desk.writes c.do_timing.new.desk)
+    (g.S.Sink.faults c.args.out.now < g.S.Sink.faults c.args.out.now))) in
+    subst P (sym (c.in_ok-list.ensures.job ∙ ap (λ (job : Job). Some job) c.in-Timing.is))
+    (subst (λ (pcf : Option (List ℕ)). P (Some (Timing c.in-Timing.fabric c.in-Timing.blif pcf c.in-Timing.implementation c.in-Timing.out)))
+    c.as_ref-in-Timing.ensures.value c.do_timing.ensures.cause)

@@ -1,0 +1,13 @@
+pub mod Latest
+pub mod Settling
+pub mod Trails
+pub mod Pins
+pub mod Grounds
+pub mod Ranks
+pub mod Ranked
+pub mod Walks
+pub mod Added
+pub mod Grouped
+pub mod Passes
+pub mod Starts
+pub mod Timed
