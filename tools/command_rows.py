@@ -108,6 +108,7 @@ def rows(is_small=False):
         row(8, "generate parts.csv f.v", parts),
         row(6, "assemble duo.csv inv.blif inv.impl made --pcf inv.pcf", dict(inv, **fixtures("inv.impl"))),
         row(4, "assemble duo.csv tog.blif tog.impl made", dict(tog, **fixtures("tog.impl"))),
+        row(4, "timing duo.csv tog.blif tog.impl t --pcf tog.pcf", dict(tog, **fixtures("tog.impl"))),
         row(4, "map duo.csv inv.blif i --pcf inv.pcf --seed 3", inv),
         row(4, "map turn.csv k.blif i --rounds 4", turn),
         row(4, "flow duo.csv inv.blif inv --pcf inv.pcf", inv),
