@@ -1,6 +1,6 @@
 //! Netlists whose covers have up to 16 inputs. Their rows are kept, and no tables.
 
-ghost use Rattle.std.specs.Prelude.{◌≡◌, ◌⊎◌, ◌+◌, ◌*◌, ◌/◌, ◌%◌, IfErr, IfOk, OnOk, bit_and, map, nat_eq};
+ghost use Rattle.std.specs.Prelude.{◌≡◌, ◌≤◌, ◌⊎◌, ◌+◌, ◌*◌, ◌/◌, ◌%◌, IfErr, IfOk, OnOk, bit_and, map, nat_eq};
 ghost use Rattle.std.specs.List.{list_any};
 ghost use Rattle.fab_base.specs.declared.fault.Fault.TheVariants as faults;
 ghost use Rattle.fab_bits.specs.Bits.{bit_number, first_bits, number};
@@ -51,6 +51,17 @@ impl Cube {
         }
         mask
     }
+
+    /// Bit i tells whether the row matches where the first four inputs spell i, and those from the fifth on `place`.
+    fn covered_at(self, place: u32) -> u16
+        ensures { result ≡ number (first_bits 16 (λ low. matches self (16 * place + low))) }
+    {
+        if self.matches_upper(place) {
+            self.lower_mask()
+        } else {
+            0
+        }
+    }
 }
 
 fn bit_number(bit: bool) -> u16
@@ -90,9 +101,7 @@ impl WideCover {
     {
         let mut covered: u16 = 0;
         for cube in &self.rows {
-            if cube.matches_upper(place) {
-                covered |= cube.lower_mask();
-            }
+            covered |= cube.covered_at(place);
         }
         covered
     }
