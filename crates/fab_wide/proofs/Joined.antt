@@ -36,7 +36,7 @@ number_joined (x ∷ xs) ys =
     omega (arith, number_joined xs ys, product)
 
 bits_joined : (a b : ℕ) (f : ℕ → Bool) → first_bits (a + b) f ≡ first_bits a f ++ first_bits b (λ place. f (a + place))
-bits_joined zero b f = refl
+bits_joined zero b f = first_bits_same b f (λ place. f (0 + place)) (λ place small. ap f (omega arith))
 bits_joined (suc a) b f = ap (λ bits. f 0 ∷ bits) (bits_joined a b (λ place. f (suc place)))
 
 -- they spell its bits

@@ -1,8 +1,9 @@
 -- One step of splitting a table that is given in words.
-use Rattle.std.proofs.Common.{◌≡◌, ℕ, zero, suc, ◌+◌, ◌-◌, ◌*◌, ◌/◌, ◌^◌, ◌<◌, ◌≤◌, Bool, true, false, List, [], ◌∷◌, ◌++◌, take, drop, length, get_or, nat_eq, nat_lt, if◌then◌else◌, refl, sym, ap, ◌∙◌, subst, arith}
+use Rattle.std.proofs.Common.{◌≡◌, ℕ, zero, suc, ◌+◌, ◌-◌, ◌*◌, ◌/◌, ◌^◌, ◌<◌, ◌≤◌, Bool, true, false, List, [], ◌∷◌, ◌++◌, take, drop, length, get_or, nat_eq, nat_lt, if◌then◌else◌, Result, Ok, Err, refl, sym, ap, ◌∙◌, subst, arith}
 use Rattle.std.specs.Cmp.Lexicographic.{pointwise}
 use Rattle.std.proofs.lemmas.Bool.{lt-ltb, le-ltb}
-use Rattle.std.proofs.lemmas.List.{append_assoc}
+use Rattle.std.specs.Result.{OnOk}
+use Rattle.std.proofs.lemmas.List.{append_assoc, nil_from_length}
 use Rattle.fab_netlist.specs.Plain.{PlainCover}
 use Rattle.fab_wide.specs.Split.{low_half, high_half, chooser, cover_with, taken, narrow}
 use Rattle.fab_wide.specs.inner.Narrowing.{PlainNarrowing, narrowed, pushed, two_taken}
@@ -21,6 +22,23 @@ narrowed_leaf line inputs count table output old few =
     let covers = sym (narrow_leaf line inputs count table output old.fresh few) in
     let nets : old.fresh ≡ taken count table + old.fresh = omega (arith, taken_none count table few) in
     λ j. record { covers = old.covers ++ covers j; fresh = nets j }
+
+-- an answer that is kept where it is right
+pub on_ok : {X E : Type 0} (r : Result X E) {P Q : Type 0} → (P → Q) → OnOk r P → OnOk r Q
+on_ok (Ok x) step given = step given
+on_ok (Err e) step given = given
+
+one_word : (words : List ℕ) (d : ℕ) → length words ≡ 1 → get_or words 0 d ≡ number_of_words words
+one_word [] d one = absurd (omega (arith, one))
+one_word (word ∷ words) d one = sym (ap (λ rest. word + 65536 * number_of_words rest) (nil_from_length words (omega (arith, one))) ∙ omega arith)
+
+-- one word is the table of one cover
+pub leaf_state : (line : ℕ) (inputs : List ℕ) (count : ℕ) (words : List ℕ) (output d at : ℕ) (nets : List ℕ) (old : PlainNarrowing) → count ≤ 4 → AreWords count words → at ≡ line → nets ≡ take count inputs →
+    pushed (cover_with at nets output (get_or words 0 d)) old ≡ narrowed line inputs count (number_of_words words) output old
+leaf_state line inputs count words output d at nets old few table line_is nets_are =
+    let none : count - 4 ≡ 0 = omega (arith, few) in
+    let one : length words ≡ 1 = table.many ∙ ap (λ k. 2 ^ k) none in
+    (λ j. pushed (cover_with (line_is j) (nets_are j) output (one_word words d one j)) old) ∙ narrowed_leaf line inputs count (number_of_words words) output old few
 
 -- ---- halves
 
@@ -116,3 +134,15 @@ narrowed_two line inputs count words low high output old more half other =
     append_assoc (old.covers ++ first) second (last ∷ []) ∙ append_assoc old.covers first (second ++ last ∷ []) ∙ ap (λ parts. old.covers ++ parts) (sym all) in
     let nets : taken n (number_of_words high) + (taken n (number_of_words low) + (2 + fresh)) ≡ taken count (number_of_words words) + fresh = omega (arith, taken_two count words low high more half other) in
     λ j. record { covers = covers j; fresh = nets j }
+
+-- the same where each step is told by its states
+pub two_states : (line : ℕ) (inputs : List ℕ) (count : ℕ) (words low high : List ℕ) (output net at : ℕ) (nets : List ℕ) (old first second third : PlainNarrowing) →
+    4 < count → AreHalves (count - 1) words low high → pointwise nat_eq low high ≡ false → net ≡ old.fresh → first ≡ two_taken old →
+    second ≡ narrowed line inputs (count - 1) (number_of_words low) net first → third ≡ narrowed line inputs (count - 1) (number_of_words high) (1 + net) second →
+    at ≡ line → nets ≡ net ∷ (1 + net) ∷ get_or inputs (count - 1) 0 ∷ [] → pushed (cover_with at nets output chooser) third ≡ narrowed line inputs count (number_of_words words) output old
+two_states line inputs count words low high output net at nets old first second third more half other net_is first_is second_is third_is line_is nets_are =
+    (λ j. pushed (cover_with (line_is j) (nets_are j) output chooser) (third_is j))
+    ∙ (λ j. pushed (cover_with line (net ∷ (1 + net) ∷ get_or inputs (count - 1) 0 ∷ []) output chooser) (narrowed line inputs (count - 1) (number_of_words high) (1 + net) (second_is j)))
+    ∙ (λ j. pushed (cover_with line (net_is j ∷ (1 + net_is j) ∷ get_or inputs (count - 1) 0 ∷ []) output chooser)
+    (narrowed line inputs (count - 1) (number_of_words high) (1 + net_is j) (narrowed line inputs (count - 1) (number_of_words low) (net_is j) (first_is j))))
+    ∙ narrowed_two line inputs count words low high output old more half other
