@@ -73,35 +73,50 @@ halves_at n above words half table is =
           many = omega (arith, low_words.many, high_words.many, twice n above words table);
         }
 
--- more than four inputs
+-- the halves of the words for more than four inputs
 pub halves : (count : ℕ) (words low high : List ℕ) → 4 < count → AreWords count words → low ≡ take (length words / 2) words → high ≡ drop (length words / 2) words → AreHalves (count - 1) words low high
-halves zero words low high more table low_is high_is = absurd (omega (arith, more))
-halves (suc n) words low high more table low_is high_is =
-    subst (λ l. AreHalves n words l high) (sym low_is) (subst (λ h. AreHalves n words (take (length words / 2) words) h) (sym high_is) (halves_at n (omega (arith, more)) words (length words / 2) table refl))
+halves count words low high more table low_is high_is =
+    let last : count ≡ suc (count - 1) = omega (arith, more) in
+    let whole : AreWords (suc (count - 1)) words = subst (λ k. AreWords k words) last table in
+    subst (λ l. AreHalves (count - 1) words l high) (sym low_is)
+    (subst (λ h. AreHalves (count - 1) words (take (length words / 2) words) h) (sym high_is) (halves_at (count - 1) (omega (arith, more)) words (length words / 2) whole refl))
 
--- what is taken for a table, by its halves
-pub taken_at : (count : ℕ) (words low high : List ℕ) → 4 < count → AreHalves (count - 1) words low high →
+-- what is taken for a table, and the covers that stand for it, by its halves
+module _ (n : ℕ) (above : 4 ≤ n) (words low high : List ℕ) (half : AreHalves n words low high) where
+  large : nat_lt n 4 ≡ false
+  large = le-ltb n 4 above
+
+  taken_more : taken (suc n) (number_of_words words) ≡ (if pointwise nat_eq low high then taken n (number_of_words low) else 2 + (taken n (number_of_words low) + taken n (number_of_words high)))
+  taken_more = rw large (λ j. if half.same j then taken n (half.low_is j) else 2 + (taken n (half.low_is j) + taken n (half.high_is j)))
+
+  narrow_more : (line : ℕ) (inputs : List ℕ) (output fresh : ℕ) →
+      narrow line inputs (suc n) (number_of_words words) output fresh
+      ≡ (if pointwise nat_eq low high then narrow line inputs n (number_of_words low) output fresh
+      else narrow line inputs n (number_of_words low) fresh (2 + fresh)
+      ++ (narrow line inputs n (number_of_words high) (1 + fresh) (taken n (number_of_words low) + (2 + fresh))
+      ++ cover_with line (fresh ∷ (1 + fresh) ∷ get_or inputs n 0 ∷ []) output chooser ∷ []))
+  narrow_more line inputs output fresh =
+      rw large (λ j. if half.same j then narrow line inputs n (half.low_is j) output fresh
+      else narrow line inputs n (half.low_is j) fresh (2 + fresh)
+      ++ (narrow line inputs n (half.high_is j) (1 + fresh) (taken n (half.low_is j) + (2 + fresh))
+      ++ cover_with line (fresh ∷ (1 + fresh) ∷ get_or inputs n 0 ∷ []) output chooser ∷ []))
+
+taken_at : (count : ℕ) (words low high : List ℕ) → 4 < count → AreHalves (count - 1) words low high →
     taken count (number_of_words words)
     ≡ (if pointwise nat_eq low high then taken (count - 1) (number_of_words low) else 2 + (taken (count - 1) (number_of_words low) + taken (count - 1) (number_of_words high)))
-taken_at zero words low high more half = absurd (omega (arith, more))
-taken_at (suc n) words low high more half =
-    let large : nat_lt n 4 ≡ false = le-ltb n 4 (omega (arith, more)) in
-    rw large (λ j. if half.same j then taken n (half.low_is j) else 2 + (taken n (half.low_is j) + taken n (half.high_is j)))
+taken_at count words low high more half =
+    let last : count ≡ suc (count - 1) = omega (arith, more) in
+    ap (λ k. taken k (number_of_words words)) last ∙ taken_more (count - 1) (omega (arith, more)) words low high half
 
--- and the covers that stand for it
-pub narrow_at : (line : ℕ) (inputs : List ℕ) (count : ℕ) (words low high : List ℕ) (output fresh : ℕ) → 4 < count → AreHalves (count - 1) words low high →
+narrow_at : (line : ℕ) (inputs : List ℕ) (count : ℕ) (words low high : List ℕ) (output fresh : ℕ) → 4 < count → AreHalves (count - 1) words low high →
     narrow line inputs count (number_of_words words) output fresh
     ≡ (if pointwise nat_eq low high then narrow line inputs (count - 1) (number_of_words low) output fresh
     else narrow line inputs (count - 1) (number_of_words low) fresh (2 + fresh)
     ++ (narrow line inputs (count - 1) (number_of_words high) (1 + fresh) (taken (count - 1) (number_of_words low) + (2 + fresh))
     ++ cover_with line (fresh ∷ (1 + fresh) ∷ get_or inputs (count - 1) 0 ∷ []) output chooser ∷ []))
-narrow_at line inputs zero words low high output fresh more half = absurd (omega (arith, more))
-narrow_at line inputs (suc n) words low high output fresh more half =
-    let large : nat_lt n 4 ≡ false = le-ltb n 4 (omega (arith, more)) in
-    rw large (λ j. if half.same j then narrow line inputs n (half.low_is j) output fresh
-    else narrow line inputs n (half.low_is j) fresh (2 + fresh)
-    ++ (narrow line inputs n (half.high_is j) (1 + fresh) (taken n (half.low_is j) + (2 + fresh))
-    ++ cover_with line (fresh ∷ (1 + fresh) ∷ get_or inputs n 0 ∷ []) output chooser ∷ []))
+narrow_at line inputs count words low high output fresh more half =
+    let last : count ≡ suc (count - 1) = omega (arith, more) in
+    ap (λ k. narrow line inputs k (number_of_words words) output fresh) last ∙ narrow_more (count - 1) (omega (arith, more)) words low high half line inputs output fresh
 
 -- equal halves
 pub taken_same : (count : ℕ) (words low high : List ℕ) → 4 < count → AreHalves (count - 1) words low high → pointwise nat_eq low high ≡ true → taken count (number_of_words words) ≡ taken (count - 1) (number_of_words low)

@@ -23,7 +23,7 @@ narrow-requires t c =
     let high = c.split_at-2.result.1.now in
     let half = halves c.args.inputs c.args.words.now low high more c.requires.words c.split_at-2.ensures.front c.split_at-2.ensures.back in
     let nets = taken_same c.args.inputs c.args.words.now low high more half (sym c.if-same_words.ensures) in
-    (omega (arith, c.decreases, more), omega (arith, c.requires.few), omega (arith, c.requires.most), half.low_words, omega (arith, c.requires.room, nets))
+    (omega (arith, c.decreases, more), (omega (arith, c.requires.few), (omega (arith, c.requires.most), (half.low_words, omega (arith, c.requires.room, nets)))))
 
 pub returns-then-same_words : goal.returns-then-same_words
 returns-then-same_words t c =
@@ -50,7 +50,7 @@ narrow-requires-2 t c =
     let half = halves c.args.inputs c.args.words.now low high more c.requires.words c.split_at-2.ensures.front c.split_at-2.ensures.back in
     let nets = taken_two c.args.inputs c.args.words.now low high more half (sym c.if-same_words.ensures) in
     let fresh : c.take_two-net.new.self.fresh ≡ 2 + c.args.made.now.fresh = ap (λ (z : PlainNarrowing). z.fresh) c.take_two-net.ensures.takes in
-    (omega (arith, c.decreases, more), omega (arith, c.requires.few), omega (arith, c.requires.most), half.low_words, omega (arith, c.requires.room, nets, fresh))
+    (omega (arith, c.decreases, more), (omega (arith, c.requires.few), (omega (arith, c.requires.most), (half.low_words, omega (arith, c.requires.room, nets, fresh)))))
 
 pub narrow-requires-3 : goal.narrow-requires-3
 narrow-requires-3 t c =
@@ -61,7 +61,7 @@ narrow-requires-3 t c =
     let nets = taken_two c.args.inputs c.args.words.now low high more half (sym c.if-same_words.ensures) in
     let fresh : c.take_two-net.new.self.fresh ≡ 2 + c.args.made.now.fresh = ap (λ (z : PlainNarrowing). z.fresh) c.take_two-net.ensures.takes in
     let later : c.narrow-2.new.made.fresh ≡ taken (c.args.inputs - 1) (number_of_words low) + c.take_two-net.new.self.fresh = ap (λ (z : PlainNarrowing). z.fresh) c.in_ok-narrow.ensures in
-    (omega (arith, c.decreases, more), omega (arith, c.requires.few), omega (arith, c.requires.most), half.high_words, omega (arith, c.requires.room, nets, fresh, later))
+    (omega (arith, c.decreases, more), (omega (arith, c.requires.few), (omega (arith, c.requires.most), (half.high_words, omega (arith, c.requires.room, nets, fresh, later)))))
 
 pub returns : goal.returns
 returns t c =

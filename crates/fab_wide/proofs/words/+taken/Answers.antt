@@ -6,13 +6,13 @@ pub taken-first-requires : goal.taken-first-requires
 taken-first-requires t c =
     let more : 4 < c.args.inputs = omega (arith, c.if-inputs-le4.false) in
     let half = halves c.args.inputs c.args.words.now c.split_at.result.0.now c.split_at.result.1.now more c.requires.words c.split_at.ensures.front c.split_at.ensures.back in
-    (omega (arith, c.decreases, more), omega (arith, c.requires.few), half.low_words)
+    (omega (arith, c.decreases, more), (omega (arith, c.requires.few), half.low_words))
 
 pub taken-requires : goal.taken-requires
 taken-requires t c =
     let more : 4 < c.args.inputs = omega (arith, c.if-inputs-le4.false) in
     let half = halves c.args.inputs c.args.words.now c.split_at.result.0.now c.split_at.result.1.now more c.requires.words c.split_at.ensures.front c.split_at.ensures.back in
-    (omega (arith, c.decreases, more), omega (arith, c.requires.few), half.high_words)
+    (omega (arith, c.decreases, more), (omega (arith, c.requires.few), half.high_words))
 
 pub returns-then-same_words-clause-value : goal.returns-then-same_words-clause-value
 returns-then-same_words-clause-value t c =
