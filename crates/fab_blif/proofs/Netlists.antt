@@ -16,9 +16,9 @@ keeps most some bytes is = spelled_keeps most some (joined_lines bytes) is.fine
 pub wide_is_made : (bytes : List ℕ) → IsBlif 16 bytes → IsWideMade (wide_in bytes)
 wide_is_made bytes is = wide_design 16 (omega arith) (models_in bytes) (keeps 16 (omega arith) bytes is) (design_in bytes) refl is.design
 
--- a file without wide covers
-pub narrow_is_made : (bytes : List ℕ) → IsBlif 4 bytes → IsWellMade (netlist_in bytes)
-narrow_is_made bytes is = narrow_design (models_in bytes) (keeps 4 (omega arith) bytes is) is.design
+-- and that of a file without wide covers, with tables
+pub netlist_is_well_made : (bytes : List ℕ) → IsBlif 4 bytes → IsWellMade (netlist_in bytes)
+netlist_is_well_made bytes is = narrow_design (models_in bytes) (keeps 4 (omega arith) bytes is) is.design
 
 pub narrow_is_narrow : (bytes : List ℕ) → IsBlif 4 bytes → All (λ (made : PlainWideCover). length made.inputs ≤ 4) (wide_in bytes).covers
 narrow_is_narrow bytes is =
