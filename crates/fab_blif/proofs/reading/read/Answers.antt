@@ -55,4 +55,3 @@ returns-clause-fine c =
     let named = c.in_ok-netlist.ensures.named in
     let flat : IsFlat models = record { some = omega (arith, named.0, length-map c.deref.result.now plain_model); named = named.1; fine = c.in_ok-netlist.ensures.models; design = c.in_ok-netlist.ensures.fine } in
     is_blif c.args.most c.args.bytes.now models c.in_ok-netlist.netlist read flat (returns-clause-netlist c) c.in_ok-check_acyclic_wide.ensures.acyclic
-
