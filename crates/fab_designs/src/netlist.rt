@@ -9,13 +9,16 @@ ghost use Rattle.fab_designs.specs.Designs.{SpellsNetlist, MeetsNetlist};
 ghost use Rattle.fab_netlist.specs.WellMade.{most_nets};
 
 use fab_base::{Fault, Name};
-use fab_blif::read_blif;
+use fab_blif::read_wide;
 use fab_desk::Desk;
 use fab_files::fetch;
+use fab_lines::last_line;
 use fab_netlist::Netlist;
+use fab_wide::split;
 use std::alloc::Global;
 
-/// The netlist that a BLIF file spells. Its faults come as `fetch` and `read_blif` give them.
+/// The netlist that a BLIF file spells, with its wide covers split. Its faults come as `fetch`, `read_wide` and `split` give them,
+/// in this order.
 pub fn read_netlist<D: Desk>(alloc: Global, desk: &mut D, blif: &Name) -> Result<Netlist, Fault>
     ensures told { D.told desk.new ≡ D.told desk.old }
     ensures writes { D.writes desk.new ≡ D.writes desk.old }
@@ -26,5 +29,6 @@ pub fn read_netlist<D: Desk>(alloc: Global, desk: &mut D, blif: &Name) -> Result
     ensures cause { IfErr result (HasReadCause (D.told desk.old) (D.reads desk.old < D.reads desk.new) (λ files. MeetsNetlist files blif.now)) }
 {
     let bytes = fetch(alloc, desk, blif)?;
-    read_blif(alloc, blif, &bytes)
+    let netlist = read_wide(alloc, blif, &bytes)?;
+    split(alloc, blif, last_line(&bytes), &netlist)
 }

@@ -3,6 +3,7 @@ pub mod Lengths
 pub mod Spelled
 pub mod Generated
 pub mod ResetPorts
+pub mod ReadAs
 pub mod Assembled
 pub mod AssembledOnce
 pub mod BitsMade
