@@ -31,11 +31,11 @@ netlist_read files file bytes (Ok netlist) found fine few is =
     record { bytes = bytes; found = found; spelled = record { is_blif = fine; few = few_nets (netlist_in bytes) few; is = is } }
 netlist_read files file bytes (Err fault) found fine few is = tt
 
-pub netlist_small : (bytes : List ℕ) (result : Result PlainNetlist Fault)
+pub few_are_read : (bytes : List ℕ) (result : Result PlainNetlist Fault)
     → OnOk result (length (netlist_in bytes).nets + all_taken (netlist_in bytes).covers ≤ most_nets)
     → IfOk result (λ netlist. netlist ≡ split_of (netlist_in bytes)) → IfOk result (λ netlist. length netlist.nets ≤ most_nets)
-netlist_small bytes (Ok netlist) few is = subst (λ (n : PlainNetlist). length n.nets ≤ most_nets) (sym is) (few_nets (netlist_in bytes) few)
-netlist_small bytes (Err fault) few is = tt
+few_are_read bytes (Ok netlist) few is = subst (λ (n : PlainNetlist). length n.nets ≤ most_nets) (sym is) (few_nets (netlist_in bytes) few)
+few_are_read bytes (Err fault) few is = tt
 
 -- no constraints
 pub none_fixed : (fabric : PlainFabric) (ports : List Word) → AreFixings fabric ports []

@@ -16,3 +16,4 @@ pub mod BitFeaturesMade
 pub mod BitFeaturesOnce
 pub mod PartialMade
 pub mod PartialOnce
+pub use Rattle.fab_designs.proofs.fab_wide_Whole as fab_wide_Whole

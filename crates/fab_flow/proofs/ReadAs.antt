@@ -22,12 +22,12 @@ use Rattle.fab_outputs.specs.Storing.{PlainOutput}
 use Rattle.fab_flow.specs.Assembling.{IsAssembly}
 use Rattle.fab_flow.specs.Flowing.{IsFlow}
 
+-- each of the first nets has its value
+pub has_within : (nets : ℕ) (now : ℕ → Bool) (net : ℕ) → net < nets → within nets now net ≡ now net
+has_within nets now net below = ap (λ (is : Bool). is && now net) (lt-ltb net nets below)
+
 module _ (read netlist : PlainNetlist) (alike : RunsAs read netlist) where
   -- ---- pads
-
-  -- a net of the netlist that was read has its value
-  known : (now : ℕ → Bool) (net : ℕ) → net < length read.nets → within (length read.nets) now net ≡ now net
-  known now net below = ap (λ (is : Bool). is && now net) (lt-ltb net (length read.nets) below)
 
   module _ (implementation : PlainImplementation) where
     shows_read : (nets : ℕ → Bool) (i : Instant) → Shows netlist implementation i.now nets → Shows read implementation i.now (within (length read.nets) nets)
@@ -36,7 +36,7 @@ module _ (read netlist : PlainNetlist) (alike : RunsAs read netlist) where
           let below = alike.ports net (Contains-append_right read.inputs read.outputs net (place, at.0, at.1)) in
           shows.outputs place net site (subst (λ (ports : List ℕ). IsAt ports place net) (sym alike.outputs) at)
               (subst (λ (name : List ℕ). Contains implementation.outs (name, site)) (sym (alike.names net below)) among)
-          ∙ sym (known nets net below);
+          ∙ sym (has_within (length read.nets) nets net below);
       driven = shows.driven;
       released = shows.released;
     }
