@@ -1,6 +1,7 @@
 -- The files of a sample spell its design.
-use Rattle.std.proofs.Common.{◌≡◌, ◌≤◌, ℕ, true, false, List, [], codes, length, nat_lt, Some, refl, sym, subst, arith}
+use Rattle.std.proofs.Common.{◌≡◌, ◌≤◌, ◌+◌, ℕ, true, false, List, [], codes, length, nat_lt, Some, refl, sym, ap, replicate, ◌∙◌, arith}
 use Rattle.std.specs.Str.{is_utf8, chars}
+use Rattle.std.proofs.lemmas.List.{length-append, length-replicate}
 use lib.Utf8.{encode}
 use Rattle.std.proofs.lemmas.Bool.Decides.{nat_tests}
 use Rattle.std.proofs.lemmas.List.Elements.{All-from_recursion}
@@ -10,7 +11,7 @@ use Rattle.fab_netlist.specs.Plain.{PlainNetlist}
 use Rattle.fab_netlist.specs.WellMade.{most_nets}
 use Rattle.fab_blif.specs.Blif.{netlist_in}
 use Rattle.fab_blif.proofs.Netlists.{netlist_is_well_made, wide_is_made}
-use Rattle.fab_flow.specs.fab_wide_Split.{split_of}
+use Rattle.fab_flow.specs.fab_wide_Split.{all_taken, split_nets, split_of}
 use Rattle.fab_flow.proofs.fab_wide_Whole.{split_same}
 use Rattle.fab_flow.specs.fab_designs_Designs.{PlainDesign}
 use Rattle.fab_sample.specs.Drawn.{covers, sample_latches}
@@ -29,6 +30,14 @@ not_long bytes short = grind (arith, nat_tests)
 blif_name : is_utf8 (codes "sample.blif") ≡ true
 unfolding is_utf8 chars encode
 blif_name = refl
+
+-- a netlist that splitting leaves as it is has the nets that it has
+few_nets : (netlist : PlainNetlist) → netlist ≡ split_of netlist → length netlist.nets ≤ most_nets → split_nets netlist ≤ most_nets
+few_nets netlist same few =
+    let counted : length netlist.nets ≡ split_nets netlist =
+    ap (λ (n : PlainNetlist). length n.nets) same ∙ length-append netlist.nets (replicate (all_taken netlist.covers) [])
+    ∙ ap (λ (count : ℕ). length netlist.nets + count) (length-replicate (all_taken netlist.covers) []) in
+    omega (arith, few, counted)
 
 module _ (files : Map) (size : ℕ) (draws : ℕ → ℕ) (told : TellsSample files size draws) where
   pub tells_fabric : TellsFabric files size
@@ -60,7 +69,7 @@ designs_read files size draws least most told =
             found = handed files (codes "sample.blif") bytes blif_name (blif_stands files size draws told) (not_long bytes reads.short);
             spelled = record {
               is_blif = reads.blif;
-              few = subst (λ (n : PlainNetlist). length n.nets ≤ most_nets) unsplit (wide_is_made bytes reads.blif).wired.small;
+              few = few_nets (netlist_in bytes) unsplit (wide_is_made bytes reads.blif).wired.small;
               is = unsplit;
             };
           };
