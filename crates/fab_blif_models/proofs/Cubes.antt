@@ -30,9 +30,9 @@ signs_low : (test : ℕ → Bool) (pattern : List ℕ) → number (map test patt
 signs_low test [] = omega arith
 signs_low test (sign ∷ pattern) = low (test sign) (number (map test pattern)) (length pattern) (signs_low test pattern)
   where
-    low : (b : Bool) (k n : ℕ) → k < 2 ^ n → bit_number b + 2 * k < 2 ^ (n + 1)
-    low true k n small = let more : n + 1 ≡ suc n = omega arith in rw more (omega (arith, pow-suc 2 n))
-    low false k n small = let more : n + 1 ≡ suc n = omega arith in rw more (omega (arith, pow-suc 2 n))
+    low : (b : Bool) (k n : ℕ) → k < 2 ^ n → bit_number b + 2 * k < 2 ^ suc n
+    low true k n small = omega (arith, pow-suc 2 n)
+    low false k n small = omega (arith, pow-suc 2 n)
 
 -- a bit in front of two numbers
 and_bits : (a b : Bool) (x y : ℕ) → bit_and (bit_number a + 2 * x) (bit_number b + 2 * y) ≡ bit_number (a && b) + 2 * bit_and x y
