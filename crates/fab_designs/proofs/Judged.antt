@@ -14,10 +14,8 @@ use Rattle.fab_implementation.specs.Plain.{Pad, PlainImplementation}
 use Rattle.fab_texts.specs.Rows.{rows_of}
 use Rattle.fab_read.specs.Fabrics.{SpellsFabric, MeetsFabric}
 use Rattle.fab_read.proofs.FabricsOnce.{one_fabric, refused_once, not_refused}
-use Rattle.fab_blif.specs.Blif.{netlist_in}
 use Rattle.fab_blif.proofs.Once.{numbered_once}
 use Rattle.fab_blif.proofs.Excluded as blif
-use Rattle.fab_wide.proofs.Whole.{split_nets}
 use Rattle.fab_state.specs.Constraints.{data_ports}
 use Rattle.fab_state.proofs.FixingsBack.{spelled_fixings}
 use Rattle.fab_impl.specs.Spelled.{Spells}
@@ -47,7 +45,7 @@ netlist_numbered file bytes a b (inr x) (inr y) = ap number_of (x.1.1 ∙ sym y.
 netlist_apart : (file bytes : List ℕ) (netlist : PlainNetlist) (fault : Fault) → SpellsNetlist bytes netlist → RefusesNetlist file bytes fault → ⊥
 netlist_apart file bytes netlist fault spells (inl x) = blif.not_refused 16 file bytes fault spells.is_blif x
 netlist_apart file bytes netlist fault spells (inr x) =
-    omega (arith, spells.few, x.1.0, split_nets (netlist_in bytes))
+    omega (arith, spells.few, x.1.0)
 
 netlist_is_judged : (file : List ℕ) → AreJudged SameNumber SpellsNetlist (RefusesNetlist file)
 netlist_is_judged file = record {

@@ -1,5 +1,5 @@
 -- What is read of each file, put together.
-use Rattle.std.proofs.Common.{◌≡◌, ◌≢◌, ◌≤◌, ◌⊎◌, ◌+◌, ℕ, List, [], length, Result, Ok, Err, IfOk, OnOk, inl, inr, sym, ap, ◌∙◌, subst, arith}
+use Rattle.std.proofs.Common.{◌≡◌, ◌≢◌, ◌≤◌, ◌⊎◌, ℕ, List, [], Result, Ok, Err, IfOk, OnOk, inl, inr, sym, ap, ◌∙◌, subst}
 use Rattle.fab_base.specs.declared.fault.Fault.{Fault}
 use Rattle.fab_base.specs.declared.fault.Fault.TheVariants as faults
 use Rattle.fab_desk.specs.Files.{Map}
@@ -15,36 +15,22 @@ use Rattle.fab_lines.specs.Counts.{last_line}
 use Rattle.fab_texts.specs.Rows.{Word, rows_of}
 use Rattle.fab_fabric.proofs.Samples.{no_pairs}
 use Rattle.fab_blif.specs.Blif.{IsBlif, wide_in}
-use Rattle.fab_wide.specs.Split.{RefusesSplit, all_taken, split_of}
-use Rattle.fab_wide.proofs.Whole.{split_nets}
+use Rattle.fab_wide.specs.Split.{RefusesSplit, split_nets, split_of}
 use Rattle.fab_state.specs.Constraints.{AreFixings}
 use Rattle.fab_impl.specs.Spelled.{Says, Spells}
 use Rattle.fab_impl.proofs.Spelled.{whole_spells}
 use Rattle.fab_designs.specs.Designs.{RefusesNetlist, SpellsNetlist}
 use Rattle.fab_designs.specs.Implementations.{SpellsImplementation}
 
--- nets that are few when they are counted are few when they are there
-few_nets : (netlist : PlainNetlist) → length netlist.nets + all_taken netlist.covers ≤ most_nets → length (split_of netlist).nets ≤ most_nets
-few_nets netlist few = omega (arith, few, split_nets netlist)
-
 -- what is split of a BLIF file's netlist is spelled,
 pub split_is_spelled : (bytes : List ℕ) (wide : PlainWide) (result : Result PlainNetlist Fault) → IsBlif 16 bytes → wide ≡ wide_in bytes
-    → OnOk result (length wide.nets + all_taken (tabled wide).covers ≤ most_nets) → IfOk result (λ netlist. netlist ≡ split_of (tabled wide))
-    → IfOk result (SpellsNetlist bytes)
-split_is_spelled bytes wide (Ok netlist) fine wide_is few is =
-    let few_there = few_nets (tabled wide) few in
-    record {
-      is_blif = fine;
-      few = subst (λ (w : PlainWide). length (split_of (tabled w)).nets ≤ most_nets) wide_is few_there;
-      is = is ∙ ap (λ (w : PlainWide). split_of (tabled w)) wide_is;
-    }
+    → OnOk result (split_nets (tabled wide) ≤ most_nets) → IfOk result (λ netlist. netlist ≡ split_of (tabled wide)) → IfOk result (SpellsNetlist bytes)
+split_is_spelled bytes wide (Ok netlist) fine wide_is few is = record {
+  is_blif = fine;
+  few = subst (λ (w : PlainWide). split_nets (tabled w) ≤ most_nets) wide_is few;
+  is = is ∙ ap (λ (w : PlainWide). split_of (tabled w)) wide_is;
+}
 split_is_spelled bytes wide (Err fault) fine wide_is few is = tt
-
--- has few nets,
-pub split_is_small : (wide : PlainWide) (result : Result PlainNetlist Fault) → OnOk result (length wide.nets + all_taken (tabled wide).covers ≤ most_nets)
-    → IfOk result (λ netlist. netlist ≡ split_of (tabled wide)) → IfOk result (λ netlist. length netlist.nets ≤ most_nets)
-split_is_small wide (Ok netlist) few is = subst (λ (n : PlainNetlist). length n.nets ≤ most_nets) (sym is) (few_nets (tabled wide) few)
-split_is_small wide (Err fault) few is = tt
 
 -- and is refused behind all else
 pub split_is_refused : (file bytes : List ℕ) (last : ℕ) (wide : PlainWide) (fault : Fault) → IsBlif 16 bytes → wide ≡ wide_in bytes → last ≡ last_line bytes

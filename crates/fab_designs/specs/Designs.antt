@@ -1,5 +1,5 @@
 -- The files of a design, one behind the other: what they spell, and what a reader of them comes upon before anything is refused.
-use Rattle.std.specs.Prelude.{◌≡◌, ◌≤◌, ◌⊎◌, ℕ, List, [], length, Option}
+use Rattle.std.specs.Prelude.{◌≡◌, ◌≤◌, ◌⊎◌, ℕ, List, [], Option}
 use Rattle.fab_base.specs.declared.fault.Fault.{Fault}
 use Rattle.fab_desk.specs.Files.{Map}
 use Rattle.fab_model.specs.Grid.{PlainFabric}
@@ -13,7 +13,7 @@ use Rattle.fab_files.specs.Files.{Event}
 use Rattle.fab_files.specs.Stages.{ReadsFrom, MeetsIn, ReadsIfNamed, MeetsIfNamed, MeetsBehind}
 use Rattle.fab_read.specs.Fabrics.{SpellsFabric, MeetsFabric}
 use Rattle.fab_blif.specs.Blif.{IsBlif, RefusesBlif, netlist_in}
-use Rattle.fab_wide.specs.Split.{split_of, RefusesSplit}
+use Rattle.fab_wide.specs.Split.{split_of, split_nets, RefusesSplit}
 use Rattle.fab_state.specs.Constraints.{SpellsFixings, constraint_format, data_ports}
 
 -- the names of the fabric file, of the BLIF file, and of the pcf file where a command names one
@@ -36,7 +36,7 @@ pub record PlainDesign : Type 0 where
 -- The netlist of a BLIF file, with each cover of more than four inputs split. It has few enough nets then, too.
 pub record SpellsNetlist (bytes : List ℕ) (netlist : PlainNetlist) : Type 0 where
   pub is_blif : IsBlif 16 bytes
-  pub few : length (split_of (netlist_in bytes)).nets ≤ most_nets
+  pub few : split_nets (netlist_in bytes) ≤ most_nets
   pub is : netlist ≡ split_of (netlist_in bytes)
 
 -- constraints of the data ports of this netlist, on sites of this fabric

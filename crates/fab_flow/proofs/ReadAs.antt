@@ -35,7 +35,7 @@ module _ (read netlist : PlainNetlist) (alike : RunsAs read netlist) where
       outputs = λ place net site at among.
           let below = alike.ports net (Contains-append_right read.inputs read.outputs net (place, at.0, at.1)) in
           shows.outputs place net site (subst (λ (ports : List ℕ). IsAt ports place net) (sym alike.outputs) at)
-              (subst (λ (name : List ℕ). Contains implementation.outs (name, site)) (sym (alike.names net below)) among)
+          (subst (λ (name : List ℕ). Contains implementation.outs (name, site)) (sym (alike.names net below)) among)
           ∙ sym (has_within (length read.nets) nets net below);
       driven = shows.driven;
       released = shows.released;

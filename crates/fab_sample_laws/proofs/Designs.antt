@@ -1,5 +1,5 @@
 -- The files of a sample spell its design.
-use Rattle.std.proofs.Common.{◌≡◌, ◌≤◌, ℕ, true, false, List, [], codes, length, nat_lt, Some, refl, sym, subst, arith}
+use Rattle.std.proofs.Common.{◌≡◌, ◌≤◌, ℕ, true, false, List, [], codes, length, nat_lt, Some, refl, sym, ap, ◌∙◌, arith}
 use Rattle.std.specs.Str.{is_utf8, chars}
 use lib.Utf8.{encode}
 use Rattle.std.proofs.lemmas.Bool.Decides.{nat_tests}
@@ -10,8 +10,8 @@ use Rattle.fab_netlist.specs.Plain.{PlainNetlist}
 use Rattle.fab_netlist.specs.WellMade.{most_nets}
 use Rattle.fab_blif.specs.Blif.{netlist_in}
 use Rattle.fab_blif.proofs.Netlists.{netlist_is_well_made, wide_is_made}
-use Rattle.fab_flow.specs.fab_wide_Split.{split_of}
-use Rattle.fab_flow.proofs.fab_wide_Whole.{split_same}
+use Rattle.fab_flow.specs.fab_wide_Split.{split_nets, split_of}
+use Rattle.fab_flow.proofs.fab_wide_Whole.{split_many, split_same}
 use Rattle.fab_flow.specs.fab_designs_Designs.{PlainDesign}
 use Rattle.fab_sample.specs.Drawn.{covers, sample_latches}
 use Rattle.fab_sample.specs.Files.{file_of, fabric_files}
@@ -29,6 +29,12 @@ not_long bytes short = grind (arith, nat_tests)
 blif_name : is_utf8 (codes "sample.blif") ≡ true
 unfolding is_utf8 chars encode
 blif_name = refl
+
+-- a netlist that splitting leaves as it is has the nets that it has
+few_nets : (netlist : PlainNetlist) → netlist ≡ split_of netlist → length netlist.nets ≤ most_nets → split_nets netlist ≤ most_nets
+few_nets netlist same few =
+    let counted : length netlist.nets ≡ split_nets netlist = ap (λ (n : PlainNetlist). length n.nets) same ∙ split_many netlist in
+    omega (arith, few, counted)
 
 module _ (files : Map) (size : ℕ) (draws : ℕ → ℕ) (told : TellsSample files size draws) where
   pub tells_fabric : TellsFabric files size
@@ -60,7 +66,7 @@ designs_read files size draws least most told =
             found = handed files (codes "sample.blif") bytes blif_name (blif_stands files size draws told) (not_long bytes reads.short);
             spelled = record {
               is_blif = reads.blif;
-              few = subst (λ (n : PlainNetlist). length n.nets ≤ most_nets) unsplit (wide_is_made bytes reads.blif).wired.small;
+              few = few_nets (netlist_in bytes) unsplit (wide_is_made bytes reads.blif).wired.small;
               is = unsplit;
             };
           };

@@ -1,6 +1,7 @@
 use Rattle.std.proofs.Common.{inl}
 use Rattle.std.proofs.lemmas.Result.{IfErr-weaker, IfOk-weaker, err_from_is_err_and}
-use Rattle.fab_designs.proofs.Parts.{split_is_refused, split_is_small, split_is_spelled}
+use Rattle.fab_designs.proofs.Parts.{split_is_refused, split_is_spelled}
+use Rattle.fab_designs.proofs.SplitNetlists.{netlist_made}
 use Rattle.fab_designs.proofs.netlist.split_netlist.Goals as goal
 
 pub returns-in_err-netlist-clause-refused : goal.returns-in_err-netlist-clause-refused
@@ -20,7 +21,10 @@ pub returns-clause-acyclic : goal.returns-clause-acyclic
 returns-clause-acyclic c = IfOk-weaker c.split.result _ _ (λ netlist kept. kept c.in_ok-netlist.ensures.acyclic) c.split.ensures.acyclic
 
 pub returns-clause-small : goal.returns-clause-small
-returns-clause-small c = split_is_small c.in_ok-netlist.netlist c.split.result c.split.ensures.fits c.split.ensures.split
+returns-clause-small c =
+    let read = c.in_ok-netlist.ensures in
+    IfOk-weaker c.split.result _ _ (λ netlist spelled. (netlist_made c.args.bytes.now netlist spelled).small)
+    (split_is_spelled c.args.bytes.now c.in_ok-netlist.netlist c.split.result read.fine read.netlist c.split.ensures.fits c.split.ensures.split)
 
 pub returns-clause-refused : goal.returns-clause-refused
 returns-clause-refused c =
