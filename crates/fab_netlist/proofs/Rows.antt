@@ -145,7 +145,7 @@ any_push test xs x = list_any-append test xs (x ∷ []) ∙ ap (λ (b : Bool). l
     or_false false = refl
 
 -- one row more
-pub rows_more : (rows : List Cube) (place turn : ℕ) (d : Cube) → turn < length rows → bit_or (rows_bits (take turn rows) place) (row_bits (get_or rows turn d) place) ≡ rows_bits (take (turn + 1) rows) place
+rows_more : (rows : List Cube) (place turn : ℕ) (d : Cube) → turn < length rows → bit_or (rows_bits (take turn rows) place) (row_bits (get_or rows turn d) place) ≡ rows_bits (take (turn + 1) rows) place
 rows_more rows place turn d small =
     let cube = get_or rows turn d in
     let before = take turn rows in
@@ -153,6 +153,12 @@ rows_more rows place turn d small =
     ∙ ap number (first_bits_same 16 (λ low. list_any (λ c. matches c (16 * place + low)) (before ++ cube ∷ [])) (λ low. list_any (λ c. matches c (16 * place + low)) before || matches cube (16 * place + low))
     (λ low below. any_push (λ c. matches c (16 * place + low)) before cube))
     ∙ or_first_bits 16 (λ low. list_any (λ c. matches c (16 * place + low)) before) (λ low. matches cube (16 * place + low)))
+
+pub rows_step : (rows items : List Cube) (place turn covered bits : ℕ) (d : Cube) → items ≡ rows → turn < length items → covered ≡ rows_bits (take turn rows) place → bits ≡ row_bits (get_or items turn d) place →
+    bit_or covered bits ≡ rows_bits (take (turn + 1) rows) place
+rows_step rows items place turn covered bits d same small before one =
+    let here : bits ≡ row_bits (get_or rows turn d) place = one ∙ ap (λ (list : List Cube). row_bits (get_or list turn d) place) same in
+    (λ j. bit_or (before j) (here j)) ∙ rows_more rows place turn d (omega (arith, small, ap length same))
 
 pub rows_at_first : (place : ℕ) → 0 ≡ rows_bits [] place
 rows_at_first place = sym (no_bits 16)

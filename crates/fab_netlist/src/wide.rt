@@ -6,7 +6,7 @@ ghost use Rattle.fab_base.specs.declared.fault.Fault.TheVariants as faults;
 ghost use Rattle.fab_bits.specs.Bits.{bit_number, first_bits, number};
 ghost use Rattle.fab_netlist.specs.Cycles.{HasNoCycle, NamesCycle};
 ghost use Rattle.fab_netlist.specs.Wide.{IsWideMade, matches, rows_say, tabled};
-ghost use Rattle.fab_netlist.specs.inner.Skeleton.{bare_cover};
+ghost use Rattle.fab_netlist.specs.inner.Skeleton.{bare, bare_cover};
 
 use crate::netlist::{Cover, Latch, Order, Parts};
 use crate::refusal::fault_of;
@@ -152,6 +152,23 @@ impl Model for WideNetlist {
     ghost view = { λ netlist. record { nets = netlist.nets.items; inputs = netlist.inputs.items; outputs = netlist.outputs.items; covers = netlist.covers.items; latches = netlist.latches.items } };
 }
 
+impl WideNetlist {
+    /// What a search for cycles goes through, where these are the covers without their rows.
+    fn with_bare<'a>(&'a self, covers: &'a [Cover]) -> Parts<'a>
+        requires { covers.now ≡ map bare_cover self.now.covers }
+        ensures { result ≡ bare self.now }
+    {
+        Parts {
+            nets: &self.nets,
+            inputs: &self.inputs,
+            outputs: &self.outputs,
+            covers,
+            latches: &self.latches,
+            reset: None,
+        }
+    }
+}
+
 fn bare_covers(alloc: Global, covers: &[WideCover]) -> Result<Vec<Cover>, Memory>
     ensures { IfOk result (λ bare. bare.items ≡ map bare_cover covers.now) }
 {
@@ -169,14 +186,7 @@ pub fn check_acyclic_wide(alloc: Global, file: &Name, netlist: &WideNetlist) -> 
     ensures refused { IfErr result (λ fault. (fault ≡ faults.Memory) ⊎ NamesCycle file.now (tabled netlist.now) fault) }
 {
     let covers = bare_covers(alloc, &netlist.covers)?;
-    let parts = Parts {
-        nets: &netlist.nets,
-        inputs: &netlist.inputs,
-        outputs: &netlist.outputs,
-        covers: &covers,
-        latches: &netlist.latches,
-        reset: None,
-    };
+    let parts = netlist.with_bare(&covers);
     match find_order(alloc, &parts)? {
         Order::Straight(_) => Ok(()),
         Order::Round(round) => Err(fault_of(alloc, file, &parts, &round)?),
