@@ -72,6 +72,12 @@ behind_longer first (m ∷ rest) more fit later =
 
 -- ---- together
 
+abbrev Joined : (PlainExpr → Type 0) → PlainJoin → Type 0
+Joined Q join = All Q (joined_expressions join.to)
+
+joined : (Q : PlainExpr → Type 0) → ((name : List ℕ) → Q (variable name)) → (name : List ℕ) → Joined Q (same_join name)
+joined Q each name = All-cons Q (variable name) [] (each name) (All-nil Q)
+
 module _ (text : List PlainModule) (can : CanHaveSerialPort text) where
   abbrev whole_text : List PlainModule
   whole_text = whole text can
@@ -104,15 +110,10 @@ module _ (text : List PlainModule) (can : CanHaveSerialPort text) where
   named_alone Q each =
       top.four_items text can (λ item. All Q (item_expressions item)) (All-nil Q) (All-nil Q)
       (all_flat_map Q (λ (join : PlainJoin). joined_expressions join.to) serial_joins
-      (top.five_joins text can Joined (one clock_name) (one serial_strobe_name) (one serial_data_name) (one write_strobe_name) (one write_data_name)))
+      (top.five_joins text can (Joined Q) (joined Q each clock_name) (joined Q each serial_strobe_name) (joined Q each serial_data_name) (joined Q each write_strobe_name)
+      (joined Q each write_data_name)))
       (all_flat_map Q (λ (join : PlainJoin). joined_expressions join.to) (map (λ (port : Port). same_join port.name) can.top.ports)
-      (All-map Joined (λ (port : Port). same_join port.name) can.top.ports (λ k d within. one (get_or can.top.ports k d).name)))
-    where
-      abbrev Joined : PlainJoin → Type 0
-      Joined join = All Q (joined_expressions join.to)
-
-      one : (name : List ℕ) → Joined (same_join name)
-      one name = All-cons Q (variable name) [] (each name) (All-nil Q)
+      (All-map (Joined Q) (λ (port : Port). same_join port.name) can.top.ports (λ k d within. joined Q each (get_or can.top.ports k d).name)))
 
   alone : (P : PlainExpr → Type 0) → ((name : List ℕ) → P (variable name)) → (name : List ℕ) → Every P (variable name)
   alone P each name = All-cons P (variable name) [] (each name) (All-nil P)
@@ -127,9 +128,14 @@ module _ (text : List PlainModule) (can : CanHaveSerialPort text) where
         (named_alone (Every (SelectFits new_top)) (alone (SelectFits new_top) (λ name. tt)));
     widths = both (λ m. All (λ item. All (Every (OperandsFit m)) (item_expressions item) × SidesFit m item) m.items) can.sound.widths port.widths
         (λ k d within. (named_alone (Every (OperandsFit new_top)) (alone (OperandsFit new_top) (λ name. tt)) k d within, sides k d within));
-    instances = behind_longer [] text two can.sound.instances
-        (port.instances, (top.instances_fit text can (text ++ serial_module ∷ []) (named_behind text (serial_module ∷ []) serial_module_name can.no_port)
-        (named_longer text (serial_module ∷ []) can.top.name can.top (fabric_before text can)), tt));
+    instances = behind_longer [] text two can.sound.instances (
+      port.instances,
+      (
+        top.instances_fit text can (text ++ serial_module ∷ []) (named_behind text (serial_module ∷ []) serial_module_name can.no_port)
+            (named_longer text (serial_module ∷ []) can.top.name can.top (fabric_before text can)),
+        tt,
+      ),
+    );
     drivers = both (λ m. All (PortIsDriven whole_text m) m.ports × All (ItemIsDriven whole_text m) m.items) (before.drivers_fit text two same can.sound.drivers)
         (port.ports_driven, port.items_driven) (top.ports_driven text can, top.items_driven text can);
     clocks = both (λ m. All (ClockFits whole_text m) m.items) (before.clocks_fit text two same can.sound.clocks) port.clocks (top.clocks_fit text can same);

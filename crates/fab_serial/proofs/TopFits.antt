@@ -138,16 +138,18 @@ module _ (text : List PlainModule) (can : CanHaveSerialPort text) where
   module _ (before : List PlainModule) (port_named_so : module_named before serial_module_name ≡ Some serial_module) (fabric_named_so : module_named before can.top.name ≡ Some can.top) where
     port_fits : InstanceFits before top port_item
     port_fits =
-        subst (λ found. IsSomeAnd found (λ (below : PlainModule). All (JoinFits top below) serial_joins × All (IsJoinedOnce serial_joins) below.ports)) (sym port_named_so)
-        (five_joins (JoinFits top serial_module) refl refl refl (ap width_if_any strobe_shape) (ap width_if_any data_shape),
-        ports_joined)
+        subst (λ found. IsSomeAnd found (λ (below : PlainModule). All (JoinFits top below) serial_joins × All (IsJoinedOnce serial_joins) below.ports)) (sym port_named_so) (
+          five_joins (JoinFits top serial_module) refl refl refl (ap width_if_any strobe_shape) (ap width_if_any data_shape),
+          ports_joined,
+        )
 
     fabric_fits : InstanceFits before top fabric
     fabric_fits =
-        subst (λ found. IsSomeAnd found (λ (below : PlainModule). All (JoinFits top below) joins × All (IsJoinedOnce joins) below.ports)) (sym fabric_named_so)
-        (All-map (JoinFits top can.top) (λ (port : Port). same_join port.name) can.top.ports
-        (λ k d within. fabric_join_fits (get_or can.top.ports k d) (Contains-get_or can.top.ports k d within)),
-        λ k d within. joined_once (get_or can.top.ports k d) (Contains-get_or can.top.ports k d within))
+        subst (λ found. IsSomeAnd found (λ (below : PlainModule). All (JoinFits top below) joins × All (IsJoinedOnce joins) below.ports)) (sym fabric_named_so) (
+          All-map (JoinFits top can.top) (λ (port : Port). same_join port.name) can.top.ports
+              (λ k d within. fabric_join_fits (get_or can.top.ports k d) (Contains-get_or can.top.ports k d within)),
+          λ k d within. joined_once (get_or can.top.ports k d) (Contains-get_or can.top.ports k d within),
+        )
 
     pub instances_fit : All (InstanceFits before top) top.items
     instances_fit = four_items (InstanceFits before top) tt tt port_fits fabric_fits
@@ -194,9 +196,11 @@ module _ (text : List PlainModule) (can : CanHaveSerialPort text) where
         | inl enters ↦ (let is = pad_is text can port there pad in
             subst (λ input. Among input port.name) (sym enters)
             (none_of port.name (λ same. is.no_strobe (sym same)) (λ same. is.no_data (sym same)) (λ k d within. no_output port.name (port_direction port can.top.ports (apart text can) there ∙ enters) (get_or can.top.ports k d))))
-        | inr leaves ↦ subst (λ input. Among input port.name) (sym leaves)
-            (contains_later write_strobe_name port.name (write_data_name ∷ outs can.top can.top.ports) (contains_later write_data_name port.name (outs can.top can.top.ports)
-            (outs_there can.top can.top.ports port there.0 there.1 there.2 (port_direction port can.top.ports (apart text can) there ∙ leaves))), All-nil (λ other. other ≢ port.name))
+        | inr leaves ↦ subst (λ input. Among input port.name) (sym leaves) (
+          contains_later write_strobe_name port.name (write_data_name ∷ outs can.top can.top.ports) (contains_later write_data_name port.name (outs can.top can.top.ports)
+              (outs_there can.top can.top.ports port there.0 there.1 there.2 (port_direction port can.top.ports (apart text can) there ∙ leaves))),
+          All-nil (λ other. other ≢ port.name),
+        )
       ]
 
   by_driven : (port : Port) → Among port.input port.name → PortIsDriven whole_text top port

@@ -94,7 +94,7 @@ module _ (nested : NestedTexts) (text : List PlainModule) (can : CanHaveSerialPo
     clock_declared : is_declared outer (point fabric_path clock_name 0) ≡ true
     clock_declared = ap (nat_lt 0) (fabric_clock_wide text can)
 
-    fabric_clock_low : now (point [] clock_name 0) ≡ false → within fabric now (point [] clock_name 0) ≡ false
+    pub fabric_clock_low : now (point [] clock_name 0) ≡ false → within fabric now (point [] clock_name 0) ≡ false
     fabric_clock_low low =
         settled (point fabric_path clock_name 0) (bit_of [] (variable clock_name) 0) (registers text can, closed text can, clock_taken text can 0 clock_declared)
         (into_fabric text can clock_name can.clock.0 0)

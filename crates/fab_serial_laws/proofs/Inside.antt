@@ -127,6 +127,8 @@ module _ (inner outer : List PlainModule) (i : List ℕ) (InnerStream Stream : P
 -- Closed flip-flops of the outer text lead its stream to the inputs of the inner one that carry a stream. So to all that is led by it.
 pub goes_inside : (inner outer : List PlainModule) (i : List ℕ) (InnerStream Stream : Point → Type 0) (flops : Point → Bool) → StandsIn inner outer i → IsSameClock inner outer i clock_name →
     IsClosedBy outer Stream flops → ((p : Point) → InnerStream p → WithinBy outer Stream flops (inside i p)) → (p : Point) → IsLed inner InnerStream p → IsLed outer Stream (inside i p)
-goes_inside inner outer i InnerStream Stream flops stands same closed carries p (own, own_closed, is) =
-    (both inner outer i InnerStream Stream flops stands same closed carries own own_closed, both_closed inner outer i InnerStream Stream flops stands same closed carries own own_closed,
-    goes inner outer i InnerStream Stream flops stands same closed carries own own_closed p is)
+goes_inside inner outer i InnerStream Stream flops stands same closed carries p (own, own_closed, is) = (
+  both inner outer i InnerStream Stream flops stands same closed carries own own_closed,
+  both_closed inner outer i InnerStream Stream flops stands same closed carries own own_closed,
+  goes inner outer i InnerStream Stream flops stands same closed carries own own_closed p is,
+)

@@ -1,5 +1,5 @@
 -- The words of a bitstream, sent bit by bit, configure the fabric behind the port.
-use Rattle.std.proofs.Common.{◌≡◌, ◌≢◌, ◌<◌, ℕ, Bool, true, false, ◌&&◌, ◌||◌, List, [], ◌∷◌, ◌++◌, ◌⊎◌, map, reverse, append_assoc, All, refl, sym, ap, ap₂, ◌∙◌, subst, inl, inr}
+use Rattle.std.proofs.Common.{◌≡◌, ◌≢◌, ◌<◌, ℕ, Bool, true, false, ◌&&◌, ◌||◌, List, [], ◌∷◌, ◌++◌, ◌⊎◌, map, get_or, reverse, append_assoc, All, refl, sym, ap, ap₂, ◌∙◌, subst, inl, inr}
 use Rattle.std.specs.List.{AllZip, flat_map}
 use Rattle.std.specs.Str.{bytes_eq}
 use Rattle.std.proofs.lemmas.Bool.{cases_Bool}
@@ -18,6 +18,7 @@ use Rattle.fab_drives_laws.specs.fab_model_Drive.{PlainBits}
 use Rattle.fab_text_loads_laws.specs.fab_fabric_Fabric.{IsFabric}
 use Rattle.fab_text_loads_laws.specs.fab_fabric_text_defs_Texts.{IsFabricText}
 use Rattle.fab_text_loads_laws.specs.Loads.{IsTurn, Writes, IsQuiet, LoadsConfigurations}
+use Rattle.fab_text_loads_laws.specs.fab_frames_Stream.{stream}
 use Rattle.fab_load_runs_laws.specs.Runs.{HasClocks, IsClockLow, LedRunsExist}
 use Rattle.fab_nested_laws.specs.Nested.{within, NestedTexts}
 use Rattle.fab_serial.specs.fab_loading_laws_Latches as latches
@@ -74,6 +75,10 @@ words_sent : (words : List (List Bool)) → (moments : List Moment) × SendsWord
 words_sent words =
     let turns = still ∷ (flat_map sent words ++ still ∷ []) in
     (map moment_of turns, record { turns = turns; each = is_turn turns; sends = ap (λ rest. still ∷ rest) (words_clocked words) }, moments_low turns)
+
+-- the words of numbers have 32 bits
+pub words_long : (numbers : List ℕ) → All IsWord (map (digits 32) numbers)
+words_long numbers = All-map IsWord (digits 32) numbers (λ k d within. digits_long 32 (get_or numbers k d))
 
 -- ---- exactly one run
 
@@ -174,27 +179,39 @@ module _ (text : List PlainModule) (can : CanHaveSerialPort text) where
     offered_whole : (words : List (List Bool)) → offered text words ≡ words
     offered_whole words = ap (λ width. offered_at width words) (ap (λ m. width_in m write_data_name) can.top_is ∙ ap width_if_any can.word.1)
 
-    module _ (fabric : PlainFabric) (loads : LoadsConfigurations fabric text) (bits : PlainBits) where
-      stream_long : All IsWord (stream_words fabric bits)
-      stream_long = All-map IsWord (digits 32) _ (λ k d within. digits_long 32 _)
+    -- the words come to the fabric, and leave the port empty
+    pub record Written (words : List (List Bool)) (after : Assignment) : Type 0 where
+      pub moments : List Moment
+      pub between : Assignment
+      pub writes : Writes text words moments
+      pub run : IsRunOn (IsLoading text) text moments between (within fabric_instance_name after)
+      pub empty : full_bit after ≡ false
 
+    pub written : (words : List (List Bool)) → All IsWord words → (moments : List Moment) (held after : Assignment) → SendsWords words moments →
+        IsRunOn (IsSerialLoading outer) outer moments held after → Written words after
+    written words long moments held after sends run =
+        let shown = shown_run (IsSerialLoading outer) outer moments held after run in
+        let each : SendsWords words (moments_of shown.0) = subst (SendsWords words) (sym shown.1) sends in
+        let delivered = delivers_whole text can words shown.0 held after long each shown.2 in
+        let between = held_behind (IsSerialLoading outer) outer shown.0 delivered.0 held after delivered.1 shown.2 in
+        record {
+          moments = inner_moments nested text can delivered.0;
+          between = within fabric_instance_name between.0;
+          writes = record {
+            turns = delivered.2.turns;
+            each = turns_inside delivered.2.turns delivered.0 (subst (All IsWord) (sym delivered.2.words_are) long) delivered.2.each;
+            written = delivered.2.words_are ∙ sym (offered_whole words);
+          };
+          run = inner_run nested text can delivered.0 between.0 after between.1;
+          empty = ends_empty each.turns shown.0 held after (still ∷ flat_map sent words) each.sends each.each shown.2;
+        }
+
+    module _ (fabric : PlainFabric) (loads : LoadsConfigurations fabric text) (bits : PlainBits) where
       configures : (moments : List Moment) (held after : Assignment) → SendsWords (stream_words fabric bits) moments → IsRunOn (IsSerialLoading outer) outer moments held after →
           IsConfiguredBehind fabric bits after
       configures moments held after sends run =
-          let shown = shown_run (IsSerialLoading outer) outer moments held after run in
-          let each : SendsWords (stream_words fabric bits) (moments_of shown.0) = subst (SendsWords (stream_words fabric bits)) (sym shown.1) sends in
-          let delivered = delivers_whole text can (stream_words fabric bits) shown.0 held after stream_long each shown.2 in
-          let between = held_behind (IsSerialLoading outer) outer shown.0 delivered.0 held after delivered.1 shown.2 in
-          let writes : Writes text (stream_words fabric bits) (inner_moments nested text can delivered.0) = record {
-            turns = delivered.2.turns;
-            each = turns_inside delivered.2.turns delivered.0 (subst (All IsWord) (sym delivered.2.words_are) stream_long) delivered.2.each;
-            written = delivered.2.words_are ∙ sym (offered_whole (stream_words fabric bits));
-          } in
-          record {
-            configured = (loads.loads bits).configures (inner_moments nested text can delivered.0) (within fabric_instance_name between.0) (within fabric_instance_name after) writes
-                (inner_run nested text can delivered.0 between.0 after between.1);
-            empty = ends_empty each.turns shown.0 held after (still ∷ flat_map sent (stream_words fabric bits)) each.sends each.each shown.2;
-          }
+          let done = written (stream_words fabric bits) (words_long (stream fabric bits)) moments held after sends run in
+          record { configured = (loads.loads bits).configures done.moments done.between (within fabric_instance_name after) done.writes done.run; empty = done.empty }
 
       configuration_stays : (moments : List Moment) (held after : Assignment) → IsConfiguredBehind fabric bits held → All IsStill moments →
           IsRunOn (IsSerialLoading outer) outer moments held after → IsConfiguredBehind fabric bits after

@@ -203,32 +203,32 @@ top_has_no_clock fabric =
 abbrev ByClock : PlainItem → Type 0
 ByClock = ClocksBy (λ name. name ≡ clock_name)
 
+abbrev row_registers : (rows : ℕ) → List PlainItem
+row_registers rows = counted rows (λ row. reg (Vector 32) (row_register_name row))
+
+abbrev row_processes : (rows : ℕ) → NextValues → List PlainItem
+row_processes rows next = counted rows (λ row. clocked clock_name (row_register_name row) (next.row row))
+
+abbrev row_outputs : (rows : ℕ) → List PlainItem
+row_outputs rows = counted rows (λ row. assign (row_port row) (variable (row_register_name row)))
+
 loader_clocks : (rows : ℕ) (next : NextValues) → All ByClock (loader_of rows next).items
 loader_clocks rows next =
     All-append ByClock (registers rows) (processes rows next ++ outputs rows)
-    (All-cons ByClock (reg (Vector 2) state_name) (reg (Vector 5) count_name ∷ reg (Vector 32) address_register_name ∷ reg Scalar strobe_register_name ∷ row_registers) tt
-    (All-cons ByClock (reg (Vector 5) count_name) (reg (Vector 32) address_register_name ∷ reg Scalar strobe_register_name ∷ row_registers) tt
-    (All-cons ByClock (reg (Vector 32) address_register_name) (reg Scalar strobe_register_name ∷ row_registers) tt
-    (All-cons ByClock (reg Scalar strobe_register_name) row_registers tt (all_counted ByClock rows (λ row. reg (Vector 32) (row_register_name row)) (λ row few. tt))))))
+    (All-cons ByClock (reg (Vector 2) state_name) (reg (Vector 5) count_name ∷ reg (Vector 32) address_register_name ∷ reg Scalar strobe_register_name ∷ (row_registers rows)) tt
+    (All-cons ByClock (reg (Vector 5) count_name) (reg (Vector 32) address_register_name ∷ reg Scalar strobe_register_name ∷ (row_registers rows)) tt
+    (All-cons ByClock (reg (Vector 32) address_register_name) (reg Scalar strobe_register_name ∷ (row_registers rows)) tt
+    (All-cons ByClock (reg Scalar strobe_register_name) (row_registers rows) tt (all_counted ByClock rows (λ row. reg (Vector 32) (row_register_name row)) (λ row few. tt))))))
     (All-append ByClock (processes rows next) (outputs rows)
     (All-cons ByClock (clocked clock_name state_name next.state)
-    (clocked clock_name count_name next.count ∷ clocked clock_name address_register_name next.address ∷ clocked clock_name strobe_register_name next.strobe ∷ row_processes) refl
-    (All-cons ByClock (clocked clock_name count_name next.count) (clocked clock_name address_register_name next.address ∷ clocked clock_name strobe_register_name next.strobe ∷ row_processes) refl
-    (All-cons ByClock (clocked clock_name address_register_name next.address) (clocked clock_name strobe_register_name next.strobe ∷ row_processes) refl
-    (All-cons ByClock (clocked clock_name strobe_register_name next.strobe) row_processes refl
+    (clocked clock_name count_name next.count ∷ clocked clock_name address_register_name next.address ∷ clocked clock_name strobe_register_name next.strobe ∷ (row_processes rows next)) refl
+    (All-cons ByClock (clocked clock_name count_name next.count) (clocked clock_name address_register_name next.address ∷ clocked clock_name strobe_register_name next.strobe ∷ (row_processes rows next)) refl
+    (All-cons ByClock (clocked clock_name address_register_name next.address) (clocked clock_name strobe_register_name next.strobe ∷ (row_processes rows next)) refl
+    (All-cons ByClock (clocked clock_name strobe_register_name next.strobe) (row_processes rows next) refl
     (all_counted ByClock rows (λ row. clocked clock_name (row_register_name row) (next.row row)) (λ row few. refl))))))
-    (All-cons ByClock (assign address_port (variable address_register_name)) (assign strobe_port (variable strobe_register_name) ∷ row_outputs) tt
-    (All-cons ByClock (assign strobe_port (variable strobe_register_name)) row_outputs tt
+    (All-cons ByClock (assign address_port (variable address_register_name)) (assign strobe_port (variable strobe_register_name) ∷ (row_outputs rows)) tt
+    (All-cons ByClock (assign strobe_port (variable strobe_register_name)) (row_outputs rows) tt
     (all_counted ByClock rows (λ row. assign (row_port row) (variable (row_register_name row))) (λ row few. tt)))))
-  where
-    abbrev row_registers : List PlainItem
-    row_registers = counted rows (λ row. reg (Vector 32) (row_register_name row))
-
-    abbrev row_processes : List PlainItem
-    row_processes = counted rows (λ row. clocked clock_name (row_register_name row) (next.row row))
-
-    abbrev row_outputs : List PlainItem
-    row_outputs = counted rows (λ row. assign (row_port row) (variable (row_register_name row)))
 
 strobe_no_clock : (fabric : PlainFabric) (next : NextValues) (text : List PlainModule) → module_named text loader_module_name ≡ Some (loader_of fabric.rows next) →
     ServesAsClock text (top_module fabric) write_strobe_name → ⊥
