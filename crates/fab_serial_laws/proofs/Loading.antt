@@ -30,10 +30,11 @@ use Rattle.fab_serial.specs.Delivery.{serial_names, IsSerialStream, IsSerialLoad
 use Rattle.fab_serial.proofs.fab_parts_sound_laws_Names.{told_apart}
 use Rattle.fab_serial.proofs.Places.{whole, whole_is, top_at}
 use Rattle.fab_serial.proofs.Sound.{serial_text_is_sound}
+use Rattle.fab_serial.proofs.Registers.{Registers}
 use Rattle.fab_serial.proofs.Led.{registers, closed, full_taken}
 use Rattle.fab_serial.proofs.Moments.{digits_long, full_bit, stays, strobe_seen}
 use Rattle.fab_serial.proofs.Sends.{after_bit, after_still, delivers_whole}
-use Rattle.fab_serial_laws.specs.Loads.{RunsSeriallyOnce, IsStill, IsConfiguredBehind, LoadsSerially}
+use Rattle.fab_serial_laws.specs.Loads.{RunsSeriallyOnce, IsStill, full_point, IsConfiguredBehind, LoadsSerially}
 use Rattle.fab_serial_laws.proofs.Fabric.{ticks_inside}
 use Rattle.fab_serial_laws.proofs.InnerRuns.{shown_run, held_behind, inner_moment, inner_moments, inner_settled, inner_run}
 
@@ -110,14 +111,14 @@ module _ (text : List PlainModule) (can : CanHaveSerialPort text) where
   -- ticks of other clocks leave it as it is
   waits_full : (turns : List SerialTurn) (run : List Shown) (held after : Assignment) → clocked turns ≡ [] → AllZip IsSerialTurn turns (moments_of run) → Runs run held after →
       full_bit after ≡ full_bit held
-  waits_full [] [] held after none each runs = runs _ (registers text can, closed text can, full_taken text can)
+  waits_full [] [] held after none each runs = runs full_point (registers text can, closed text can, full_taken text can)
   waits_full [] (shown ∷ run) held after none each runs = absurd each
   waits_full (turn ∷ turns) [] held after none each runs = absurd each
   waits_full (bit b ∷ turns) (shown ∷ run) held after none each runs = absurd (let bad : ⊥ = cc in bad)
   waits_full (still ∷ turns) (shown ∷ run) held after none each runs = absurd (let bad : ⊥ = cc in bad)
   waits_full (aside ∷ turns) (shown ∷ run) held after none each runs =
       waits_full turns run runs.0 after none each.1 runs.4
-      ∙ ap (λ r. r.full) (stays text can shown.moment.inputs held shown.now runs.1 shown.moment.clock runs.0 runs.3 each.0)
+      ∙ ap (λ (r : Registers). r.full) (stays text can shown.moment.inputs held shown.now runs.1 shown.moment.clock runs.0 runs.3 each.0)
 
   -- behind the closing tick it is empty
   ends_empty : (turns : List SerialTurn) (run : List Shown) (held after : Assignment) (front : List SerialTurn) → clocked turns ≡ front ++ still ∷ [] →
@@ -132,7 +133,7 @@ module _ (text : List PlainModule) (can : CanHaveSerialPort text) where
       ]
   ends_empty (still ∷ turns) (shown ∷ run) held after front is each runs =
       elim (ends_later still (clocked turns) front still is) [
-        | inl last ↦ waits_full turns run runs.0 after last.1 each.1 runs.4 ∙ ap (λ r. r.full) (after_still text can shown run held after runs each.0)
+        | inl last ↦ waits_full turns run runs.0 after last.1 each.1 runs.4 ∙ ap (λ (r : Registers). r.full) (after_still text can shown run held after runs each.0)
         | inr later ↦ ends_empty turns run runs.0 after later.0 later.1 each.1 runs.4
       ]
   ends_empty (aside ∷ turns) (shown ∷ run) held after front is each runs = ends_empty turns run runs.0 after front is each.1 runs.4
@@ -142,14 +143,14 @@ module _ (text : List PlainModule) (can : CanHaveSerialPort text) where
   full_next : (shown : Shown) (more : List Shown) (held after : Assignment) (runs : Runs (shown ∷ more) held after) → IsStill shown.moment → full_bit held ≡ false → full_bit runs.0 ≡ false
   full_next shown more held after runs none empty =
       elim (cases_Bool (bytes_eq shown.moment.clock clock_name)) [
-        | inl same ↦ (let is = same_names shown.moment.clock clock_name same in ap (λ r. r.full) (after_still text can shown more held after runs (is, none is)))
-        | inr other ↦ ap (λ r. r.full) (stays text can shown.moment.inputs held shown.now runs.1 shown.moment.clock runs.0 runs.3 (told_apart shown.moment.clock clock_name other)) ∙ empty
+        | inl same ↦ (let is = same_names shown.moment.clock clock_name same in ap (λ (r : Registers). r.full) (after_still text can shown more held after runs (is, none is)))
+        | inr other ↦ ap (λ (r : Registers). r.full) (stays text can shown.moment.inputs held shown.now runs.1 shown.moment.clock runs.0 runs.3 (told_apart shown.moment.clock clock_name other)) ∙ empty
       ]
 
   module _ (nested : NestedTexts) where
     quiet : (run : List Shown) (held after : Assignment) → full_bit held ≡ false → All IsStill (moments_of run) → Runs run held after →
         All IsQuiet (inner_moments nested text can run) × (full_bit after ≡ false)
-    quiet [] held after empty none runs = (All-nil IsQuiet, runs _ (registers text can, closed text can, full_taken text can) ∙ empty)
+    quiet [] held after empty none runs = (All-nil IsQuiet, runs full_point (registers text can, closed text can, full_taken text can) ∙ empty)
     quiet (shown ∷ run) held after empty none runs =
         let next = full_next shown run held after runs (All-head IsStill shown.moment (moments_of run) none) empty in
         let later = quiet run runs.0 after next (All-tail IsStill shown.moment (moments_of run) none) runs.4 in

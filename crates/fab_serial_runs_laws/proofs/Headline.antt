@@ -13,9 +13,9 @@ use Rattle.fab_runs_laws.specs.fab_fabric_text_defs_Texts.{IsFabricText}
 use Rattle.fab_runs_laws.specs.fab_use_defs_Headline.{RunsDesign, LegalDesignsRun}
 use Rattle.fab_runs_laws.specs.fab_use_defs_Registers.{design_state}
 use Rattle.fab_serial_laws.specs.fab_frames_Stream.{stream}
-use Rattle.fab_serial_laws.specs.fab_nested_laws_Nested.{within, NestedTexts}
+use Rattle.fab_serial_laws.specs.fab_nested_laws_Nested.{inside, within, NestedTexts}
 use Rattle.fab_serial_laws.specs.fab_serial_Module.{fabric_instance_name, serial_text, CanHaveSerialPort}
-use Rattle.fab_serial_laws.specs.Loads.{FabricTextsTakePorts, LoadsSerially, SerialTextsLoad}
+use Rattle.fab_serial_laws.specs.Loads.{full_point, FabricTextsTakePorts, LoadsSerially, SerialTextsLoad}
 use Rattle.fab_serial_laws.proofs.fab_serial_Places.{whole, whole_is}
 use Rattle.fab_serial_laws.proofs.fab_serial_Led.{registers, closed, full_taken}
 use Rattle.fab_serial_laws.proofs.Fabric.{loading_inside}
@@ -33,9 +33,9 @@ module _ (nested : NestedTexts) (fabric : PlainFabric) (text : List PlainModule)
     runs = λ moments held after start sends run same.
         (let done = written text can nested (map (digits 32) words) (words_long words) moments held after sends run in
         runs_from nested fabric text netlist fixed implementation is is_text can legal start
-        (same _ (registers text can, closed text can, full_taken text can) ∙ done.empty)
+        (same full_point (registers text can, closed text can, full_taken text can) ∙ done.empty)
         (design.runs done.moments done.between (within fabric_instance_name after) (within fabric_instance_name start) done.writes done.run
-        (λ p loading. same _ (loading_inside text can p loading))));
+        (λ p loading. same (inside fabric_instance_name p) (loading_inside text can p loading))));
     begins = λ held latches holds_state holds. design.begins (within fabric_instance_name held) latches holds_state holds;
   }
 

@@ -30,11 +30,12 @@ use Rattle.fab_serial_laws.specs.fab_nested_laws_Nested.{inside, within, NestedT
 use Rattle.fab_serial_laws.specs.fab_prim_Ports.{top_name, top_inputs, top_outputs}
 use Rattle.fab_serial_laws.specs.fab_serial_Module.{fabric_instance_name, is_pad, CanHaveSerialPort}
 use Rattle.fab_serial_laws.specs.fab_serial_Delivery.{IsSerialLoading, strobe_point, data_point, fabric_strobe}
+use Rattle.fab_serial_laws.specs.Loads.{full_point}
 use Rattle.fab_serial_laws.proofs.fab_nested_laws_Sets.{settled_on, ticks_on}
 use Rattle.fab_serial_laws.proofs.fab_serial_Places.{whole}
 use Rattle.fab_serial_laws.proofs.fab_serial_Led.{registers, closed, full_taken}
 use Rattle.fab_serial_laws.proofs.fab_serial_Moments.{full_bit, registers_at, steps, stays, strobe_seen}
-use Rattle.fab_serial_laws.proofs.fab_serial_Registers.{after_serial}
+use Rattle.fab_serial_laws.proofs.fab_serial_Registers.{Registers, after_serial}
 use Rattle.fab_serial_laws.proofs.fab_serial_Steps.{turn_of}
 use Rattle.fab_serial_laws.proofs.fab_parts_sound_laws_Names.{told_apart}
 use Rattle.fab_serial_laws.proofs.Fabric.{fabric_stands, same_inside}
@@ -181,13 +182,14 @@ module _ (nested : NestedTexts) (fabric : PlainFabric) (text : List PlainModule)
     }
 
     module _ (clock : List ℕ) (next : Assignment) (ticked : Ticks Has outer clock held now next) where
+      same_use : (clock ≡ clock_name) ⊎ (clock ≡ user_clock_name) → IsSameClock text outer fabric_instance_name clock
+      same_use (inl loader) = subst (IsSameClock text outer fabric_instance_name) (sym loader) (same_inside text can clock_name refl)
+      same_use (inr user) = subst (IsSameClock text outer fabric_instance_name) (sym user) (same_inside text can user_clock_name refl)
+
       inner_ticks : (clock ≡ clock_name) ⊎ (clock ≡ user_clock_name) → Ticks Inner text clock (within fabric_instance_name held) (within fabric_instance_name now) (within fabric_instance_name next)
       inner_ticks of_use =
           ticks_on text outer fabric_instance_name (nested text outer fabric_instance_name (fabric_stands text can)) Inner Has (λ p has. in_fabric has) clock held now next
-          (elim of_use [
-            | inl loader ↦ subst (IsSameClock text outer fabric_instance_name) (sym loader) (same_inside text can clock_name refl)
-            | inr user ↦ subst (IsSameClock text outer fabric_instance_name) (sym user) (same_inside text can user_clock_name refl)
-          ]) ticked
+          (same_use of_use) ticked
 
       loading_ticks : Ticks (IsSerialLoading outer) outer clock held now next
       loading_ticks p d led drives = ticked p d (of_port led) drives
@@ -195,10 +197,10 @@ module _ (nested : NestedTexts) (fabric : PlainFabric) (text : List PlainModule)
       -- without a bit the port stays empty
       still_empty : (clock ≡ clock_name) ⊎ (clock ≡ user_clock_name) → inputs strobe_point ≡ false → full_bit held ≡ false → full_bit next ≡ false
       still_empty (inl loader) quiet empty =
-          ap (λ r. r.full) (steps text can inputs held now loading_settled clock next loading_ticks loader)
+          ap (λ (r : Registers). r.full) (steps text can inputs held now loading_settled clock next loading_ticks loader)
           ∙ ap (λ strobe. (after_serial (registers_at held) (turn_of strobe (inputs data_point))).full) quiet
       still_empty (inr user) quiet empty =
-          ap (λ r. r.full) (stays text can inputs held now loading_settled clock next loading_ticks (λ loader. told_apart user_clock_name clock_name refl (sym user ∙ loader))) ∙ empty
+          ap (λ (r : Registers). r.full) (stays text can inputs held now loading_settled clock next loading_ticks (λ loader. told_apart user_clock_name clock_name refl (sym user ∙ loader))) ∙ empty
 
   -- ---- instants
 
@@ -212,7 +214,7 @@ module _ (nested : NestedTexts) (fabric : PlainFabric) (text : List PlainModule)
   instants_inside given [] held after empty of_use fed run = record {
     run = λ p has. run (inside fabric_instance_name p) (in_fabric has);
     fed = All-nil (λ i. Feeds netlist implementation given i.inputs);
-    empty = run _ (of_port (registers text can, closed text can, full_taken text can)) ∙ empty;
+    empty = run full_point (of_port (registers text can, closed text can, full_taken text can)) ∙ empty;
   }
   instants_inside given (i ∷ more) held after empty of_use fed run =
       let use_clock = All-head IsUseClock i more of_use in
@@ -244,7 +246,7 @@ module _ (nested : NestedTexts) (fabric : PlainFabric) (text : List PlainModule)
   cycles_inside : (cycles : List Cycle) (held after : Assignment) → full_bit held ≡ false → AreSerialCycles Has outer netlist implementation cycles held after →
       AreCycles Inner text netlist implementation (inner_cycles cycles) (within fabric_instance_name held) (within fabric_instance_name after) × (full_bit after ≡ false)
   cycles_inside [] held after empty run =
-      ((λ p has. run (inside fabric_instance_name p) (in_fabric has)), run _ (of_port (registers text can, closed text can, full_taken text can)) ∙ empty)
+      ((λ p has. run (inside fabric_instance_name p) (in_fabric has)), run full_point (of_port (registers text can, closed text can, full_taken text can)) ∙ empty)
   cycles_inside (cycle ∷ more) held after empty run =
       let inner = cycle_inside cycle held run.1 empty run.0 run.2 in
       let later = cycles_inside more run.1 after inner.empty run.3 in
