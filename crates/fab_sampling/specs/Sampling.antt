@@ -9,7 +9,7 @@ use Rattle.fab_designs.specs.Designs.{PlainDesign, SpellsDesign, read_of}
 use Rattle.fab_outputs.specs.Storing.{PlainOutput, output, with_outputs}
 use Rattle.fab_sample_runs_laws.specs.fab_flow_Flowing.{FailsToFlow, MakesFlow}
 use Rattle.fab_sample_runs_laws.specs.fab_simulate_command_Simulating.{MakesTrace}
-use Rattle.fab_flow_laws.specs.SimulatedLaws.{TracesNetlist}
+use Rattle.fab_sample_runs_laws.specs.fab_flow_laws_SimulatedLaws.{TracesNetlist}
 use Rattle.fab_sample.specs.declared.file.File.{File}
 use Rattle.fab_draws.specs.Draws.{draws_of}
 use Rattle.fab_sample.specs.Files.{sample_files}

@@ -1,6 +1,9 @@
 pub mod Steps
 pub mod Blocks
 pub mod Settling
+pub mod Going
+pub mod Together
+pub mod Released
 pub use Rattle.fab_runs_laws.specs.fab_drives_laws_Drives as fab_drives_laws_Drives
 pub use Rattle.fab_runs_laws.specs.fab_fabric_text_defs_Text as fab_fabric_text_defs_Text
 pub use Rattle.fab_runs_laws.specs.fab_fabric_text_defs_Texts as fab_fabric_text_defs_Texts

@@ -8,7 +8,7 @@ use Rattle.fab_designs.specs.Designs.{PlainDesign, SpellsDesign, read_of}
 use Rattle.fab_outputs.specs.Storing.{PlainOutput, with_outputs}
 use Rattle.fab_sample_runs_laws.specs.fab_flow_Flowing.{MakesFlow}
 use Rattle.fab_sample_runs_laws.specs.fab_simulate_command_Simulating.{MakesTrace}
-use Rattle.fab_flow_laws.specs.SimulatedLaws.{TracesNetlist}
+use Rattle.fab_sample_runs_laws.specs.fab_flow_laws_SimulatedLaws.{TracesNetlist}
 use Rattle.fab_sample_runs_laws.specs.Commands.{names, rounds, simulated}
 use Rattle.fab_sampling.specs.Sampling.{IsUnmapped, sample_map}
 use Rattle.fab_sampling.specs.declared.run.Run.{Run}
