@@ -1,0 +1,13 @@
+pub mod Registers
+pub mod Delivers
+pub mod Steps
+pub mod Places
+pub mod Alike
+pub mod Ports
+pub mod TopNames
+pub mod TopFits
+pub mod Sound
+pub mod Joints
+pub mod Led
+pub mod Moments
+pub mod Sends
