@@ -1,4 +1,5 @@
 pub mod Once
+pub mod Parts
 pub mod Lengths
 pub mod Spelled
 pub mod Generated
