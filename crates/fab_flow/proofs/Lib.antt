@@ -3,6 +3,9 @@ pub mod Parts
 pub mod Lengths
 pub mod Spelled
 pub mod Generated
+pub mod PortLengths
+pub mod SerialMade
+pub mod SerialOnce
 pub mod ResetPorts
 pub mod Assembled
 pub mod AssembledOnce

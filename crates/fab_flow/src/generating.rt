@@ -43,7 +43,7 @@ fn printed_fabric(alloc: Global, fabric: &Fabric) -> Result<PrintedText, Memory>
 }
 
 /// Refuses the text of a fabric that has too many bytes.
-fn check_length(alloc: Global, fabric: &Name, bytes: u64) -> Result<(), Fault>
+pub(crate) fn check_length(alloc: Global, fabric: &Name, bytes: u64) -> Result<(), Fault>
     ensures short { OnOk result (bytes ≤ most_text_bytes) }
     ensures long { IfErr result (λ fault. (fault ≡ faults.Memory) ⊎ ((most_text_bytes < bytes)
         × (fault ≡ fault_at fabric.now 0 (problems.Limit quantities.TextBytes bytes most_text_bytes)))) }
