@@ -22,6 +22,7 @@ use Rattle.fab_netlist.specs.Packed.{PlainCell, PlainPacked}
 use Rattle.fab_netlist.specs.Packing.{packed, packing, works}
 use Rattle.fab_netlist.specs.Resets.{netlist_with}
 use Rattle.fab_netlist.specs.WellMade.{ports}
+use Rattle.fab_netlist.specs.Wide.{RunsAs}
 use Rattle.fab_implementation.specs.Plain.{Pad, PlainImplementation}
 use Rattle.fab_implementation.specs.OnFabric.{IsOnFabric, IsSite}
 use Rattle.fab_legal.specs.declared.broken.CheckFault.{CheckFault}
@@ -54,6 +55,7 @@ use Rattle.fab_flow.specs.Resetting.{HasReset, LacksReset}
 use Rattle.fab_flow.specs.Assembling.{AssemblyFiles, Fits, HasAssembleCause, IsAssembly, IsReadyToAssemble, MeetsAssembly, RefusesAssembly, RefusesImplementation, assemble_refusals, assembly_outputs, illegal, no_input, packing_for, short, unfit}
 use Rattle.fab_outputs.specs.Storing.{PlainOutput, Leaves, plain_output}
 use Rattle.fab_outputs.proofs.Ending.{Reads, cause_of_read, leaves_of_memory}
+use Rattle.fab_flow.proofs.ReadAs.{assembly_read}
 use Rattle.fab_flow.proofs.ResetPorts.{lacks_illegal}
 
 -- ---- letters
@@ -108,9 +110,9 @@ state_has_letters fabric packed implementation is on = record {
 pub assembly_is : (fabric : PlainFabric) (netlist : PlainNetlist) (implementation : PlainImplementation) (base : List ℕ) (outputs : List PlainOutput)
     (features : List Feature) (bits : PlainBits) (words : List ℕ) (state : PlainState) → outputs ≡ assembly_outputs base features words state
     → features ≡ design_features fabric (packed netlist) implementation → Configures fabric (packed netlist) implementation bits → IsBitMapOf fabric features bits → words ≡ stream fabric bits
-    → state ≡ design_state (packed netlist) implementation → ((text : List PlainModule) → IsFabricText fabric text → RunsDesign fabric text netlist implementation words state)
-    → ((text : List PlainModule) → IsFabricText fabric text → SettlesDesign fabric text netlist implementation words)
-    → IsAssembly fabric netlist implementation base outputs
+    → state ≡ design_state (packed netlist) implementation → ((text : List PlainModule) → IsFabricText fabric text → RunsDesign fabric text netlist netlist implementation words state)
+    → ((text : List PlainModule) → IsFabricText fabric text → SettlesDesign fabric text netlist netlist implementation words)
+    → IsAssembly fabric netlist netlist implementation base outputs
 assembly_is fabric netlist implementation base outputs features bits words state are features_are configures bit_map words_are state_is runs settles =
     record {
       bits = bits;
@@ -122,18 +124,20 @@ assembly_is fabric netlist implementation base outputs features bits words state
           ∙ ap (λ (w : List ℕ). assembly_outputs base (design_features fabric (packed netlist) implementation) w state) words_are
           ∙ ap (λ (s : PlainState). assembly_outputs base (design_features fabric (packed netlist) implementation) (stream fabric bits) s) state_is;
       runs = λ text is.
-          subst (λ (s : PlainState). RunsDesign fabric text netlist implementation (stream fabric bits) s) state_is
-          (subst (λ (w : List ℕ). RunsDesign fabric text netlist implementation w state) words_are (runs text is));
-      settles = λ text is. subst (λ (w : List ℕ). SettlesDesign fabric text netlist implementation w) words_are (settles text is);
+          subst (λ (s : PlainState). RunsDesign fabric text netlist netlist implementation (stream fabric bits) s) state_is
+          (subst (λ (w : List ℕ). RunsDesign fabric text netlist netlist implementation w state) words_are (runs text is));
+      settles = λ text is. subst (λ (w : List ℕ). SettlesDesign fabric text netlist netlist implementation w) words_are (settles text is);
     }
 
--- the same of outputs, on a fabric that files spell
-pub made_of : (files : Map) (name : List ℕ) (fabric : PlainFabric) (netlist : PlainNetlist) (implementation : PlainImplementation) (base : List ℕ) (made stored : List Output) → stored ≡ made
-    → SpellsFabric files name fabric → (All IsNamed fabric.types → All HasPrefixes fabric.types → IsAssembly fabric netlist implementation base (map plain_output made))
-    → IsAssembly fabric netlist implementation base (map plain_output stored)
-made_of files name fabric netlist implementation base made stored same spelled is =
-    subst (λ (items : List Output). IsAssembly fabric netlist implementation base (map plain_output items)) (sym same)
-    (is (spelled_keep IsNamed IsNamed names_kept files name fabric spelled) (spelled_keep ArePrefixed ArePrefixed prefixes_kept files name fabric spelled))
+-- the same of outputs, on a fabric that files spell; and where the packed netlist runs as the one that was read, of that one
+pub made_of : (files : Map) (name : List ℕ) (fabric : PlainFabric) (read netlist : PlainNetlist) (implementation : PlainImplementation) (base : List ℕ) (made stored : List Output)
+    → stored ≡ made → SpellsFabric files name fabric → RunsAs read netlist
+    → (All IsNamed fabric.types → All HasPrefixes fabric.types → IsAssembly fabric netlist netlist implementation base (map plain_output made))
+    → IsAssembly fabric read netlist implementation base (map plain_output stored)
+made_of files name fabric read netlist implementation base made stored same spelled alike is =
+    subst (λ (items : List Output). IsAssembly fabric read netlist implementation base (map plain_output items)) (sym same)
+    (assembly_read read netlist alike fabric implementation base (map plain_output made)
+    (is (spelled_keep IsNamed IsNamed names_kept files name fabric spelled) (spelled_keep ArePrefixed ArePrefixed prefixes_kept files name fabric spelled)))
 
 -- ---- refusals
 

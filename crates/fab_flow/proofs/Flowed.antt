@@ -16,6 +16,7 @@ use Rattle.fab_netlist.specs.Plain.{PlainNetlist}
 use Rattle.fab_netlist.specs.Packing.{packed}
 use Rattle.fab_netlist.specs.Resets.{netlist_with}
 use Rattle.fab_netlist.specs.WellMade.{IsWellMade}
+use Rattle.fab_netlist.specs.Wide.{RunsAs}
 use Rattle.fab_implementation.specs.Plain.{Pad, PlainImplementation}
 use Rattle.fab_legal.specs.Legal.{IsLegal}
 use Rattle.fab_legal.proofs.NotLegal.{broken_is_not_legal}
@@ -42,6 +43,7 @@ use Rattle.fab_flow.specs.Flowing.{FlowFiles, EndsFlow, FailsToFlow, HasFlowCaus
 use Rattle.fab_flow.specs.Resetting.{HasReset, LacksReset}
 use Rattle.fab_flow.proofs.ResetPorts.{lacks_illegal}
 use Rattle.fab_flow.proofs.Assembled.{is_short}
+use Rattle.fab_flow.proofs.ReadAs.{flow_read}
 use Rattle.fab_outputs.proofs.Ending.{Reads, cause_of_read, searched}
 
 -- ---- what is made
@@ -49,14 +51,14 @@ use Rattle.fab_outputs.proofs.Ending.{Reads, cause_of_read, searched}
 -- the outputs behind an implementation, with those that are assembled of it
 abbrev pub AreAssembled : (fabric : PlainFabric) (netlist : PlainNetlist) (implementation : PlainImplementation) (base text : List ℕ) (outputs : List PlainOutput) → Type 0
 AreAssembled fabric netlist implementation base text outputs =
-    (assembled : List PlainOutput) × IsAssembly fabric netlist implementation base assembled × (outputs ≡ flow_outputs base text (implementation_text fabric implementation) assembled)
+    (assembled : List PlainOutput) × IsAssembly fabric netlist netlist implementation base assembled × (outputs ≡ flow_outputs base text (implementation_text fabric implementation) assembled)
 
 module _ (fabric : PlainFabric) (netlist : PlainNetlist) (fixed : List Pad) (allowed : ℕ) (base text : List ℕ) (implementation : PlainImplementation) (outputs : List PlainOutput) where
   -- the text of a fabric, a mapping onto it, and what is assembled of this
   pub flow_is : text ≡ text_bytes (generated_text fabric) → IsFabricText fabric (generated_text fabric) → ShowsDrives fabric (generated_text fabric)
       → LoadsConfigurations fabric (generated_text fabric) → text_length fabric ≤ most_text_bytes → length text ≤ MAX_FILE_BYTES
       → IsMapping fabric (packed netlist) fixed allowed implementation → IsLegal fabric (packed netlist) fixed implementation
-      → AreAssembled fabric netlist implementation base text outputs → IsFlow fabric netlist fixed allowed base outputs
+      → AreAssembled fabric netlist implementation base text outputs → IsFlow fabric netlist netlist fixed allowed base outputs
   flow_is printed is_text drives loads few readable mapping legal assembled = record {
     implementation = implementation;
     mapping = mapping;
@@ -73,13 +75,15 @@ module _ (fabric : PlainFabric) (netlist : PlainNetlist) (fixed : List Pad) (all
     outputs_are = assembled.2 ∙ ap (λ (bytes : List ℕ). flow_outputs base bytes (implementation_text fabric implementation) assembled.0) printed;
   }
 
--- on a fabric that files spell, names are as texts and features need them
-pub flow_of : (files : Map) (name : List ℕ) (fabric : PlainFabric) (netlist : PlainNetlist) (fixed : List Pad) (allowed : ℕ) (base : List ℕ) (made stored : List Output) → stored ≡ made
-    → SpellsFabric files name fabric → (All IsNamed fabric.types → All HasPrefixes fabric.types → IsFlow fabric netlist fixed allowed base (map plain_output made))
-    → IsFlow fabric netlist fixed allowed base (map plain_output stored)
-flow_of files name fabric netlist fixed allowed base made stored same spelled is =
-    subst (λ (items : List Output). IsFlow fabric netlist fixed allowed base (map plain_output items)) (sym same)
-    (is (spelled_keep IsNamed IsNamed names_kept files name fabric spelled) (spelled_keep ArePrefixed ArePrefixed prefixes_kept files name fabric spelled))
+-- On a fabric that files spell, names are as texts and features need them. Where the packed netlist runs as the one that was read, it is this one that runs.
+pub flow_of : (files : Map) (name : List ℕ) (fabric : PlainFabric) (read netlist : PlainNetlist) (fixed : List Pad) (allowed : ℕ) (base : List ℕ) (made stored : List Output)
+    → stored ≡ made → SpellsFabric files name fabric → RunsAs read netlist
+    → (All IsNamed fabric.types → All HasPrefixes fabric.types → IsFlow fabric netlist netlist fixed allowed base (map plain_output made))
+    → IsFlow fabric read netlist fixed allowed base (map plain_output stored)
+flow_of files name fabric read netlist fixed allowed base made stored same spelled alike is =
+    subst (λ (items : List Output). IsFlow fabric read netlist fixed allowed base (map plain_output items)) (sym same)
+    (flow_read read netlist alike fabric fixed allowed base (map plain_output made)
+    (is (spelled_keep IsNamed IsNamed names_kept files name fabric spelled) (spelled_keep ArePrefixed ArePrefixed prefixes_kept files name fabric spelled)))
 
 -- ---- why nothing is made
 

@@ -7,6 +7,7 @@ pub mod PortLengths
 pub mod SerialMade
 pub mod SerialOnce
 pub mod ResetPorts
+pub mod ReadAs
 pub mod Assembled
 pub mod AssembledOnce
 pub mod BitsMade
@@ -19,3 +20,4 @@ pub mod BitFeaturesMade
 pub mod BitFeaturesOnce
 pub mod PartialMade
 pub mod PartialOnce
+pub use Rattle.fab_designs.proofs.fab_wide_Whole as fab_wide_Whole
