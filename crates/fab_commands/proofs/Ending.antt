@@ -12,7 +12,8 @@ use Rattle.fab_files.specs.Files.{refuses}
 use Rattle.fab_outputs.specs.Storing.{Leaves}
 use Rattle.fab_outputs.specs.Ending.{IsRefused}
 use Rattle.fab_words.specs.declared.job.Job.{Job}
-use Rattle.fab_words.specs.declared.job.Job.TheVariants.{Matrix, Generate, Assemble, Map as Mapping, Flow, Bits, Features, Simulate, Partial, Timing, Serial, Sample}
+use Rattle.fab_words.specs.declared.job.Job.TheVariants.{Matrix, Generate, Assemble, Map as Mapping, Flow, Bits, Features, Simulate, Partial, Timing}
+use Rattle.fab_words.specs.declared.job.Job.TheVariants.{Serial, Sample}
 use Rattle.fab_commands.specs.Running.{Makes, Meets, IsReady, refusals, failures, HasJobCause, MayFail, Call, DoesJob, Puts, RefusesJob}
 use Rattle.fab_commands.specs.Running.{IsJobReady, WriteFailed, JobHasCause, JobLeaves, StandsBefore, IsPut, IsReported, IsOrMemory, answers, IsAnswered}
 use Rattle.fab_commands.proofs.Faulted.{Kind, done_ready, kind, not_refused, refused_once, memory, read, write, refused, failed}

@@ -24,7 +24,8 @@ use Rattle.fab_sampling.specs.fab_simulate_command_Simulating.{simulation_files,
 use Rattle.fab_sampling.specs.Sampling.{IsSummary}
 use Rattle.fab_list_files.specs.Sides.{MeetsPairs}
 use Rattle.fab_words.specs.declared.job.Job.{Job}
-use Rattle.fab_words.specs.declared.job.Job.TheVariants.{Matrix, Generate, Assemble, Map as Mapping, Flow, Bits, Features, Simulate, Partial, Timing, Serial, Sample}
+use Rattle.fab_words.specs.declared.job.Job.TheVariants.{Matrix, Generate, Assemble, Map as Mapping, Flow, Bits, Features, Simulate, Partial, Timing}
+use Rattle.fab_words.specs.declared.job.Job.TheVariants.{Serial, Sample}
 
 -- ---- the commands
 

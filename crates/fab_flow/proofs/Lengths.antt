@@ -21,7 +21,8 @@ length_of_both (m ∷ ms) ns =
     omega (arith, whole, first, rest)
 
 -- modules behind two lists and before another
-pub length_between : (ks ms ls ns : List PlainModule) → length (text_bytes (ks ++ (ms ++ (ls ++ ns)))) ≡ length (text_bytes (ks ++ (ms ++ ns))) + length (text_bytes ls)
+pub length_between : (ks ms ls ns : List PlainModule)
+    → length (text_bytes (ks ++ (ms ++ (ls ++ ns)))) ≡ length (text_bytes (ks ++ (ms ++ ns))) + length (text_bytes ls)
 length_between ks ms ls ns =
     let whole = length_of_both ks (ms ++ (ls ++ ns)) in
     let without = length_of_both ks (ms ++ ns) in

@@ -16,10 +16,12 @@ in_three (suc at) [] = refl
 in_three zero (m ∷ modules) = ap (λ bytes. bytes ++ printed modules) (append-nil (module_text (plain_module m)))
 in_three (suc at) (m ∷ modules) =
     let middle = printed (drop at (take (suc at) modules)) ++ printed (drop (suc at) modules) in
-    append_assoc (module_text (plain_module m)) (printed (take at (take (suc at) modules))) middle ∙ ap (λ bytes. module_text (plain_module m) ++ bytes) (in_three at modules)
+    append_assoc (module_text (plain_module m)) (printed (take at (take (suc at) modules))) middle
+    ∙ ap (λ bytes. module_text (plain_module m) ++ bytes) (in_three at modules)
 
 outside : (at : ℕ) (modules : List Module)
-    → length (printed (take at (take (suc at) modules))) + length (printed (drop (suc at) modules)) ≡ length (text_bytes (remove_range (map plain_module modules) at (suc at)))
+    → length (printed (take at (take (suc at) modules))) + length (printed (drop (suc at) modules))
+    ≡ length (text_bytes (remove_range (map plain_module modules) at (suc at)))
 outside zero [] = refl
 outside (suc at) [] = refl
 outside zero (m ∷ modules) = omega arith

@@ -47,7 +47,8 @@ pub loader_with_port : (fabric : PlainFabric) (modules : List PlainModule) (plac
 loader_with_port fabric modules place is at =
     let long = place_of_loader fabric (generated_text fabric) refl in
     let here : place ≡ length (front_of fabric) = omega (arith, long, at) in
-    rw (is ∙ with_port fabric, here) (without (front_of fabric) (top_module fabric ∷ port_of fabric) (loader_module fabric.rows) ∙ sym (without_with_port fabric))
+    rw (is ∙ with_port fabric, here) (without (front_of fabric) (top_module fabric ∷ port_of fabric) (loader_module fabric.rows)
+    ∙ sym (without_with_port fabric))
 
 pub longer_with_port : (fabric : PlainFabric) → fabric.rows ≤ 31 → length (text_bytes (text_with_port fabric)) ≤ serial_length fabric + 65536
 longer_with_port fabric few =

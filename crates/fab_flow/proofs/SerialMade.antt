@@ -73,7 +73,8 @@ refused_cause told name reads writes fabric _ spelled (long frames above) =
 
 -- a fabric is not taken for what it is, or memory was refused
 pub port_cause : (told : Option Map) (name : List ℕ) (reads writes : Type 0) (fabric : PlainFabric) (fault : Fault)
-    → ForSome told (λ files. SpellsFabric files name fabric) → (fault ≡ faults.Memory) ⊎ RefusesSerial name fabric fault → HasSerialCause told name reads writes fault
+    → ForSome told (λ files. SpellsFabric files name fabric) → (fault ≡ faults.Memory) ⊎ RefusesSerial name fabric fault
+    → HasSerialCause told name reads writes fault
 port_cause told name reads writes fabric fault spelled (inl memory) = subst (HasSerialCause told name reads writes) (sym memory) tt
 port_cause told name reads writes fabric fault spelled (inr refused) = refused_cause told name reads writes fabric fault spelled refused
 

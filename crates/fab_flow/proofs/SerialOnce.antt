@@ -37,10 +37,11 @@ port_is_judged name fabric = record {
   apart = λ value fault taken x. taken_or_refused name fabric value x.0 taken x.2;
 }
 
-pub serial_is_judged : (files : Map) (name : List ℕ) → IsJudged (λ a b. a ≡ b) (λ (value : PlainFabric × Unit {0}). SpellsFabric files name value.0 × IsTaken value.0 value.1) (MeetsSerial files name)
+pub serial_is_judged : (files : Map) (name : List ℕ)
+    → IsJudged (λ a b. a ≡ b) (λ (value : PlainFabric × Unit {0}). SpellsFabric files name value.0 × IsTaken value.0 value.1) (MeetsSerial files name)
 serial_is_judged files name =
-    turn_is_judged (λ a b. a ≡ b) (SpellsFabric files name) (MeetsFabric files name) (λ fabric. MeetsLast (RefusesSerial name fabric)) (fabric_is_judged files name)
-    IsTaken (λ fabric spelled. port_is_judged name fabric)
+    turn_is_judged (λ a b. a ≡ b) (SpellsFabric files name) (MeetsFabric files name) (λ fabric. MeetsLast (RefusesSerial name fabric))
+    (fabric_is_judged files name) IsTaken (λ fabric spelled. port_is_judged name fabric)
 
 pub one_refusal : (files : Map) (name : List ℕ) (a b : Fault) → MeetsSerial files name (refuses a) → MeetsSerial files name (refuses b) → a ≡ b
 one_refusal files name a b = (serial_is_judged files name).refused_once a b

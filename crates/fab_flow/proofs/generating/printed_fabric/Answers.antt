@@ -22,7 +22,9 @@ printed_text-requires c =
     omega (arith, place, long, c.len-loader.ensures, text.modules.ok.0)
 
 pub returns-clause-drives : goal.returns-clause-drives
-returns-clause-drives c = IfOk-weaker c.printed_text.result _ _ (λ _ _. subst (ShowsDrives c.args.fabric.now) c.in_ok-text.ensures.text c.in_ok-text.ensures.drives) c.printed_text.ensures.bytes
+returns-clause-drives c =
+    IfOk-weaker c.printed_text.result _ _ (λ _ _. subst (ShowsDrives c.args.fabric.now) c.in_ok-text.ensures.text c.in_ok-text.ensures.drives)
+    c.printed_text.ensures.bytes
 
 pub returns-clause-length : goal.returns-clause-length
 returns-clause-length c =

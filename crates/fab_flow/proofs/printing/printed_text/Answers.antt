@@ -4,7 +4,8 @@ use Rattle.fab_flow.proofs.printing.printed_text.Goals as goal
 
 pub returns-clause-bytes : goal.returns-clause-bytes
 returns-clause-bytes c =
-    let of = whole_printed c.args.loader c.args.text.modules.items c.split_off.new.self.items c.split_off-2.new.self.items c.in_ok-loader.loader.items c.in_ok-behind.behind.items
+    let of = whole_printed c.args.loader c.args.text.modules.items c.split_off.new.self.items c.split_off-2.new.self.items c.in_ok-loader.loader.items
+    c.in_ok-behind.behind.items
     c.in_ok-behind.ensures.items c.in_ok-behind.ensures.tail c.in_ok-loader.ensures.items c.in_ok-loader.ensures.tail in
     let more = c.in_ok-extend_from_slice.ensures.items in
     let joined = append_assoc (printed c.split_off-2.new.self.items) (printed c.in_ok-loader.loader.items) (printed c.in_ok-behind.behind.items) ∙ of in
