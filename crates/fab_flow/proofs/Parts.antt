@@ -1,5 +1,5 @@
 -- A printed text in three parts: up to one of its modules, that module, and what follows it.
-use Rattle.std.proofs.Common.{◌≡◌, ◌+◌, ◌∙◌, ℕ, zero, suc, List, [], ◌∷◌, ◌++◌, length, map, take, drop, refl, sym, ap, arith, length-append, append_assoc}
+use Rattle.std.proofs.Common.{◌≡◌, ◌+◌, ◌∙◌, ℕ, zero, suc, List, [], ◌∷◌, ◌++◌, length, map, take, drop, refl, ap, arith, length-append, append_assoc}
 use Rattle.std.specs.List.{remove_range}
 use Rattle.std.proofs.lemmas.List.{append-nil}
 use Rattle.fab_syntax.specs.declared.tree.Module.{Module}

@@ -1,4 +1,4 @@
-use Rattle.std.proofs.Common.{◌≡◌, length, ap, arith}
+use Rattle.std.proofs.Common.{length, ap, arith}
 use Rattle.fab_flow.proofs.Lengths.{little_longer}
 use Rattle.fab_flow.proofs.generating.fabric_text.Goals as goal
 

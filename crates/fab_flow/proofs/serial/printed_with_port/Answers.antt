@@ -4,7 +4,6 @@ use Rattle.std.proofs.lemmas.Result.{IfOk-weaker}
 use Rattle.fab_syntax.specs.Plain.{PlainModule, plain_module, plain_text}
 use Rattle.fab_syntax.specs.Sound.{IsSound}
 use Rattle.fab_syntax.specs.Spelling.{text_bytes}
-use Rattle.fab_gen_tile.specs.Words.{IsNamed}
 use Rattle.fab_assemble.specs.fab_fabric_text_defs_Texts.{IsFabricText}
 use Rattle.fab_serial.specs.Delivery.{DeliversSerially}
 use Rattle.fab_serial.specs.Module.{serial_text}

@@ -1,4 +1,4 @@
-use Rattle.std.proofs.Common.{◌≡◌, length, ap, arith}
+use Rattle.std.proofs.Common.{length, ap, arith}
 use Rattle.std.proofs.lemmas.Result.{err_from_is_err_and}
 use Rattle.fab_flow.proofs.PortLengths.{longer_with_port}
 use Rattle.fab_flow.proofs.SerialMade.{long_refused}
