@@ -145,3 +145,6 @@ module _ (text : List PlainModule) (can : CanHaveSerialPort text) where
 
   pub fabric_data_wide : width_in (module_at outer fabric_path) write_data_name ≡ 32
   fabric_data_wide = ap (λ m. width_in m write_data_name) (fabric_at text can) ∙ ap width_if_any can.word.1
+
+  pub fabric_clock_wide : width_in (module_at outer fabric_path) clock_name ≡ 1
+  fabric_clock_wide = ap (λ m. width_in m clock_name) (fabric_at text can) ∙ ap width_if_any can.clock.1

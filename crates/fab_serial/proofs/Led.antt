@@ -202,3 +202,24 @@ module _ (text : List PlainModule) (can : CanHaveSerialPort text) where
         joined_within fabric_path name bit (into_fabric text can name enters bit)
         (λ other declared. top_led other (subst (λ (w : ℕ). other < w) top_bits (ltb-true other (width_in (module_at outer []) name) declared)))
         (declared_in fabric_path bit fabric_bits below)
+
+  -- ---- what the fabric gets
+
+  clock_carried : (bit : ℕ) → is_declared outer (point [] clock_name bit) ≡ true → Has (point [] clock_name bit)
+  clock_carried bit declared = by_stream (record { input = from_outside text can clock_name refl bit; declared = declared; named = inl refl })
+
+  pub clock_taken : (bit : ℕ) → is_declared outer (point fabric_path clock_name bit) ≡ true → Has (point fabric_path clock_name bit)
+  clock_taken bit declared = joined_within fabric_path clock_name bit (into_fabric text can clock_name can.clock.0 bit) clock_carried declared
+
+  pub strobe_taken : (bit : ℕ) → bit < 1 → Has (point fabric_path write_strobe_name bit)
+  strobe_taken =
+      fabric_taken write_strobe_name full_name 1 refl (6, omega arith, refl) (3, omega arith, refl) refl can.strobe.0 (port_wide text can write_strobe_name) (strobe_wide text can)
+      (fabric_strobe_wide text can)
+
+  pub data_taken : (bit : ℕ) → bit < 32 → Has (point fabric_path write_data_name bit)
+  data_taken =
+      fabric_taken write_data_name word_name 32 refl (7, omega arith, refl) (4, omega arith, refl) refl can.word.0 (port_wide text can write_data_name) (data_wide text can)
+      (fabric_data_wide text can)
+
+  pub full_taken : Has (point port_path full_name 0)
+  full_taken = register_in full_name 0 refl (ap (nat_lt 0) (port_wide text can full_name))

@@ -30,7 +30,7 @@ bits_again (first ∷ bits) = ap (λ rest. first ∷ rest) (bits_again bits)
 bits_of : (n : ℕ) (bits : List Bool) (f : ℕ → Bool) → length bits ≡ n → ((place : ℕ) → place < n → f place ≡ bit_at bits place) → first_bits n f ≡ bits
 bits_of n bits f long each = first_bits_same n f (λ place. bit_at bits place) each ∙ ap (λ m. first_bits m (λ place. bit_at bits place)) (sym long) ∙ bits_again bits
 
-digits_long : (width n : ℕ) → length (digits width n) ≡ width
+pub digits_long : (width n : ℕ) → length (digits width n) ≡ width
 digits_long zero n = refl
 digits_long (suc width) n = ap suc (digits_long width (n / 2))
 

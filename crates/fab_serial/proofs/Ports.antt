@@ -34,7 +34,7 @@ new_names (port ∷ ports) rest before none =
     let here = not_twice (list_any (is_declaration port.name) before) NameTwice _ none in
     let later = new_names ports rest (net port.name ∷ before) here.1 in
     let both : (k : ℕ) (d : List ℕ) → k < length (port_names ports) →
-        (bytes_eq port.name (get_or (port_names ports) k d) ≡ false) × (list_any (is_declaration (get_or (port_names ports) k d)) before ≡ false) =
+    (bytes_eq port.name (get_or (port_names ports) k d) ≡ false) × (list_any (is_declaration (get_or (port_names ports) k d)) before ≡ false) =
     λ k d within. neither (bytes_eq port.name (get_or (port_names ports) k d)) _ (later.new k d within) in
     record {
       apart = AllPairs-cons Differ port.name (port_names ports) (λ k d within. told_apart port.name (get_or (port_names ports) k d) (both k d within).0) later.apart;

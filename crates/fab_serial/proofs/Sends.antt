@@ -50,7 +50,7 @@ module _ (text : List PlainModule) (can : CanHaveSerialPort text) where
       steps text can shown.moment.inputs held shown.now run.1 shown.moment.clock run.0 run.3 turn.0
       ∙ (ap (λ (s : Bool). after_serial (registers_at held) (turn_of s (shown.moment.inputs data_point))) turn.1 ∙ ap (λ (d : Bool). after_serial (registers_at held) (bit d)) turn.2)
 
-  after_still : (shown : Shown) (more : List Shown) (held after : Assignment) (run : Runs (shown ∷ more) held after) → IsSerialTurn still shown.moment
+  pub after_still : (shown : Shown) (more : List Shown) (held after : Assignment) (run : Runs (shown ∷ more) held after) → IsSerialTurn still shown.moment
       → registers_at run.0 ≡ after_serial (registers_at held) still
   after_still shown more held after run turn =
       steps text can shown.moment.inputs held shown.now run.1 shown.moment.clock run.0 run.3 turn.0
@@ -113,7 +113,7 @@ module _ (text : List PlainModule) (can : CanHaveSerialPort text) where
         shows_rest = subst (λ (r : Registers). behind_first r turns ≡ shown_turns (after_serial r still) later.rest) same later.shows_rest;
       }
 
-  delivers_whole : DeliversSerially outer
+  pub delivers_whole : DeliversSerially outer
   delivers_whole words run held after long sends runs =
       let tick = behind_tick sends.turns run held after (flat_map sent words ++ still ∷ []) sends.sends sends.each runs in
       let rest : clocked tick.rest ≡ flat_map sent words ++ still ∷ [] = (let both : still ∷ clocked tick.rest ≡ still ∷ (flat_map sent words ++ still ∷ []) = sym tick.rest_is ∙ sends.sends in cc) in (

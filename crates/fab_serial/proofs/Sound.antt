@@ -1,5 +1,5 @@
 -- The text with a serial port is sound.
-use Rattle.std.proofs.Common.{◌≡◌, ℕ, Bool, true, false, List, [], ◌∷◌, ◌++◌, map, Option, Some, None, All, append-nil, append_assoc, if◌then◌else◌, refl, sym, ap, ◌∙◌, subst, inl, inr, rules}
+use Rattle.std.proofs.Common.{◌≡◌, ℕ, Bool, true, false, List, [], ◌∷◌, ◌++◌, map, Option, Some, None, All, get_or, append-nil, append_assoc, if◌then◌else◌, refl, sym, ap, ◌∙◌, subst, inl, inr, rules}
 use Rattle.std.specs.List.{flat_map}
 use Rattle.std.specs.Option.{is_some}
 use Rattle.std.specs.Str.{bytes_eq}
@@ -10,12 +10,14 @@ use Rattle.fab_syntax.specs.declared.tree.Port.{Port}
 use Rattle.fab_syntax.specs.Plain.{PlainExpr, PlainJoin, PlainItem, PlainModule, variable}
 use Rattle.fab_syntax.specs.Declarations.{module_named}
 use Rattle.fab_syntax.specs.Sound.{refusals, mentions_in, text_refusals, joined_expressions, item_expressions, Every, SelectFits, OperandsFit, SidesFit, InstanceFits, InstancesFitBehind, PortIsDriven, ItemIsDriven, ClockFits, IsSound}
+use Rattle.fab_meaning.specs.Runs.{clock_name}
+use Rattle.fab_meaning.specs.Loading.{write_strobe_name, write_data_name}
 use Rattle.fab_meaning.proofs.Modules.{each_all}
 use Rattle.fab_parts_sound_laws.specs.Fits.{FitsIn}
 use Rattle.fab_parts_sound_laws.proofs.Flat.{ItemFits, flat_fits}
 use Rattle.fab_parts_sound_laws.proofs.Lists.{all_flat_map}
 use Rattle.fab_nested_laws.specs.Nested.{NamesAlike}
-use Rattle.fab_serial.specs.Module.{serial_module_name, serial_top_name, serial_module, serial_joins, serial_text, same_join, CanHaveSerialPort}
+use Rattle.fab_serial.specs.Module.{serial_module_name, serial_top_name, serial_strobe_name, serial_data_name, serial_module, serial_joins, serial_text, same_join, CanHaveSerialPort}
 use Rattle.fab_serial.proofs.Places.{none_past, named_behind, named_longer, whole, whole_is, fabric_before}
 use Rattle.fab_serial.proofs.Alike as before
 use Rattle.fab_serial.proofs.TopNames.{outer_top, outer_names}
@@ -50,8 +52,8 @@ seen_behind (m ∷ rest) seen = seen_behind rest (m ∷ seen)
 names_longer : (seen rest more : List PlainModule) → text_refusals seen rest ≡ [] → text_refusals (seen_behind rest seen) more ≡ [] → text_refusals seen (rest ++ more) ≡ []
 names_longer seen [] more none later = later
 names_longer seen (m ∷ rest) more none later =
-    let own = none_before (if is_some (module_named seen m.name) then NameTwice ∷ [] else []) _ none in
-    let names = none_before (refusals [] (mentions_in m)) _ own.1 in
+    let own = none_before (if is_some (module_named seen m.name) then NameTwice ∷ [] else []) (refusals [] (mentions_in m) ++ text_refusals (m ∷ seen) rest) none in
+    let names = none_before (refusals [] (mentions_in m)) (text_refusals (m ∷ seen) rest) own.1 in
     let rest_none = names_longer (m ∷ seen) rest more names.1 later in
     λ j. own.0 j ++ (names.0 j ++ rest_none j)
 
@@ -69,6 +71,12 @@ behind_longer first (m ∷ rest) more fit later =
     (fit.0, behind_longer (first ++ m ∷ []) rest more fit.1 (subst (λ b. InstancesFitBehind b more) (sym (append_assoc first (m ∷ []) rest)) later))
 
 -- ---- together
+
+abbrev Joined : (PlainExpr → Type 0) → PlainJoin → Type 0
+Joined Q join = All Q (joined_expressions join.to)
+
+joined : (Q : PlainExpr → Type 0) → ((name : List ℕ) → Q (variable name)) → (name : List ℕ) → Joined Q (same_join name)
+joined Q each name = All-cons Q (variable name) [] (each name) (All-nil Q)
 
 module _ (text : List PlainModule) (can : CanHaveSerialPort text) where
   abbrev whole_text : List PlainModule
@@ -102,15 +110,10 @@ module _ (text : List PlainModule) (can : CanHaveSerialPort text) where
   named_alone Q each =
       top.four_items text can (λ item. All Q (item_expressions item)) (All-nil Q) (All-nil Q)
       (all_flat_map Q (λ (join : PlainJoin). joined_expressions join.to) serial_joins
-      (top.five_joins text can Joined (one _) (one _) (one _) (one _) (one _)))
-      (all_flat_map Q (λ (join : PlainJoin). joined_expressions join.to) _
-      (All-map Joined (λ (port : Port). same_join port.name) can.top.ports (λ k d within. one _)))
-    where
-      abbrev Joined : PlainJoin → Type 0
-      Joined join = All Q (joined_expressions join.to)
-
-      one : (name : List ℕ) → Joined (same_join name)
-      one name = All-cons Q (variable name) [] (each name) (All-nil Q)
+      (top.five_joins text can (Joined Q) (joined Q each clock_name) (joined Q each serial_strobe_name) (joined Q each serial_data_name) (joined Q each write_strobe_name)
+      (joined Q each write_data_name)))
+      (all_flat_map Q (λ (join : PlainJoin). joined_expressions join.to) (map (λ (port : Port). same_join port.name) can.top.ports)
+      (All-map (Joined Q) (λ (port : Port). same_join port.name) can.top.ports (λ k d within. joined Q each (get_or can.top.ports k d).name)))
 
   alone : (P : PlainExpr → Type 0) → ((name : List ℕ) → P (variable name)) → (name : List ℕ) → Every P (variable name)
   alone P each name = All-cons P (variable name) [] (each name) (All-nil P)
@@ -125,9 +128,14 @@ module _ (text : List PlainModule) (can : CanHaveSerialPort text) where
         (named_alone (Every (SelectFits new_top)) (alone (SelectFits new_top) (λ name. tt)));
     widths = both (λ m. All (λ item. All (Every (OperandsFit m)) (item_expressions item) × SidesFit m item) m.items) can.sound.widths port.widths
         (λ k d within. (named_alone (Every (OperandsFit new_top)) (alone (OperandsFit new_top) (λ name. tt)) k d within, sides k d within));
-    instances = behind_longer [] text two can.sound.instances
-        (port.instances, (top.instances_fit text can (text ++ serial_module ∷ []) (named_behind text (serial_module ∷ []) serial_module_name can.no_port)
-        (named_longer text (serial_module ∷ []) can.top.name can.top (fabric_before text can)), tt));
+    instances = behind_longer [] text two can.sound.instances (
+      port.instances,
+      (
+        top.instances_fit text can (text ++ serial_module ∷ []) (named_behind text (serial_module ∷ []) serial_module_name can.no_port)
+            (named_longer text (serial_module ∷ []) can.top.name can.top (fabric_before text can)),
+        tt,
+      ),
+    );
     drivers = both (λ m. All (PortIsDriven whole_text m) m.ports × All (ItemIsDriven whole_text m) m.items) (before.drivers_fit text two same can.sound.drivers)
         (port.ports_driven, port.items_driven) (top.ports_driven text can, top.items_driven text can);
     clocks = both (λ m. All (ClockFits whole_text m) m.items) (before.clocks_fit text two same can.sound.clocks) port.clocks (top.clocks_fit text can same);

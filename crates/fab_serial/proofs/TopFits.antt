@@ -7,8 +7,8 @@ use Rattle.std.proofs.lemmas.List.Elements.{All-nil, All-cons, All-head, All-tai
 use Rattle.std.proofs.lemmas.List.Kept.{AllPairs-cons}
 use Rattle.fab_syntax.specs.declared.tree.Shape.TheVariants.{Scalar, Vector}
 use Rattle.fab_syntax.specs.declared.tree.Port.{Port}
-use Rattle.fab_syntax.specs.Plain.{PlainExpr, PlainJoin, PlainItem, PlainModule, wire, instance, variable}
-use Rattle.fab_syntax.specs.Declarations.{module_named, width, width_if_any, declared_shape, is_input, is_input_of, times_joined}
+use Rattle.fab_syntax.specs.Plain.{PlainExpr, PlainJoin, PlainItem, PlainModule, wire, clocked, instance, variable}
+use Rattle.fab_syntax.specs.Declarations.{module_named, width, width_if_any, declared_shape, is_input, is_input_of, one_if_same, times_joined}
 use Rattle.fab_syntax.specs.Sound.{port_named, FitsPort, JoinFits, IsJoinedOnce, InstanceFits, PortIsDriven, ItemIsDriven, ServesAsClock, ticks, leads, IsScalarInput, IsJoinedToClock, ClockFits, ClocksFit, width_of_name}
 use Rattle.fab_meaning.specs.Ports.{scalar}
 use Rattle.fab_meaning.specs.Runs.{clock_name, user_clock_name}
@@ -25,7 +25,7 @@ use Rattle.fab_nested_laws.specs.Nested.{NamesAlike}
 use Rattle.fab_serial.proofs.Places.{wires_past, whole, port_named as port_named_in, fabric_named}
 use Rattle.fab_serial.proofs.Alike.{served}
 use Rattle.fab_serial.proofs.Ports.{port_found}
-use Rattle.fab_serial.proofs.TopNames.{IsPortName, of_pad, of_clock, of_user_clock, of_strobe, of_data, which_port, outer_top, top_there, apart, outer_apart, pad_there, pad_is, port_wide}
+use Rattle.fab_serial.proofs.TopNames.{IsPortName, of_pad, of_clock, of_user_clock, of_strobe, of_data, which_port, port_item, fabric_joins, fabric_item, outer_top, top_there, apart, outer_apart, pad_there, pad_is, port_wide}
 
 -- all ports of a module joined by their names
 abbrev pub by_names : List Port → List PlainJoin
@@ -33,7 +33,7 @@ by_names ports = map (λ (port : Port). same_join port.name) ports
 
 joined_as_named : (ports : List Port) (name : List ℕ) → times_joined (by_names ports) name ≡ times (port_names ports) name
 joined_as_named [] name = refl
-joined_as_named (port ∷ ports) name = ap (λ n. _ + n) (joined_as_named ports name)
+joined_as_named (port ∷ ports) name = ap (λ n. one_if_same port.name name + n) (joined_as_named ports name)
 
 -- ---- the outputs of a module that are joined by their names
 
@@ -78,20 +78,17 @@ module _ (m : PlainModule) where
 -- what serves as a clock in a module of a sound text is a scalar input
 pub clock_is_input : (text : List PlainModule) → ClocksFit text → (m : PlainModule) (name : List ℕ) → Contains text m → ServesAsClock text m name → IsScalarInput m name
 clock_is_input text fit m name there (ticks target value listed) =
-    All-contains (ClockFits text m) m.items _ (All-contains (λ n. All (ClockFits text n) n.items) text m fit there) listed
+    All-contains (ClockFits text m) m.items (clocked name target value) (All-contains (λ n. All (ClockFits text n) n.items) text m fit there) listed
 clock_is_input text fit m name there (leads of i joins join below listed among to found later) =
     let fits = All-contains (ClockFits text m) m.items (instance of i joins) (All-contains (λ n. All (ClockFits text n) n.items) text m fit there) listed in
     subst (IsJoinedToClock m) to (All-contains (λ (j : PlainJoin). ServesAsClock text below j.port → IsJoinedToClock m j.to) joins join (fits below found) among later)
 
 module _ (text : List PlainModule) (can : CanHaveSerialPort text) where
-  abbrev fabric_joins : List PlainJoin
-  fabric_joins = by_names can.top.ports
+  abbrev joins : List PlainJoin
+  joins = fabric_joins text can
 
-  abbrev fabric_item : PlainItem
-  fabric_item = instance can.top.name fabric_instance_name fabric_joins
-
-  abbrev port_item : PlainItem
-  port_item = instance serial_module_name serial_instance_name serial_joins
+  abbrev fabric : PlainItem
+  fabric = fabric_item text can
 
   abbrev top : PlainModule
   top = outer_top text can
@@ -102,16 +99,19 @@ module _ (text : List PlainModule) (can : CanHaveSerialPort text) where
   data_shape : declared_shape top.ports top.items write_data_name ≡ Some (Vector 32)
   data_shape = wires_past can.top.ports (serial_items can.top) write_data_name refl
 
-  pub four_items : (P : PlainItem → Type 0) → P (wire Scalar write_strobe_name) → P (wire (Vector 32) write_data_name) → P port_item → P fabric_item → All P top.items
-  four_items P strobe data_wire port fabric =
-      All-cons P (wire Scalar write_strobe_name) _ strobe (All-cons P (wire (Vector 32) write_data_name) _ data_wire
-      (All-cons P port_item (fabric_item ∷ []) port (All-cons P fabric_item [] fabric (All-nil P))))
+  pub four_items : (P : PlainItem → Type 0) → P (wire Scalar write_strobe_name) → P (wire (Vector 32) write_data_name) → P port_item → P fabric → All P top.items
+  four_items P of_strobe of_data of_port of_fabric =
+      All-cons P (wire Scalar write_strobe_name) (wire (Vector 32) write_data_name ∷ port_item ∷ fabric ∷ []) of_strobe
+      (All-cons P (wire (Vector 32) write_data_name) (port_item ∷ fabric ∷ []) of_data
+      (All-cons P port_item (fabric ∷ []) of_port (All-cons P fabric [] of_fabric (All-nil P))))
 
   pub five_joins : (P : PlainJoin → Type 0) → P (same_join clock_name) → P (same_join serial_strobe_name) → P (same_join serial_data_name) → P (same_join write_strobe_name) →
       P (same_join write_data_name) → All P serial_joins
   five_joins P clock strobe data_in write data_out =
-      All-cons P (same_join clock_name) _ clock (All-cons P (same_join serial_strobe_name) _ strobe (All-cons P (same_join serial_data_name) _ data_in
-      (All-cons P (same_join write_strobe_name) _ write (All-cons P (same_join write_data_name) [] data_out (All-nil P)))))
+      All-cons P (same_join clock_name) (same_join serial_strobe_name ∷ same_join serial_data_name ∷ same_join write_strobe_name ∷ same_join write_data_name ∷ []) clock
+      (All-cons P (same_join serial_strobe_name) (same_join serial_data_name ∷ same_join write_strobe_name ∷ same_join write_data_name ∷ []) strobe
+      (All-cons P (same_join serial_data_name) (same_join write_strobe_name ∷ same_join write_data_name ∷ []) data_in
+      (All-cons P (same_join write_strobe_name) (same_join write_data_name ∷ []) write (All-cons P (same_join write_data_name) [] data_out (All-nil P)))))
 
   -- ---- instances
 
@@ -124,28 +124,32 @@ module _ (text : List PlainModule) (can : CanHaveSerialPort text) where
       subst (λ found. IsSomeAnd found (λ (p : Port). FitsPort top p.input (width p.shape) (Some (variable port.name)))) (sym (port_found can.top.ports port (apart text can) there))
       (fits_port port.input port.name (width port.shape) (port_wide text can port there))
 
-  joined_once : (port : Port) → Contains can.top.ports port → IsJoinedOnce fabric_joins port
+  joined_once : (port : Port) → Contains can.top.ports port → IsJoinedOnce joins port
   joined_once port there =
-      let once : times_joined fabric_joins port.name ≡ 1 =
+      let once : times_joined joins port.name ≡ 1 =
       joined_as_named can.top.ports port.name ∙ times_once (port_names can.top.ports) port.name (apart text can) (contains_map (λ (p : Port). p.name) can.top.ports port there) in
       (omega (arith, once), λ input. once)
 
-  five_ports : (P : Port → Type 0) → P _ → P _ → P _ → P _ → P _ → All P serial_module.ports
-  five_ports P a b c d e = All-cons P _ _ a (All-cons P _ _ b (All-cons P _ _ c (All-cons P _ _ d (All-cons P _ [] e (All-nil P)))))
+  ports_joined : All (IsJoinedOnce serial_joins) serial_module.ports
+  ports_joined =
+      each_all (IsJoinedOnce serial_joins) serial_module.ports
+      ((omega arith, λ input. refl), ((omega arith, λ input. refl), ((omega arith, λ input. refl), ((omega arith, λ input. refl), ((omega arith, λ input. refl), tt)))))
 
   module _ (before : List PlainModule) (port_named_so : module_named before serial_module_name ≡ Some serial_module) (fabric_named_so : module_named before can.top.name ≡ Some can.top) where
     port_fits : InstanceFits before top port_item
     port_fits =
-        subst (λ found. IsSomeAnd found (λ (below : PlainModule). All (JoinFits top below) serial_joins × All (IsJoinedOnce serial_joins) below.ports)) (sym port_named_so)
-        (five_joins (JoinFits top serial_module) refl refl refl (ap width_if_any strobe_shape) (ap width_if_any data_shape),
-        five_ports (IsJoinedOnce serial_joins) (omega arith, λ input. refl) (omega arith, λ input. refl) (omega arith, λ input. refl) (omega arith, λ input. refl) (omega arith, λ input. refl))
+        subst (λ found. IsSomeAnd found (λ (below : PlainModule). All (JoinFits top below) serial_joins × All (IsJoinedOnce serial_joins) below.ports)) (sym port_named_so) (
+          five_joins (JoinFits top serial_module) refl refl refl (ap width_if_any strobe_shape) (ap width_if_any data_shape),
+          ports_joined,
+        )
 
-    fabric_fits : InstanceFits before top fabric_item
+    fabric_fits : InstanceFits before top fabric
     fabric_fits =
-        subst (λ found. IsSomeAnd found (λ (below : PlainModule). All (JoinFits top below) fabric_joins × All (IsJoinedOnce fabric_joins) below.ports)) (sym fabric_named_so)
-        (All-map (JoinFits top can.top) (λ (port : Port). same_join port.name) can.top.ports
-        (λ k d within. fabric_join_fits (get_or can.top.ports k d) (Contains-get_or can.top.ports k d within)),
-        λ k d within. joined_once (get_or can.top.ports k d) (Contains-get_or can.top.ports k d within))
+        subst (λ found. IsSomeAnd found (λ (below : PlainModule). All (JoinFits top below) joins × All (IsJoinedOnce joins) below.ports)) (sym fabric_named_so) (
+          All-map (JoinFits top can.top) (λ (port : Port). same_join port.name) can.top.ports
+              (λ k d within. fabric_join_fits (get_or can.top.ports k d) (Contains-get_or can.top.ports k d within)),
+          λ k d within. joined_once (get_or can.top.ports k d) (Contains-get_or can.top.ports k d within),
+        )
 
     pub instances_fit : All (InstanceFits before top) top.items
     instances_fit = four_items (InstanceFits before top) tt tt port_fits fabric_fits
@@ -161,7 +165,7 @@ module _ (text : List PlainModule) (can : CanHaveSerialPort text) where
 
   driven_is : driven_names whole_text top.items ≡ driven
   driven_is =
-      ap₂ (λ port fabric. joined_names port serial_joins ++ (joined_names fabric fabric_joins ++ [])) (port_named_in text can) (fabric_named text can)
+      ap₂ (λ port fabric. joined_names port serial_joins ++ (joined_names fabric joins ++ [])) (port_named_in text can) (fabric_named text can)
       ∙ ap (λ names. write_strobe_name ∷ write_data_name ∷ names) (append-nil (outs can.top can.top.ports))
 
   -- an input of the fabric is none of its outputs
@@ -180,7 +184,7 @@ module _ (text : List PlainModule) (can : CanHaveSerialPort text) where
 
   none_of : (name : List ℕ) → write_strobe_name ≢ name → write_data_name ≢ name → All (λ (port : Port). is_input can.top.ports port.name ≡ false → port.name ≢ name) can.top.ports → IsNoneOf driven name
   none_of name no_strobe no_data no_pad =
-      All-cons (λ other. other ≢ name) write_strobe_name _ no_strobe (All-cons (λ other. other ≢ name) write_data_name (outs can.top can.top.ports) no_data
+      All-cons (λ other. other ≢ name) write_strobe_name (write_data_name ∷ outs can.top can.top.ports) no_strobe (All-cons (λ other. other ≢ name) write_data_name (outs can.top can.top.ports) no_data
       (outs_all can.top (λ other. other ≢ name) can.top.ports no_pad))
 
   abbrev Among : (input : Bool) → List ℕ → Type 0
@@ -192,9 +196,11 @@ module _ (text : List PlainModule) (can : CanHaveSerialPort text) where
         | inl enters ↦ (let is = pad_is text can port there pad in
             subst (λ input. Among input port.name) (sym enters)
             (none_of port.name (λ same. is.no_strobe (sym same)) (λ same. is.no_data (sym same)) (λ k d within. no_output port.name (port_direction port can.top.ports (apart text can) there ∙ enters) (get_or can.top.ports k d))))
-        | inr leaves ↦ subst (λ input. Among input port.name) (sym leaves)
-            (contains_later write_strobe_name port.name _ (contains_later write_data_name port.name _
-            (outs_there can.top can.top.ports port there.0 there.1 there.2 (port_direction port can.top.ports (apart text can) there ∙ leaves))), All-nil (λ other. other ≢ port.name))
+        | inr leaves ↦ subst (λ input. Among input port.name) (sym leaves) (
+          contains_later write_strobe_name port.name (write_data_name ∷ outs can.top can.top.ports) (contains_later write_data_name port.name (outs can.top can.top.ports)
+              (outs_there can.top can.top.ports port there.0 there.1 there.2 (port_direction port can.top.ports (apart text can) there ∙ leaves))),
+          All-nil (λ other. other ≢ port.name),
+        )
       ]
 
   by_driven : (port : Port) → Among port.input port.name → PortIsDriven whole_text top port
@@ -205,19 +211,26 @@ module _ (text : List PlainModule) (can : CanHaveSerialPort text) where
   clock_among name input no_strobe no_data =
       none_of name (told_apart write_strobe_name name no_strobe) (told_apart write_data_name name no_data) (λ k d within. no_output name input (get_or can.top.ports k d))
 
+  abbrev pads : List Port
+  pads = filter is_pad can.top.ports
+
+  abbrev Driven : Port → Type 0
+  Driven = PortIsDriven whole_text top
+
   pub ports_driven : All (PortIsDriven whole_text top) top.ports
   ports_driven =
-      All-cons (PortIsDriven whole_text top) _ _ (by_driven (scalar true clock_name) (clock_among clock_name can.clock.0 refl refl))
-      (All-cons (PortIsDriven whole_text top) _ _ (by_driven (scalar true user_clock_name) (clock_among user_clock_name can.user_clock.0 refl refl))
-      (All-cons (PortIsDriven whole_text top) _ _
+      All-cons Driven (scalar true clock_name) (scalar true user_clock_name ∷ scalar true serial_strobe_name ∷ scalar true serial_data_name ∷ pads)
+      (by_driven (scalar true clock_name) (clock_among clock_name can.clock.0 refl refl))
+      (All-cons Driven (scalar true user_clock_name) (scalar true serial_strobe_name ∷ scalar true serial_data_name ∷ pads)
+      (by_driven (scalar true user_clock_name) (clock_among user_clock_name can.user_clock.0 refl refl))
+      (All-cons Driven (scalar true serial_strobe_name) (scalar true serial_data_name ∷ pads)
       (by_driven (scalar true serial_strobe_name)
       (none_of serial_strobe_name (told_apart write_strobe_name serial_strobe_name refl) (told_apart write_data_name serial_strobe_name refl) (λ k d within output. (can.free k d within).0)))
-      (All-cons (PortIsDriven whole_text top) _ _
+      (All-cons Driven (scalar true serial_data_name) pads
       (by_driven (scalar true serial_data_name)
       (none_of serial_data_name (told_apart write_strobe_name serial_data_name refl) (told_apart write_data_name serial_data_name refl) (λ k d within output. (can.free k d within).1)))
-      (λ k d within. by_driven (get_or (filter is_pad can.top.ports) k d)
-      (pad_among (get_or (filter is_pad can.top.ports) k d) (All-filter is_pad (Contains can.top.ports) can.top.ports (All-contains_itself can.top.ports) k d within)
-      (filter_passes is_pad can.top.ports k d within))))))
+      (λ k d within. by_driven (get_or pads k d)
+      (pad_among (get_or pads k d) (All-filter is_pad (Contains can.top.ports) can.top.ports (All-contains_itself can.top.ports) k d within) (filter_passes is_pad can.top.ports k d within))))))
 
   wire_driven : (item : PlainItem) → IsItemAmong driven [] item → ItemIsDriven whole_text top item
   wire_driven item among = item_driven whole_text top driven_apart (pairs_none Differ) item (subst (λ names. IsItemAmong names [] item) (sym driven_is) among)
@@ -242,8 +255,8 @@ module _ (text : List PlainModule) (can : CanHaveSerialPort text) where
   port_clocks below found =
       let is : serial_module ≡ below = (let both : Some serial_module ≡ Some below = sym (port_named_in text can) ∙ found in cc) in
       subst (λ m. All (ClockJoined m) serial_joins) is
-      (five_joins (ClockJoined serial_module) (λ serves_so. (refl, refl)) (no_clock serial_strobe_name refl _) (no_clock serial_data_name refl _) (no_clock write_strobe_name refl _)
-      (no_clock write_data_name refl _))
+      (five_joins (ClockJoined serial_module) (λ serves_so. (refl, refl)) (no_clock serial_strobe_name refl (same_join serial_strobe_name).to) (no_clock serial_data_name refl (same_join serial_data_name).to)
+      (no_clock write_strobe_name refl (same_join write_strobe_name).to) (no_clock write_data_name refl (same_join write_data_name).to))
 
   module _ (same : All (λ m. All (NamesAlike text whole_text) m.items) text) where
     fabric_clock : (port : Port) → Contains can.top.ports port → IsPortName (is_pad port) port.name → ServesAsClock text can.top port.name → IsScalarInput top port.name
@@ -260,13 +273,13 @@ module _ (text : List PlainModule) (can : CanHaveSerialPort text) where
         let scalar_in = clock_is_input text can.sound.clocks can.top write_data_name (top_there text can) (subst (ServesAsClock text can.top) is before) in
         absurd (let both : Some Scalar ≡ Some (Vector 32) = sym scalar_in.1 ∙ can.word.1 in let bad : ⊥ = cc in bad)
 
-    fabric_clocks : ClockFits whole_text top fabric_item
+    fabric_clocks : ClockFits whole_text top fabric
     fabric_clocks below found =
         let is : can.top ≡ below = (let both : Some can.top ≡ Some below = sym (fabric_named text can) ∙ found in cc) in
-        subst (λ m. All (ClockJoined m) fabric_joins) is
+        subst (λ m. All (ClockJoined m) joins) is
         (All-map (ClockJoined can.top) (λ (port : Port). same_join port.name) can.top.ports
         (λ k d within serves_so. (let port = get_or can.top.ports k d in
-        fabric_clock port (Contains-get_or can.top.ports k d within) (which_port port) (served text _ same can.top port.name (top_there text can) serves_so))))
+        fabric_clock port (Contains-get_or can.top.ports k d within) (which_port port) (served text (serial_module ∷ top ∷ []) same can.top port.name (top_there text can) serves_so))))
 
     pub clocks_fit : All (ClockFits whole_text top) top.items
     clocks_fit = four_items (ClockFits whole_text top) tt tt port_clocks fabric_clocks

@@ -4,13 +4,15 @@ use Rattle.std.specs.List.{flat_map}
 use Rattle.std.specs.Str.{bytes_eq}
 use Rattle.std.proofs.lemmas.Bool.{cases_Bool}
 use Rattle.std.proofs.lemmas.List.Elements.{All-nil, All-cons, All-map, All-filter, All-weaker, All-contains, All-contains_itself, Contains-append_left, Contains-append_right, Contains-get_or, filter_passes}
+use Rattle.fab_syntax.specs.declared.tree.Shape.{Shape}
 use Rattle.fab_syntax.specs.declared.tree.Shape.TheVariants.{Scalar, Vector}
 use Rattle.fab_syntax.specs.declared.tree.Port.{Port}
 use Rattle.fab_syntax.specs.Plain.{PlainJoin, PlainItem, PlainModule, wire, instance, variable}
 use Rattle.fab_syntax.specs.Declarations.{width, width_if_any, declared_shape, is_input}
-use Rattle.fab_syntax.specs.Sound.{Mention, use_of, instance_name, refusals, mentions_in, uses, joined_expressions, width_of_name}
+use Rattle.fab_syntax.specs.Sound.{Mention, use_of, instance_name, item_mentions, refusals, mentions_in, uses, joined_expressions, width_of_name}
 use Rattle.fab_syntax.proofs.SoundNames.{each_names_fit}
 use Rattle.fab_meaning.specs.Points.{last_of}
+use Rattle.fab_meaning.specs.Ports.{scalar}
 use Rattle.fab_meaning.specs.Runs.{clock_name, user_clock_name}
 use Rattle.fab_meaning.specs.Loading.{write_strobe_name, write_data_name}
 use Rattle.fab_meaning.proofs.SoundTexts.{same_names, contains_first, contains_later}
@@ -114,6 +116,9 @@ one_known names name there = All-cons (IsKnown names) (use_of name) [] there (Al
 abbrev joined_names : List (List ℕ)
 joined_names = clock_name ∷ serial_strobe_name ∷ serial_data_name ∷ write_strobe_name ∷ write_data_name ∷ []
 
+abbrev pub port_item : PlainItem
+port_item = instance serial_module_name serial_instance_name serial_joins
+
 -- ---- the top
 
 module _ (text : List PlainModule) (can : CanHaveSerialPort text) where
@@ -122,6 +127,9 @@ module _ (text : List PlainModule) (can : CanHaveSerialPort text) where
 
   abbrev pub outer_top : PlainModule
   outer_top = serial_top can.top
+
+  abbrev front_ports : List Port
+  front_ports = scalar true clock_name ∷ scalar true user_clock_name ∷ scalar true serial_strobe_name ∷ scalar true serial_data_name ∷ []
 
   abbrev pads : List Port
   pads = filter is_pad can.top.ports
@@ -134,12 +142,12 @@ module _ (text : List PlainModule) (can : CanHaveSerialPort text) where
 
   -- no two ports of the fabric have one name
   pub apart : AreApart (port_names can.top.ports)
-  apart = ports_apart can.top.ports _ top_names
+  apart = ports_apart can.top.ports (flat_map item_mentions can.top.items) top_names
 
   pads_are : All IsPadName (port_names pads)
   pads_are =
       All-map IsPadName (λ (port : Port). port.name) pads
-      (λ k d within. pad_name _ (All-filter is_pad (λ (port : Port). IsFree port.name) can.top.ports can.free k d within) (filter_passes is_pad can.top.ports k d within))
+      (λ k d within. pad_name (get_or pads k d) (All-filter is_pad (λ (port : Port). IsFree port.name) can.top.ports can.free k d within) (filter_passes is_pad can.top.ports k d within))
 
   pub pad_is : (port : Port) → Contains can.top.ports port → is_pad port ≡ true → IsPadName port.name
   pad_is port there pad = pad_name port (All-contains (λ (p : Port). IsFree p.name) can.top.ports port can.free there) pad
@@ -163,12 +171,12 @@ module _ (text : List PlainModule) (can : CanHaveSerialPort text) where
 
   -- a pad is a port of the new top
   pub pad_there : (port : Port) → Contains can.top.ports port → is_pad port ≡ true → Contains outer_top.ports port
-  pad_there port there pad = Contains-append_right (_ ∷ _ ∷ _ ∷ _ ∷ []) pads port (kept_there is_pad can.top.ports port there pad)
+  pad_there port there pad = Contains-append_right front_ports pads port (kept_there is_pad can.top.ports port there pad)
 
   -- ---- widths
 
   -- a port of the fabric is as wide as its name in the new top
-  same_width : (port : Port) (name : List ℕ) (shape : _) → Contains can.top.ports port → port.name ≡ name → declared_shape can.top.ports can.top.items name ≡ Some shape →
+  same_width : (port : Port) (name : List ℕ) (shape : Shape) → Contains can.top.ports port → port.name ≡ name → declared_shape can.top.ports can.top.items name ≡ Some shape →
       declared_shape outer_top.ports outer_top.items name ≡ Some shape → width_of_name outer_top port.name ≡ width port.shape
   same_width port name shape there is old new =
       let own : Some port.shape ≡ Some shape = sym (port_declared port can.top.ports can.top.items apart there) ∙ (ap (declared_shape can.top.ports can.top.items) is ∙ old) in
@@ -176,10 +184,10 @@ module _ (text : List PlainModule) (can : CanHaveSerialPort text) where
 
   wide : (port : Port) → Contains can.top.ports port → IsPortName (is_pad port) port.name → width_of_name outer_top port.name ≡ width port.shape
   wide port there (of_pad pad) = ap width_if_any (port_declared port outer_top.ports outer_top.items outer_apart (pad_there port there pad))
-  wide port there (of_clock is) = same_width port clock_name _ there is can.clock.1 refl
-  wide port there (of_user_clock is) = same_width port user_clock_name _ there is can.user_clock.1 refl
-  wide port there (of_strobe is) = same_width port write_strobe_name _ there is can.strobe.1 (wires_past can.top.ports (serial_items can.top) write_strobe_name refl)
-  wide port there (of_data is) = same_width port write_data_name _ there is can.word.1 (wires_past can.top.ports (serial_items can.top) write_data_name refl)
+  wide port there (of_clock is) = same_width port clock_name Scalar there is can.clock.1 refl
+  wide port there (of_user_clock is) = same_width port user_clock_name Scalar there is can.user_clock.1 refl
+  wide port there (of_strobe is) = same_width port write_strobe_name Scalar there is can.strobe.1 (wires_past can.top.ports (serial_items can.top) write_strobe_name refl)
+  wide port there (of_data is) = same_width port write_data_name (Vector 32) there is can.word.1 (wires_past can.top.ports (serial_items can.top) write_data_name refl)
 
   pub port_wide : (port : Port) → Contains can.top.ports port → width_of_name outer_top port.name ≡ width port.shape
   port_wide port there = wide port there (which_port port)
@@ -192,50 +200,54 @@ module _ (text : List PlainModule) (can : CanHaveSerialPort text) where
   abbrev JoinKnown : List ℕ → Type 0
   JoinKnown name = All (IsKnown known) (join_uses (same_join name))
 
+  abbrev pub fabric_joins : List PlainJoin
+  fabric_joins = map (λ (port : Port). same_join port.name) can.top.ports
+
+  abbrev pub fabric_item : PlainItem
+  fabric_item = instance can.top.name fabric_instance_name fabric_joins
+
   abbrev instances : List PlainItem
-  instances =
-      instance serial_module_name serial_instance_name serial_joins
-      ∷ instance can.top.name fabric_instance_name (map (λ (port : Port). same_join port.name) can.top.ports) ∷ []
+  instances = port_item ∷ fabric_item ∷ []
 
   strobe_known : Contains known write_strobe_name
   strobe_known =
-      Contains-append_right front_names (port_names pads ++ _) write_strobe_name
+      Contains-append_right front_names (port_names pads ++ (write_strobe_name ∷ write_data_name ∷ [])) write_strobe_name
       (Contains-append_right (port_names pads) (write_strobe_name ∷ write_data_name ∷ []) write_strobe_name (0, omega arith, refl))
 
   data_known : Contains known write_data_name
   data_known =
-      Contains-append_right front_names (port_names pads ++ _) write_data_name
+      Contains-append_right front_names (port_names pads ++ (write_strobe_name ∷ write_data_name ∷ [])) write_data_name
       (Contains-append_right (port_names pads) (write_strobe_name ∷ write_data_name ∷ []) write_data_name (1, omega arith, refl))
 
   name_known : (port : Port) → Contains can.top.ports port → IsPortName (is_pad port) port.name → Contains known port.name
   name_known port there (of_pad pad) =
-      Contains-append_right front_names (port_names pads ++ _) port.name
-      (Contains-append_left (port_names pads) _ port.name (contains_map (λ (p : Port). p.name) pads port (kept_there is_pad can.top.ports port there pad)))
+      Contains-append_right front_names (port_names pads ++ (write_strobe_name ∷ write_data_name ∷ [])) port.name
+      (Contains-append_left (port_names pads) (write_strobe_name ∷ write_data_name ∷ []) port.name (contains_map (λ (p : Port). p.name) pads port (kept_there is_pad can.top.ports port there pad)))
   name_known port there (of_clock is) = subst (Contains known) (sym is) (0, omega arith, refl)
   name_known port there (of_user_clock is) = subst (Contains known) (sym is) (1, omega arith, refl)
   name_known port there (of_strobe is) = subst (Contains known) (sym is) strobe_known
   name_known port there (of_data is) = subst (Contains known) (sym is) data_known
 
-  port_uses : UsesNets known (instance serial_module_name serial_instance_name serial_joins)
+  port_uses : UsesNets known port_item
   port_uses =
-      All-cons (IsKnown known) (instance_name serial_instance_name) _ tt
+      All-cons (IsKnown known) (instance_name serial_instance_name) (flat_map join_uses serial_joins) tt
       (all_flat_map (IsKnown known) join_uses serial_joins
       (All-map (λ join. All (IsKnown known) (join_uses join)) same_join joined_names
-      (All-cons JoinKnown clock_name _ (one_known known clock_name (0, omega arith, refl))
+      (All-cons JoinKnown clock_name (serial_strobe_name ∷ serial_data_name ∷ write_strobe_name ∷ write_data_name ∷ []) (one_known known clock_name (0, omega arith, refl))
       (four JoinKnown serial_strobe_name serial_data_name write_strobe_name write_data_name (one_known known serial_strobe_name (2, omega arith, refl))
       (one_known known serial_data_name (3, omega arith, refl)) (one_known known write_strobe_name strobe_known) (one_known known write_data_name data_known)))))
 
-  fabric_uses : UsesNets known (instance can.top.name fabric_instance_name (map (λ (port : Port). same_join port.name) can.top.ports))
+  fabric_uses : UsesNets known fabric_item
   fabric_uses =
-      All-cons (IsKnown known) (instance_name fabric_instance_name) _ tt
-      (all_flat_map (IsKnown known) join_uses (map (λ (port : Port). same_join port.name) can.top.ports)
+      All-cons (IsKnown known) (instance_name fabric_instance_name) (flat_map join_uses fabric_joins) tt
+      (all_flat_map (IsKnown known) join_uses fabric_joins
       (All-map (λ join. All (IsKnown known) (join_uses join)) (λ (port : Port). same_join port.name) can.top.ports
       (λ k d within. (let port = get_or can.top.ports k d in one_known known port.name (name_known port (Contains-get_or can.top.ports k d within) (which_port port))))))
 
   -- no name of the new top is refused
   pub outer_names : refusals [] (mentions_in outer_top) ≡ []
   outer_names =
-      names_fit outer_top wires instances refl (All-cons IsNet (wire Scalar write_strobe_name) _ tt (All-cons IsNet (wire (Vector 32) write_data_name) [] tt (All-nil IsNet)))
+      names_fit outer_top wires instances refl (All-cons IsNet (wire Scalar write_strobe_name) (wire (Vector 32) write_data_name ∷ []) tt (All-cons IsNet (wire (Vector 32) write_data_name) [] tt (All-nil IsNet)))
       (subst AreApart (ap (λ behind. front_names ++ behind) (sym (append_assoc (port_names pads) (write_strobe_name ∷ write_data_name ∷ []) (serial_instance_name ∷ fabric_instance_name ∷ [])))) all_apart)
-      (All-cons (UsesNets known) (instance serial_module_name serial_instance_name serial_joins) _ port_uses
-      (All-cons (UsesNets known) (instance can.top.name fabric_instance_name (map (λ (port : Port). same_join port.name) can.top.ports)) [] fabric_uses (All-nil (UsesNets known))))
+      (All-cons (UsesNets known) port_item (fabric_item ∷ []) port_uses
+      (All-cons (UsesNets known) fabric_item [] fabric_uses (All-nil (UsesNets known))))

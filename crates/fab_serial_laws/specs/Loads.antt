@@ -4,8 +4,8 @@ use Rattle.fab_syntax.specs.Plain.{PlainModule}
 use Rattle.fab_meaning.specs.Points.{Point, point}
 use Rattle.fab_meaning.specs.Settled.{Assignment, IsSettledOn}
 use Rattle.fab_meaning.specs.Runs.{clock_name, Moment, IsRunOn}
-use Rattle.fab_model.specs.Grid.{PlainFabric}
-use Rattle.fab_model.specs.Drive.{PlainBits}
+use Rattle.fab_drives_laws.specs.fab_model_Grid.{PlainFabric}
+use Rattle.fab_drives_laws.specs.fab_model_Drive.{PlainBits}
 use Rattle.fab_text_loads_laws.specs.fab_drives_laws_Points.{ShowsBits}
 use Rattle.fab_text_loads_laws.specs.fab_fabric_Fabric.{IsFabric}
 use Rattle.fab_text_loads_laws.specs.fab_fabric_text_defs_Texts.{IsFabricText}

@@ -3,7 +3,7 @@
 
 ghost use Rattle.fab_serial_laws.specs.Loads.{FabricTextsTakePorts, SerialTextsLoad};
 
-use fab_load_runs_laws::{led_runs_exist};
+use fab_load_runs_laws::led_runs_exist;
 use fab_meaning::laws::{led_points_stay, led_runs_agree};
 use fab_nested_laws::nested_texts;
 use fab_text_loads_laws::fabric_texts_load;
