@@ -119,6 +119,8 @@ def rows(is_small=False):
         row(8, "matrix m.list m.v", LISTS),
         row(6, "generate duo.csv f.v", duo),
         row(8, "generate parts.csv f.v", parts),
+        row(4, "serial duo.csv f.v", duo),
+        row(4, "serial parts.csv f.v", parts),
         row(6, "assemble duo.csv inv.blif inv.impl made --pcf inv.pcf", dict(inv, **fixtures("inv.impl"))),
         row(4, "assemble duo.csv tog.blif tog.impl made", dict(tog, **fixtures("tog.impl"))),
         row(4, "timing duo.csv tog.blif tog.impl t --pcf tog.pcf", dict(tog, **fixtures("tog.impl"))),

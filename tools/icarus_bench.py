@@ -87,24 +87,24 @@ def head(text, limits):
     yield "  end endtask"
 
 
-def registers(text):
-    """A task that sets all registers of the fabric."""
-    yield "  task set(input [31:0] ones, input [31:0] any); begin"
-    yield from (f"    fabric.{name} = ones | any & $random(seed);" for name in text.registers)
+def registers(text, task="set", fabric="fabric"):
+    """A task that sets all registers of the fabric, which stands at this path."""
+    yield f"  task {task}(input [31:0] ones, input [31:0] any); begin"
+    yield from (f"    {fabric}.{name} = ones | any & $random(seed);" for name in text.registers)
     yield "  end endtask"
 
 
-def holding(name, wires, digit):
+def holding(name, wires, digit, fabric="fabric"):
     """Tasks that hold some wires at one value each, and let them go. They are held while words are loaded: without that, rings that
     the latches close on the way could swing without end, since no assignment takes time here. They are let go from 0: Icarus would keep
-    an unused ring of unknown values unknown. digit: gives the value of each."""
+    an unused ring of unknown values unknown. digit: gives the value of each. fabric: the path at which the fabric stands."""
     yield f"  task hold_{name}; begin"
-    yield from (f"    force fabric.{wire} = 1'b{digit()};" for wire in wires)
+    yield from (f"    force {fabric}.{wire} = 1'b{digit()};" for wire in wires)
     yield "  end endtask"
     yield f"  task let_go_{name}; begin"
-    yield from (f"    force fabric.{wire} = 1'b0;" for wire in wires)
+    yield from (f"    force {fabric}.{wire} = 1'b0;" for wire in wires)
     yield "    #1;"
-    yield from (f"    release fabric.{wire};" for wire in wires)
+    yield from (f"    release {fabric}.{wire};" for wire in wires)
     yield "    #1;"
     yield "  end endtask"
 

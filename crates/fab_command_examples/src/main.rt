@@ -21,6 +21,7 @@ fn main(rt: HostRuntime) -> Result<(), Stop> {
         "texts.cases",
         "assemble.cases",
         "timing.cases",
+        "serial.cases",
         "flow.cases",
         "search.cases",
         "reset.cases",

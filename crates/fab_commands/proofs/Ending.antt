@@ -12,7 +12,8 @@ use Rattle.fab_files.specs.Files.{refuses}
 use Rattle.fab_outputs.specs.Storing.{Leaves}
 use Rattle.fab_outputs.specs.Ending.{IsRefused}
 use Rattle.fab_words.specs.declared.job.Job.{Job}
-use Rattle.fab_words.specs.declared.job.Job.TheVariants.{Matrix, Generate, Assemble, Map as Mapping, Flow, Bits, Features, Simulate, Partial, Timing, Sample}
+use Rattle.fab_words.specs.declared.job.Job.TheVariants.{Matrix, Generate, Assemble, Map as Mapping, Flow, Bits, Features, Simulate, Partial, Timing}
+use Rattle.fab_words.specs.declared.job.Job.TheVariants.{Serial, Sample}
 use Rattle.fab_commands.specs.Running.{Makes, Meets, IsReady, refusals, failures, HasJobCause, MayFail, Call, DoesJob, Puts, RefusesJob}
 use Rattle.fab_commands.specs.Running.{IsJobReady, WriteFailed, JobHasCause, JobLeaves, StandsBefore, IsPut, IsReported, IsOrMemory, answers, IsAnswered}
 use Rattle.fab_commands.proofs.Faulted.{Kind, done_ready, kind, not_refused, refused_once, memory, read, write, refused, failed}
@@ -34,6 +35,7 @@ refusals_lack (Features fabric bit out) = (refl, refl, refl, refl, refl)
 refusals_lack (Simulate verilog bit state stimulus order trace) = (refl, refl, refl, refl, refl)
 refusals_lack (Partial fabric implementation fasm first last out) = (refl, refl, refl, refl, refl)
 refusals_lack (Timing fabric blif pcf implementation out) = (refl, refl, refl, refl, refl)
+refusals_lack (Serial fabric out) = (refl, refl, refl, refl, refl)
 refusals_lack (Sample size seed) = (refl, refl, refl, refl, refl)
 
 other_number : (job : Job) (n : ℕ) → list_any (nat_eq n) (refusals job) ≡ true → (n ≢ 0) × (n ≢ 1) × (n ≢ 11) × (n ≢ 12) × (n ≢ 13)
@@ -53,6 +55,7 @@ failures_lack (Features fabric bit out) = (refl, refl, refl)
 failures_lack (Simulate verilog bit state stimulus order trace) = (refl, refl, refl)
 failures_lack (Partial fabric implementation fasm first last out) = (refl, refl, refl)
 failures_lack (Timing fabric blif pcf implementation out) = (refl, refl, refl)
+failures_lack (Serial fabric out) = (refl, refl, refl)
 failures_lack (Sample size seed) = (refl, refl, refl)
 
 other_failure : (job : Job) (n : ℕ) → list_any (nat_eq n) (failures job) ≡ true → (n ≢ 1) × (n ≢ 11) × (n ≢ 12)
@@ -126,6 +129,7 @@ job_left (Partial fabric implementation fasm first last out) told after fault n 
     left_as_was (Partial fabric implementation fasm first last out) told after fault n few is leaves
 job_left (Timing fabric blif pcf implementation out) told after fault n few is leaves =
     left_as_was (Timing fabric blif pcf implementation out) told after fault n few is leaves
+job_left (Serial fabric out) told after fault n few is leaves = left_as_was (Serial fabric out) told after fault n few is leaves
 job_left (Sample size seed) told after fault n few is leaves = leaves
 
 -- ---- what the status says
@@ -244,6 +248,7 @@ cause_later (Some (Features fabric bit out)) told reads writes before after faul
 cause_later (Some (Simulate verilog bit state stimulus order trace)) told reads writes before after fault more cause = cause
 cause_later (Some (Partial fabric implementation fasm first last out)) told reads writes before after fault more cause = cause
 cause_later (Some (Timing fabric blif pcf implementation out)) told reads writes before after fault more cause = cause
+cause_later (Some (Serial fabric out)) told reads writes before after fault more cause = cause
 cause_later (Some (Sample size seed)) told reads writes before after fault more (inl lacks) = inl lacks
 cause_later (Some (Sample size seed)) told reads writes before after fault more (inr cut) = inr (more cut.0, cut.1)
 

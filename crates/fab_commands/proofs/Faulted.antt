@@ -21,6 +21,7 @@ use Rattle.fab_sampling.proofs.fab_flow_FlowedOnce.{one_flow_number, flow_not_bo
 use Rattle.fab_sampling.proofs.fab_flow_MappedOnce as mapping
 use Rattle.fab_sampling.proofs.fab_flow_Once as generating
 use Rattle.fab_sampling.proofs.fab_flow_PartialOnce as exchanging
+use Rattle.fab_sampling.proofs.fab_flow_SerialOnce as serial
 use Rattle.fab_sampling.specs.fab_simulate_command_Simulating.{simulation_files}
 use Rattle.fab_sampling.proofs.fab_simulate_command_Behind.{ready_of}
 use Rattle.fab_sampling.proofs.fab_simulate_command_SimulatedOnce as simulating
@@ -28,7 +29,8 @@ use Rattle.fab_designs.specs.Designs.{design_files}
 use Rattle.fab_list_files.proofs.Once.{one_refusal, not_both}
 use Rattle.fab_words.specs.Arguments.{IsUsage}
 use Rattle.fab_words.specs.declared.job.Job.{Job}
-use Rattle.fab_words.specs.declared.job.Job.TheVariants.{Matrix, Generate, Assemble, Map as Mapping, Flow, Bits, Features, Simulate, Partial, Timing, Sample}
+use Rattle.fab_words.specs.declared.job.Job.TheVariants.{Matrix, Generate, Assemble, Map as Mapping, Flow, Bits, Features, Simulate, Partial, Timing}
+use Rattle.fab_words.specs.declared.job.Job.TheVariants.{Serial, Sample}
 use Rattle.fab_commands.specs.Running.{Makes, Meets, IsReady, refusals, failures, HasJobCause, JobHasCause}
 
 -- ---- each command has one first refusal, or is ready
@@ -48,6 +50,7 @@ refused_once (Partial fabric implementation fasm first last out) files a b x y =
     ap number_of (exchanging.one_refusal files (partial_files fabric implementation fasm first last out) a b x y)
 refused_once (Timing fabric blif pcf implementation out) files a b x y =
     assembling.one_number files (assembly_files fabric blif pcf implementation out) a b x y
+refused_once (Serial fabric out) files a b x y = ap number_of (serial.one_refusal files fabric a b x y)
 refused_once (Sample size seed) files a b x y = absurd x
 
 pub not_refused : (job : Job) (files : Map) (fault : Fault) → IsReady job files → Meets job files (refuses fault) → ⊥
@@ -66,6 +69,7 @@ not_refused (Partial fabric implementation fasm first last out) files fault read
     exchanging.not_both files (partial_files fabric implementation fasm first last out) fault ready x
 not_refused (Timing fabric blif pcf implementation out) files fault ready x =
     assembling.not_both files (assembly_files fabric blif pcf implementation out) fault ready x
+not_refused (Serial fabric out) files fault ready x = serial.not_both files fabric fault ready x
 not_refused (Sample size seed) files fault ready x = x
 
 -- what is done was ready
@@ -118,6 +122,8 @@ done_ready (Timing fabric blif pcf implementation out) files told after is done 
       fits = made.fits;
       legal = made.legal;
     }
+done_ready (Serial fabric out) files told after is done =
+    let made = (done.made files is).made in record { fabric = made.fabric; spelled = made.spelled; frames = made.frames; short = made.short }
 done_ready (Sample size seed) files told after is done = tt
 
 -- ---- the fault behind an end
@@ -202,6 +208,7 @@ kind told reads writes (Partial fabric implementation fasm first last out) fault
     kind_of told reads writes (Partial fabric implementation fasm first last out) fault cause
 kind told reads writes (Timing fabric blif pcf implementation out) fault cause =
     kind_of told reads writes (Timing fabric blif pcf implementation out) fault cause
+kind told reads writes (Serial fabric out) fault cause = kind_of told reads writes (Serial fabric out) fault cause
 kind told reads writes (Sample size seed) fault cause = sample_kind told reads writes size seed fault cause
 
 -- memory may be refused at any time, also while the words are read
@@ -217,6 +224,7 @@ memory_causes (Some (Features fabric bit out)) told reads cut = tt
 memory_causes (Some (Simulate verilog bit state stimulus order trace)) told reads cut = tt
 memory_causes (Some (Partial fabric implementation fasm first last out)) told reads cut = tt
 memory_causes (Some (Timing fabric blif pcf implementation out)) told reads cut = tt
+memory_causes (Some (Serial fabric out)) told reads cut = tt
 memory_causes (Some (Sample size seed)) told reads cut = inl refl
 
 pub words_cause : (job : Option Job) (told : Option Map) (reads cut : Type 0) (fault : Fault) → IsUsage (job ≡ None) fault

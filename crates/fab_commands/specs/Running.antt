@@ -18,12 +18,14 @@ use Rattle.fab_sampling.specs.fab_flow_Flowing.{flow_files, MakesFlow, MeetsFlow
 use Rattle.fab_sampling.specs.fab_flow_Mapping.{mapping_files, MakesMapping, MeetsMapping, IsReadyToMap, HasMappingCause, map_refusals}
 use Rattle.fab_sampling.specs.fab_flow_Matrix.{MakesMatrix, IsReadyForMatrix, HasMatrixCause, matrix_refusals}
 use Rattle.fab_sampling.specs.fab_flow_Partial.{partial_files, MakesPartial, MeetsPartial, IsReadyToExchange, HasPartialCause, partial_refusals}
+use Rattle.fab_sampling.specs.fab_flow_Serial.{MakesSerial, MeetsSerial, IsReadyForSerial, HasSerialCause}
 use Rattle.fab_sampling.specs.fab_flow_Timing.{MakesTiming}
 use Rattle.fab_sampling.specs.fab_simulate_command_Simulating.{simulation_files, MakesTrace, MeetsSimulation, IsReadyToSimulate, HasSimulateCause, simulate_refusals}
 use Rattle.fab_sampling.specs.Sampling.{IsSummary}
 use Rattle.fab_list_files.specs.Sides.{MeetsPairs}
 use Rattle.fab_words.specs.declared.job.Job.{Job}
-use Rattle.fab_words.specs.declared.job.Job.TheVariants.{Matrix, Generate, Assemble, Map as Mapping, Flow, Bits, Features, Simulate, Partial, Timing, Sample}
+use Rattle.fab_words.specs.declared.job.Job.TheVariants.{Matrix, Generate, Assemble, Map as Mapping, Flow, Bits, Features, Simulate, Partial, Timing}
+use Rattle.fab_words.specs.declared.job.Job.TheVariants.{Serial, Sample}
 
 -- ---- the commands
 
@@ -39,6 +41,7 @@ Makes (Features fabric bit out) files outputs = MakesFeatures files (features_fi
 Makes (Simulate verilog bit state stimulus order trace) files outputs = MakesTrace files (simulation_files verilog bit state stimulus trace) order outputs
 Makes (Partial fabric implementation fasm first last out) files outputs = MakesPartial files (partial_files fabric implementation fasm first last out) outputs
 Makes (Timing fabric blif pcf implementation out) files outputs = MakesTiming files (assembly_files fabric blif pcf implementation out) outputs
+Makes (Serial fabric out) files outputs = MakesSerial files fabric out outputs
 Makes (Sample size seed) files outputs = outputs ≡ []
 
 -- what it comes upon before anything is refused: files that it asks for, and its first refusal; a sample asks for none
@@ -53,6 +56,7 @@ Meets (Features fabric bit out) files event = MeetsBitFeatures files (features_f
 Meets (Simulate verilog bit state stimulus order trace) files event = MeetsSimulation files (simulation_files verilog bit state stimulus trace) event
 Meets (Partial fabric implementation fasm first last out) files event = MeetsPartial files (partial_files fabric implementation fasm first last out) event
 Meets (Timing fabric blif pcf implementation out) files event = MeetsAssembly files (assembly_files fabric blif pcf implementation out) event
+Meets (Serial fabric out) files event = MeetsSerial files fabric event
 Meets (Sample size seed) files event = ⊥
 
 -- nothing is refused; nothing of a sample ever is
@@ -67,6 +71,7 @@ IsReady (Features fabric bit out) files = IsReadyForFeatures files (features_fil
 IsReady (Simulate verilog bit state stimulus order trace) files = IsReadyToSimulate files (simulation_files verilog bit state stimulus trace)
 IsReady (Partial fabric implementation fasm first last out) files = IsReadyToExchange files (partial_files fabric implementation fasm first last out)
 IsReady (Timing fabric blif pcf implementation out) files = IsReadyToAssemble files (assembly_files fabric blif pcf implementation out)
+IsReady (Serial fabric out) files = IsReadyForSerial files fabric
 IsReady (Sample size seed) files = Unit {0}
 
 -- the numbers of the faults for which it refuses
@@ -81,6 +86,7 @@ refusals (Features fabric bit out) = features_refusals
 refusals (Simulate verilog bit state stimulus order trace) = simulate_refusals
 refusals (Partial fabric implementation fasm first last out) = partial_refusals
 refusals (Timing fabric blif pcf implementation out) = assemble_refusals
+refusals (Serial fabric out) = generate_refusals
 refusals (Sample size seed) = []
 
 -- The numbers of the faults with which it may end though nothing is refused: a command that places and routes may find no path, or leave a wire shared.
@@ -95,6 +101,7 @@ failures (Features fabric bit out) = []
 failures (Simulate verilog bit state stimulus order trace) = []
 failures (Partial fabric implementation fasm first last out) = []
 failures (Timing fabric blif pcf implementation out) = []
+failures (Serial fabric out) = []
 failures (Sample size seed) = []
 
 -- Why it ends with a fault. Of a sample memory is refused, or its summary is not put whole, which is told as the fault of a file whose name is a dash.
@@ -115,6 +122,7 @@ HasJobCause (Partial fabric implementation fasm first last out) told reads_rose 
     HasPartialCause told (partial_files fabric implementation fasm first last out) reads_rose write_failed fault
 HasJobCause (Timing fabric blif pcf implementation out) told reads_rose write_failed fault =
     HasAssembleCause told (assembly_files fabric blif pcf implementation out) reads_rose write_failed fault
+HasJobCause (Serial fabric out) told reads_rose write_failed fault = HasSerialCause told fabric reads_rose write_failed fault
 HasJobCause (Sample size seed) told reads_rose write_failed fault =
     (fault ≡ faults.Memory) ⊎ (write_failed × (fault ≡ faults.WriteFault (codes "-")))
 

@@ -11,7 +11,7 @@ use fab_desk::{Desk, Sink, SinkFault};
 use fab_progress::Progress;
 use fab_sampling::{
     do_assemble, do_bits, do_features, do_flow, do_generate, do_map, do_matrix, do_partial,
-    do_simulate, do_timing, summary,
+    do_serial, do_simulate, do_timing, summary,
 };
 use fab_words::{Job, parse};
 use std::alloc::Global;
@@ -118,6 +118,7 @@ fn perform<D: Desk, P: Progress, S: Sink>(
             &implementation,
             &out,
         ),
+        Job::Serial(fabric, out) => do_serial(alloc, desk, progress, &fabric, &out),
         Job::Sample(size, seed) => sum_up(alloc, progress, size, seed, out),
     }
 }

@@ -1,7 +1,11 @@
 pub mod Once
+pub mod Parts
 pub mod Lengths
 pub mod Spelled
 pub mod Generated
+pub mod PortLengths
+pub mod SerialMade
+pub mod SerialOnce
 pub mod ResetPorts
 pub mod ReadAs
 pub mod Assembled

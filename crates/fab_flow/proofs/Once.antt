@@ -13,7 +13,7 @@ use Rattle.fab_flow.specs.Generating.{text_length, most_text_bytes, IsTooLong, M
 pub fabric_is_judged : (files : Map) (name : List ℕ) → IsJudged (λ a b. a ≡ b) (SpellsFabric files name) (MeetsFabric files name)
 fabric_is_judged files name = record { once = one_fabric files name; refused_once = refused_once files name; apart = not_refused files name }
 
-refuses_is : {a b : Fault} → refuses a ≡ refuses b → a ≡ b
+pub refuses_is : {a b : Fault} → refuses a ≡ refuses b → a ≡ b
 refuses_is same = cc
 
 -- the fabric's text is short enough

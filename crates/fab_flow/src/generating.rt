@@ -15,47 +15,35 @@ ghost use Rattle.fab_assemble.specs.fab_fabric_text_defs_Texts.{IsFabricText};
 ghost use Rattle.fab_flow.specs.Generating.{generated_text, text_length, most_text_bytes, IsTooLong, MakesFabric, HasGenerateCause};
 ghost use Rattle.fab_outputs.specs.Storing.{IsDone, Leaves};
 
-use crate::printing::printed_module;
+use crate::printing::{PrintedText, printed_text};
 use fab_base::{Fault, Memory, Name, Problem, Quantity};
 use fab_desk::Desk;
 use fab_fabric::Fabric;
-use fab_gen_loader::loader_module;
 use fab_gen_top::generate;
 use fab_outputs::{one_output, store_all};
 use fab_progress::{Progress, Step};
 use fab_read::read_fabric;
-use fab_syntax::print;
 use std::alloc::Global;
 
 /// The most bytes of the text of a fabric without the module of its loader. With that module the text is no longer than a file may
 /// be that is read.
 const MOST_TEXT_BYTES: u64 = 67_043_328;
 
-/// The printed text of a fabric.
-fn printed_text(alloc: Global, fabric: &Fabric) -> Result<Vec<u8>, Memory>
-    ensures printed { IfOk result (λ text. text.items ≡ text_bytes (generated_text fabric.now)) }
+/// The printed text of a fabric. Its last two modules are the loader and the top.
+fn printed_fabric(alloc: Global, fabric: &Fabric) -> Result<PrintedText, Memory>
+    ensures printed { IfOk result (λ text. text.bytes.items ≡ text_bytes (generated_text fabric.now)) }
     ensures is_text { OnOk result (All IsNamed fabric.now.types → IsFabricText fabric.now (generated_text fabric.now)) }
     ensures drives { OnOk result (ShowsDrives fabric.now (generated_text fabric.now)) }
     ensures loads { OnOk result (All IsNamed fabric.now.types → LoadsConfigurations fabric.now (generated_text fabric.now)) }
+    ensures length { IfOk result (λ text. text.unloaded ≡ text_length fabric.now) }
 {
     let text = generate(alloc, fabric)?;
-    print(alloc, &text)
-}
-
-/// How many bytes of the printed text of a fabric are not those of its loader's module.
-fn unloaded_length(alloc: Global, fabric: &Fabric, text: &[u8]) -> Result<u64, Memory>
-    requires { text.now ≡ text_bytes (generated_text fabric.now) }
-    ensures length { IfOk result (λ bytes. bytes ≡ text_length fabric.now) }
-    ensures loader { IfOk result (λ bytes. length text.now ≤ bytes + 65536) }
-{
-    fabric.is_well_made();
-    let loader = loader_module(alloc, fabric.rows())?;
-    let printed = printed_module(alloc, loader)?;
-    Ok((text.len() - printed.len()) as u64)
+    let loader = text.modules.len() - 2;
+    printed_text(alloc, text, loader)
 }
 
 /// Refuses the text of a fabric that has too many bytes.
-fn check_length(alloc: Global, fabric: &Name, bytes: u64) -> Result<(), Fault>
+pub(crate) fn check_length(alloc: Global, fabric: &Name, bytes: u64) -> Result<(), Fault>
     ensures short { OnOk result (bytes ≤ most_text_bytes) }
     ensures long { IfErr result (λ fault. (fault ≡ faults.Memory) ⊎ ((most_text_bytes < bytes)
         × (fault ≡ fault_at fabric.now 0 (problems.Limit quantities.TextBytes bytes most_text_bytes)))) }
@@ -77,10 +65,10 @@ pub(crate) fn fabric_text(alloc: Global, name: &Name, fabric: &Fabric) -> Result
     ensures readable { IfOk result (λ text. length text.items ≤ MAX_FILE_BYTES) }
     ensures long { IfErr result (λ fault. (fault ≡ faults.Memory) ⊎ IsTooLong name.now fabric.now fault) }
 {
-    let text = printed_text(alloc, fabric)?;
-    let bytes = unloaded_length(alloc, fabric, &text)?;
-    check_length(alloc, name, bytes)?;
-    Ok(text)
+    fabric.is_well_made();
+    let text = printed_fabric(alloc, fabric)?;
+    check_length(alloc, name, text.unloaded)?;
+    Ok(text.bytes)
 }
 
 /// Reads a fabric with all files that its file names, and stores its text under the output's name: the primitives, the modules of

@@ -11,6 +11,7 @@ mod matrix;
 mod partial;
 mod printing;
 mod resetting;
+mod serial;
 mod timing;
 
 pub use assembling::do_assemble;
@@ -21,4 +22,5 @@ pub use generating::do_generate;
 pub use mapping::do_map;
 pub use matrix::do_matrix;
 pub use partial::do_partial;
+pub use serial::do_serial;
 pub use timing::do_timing;

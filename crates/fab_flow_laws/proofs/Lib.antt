@@ -34,6 +34,7 @@ pub use Rattle.fab_flow.proofs.FlowedOnce as fab_flow_FlowedOnce
 pub use Rattle.fab_flow.proofs.MappedOnce as fab_flow_MappedOnce
 pub use Rattle.fab_flow.proofs.Once as fab_flow_Once
 pub use Rattle.fab_flow.proofs.PartialOnce as fab_flow_PartialOnce
+pub use Rattle.fab_flow.proofs.SerialOnce as fab_flow_SerialOnce
 pub use Rattle.fab_legal_states_laws.proofs.Rows as fab_legal_states_laws_Rows
 pub use Rattle.fab_simulate_command.proofs.Behind as fab_simulate_command_Behind
 pub use Rattle.fab_simulate_command.proofs.SimulatedOnce as fab_simulate_command_SimulatedOnce

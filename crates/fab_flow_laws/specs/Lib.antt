@@ -11,6 +11,7 @@ pub use Rattle.fab_flow.specs.Generating as fab_flow_Generating
 pub use Rattle.fab_flow.specs.Mapping as fab_flow_Mapping
 pub use Rattle.fab_flow.specs.Matrix as fab_flow_Matrix
 pub use Rattle.fab_flow.specs.Partial as fab_flow_Partial
+pub use Rattle.fab_flow.specs.Serial as fab_flow_Serial
 pub use Rattle.fab_flow.specs.Timing as fab_flow_Timing
 pub use Rattle.fab_flow.specs.fab_use_defs_Design as fab_use_defs_Design
 pub use Rattle.fab_legal_states_laws.specs.ShortLaws as fab_legal_states_laws_ShortLaws

@@ -10,7 +10,7 @@ ghost use Rattle.fab_flow_laws.specs.StoredLaws.{FlowFilesStand};
 
 pub use fab_flow::{
     do_assemble, do_bits, do_features, do_flow, do_generate, do_map, do_matrix, do_partial,
-    do_timing,
+    do_serial, do_timing,
 };
 pub use fab_legal_states_laws::{legal_implementations_are_short, legal_states_are_short};
 use fab_legal_states_laws::{

@@ -8,6 +8,7 @@ pub use Rattle.fab_flow_laws.proofs.fab_flow_FlowedOnce as fab_flow_FlowedOnce
 pub use Rattle.fab_flow_laws.proofs.fab_flow_MappedOnce as fab_flow_MappedOnce
 pub use Rattle.fab_flow_laws.proofs.fab_flow_Once as fab_flow_Once
 pub use Rattle.fab_flow_laws.proofs.fab_flow_PartialOnce as fab_flow_PartialOnce
+pub use Rattle.fab_flow_laws.proofs.fab_flow_SerialOnce as fab_flow_SerialOnce
 pub use Rattle.fab_flow_laws.proofs.fab_simulate_command_Behind as fab_simulate_command_Behind
 pub use Rattle.fab_flow_laws.proofs.fab_simulate_command_SimulatedOnce as fab_simulate_command_SimulatedOnce
 pub use Rattle.fab_flow_laws.proofs.HandedOut as fab_flow_laws_HandedOut

@@ -13,5 +13,6 @@ pub use Rattle.fab_sample_runs_laws.proofs.fab_flow_FlowedOnce as fab_flow_Flowe
 pub use Rattle.fab_sample_runs_laws.proofs.fab_flow_MappedOnce as fab_flow_MappedOnce
 pub use Rattle.fab_sample_runs_laws.proofs.fab_flow_Once as fab_flow_Once
 pub use Rattle.fab_sample_runs_laws.proofs.fab_flow_PartialOnce as fab_flow_PartialOnce
+pub use Rattle.fab_sample_runs_laws.proofs.fab_flow_SerialOnce as fab_flow_SerialOnce
 pub use Rattle.fab_sample_runs_laws.proofs.fab_simulate_command_Behind as fab_simulate_command_Behind
 pub use Rattle.fab_sample_runs_laws.proofs.fab_simulate_command_SimulatedOnce as fab_simulate_command_SimulatedOnce

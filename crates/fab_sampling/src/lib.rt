@@ -12,6 +12,6 @@ mod stocking;
 
 pub use fab_sample_runs_laws::{
     do_assemble, do_bits, do_features, do_flow, do_generate, do_map, do_matrix, do_partial,
-    do_simulate, do_timing,
+    do_serial, do_simulate, do_timing,
 };
 pub use sampling::summary;

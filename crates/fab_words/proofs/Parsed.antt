@@ -208,6 +208,15 @@ forms_built form.Timing = record {
   distinct = refl;
   few = omega arith;
 }
+forms_built form.Serial = record {
+  simple = refl;
+  top = refl;
+  subs = refl;
+  places = (refl, refl, (refl, refl, tt));
+  options = tt;
+  distinct = refl;
+  few = omega arith;
+}
 forms_built form.Sample = record {
   simple = refl;
   top = refl;

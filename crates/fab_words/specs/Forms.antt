@@ -27,12 +27,13 @@ synopsis form.Simulate = line (codes "simulate") (codes "VERILOG" ∷ codes "BIT
 synopsis form.Partial =
     line (codes "partial") (codes "FABRIC" ∷ codes "IMPL" ∷ codes "FASM" ∷ codes "FIRST" ∷ codes "LAST" ∷ codes "OUT" ∷ []) []
 synopsis form.Timing = line (codes "timing") (codes "FABRIC" ∷ codes "BLIF" ∷ codes "IMPL" ∷ codes "OUT" ∷ []) (codes "pcf" ∷ [])
+synopsis form.Serial = line (codes "serial") (codes "FABRIC" ∷ codes "OUT" ∷ []) []
 synopsis form.Sample = line (codes "sample") (codes "N" ∷ codes "SEED" ∷ []) []
 
 abbrev pub forms : List Form
 forms =
-    form.Matrix ∷ form.Generate ∷ form.Assemble ∷ form.Map ∷ form.Flow ∷ form.Bits ∷ form.Features ∷ form.Simulate ∷ form.Partial ∷ form.Timing ∷ form.Sample
-    ∷ []
+    form.Matrix ∷ form.Generate ∷ form.Assemble ∷ form.Map ∷ form.Flow ∷ form.Bits ∷ form.Features ∷ form.Simulate ∷ form.Partial ∷ form.Timing ∷ form.Serial
+    ∷ form.Sample ∷ []
 
 -- the form of a command, if there is one
 abbrev pub form_of : (command : List ℕ) → Option Form

@@ -10,7 +10,7 @@ use Rattle.fab_words.specs.Numbers.{any_number, column_of, seed_of, rounds_of, o
 use Rattle.fab_words.specs.declared.forms.Form.{Form}
 use Rattle.fab_words.specs.declared.forms.Form.TheVariants as form
 use Rattle.fab_words.specs.declared.job.Job.{Job}
-use Rattle.fab_words.specs.declared.job.Job.TheVariants.{Matrix, Generate, Assemble, Map, Flow, Bits, Features, Simulate, Partial, Timing, Sample}
+use Rattle.fab_words.specs.declared.job.Job.TheVariants.{Matrix, Generate, Assemble, Map, Flow, Bits, Features, Simulate, Partial, Timing, Serial, Sample}
 
 -- ---- the job of each form
 
@@ -65,6 +65,10 @@ abbrev pub timing_job : (fabric blif implementation out pcf : Option (List ℕ))
 timing_job (Some fabric) (Some blif) (Some implementation) (Some out) pcf = Some (Timing fabric blif pcf implementation out)
 timing_job fabric blif implementation out pcf = None
 
+abbrev pub serial_job : (fabric out : Option (List ℕ)) → Option Job
+serial_job (Some fabric) (Some out) = Some (Serial fabric out)
+serial_job fabric out = None
+
 -- the words write a size and a seed
 abbrev pub sample_job : (size seed : Option ℕ) → Option Job
 sample_job (Some size) (Some seed) = Some (Sample size seed)
@@ -91,6 +95,7 @@ job_of_form form.Partial value =
     partial_job (value (codes "FABRIC")) (value (codes "IMPL")) (value (codes "FASM")) (option_and_then column_of (value (codes "FIRST")))
     (option_and_then column_of (value (codes "LAST"))) (value (codes "OUT"))
 job_of_form form.Timing value = timing_job (value (codes "FABRIC")) (value (codes "BLIF")) (value (codes "IMPL")) (value (codes "OUT")) (value (codes "pcf"))
+job_of_form form.Serial value = serial_job (value (codes "FABRIC")) (value (codes "OUT"))
 job_of_form form.Sample value = sample_job (option_and_then size_of (value (codes "N"))) (option_and_then any_number (value (codes "SEED")))
 
 -- ---- the words
@@ -118,4 +123,5 @@ IsText (Simulate verilog bit state stimulus order trace) = IsUtf8 verilog × IsU
 IsText (Partial fabric implementation fasm first last out) =
     IsUtf8 fabric × IsUtf8 implementation × IsUtf8 fasm × IsUtf8 out × (first ≤ last) × (last < 32)
 IsText (Timing fabric blif pcf implementation out) = IsUtf8 fabric × IsUtf8 blif × ForSome pcf IsUtf8 × IsUtf8 implementation × IsUtf8 out
+IsText (Serial fabric out) = IsUtf8 fabric × IsUtf8 out
 IsText (Sample size seed) = (2 ≤ size) × (size ≤ 16)

@@ -20,6 +20,7 @@ pub enum Form {
     Simulate,
     Partial,
     Timing,
+    Serial,
     Sample,
 }
 
@@ -33,7 +34,7 @@ pub struct Synopsis {
 }
 
 /// All forms.
-const FORMS: [Form; 11] = [
+const FORMS: [Form; 12] = [
     Form::Matrix,
     Form::Generate,
     Form::Assemble,
@@ -44,6 +45,7 @@ const FORMS: [Form; 11] = [
     Form::Simulate,
     Form::Partial,
     Form::Timing,
+    Form::Serial,
     Form::Sample,
 ];
 
@@ -86,6 +88,7 @@ impl Form {
                 &[],
             ),
             Form::Timing => line("timing", &["FABRIC", "BLIF", "IMPL", "OUT"], &["pcf"]),
+            Form::Serial => line("serial", &["FABRIC", "OUT"], &[]),
             Form::Sample => line("sample", &["N", "SEED"], &[]),
         }
     }

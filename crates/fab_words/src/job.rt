@@ -32,6 +32,8 @@ pub enum Job {
     /// `timing FABRIC BLIF IMPL OUT` with `--pcf FILE`: fabric, netlist, constraints and implementation, and the longest walk of
     /// the implementation.
     Timing(Name, Name, Option<Name>, Name, Name),
+    /// `serial FABRIC OUT`: the text of a fabric that is loaded bit by bit.
+    Serial(Name, Name),
     /// `sample N SEED`: a fabric and a design that are made of a size and a seed, run from the files to a trace, and summed up.
     Sample(usize, u64),
 }

@@ -227,6 +227,19 @@ fn timing(alloc: Global, matches: &ArgMatches<'_>) -> Result<Job, Fault>
     Ok(Job::Timing(fabric, blif, pcf, implementation, out))
 }
 
+/// `serial FABRIC OUT`.
+fn serial(alloc: Global, matches: &ArgMatches<'_>) -> Result<Job, Fault>
+    ensures job { IfOk result (λ job. job_of_form form.Serial (first_value (found_of matches.now)) ≡ Some job) }
+    ensures text { IfOk result IsText }
+    ensures usage { IfErr result (IsUsage (job_of_form form.Serial (first_value (found_of matches.now)) ≡ None)) }
+{
+    let fabric = matches.get_str("FABRIC").ok_or(Fault::Usage)?;
+    let out = matches.get_str("OUT").ok_or(Fault::Usage)?;
+    let fabric = name_of(alloc, fabric)?;
+    let out = name_of(alloc, out)?;
+    Ok(Job::Serial(fabric, out))
+}
+
 /// `sample N SEED`.
 fn sample(matches: &ArgMatches<'_>) -> Result<Job, Fault>
     ensures job { IfOk result (λ job. job_of_form form.Sample (first_value (found_of matches.now)) ≡ Some job) }
@@ -257,6 +270,7 @@ fn job_of_form(alloc: Global, form: Form, matches: &ArgMatches<'_>) -> Result<Jo
         Form::Simulate => simulate(alloc, matches),
         Form::Partial => partial(alloc, matches),
         Form::Timing => timing(alloc, matches),
+        Form::Serial => serial(alloc, matches),
         Form::Sample => sample(matches),
     }
 }

@@ -172,3 +172,13 @@ returns-in-Timing-clause-cause g c =
     subst P (sym (c.in_ok-list.ensures.job ∙ ap (λ (job : Job). Some job) c.in-Timing.is))
     (subst (λ (pcf : Option (List ℕ)). P (Some (Timing c.in-Timing.fabric c.in-Timing.blif pcf c.in-Timing.implementation c.in-Timing.out)))
     c.as_ref-in-Timing.ensures.value c.do_timing.ensures.cause)
+
+pub returns-in-Serial-clause-done : goal.returns-in-Serial-clause-done
+returns-in-Serial-clause-done g c =
+    subst (λ (job : Option Job). OnOk c.do_serial.result (DoesJob job (g.D.Desk.told c.args.desk.now) (g.D.Desk.told c.do_serial.new.desk)))
+    (sym (c.in_ok-list.ensures.job ∙ ap (λ (job : Job). Some job) c.in-Serial.is)) c.do_serial.ensures.done
+
+pub returns-in-Serial-clause-leaves : goal.returns-in-Serial-clause-leaves
+returns-in-Serial-clause-leaves g c =
+    subst (λ (job : Option Job). IfErr c.do_serial.result (JobLeaves job (g.D.Desk.told c.args.desk.now) (g.D.Desk.told c.do_serial.new.desk)))
+    (sym (c.in_ok-list.ensures.job ∙ ap (λ (job : Job). Some job) c.in-Serial.is)) c.do_serial.ensures.leaves

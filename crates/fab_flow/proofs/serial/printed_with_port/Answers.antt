@@ -1,0 +1,82 @@
+use Rattle.std.proofs.Common.{◌≡◌, ◌+◌, ◌-◌, ◌∙◌, length, subst, ap, arith, List}
+use Rattle.std.proofs.lemmas.List.{length-map}
+use Rattle.std.proofs.lemmas.Result.{IfOk-weaker}
+use Rattle.fab_syntax.specs.Plain.{PlainModule, plain_module, plain_text}
+use Rattle.fab_syntax.specs.Sound.{IsSound}
+use Rattle.fab_syntax.specs.Spelling.{text_bytes}
+use Rattle.fab_assemble.specs.fab_fabric_text_defs_Texts.{IsFabricText}
+use Rattle.fab_serial.specs.Delivery.{DeliversSerially}
+use Rattle.fab_serial.specs.Module.{serial_text}
+use Rattle.fab_serial_laws.specs.Loads.{LoadsSerially}
+use Rattle.fab_flow.specs.Generating.{generated_text}
+use Rattle.fab_flow.specs.Serial.{text_with_port}
+use Rattle.fab_flow.proofs.Lengths.{place_of_loader}
+use Rattle.fab_flow.proofs.PortLengths.{place_with_port, loader_with_port}
+use Rattle.fab_flow.proofs.serial.printed_with_port.Goals as goal
+
+pub overflow_sub-loader : goal.overflow_sub-loader
+overflow_sub-loader c =
+    let text = c.in_ok-text.text in
+    let place = place_of_loader c.args.fabric.now (plain_text text) c.in_ok-text.ensures.text in
+    let long = length-map text.modules.items plain_module in
+    omega (arith, place, long, c.len-loader.ensures, text.modules.ok.0)
+
+pub printed_text-requires : goal.printed_text-requires
+printed_text-requires c =
+    let text = c.in_ok-text.text in
+    let whole = c.in_ok-text-2.text in
+    let fabric = c.args.fabric.now in
+    let place = place_of_loader fabric (plain_text text) c.in_ok-text.ensures.text in
+    let long = length-map text.modules.items plain_module in
+    let whole_is : plain_text whole ≡ text_with_port fabric = c.in_ok-text-2.ensures.is ∙ ap serial_text c.in_ok-text.ensures.text in
+    let longer = place_with_port fabric (plain_text whole) whole_is in
+    omega (arith, place, long, longer, c.len-loader.ensures, text.modules.ok.0)
+
+pub returns-clause-printed : goal.returns-clause-printed
+returns-clause-printed c =
+    let whole_is = c.in_ok-text-2.ensures.is ∙ ap serial_text c.in_ok-text.ensures.text in
+    IfOk-weaker c.printed_text.result _ _ (λ printed is. is ∙ ap text_bytes whole_is) c.printed_text.ensures.bytes
+
+pub returns-clause-is_text : goal.returns-clause-is_text
+returns-clause-is_text c =
+    IfOk-weaker c.printed_text.result _ _
+    (λ printed is named. subst (IsFabricText c.args.fabric.now) c.in_ok-text.ensures.text (c.in_ok-text.ensures.is_text named)) c.printed_text.ensures.bytes
+
+pub returns-clause-sound : goal.returns-clause-sound
+returns-clause-sound c =
+    let fabric = c.args.fabric.now in
+    let text = plain_text c.in_ok-text.text in
+    let whole_is = c.in_ok-text-2.ensures.is ∙ ap serial_text c.in_ok-text.ensures.text in
+    IfOk-weaker c.printed_text.result _ _
+    (λ printed is named. subst IsSound whole_is (c.in_ok-text-2.ensures.sound
+    (c.fabric_texts_take_ports.ensures fabric text c.is_well_made.ensures.is_fabric (c.in_ok-text.ensures.is_text named)))) c.printed_text.ensures.bytes
+
+pub returns-clause-delivers : goal.returns-clause-delivers
+returns-clause-delivers c =
+    let fabric = c.args.fabric.now in
+    let text = plain_text c.in_ok-text.text in
+    let whole_is = c.in_ok-text-2.ensures.is ∙ ap serial_text c.in_ok-text.ensures.text in
+    IfOk-weaker c.printed_text.result _ _
+    (λ printed is named. subst DeliversSerially whole_is (c.in_ok-text-2.ensures.delivers
+    (c.fabric_texts_take_ports.ensures fabric text c.is_well_made.ensures.is_fabric (c.in_ok-text.ensures.is_text named)))) c.printed_text.ensures.bytes
+
+pub returns-clause-loads : goal.returns-clause-loads
+returns-clause-loads c =
+    let fabric = c.args.fabric.now in
+    let text = plain_text c.in_ok-text.text in
+    IfOk-weaker c.printed_text.result _ _
+    (λ printed is named. subst (λ (ms : List PlainModule). LoadsSerially fabric (serial_text ms)) c.in_ok-text.ensures.text
+    (c.serial_texts_load.ensures fabric text c.is_well_made.ensures.is_fabric (c.in_ok-text.ensures.is_text named))) c.printed_text.ensures.bytes
+
+pub returns-clause-length : goal.returns-clause-length
+returns-clause-length c =
+    let text = c.in_ok-text.text in
+    let whole = c.in_ok-text-2.text in
+    let fabric = c.args.fabric.now in
+    let place = place_of_loader fabric (plain_text text) c.in_ok-text.ensures.text in
+    let all = ap length c.in_ok-text.ensures.text in
+    let long = length-map text.modules.items plain_module in
+    let at : (c.len-loader.result - 2) + 2 ≡ length (generated_text fabric) = omega (arith, place, all, long, c.len-loader.ensures, text.modules.ok.0) in
+    let whole_is : plain_text whole ≡ text_with_port fabric = c.in_ok-text-2.ensures.is ∙ ap serial_text c.in_ok-text.ensures.text in
+    let without = loader_with_port fabric (plain_text whole) (c.len-loader.result - 2) whole_is at in
+    IfOk-weaker c.printed_text.result _ _ (λ printed is. is ∙ ap (λ (ms : List PlainModule). length (text_bytes ms)) without) c.printed_text.ensures.unloaded
