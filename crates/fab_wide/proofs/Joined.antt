@@ -36,8 +36,7 @@ number_joined (x ∷ xs) ys =
     omega (arith, number_joined xs ys, product)
 
 bits_joined : (a b : ℕ) (f : ℕ → Bool) → first_bits (a + b) f ≡ first_bits a f ++ first_bits b (λ place. f (a + place))
-bits_joined zero b f = refl
-bits_joined (suc a) b f = ap (λ bits. f 0 ∷ bits) (bits_joined a b (λ place. f (suc place)))
+bits_joined a b f = sym (take-append-drop a (first_bits (a + b) f)) ∙ (λ j. take_first_bits a (a + b) f (omega arith) j ++ drop_first_bits a b f j)
 
 -- they spell its bits
 words_spell : (count : ℕ) (f : ℕ → Bool) → number_of_words (words_by count f) ≡ number (first_bits (16 * count) f)

@@ -114,28 +114,29 @@ module _ (line : ℕ) (inputs : List ℕ) where
 pub all_hold : (P : PlainCover → Type 0) (nets : ℕ) (covers : List PlainCover) (fresh : ℕ) → nets ≤ fresh →
     ((cover : PlainCover) → Contains covers cover → (at : ℕ) → nets ≤ at → (part : PlainCover) → Contains (parts cover at) part → P part) → (part : PlainCover) → Contains (all_parts covers fresh) part → P part
 all_hold P nets [] fresh few each part here = absurd (in_none part here)
-all_hold P nets (cover ∷ covers) fresh few each =
+all_hold P nets (cover ∷ covers) fresh few each part here =
     both_hold P (parts cover fresh) (all_parts covers (taken_by cover + fresh)) (each cover (first_in cover covers cover refl) fresh few)
-    (all_hold P nets covers (taken_by cover + fresh) (omega (arith, few)) (λ c here. each c (later_in cover covers c here)))
+    (all_hold P nets covers (taken_by cover + fresh) (omega (arith, few)) (λ c among. each c (later_in cover covers c among))) part here
 
 -- their nets are old and new ones
 all_below : (covers : List PlainCover) (fresh : ℕ) → ((cover : PlainCover) → Contains covers cover → cover.output < fresh) → ((cover : PlainCover) → Contains covers cover → (net : ℕ) → Contains cover.inputs net → net < fresh) →
     (part : PlainCover) → Contains (all_parts covers fresh) part → IsBelow (all_taken covers + fresh) part
 all_below [] fresh outputs inputs part here = absurd (in_none part here)
-all_below (cover ∷ covers) fresh outputs inputs =
+all_below (cover ∷ covers) fresh outputs inputs part among =
     let later = taken_by cover + fresh in
     let here = first_in cover covers cover refl in
     both_hold (IsBelow (taken_by cover + all_taken covers + fresh)) (parts cover fresh) (all_parts covers later)
-    (λ c among. below_more later (taken_by cover + all_taken covers + fresh) c (omega arith) (narrow_below cover.line cover.inputs (length cover.inputs) cover.table cover.output fresh (omega arith) (outputs cover here) (inputs cover here) c among))
-    (λ c among. below_more (all_taken covers + later) (taken_by cover + all_taken covers + fresh) c (omega arith)
-    (all_below covers later (λ d known. omega (arith, outputs d (later_in cover covers d known))) (λ d known net reads. omega (arith, inputs d (later_in cover covers d known) net reads)) c among))
+    (λ c one. below_more later (taken_by cover + all_taken covers + fresh) c (omega arith) (narrow_below cover.line cover.inputs (length cover.inputs) cover.table cover.output fresh (omega arith) (outputs cover here) (inputs cover here) c one))
+    (λ c one. below_more (all_taken covers + later) (taken_by cover + all_taken covers + fresh) c (omega arith)
+    (all_below covers later (λ d known. omega (arith, outputs d (later_in cover covers d known))) (λ d known net reads. omega (arith, inputs d (later_in cover covers d known) net reads)) c one))
+    part among
 
 -- an item of joined lists stands in one of them
 from_flat : {X Y : Type 0} (f : X → List Y) (xs : List X) (y : Y) → Contains (flat_map f xs) y → (x : X) × Contains xs x × Contains (f x) y
 from_flat f [] y here = absurd (in_none y here)
-from_flat f (x ∷ xs) y =
-    both_hold (λ z. (w : X) × Contains (x ∷ xs) w × Contains (f w) z) (f x) (flat_map f xs) (λ z here. (x, first_in x xs x refl, here))
-    (λ z here. let (w, among, there) = from_flat f xs z here in (w, later_in x xs w among, there)) y
+from_flat {X = X} f (x ∷ xs) y here =
+    both_hold (λ z. (w : X) × Contains (x ∷ xs) w × Contains (f w) z) (f x) (flat_map f xs) (λ z one. (x, first_in x xs x refl, one))
+    (λ z one. let (w, among, there) = from_flat f xs z one in (w, later_in x xs w among, there)) y here
 
 none_above : (xs : List ℕ) (n net : ℕ) → ((other : ℕ) → Contains xs other → other < n) → n ≤ net → times net xs ≡ 0
 none_above xs n net small above =
@@ -207,10 +208,10 @@ module _ (netlist : PlainNetlist) (wiring : IsWired netlist) (fits : split_nets 
 
   -- an old net that parts read is read by a cover
   read_before : (net : ℕ) → net < n → Contains (read (split_of netlist)) net → Contains (read netlist) net
-  read_before net old =
+  read_before net old here =
       both_hold (λ other. other < n → Contains (read netlist) other) (flat_map (λ (c : PlainCover). c.inputs) all) (latch_inputs netlist ++ netlist.outputs)
-      (λ other here small. let (part, among, reads) = from_flat (λ (c : PlainCover). c.inputs) all other here in part_reads part among other reads small)
-      (λ other here small. in_right (flat_map (λ (c : PlainCover). c.inputs) netlist.covers) (latch_inputs netlist ++ netlist.outputs) other here) net old
+      (λ other one small. let (part, among, reads) = from_flat (λ (c : PlainCover). c.inputs) all other one in part_reads part among other reads small)
+      (λ other one small. in_right (flat_map (λ (c : PlainCover). c.inputs) netlist.covers) (latch_inputs netlist ++ netlist.outputs) other one) net here old
     where
       part_reads : (part : PlainCover) → Contains all part → (net : ℕ) → Contains part.inputs net → net < n → Contains (read netlist) net
       part_reads =

@@ -41,7 +41,11 @@ table_reads (suc n) f (suc place) small = higher (f 0) (number (first_bits n (λ
     halved false x = omega arith
 
     higher : (b : Bool) (x : ℕ) → table_bit (bit_number b + 2 * x) (suc place) ≡ table_bit x place
-    higher b x = ap (λ k. nat_eq (k % 2) 1) (sym (shr-shr (bit_number b + 2 * x) 1 place)) ∙ ap (λ k. nat_eq (k / 2 ^ place % 2) 1) (halved b x)
+    higher b x =
+        let one : suc place ≡ 1 + place = omega arith in
+        ap (table_bit (bit_number b + 2 * x)) one
+        ∙ ap (λ k. nat_eq (k % 2) 1) (sym (shr-shr (bit_number b + 2 * x) 1 place))
+        ∙ ap (λ k. nat_eq (k / 2 ^ place % 2) 1) (halved b x)
 
 -- a row of so many inputs does not look past them
 matches_low : (inputs : ℕ) (cube : Cube) → IsFineRow inputs cube → (place : ℕ) → matches cube place ≡ matches cube (place % 2 ^ inputs)
@@ -93,7 +97,7 @@ module _ (line : ℕ) (inputs : List ℕ) where
             let bound : table < 2 ^ (2 ^ n + 2 ^ n) = subst (λ k. table < 2 ^ k) twice (many (omega (arith, more))) in
             let low_bound : low < 2 ^ 2 ^ n = mod_below table (2 ^ 2 ^ n) (pow_pos (2 ^ n)) in
             let high_bound : high < 2 ^ 2 ^ n = shr_below table (2 ^ n) (2 ^ n) bound in
-            let at_four : (half : ℕ) → half < 2 ^ 2 ^ n → n ≤ 4 → half < 65536 = λ half below most. subst (λ k. half < 2 ^ 2 ^ k) (omega (arith, more, most)) below in
+            let at_four : (half : ℕ) → half < 2 ^ 2 ^ n → n ≤ 4 → half < 65536 = λ half below most. let four : n ≡ 4 = omega (arith, more, most) in subst (λ k. half < 2 ^ 2 ^ k) four below in
             elim (cases_Bool (nat_eq low high)) [
               | inl same ↦ rw (large, same) (narrow_small n low output fresh (at_four low low_bound) (λ some. low_bound))
               | inr other ↦ rw (large, other) (
