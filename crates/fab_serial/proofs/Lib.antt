@@ -11,6 +11,7 @@ pub mod Joints
 pub mod Led
 pub mod Moments
 pub mod Sends
+pub mod Last
 pub use Rattle.fab_parts_sound_laws.proofs.Names as fab_parts_sound_laws_Names
 pub use Rattle.fab_parts_sound_laws.proofs.Clocks as fab_parts_sound_laws_Clocks
 pub use Rattle.fab_parts_sound_laws.proofs.Declared as fab_parts_sound_laws_Declared

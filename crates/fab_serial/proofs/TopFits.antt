@@ -1,5 +1,5 @@
 -- The new top fits into the new text: its instances, what drives its names, and its clocks.
-use Rattle.std.proofs.Common.{◌≡◌, ◌≢◌, ◌≤◌, ◌<◌, ℕ, ◌+◌, Bool, true, false, List, [], ◌∷◌, ◌++◌, map, length, Option, Some, None, All, Contains, get_or, if◌then◌else◌, refl, sym, ap, ap₂, ◌∙◌, subst, inl, inr, arith, append-nil, filter, rules}
+use Rattle.std.proofs.Common.{◌≡◌, ◌≢◌, ◌≤◌, ◌<◌, ℕ, zero, suc, ◌+◌, Bool, true, false, List, [], ◌∷◌, ◌++◌, map, length, Option, Some, None, All, Contains, get_or, if◌then◌else◌, refl, sym, ap, ap₂, ◌∙◌, subst, inl, inr, arith, append-nil, filter, rules}
 use Rattle.std.specs.Option.{IsSomeAnd}
 use Rattle.std.specs.Str.{bytes_eq}
 use Rattle.std.proofs.lemmas.Bool.{false≢true, cases_Bool}
@@ -100,9 +100,9 @@ module _ (text : List PlainModule) (can : CanHaveSerialPort text) where
   data_shape = wires_past can.top.ports (serial_items can.top) write_data_name refl
 
   pub four_items : (P : PlainItem → Type 0) → P (wire Scalar write_strobe_name) → P (wire (Vector 32) write_data_name) → P port_item → P fabric → All P top.items
-  four_items P of_strobe of_data of_port of_fabric =
-      All-cons P (wire Scalar write_strobe_name) (wire (Vector 32) write_data_name ∷ port_item ∷ fabric ∷ []) of_strobe
-      (All-cons P (wire (Vector 32) write_data_name) (port_item ∷ fabric ∷ []) of_data
+  four_items P of_wire of_vector of_port of_fabric =
+      All-cons P (wire Scalar write_strobe_name) (wire (Vector 32) write_data_name ∷ port_item ∷ fabric ∷ []) of_wire
+      (All-cons P (wire (Vector 32) write_data_name) (port_item ∷ fabric ∷ []) of_vector
       (All-cons P port_item (fabric ∷ []) of_port (All-cons P fabric [] of_fabric (All-nil P))))
 
   pub five_joins : (P : PlainJoin → Type 0) → P (same_join clock_name) → P (same_join serial_strobe_name) → P (same_join serial_data_name) → P (same_join write_strobe_name) →

@@ -1,5 +1,5 @@
 -- What points read to which a stream leads, that stream leads to; and another input of the top is none of them.
-use Rattle.std.proofs.Common.{◌≡◌, true, List, refl, sym, ap, ◌∙◌, subst, inl}
+use Rattle.std.proofs.Common.{◌≡◌, ℕ, true, List, refl, sym, ap, ◌∙◌, subst, inl}
 use Rattle.std.proofs.lemmas.Bool.{false≢true}
 use Rattle.fab_syntax.specs.Plain.{PlainModule}
 use Rattle.fab_syntax.specs.Sound.{IsSound}
@@ -9,7 +9,7 @@ use Rattle.fab_meaning.specs.Loading.{IsStreamOf, IsDerived, by_flop, by_stream,
 use Rattle.fab_meaning.proofs.SingleDrivers.{one_driver}
 use Rattle.fab_meaning.proofs.SoundTexts.{sound_drives_once}
 
-module _ (text : List PlainModule) (names : _) (sound : IsSound text) where
+module _ (text : List PlainModule) (names : List (List ℕ)) (sound : IsSound text) where
   abbrev IsLedHere : Point → Type 0
   IsLedHere = IsLed text (IsStreamOf text names)
 

@@ -16,7 +16,7 @@ use Rattle.fab_meaning.proofs.Dependence.{same_name}
 use Rattle.fab_meaning.proofs.SoundTexts.{same_names}
 use Rattle.fab_nested_laws.specs.Nested.{inside, StandsIn, IsSameClock}
 use Rattle.fab_serial.specs.Module.{serial_instance_name, fabric_instance_name, serial_ports, is_pad, CanHaveSerialPort}
-use Rattle.fab_serial.specs.Delivery.{IsSerialLoading}
+use Rattle.fab_serial.specs.Delivery.{IsSerialStream, IsSerialLoading}
 use Rattle.fab_serial.proofs.Places.{whole, top_at, fabric_at}
 use Rattle.fab_serial.proofs.Alike.{alike}
 use Rattle.fab_serial.proofs.TopFits.{by_names}
@@ -155,7 +155,7 @@ module _ (text : List PlainModule) (can : CanHaveSerialPort text) where
       elim is.named [
         | inl clock ↦ (
             let at : inside fabric_instance_name p ≡ point fabric_path clock_name p.bit = at_top p clock_name is.input.top clock in
-            subst (Has text can) (sym at) (clock_taken text can p.bit (ap (is_declared outer) (sym at) ∙ declared_inside text outer fabric_instance_name _ _ _ fabric_stands p is.declared)))
+            subst (Has text can) (sym at) (clock_taken text can p.bit (ap (is_declared outer) (sym at) ∙ declared_inside text outer fabric_instance_name fabric_stands p is.declared)))
         | inr other ↦ elim other [
           | inl strobe ↦ subst (Has text can) (sym (at_top p write_strobe_name is.input.top strobe)) (strobe_taken text can p.bit (below p write_strobe_name 1 is.input.top strobe is.declared (ap width_if_any can.strobe.1)))
           | inr bits ↦ subst (Has text can) (sym (at_top p write_data_name is.input.top bits)) (data_taken text can p.bit (below p write_data_name 32 is.input.top bits is.declared (ap width_if_any can.word.1)))
@@ -172,4 +172,4 @@ module _ (text : List PlainModule) (can : CanHaveSerialPort text) where
   -- the loading points of the fabric are points that bits lead to
   pub loading_inside : (p : Point) → IsLoading text p → IsSerialLoading outer (inside fabric_instance_name p)
   loading_inside =
-      goes_inside text outer fabric_instance_name (IsStream text) _ (registers text can) fabric_stands (same_inside clock_name refl) (closed text can) stream_taken
+      goes_inside text outer fabric_instance_name (IsStream text) (IsSerialStream outer) (registers text can) fabric_stands (same_inside clock_name refl) (closed text can) stream_taken

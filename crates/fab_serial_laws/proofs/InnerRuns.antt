@@ -40,6 +40,7 @@ shown_run Has text (moment ∷ moments) held after run =
 -- what is held behind the first tick
 pub held_behind : (Has : Point → Type 0) (text : List PlainModule) (run behind : List Shown) (held after : Assignment) → BehindFirst run behind → IsShownRunOn Has text run held after →
     (between : Assignment) × IsShownRunOn Has text behind between after
+held_behind Has text [] behind held after none run = elim none [ ]
 held_behind Has text (shown ∷ more) behind held after (ticks is) run = (run.0, run.4)
 held_behind Has text (shown ∷ more) behind held after (waits other later) run = held_behind Has text more behind run.0 after later run.4
 
@@ -59,7 +60,7 @@ module _ (nested : NestedTexts) (text : List PlainModule) (can : CanHaveSerialPo
 
   -- ---- UserCLK is no loading point, and so it may be 0
 
-  user_point : Point
+  abbrev user_point : Point
   user_point = point [] user_clock_name 0
 
   no_user : (p : Point) → IsLoading text p → same_point user_point p ≡ false
@@ -72,7 +73,7 @@ module _ (nested : NestedTexts) (text : List PlainModule) (can : CanHaveSerialPo
             (subst (IsLoading text) (sym is) loading)))
       ]
 
-  inner_now : Assignment → Assignment
+  abbrev inner_now : Assignment → Assignment
   inner_now now p = if same_point user_point p then false else within fabric now p
 
   as_before : (now : Assignment) (p : Point) → IsLoading text p → inner_now now p ≡ within fabric now p
@@ -124,7 +125,7 @@ module _ (nested : NestedTexts) (text : List PlainModule) (can : CanHaveSerialPo
 
   pub inner_run : (run : List Shown) (held after : Assignment) → IsShownRunOn (IsSerialLoading outer) outer run held after →
       IsRunOn (IsLoading text) text (inner_moments run) (within fabric held) (within fabric after)
-  inner_run [] held after run p loading = run (inside fabric p) (loading_inside text can p loading)
+  inner_run [] held after run = λ p loading. run (inside fabric p) (loading_inside text can p loading)
   inner_run (shown ∷ more) held after run = (
     inner_now shown.now,
     within fabric run.0,

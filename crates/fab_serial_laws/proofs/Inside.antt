@@ -62,13 +62,13 @@ declared_there : (o : Option PlainModule) (name : List ℕ) (bit : ℕ) → nat_
 declared_there None name bit is = absurd (let less = ltb-true bit 0 is in omega (arith, less))
 declared_there (Some m) name bit is = (m, refl)
 
-module _ (inner outer : List PlainModule) (i : List ℕ) (InnerStream Stream : Point → Type 0) (flops : Point → Bool) (stands : StandsIn inner outer i) where
+module _ (inner outer : List PlainModule) (i : List ℕ) (stands : StandsIn inner outer i) where
   pub declared_inside : (p : Point) → is_declared inner p ≡ true → is_declared outer (inside i p) ≡ true
   declared_inside p declared =
       let there = declared_there (module_at inner p.path) p.name p.bit declared in
       ap (λ o. nat_lt p.bit (width_in o p.name)) (same_module inner outer i stands p.path there.0 there.1) ∙ declared
 
-  module _ (same : IsSameClock inner outer i clock_name) (outer_closed : IsClosedBy outer Stream flops) (carries : (p : Point) → InnerStream p → WithinBy outer Stream flops (inside i p))
+  module _ (InnerStream Stream : Point → Type 0) (flops : Point → Bool) (same : IsSameClock inner outer i clock_name) (outer_closed : IsClosedBy outer Stream flops) (carries : (p : Point) → InnerStream p → WithinBy outer Stream flops (inside i p))
       (own : Point → Bool) (own_closed : IsClosedBy inner InnerStream own) where
     abbrev both : Point → Bool
     both q = flops q || inner_has i own q
@@ -98,7 +98,7 @@ module _ (inner outer : List PlainModule) (i : List ℕ) (InnerStream Stream : P
         let driver = flop c.path c.clock c.next c.bit in
         let there = driven_inside inner outer i stands p driver by in
         let ticks : is_clock clock_name (clock_of outer (path_in i c.path) c.clock) ≡ true =
-        same_clock inner outer i stands clock_name same c.path there.0.here c.clock there.0.stands ∙ (ap (is_clock clock_name) c.clocked ∙ same_name clock_name) in
+        same_clock inner outer i stands clock_name (is_clock clock_name) refl same c.path there.0.here c.clock there.0.stands ∙ (ap (is_clock clock_name) c.clocked ∙ same_name clock_name) in
         record {
           path = path_in i c.path;
           clock = c.clock;
@@ -128,7 +128,7 @@ module _ (inner outer : List PlainModule) (i : List ℕ) (InnerStream Stream : P
 pub goes_inside : (inner outer : List PlainModule) (i : List ℕ) (InnerStream Stream : Point → Type 0) (flops : Point → Bool) → StandsIn inner outer i → IsSameClock inner outer i clock_name →
     IsClosedBy outer Stream flops → ((p : Point) → InnerStream p → WithinBy outer Stream flops (inside i p)) → (p : Point) → IsLed inner InnerStream p → IsLed outer Stream (inside i p)
 goes_inside inner outer i InnerStream Stream flops stands same closed carries p (own, own_closed, is) = (
-  both inner outer i InnerStream Stream flops stands same closed carries own own_closed,
-  both_closed inner outer i InnerStream Stream flops stands same closed carries own own_closed,
-  goes inner outer i InnerStream Stream flops stands same closed carries own own_closed p is,
+  both inner outer i stands InnerStream Stream flops same closed carries own own_closed,
+  both_closed inner outer i stands InnerStream Stream flops same closed carries own own_closed,
+  goes inner outer i stands InnerStream Stream flops same closed carries own own_closed p is,
 )

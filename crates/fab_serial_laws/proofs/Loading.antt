@@ -33,17 +33,17 @@ use Rattle.fab_serial.proofs.Sound.{serial_text_is_sound}
 use Rattle.fab_serial.proofs.Registers.{Registers}
 use Rattle.fab_serial.proofs.Led.{registers, closed, full_taken}
 use Rattle.fab_serial.proofs.Moments.{digits_long, full_bit, stays, strobe_seen}
-use Rattle.fab_serial.proofs.Sends.{after_bit, after_still, delivers_whole}
+use Rattle.fab_serial.proofs.Sends.{after_still, delivers_whole}
 use Rattle.fab_serial_laws.specs.Loads.{RunsSeriallyOnce, IsStill, full_point, IsConfiguredBehind, LoadsSerially}
 use Rattle.fab_serial_laws.proofs.Fabric.{ticks_inside}
 use Rattle.fab_serial_laws.proofs.InnerRuns.{shown_run, held_behind, inner_moment, inner_moments, inner_settled, inner_run}
 
 -- ---- words can be sent
 
-serial_inputs : (strobe data_bit : Bool) → Assignment
+abbrev serial_inputs : (strobe data_bit : Bool) → Assignment
 serial_inputs strobe data_bit p = (bytes_eq p.name serial_strobe_name && strobe) || (bytes_eq p.name serial_data_name && data_bit)
 
-moment_of : SerialTurn → Moment
+abbrev moment_of : SerialTurn → Moment
 moment_of (bit b) = record { inputs = serial_inputs true b; clock = clock_name }
 moment_of still = record { inputs = serial_inputs false false; clock = clock_name }
 moment_of aside = record { inputs = serial_inputs false false; clock = user_clock_name }
