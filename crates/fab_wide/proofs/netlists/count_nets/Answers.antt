@@ -8,4 +8,13 @@ pub overflow_add-count : goal.overflow_add-count
 overflow_add-count c =
     let wide = c.args.netlist.now in
     let covers : c.deref-cover-items.result.now ≡ wide.covers = search rules in
-    omega (arith, c.loop-cover.invariant.few, c.loop-cover-test.true, ap length covers, length-map wide.covers tabled_cover, few_covers (tabled wide) c.requires.wired, c.from.ensures, c.in_ok-taken_by.ensures.small)
+    omega (
+      arith,
+      c.loop-cover.invariant.few,
+      c.loop-cover-test.true,
+      ap length covers,
+      length-map wide.covers tabled_cover,
+      few_covers (tabled wide) c.requires.wired,
+      c.from.ensures,
+      c.in_ok-taken_by.ensures.small,
+    )

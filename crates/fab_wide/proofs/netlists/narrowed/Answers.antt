@@ -30,5 +30,12 @@ new-requires c =
       latches = c.in_ok-latches.latches.items;
       reset = None;
     } in
-    let same : made ≡ split_of (tabled wide) = λ j. record { nets = all_names j; inputs = all_inputs j; outputs = all_outputs j; covers = all_covers j; latches = all_latches j; reset = None } in
+    let same : made ≡ split_of (tabled wide) = λ j. record {
+      nets = all_names j;
+      inputs = all_inputs j;
+      outputs = all_outputs j;
+      covers = all_covers j;
+      latches = all_latches j;
+      reset = None;
+    } in
     subst (λ (netlist : PlainNetlist). IsWellMade netlist) (sym same) (split_is_made wide c.requires.made (subst (λ k. k ≤ most_nets) count c.requires.fits))

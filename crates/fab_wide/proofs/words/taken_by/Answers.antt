@@ -4,4 +4,10 @@ use Rattle.fab_wide.proofs.words.taken_by.Goals as goal
 
 pub returns-clause-small : goal.returns-clause-small
 returns-clause-small c =
-    omega (arith, c.taken.ensures.small, ap length c.deref.ensures.value, c.in_ok-words.ensures.words.many, few_words (length c.args.cover.now.inputs) c.requires)
+    omega (
+      arith,
+      c.taken.ensures.small,
+      ap length c.deref.ensures.value,
+      c.in_ok-words.ensures.words.many,
+      few_words (length c.args.cover.now.inputs) c.requires,
+    )
