@@ -22,7 +22,6 @@ use Rattle.fab_netlist.specs.Packed.{PlainCell, PlainPacked}
 use Rattle.fab_netlist.specs.Packing.{packed, packing, works}
 use Rattle.fab_netlist.specs.Resets.{netlist_with}
 use Rattle.fab_netlist.specs.WellMade.{ports}
-use Rattle.fab_netlist.specs.Wide.{RunsAs}
 use Rattle.fab_implementation.specs.Plain.{Pad, PlainImplementation}
 use Rattle.fab_implementation.specs.OnFabric.{IsOnFabric, IsSite}
 use Rattle.fab_legal.specs.declared.broken.CheckFault.{CheckFault}
@@ -40,7 +39,6 @@ use Rattle.fab_assemble.specs.fab_features_Design.{design_features}
 use Rattle.fab_assemble.specs.fab_features_Features.{IsBitMapOf}
 use Rattle.fab_assemble.specs.fab_features_Naming.{HasPrefixes}
 use Rattle.fab_gen_tile.specs.Words.{IsNamed}
-use Rattle.fab_read.specs.Fabrics.{SpellsFabric}
 use Rattle.fab_spelled_fabrics_laws.proofs.Prefixes.{ArePrefixed, prefixes_kept}
 use Rattle.fab_spelled_fabrics_laws.proofs.Blocks.{names_kept}
 use Rattle.fab_spelled_fabrics_laws.proofs.Readings.{spelled_keep}
@@ -49,7 +47,8 @@ use Rattle.fab_assemble.specs.fab_use_defs_Configuring.{Configures}
 use Rattle.fab_assemble.specs.fab_use_defs_Headline.{RunsDesign}
 use Rattle.fab_assemble.specs.fab_use_defs_Registers.{bound_pad, design_state, register_of}
 use Rattle.fab_assemble.specs.fab_settling_laws_Settling.{SettlesDesign}
-use Rattle.fab_designs.specs.Designs.{PlainDesign, MeetsDesign, SpellsDesign}
+use Rattle.fab_designs.specs.Designs.{PlainDesign, MeetsDesign, SpellsDesign, read_of}
+use Rattle.fab_designs.proofs.SplitNetlists.{design_runs}
 use Rattle.fab_designs.specs.Implementations.{MeetsImplementation, ReadsImplementation}
 use Rattle.fab_flow.specs.Resetting.{HasReset, LacksReset}
 use Rattle.fab_flow.specs.Assembling.{AssemblyFiles, Fits, HasAssembleCause, IsAssembly, IsReadyToAssemble, MeetsAssembly, RefusesAssembly, RefusesImplementation, assemble_refusals, assembly_outputs, illegal, no_input, packing_for, short, unfit}
@@ -129,15 +128,20 @@ assembly_is fabric netlist implementation base outputs features bits words state
       settles = λ text is. subst (λ (w : List ℕ). SettlesDesign fabric text netlist netlist implementation w) words_are (settles text is);
     }
 
--- the same of outputs, on a fabric that files spell; and where the packed netlist runs as the one that was read, of that one
-pub made_of : (files : Map) (name : List ℕ) (fabric : PlainFabric) (read netlist : PlainNetlist) (implementation : PlainImplementation) (base : List ℕ) (made stored : List Output)
-    → stored ≡ made → SpellsFabric files name fabric → RunsAs read netlist
-    → (All IsNamed fabric.types → All HasPrefixes fabric.types → IsAssembly fabric netlist netlist implementation base (map plain_output made))
-    → IsAssembly fabric read netlist implementation base (map plain_output stored)
-made_of files name fabric read netlist implementation base made stored same spelled alike is =
-    subst (λ (items : List Output). IsAssembly fabric read netlist implementation base (map plain_output items)) (sym same)
-    (assembly_read read netlist alike fabric implementation base (map plain_output made)
-    (is (spelled_keep IsNamed IsNamed names_kept files name fabric spelled) (spelled_keep ArePrefixed ArePrefixed prefixes_kept files name fabric spelled)))
+-- the same of outputs, on a fabric that files spell; and of the netlist in the BLIF file, as which the packed one runs
+pub made_of : (files : Map) (names : AssemblyFiles) (design : PlainDesign) (spelled : SpellsDesign files names.design design) (implementation : PlainImplementation)
+    (made stored : List Output) → stored ≡ made → (All IsNamed design.fabric.types → All HasPrefixes design.fabric.types
+    → IsAssembly design.fabric (netlist_with implementation.reset design.netlist) (netlist_with implementation.reset design.netlist) implementation names.base (map plain_output made))
+    → IsAssembly design.fabric (netlist_with implementation.reset (read_of spelled)) (netlist_with implementation.reset design.netlist) implementation names.base
+    (map plain_output stored)
+made_of files names design spelled implementation made stored same is =
+    let read = netlist_with implementation.reset (read_of spelled) in
+    let netlist = netlist_with implementation.reset design.netlist in
+    let fabric = design.fabric in
+    let name = names.design.fabric in
+    subst (λ (items : List Output). IsAssembly fabric read netlist implementation names.base (map plain_output items)) (sym same)
+    (assembly_read read netlist (design_runs spelled implementation.reset) fabric implementation names.base (map plain_output made)
+    (is (spelled_keep IsNamed IsNamed names_kept files name fabric spelled.fabric) (spelled_keep ArePrefixed ArePrefixed prefixes_kept files name fabric spelled.fabric)))
 
 -- ---- refusals
 

@@ -16,7 +16,6 @@ use Rattle.fab_netlist.specs.Plain.{PlainNetlist}
 use Rattle.fab_netlist.specs.Packing.{packed}
 use Rattle.fab_netlist.specs.Resets.{netlist_with}
 use Rattle.fab_netlist.specs.WellMade.{IsWellMade}
-use Rattle.fab_netlist.specs.Wide.{RunsAs}
 use Rattle.fab_implementation.specs.Plain.{Pad, PlainImplementation}
 use Rattle.fab_legal.specs.Legal.{IsLegal}
 use Rattle.fab_legal.proofs.NotLegal.{broken_is_not_legal}
@@ -29,11 +28,11 @@ use Rattle.fab_assemble.specs.fab_fabric_text_defs_Texts.{IsFabricText}
 use Rattle.fab_assemble.specs.fab_features_Naming.{HasPrefixes}
 use Rattle.fab_impl.specs.Spelled.{implementation_text}
 use Rattle.fab_map.specs.Causes.{HasMapCause}
-use Rattle.fab_read.specs.Fabrics.{SpellsFabric}
 use Rattle.fab_spelled_fabrics_laws.proofs.Prefixes.{ArePrefixed, prefixes_kept}
 use Rattle.fab_spelled_fabrics_laws.proofs.Blocks.{names_kept}
 use Rattle.fab_spelled_fabrics_laws.proofs.Readings.{spelled_keep}
-use Rattle.fab_designs.specs.Designs.{PlainDesign, MeetsDesign, SpellsDesign}
+use Rattle.fab_designs.specs.Designs.{PlainDesign, MeetsDesign, SpellsDesign, read_of}
+use Rattle.fab_designs.proofs.SplitNetlists.{design_runs}
 use Rattle.fab_outputs.specs.declared.storing.Output.{Output}
 use Rattle.fab_outputs.specs.Storing.{PlainOutput, Leaves, plain_output}
 use Rattle.fab_flow.specs.Generating.{generated_text, text_length, most_text_bytes, IsTooLong}
@@ -75,15 +74,18 @@ module _ (fabric : PlainFabric) (netlist : PlainNetlist) (fixed : List Pad) (all
     outputs_are = assembled.2 ∙ ap (λ (bytes : List ℕ). flow_outputs base bytes (implementation_text fabric implementation) assembled.0) printed;
   }
 
--- On a fabric that files spell, names are as texts and features need them. Where the packed netlist runs as the one that was read, it is this one that runs.
-pub flow_of : (files : Map) (name : List ℕ) (fabric : PlainFabric) (read netlist : PlainNetlist) (fixed : List Pad) (allowed : ℕ) (base : List ℕ) (made stored : List Output)
-    → stored ≡ made → SpellsFabric files name fabric → RunsAs read netlist
-    → (All IsNamed fabric.types → All HasPrefixes fabric.types → IsFlow fabric netlist netlist fixed allowed base (map plain_output made))
-    → IsFlow fabric read netlist fixed allowed base (map plain_output stored)
-flow_of files name fabric read netlist fixed allowed base made stored same spelled alike is =
-    subst (λ (items : List Output). IsFlow fabric read netlist fixed allowed base (map plain_output items)) (sym same)
-    (flow_read read netlist alike fabric fixed allowed base (map plain_output made)
-    (is (spelled_keep IsNamed IsNamed names_kept files name fabric spelled) (spelled_keep ArePrefixed ArePrefixed prefixes_kept files name fabric spelled)))
+-- On a fabric that files spell, names are as texts and features need them; and what is packed runs as the netlist in the BLIF file does.
+pub flow_of : (files : Map) (names : FlowFiles) (design : PlainDesign) (spelled : SpellsDesign files names.design design) (allowed : ℕ) (made stored : List Output)
+    → stored ≡ made → (All IsNamed design.fabric.types → All HasPrefixes design.fabric.types
+    → IsFlow design.fabric (used names design) (used names design) design.fixed allowed names.base (map plain_output made))
+    → IsFlow design.fabric (netlist_with names.reset (read_of spelled)) (used names design) design.fixed allowed names.base (map plain_output stored)
+flow_of files names design spelled allowed made stored same is =
+    let read = netlist_with names.reset (read_of spelled) in
+    let fabric = design.fabric in
+    let name = names.design.fabric in
+    subst (λ (items : List Output). IsFlow fabric read (used names design) design.fixed allowed names.base (map plain_output items)) (sym same)
+    (flow_read read (used names design) (design_runs spelled names.reset) fabric design.fixed allowed names.base (map plain_output made)
+    (is (spelled_keep IsNamed IsNamed names_kept files name fabric spelled.fabric) (spelled_keep ArePrefixed ArePrefixed prefixes_kept files name fabric spelled.fabric)))
 
 -- ---- why nothing is made
 
