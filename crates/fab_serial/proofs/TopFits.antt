@@ -55,13 +55,13 @@ module _ (m : PlainModule) where
       out_step (All P) port ports later (λ output. All-cons P port.name (outs ports) (All-head (λ (p : Port). IsOutput p.name → P p.name) port ports all output) later)
 
   pub outs_apart : (ports : List Port) → AreApart (port_names ports) → AreApart (outs ports)
-  outs_apart [] apart = pairs_none Differ
-  outs_apart (port ∷ ports) apart =
-      let later = outs_apart ports (pairs_tail Differ port.name (port_names ports) apart) in
+  outs_apart [] differ = pairs_none Differ
+  outs_apart (port ∷ ports) differ =
+      let later = outs_apart ports (pairs_tail Differ port.name (port_names ports) differ) in
       out_step AreApart port ports later
       (λ output. AllPairs-cons Differ port.name (outs ports)
       (outs_all (Differ port.name) ports
-      (λ k d within is. All-contains (Differ port.name) (port_names ports) (get_or ports k d).name (pairs_head Differ port.name (port_names ports) apart)
+      (λ k d within is. All-contains (Differ port.name) (port_names ports) (get_or ports k d).name (pairs_head Differ port.name (port_names ports) differ)
       (contains_map (λ (p : Port). p.name) ports (get_or ports k d) (Contains-get_or ports k d within)))) later)
 
   pub outs_there : (ports : List Port) (port : Port) (k : ℕ) → k < length ports → get_or ports k port ≡ port → IsOutput port.name → Contains (outs ports) port.name
