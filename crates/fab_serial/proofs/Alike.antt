@@ -5,7 +5,7 @@ use Rattle.std.proofs.lemmas.Bool.{cases_Bool}
 use Rattle.std.proofs.lemmas.List.Elements.{All-head, All-tail, All-weaker, All-contains, Contains-get_or}
 use Rattle.fab_syntax.specs.declared.tree.Port.{Port}
 use Rattle.fab_syntax.specs.Plain.{PlainItem, PlainModule, wire, reg, assign, latch, clocked, instance}
-use Rattle.fab_syntax.specs.Declarations.{module_named, width, times_joined_out, times_driven_by, times_driven}
+use Rattle.fab_syntax.specs.Declarations.{module_named, times_joined_out, times_driven_by, times_driven}
 use Rattle.fab_syntax.specs.Sound.{JoinFits, IsJoinedOnce, InstanceFits, InstancesFit, DirectionFits, PortIsDriven, ItemIsDriven, DriversFit, ServesAsClock, ticks, leads, ClockFits, ClocksFit}
 use Rattle.fab_meaning.proofs.SoundTexts.{some_value, contains_first, contains_later, instances_fit}
 use Rattle.fab_nested_laws.specs.Nested.{NamesAlike}

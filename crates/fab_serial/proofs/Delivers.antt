@@ -1,13 +1,13 @@
 -- Bit by bit a serial port takes its words, and hands them on.
-use Rattle.std.proofs.Common.{◌≡◌, ◌⊎◌, ℕ, zero, suc, ◌+◌, ◌-◌, ◌≤◌, ◌<◌, ◌%◌, Bool, true, false, List, [], ◌∷◌, ◌++◌, map, length, nat_eq, take, reverse, refl, sym, ap, ◌∙◌, subst, inl, inr, arith, All, eq-eqb, append-nil, append_assoc, if◌then◌else◌}
+use Rattle.std.proofs.Common.{◌≡◌, ◌⊎◌, ℕ, zero, suc, ◌+◌, ◌≤◌, ◌<◌, ◌%◌, Bool, true, false, List, [], ◌∷◌, ◌++◌, map, length, take, reverse, refl, sym, ap, ◌∙◌, subst, inl, inr, arith, All, eq-eqb, append-nil, append_assoc, if◌then◌else◌}
 use Rattle.std.specs.List.{flat_map}
 use Rattle.std.proofs.lemmas.Bool.{ne_eqb}
 use Rattle.std.proofs.lemmas.List.{reverse-append, reverse-reverse, length-reverse}
 use Rattle.std.proofs.lemmas.List.Elements.{All-head, All-tail}
 use Rattle.fab_loading_laws.specs.Latches as latches
 use Rattle.fab_loading_laws.specs.Latches.{Turn, IsWord, words_of}
-use Rattle.fab_serial.specs.Sending.{SerialTurn, bit, still, aside, sent, clocked, Sends, pauses, delivered_behind, delivered}
-use Rattle.fab_serial.proofs.Registers.{Registers, after_serial, at_tick, shows, shown_turns, behind_first, PortsDeliver, PortsDeliverInTime}
+use Rattle.fab_serial.specs.Sending.{SerialTurn, bit, still, aside, sent, clocked, pauses, delivered_behind, delivered}
+use Rattle.fab_serial.proofs.Registers.{Registers, after_serial, at_tick, shown_turns, PortsDeliver, PortsDeliverInTime}
 
 take_shorter : {X : Type 0} (m n : ℕ) (xs : List X) → m ≤ n → take m (take n xs) ≡ take m xs
 take_shorter zero n xs few = refl

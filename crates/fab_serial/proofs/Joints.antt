@@ -1,16 +1,13 @@
 -- What drives the points of the serial port, and what leads from it to the fabric.
-use Rattle.std.proofs.Common.{◌≡◌, ℕ, Bool, true, false, List, [], ◌∷◌, map, filter, Contains, Some, refl, arith, ap, ◌∙◌, sym, subst, inl, inr}
-use Rattle.fab_bits.specs.Bits.{first_bits}
-use Rattle.fab_syntax.specs.declared.tree.Shape.TheVariants.{Scalar, Vector}
+use Rattle.std.proofs.Common.{◌≡◌, ℕ, Bool, true, false, List, [], ◌∷◌, map, Contains, Some, refl, arith, ap, ◌∙◌, sym, subst, inr}
 use Rattle.fab_syntax.specs.declared.tree.Port.{Port}
 use Rattle.fab_syntax.specs.Plain.{PlainExpr, variable, PlainItem, PlainModule, assign, clocked, instance}
 use Rattle.fab_syntax.specs.Declarations.{module_named, is_input, is_input_of, width_in, width_if_any}
-use Rattle.fab_meaning.specs.Points.{Path, Point, point, outside, copy, bit_of, flop, Drives, IsDrivenOutside, JoinDrives, instance_in, module_at}
-use Rattle.fab_meaning.specs.Settled.{Assignment, names_at}
+use Rattle.fab_meaning.specs.Points.{Path, point, outside, copy, bit_of, flop, Drives, IsDrivenOutside, JoinDrives, instance_in, module_at}
 use Rattle.fab_meaning.specs.Runs.{clock_of, clock_name}
 use Rattle.fab_meaning.specs.Loading.{write_strobe_name, write_data_name}
 use Rattle.fab_meaning.proofs.Clocks.{clock_at_top, clock_below}
-use Rattle.fab_serial.specs.Module.{serial_module_name, serial_instance_name, fabric_instance_name, serial_strobe_name, serial_data_name, word_name, count_name, full_name, serial_module, serial_top, serial_ports, serial_joins, same_join, CanHaveSerialPort}
+use Rattle.fab_serial.specs.Module.{serial_module_name, serial_instance_name, fabric_instance_name, serial_module, serial_top, serial_ports, serial_joins, same_join, CanHaveSerialPort}
 use Rattle.fab_serial.proofs.Places.{whole, top_at, port_named, fabric_named, port_at, fabric_at, input_joined, wires_past}
 
 abbrev pub port_path : Path

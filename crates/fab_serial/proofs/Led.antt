@@ -1,5 +1,5 @@
 -- The points that the serial port's bits lead to.
-use Rattle.std.proofs.Common.{◌≡◌, ◌⊎◌, ℕ, ◌<◌, Bool, true, false, ◌&&◌, ◌||◌, List, [], ◌∷◌, Contains, nat_lt, refl, sym, ap, ap₂, ◌∙◌, subst, inl, inr, lt-ltb, ltb-true, arith}
+use Rattle.std.proofs.Common.{◌≡◌, ℕ, ◌<◌, Bool, true, false, ◌&&◌, ◌||◌, List, [], Contains, nat_lt, refl, sym, ap, ap₂, ◌∙◌, subst, inl, inr, lt-ltb, ltb-true, arith}
 use Rattle.std.specs.Str.{bytes_eq}
 use Rattle.std.proofs.lemmas.Bool.{and_parts, or_cases, or_left, or_right}
 use Rattle.std.proofs.lemmas.Slice.Eq.{bytes_eq-Decides}
@@ -7,15 +7,15 @@ use Rattle.std.specs.Cmp.Lexicographic.{pointwise_decides}
 use Rattle.fab_syntax.specs.Plain.{PlainExpr, variable, PlainModule, assign, clocked}
 use Rattle.fab_syntax.specs.Declarations.{is_input, width_in}
 use Rattle.fab_meaning.specs.Points.{Path, Point, point, bit_of, copy, flop, Drives, module_at}
-use Rattle.fab_meaning.specs.Reads.{is_declared, mentions, same_path, expression_reads, reads, next_reads}
+use Rattle.fab_meaning.specs.Reads.{is_declared, mentions, same_path, expression_reads}
 use Rattle.fab_meaning.specs.Runs.{clock_name}
-use Rattle.fab_meaning.specs.Loading.{IsStreamOf, WithinBy, by_flop, by_stream, by_reads, IsClosedBy, IsClosedAt, IsLed, write_strobe_name, write_data_name}
-use Rattle.fab_meaning.proofs.Dependence.{same_name, same_path_refl, same_point_is}
+use Rattle.fab_meaning.specs.Loading.{WithinBy, by_flop, by_stream, by_reads, IsClosedBy, IsClosedAt, write_strobe_name, write_data_name}
+use Rattle.fab_meaning.proofs.Dependence.{same_path_refl, same_point_is}
 use Rattle.fab_meaning.proofs.SoundTexts.{same_names}
 use Rattle.fab_serial.specs.Module.{serial_strobe_name, serial_data_name, word_name, count_name, full_name, next_word, next_count, next_full, serial_module, serial_joins, same_join, CanHaveSerialPort}
-use Rattle.fab_serial.specs.Delivery.{IsSerialStream, IsSerialLoading}
+use Rattle.fab_serial.specs.Delivery.{IsSerialStream}
 use Rattle.fab_serial.proofs.Places.{whole}
-use Rattle.fab_serial.proofs.Joints.{port_path, fabric_path, into_port, out_of_port, into_fabric, register, output, from_outside, port_clock, port_wide, top_wide, strobe_wide, data_wide, fabric_strobe_wide, fabric_data_wide}
+use Rattle.fab_serial.proofs.Joints.{port_path, fabric_path, into_port, out_of_port, into_fabric, register, output, from_outside, port_clock, port_wide, strobe_wide, data_wide, fabric_strobe_wide, fabric_data_wide}
 
 -- a read point of a name is one of its bits
 pub read_variable : (text : List PlainModule) (path : Path) (name : List ℕ) (q : Point) → expression_reads text path (variable name) q ≡ true

@@ -1,5 +1,5 @@
 -- What the serial port shows and takes in one moment.
-use Rattle.std.proofs.Common.{◌≡◌, ◌≢◌, ℕ, zero, suc, ◌+◌, ◌<◌, ◌/◌, ◌%◌, ◌^◌, Bool, true, false, List, [], ◌∷◌, Contains, length, nat_lt, nat_eq, take, Some, if◌then◌else◌, refl, sym, ap, ap₂, ◌∙◌, subst, inl, inr, arith, lt-ltb, length-take-le}
+use Rattle.std.proofs.Common.{◌≡◌, ◌≢◌, ℕ, zero, suc, ◌<◌, ◌/◌, ◌^◌, Bool, true, false, List, [], ◌∷◌, Contains, length, nat_lt, take, Some, if◌then◌else◌, refl, sym, ap, ◌∙◌, inl, arith, lt-ltb, length-take-le}
 use Rattle.fab_bits.specs.Bits.{number, digits, first_bits}
 use Rattle.fab_bits.proofs.Numbers.{length_first_bits, get_first_bits, first_bits_same}
 use Rattle.fab_loading_laws.proofs.fab_frames_Numbers.{number_digits}
@@ -9,11 +9,10 @@ use Rattle.fab_meaning.specs.Value.{value, bit_at}
 use Rattle.fab_meaning.specs.Points.{Path, Point, point, bit_of, flop, outside, copy, module_at}
 use Rattle.fab_meaning.specs.Settled.{Assignment, names_at, IsSettledOn}
 use Rattle.fab_meaning.specs.Reads.{is_declared}
-use Rattle.fab_meaning.specs.Runs.{clock_name, is_clock, clock_of, Ticks}
+use Rattle.fab_meaning.specs.Runs.{clock_name, is_clock, Ticks}
 use Rattle.fab_meaning.specs.Loading.{write_strobe_name, write_data_name}
 use Rattle.fab_meaning.proofs.Declared.{bytes_apart}
 use Rattle.fab_serial.specs.Module.{serial_strobe_name, serial_data_name, word_name, count_name, full_name, next_word, next_count, next_full, serial_module, serial_joins, same_join, CanHaveSerialPort}
-use Rattle.fab_serial.specs.Sending.{bit, still}
 use Rattle.fab_serial.specs.Delivery.{IsSerialLoading, strobe_point, data_point, fabric_strobe, fabric_data}
 use Rattle.fab_serial.proofs.Registers.{Registers, after_serial}
 use Rattle.fab_serial.proofs.Steps.{turn_of, registers_of, ShowsPort, PortTakes, port_steps}

@@ -1,5 +1,5 @@
 -- In a serial loading the fabric sees the words that are sent.
-use Rattle.std.proofs.Common.{◌≡◌, ◌≢◌, ◌<◌, ℕ, Bool, true, false, List, [], ◌∷◌, ◌++◌, map, if◌then◌else◌, refl, sym, ap, ◌∙◌, subst, inl, inr}
+use Rattle.std.proofs.Common.{◌≡◌, Bool, List, [], ◌∷◌, ◌++◌, if◌then◌else◌, refl, sym, ap, ◌∙◌, subst, inl, inr}
 use Rattle.std.specs.List.{All, AllZip, flat_map}
 use Rattle.std.proofs.lemmas.Bool.{cases_Bool}
 use Rattle.std.proofs.lemmas.List.Elements.{All-head, All-tail}
@@ -9,9 +9,9 @@ use Rattle.fab_meaning.specs.Runs.{clock_name}
 use Rattle.fab_loading_laws.specs.Latches as latches
 use Rattle.fab_loading_laws.specs.Latches.{Turn, IsWord, words_of}
 use Rattle.fab_serial.specs.Module.{serial_text, CanHaveSerialPort}
-use Rattle.fab_serial.specs.Sending.{SerialTurn, bit, still, aside, sent, clocked, Sends, delivered}
-use Rattle.fab_serial.specs.Delivery.{IsSerialLoading, IsSerialTurn, SendsWords, strobe_point, data_point, Shown, moments_of, IsShownRunOn, Sees, BehindFirst, ticks, waits, Delivers, DeliversSerially}
-use Rattle.fab_serial.proofs.Registers.{Registers, after_serial, at_tick, shows, shown_turns, behind_first}
+use Rattle.fab_serial.specs.Sending.{SerialTurn, bit, still, aside, sent, clocked}
+use Rattle.fab_serial.specs.Delivery.{IsSerialLoading, IsSerialTurn, data_point, Shown, moments_of, IsShownRunOn, Sees, BehindFirst, ticks, waits, DeliversSerially}
+use Rattle.fab_serial.proofs.Registers.{Registers, after_serial, at_tick, shown_turns, behind_first}
 use Rattle.fab_serial.proofs.Steps.{turn_of}
 use Rattle.fab_serial.proofs.Delivers.{ports_deliver, in_time}
 use Rattle.fab_serial.proofs.Places.{whole, whole_is}

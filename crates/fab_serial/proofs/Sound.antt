@@ -1,15 +1,12 @@
 -- The text with a serial port is sound.
-use Rattle.std.proofs.Common.{◌≡◌, ℕ, Bool, true, false, List, [], ◌∷◌, ◌++◌, map, Option, Some, None, All, get_or, append-nil, append_assoc, if◌then◌else◌, refl, sym, ap, ◌∙◌, subst, inl, inr, rules}
-use Rattle.std.specs.List.{flat_map}
+use Rattle.std.proofs.Common.{◌≡◌, ℕ, Bool, List, [], ◌∷◌, ◌++◌, map, Some, None, All, get_or, append-nil, append_assoc, if◌then◌else◌, refl, sym, ap, ◌∙◌, subst, rules}
 use Rattle.std.specs.Option.{is_some}
-use Rattle.std.specs.Str.{bytes_eq}
-use Rattle.std.proofs.lemmas.Bool.{cases_Bool}
 use Rattle.std.proofs.lemmas.List.Elements.{All-nil, All-cons, All-append, All-map}
 use Rattle.fab_base.specs.declared.words.Reason.TheVariants.{NameTwice}
 use Rattle.fab_syntax.specs.declared.tree.Port.{Port}
-use Rattle.fab_syntax.specs.Plain.{PlainExpr, PlainJoin, PlainItem, PlainModule, variable}
+use Rattle.fab_syntax.specs.Plain.{PlainExpr, PlainJoin, PlainModule, variable}
 use Rattle.fab_syntax.specs.Declarations.{module_named}
-use Rattle.fab_syntax.specs.Sound.{refusals, mentions_in, text_refusals, joined_expressions, item_expressions, Every, SelectFits, OperandsFit, SidesFit, InstanceFits, InstancesFitBehind, PortIsDriven, ItemIsDriven, ClockFits, IsSound}
+use Rattle.fab_syntax.specs.Sound.{refusals, mentions_in, text_refusals, joined_expressions, item_expressions, Every, SelectFits, OperandsFit, SidesFit, InstancesFitBehind, PortIsDriven, ItemIsDriven, ClockFits, IsSound}
 use Rattle.fab_meaning.specs.Runs.{clock_name}
 use Rattle.fab_meaning.specs.Loading.{write_strobe_name, write_data_name}
 use Rattle.fab_meaning.proofs.Modules.{each_all}

@@ -1,7 +1,7 @@
 -- The values of the expressions that a serial port's registers take.
-use Rattle.std.proofs.Common.{◌≡◌, ℕ, zero, suc, ◌+◌, ◌-◌, ◌*◌, ◌/◌, ◌%◌, ◌^◌, ◌<◌, Bool, true, false, ◌&&◌, List, [], ◌∷◌, ◌++◌, length, take, slice_range, nat_eq, refl, sym, ap, ap₂, ◌∙◌, arith, pow-suc, if◌then◌else◌}
+use Rattle.std.proofs.Common.{◌≡◌, ℕ, zero, suc, ◌+◌, ◌-◌, ◌*◌, ◌/◌, ◌%◌, ◌^◌, ◌<◌, Bool, true, false, ◌&&◌, List, [], ◌∷◌, ◌++◌, length, take, slice_range, nat_eq, refl, sym, ap, ◌∙◌, arith, pow-suc, if◌then◌else◌}
 use Rattle.std.proofs.Math.Nat.{mul_assoc, mul_comm}
-use Rattle.fab_bits.specs.Bits.{number, digits, same_bits, each_bit, bit_number}
+use Rattle.fab_bits.specs.Bits.{number, digits, same_bits, each_bit}
 use Rattle.fab_bits.proofs.Numbers.{same_bits_digits}
 use Rattle.fab_meaning.specs.Value.{value, bit_at}
 use Rattle.fab_serial.specs.Module.{serial_strobe_name, serial_data_name, word_name, count_name, full_name, next_word, next_count, next_full}

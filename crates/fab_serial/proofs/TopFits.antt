@@ -1,5 +1,5 @@
 -- The new top fits into the new text: its instances, what drives its names, and its clocks.
-use Rattle.std.proofs.Common.{◌≡◌, ◌≢◌, ◌≤◌, ◌<◌, ℕ, zero, suc, ◌+◌, Bool, true, false, List, [], ◌∷◌, ◌++◌, map, length, Option, Some, None, All, Contains, get_or, if◌then◌else◌, refl, sym, ap, ap₂, ◌∙◌, subst, inl, inr, arith, append-nil, filter, rules}
+use Rattle.std.proofs.Common.{◌≡◌, ◌≢◌, ◌<◌, ℕ, zero, suc, ◌+◌, Bool, true, false, List, [], ◌∷◌, ◌++◌, map, length, Option, Some, All, Contains, get_or, refl, sym, ap, ap₂, ◌∙◌, subst, inl, inr, arith, append-nil, filter, rules}
 use Rattle.std.specs.Option.{IsSomeAnd}
 use Rattle.std.specs.Str.{bytes_eq}
 use Rattle.std.proofs.lemmas.Bool.{false≢true, cases_Bool}
@@ -8,8 +8,8 @@ use Rattle.std.proofs.lemmas.List.Kept.{AllPairs-cons}
 use Rattle.fab_syntax.specs.declared.tree.Shape.TheVariants.{Scalar, Vector}
 use Rattle.fab_syntax.specs.declared.tree.Port.{Port}
 use Rattle.fab_syntax.specs.Plain.{PlainExpr, PlainJoin, PlainItem, PlainModule, wire, clocked, instance, variable}
-use Rattle.fab_syntax.specs.Declarations.{module_named, width, width_if_any, declared_shape, is_input, is_input_of, one_if_same, times_joined}
-use Rattle.fab_syntax.specs.Sound.{port_named, FitsPort, JoinFits, IsJoinedOnce, InstanceFits, PortIsDriven, ItemIsDriven, ServesAsClock, ticks, leads, IsScalarInput, IsJoinedToClock, ClockFits, ClocksFit, width_of_name}
+use Rattle.fab_syntax.specs.Declarations.{module_named, width, width_if_any, declared_shape, is_input, one_if_same, times_joined}
+use Rattle.fab_syntax.specs.Sound.{FitsPort, JoinFits, IsJoinedOnce, InstanceFits, PortIsDriven, ItemIsDriven, ServesAsClock, ticks, leads, IsScalarInput, IsJoinedToClock, ClockFits, ClocksFit, width_of_name}
 use Rattle.fab_meaning.specs.Ports.{scalar}
 use Rattle.fab_meaning.specs.Runs.{clock_name, user_clock_name}
 use Rattle.fab_meaning.specs.Loading.{write_strobe_name, write_data_name}
@@ -17,10 +17,10 @@ use Rattle.fab_meaning.proofs.Modules.{each_all}
 use Rattle.fab_meaning.proofs.SoundTexts.{contains_first, contains_later}
 use Rattle.fab_parts_sound_laws.proofs.Lists.{pairs_none, pairs_head, pairs_tail, contains_map}
 use Rattle.fab_parts_sound_laws.proofs.Names.{Differ, AreApart, IsNoneOf, told_apart}
-use Rattle.fab_parts_sound_laws.proofs.Counts.{joined_names, driven_names, held_names, times, times_once, IsPortAmong, IsItemAmong, port_driven, item_driven}
+use Rattle.fab_parts_sound_laws.proofs.Counts.{joined_names, driven_names, times, times_once, IsPortAmong, IsItemAmong, port_driven, item_driven}
 use Rattle.fab_parts_sound_laws.proofs.Declared.{port_names, port_declared, port_direction}
 use Rattle.fab_parts_sound_laws.proofs.Clocks.{ClocksBy, serves}
-use Rattle.fab_serial.specs.Module.{serial_module_name, serial_instance_name, fabric_instance_name, serial_strobe_name, serial_data_name, serial_module, serial_ports, serial_items, serial_top, serial_joins, same_join, is_pad, IsFree, CanHaveSerialPort}
+use Rattle.fab_serial.specs.Module.{serial_module_name, serial_strobe_name, serial_data_name, serial_module, serial_items, serial_joins, same_join, is_pad, CanHaveSerialPort}
 use Rattle.fab_nested_laws.specs.Nested.{NamesAlike}
 use Rattle.fab_serial.proofs.Places.{wires_past, whole, port_named as port_named_in, fabric_named}
 use Rattle.fab_serial.proofs.Alike.{served}
@@ -55,13 +55,13 @@ module _ (m : PlainModule) where
       out_step (All P) port ports later (λ output. All-cons P port.name (outs ports) (All-head (λ (p : Port). IsOutput p.name → P p.name) port ports all output) later)
 
   pub outs_apart : (ports : List Port) → AreApart (port_names ports) → AreApart (outs ports)
-  outs_apart [] apart = pairs_none Differ
-  outs_apart (port ∷ ports) apart =
-      let later = outs_apart ports (pairs_tail Differ port.name (port_names ports) apart) in
+  outs_apart [] differ = pairs_none Differ
+  outs_apart (port ∷ ports) differ =
+      let later = outs_apart ports (pairs_tail Differ port.name (port_names ports) differ) in
       out_step AreApart port ports later
       (λ output. AllPairs-cons Differ port.name (outs ports)
       (outs_all (Differ port.name) ports
-      (λ k d within is. All-contains (Differ port.name) (port_names ports) (get_or ports k d).name (pairs_head Differ port.name (port_names ports) apart)
+      (λ k d within is. All-contains (Differ port.name) (port_names ports) (get_or ports k d).name (pairs_head Differ port.name (port_names ports) differ)
       (contains_map (λ (p : Port). p.name) ports (get_or ports k d) (Contains-get_or ports k d within)))) later)
 
   pub outs_there : (ports : List Port) (port : Port) (k : ℕ) → k < length ports → get_or ports k port ≡ port → IsOutput port.name → Contains (outs ports) port.name

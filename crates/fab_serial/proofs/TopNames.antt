@@ -1,14 +1,14 @@
 -- The names of the new top: what they are, and that they are apart.
-use Rattle.std.proofs.Common.{◌≡◌, ◌≢◌, ◌⊎◌, ℕ, Bool, true, false, not, ◌||◌, List, [], ◌∷◌, ◌++◌, map, filter, Some, All, Contains, get_or, append_assoc, refl, sym, ap, ◌∙◌, subst, inl, inr, arith}
+use Rattle.std.proofs.Common.{◌≡◌, ◌≢◌, ℕ, Bool, true, false, not, ◌||◌, List, [], ◌∷◌, ◌++◌, map, filter, Some, All, Contains, get_or, append_assoc, refl, sym, ap, ◌∙◌, subst, inl, inr, arith}
 use Rattle.std.specs.List.{flat_map}
 use Rattle.std.specs.Str.{bytes_eq}
 use Rattle.std.proofs.lemmas.Bool.{cases_Bool}
-use Rattle.std.proofs.lemmas.List.Elements.{All-nil, All-cons, All-map, All-filter, All-weaker, All-contains, All-contains_itself, Contains-append_left, Contains-append_right, Contains-get_or, filter_passes}
+use Rattle.std.proofs.lemmas.List.Elements.{All-nil, All-cons, All-map, All-filter, All-weaker, All-contains, Contains-append_left, Contains-append_right, Contains-get_or, filter_passes}
 use Rattle.fab_syntax.specs.declared.tree.Shape.{Shape}
 use Rattle.fab_syntax.specs.declared.tree.Shape.TheVariants.{Scalar, Vector}
 use Rattle.fab_syntax.specs.declared.tree.Port.{Port}
-use Rattle.fab_syntax.specs.Plain.{PlainJoin, PlainItem, PlainModule, wire, instance, variable}
-use Rattle.fab_syntax.specs.Declarations.{width, width_if_any, declared_shape, is_input}
+use Rattle.fab_syntax.specs.Plain.{PlainJoin, PlainItem, PlainModule, wire, instance}
+use Rattle.fab_syntax.specs.Declarations.{width, width_if_any, declared_shape}
 use Rattle.fab_syntax.specs.Sound.{Mention, use_of, instance_name, item_mentions, refusals, mentions_in, uses, joined_expressions, width_of_name}
 use Rattle.fab_syntax.proofs.SoundNames.{each_names_fit}
 use Rattle.fab_meaning.specs.Points.{last_of}
@@ -17,10 +17,10 @@ use Rattle.fab_meaning.specs.Runs.{clock_name, user_clock_name}
 use Rattle.fab_meaning.specs.Loading.{write_strobe_name, write_data_name}
 use Rattle.fab_meaning.proofs.SoundTexts.{same_names, contains_first, contains_later}
 use Rattle.fab_parts_sound_laws.proofs.Lists.{pairs_left, pairs_append, contains_map, all_flat_map}
-use Rattle.fab_parts_sound_laws.proofs.Names.{Differ, AreApart, told_apart, net_names, instance_names, nets, IsNet, IsKnown, UsesNets, names_fit}
+use Rattle.fab_parts_sound_laws.proofs.Names.{Differ, AreApart, told_apart, nets, IsNet, IsKnown, UsesNets, names_fit}
 use Rattle.fab_parts_sound_laws.proofs.Apart.{apart_if, Across, across_turned, across_more, across_if}
-use Rattle.fab_parts_sound_laws.proofs.Declared.{port_names, port_declared, port_direction}
-use Rattle.fab_serial.specs.Module.{serial_module_name, serial_instance_name, fabric_instance_name, serial_strobe_name, serial_data_name, serial_ports, serial_items, serial_top, serial_joins, same_join, is_pad, IsFree, CanHaveSerialPort}
+use Rattle.fab_parts_sound_laws.proofs.Declared.{port_names, port_declared}
+use Rattle.fab_serial.specs.Module.{serial_module_name, serial_instance_name, fabric_instance_name, serial_strobe_name, serial_data_name, serial_items, serial_top, serial_joins, same_join, is_pad, IsFree, CanHaveSerialPort}
 use Rattle.fab_serial.proofs.Places.{wires_past}
 use Rattle.fab_serial.proofs.Ports.{ports_apart, kept_apart, kept_there}
 
