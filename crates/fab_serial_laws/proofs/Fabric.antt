@@ -1,18 +1,17 @@
 -- The text of the fabric stands in the text with the port, and the clocks of the new top tick it.
-use Rattle.std.proofs.Common.{◌≡◌, ◌≢◌, ◌⊎◌, ℕ, ◌<◌, Bool, true, false, List, [], ◌∷◌, ◌++◌, map, Option, Some, None, All, Contains, if◌then◌else◌, refl, sym, ap, ap₂, ◌∙◌, subst, inl, inr, ltb-true, nat_lt, filter}
+use Rattle.std.proofs.Common.{◌≡◌, ◌≢◌, ℕ, ◌<◌, Bool, true, false, List, [], ◌∷◌, Option, Some, None, All, if◌then◌else◌, refl, sym, ap, ap₂, ◌∙◌, subst, inl, inr, ltb-true, nat_lt, filter}
 use Rattle.std.specs.Str.{bytes_eq}
 use Rattle.std.proofs.lemmas.Bool.{cases_Bool, false≢true}
 use Rattle.std.proofs.lemmas.List.Elements.{All-head, All-tail, All-filter}
 use Rattle.fab_syntax.specs.declared.tree.Port.{Port}
 use Rattle.fab_syntax.specs.Plain.{PlainExpr, PlainModule, constant, variable, pick, part, concatenation, complement, operation, conditional}
 use Rattle.fab_syntax.specs.Declarations.{is_input, is_input_of, width_in, width_if_any, declared_width}
-use Rattle.fab_meaning.specs.Points.{Path, Point, point, last_of, instance_in, module_at}
+use Rattle.fab_meaning.specs.Points.{Path, Point, point, instance_in, module_at}
 use Rattle.fab_meaning.specs.Reads.{is_declared}
-use Rattle.fab_meaning.specs.Runs.{clock_name, user_clock_name, join_named, join_of, named_by, clock_of, is_clock}
-use Rattle.fab_meaning.specs.Loading.{IsStream, WithinBy, IsLoading, write_strobe_name, write_data_name}
+use Rattle.fab_meaning.specs.Runs.{clock_name, join_named, join_of, named_by, clock_of, is_clock}
+use Rattle.fab_meaning.specs.Loading.{IsStream, IsLoading, write_strobe_name, write_data_name}
 use Rattle.fab_meaning.proofs.Clocks.{clock_below}
 use Rattle.fab_meaning.proofs.Declared.{bytes_apart}
-use Rattle.fab_meaning.proofs.Dependence.{same_name}
 use Rattle.fab_meaning.proofs.SoundTexts.{same_names}
 use Rattle.fab_nested_laws.specs.Nested.{inside, StandsIn, IsSameClock}
 use Rattle.fab_serial.specs.Module.{serial_instance_name, fabric_instance_name, serial_ports, is_pad, CanHaveSerialPort}

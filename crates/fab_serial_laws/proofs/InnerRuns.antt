@@ -1,28 +1,26 @@
 -- A run of serial loading is a run of loading in the fabric behind the port.
-use Rattle.std.proofs.Common.{◌≡◌, ◌≢◌, ◌<◌, ℕ, Bool, true, false, List, [], ◌∷◌, map, All, if◌then◌else◌, refl, sym, ap, ap₂, ◌∙◌, subst, inl, inr, arith, nat_lt}
-use Rattle.std.specs.List.{AllZip}
-use Rattle.std.proofs.lemmas.Bool.{cases_Bool, false≢true}
-use Rattle.std.proofs.lemmas.List.Elements.{All-nil, All-cons, All-head, All-tail}
+use Rattle.std.proofs.Common.{◌≡◌, ℕ, true, false, List, [], ◌∷◌, map, if◌then◌else◌, refl, sym, ap, ◌∙◌, subst, inl, inr, nat_lt}
+use Rattle.std.proofs.lemmas.Bool.{cases_Bool}
 use Rattle.fab_bits.specs.Bits.{first_bits}
 use Rattle.fab_syntax.specs.Plain.{PlainModule, variable}
 use Rattle.fab_syntax.specs.Declarations.{is_input_of, width_in}
 use Rattle.fab_meaning.specs.Value.{value, bit_at}
-use Rattle.fab_meaning.specs.Points.{Path, Point, point, Driver, outside, copy, bit_of, flop, hold, Drives, IsDrivenOutside, module_at}
+use Rattle.fab_meaning.specs.Points.{Point, point, Driver, outside, copy, bit_of, flop, hold}
 use Rattle.fab_meaning.specs.Settled.{Assignment, names_at, shown, IsSettledOn}
 use Rattle.fab_meaning.specs.Reads.{same_point, is_declared}
-use Rattle.fab_meaning.specs.Runs.{clock_name, user_clock_name, clock_of, is_clock, kept, AreClocksLow, Ticks, Moment, IsRunOn}
-use Rattle.fab_meaning.specs.Loading.{IsLoading, IsOneOf, stream_names, write_strobe_name, write_data_name}
+use Rattle.fab_meaning.specs.Runs.{clock_name, user_clock_name, kept, AreClocksLow, Ticks, Moment, IsRunOn}
+use Rattle.fab_meaning.specs.Loading.{IsLoading, stream_names}
 use Rattle.fab_meaning.proofs.Dependence.{same_point_is, shown_same, kept_same}
 use Rattle.fab_nested_laws.specs.Nested.{inside, within, NestedTexts}
 use Rattle.fab_nested_laws.proofs.Sets.{settled_on, ticks_on}
 use Rattle.fab_load_runs_laws.proofs.Running.{user_no_stream}
-use Rattle.fab_serial.specs.Module.{fabric_instance_name, serial_ports, CanHaveSerialPort}
+use Rattle.fab_serial.specs.Module.{fabric_instance_name, CanHaveSerialPort}
 use Rattle.fab_serial.specs.Delivery.{IsSerialLoading, Shown, moments_of, IsShownRunOn, BehindFirst, ticks, waits}
 use Rattle.fab_serial.proofs.Places.{whole, top_at}
 use Rattle.fab_serial.proofs.Joints.{fabric_path, into_fabric, fabric_clock_wide}
 use Rattle.fab_serial.proofs.Led.{registers, closed, Has, clock_taken}
 use Rattle.fab_serial_laws.proofs.Closure.{read_led, next_led, led_input}
-use Rattle.fab_serial_laws.proofs.Fabric.{TicksInside, fabric_stands, ticks_inside, loading_inside}
+use Rattle.fab_serial_laws.proofs.Fabric.{fabric_stands, ticks_inside, loading_inside}
 
 -- ---- runs with what they show
 

@@ -1,12 +1,12 @@
 -- Points to which a stream leads in a text are led by the stream of a greater text that comes to it.
-use Rattle.std.proofs.Common.{◌≡◌, ◌⊎◌, ℕ, Bool, true, false, ◌||◌, List, [], ◌∷◌, ◌++◌, nat_lt, Option, Some, None, option_map, if◌then◌else◌, refl, sym, ap, ◌∙◌, subst, inl, inr, arith, ltb-true, ◌<◌}
+use Rattle.std.proofs.Common.{◌≡◌, ℕ, Bool, true, false, ◌||◌, List, [], ◌∷◌, ◌++◌, nat_lt, Option, Some, None, option_map, if◌then◌else◌, refl, sym, ap, ◌∙◌, subst, inl, inr, arith, ltb-true}
 use Rattle.std.specs.Option.{option_map_or}
 use Rattle.std.specs.Str.{bytes_eq}
 use Rattle.std.proofs.lemmas.Bool.{cases_Bool, false≢true, or_cases, or_left, or_right}
 use Rattle.fab_syntax.specs.Plain.{PlainModule}
 use Rattle.fab_syntax.specs.Declarations.{width_in}
-use Rattle.fab_meaning.specs.Points.{Path, Point, point, Driver, outside, flop, Drives, module_at}
-use Rattle.fab_meaning.specs.Reads.{is_declared, reads, next_reads}
+use Rattle.fab_meaning.specs.Points.{Path, Point, point, flop, Drives, module_at}
+use Rattle.fab_meaning.specs.Reads.{is_declared}
 use Rattle.fab_meaning.specs.Runs.{clock_of, is_clock, clock_name}
 use Rattle.fab_meaning.specs.Loading.{IsDerived, WithinBy, by_flop, by_stream, by_reads, IsClosedAt, IsClosedBy, IsLed}
 use Rattle.fab_meaning.proofs.Dependence.{same_name}
@@ -98,7 +98,7 @@ module _ (inner outer : List PlainModule) (i : List ℕ) (stands : StandsIn inne
         let driver = flop c.path c.clock c.next c.bit in
         let there = driven_inside inner outer i stands p driver by in
         let ticks : is_clock clock_name (clock_of outer (path_in i c.path) c.clock) ≡ true =
-        same_clock inner outer i stands clock_name (is_clock clock_name) refl same c.path there.0.here c.clock there.0.stands ∙ (ap (is_clock clock_name) c.clocked ∙ same_name clock_name) in
+        same_clock inner outer i stands clock_name same c.path there.0.here c.clock there.0.stands ∙ (ap (is_clock clock_name) c.clocked ∙ same_name clock_name) in
         record {
           path = path_in i c.path;
           clock = c.clock;

@@ -1,5 +1,5 @@
 -- The words of a bitstream, sent bit by bit, configure the fabric behind the port.
-use Rattle.std.proofs.Common.{◌≡◌, ◌≢◌, ◌<◌, ℕ, Bool, true, false, ◌&&◌, ◌||◌, List, [], ◌∷◌, ◌++◌, ◌⊎◌, map, get_or, reverse, append_assoc, All, refl, sym, ap, ap₂, ◌∙◌, subst, inl, inr}
+use Rattle.std.proofs.Common.{◌≡◌, ◌<◌, ℕ, Bool, true, false, ◌&&◌, ◌||◌, List, [], ◌∷◌, ◌++◌, ◌⊎◌, map, get_or, reverse, append_assoc, All, refl, sym, ap, ◌∙◌, subst, inl, inr}
 use Rattle.std.specs.List.{AllZip, flat_map}
 use Rattle.std.specs.Str.{bytes_eq}
 use Rattle.std.proofs.lemmas.Bool.{cases_Bool}
@@ -8,25 +8,23 @@ use Rattle.fab_bits.specs.Bits.{digits}
 use Rattle.fab_syntax.specs.Plain.{PlainModule}
 use Rattle.fab_syntax.specs.Declarations.{is_input_of, width_in, width_if_any}
 use Rattle.fab_syntax.specs.Sound.{IsSound}
-use Rattle.fab_meaning.specs.Points.{Point, point, module_at}
+use Rattle.fab_meaning.specs.Points.{Point, module_at}
 use Rattle.fab_meaning.specs.Settled.{Assignment}
 use Rattle.fab_meaning.specs.Runs.{clock_name, user_clock_name, Moment, IsRunOn}
-use Rattle.fab_meaning.specs.Loading.{IsOneOf, IsStreamOf, IsLoading, offered_at, offered, write_strobe_name, write_data_name, AreAlikeOn, IsIdleOn, LedRunsAgree, LedPointsStay}
+use Rattle.fab_meaning.specs.Loading.{IsOneOf, IsLoading, offered_at, offered, write_data_name, AreAlikeOn, IsIdleOn, LedRunsAgree, LedPointsStay}
 use Rattle.fab_meaning.proofs.SoundTexts.{same_names}
 use Rattle.fab_drives_laws.specs.fab_model_Grid.{PlainFabric}
 use Rattle.fab_drives_laws.specs.fab_model_Drive.{PlainBits}
-use Rattle.fab_text_loads_laws.specs.fab_fabric_Fabric.{IsFabric}
-use Rattle.fab_text_loads_laws.specs.fab_fabric_text_defs_Texts.{IsFabricText}
 use Rattle.fab_text_loads_laws.specs.Loads.{IsTurn, Writes, IsQuiet, LoadsConfigurations}
 use Rattle.fab_text_loads_laws.specs.fab_frames_Stream.{stream}
-use Rattle.fab_load_runs_laws.specs.Runs.{HasClocks, IsClockLow, LedRunsExist}
+use Rattle.fab_load_runs_laws.specs.Runs.{IsClockLow, LedRunsExist}
 use Rattle.fab_nested_laws.specs.Nested.{within, NestedTexts}
 use Rattle.fab_serial.specs.fab_loading_laws_Latches as latches
 use Rattle.fab_serial.specs.fab_loading_laws_Latches.{Turn, IsWord, words_of}
 use Rattle.fab_serial.specs.fab_loading_laws_Streams.{stream_words}
 use Rattle.fab_serial.specs.Module.{fabric_instance_name, serial_strobe_name, serial_data_name, serial_text, CanHaveSerialPort}
 use Rattle.fab_serial.specs.Sending.{SerialTurn, bit, still, aside, sent, clocked}
-use Rattle.fab_serial.specs.Delivery.{serial_names, IsSerialStream, IsSerialLoading, IsSerialTurn, SendsWords, strobe_point, Shown, moments_of, IsShownRunOn, Sees, Delivers}
+use Rattle.fab_serial.specs.Delivery.{serial_names, IsSerialStream, IsSerialLoading, IsSerialTurn, SendsWords, Shown, moments_of, IsShownRunOn, Sees}
 use Rattle.fab_serial.proofs.fab_parts_sound_laws_Names.{told_apart}
 use Rattle.fab_serial.proofs.Places.{whole, whole_is, top_at}
 use Rattle.fab_serial.proofs.Sound.{serial_text_is_sound}

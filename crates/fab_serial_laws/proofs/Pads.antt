@@ -5,12 +5,12 @@ use Rattle.std.proofs.lemmas.List.Elements.{Contains-append_left, Contains-appen
 use Rattle.fab_bits.specs.Bits.{first_bits}
 use Rattle.fab_syntax.specs.declared.tree.Shape.TheVariants.{Scalar}
 use Rattle.fab_syntax.specs.declared.tree.Port.{Port}
-use Rattle.fab_syntax.specs.Plain.{PlainJoin, PlainModule, variable}
+use Rattle.fab_syntax.specs.Plain.{PlainModule, variable}
 use Rattle.fab_syntax.specs.Declarations.{width, is_input_of, width_in}
 use Rattle.fab_meaning.specs.Value.{bit_at}
 use Rattle.fab_meaning.specs.Runs.{clock_name, user_clock_name}
 use Rattle.fab_meaning.specs.Loading.{write_strobe_name, write_data_name}
-use Rattle.fab_meaning.specs.Points.{Point, point, outside, copy, bit_of, JoinDrives, IsDrivenOutside, Drives, module_at}
+use Rattle.fab_meaning.specs.Points.{point, outside, copy, bit_of, JoinDrives, Drives, module_at}
 use Rattle.fab_meaning.specs.Settled.{Assignment}
 use Rattle.fab_meaning.specs.Ports.{scalar}
 use Rattle.fab_drives_laws.specs.fab_prim_Ports.{top_inputs, top_outputs}
@@ -31,7 +31,7 @@ use Rattle.fab_serial.specs.Module.{fabric_instance_name, is_pad, same_join, ser
 use Rattle.fab_serial.proofs.fab_parts_sound_laws_Declared.{port_direction}
 use Rattle.fab_serial.proofs.fab_parts_sound_laws_Lists.{contains_map}
 use Rattle.fab_serial.proofs.Places.{whole, top_at, fabric_named}
-use Rattle.fab_serial.proofs.TopNames.{apart, outer_apart, pad_there, port_wide, fabric_joins, fabric_item}
+use Rattle.fab_serial.proofs.TopNames.{apart, outer_apart, pad_there, port_wide, fabric_item}
 use Rattle.fab_serial.proofs.Joints.{fabric_path, into_fabric}
 
 module _ (text : List PlainModule) (can : CanHaveSerialPort text) where

@@ -1,12 +1,12 @@
 -- The text of a fabric can have a serial port: the names are free, its top has the inputs, and WriteStrobe serves as no clock.
-use Rattle.std.proofs.Common.{◌≡◌, ◌≢◌, ◌≤◌, ◌<◌, ℕ, true, false, List, [], ◌∷◌, ◌++◌, map, Option, Some, None, All, Contains, refl, sym, ap, ◌∙◌, subst, arith}
+use Rattle.std.proofs.Common.{◌≡◌, ◌≢◌, ℕ, true, false, List, [], ◌∷◌, ◌++◌, map, Option, Some, None, All, refl, sym, ap, ◌∙◌, subst, arith}
 use Rattle.std.specs.List.{flat_map, enumerate_from}
 use Rattle.std.specs.Str.{bytes_eq}
 use Rattle.std.proofs.lemmas.List.Elements.{All-nil, All-cons, All-head, All-tail, All-append, All-map, All-contains}
 use Rattle.fab_kinds.specs.declared.kind.Kind.{Kind}
 use Rattle.fab_syntax.specs.declared.tree.Shape.TheVariants.{Scalar, Vector}
 use Rattle.fab_syntax.specs.declared.tree.Port.{Port}
-use Rattle.fab_syntax.specs.Plain.{PlainExpr, PlainJoin, PlainItem, PlainModule, constant, variable, reg, assign, clocked, instance}
+use Rattle.fab_syntax.specs.Plain.{PlainJoin, PlainItem, PlainModule, constant, variable, reg, assign, clocked, instance}
 use Rattle.fab_syntax.specs.Declarations.{module_named}
 use Rattle.fab_syntax.specs.Sound.{ServesAsClock, ticks, leads}
 use Rattle.fab_meaning.specs.Ports.{scalar}
@@ -28,7 +28,7 @@ use Rattle.fab_drives_laws.specs.fab_gen_tile_Names.{config_module_name, matrix_
 use Rattle.fab_drives_laws.specs.fab_gen_loader_Loader.{NextValues, loader_module_name, address_port, strobe_port, row_port, state_name, count_name, address_register_name, strobe_register_name, row_register_name, registers, processes, outputs, loader_of}
 use Rattle.fab_drives_laws.specs.fab_fabric_text_defs_Names.{top_module_name, pad_port_name, column_strobe_name, begin_wire_name}
 use Rattle.fab_drives_laws.specs.fab_fabric_text_defs_Places.{PlacedTile, placed_tiles}
-use Rattle.fab_drives_laws.specs.fab_fabric_text_defs_Top.{pad_ports, tile_pads, top_ports, loader_joins, loader_instance, end_value, numbered_row, row_joins, pad_joins, tile_joins, tile_instance, top_items, top_module}
+use Rattle.fab_drives_laws.specs.fab_fabric_text_defs_Top.{pad_ports, tile_pads, top_ports, loader_joins, end_value, numbered_row, row_joins, pad_joins, tile_joins, top_items, top_module}
 use Rattle.fab_drives_laws.specs.fab_fabric_text_defs_Text.{used_kinds, standing_types, tile_modules, fabric_text}
 use Rattle.fab_drives_laws.specs.fab_fabric_text_defs_Texts.{AreLoaders, one, IsFabricText}
 use Rattle.fab_drives_laws.proofs.fab_tile_drives_laws_Endings.{all_counted, all_flat_map}

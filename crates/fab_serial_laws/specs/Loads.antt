@@ -12,7 +12,6 @@ use Rattle.fab_text_loads_laws.specs.fab_fabric_text_defs_Texts.{IsFabricText}
 use Rattle.fab_text_loads_laws.specs.fab_load_runs_laws_Runs.{IsClockLow}
 use Rattle.fab_text_loads_laws.specs.Loads.{IsConfigured}
 use Rattle.fab_nested_laws.specs.Nested.{within}
-use Rattle.fab_serial.specs.fab_loading_laws_Latches.{IsWord}
 use Rattle.fab_serial.specs.fab_loading_laws_Streams.{stream_words}
 use Rattle.fab_serial.specs.Module.{serial_instance_name, fabric_instance_name, full_name, serial_text, CanHaveSerialPort}
 use Rattle.fab_serial.specs.Delivery.{IsSerialLoading, SendsWords, strobe_point}

@@ -18,14 +18,13 @@ use Rattle.fab_netlist.specs.Packed.{PlainPacked}
 use Rattle.fab_netlist.specs.Packing.{packed}
 use Rattle.fab_implementation.specs.Plain.{Pad, PlainImplementation}
 use Rattle.fab_implementation.specs.OnFabric.{kind_at}
-use Rattle.fab_runs_laws.specs.Carrying.{PadsAreFed}
-use Rattle.fab_runs_laws.specs.fab_legal_Legal.{IsLegal}
-use Rattle.fab_runs_laws.specs.fab_fabric_text_defs_Texts.{IsFabricText}
-use Rattle.fab_runs_laws.specs.fab_use_defs_Cycles.{Instant, AreInstants, Feeds, Shows, EndsCycle, Cycle, IsCycle, AreCycles, EachShows}
-use Rattle.fab_runs_laws.specs.fab_use_defs_Design.{IsPadPoint, of_input, of_output, input_pad, output_pad}
-use Rattle.fab_runs_laws.specs.fab_use_defs_Headline.{DesignPoints, RunsFrom}
-use Rattle.fab_runs_laws.specs.fab_use_defs_Sites.{top_point}
-use Rattle.fab_runs_laws.proofs.fab_points_laws_Places.{SiteBel, site_tile, site_bel, in_kind, out_kind}
+use Rattle.fab_points_laws.specs.fab_legal_Legal.{IsLegal}
+use Rattle.fab_points_laws.specs.fab_fabric_text_defs_Texts.{IsFabricText}
+use Rattle.fab_points_laws.specs.fab_use_defs_Cycles.{Instant, AreInstants, Feeds, Shows, EndsCycle, Cycle, IsCycle, AreCycles, EachShows}
+use Rattle.fab_points_laws.specs.fab_use_defs_Design.{IsPadPoint, of_input, of_output, input_pad, output_pad}
+use Rattle.fab_points_laws.specs.fab_use_defs_Headline.{DesignPoints, RunsFrom}
+use Rattle.fab_points_laws.specs.fab_use_defs_Sites.{top_point}
+use Rattle.fab_points_laws.proofs.Places.{SiteBel, site_tile, site_bel, in_kind, out_kind}
 use Rattle.fab_serial_laws.specs.fab_nested_laws_Nested.{inside, within, NestedTexts, IsShown, IsSameClock}
 use Rattle.fab_serial_laws.specs.fab_prim_Ports.{top_name, top_inputs, top_outputs}
 use Rattle.fab_serial_laws.specs.fab_serial_Module.{fabric_instance_name, is_pad, CanHaveSerialPort}
@@ -73,7 +72,7 @@ given_inside : (cycles : List Cycle) → map (λ (c : Cycle). c.given) (inner_cy
 given_inside [] = refl
 given_inside (c ∷ cycles) = ap (λ rest. c.given ∷ rest) (given_inside cycles)
 
-module _ (nested : NestedTexts) (fabric : PlainFabric) (text : List PlainModule) (netlist : PlainNetlist) (fixed : List Pad) (implementation : PlainImplementation) (is : IsFabric fabric)
+module _ (nested : NestedTexts) (fabric : PlainFabric) (text : List PlainModule) (read netlist : PlainNetlist) (fixed : List Pad) (implementation : PlainImplementation) (is : IsFabric fabric)
     (is_text : IsFabricText fabric text) (can : CanHaveSerialPort text) (legal : IsLegal fabric (packed netlist) fixed implementation) where
   abbrev outer : List PlainModule
   outer = whole text can
@@ -162,12 +161,12 @@ module _ (nested : NestedTexts) (fabric : PlainFabric) (text : List PlainModule)
     }
 
     -- what the fabric shows at its pads, the pads of the new top show
-    pub shows_outside : (nets : ℕ → Bool) → Shows netlist implementation (within fabric_instance_name now) nets → Shows netlist implementation now nets
+    pub shows_outside : (nets : ℕ → Bool) → Shows read implementation (within fabric_instance_name now) nets → Shows read implementation now nets
     shows_outside nets shows = record {
       outputs = λ place net site there listed.
           (let p = top_point site (codes "I_top") in
-          leaves site (out_kind fabric (packed netlist) fixed implementation legal (name_of netlist net) site listed) (codes "I_top") i_top inputs held now
-          (shown_at p (at_pad (out_point (name_of netlist net) site p listed (λ tile. (8, omega arith, refl))) refl))
+          leaves site (out_kind fabric (packed netlist) fixed implementation legal (name_of read net) site listed) (codes "I_top") i_top inputs held now
+          (shown_at p (at_pad (out_point (name_of read net) site p listed (λ tile. (8, omega arith, refl))) refl))
           ∙ shows.outputs place net site there listed);
       driven = λ port site listed.
           (let p = top_point site (codes "T_top") in
@@ -253,15 +252,15 @@ module _ (nested : NestedTexts) (fabric : PlainFabric) (text : List PlainModule)
       ((is_cycle_inside cycle held run.1 run.0 inner, within fabric_instance_name run.1, inner.run, later.0), later.1)
 
   instants_show : (instants : List Instant) (held after : Assignment) (nets : ℕ → Bool) → AreInstants Has outer instants held after →
-      All (λ i. Shows netlist implementation i.now nets) (map inner_instant instants) → All (λ i. Shows netlist implementation i.now nets) instants
-  instants_show [] held after nets run shows = All-nil (λ i. Shows netlist implementation i.now nets)
+      All (λ i. Shows read implementation i.now nets) (map inner_instant instants) → All (λ i. Shows read implementation i.now nets) instants
+  instants_show [] held after nets run shows = All-nil (λ i. Shows read implementation i.now nets)
   instants_show (i ∷ more) held after nets run shows =
-      All-cons (λ (j : Instant). Shows netlist implementation j.now nets) i more
-      (shows_outside i.inputs held i.now run.1 nets (All-head (λ (j : Instant). Shows netlist implementation j.now nets) (inner_instant i) (map inner_instant more) shows))
-      (instants_show more run.0 after nets run.4 (All-tail (λ (j : Instant). Shows netlist implementation j.now nets) (inner_instant i) (map inner_instant more) shows))
+      All-cons (λ (j : Instant). Shows read implementation j.now nets) i more
+      (shows_outside i.inputs held i.now run.1 nets (All-head (λ (j : Instant). Shows read implementation j.now nets) (inner_instant i) (map inner_instant more) shows))
+      (instants_show more run.0 after nets run.4 (All-tail (λ (j : Instant). Shows read implementation j.now nets) (inner_instant i) (map inner_instant more) shows))
 
   cycles_show : (cycles : List Cycle) (nows : List (ℕ → Bool)) (held after : Assignment) → AreSerialCycles Has outer netlist implementation cycles held after →
-      EachShows netlist implementation (inner_cycles cycles) nows → EachShows netlist implementation cycles nows
+      EachShows read implementation (inner_cycles cycles) nows → EachShows read implementation cycles nows
   cycles_show [] [] held after run shows = tt
   cycles_show [] (nets ∷ later) held after run shows = absurd shows
   cycles_show (cycle ∷ more) [] held after run shows = absurd shows
@@ -270,14 +269,14 @@ module _ (nested : NestedTexts) (fabric : PlainFabric) (text : List PlainModule)
 
   -- ---- the law
 
-  pub runs_from : (start : Assignment) → full_bit start ≡ false → RunsFrom fabric text netlist implementation (within fabric_instance_name start) →
-      RunsSeriallyFrom fabric text outer netlist implementation start
+  pub runs_from : (start : Assignment) → full_bit start ≡ false → RunsFrom fabric text read netlist implementation (within fabric_instance_name start) →
+      RunsSeriallyFrom fabric text outer read netlist implementation start
   runs_from start empty runs = record {
     latches = runs.latches;
     shows = λ cycles after latches run holds.
         (let inner = cycles_inside cycles start after empty run in
         let found = runs.shows (inner_cycles cycles) (within fabric_instance_name after) latches inner.0 holds in
-        (found.0, subst (λ given. IsRun netlist latches given found.0) (given_inside cycles) found.1, cycles_show cycles found.0 start after run found.2));
+        (found.0, subst (λ given. IsRun read latches given found.0) (given_inside cycles) found.1, cycles_show cycles found.0 start after run found.2));
     resets = λ cycles cycle between after run is_cycle instants reset.
         (let inner = cycles_inside cycles start between empty run in
         let last = cycle_inside cycle between after inner.1 is_cycle instants in

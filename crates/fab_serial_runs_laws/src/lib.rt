@@ -1,19 +1,17 @@
-//! The headline through a serial port: a text that is loaded bit by bit with the bitstream of a legal implementation runs its netlist.
+//! The headline through a serial port: words that run a design in the text of a fabric run it behind a port, sent bit by bit.
 #![tactic(auto)]
 
-ghost use Rattle.fab_serial_runs_laws.specs.Runs.{LegalDesignsRunSerially};
+ghost use Rattle.fab_serial_runs_laws.specs.Runs.{DesignsRunSerially};
 
 use fab_nested_laws::nested_texts;
-use fab_runs_laws::legal_designs_run;
 use fab_serial_laws::{fabric_texts_take_ports, serial_texts_load};
 
-/// In each text of a fabric behind a serial port, the bitstream of configuration bits that are those of a legal implementation, sent bit by bit,
-/// runs its netlist.
-pub fn legal_designs_run_serially()
-    ensures { LegalDesignsRunSerially }
+/// Where words run a design in the text of a fabric, they run it in the text with a serial port, when they are sent bit by bit: while no bit is
+/// sent, its pads show what the netlist says.
+pub fn designs_run_serially()
+    ensures { DesignsRunSerially }
 {
     fabric_texts_take_ports();
     serial_texts_load();
     nested_texts();
-    legal_designs_run();
 }
