@@ -116,6 +116,7 @@ module _ (read netlist : PlainNetlist) (alike : RunsAs read netlist) where
 
   pub flow_read : (fabric : PlainFabric) (fixed : List Pad) (allowed : ℕ) (base : List ℕ) (outputs : List PlainOutput)
       → IsFlow fabric netlist netlist fixed allowed base outputs → IsFlow fabric read netlist fixed allowed base outputs
+  unfolding assembly_read
   flow_read fabric fixed allowed base outputs made = record {
     implementation = made.implementation;
     mapping = made.mapping;
