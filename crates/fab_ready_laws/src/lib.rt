@@ -1,0 +1,53 @@
+//! The laws of readiness: on whatever files, a command is ready, or it comes upon a first refusal. That it never is both, and has one first refusal, is
+//! proved beside each command. Each function does nothing: its contract is a law.
+#![tactic(auto)]
+
+ghost use Rattle.fab_desk.specs.Files.{Map};
+ghost use Rattle.fab_flow.specs.BitFeatures.{FeaturesFiles, IsReadyForFeatures, MeetsBitFeatures};
+ghost use Rattle.fab_flow.specs.Bits.{BitsFiles, IsReadyForBits, MeetsBits};
+ghost use Rattle.fab_flow.specs.Generating.{IsReadyToGenerate, MeetsGenerate};
+ghost use Rattle.fab_flow.specs.Matrix.{IsReadyForMatrix};
+ghost use Rattle.fab_flow.specs.Partial.{IsReadyToExchange, MeetsPartial, PartialFiles};
+ghost use Rattle.fab_judged_laws.specs.Judged.{HoldBytes, IsReadyOrRefused};
+ghost use Rattle.fab_list_files.specs.Sides.{MeetsPairs};
+ghost use Rattle.fab_simulate_command.specs.Simulating.{IsReadyToSimulate, MeetsSimulation, SimulationFiles};
+ghost use Rattle.std.specs.Prelude.{List, ℕ};
+
+use fab_meaning::laws::points_of_sound_texts_have_one_driver;
+use fab_spelled_fabrics_laws::{spelled_fabrics_are_fabrics, spelled_fabrics_have_tiles};
+
+/// `matrix` is ready, or the list is refused.
+pub fn matrix_is_ready_or_refused()
+    ensures { (files : Map) (list : List ℕ) → IsReadyOrRefused (IsReadyForMatrix files list) (MeetsPairs files list) }
+{}
+
+/// `generate` is ready, or the fabric is refused, or its text is too long.
+pub fn generate_is_ready_or_refused()
+    ensures { (files : Map) (name : List ℕ) → IsReadyOrRefused (IsReadyToGenerate files name) (MeetsGenerate files name) }
+{}
+
+/// `bits` is ready, or one of its files is refused, or a feature.
+pub fn bits_is_ready_or_refused()
+    ensures { (files : Map) (names : BitsFiles) → IsReadyOrRefused (IsReadyForBits files names) (MeetsBits files names) }
+{}
+
+/// Of files that hold bytes, `features` is ready, or one of them is refused.
+pub fn features_is_ready_or_refused()
+    ensures { (files : Map) → HoldBytes files → (names : FeaturesFiles) → IsReadyOrRefused (IsReadyForFeatures files names) (MeetsBitFeatures files names) }
+{
+    spelled_fabrics_are_fabrics();
+}
+
+/// `partial` is ready, or one of its files is refused, or the columns are, or a feature.
+pub fn partial_is_ready_or_refused()
+    ensures { (files : Map) (names : PartialFiles) → IsReadyOrRefused (IsReadyToExchange files names) (MeetsPartial files names) }
+{
+    spelled_fabrics_have_tiles();
+}
+
+/// Of files that hold bytes, `simulate` is ready, or one of them is refused.
+pub fn simulate_is_ready_or_refused()
+    ensures { (files : Map) → HoldBytes files → (names : SimulationFiles) → IsReadyOrRefused (IsReadyToSimulate files names) (MeetsSimulation files names) }
+{
+    points_of_sound_texts_have_one_driver();
+}
