@@ -50,9 +50,10 @@ words_of (a ∷ b ∷ c ∷ d ∷ rest) are whole =
     let behind_a = All-tail IsByte a (b ∷ c ∷ d ∷ rest) are in
     let behind_b = All-tail IsByte b (c ∷ d ∷ rest) behind_a in
     let behind_c = All-tail IsByte c (d ∷ rest) behind_b in
-    let more = words_of rest (All-tail IsByte d rest behind_c) (omega (arith, whole)) in
-    (word a b c d (All-head IsByte a (b ∷ c ∷ d ∷ rest) are) (All-head IsByte b (c ∷ d ∷ rest) behind_a) (All-head IsByte c (d ∷ rest) behind_b) (All-head IsByte d rest behind_c) ∷ more.0,
-    more_words a b c d (All-head IsByte a (b ∷ c ∷ d ∷ rest) are) (All-head IsByte b (c ∷ d ∷ rest) behind_a) (All-head IsByte c (d ∷ rest) behind_b) (All-head IsByte d rest behind_c) more.0 rest more.1)
+    let more = words_of rest (All-tail IsByte d rest behind_c) (omega (arith, whole)) in (
+      word a b c d (All-head IsByte a (b ∷ c ∷ d ∷ rest) are) (All-head IsByte b (c ∷ d ∷ rest) behind_a) (All-head IsByte c (d ∷ rest) behind_b) (All-head IsByte d rest behind_c) ∷ more.0,
+      more_words a b c d (All-head IsByte a (b ∷ c ∷ d ∷ rest) are) (All-head IsByte b (c ∷ d ∷ rest) behind_a) (All-head IsByte c (d ∷ rest) behind_b) (All-head IsByte d rest behind_c) more.0 rest more.1,
+    )
 
 pub bytes_judged : (file bytes : List ℕ) → All (λ byte. byte < 256) bytes → IsSpelledOrRefused (λ words. AreBytesOf words bytes) (IsCut file bytes)
 bytes_judged file bytes are = by_rest (length bytes % 4) refl

@@ -33,13 +33,16 @@ module _ {X : Type 0} (Holds : X → Type 0) (decided : (x : X) → IsDecided (H
           | inl none ↦ inl (All-cons (λ x. Holds x → ⊥) x xs never none)
           | inr found ↦ (
               let first = found.1 in
-              inr (found.0, record {
-                before = x ∷ first.before;
-                after = first.after;
-                xs_are = ap (λ rest. x ∷ rest) first.xs_are;
-                holds = first.holds;
-                none_before = All-cons (λ x. Holds x → ⊥) x first.before never first.none_before;
-              }))
+              inr (
+                found.0,
+                record {
+                  before = x ∷ first.before;
+                  after = first.after;
+                  xs_are = ap (λ rest. x ∷ rest) first.xs_are;
+                  holds = first.holds;
+                  none_before = All-cons (λ x. Holds x → ⊥) x first.before never first.none_before;
+                },
+              ))
         ]
   ]
 

@@ -156,6 +156,6 @@ module _ (fabric : PlainFabric) where
   pub features_judged : (features : List Feature) → AreRight (IsRightFeature fabric) features ⊎ ((rule : ℕ) × (item : List ℕ) × BreaksFirst fabric features rule item)
   features_judged features = elim (right_or_wrong (IsRightFeature fabric) (λ before feature. (rule : ℕ) × (item : List ℕ) × BreaksBehind fabric before feature rule item) features
       (λ place feature at. feature_judged (take place features) feature)) [
-    | inl right ↦ inl right
-    | inr has ↦ inr (has.wrong.0, has.wrong.1, record { place = has.place; feature = has.item; is_at = has.is_at; before = has.before; breaks = has.wrong.2 })
-  ]
+        | inl right ↦ inl right
+        | inr has ↦ inr (has.wrong.0, has.wrong.1, record { place = has.place; feature = has.item; is_at = has.is_at; before = has.before; breaks = has.wrong.2 })
+      ]

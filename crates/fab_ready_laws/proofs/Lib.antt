@@ -1,7 +1,13 @@
+pub mod Decisions
 pub mod Turns
+pub mod WireTexts
 pub mod FeatureLists
 pub mod Columns
 pub mod Commands
 pub mod Sounds
 pub mod StatePoints
 pub mod Simulations
+pub mod Entered
+pub mod Placements
+pub mod NetRules
+pub mod Legality

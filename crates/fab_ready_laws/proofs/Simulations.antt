@@ -77,10 +77,13 @@ stimulus_judged : (text : List PlainModule) (state : PlainState) (of : List ℕ)
 stimulus_judged text state of spelled file bytes = elim (texts_judged (stimulus_format (ports_of state.ins)) file (rows_of bytes) (last_line bytes)) [
   | inr refusal ↦ inr refusal
   | inl whole ↦
-      inl ((stimulus_known (ports_of state.ins) (words_of (rows_of bytes))).lines, record {
-        spelled = stimulus_spells (ports_of state.ins) (ins_apart state spelled.spelled.fresh.ports) (rows_of bytes) whole;
-        says = (whole, refl);
-      })
+      inl (
+        (stimulus_known (ports_of state.ins) (words_of (rows_of bytes))).lines,
+        record {
+          spelled = stimulus_spells (ports_of state.ins) (ins_apart state spelled.spelled.fresh.ports) (rows_of bytes) whole;
+          says = (whole, refl);
+        },
+      )
 ]
 
 -- ---- the files, one behind the other

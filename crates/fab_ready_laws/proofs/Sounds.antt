@@ -135,9 +135,11 @@ module _ (text before : List PlainModule) (m : PlainModule) (rest : List PlainMo
       by_name true same found =
           let same_module : m ≡ below = some_is found in
           let there : module_named text name ≡ Some below =
-          ap (λ ms. module_named ms name) whole ∙ named_behind before m rest name none ∙ ap (λ c. if c then Some m else module_named rest name) same ∙ found in
-          (there, λ port. subst (λ (b : PlainModule). Decides (list_any (item_serves serves port) m.items) (ServesAsClock text b port)) same_module
-          (module_serves text before m serves decides fit port))
+          ap (λ ms. module_named ms name) whole ∙ named_behind before m rest name none ∙ ap (λ c. if c then Some m else module_named rest name) same ∙ found in (
+            there,
+            λ port. subst (λ (b : PlainModule). Decides (list_any (item_serves serves port) m.items) (ServesAsClock text b port)) same_module
+                (module_serves text before m serves decides fit port),
+          )
 
   more_below : DecidesBelow text (before ++ m ∷ []) (served_with before m serves)
   more_below name below is = by_before (module_named before name) refl

@@ -109,9 +109,9 @@ module _ (one : PointsOfSoundTextsHaveOneDriver) (text : List PlainModule) (soun
   stream_decided : IsDecided (HasStream text)
   stream_decided = elim (both (both (declared_decided [] clock_name Scalar roles.Input) (declared_decided [] user_clock_name Scalar roles.Input))
       (both (declared_decided [] write_strobe_name Scalar roles.Input) (declared_decided [] write_data_name (Vector 32) roles.Input))) [
-    | inl has ↦ inl (record { loader = has.0.0; user = has.0.1; strobe = has.1.0; words = has.1.1 })
-    | inr never ↦ inr (λ has. never ((has.loader, has.user), (has.strobe, has.words)))
-  ]
+        | inl has ↦ inl (record { loader = has.0.0; user = has.0.1; strobe = has.1.0; words = has.1.1 })
+        | inr never ↦ inr (λ has. never ((has.loader, has.user), (has.strobe, has.words)))
+      ]
 
   entry_decided : (entry : Entry) → IsDecided (HasEntry text entry)
   entry_decided (entries.Input site) = declared_decided (top_point site top_name).path (top_point site top_name).name Scalar roles.Input
@@ -145,12 +145,12 @@ module _ (one : PointsOfSoundTextsHaveOneDriver) (text : List PlainModule) (soun
     one_more n there (Some next) is = elim (entry_decided next) [
       | inr never ↦ inr (n, next, (is, never, there))
       | inl has ↦ inl (λ place entry below at. elim (cases_lt place n) [
-          | inl less ↦ there place entry less at
-          | inr past ↦ (
-              let same : place ≡ n = omega (arith, below, past) in
-              let both_are : Some next ≡ Some entry = sym is ∙ ap (slice_get lines) (sym same) ∙ at in
-              subst (HasEntry text) (entry_is both_are) has)
-        ])
+        | inl less ↦ there place entry less at
+        | inr past ↦ (
+            let same : place ≡ n = omega (arith, below, past) in
+            let both_are : Some next ≡ Some entry = sym is ∙ ap (slice_get lines) (sym same) ∙ at in
+            subst (HasEntry text) (entry_is both_are) has)
+      ])
     ]
       where
         entry_is : {a b : Entry} → Some a ≡ Some b → a ≡ b

@@ -72,9 +72,9 @@ module _ (decided : LoadingIsDecided) (loads_agree : LoadsAgree) (stay : Loading
     kept_alike : (p : Point) → is_declared text p ≡ true → IsLoading text p ⊎ IsNamedRegister state p → a.standing.held p ≡ b.standing.held p
     kept_alike p declared kept =
         known_once (a.standing.held p) (b.standing.held p) (
-          first.keeps p declared kept
-          ∙ registers_alike state.ffs first.left second.left p (loaded_alike words first.left second.left first.is_left second.is_left p)
-          ∙ sym (second.keeps p declared kept))
+        first.keeps p declared kept
+        ∙ registers_alike state.ffs first.left second.left p (loaded_alike words first.left second.left first.is_left second.is_left p)
+        ∙ sym (second.keeps p declared kept))
 
     loading_alike : (p : Point) → IsLoading text p → a.standing.now p ≡ b.standing.now p
     loading_alike =

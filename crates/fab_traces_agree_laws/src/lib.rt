@@ -5,7 +5,9 @@
 ghost use Rattle.fab_traces_agree_laws.specs.Laws.{OrderedSimulationsAgree, ShownIsOne, TracesAreOne};
 
 use fab_load_runs_laws::loading_is_decided;
-use fab_meaning::laws::{loading_points_stay, loading_runs_agree, points_of_sound_texts_have_one_driver};
+use fab_meaning::laws::{
+    loading_points_stay, loading_runs_agree, points_of_sound_texts_have_one_driver,
+};
 use fab_simulation_laws::simulations_agree;
 use fab_solutions_laws::least_solutions;
 
