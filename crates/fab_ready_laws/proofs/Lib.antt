@@ -11,3 +11,4 @@ pub mod Entered
 pub mod Placements
 pub mod NetRules
 pub mod Legality
+pub mod Designs
