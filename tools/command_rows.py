@@ -69,6 +69,19 @@ NESTED = b""".model top
 -1 1
 .end
 """
+# Two covers that are split: into two levels, one of which does not depend on its last input, and by an off-set.
+WIDE = b""".model wide
+.inputs a b
+.outputs z q
+.names a b a b z q a n
+1----1- 1
+-1--1-- 1
+.names a b q a b z
+11111 0
+0---0 0
+.latch n q 1
+.end
+"""
 LISTS = {
     "m.list": b"# a switch list\nO[0|1],[A|B]\nINCLUDE,more.list\n{2}P,[C|D]\n",
     "more.list": b"O0,C\n{2}O[0|1],[A|B|C|D]\n",
@@ -117,6 +130,8 @@ def rows(is_small=False):
         row(4, "flow duor.csv rtog.blif rtog --reset r", rtog),
         row(3, "assemble duor.csv rtog.blif rtog.impl made --pcf rtog.pcf", dict(rtog, **fixtures("rtog.impl", "rtog.pcf"))),
         row(6, "flow fabric.csv top.blif made", dict(grid, **{"top.blif": NESTED})),
+        row(4, "flow duo.csv wtog.blif made --pcf wtog.pcf", dict(duo, **fixtures("wtog.blif", "wtog.pcf"))),
+        row(4, "map fabric.csv wide.blif i", dict(grid, **{"wide.blif": WIDE})),
         row(8, "bits duo.csv tog.fasm b", dict(duo, **fixtures("tog.fasm"))),
         row(4, "bits duo.csv ring.fasm ring.bit", dict(duo, **fixtures("ring.fasm"))),
         row(6, "features duo.csv inv.bit f", dict(duo, **fixtures("inv.bit"))),

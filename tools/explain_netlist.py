@@ -2,8 +2,9 @@
 import collections
 
 from explain_text import lines_of, listed, near_words, plural, shown
+from split_covers import split_covers
 
-Cover = collections.namedtuple("Cover", "inputs output line")
+Cover = collections.namedtuple("Cover", "inputs output line rows")
 Latch = collections.namedtuple("Latch", "input output kind control line")
 
 
@@ -50,10 +51,10 @@ class Netlist:
             self.clocks.update((net, line) for net in rest)
             self.drivers.update((net, [line]) for net in rest)
         elif word == ".names" and rest:
-            self.covers.append(Cover(rest[:-1], rest[-1], line))
+            self.covers.append(Cover(rest[:-1], rest[-1], line, []))
             self.drivers.setdefault(rest[-1], []).append(line)
         elif word == ".conn" and len(rest) == 2:
-            self.covers.append(Cover(rest[:1], rest[1], line))
+            self.covers.append(Cover(rest[:1], rest[1], line, [["1", "1"]]))
             self.drivers.setdefault(rest[1], []).append(line)
         elif word == ".latch" and len(rest) > 1:
             kind, control = (rest[2], rest[3]) if len(rest) > 3 else ("", "")
@@ -63,19 +64,23 @@ class Netlist:
                 self.clocks.setdefault(control, line)
         elif word in (".subckt", ".gate"):
             self.is_flat = False
+        elif not word.startswith(".") and self.covers:
+            self.covers[-1].rows.append(words)
 
     def ports(self):
         return self.data_inputs + self.outputs
 
     def cells(self):
-        """For each cell by its number the net that it drives, its line, the nets that it reads, and how it is made."""
-        readers = collections.Counter(net for cover in self.covers for net in cover.inputs)
+        """For each cell by its number the net that it drives, its line, the nets that it reads, and how it is made. Wide covers
+        are split."""
+        covers = split_covers(self.covers)
+        readers = collections.Counter(net for cover in covers for net in cover.inputs)
         readers.update(latch.input for latch in self.latches)
         takers, outputs = collections.defaultdict(list), set(self.outputs)
         for latch in self.latches:
             takers[latch.input].append(latch)
         found, shared = [], set()
-        for cover in self.covers:
+        for cover in covers:
             if not readers[cover.output] and cover.output not in outputs:
                 continue
             latch = takers[cover.output][0] if takers[cover.output] else None
@@ -217,7 +222,7 @@ def unsupported(case, words):
     elif construct[0] == "model":
         yield f"models of this file: {listed(netlist.models)}{near_words(construct[-1], netlist.models)}"
     elif construct[0] == "wide" and words[:1] == [".names"]:
-        yield f"the table of {shown(words[-1])} has {plural(len(words) - 2, 'input')}"
+        yield f"the table of {shown(words[-1])} has {plural(len(words) - 2, 'input')}, and at most 16 are split into small tables"
     elif case.reason in ("clock as data", "second clock"):
         mine = [net for net in words[1:] if net in netlist.clocks]
         yield f"clocks of the design: {listed(f'{net} (line {line})' for net, line in netlist.clocks.items())}"

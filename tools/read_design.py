@@ -7,6 +7,7 @@ import collections
 import re
 import sys
 
+from split_covers import split_covers
 from table_rows import lines_of
 
 # A cover reads nets and drives one; `rows` are the words of its rows.
@@ -59,13 +60,15 @@ class Netlist:
                 self._copy(models, models[part[0]], inner, f"{prefix}{line}/", depth + 1)
 
     def cells(self):
-        """The cells of the packed netlist by their numbers ("Netlists" in docs/FORMATS.md). A cover that something reads or a
-        port shows is a cell, together with a latch that alone reads it; each other latch is a cell of its own."""
-        readers = collections.Counter(net for cover in self.covers for net in cover.inputs)
+        """The cells of the packed netlist by their numbers ("Netlists" in docs/FORMATS.md), with wide covers split. A cover that
+        something reads or a port shows is a cell, together with a latch that alone reads it; each other latch is a cell of its
+        own."""
+        covers = split_covers(self.covers)
+        readers = collections.Counter(net for cover in covers for net in cover.inputs)
         readers.update(latch.input for latch in self.latches)
         shown, by_input = set(self.outputs), {latch.input: latch for latch in reversed(self.latches)}
         cells, packed = [], set()
-        for cover in self.covers:
+        for cover in covers:
             if readers[cover.output] or cover.output in shown:
                 is_alone = readers[cover.output] == 1 and cover.output not in shown
                 latch = by_input.get(cover.output) if is_alone else None

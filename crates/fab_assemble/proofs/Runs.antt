@@ -42,15 +42,15 @@ module _ (fabric : PlainFabric) (text : List PlainModule) (netlist : PlainNetlis
   packed_configures : Configures fabric (packed netlist) i bits
   packed_configures = subst (λ (p : PlainPacked). Configures fabric p i bits) is configures
 
-  pub assembled_runs : (state : PlainState) → LegalDesignsRun → state ≡ design_state design i → RunsDesign fabric text netlist i words state
+  pub assembled_runs : (state : PlainState) → LegalDesignsRun → state ≡ design_state design i → RunsDesign fabric text netlist netlist i words state
   assembled_runs state law state_is =
-      let runs : RunsDesign fabric text netlist i (stream fabric bits) (design_state (packed netlist) i) =
+      let runs : RunsDesign fabric text netlist netlist i (stream fabric bits) (design_state (packed netlist) i) =
       law fabric text netlist fixed i bits is_fabric are_tiles is_text made no_cycle packed_legal packed_configures in
       let same : state ≡ design_state (packed netlist) i = state_is ∙ ap (λ (p : PlainPacked). design_state p i) is in
-      subst (λ (w : List ℕ). RunsDesign fabric text netlist i w state) (sym words_are)
-      (subst (λ (s : PlainState). RunsDesign fabric text netlist i (stream fabric bits) s) (sym same) runs)
+      subst (λ (w : List ℕ). RunsDesign fabric text netlist netlist i w state) (sym words_are)
+      (subst (λ (s : PlainState). RunsDesign fabric text netlist netlist i (stream fabric bits) s) (sym same) runs)
 
-  pub assembled_settles : LegalDesignsSettle → SettlesDesign fabric text netlist i words
+  pub assembled_settles : LegalDesignsSettle → SettlesDesign fabric text netlist netlist i words
   assembled_settles law =
-      subst (λ (w : List ℕ). SettlesDesign fabric text netlist i w) (sym words_are)
+      subst (λ (w : List ℕ). SettlesDesign fabric text netlist netlist i w) (sym words_are)
       (law fabric text netlist fixed i bits is_fabric are_tiles is_text made no_cycle packed_legal packed_configures)

@@ -70,8 +70,8 @@ pub fn assemble(
     ensures map { IfOk result (λ it. All IsNamed fabric.now.types → All HasPrefixes fabric.now.types → IsBitMapOf fabric.now it.features.items (plain_bits it.bits)) }
     ensures words { IfOk result (λ it. it.words.items ≡ stream fabric.now (plain_bits it.bits)) }
     ensures state { IfOk result (λ it. it.state ≡ design_state packed.now implementation) }
-    ensures runs { IfOk result (λ it. (text : List PlainModule) → IsFabricText fabric.now text → RunsDesign fabric.now text netlist.now implementation it.words.items it.state) }
-    ensures settles { IfOk result (λ it. (text : List PlainModule) → IsFabricText fabric.now text → SettlesDesign fabric.now text netlist.now implementation it.words.items) }
+    ensures runs { IfOk result (λ it. (text : List PlainModule) → IsFabricText fabric.now text → RunsDesign fabric.now text netlist.now netlist.now implementation it.words.items it.state) }
+    ensures settles { IfOk result (λ it. (text : List PlainModule) → IsFabricText fabric.now text → SettlesDesign fabric.now text netlist.now netlist.now implementation it.words.items) }
     ensures err { IfErr result (Explains fabric.now packed.now fixed.now implementation) }
 {
     netlist.is_well_made();

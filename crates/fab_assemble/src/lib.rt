@@ -3,7 +3,9 @@
 #![tactic(auto)]
 
 mod assembly;
+mod laws;
 mod state;
 
 pub use assembly::{Assembled, assemble};
 pub use fab_features::{bits_of_features, features_of_bits};
+pub use laws::bit_maps_release_pads;

@@ -4,7 +4,7 @@ use Rattle.std.specs.List.{AllByRecursion as Each, list_any}
 use Rattle.std.proofs.lemmas.Bool.{cases_Bool, false≢true}
 use Rattle.std.proofs.lemmas.Slice.Eq.{bytes_eq-Decides}
 use Rattle.indexmap.specs.IndexSet.{insert_key, insert_all}
-use Rattle.fab_netlist.specs.Plain.{PlainCover}
+use Rattle.fab_netlist.specs.Wide.{PlainWideCover}
 use Rattle.fab_netlist.specs.declared.netlist.Latch.{Latch}
 use Rattle.fab_blif.specs.declared.design.Use.{Use}
 use Rattle.fab_blif.specs.Flat.{PlainNet, net_eq, Placed, placed_inputs, placed_outputs, placed_clock, copied_clock, placed_cover, placed_latch}
@@ -65,7 +65,7 @@ module _ (nets : List PlainNet) where
   numbers_below [] all = tt
   numbers_below (net ∷ names) all = (number_below nets net all.0, numbers_below names all.1)
 
-  abbrev pub CoverBelow : PlainCover → Type 0
+  abbrev pub CoverBelow : PlainWideCover → Type 0
   CoverBelow made = Each IsBelow made.inputs × (made.output < length nets)
 
   abbrev pub LatchBelow : Latch → Type 0
@@ -86,7 +86,7 @@ module _ (nets : List PlainNet) where
       step (placed_outputs line names) all = tt
       step (placed_clock line net) all = tt
       step (copied_clock line net) all = tt
-      step (placed_cover line names output table) all =
+      step (placed_cover line names output on rows) all =
           ((numbers_below names (each_left (IsThere nets) names (output ∷ []) all), number_below nets output (each_right (IsThere nets) names (output ∷ []) all).0), tt)
       step (placed_latch line input output control initial) all = tt
 
@@ -98,7 +98,7 @@ module _ (nets : List PlainNet) where
       step (placed_outputs line names) all = tt
       step (placed_clock line net) all = tt
       step (copied_clock line net) all = tt
-      step (placed_cover line names output table) all = tt
+      step (placed_cover line names output on rows) all = tt
       step (placed_latch line input output control initial) all = ((number_below nets input all.0, number_below nets output all.1.0), tt)
 
   pub inputs_below : (text : List Placed) → Each (IsNamed nets) text → Each UseBelow (flat_map (inputs_by nets) text)
@@ -109,7 +109,7 @@ module _ (nets : List PlainNet) where
       step (placed_outputs line names) all = tt
       step (placed_clock line net) all = tt
       step (copied_clock line net) all = tt
-      step (placed_cover line names output table) all = tt
+      step (placed_cover line names output on rows) all = tt
       step (placed_latch line input output control initial) all = tt
 
   pub outputs_below : (text : List Placed) → Each (IsNamed nets) text → Each UseBelow (flat_map (outputs_by nets) text)
@@ -120,7 +120,7 @@ module _ (nets : List PlainNet) where
       step (placed_outputs line names) all = uses_below line names all
       step (placed_clock line net) all = tt
       step (copied_clock line net) all = tt
-      step (placed_cover line names output table) all = tt
+      step (placed_cover line names output on rows) all = tt
       step (placed_latch line input output control initial) all = tt
 
   -- ---- the names of ports

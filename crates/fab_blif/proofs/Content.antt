@@ -49,14 +49,14 @@ file_at file bytes fault (inl x) = names_at file (last_line bytes) (models_in by
 file_at file bytes fault (inr (inl x)) = models_at file (last_line bytes) (models_in bytes) fault x.2
 file_at file bytes fault (inr (inr x)) = design_at file (last_line bytes) (design_in bytes) fault x.3
 
-blif_at : (file bytes : List ℕ) (fault : Fault) → RefusesBlif file bytes fault → IsAtLine file fault
-blif_at file bytes fault (some, inl x) = (x.number, x.problem, x.is)
-blif_at file bytes fault (some, inr (inl x)) = file_at file bytes fault x.1
-blif_at file bytes fault (some, inr (inr x)) =
+blif_at : (most : ℕ) (file bytes : List ℕ) (fault : Fault) → RefusesBlif most file bytes fault → IsAtLine file fault
+blif_at most file bytes fault (some, inl x) = (x.number, x.problem, x.is)
+blif_at most file bytes fault (some, inr (inl x)) = file_at file bytes fault x.1
+blif_at most file bytes fault (some, inr (inr x)) =
     let named = x.5 in
     ((cover_at (netlist_in bytes) named.0).line, problems.Unsupported (cycle_words (netlist_in bytes) (named.0 ∷ named.1)), named.3)
 
-pub refused_for_content : (file bytes : List ℕ) (fault : Fault) → RefusesBlif file bytes fault → IsContentFault fault
-refused_for_content file bytes fault refused =
-    let at = blif_at file bytes fault refused in
+pub refused_for_content : (most : ℕ) (file bytes : List ℕ) (fault : Fault) → RefusesBlif most file bytes fault → IsContentFault fault
+refused_for_content most file bytes fault refused =
+    let at = blif_at most file bytes fault refused in
     subst IsContentFault (sym at.2) (content_at file at.0 at.1 (λ memory. refused.0 (at.2 ∙ memory)))

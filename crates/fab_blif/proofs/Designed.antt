@@ -100,7 +100,7 @@ nets_after design (placed_inputs line names) = refl
 nets_after design (placed_outputs line names) = refl
 nets_after design (placed_clock line net) = refl
 nets_after design (copied_clock line net) = refl
-nets_after design (placed_cover line names output table) = sym (fold-append (insert_key net_eq) design.nets names (output ∷ []))
+nets_after design (placed_cover line names output on rows) = sym (fold-append (insert_key net_eq) design.nets names (output ∷ []))
 nets_after design (placed_latch line input output control initial) = refl
 
 -- what a line adds, where nets have their numbers in the end
@@ -153,7 +153,7 @@ adds d (copied_clock line net) more = record {
   latch_lines = none_more d.latch_lines;
   clocks = refl;
 }
-adds d (placed_cover line names output table) more =
+adds d (placed_cover line names output on rows) more =
     let before = insert_all net_eq d.nets names in
     let ins : net_numbers d.nets names ≡ map (number_in (insert_all net_eq (insert_key net_eq before output) more)) names = numbers_last d.nets names (output ∷ more) in
     let out : number_in before output ≡ number_in (insert_all net_eq (insert_key net_eq before output) more) output = number_last before output more in
@@ -161,7 +161,7 @@ adds d (placed_cover line names output table) more =
       inputs = none_more d.inputs;
       outputs = none_more d.outputs;
       clock_ports = none_more d.clock_ports;
-      covers = λ j. d.covers ++ record { line = line; inputs = ins j; output = out j; table = table } ∷ [];
+      covers = λ j. d.covers ++ record { line = line; inputs = ins j; output = out j; on = on; rows = rows } ∷ [];
       latches = none_more d.latches;
       latch_lines = none_more d.latch_lines;
       clocks = none_more d.clocks;

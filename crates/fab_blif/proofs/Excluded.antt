@@ -20,10 +20,10 @@ use Rattle.fab_blif.proofs.Drivers.{once_upto}
 pub none_is_not_some : {X : Type 0} (o : Option X) (x : X) → o ≡ None → o ≡ Some x → ⊥
 none_is_not_some o x none some = cc
 
-pub line_excluded : (file : List ℕ) (bytes : List ℕ) (fault : Fault) → IsFine judge (joined_lines bytes) → IsFirstFault judge file (joined_lines bytes) fault → ⊥
-line_excluded file bytes fault fine told =
+pub line_excluded : (most : ℕ) (file : List ℕ) (bytes : List ℕ) (fault : Fault) → IsFine (judge most) (joined_lines bytes) → IsFirstFault (judge most) file (joined_lines bytes) fault → ⊥
+line_excluded most file bytes fault fine told =
     let first = told.first in
-    none_is_not_some (judge first.before first.line) told.problem (fine first.before first.line first.after first.parts) first.refused
+    none_is_not_some (judge most first.before first.line) told.problem (fine first.before first.line first.after first.parts) first.refused
 
 pub names_excluded : (file : List ℕ) (last : ℕ) (models : List PlainModel) (fault : Fault) → 0 < length models → NamesDiffer models
     → RefusesNames file last models fault → ⊥
@@ -49,15 +49,15 @@ flat_excluded file bytes fault some differ models design (inl refused) = names_e
 flat_excluded file bytes fault some differ models design (inr (inl refused)) = models_excluded file (last_line bytes) (models_in bytes) fault models refused.2
 flat_excluded file bytes fault some differ models design (inr (inr refused)) = design_excluded file (last_line bytes) (design_in bytes) fault design refused.3
 
-pub not_refused : (file bytes : List ℕ) (fault : Fault) → IsBlif bytes → RefusesBlif file bytes fault → ⊥
-not_refused file bytes fault is (other, inl line) = line_excluded file bytes fault is.fine line
-not_refused file bytes fault is (other, inr (inl refused)) = flat_excluded file bytes fault is.some is.named is.models is.design refused.1
-not_refused file bytes fault is (other, inr (inr cycle)) = let named = cycle.5 in is.acyclic (named.0 ∷ named.1) named.2.cycle
+pub not_refused : (most : ℕ) (file bytes : List ℕ) (fault : Fault) → IsBlif most bytes → RefusesBlif most file bytes fault → ⊥
+not_refused most file bytes fault is (other, inl line) = line_excluded most file bytes fault is.fine line
+not_refused most file bytes fault is (other, inr (inl refused)) = flat_excluded file bytes fault is.some is.named is.models is.design refused.1
+not_refused most file bytes fault is (other, inr (inr cycle)) = let named = cycle.5 in is.acyclic (named.0 ∷ named.1) named.2.cycle
 
 -- so what is answered for such a file is no fault but want of memory
 only_memory : (fault : Fault) → (fault ≢ faults.Memory → ⊥) → fault ≡ faults.Memory
 only_memory faults.Memory never = refl
 only_memory fault never = absurd (never (λ same. cc))
 
-pub reads_unless : (file bytes : List ℕ) (fault : Fault) → (fault ≢ faults.Memory → RefusesBlif file bytes fault) → IsBlif bytes → fault ≡ faults.Memory
-reads_unless file bytes fault refused is = only_memory fault (λ other. not_refused file bytes fault is (refused other))
+pub reads_unless : (most : ℕ) (file bytes : List ℕ) (fault : Fault) → (fault ≢ faults.Memory → RefusesBlif most file bytes fault) → IsBlif most bytes → fault ≡ faults.Memory
+reads_unless most file bytes fault refused is = only_memory fault (λ other. not_refused most file bytes fault is (refused other))

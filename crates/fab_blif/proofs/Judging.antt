@@ -10,7 +10,7 @@ use Rattle.std.proofs.Math.ListN.{drop_of_length-le}
 use Rattle.std.proofs.lemmas.List.Sorted.{IsPermutation-sym, list_any-IsPermutation, sum_by-IsPermutation}
 use Rattle.indexmap.specs.IndexSet.{insert_key}
 use Rattle.fab_netlist.specs.declared.netlist.Latch.{Latch}
-use Rattle.fab_netlist.specs.Plain.{PlainCover}
+use Rattle.fab_netlist.specs.Wide.{PlainWideCover}
 use Rattle.fab_blif.specs.declared.design.Use.{Use}
 use Rattle.fab_blif.specs.declared.judge.Driver.{Driver}
 use Rattle.fab_blif.specs.Judged.{drivers, drivers_in, input_uses, is_among, is_inner, is_of, is_port, is_second, latch_uses, tagged}
@@ -185,15 +185,15 @@ drivers_tagged inner ports net = λ j. counts j + (if anys j then 1 else 0)
 -- ---- the inputs of covers
 
 -- one more cover's inputs
-pub input_step : (covers : List PlainCover) (at : ℕ) (made : PlainCover) → at < length covers → made ≡ get_or covers at made → (first now next : List Use) → now ≡ first ++ input_uses (take at covers) →
+pub input_step : (covers : List PlainWideCover) (at : ℕ) (made : PlainWideCover) → at < length covers → made ≡ get_or covers at made → (first now next : List Use) → now ≡ first ++ input_uses (take at covers) →
     next ≡ now ++ used_at made.line made.inputs → next ≡ first ++ input_uses (take (at + 1) covers)
 input_step covers at made within is first now next before pushed =
     let uses = used_at made.line made.inputs in
-    let parts : take (at + 1) covers ≡ take at covers ++ made ∷ [] = take_more covers at made within ∙ ap (λ (one : PlainCover). take at covers ++ one ∷ []) (sym is) in
+    let parts : take (at + 1) covers ≡ take at covers ++ made ∷ [] = take_more covers at made within ∙ ap (λ (one : PlainWideCover). take at covers ++ one ∷ []) (sym is) in
     let more : input_uses (take (at + 1) covers) ≡ input_uses (take at covers) ++ uses =
     ap input_uses parts ∙ last (take at covers) in
     pushed ∙ ap (λ (list : List Use). list ++ uses) before ∙ append_assoc first (input_uses (take at covers)) uses ∙ sym (ap (λ (list : List Use). first ++ list) more)
   where
-    last : (some : List PlainCover) → input_uses (some ++ made ∷ []) ≡ input_uses some ++ used_at made.line made.inputs
+    last : (some : List PlainWideCover) → input_uses (some ++ made ∷ []) ≡ input_uses some ++ used_at made.line made.inputs
     last [] = append-nil (used_at made.line made.inputs)
     last (one ∷ some) = ap (λ (list : List Use). used_at one.line one.inputs ++ list) (last some) ∙ sym (append_assoc (used_at one.line one.inputs) (input_uses some) (used_at made.line made.inputs))

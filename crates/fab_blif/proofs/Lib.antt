@@ -11,6 +11,7 @@ pub mod Ports
 pub mod Counted
 pub mod Least
 pub mod Clocking
+pub mod Repeated
 pub mod WellMade
 pub mod Judging
 pub mod Drivers
@@ -20,4 +21,5 @@ pub mod OneStatement
 pub mod Once
 pub mod Content
 pub mod Netlists
+pub mod Readings
 pub mod Small

@@ -157,9 +157,9 @@ module _ (file : List ℕ) (last : ℕ) (design : PlainDesign) where
 
 -- ---- the models of a file
 
-module _ (file bytes : List ℕ) (fine : IsFine judge (joined_lines bytes)) (a b : Fault) where
+module _ (most : ℕ) (file bytes : List ℕ) (fine : IsFine (judge most) (joined_lines bytes)) (a b : Fault) where
   all_ascend : Ascend (line_numbers (models_in bytes))
-  all_ascend = ascend (line_numbers (models_in bytes)) (spelled_ascend (joined_lines bytes) fine).ascend
+  all_ascend = ascend (line_numbers (models_in bytes)) (spelled_ascend most (joined_lines bytes) fine).ascend
 
   abbrev IsOfFile : Fault → Type 0
   IsOfFile fault = RefusesFile file (last_line bytes) (models_in bytes) fault
@@ -177,19 +177,19 @@ module _ (file bytes : List ℕ) (fine : IsFine judge (joined_lines bytes)) (a b
 
 -- ---- the file
 
-pub refused_once : (file bytes : List ℕ) (a b : Fault) → RefusesBlif file bytes a → RefusesBlif file bytes b → TellOneRefusal file bytes a b
-refused_once file bytes a b (is_a, inl x) (is_b, inl y) = inl (fault_once x y)
-refused_once file bytes a b (is_a, inl x) (is_b, inr (inl y)) = absurd (line_excluded file bytes a y.0 x)
-refused_once file bytes a b (is_a, inl x) (is_b, inr (inr y)) = absurd (line_excluded file bytes a y.0 x)
-refused_once file bytes a b (is_a, inr (inl x)) (is_b, inl y) = absurd (line_excluded file bytes b x.0 y)
-refused_once file bytes a b (is_a, inr (inl x)) (is_b, inr (inl y)) = inl (file_once file bytes x.0 a b x.1 y.1)
-refused_once file bytes a b (is_a, inr (inl x)) (is_b, inr (inr y)) = absurd (flat_excluded file bytes a y.1 y.2 y.3 y.4 x.1)
-refused_once file bytes a b (is_a, inr (inr x)) (is_b, inl y) = absurd (line_excluded file bytes b x.0 y)
-refused_once file bytes a b (is_a, inr (inr x)) (is_b, inr (inl y)) = absurd (flat_excluded file bytes b x.1 x.2 x.3 x.4 y.1)
-refused_once file bytes a b (is_a, inr (inr x)) (is_b, inr (inr y)) = inr (x.5, y.5)
+pub refused_once : (most : ℕ) (file bytes : List ℕ) (a b : Fault) → RefusesBlif most file bytes a → RefusesBlif most file bytes b → TellOneRefusal file bytes a b
+refused_once most file bytes a b (is_a, inl x) (is_b, inl y) = inl (fault_once x y)
+refused_once most file bytes a b (is_a, inl x) (is_b, inr (inl y)) = absurd (line_excluded most file bytes a y.0 x)
+refused_once most file bytes a b (is_a, inl x) (is_b, inr (inr y)) = absurd (line_excluded most file bytes a y.0 x)
+refused_once most file bytes a b (is_a, inr (inl x)) (is_b, inl y) = absurd (line_excluded most file bytes b x.0 y)
+refused_once most file bytes a b (is_a, inr (inl x)) (is_b, inr (inl y)) = inl (file_once most file bytes x.0 a b x.1 y.1)
+refused_once most file bytes a b (is_a, inr (inl x)) (is_b, inr (inr y)) = absurd (flat_excluded file bytes a y.1 y.2 y.3 y.4 x.1)
+refused_once most file bytes a b (is_a, inr (inr x)) (is_b, inl y) = absurd (line_excluded most file bytes b x.0 y)
+refused_once most file bytes a b (is_a, inr (inr x)) (is_b, inr (inl y)) = absurd (flat_excluded file bytes b x.1 x.2 x.3 x.4 y.1)
+refused_once most file bytes a b (is_a, inr (inr x)) (is_b, inr (inr y)) = inr (x.5, y.5)
 
-pub numbered_once : (file bytes : List ℕ) (a b : Fault) → RefusesBlif file bytes a → RefusesBlif file bytes b → number_of a ≡ number_of b
-numbered_once file bytes a b x y = elim (refused_once file bytes a b x y) [
+pub numbered_once : (most : ℕ) (file bytes : List ℕ) (a b : Fault) → RefusesBlif most file bytes a → RefusesBlif most file bytes b → number_of a ≡ number_of b
+numbered_once most file bytes a b x y = elim (refused_once most file bytes a b x y) [
   | inl same ↦ ap number_of same
   | inr cycles ↦ ap number_of cycles.0.3 ∙ sym (ap number_of cycles.1.3)
 ]

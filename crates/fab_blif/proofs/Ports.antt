@@ -36,7 +36,7 @@ module _ (nets : List PlainNet) where
       step (placed_outputs line names) all = refl
       step (placed_clock line net) all = refl
       step (copied_clock line net) all = refl
-      step (placed_cover line names output table) all = refl
+      step (placed_cover line names output on rows) all = refl
       step (placed_latch line input output control initial) all = refl
 
   pub output_uses_named : (text : List Placed) → Each (IsNamed nets) text → map used_name (flat_map (outputs_by nets) text) ≡ flat_map (port_names false) text
@@ -49,7 +49,7 @@ module _ (nets : List PlainNet) where
       step (placed_outputs line names) all = used_names nets line names all
       step (placed_clock line net) all = refl
       step (copied_clock line net) all = refl
-      step (placed_cover line names output table) all = refl
+      step (placed_cover line names output on rows) all = refl
       step (placed_latch line input output control initial) all = refl
 
 top_names : (names : List (List ℕ)) → map (λ (net : PlainNet). net.name) (map (net_in top_copy) names) ≡ names
@@ -78,7 +78,7 @@ module _ (models : List PlainModel) (of_inputs : Bool) where
   copy_line inner none copy depth deep line (inputs names) = ap (λ (d : ℕ). seen (if_top d (placed_inputs line (map (net_in copy) names)))) deep
   copy_line inner none copy depth deep line (outputs names) = ap (λ (d : ℕ). seen (if_top d (placed_outputs line (map (net_in copy) names)))) deep
   copy_line inner none copy depth deep line (clock name) = clock_seen copy.depth line (net_in copy name)
-  copy_line inner none copy depth deep line (cover names output table) = refl
+  copy_line inner none copy depth deep line (cover names output on rows) = refl
   copy_line inner none copy depth deep line (latch input output control initial) = refl
   copy_line inner none copy depth deep line (instance name words) = instance_seen inner none copy line words (place_of_model models name)
 
@@ -99,7 +99,7 @@ module _ (models : List PlainModel) (of_inputs : Bool) where
   top_line inner none line (inputs names) = append-nil _ ∙ ap (λ (ns : List (List ℕ)). cond of_inputs ns []) (top_names names)
   top_line inner none line (outputs names) = append-nil _ ∙ ap (λ (ns : List (List ℕ)). cond of_inputs [] ns) (top_names names)
   top_line inner none line (clock name) = refl
-  top_line inner none line (cover names output table) = refl
+  top_line inner none line (cover names output on rows) = refl
   top_line inner none line (latch input output control initial) = refl
   top_line inner none line (instance name words) = instance_seen inner none top_copy line words (place_of_model models name)
 
@@ -122,7 +122,7 @@ input_bodies (statement ∷ statements) = λ j. step statement.body j ++ input_b
     step (inputs names) = refl
     step (outputs names) = refl
     step (clock name) = refl
-    step (cover names output table) = refl
+    step (cover names output on rows) = refl
     step (latch input output control initial) = refl
     step (instance name words) = refl
 
@@ -134,7 +134,7 @@ output_bodies (statement ∷ statements) = λ j. step statement.body j ++ output
     step (inputs names) = refl
     step (outputs names) = refl
     step (clock name) = refl
-    step (cover names output table) = refl
+    step (cover names output on rows) = refl
     step (latch input output control initial) = refl
     step (instance name words) = refl
 

@@ -1,16 +1,20 @@
--- The numbers of nets in a netlist that is well made fit 32 bits.
+-- The numbers of nets in a netlist whose wires hold together fit 32 bits.
 use Rattle.std.proofs.Common.{ℕ, ◌<◌, ◌^◌, List, ◌++◌, flat_map, All, Contains, arith}
 use Rattle.std.proofs.lemmas.List.Elements.{Contains-append_left, Contains-append_right}
 use Rattle.fab_netlist.specs.declared.netlist.Latch.{Latch}
 use Rattle.fab_netlist.specs.Plain.{PlainCover, PlainNetlist}
-use Rattle.fab_netlist.specs.WellMade.{IsWellMade, cover_outputs, driven, latch_inputs, latch_outputs, read}
+use Rattle.fab_netlist.specs.Wide.{PlainWide, PlainWideCover, tabled, tabled_cover}
+use Rattle.fab_netlist.specs.WellMade.{IsWired, cover_outputs, driven, latch_inputs, latch_outputs, read}
 use Rattle.fab_netlist.proofs.Members.{mapped_in}
 use Rattle.fab_netlist.proofs.Stepping.{all_of, in_flat}
 
 abbrev IsSmall : ℕ → Type 0
 IsSmall net = net < 2 ^ 32
 
-module _ (netlist : PlainNetlist) (made : IsWellMade netlist) where
+module _ (wide : PlainWide) (made : IsWired (tabled wide)) where
+  abbrev netlist : PlainNetlist
+  netlist = tabled wide
+
   abbrev cover_inputs : List ℕ
   cover_inputs = flat_map (λ (cover : PlainCover). cover.inputs) netlist.covers
 
@@ -38,14 +42,15 @@ module _ (netlist : PlainNetlist) (made : IsWellMade netlist) where
   pub small_outputs : All (λ (net : ℕ). net < 2 ^ 32) netlist.outputs
   small_outputs = all_of IsSmall netlist.outputs (λ net is. beside_inputs net (Contains-append_right (latch_inputs netlist) netlist.outputs net is))
 
-  small_cover : (cover : PlainCover) → Contains netlist.covers cover → All IsSmall cover.inputs × IsSmall cover.output
-  small_cover cover is = (
-    all_of IsSmall cover.inputs (λ net one. cover_input net (in_flat (λ (some : PlainCover). some.inputs) netlist.covers cover net is one)),
-    cover_output cover.output (mapped_in (λ (some : PlainCover). some.output) netlist.covers cover is),
-  )
+  small_cover : (cover : PlainWideCover) → Contains wide.covers cover → All IsSmall cover.inputs × IsSmall cover.output
+  small_cover cover is =
+      let there : Contains netlist.covers (tabled_cover cover) = mapped_in tabled_cover wide.covers cover is in (
+        all_of IsSmall cover.inputs (λ net one. cover_input net (in_flat (λ (some : PlainCover). some.inputs) netlist.covers (tabled_cover cover) net there one)),
+        cover_output cover.output (mapped_in (λ (some : PlainCover). some.output) netlist.covers (tabled_cover cover) there),
+      )
 
-  pub small_covers : All (λ (cover : PlainCover). All (λ (net : ℕ). net < 2 ^ 32) cover.inputs × (cover.output < 2 ^ 32)) netlist.covers
-  small_covers = all_of (λ (cover : PlainCover). All IsSmall cover.inputs × IsSmall cover.output) netlist.covers small_cover
+  pub small_covers : All (λ (cover : PlainWideCover). All (λ (net : ℕ). net < 2 ^ 32) cover.inputs × (cover.output < 2 ^ 32)) wide.covers
+  small_covers = all_of (λ (cover : PlainWideCover). All IsSmall cover.inputs × IsSmall cover.output) wide.covers small_cover
 
   small_latch : (latch : Latch) → Contains netlist.latches latch → IsSmall latch.input × IsSmall latch.output
   small_latch latch is =

@@ -53,13 +53,13 @@ module _ (models : List PlainModel) where
   line_parts zero copy line (inputs names) is = sym (append-nil _)
   line_parts zero copy line (outputs names) is = sym (append-nil _)
   line_parts zero copy line (clock name) is = refl
-  line_parts zero copy line (cover names output table) is = refl
+  line_parts zero copy line (cover names output on rows) is = refl
   line_parts zero copy line (latch input output control initial) is = refl
   line_parts zero copy line (instance name words) is = nothing_found copy line words (place_of_model models name)
   line_parts (suc deep) copy line (inputs names) is = sym (append-nil _)
   line_parts (suc deep) copy line (outputs names) is = sym (append-nil _)
   line_parts (suc deep) copy line (clock name) is = refl
-  line_parts (suc deep) copy line (cover names output table) is = refl
+  line_parts (suc deep) copy line (cover names output on rows) is = refl
   line_parts (suc deep) copy line (latch input output control initial) is = refl
   line_parts (suc deep) copy line (instance name words) is = found_lines deep copy line words (place_of_model models name) is
 
@@ -154,7 +154,7 @@ module _ (models : List PlainModel) where
   body_parts (suc deep) copy line (inputs names) is = omega arith
   body_parts (suc deep) copy line (outputs names) is = omega arith
   body_parts (suc deep) copy line (clock name) is = omega arith
-  body_parts (suc deep) copy line (cover names output table) is = omega arith
+  body_parts (suc deep) copy line (cover names output on rows) is = omega arith
   body_parts (suc deep) copy line (latch input output control initial) is = omega arith
   body_parts (suc deep) copy line (instance name words) is = omega (arith, found_work deep copy line words (place_of_model models name) is)
 

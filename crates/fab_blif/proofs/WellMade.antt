@@ -1,5 +1,5 @@
 -- What flattening gives is well made.
-use Rattle.std.proofs.Common.{◌≡◌, ℕ, zero, suc, ◌+◌, ◌<◌, ◌≤◌, Bool, true, false, not, ◌||◌, cond, nat_eq, nat_lt, List, [], ◌∷◌, ◌++◌, map, length, get_or, flat_map, option_and_then, slice_get, position, Option, Some, None, Contains, refl, sym, ap, subst, ◌∙◌, inl, inr, arith, eqb-true, eq-eqb, ◌⊎◌, is_some, if◌then◌else◌}
+use Rattle.std.proofs.Common.{◌≡◌, ℕ, zero, suc, ◌+◌, ◌%◌, ◌^◌, ◌<◌, ◌≤◌, Bool, true, false, not, ◌||◌, cond, nat_eq, nat_lt, List, [], ◌∷◌, ◌++◌, map, length, get_or, flat_map, option_and_then, slice_get, position, Option, Some, None, Contains, refl, sym, ap, subst, ◌∙◌, inl, inr, arith, eqb-true, eq-eqb, ◌⊎◌, is_some, if◌then◌else◌}
 use Rattle.std.specs.List.{AllByRecursion as Each, count_by, filter, list_any, position_or_len}
 use Rattle.std.specs.Str.{bytes_eq}
 use Rattle.std.proofs.lemmas.Bool.{cases_Bool, false≢true}
@@ -7,17 +7,20 @@ use Rattle.std.proofs.lemmas.List.{length-map, map-append}
 use Rattle.std.proofs.lemmas.List.Folds.{list_any-append}
 use Rattle.fab_netlist.specs.declared.netlist.Latch.{Latch}
 use Rattle.fab_netlist.specs.Plain.{IsAt, PlainCover, PlainNetlist, name_of}
-use Rattle.fab_netlist.specs.WellMade.{IsWellMade, cover_outputs, driven, latch_inputs, latch_outputs, ports, read, times}
+use Rattle.fab_netlist.specs.Wide.{IsFineRow, IsWideMade, PlainWideCover, tabled_cover}
+use Rattle.fab_netlist.specs.WellMade.{IsWellMade, IsWired, cover_outputs, driven, latch_inputs, latch_outputs, ports, read, table_bit, times}
 use Rattle.fab_netlist.proofs.Counts.{at_mapped, driven_parts, times_joined}
 use Rattle.fab_blif_models.specs.Plain.{PlainModel}
 use Rattle.fab_blif_models.specs.Rules.{AreModels, IsModel, declared_inputs, declared_outputs}
 use Rattle.fab_blif.specs.declared.design.Use.{Use}
 use Rattle.fab_blif.specs.Flat.{PlainNet, Placed, placed_inputs, placed_outputs, placed_clock, copied_clock, placed_cover, placed_latch, net_eq, flat_lines}
 use Rattle.fab_instances.specs.Places.{no_model, statements_of}
-use Rattle.fab_blif.specs.Design.{PlainClock, PlainDesign, clock_number, clock_ports_by, clocks_by, design_of, is_number, latch_lines, latches_by, nets_of, netlist_of, number_in}
-use Rattle.fab_blif.specs.Clocks.{clock_uses, data_faults, is_clock}
+use Rattle.fab_blif.specs.Design.{PlainClock, PlainDesign, clock_number, clock_ports_by, clocks_by, design_of, is_number, latch_lines, latches_by, nets_of, netlist_of, number_in, wide_of}
+use Rattle.fab_blif.specs.Clocks.{clock_uses, data_faults, first_use, is_clock, named_faults}
 use Rattle.fab_blif.specs.Judged.{EachHasOne, inner_drivers, input_ports, input_uses, is_among, is_driven, is_of, is_undriven, latch_uses, least_line, least_of, output_uses, readers, undriven_line}
-use Rattle.fab_blif.proofs.Clocking.{no_data}
+use Rattle.fab_blif.specs.Refusals.{IsFineDesign}
+use Rattle.fab_blif.proofs.Clocking.{no_data, none_later}
+use Rattle.fab_blif.proofs.Repeated.{table_repeats}
 use Rattle.fab_blif.proofs.Each.{each_flat, each_joined, each_kept, each_left, each_mapped, each_weaker, of_member, of_place}
 use Rattle.fab_blif.proofs.Rules.{IsFineCover, fine_covers, fine_latches, fine_text}
 use Rattle.fab_blif.proofs.Below.{CoverBelow, IsBelow, IsNamed, LatchBelow, all_named, covers_below, inputs_below, latches_below, name_in, outputs_below}
@@ -29,7 +32,7 @@ net_of used = used.net
 
 -- ---- the nets of uses
 
-nets_of_outputs : (covers : List PlainCover) → map net_of (output_uses covers) ≡ cover_outputs covers
+nets_of_outputs : (covers : List PlainWideCover) → map net_of (output_uses covers) ≡ cover_outputs (map tabled_cover covers)
 nets_of_outputs [] = refl
 nets_of_outputs (made ∷ covers) = ap (λ (rest : List ℕ). made.output ∷ rest) (nets_of_outputs covers)
 
@@ -37,7 +40,7 @@ nets_at : (line : ℕ) (nets : List ℕ) → map net_of (map (λ (net : ℕ). re
 nets_at line [] = refl
 nets_at line (net ∷ nets) = ap (λ (rest : List ℕ). net ∷ rest) (nets_at line nets)
 
-nets_of_inputs : (covers : List PlainCover) → map net_of (input_uses covers) ≡ flat_map (λ (made : PlainCover). made.inputs) covers
+nets_of_inputs : (covers : List PlainWideCover) → map net_of (input_uses covers) ≡ flat_map (λ (made : PlainCover). made.inputs) (map tabled_cover covers)
 nets_of_inputs [] = refl
 nets_of_inputs (made ∷ covers) =
     map-append net_of (map (λ (net : ℕ). record { line = made.line; net = net }) made.inputs) (input_uses covers)
@@ -51,7 +54,7 @@ nets_of_latches of nets (placed_inputs line names ∷ text) = nets_of_latches of
 nets_of_latches of nets (placed_outputs line names ∷ text) = nets_of_latches of nets text
 nets_of_latches of nets (placed_clock line net ∷ text) = nets_of_latches of nets text
 nets_of_latches of nets (copied_clock line net ∷ text) = nets_of_latches of nets text
-nets_of_latches of nets (placed_cover line names output table ∷ text) = nets_of_latches of nets text
+nets_of_latches of nets (placed_cover line names output on rows ∷ text) = nets_of_latches of nets text
 nets_of_latches of nets (placed_latch line input output control initial ∷ text) =
     ap (λ (rest : List ℕ). of (record { input = number_in nets input; output = number_in nets output; init = initial }) ∷ rest) (nets_of_latches of nets text)
 
@@ -132,7 +135,7 @@ port_is_clock net nets (copied_clock line clock ∷ text) there = or_right (nat_
     or_right : (a b : Bool) → b ≡ true → (a || b) ≡ true
     or_right true b is = refl
     or_right false b is = is
-port_is_clock net nets (placed_cover line names output table ∷ text) there = port_is_clock net nets text there
+port_is_clock net nets (placed_cover line names output on rows ∷ text) there = port_is_clock net nets text there
 port_is_clock net nets (placed_latch line input output None initial ∷ text) there = port_is_clock net nets text there
 port_is_clock net nets (placed_latch line input output (Some control) initial ∷ text) there = or_right (nat_eq net (number_in nets control)) _ (port_is_clock net nets text there)
   where
@@ -162,10 +165,10 @@ no_number net nets (clock ∷ clocks) none = at_place (position_or_len (net_eq c
 
 -- ---- the whole
 
-is_model : (models : List PlainModel) → AreModels models → (place : ℕ) → IsModel (get_or models place no_model)
-is_model models given place = of_place IsModel models place no_model (record { bodies = tt; ports = λ (name : List ℕ). omega arith }) given
+is_model : (most : ℕ) (models : List PlainModel) → AreModels most models → (place : ℕ) → IsModel most (get_or models place no_model)
+is_model most models given place = of_place (IsModel most) models place no_model (record { bodies = tt; ports = λ (name : List ℕ). omega arith }) given
 
-module _ (models : List PlainModel) (given : AreModels models) where
+module _ (most : ℕ) (models : List PlainModel) (given : AreModels most models) where
   abbrev text : List Placed
   text = flat_lines models
 
@@ -187,15 +190,25 @@ module _ (models : List PlainModel) (given : AreModels models) where
   latches_all : Each (LatchBelow nets) design.latches
   latches_all = latches_below nets text named_all
 
+  outputs_below_all : Each (IsBelow nets) (cover_outputs netlist.covers)
+  outputs_below_all =
+      each_mapped (IsBelow nets) (λ (made : PlainCover). made.output) netlist.covers
+      (each_mapped (λ (made : PlainCover). made.output < length nets) tabled_cover design.covers (each_weaker (CoverBelow nets) _ (λ (made : PlainWideCover) all. all.1) design.covers covers_all))
+
+  inputs_below_all : Each (IsBelow nets) (flat_map (λ (made : PlainCover). made.inputs) netlist.covers)
+  inputs_below_all =
+      each_flat (λ (made : PlainCover). Each (IsBelow nets) made.inputs) (IsBelow nets) (λ (made : PlainCover). made.inputs) (λ (made : PlainCover) all. all) netlist.covers
+      (each_mapped (λ (made : PlainCover). Each (IsBelow nets) made.inputs) tabled_cover design.covers (each_weaker (CoverBelow nets) _ (λ (made : PlainWideCover) all. all.0) design.covers covers_all))
+
   all_driven_below : Each (IsBelow nets) (driven netlist)
   all_driven_below =
-      each_joined (IsBelow nets) (cover_outputs design.covers) _ (each_mapped (IsBelow nets) (λ (made : PlainCover). made.output) design.covers (each_weaker (CoverBelow nets) _ (λ (made : PlainCover) all. all.1) design.covers covers_all))
+      each_joined (IsBelow nets) (cover_outputs netlist.covers) _ outputs_below_all
       (each_joined (IsBelow nets) (latch_outputs netlist) _ (each_mapped (IsBelow nets) (λ (made : Latch). made.output) design.latches (each_weaker (LatchBelow nets) _ (λ (made : Latch) all. all.1) design.latches latches_all))
       (each_kept (IsBelow nets) _ (map net_of design.inputs) (each_mapped (IsBelow nets) net_of design.inputs (inputs_below nets text named_all))))
 
   all_read_below : Each (IsBelow nets) (read netlist)
   all_read_below =
-      each_joined (IsBelow nets) (flat_map (λ (made : PlainCover). made.inputs) design.covers) _ (each_flat (CoverBelow nets) (IsBelow nets) (λ (made : PlainCover). made.inputs) (λ (made : PlainCover) all. all.0) design.covers covers_all)
+      each_joined (IsBelow nets) (flat_map (λ (made : PlainCover). made.inputs) netlist.covers) _ inputs_below_all
       (each_joined (IsBelow nets) (latch_inputs netlist) _ (each_mapped (IsBelow nets) (λ (made : Latch). made.input) design.latches (each_weaker (LatchBelow nets) _ (λ (made : Latch) all. all.0) design.latches latches_all))
       (each_mapped (IsBelow nets) net_of design.outputs (outputs_below nets text named_all)))
 
@@ -217,7 +230,7 @@ module _ (models : List PlainModel) (given : AreModels models) where
         ap (count_by (bytes_eq name)) input_names_are,
         ap (count_by (bytes_eq name)) output_names_are,
         count_joined (bytes_eq name) (declared_inputs (statements_of models 0)) (declared_outputs (statements_of models 0)),
-        (is_model models given 0).ports name,
+        (is_model most models given 0).ports name,
       )
 
   ports_once : (name : List ℕ) → count_by (bytes_eq name) (map (name_in nets) (ports netlist)) ≤ 1
@@ -236,7 +249,7 @@ module _ (models : List PlainModel) (given : AreModels models) where
       (subst (λ (name : List ℕ). IsAt (map (name_in nets) (ports netlist)) j name) same (at_mapped (name_in nets) (ports netlist) j first here))
       (at_mapped (name_in nets) (ports netlist) k second there)
 
-  inner_nets : map net_of (inner_drivers design) ≡ cover_outputs design.covers ++ latch_outputs netlist
+  inner_nets : map net_of (inner_drivers design) ≡ cover_outputs netlist.covers ++ latch_outputs netlist
   inner_nets =
       map-append net_of (output_uses design.covers) _
       ∙ (λ j. nets_of_outputs design.covers j ++ nets_of_latches (λ (made : Latch). made.output) nets text j)
@@ -269,7 +282,7 @@ module _ (models : List PlainModel) (given : AreModels models) where
       omega (
         arith,
         driven_parts netlist net,
-        times_joined net (cover_outputs design.covers) (latch_outputs netlist),
+        times_joined net (cover_outputs netlist.covers) (latch_outputs netlist),
         ap (times net) inner_nets,
         times_used net (inner_drivers design),
         ports_by_test net,
@@ -289,16 +302,16 @@ module _ (models : List PlainModel) (given : AreModels models) where
             | inr f ↦ f
           ]
 
-      inner_is : list_any (is_of net) (inner_drivers design) ≡ (is_among (cover_outputs design.covers) net || is_among (latch_outputs netlist) net)
+      inner_is : list_any (is_of net) (inner_drivers design) ≡ (is_among (cover_outputs netlist.covers) net || is_among (latch_outputs netlist) net)
       inner_is =
           among_uses net (inner_drivers design)
           ∙ ap (λ (list : List ℕ). is_among list net) inner_nets
-          ∙ list_any-append (nat_eq net) (cover_outputs design.covers) (latch_outputs netlist)
+          ∙ list_any-append (nat_eq net) (cover_outputs netlist.covers) (latch_outputs netlist)
 
       ports_are : list_any (is_of net) (input_ports design) ≡ (is_among (map net_of design.inputs) net || false)
       ports_are = list_any-append (is_of net) design.inputs design.clock_ports ∙ (λ j. among_uses net design.inputs j || no_clock_port j)
 
-      parts : ((is_among (cover_outputs design.covers) net || is_among (latch_outputs netlist) net) || (is_among (map net_of design.inputs) net || false)) ≡ true
+      parts : ((is_among (cover_outputs netlist.covers) net || is_among (latch_outputs netlist) net) || (is_among (map net_of design.inputs) net || false)) ≡ true
       parts = (λ j. sym inner_is j || sym ports_are j) ∙ sym (list_any-append (is_of net) (inner_drivers design) (input_ports design)) ∙ there
 
       kept : is_among (map net_of design.inputs) net ≡ true → is_among netlist.inputs net ≡ true
@@ -312,9 +325,9 @@ module _ (models : List PlainModel) (given : AreModels models) where
 
       among : is_among (driven netlist) net ≡ true
       among =
-          list_any-append (nat_eq net) (cover_outputs design.covers) (latch_outputs netlist ++ netlist.inputs)
-          ∙ ap (λ (b : Bool). is_among (cover_outputs design.covers) net || b) (list_any-append (nat_eq net) (latch_outputs netlist) netlist.inputs)
-          ∙ conclude (is_among (cover_outputs design.covers) net) (is_among (latch_outputs netlist) net) (is_among (map net_of design.inputs) net) (is_among netlist.inputs net) parts kept
+          list_any-append (nat_eq net) (cover_outputs netlist.covers) (latch_outputs netlist ++ netlist.inputs)
+          ∙ ap (λ (b : Bool). is_among (cover_outputs netlist.covers) net || b) (list_any-append (nat_eq net) (latch_outputs netlist) netlist.inputs)
+          ∙ conclude (is_among (cover_outputs netlist.covers) net) (is_among (latch_outputs netlist) net) (is_among (map net_of design.inputs) net) (is_among netlist.inputs net) parts kept
 
   abbrev IsFineReader : ℕ → Type 0
   IsFineReader net = (not (is_driven design net) ≡ false) × (is_clock design net ≡ false)
@@ -328,16 +341,22 @@ module _ (models : List PlainModel) (given : AreModels models) where
       both [] first second = tt
       both (u ∷ used) first second = ((first.0, second.0), both used first.1 second.1)
 
-  pub well_made : length nets ≤ 16384 → EachHasOne design → undriven_line design ≡ None → data_faults (is_clock design) (readers design ++ inner_drivers design) ≡ [] → IsWellMade (netlist_of design)
-  well_made few once driven_all unread = record {
-    small = omega (arith, few, length-map nets (λ (other : PlainNet). other.name));
+  fine_covers_all : Each (IsFineCover most) design.covers
+  fine_covers_all = fine_covers most nets text (fine_text most models given)
+
+  unread : IsFineDesign design → data_faults (is_clock design) (readers design ++ inner_drivers design) ≡ []
+  unread judged =
+      none_later (named_faults (is_driven design) (is_clock design) (first_use (clock_uses design.nets design.clocks)) design.nets design.clocks)
+      (data_faults (is_clock design) (readers design ++ inner_drivers design)) judged.clocks
+
+  is_wired : IsFineDesign design → IsWired netlist
+  is_wired judged = record {
+    small = omega (arith, judged.small, length-map nets (λ (other : PlainNet). other.name));
     driven_below = λ (net : ℕ) here. below_count net (of_member (IsBelow nets) (driven netlist) net all_driven_below here);
     read_below = λ (net : ℕ) here. below_count net (of_member (IsBelow nets) (read netlist) net all_read_below here);
-    four_inputs = λ (made : PlainCover) here. (of_member IsFineCover design.covers made (fine_covers nets text (fine_text models given)) here).0;
-    repeats = λ (made : PlainCover) here. (of_member IsFineCover design.covers made (fine_covers nets text (fine_text models given)) here).1;
-    initials = λ (made : Latch) here. of_member (λ (one : Latch). one.init ≤ 3) design.latches made (fine_latches nets text (fine_text models given)) here;
-    driven_once = each_once once;
-    read_driven = λ (net : ℕ) here. (let fine = of_member IsFineReader (read netlist) net (fine_readers driven_all unread) here in driven_net net (not_false (is_driven design net) fine.0) fine.1);
+    initials = λ (made : Latch) here. of_member (λ (one : Latch). one.init ≤ 3) design.latches made (fine_latches most nets text (fine_text most models given)) here;
+    driven_once = each_once judged.once;
+    read_driven = λ (net : ℕ) here. (let fine = of_member IsFineReader (read netlist) net (fine_readers judged.driven (unread judged)) here in driven_net net (not_false (is_driven design net) fine.0) fine.1);
     reset_below = λ place is. absurd (some_none place is);
     ports_differ = ports_apart;
   }
@@ -349,9 +368,47 @@ module _ (models : List PlainModel) (given : AreModels models) where
       not_false true is = refl
       not_false false is = absurd (false≢true (sym is))
 
+  is_wide_made : most ≤ 16 → IsFineDesign design → IsWideMade (wide_of design)
+  is_wide_made few judged = record {
+    wired = is_wired judged;
+    few = λ (made : PlainWideCover) here. omega (arith, few, (of_member (IsFineCover most) design.covers made fine_covers_all here).0);
+    rows = λ (made : PlainWideCover) here. (of_member (IsFineCover most) design.covers made fine_covers_all here).1;
+  }
+
+  is_narrow : most ≤ 4 → Each (λ (made : PlainWideCover). length made.inputs ≤ 4) design.covers
+  is_narrow few = each_weaker (IsFineCover most) _ (λ (made : PlainWideCover) fine. omega (arith, few, fine.0)) design.covers fine_covers_all
+
+  abbrev RepeatsItself : PlainCover → Type 0
+  RepeatsItself made = (place : ℕ) → place < 16 → table_bit made.table place ≡ table_bit made.table (place % 2 ^ length made.inputs)
+
+  is_well_made : most ≤ 4 → IsFineDesign design → IsWellMade netlist
+  is_well_made few judged =
+      let wires = is_wired judged in
+      record {
+        small = wires.small;
+        driven_below = wires.driven_below;
+        read_below = wires.read_below;
+        four_inputs = λ (made : PlainCover) here. of_member (λ (one : PlainCover). length one.inputs ≤ 4) netlist.covers made
+            (each_mapped (λ (one : PlainCover). length one.inputs ≤ 4) tabled_cover design.covers (is_narrow few)) here;
+        repeats = λ (made : PlainCover) here. of_member RepeatsItself netlist.covers made (each_mapped RepeatsItself tabled_cover design.covers
+            (each_weaker (IsFineCover most) _ (λ (one : PlainWideCover) fine. table_repeats one (omega (arith, few, fine.0)) fine.1) design.covers fine_covers_all)) here;
+        initials = wires.initials;
+        driven_once = wires.driven_once;
+        read_driven = wires.read_driven;
+        reset_below = wires.reset_below;
+        ports_differ = wires.ports_differ;
+      }
+
 -- the same of a design that is the one of the text
-pub well_made_design : (models : List PlainModel) → AreModels models → (given : PlainDesign) → given ≡ design_of (flat_lines models) →
-    length given.nets ≤ 16384 → EachHasOne given → undriven_line given ≡ None → data_faults (is_clock given) (readers given ++ inner_drivers given) ≡ [] → IsWellMade (netlist_of given)
-well_made_design models fine given is few once driven_all unread =
-    subst (λ (d : PlainDesign). length d.nets ≤ 16384 → EachHasOne d → undriven_line d ≡ None → data_faults (is_clock d) (readers d ++ inner_drivers d) ≡ [] → IsWellMade (netlist_of d)) (sym is)
-    (well_made models fine) few once driven_all unread
+pub wired_design : (most : ℕ) (models : List PlainModel) → AreModels most models → (given : PlainDesign) → given ≡ design_of (flat_lines models) → IsFineDesign given → IsWired (netlist_of given)
+wired_design most models fine given is judged = subst (λ (d : PlainDesign). IsFineDesign d → IsWired (netlist_of d)) (sym is) (is_wired most models fine) judged
+
+pub wide_design : (most : ℕ) → most ≤ 16 → (models : List PlainModel) → AreModels most models → (given : PlainDesign) → given ≡ design_of (flat_lines models) → IsFineDesign given → IsWideMade (wide_of given)
+wide_design most few models fine given is judged = subst (λ (d : PlainDesign). IsFineDesign d → IsWideMade (wide_of d)) (sym is) (is_wide_made most models fine few) judged
+
+-- of covers of at most four inputs
+pub narrow_design : (models : List PlainModel) → AreModels 4 models → IsFineDesign (design_of (flat_lines models)) → IsWellMade (netlist_of (design_of (flat_lines models)))
+narrow_design models fine judged = is_well_made 4 models fine (omega arith) judged
+
+pub narrow_covers : (models : List PlainModel) → AreModels 4 models → Each (λ (made : PlainWideCover). length made.inputs ≤ 4) (design_of (flat_lines models)).covers
+narrow_covers models fine = is_narrow 4 models fine (omega arith)

@@ -1,4 +1,4 @@
--- BLIF files as netlists: when a file is one, and the first refusal of another.
+-- BLIF files as netlists: when a file is one, and the first refusal of another. A cover has at most so many inputs.
 use Rattle.std.specs.Prelude.{◌≡◌, ◌≢◌, ◌⊎◌, ℕ, ◌<◌, List, length}
 use Rattle.fab_base.specs.declared.fault.Fault.{Fault}
 use Rattle.fab_base.specs.declared.fault.Fault.TheVariants as faults
@@ -10,6 +10,7 @@ use Rattle.fab_blif_models.specs.Plain.{PlainModel}
 use Rattle.fab_blif_models.specs.Spelled.{spelled}
 use Rattle.fab_netlist.specs.Cycles.{HasNoCycle, NamesCycle}
 use Rattle.fab_netlist.specs.Plain.{PlainNetlist}
+use Rattle.fab_netlist.specs.Wide.{PlainWide, tabled}
 use Rattle.fab_blif.specs.Design.{PlainDesign, design_of, flattened}
 use Rattle.fab_blif.specs.Flat.{flat_lines}
 use Rattle.fab_instances.specs.Order.{NamesDiffer}
@@ -24,13 +25,18 @@ models_in bytes = spelled (joined_lines bytes)
 abbrev pub design_in : (bytes : List ℕ) → PlainDesign
 design_in bytes = design_of (flat_lines (models_in bytes))
 
+-- its netlist, covers by their rows
+abbrev pub wide_in : (bytes : List ℕ) → PlainWide
+wide_in bytes = flattened (models_in bytes)
+
+-- and with tables
 abbrev pub netlist_in : (bytes : List ℕ) → PlainNetlist
-netlist_in bytes = flattened (models_in bytes)
+netlist_in bytes = tabled (wide_in bytes)
 
 -- A file with a netlist: no line is refused; it has models, and no two of one name; nothing is wrong with those that the
 -- first one uses, nor with the nets and clocks that they flatten to; and no covers read one another round.
-pub record IsBlif (bytes : List ℕ) : Type 0 where
-  pub fine : IsFine judge (joined_lines bytes)
+pub record IsBlif (most : ℕ) (bytes : List ℕ) : Type 0 where
+  pub fine : IsFine (judge most) (joined_lines bytes)
   pub some : 0 < length (models_in bytes)
   pub named : NamesDiffer (models_in bytes)
   pub models : AreFineModels (models_in bytes)
@@ -39,11 +45,11 @@ pub record IsBlif (bytes : List ℕ) : Type 0 where
 
 -- The first refusal of a file: that of its first refused line; where no line is refused, that of its models; and where
 -- these are not refused, a cycle of covers. Want of memory is no refusal of a file.
-abbrev pub RefusesBlif : (file bytes : List ℕ) → Fault → Type 0
-RefusesBlif file bytes fault = (fault ≢ faults.Memory) × (
-    IsFirstFault judge file (joined_lines bytes) fault
-    ⊎ (IsFine judge (joined_lines bytes) × RefusesFile file (last_line bytes) (models_in bytes) fault)
-    ⊎ (IsFine judge (joined_lines bytes) × (0 < length (models_in bytes)) × NamesDiffer (models_in bytes) × AreFineModels (models_in bytes)
+abbrev pub RefusesBlif : (most : ℕ) → (file bytes : List ℕ) → Fault → Type 0
+RefusesBlif most file bytes fault = (fault ≢ faults.Memory) × (
+    IsFirstFault (judge most) file (joined_lines bytes) fault
+    ⊎ (IsFine (judge most) (joined_lines bytes) × RefusesFile file (last_line bytes) (models_in bytes) fault)
+    ⊎ (IsFine (judge most) (joined_lines bytes) × (0 < length (models_in bytes)) × NamesDiffer (models_in bytes) × AreFineModels (models_in bytes)
     × IsFineDesign (design_in bytes) × NamesCycle file (netlist_in bytes) fault))
 
 -- Two faults tell one refusal of a file: they are equal, but where covers read one another round each may name any cycle.

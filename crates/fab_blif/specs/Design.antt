@@ -4,7 +4,8 @@ use Rattle.std.specs.List.{position_or_len}
 use Rattle.indexmap.specs.IndexSet.{insert_all}
 use Rattle.fab_blif_models.specs.Plain.{PlainModel}
 use Rattle.fab_netlist.specs.declared.netlist.Latch.{Latch}
-use Rattle.fab_netlist.specs.Plain.{PlainCover, PlainNetlist}
+use Rattle.fab_netlist.specs.Plain.{PlainNetlist}
+use Rattle.fab_netlist.specs.Wide.{PlainWide, PlainWideCover, tabled}
 use Rattle.fab_blif.specs.declared.design.Use.{Use}
 use Rattle.fab_blif.specs.Flat.{PlainNet, net_eq, Placed, placed_inputs, placed_outputs, placed_clock, copied_clock, placed_cover, placed_latch, flat_lines}
 
@@ -14,7 +15,7 @@ named (placed_inputs line nets) = nets
 named (placed_outputs line nets) = nets
 named (placed_clock line net) = net ∷ []
 named (copied_clock line net) = []
-named (placed_cover line nets output table) = nets ++ output ∷ []
+named (placed_cover line nets output on rows) = nets ++ output ∷ []
 named (placed_latch line input output control initial) = input ∷ output ∷ option_to_list control
 
 -- the nets of a text, each where it is first named
@@ -48,8 +49,8 @@ abbrev pub clock_ports_by : List PlainNet → Placed → List Use
 clock_ports_by nets (placed_clock line net) = uses nets line (net ∷ [])
 clock_ports_by nets _ = []
 
-abbrev pub covers_by : List PlainNet → Placed → List PlainCover
-covers_by nets (placed_cover line names output table) = record { line = line; inputs = map (number_in nets) names; output = number_in nets output; table = table } ∷ []
+abbrev pub covers_by : List PlainNet → Placed → List PlainWideCover
+covers_by nets (placed_cover line names output on rows) = record { line = line; inputs = map (number_in nets) names; output = number_in nets output; on = on; rows = rows } ∷ []
 covers_by nets _ = []
 
 abbrev pub latch_by : List PlainNet → (input output : PlainNet) → (initial : ℕ) → Latch
@@ -76,7 +77,7 @@ pub record PlainDesign : Type 0 where
   pub inputs : List Use
   pub outputs : List Use
   pub clock_ports : List Use
-  pub covers : List PlainCover
+  pub covers : List PlainWideCover
   pub latches : List Latch
   pub latch_lines : List ℕ
   pub clocks : List PlainClock
@@ -109,17 +110,20 @@ is_number (Some other) number = nat_eq other number
 abbrev pub data_inputs : (clock : Option ℕ) → List Use → List ℕ
 data_inputs clock ports = filter (λ net. not (is_number clock net)) (map (λ port. port.net) ports)
 
--- The netlist of a design. A text names no reset port.
-abbrev pub netlist_of : PlainDesign → PlainNetlist
-netlist_of design = record {
+-- The netlist of a design, its covers by their rows.
+abbrev pub wide_of : PlainDesign → PlainWide
+wide_of design = record {
   nets = map (λ net. net.name) design.nets;
   inputs = data_inputs (clock_number design) design.inputs;
   outputs = map (λ port. port.net) design.outputs;
   covers = design.covers;
   latches = design.latches;
-  reset = None;
 }
 
+-- and with tables. A text names no reset port.
+abbrev pub netlist_of : PlainDesign → PlainNetlist
+netlist_of design = tabled (wide_of design)
+
 -- the netlist of models
-abbrev pub flattened : List PlainModel → PlainNetlist
-flattened models = netlist_of (design_of (flat_lines models))
+abbrev pub flattened : List PlainModel → PlainWide
+flattened models = wide_of (design_of (flat_lines models))

@@ -3,6 +3,7 @@
 use Rattle.std.specs.Prelude.{ℕ, zero, suc, Bool, List, [], ◌∷◌, ◌++◌, map, length, find, flat_map, filter_map, decimal, nat_eq, ◌&&◌, Option, Some, None, option_map}
 use Rattle.std.specs.Str.{bytes_eq}
 use Rattle.indexmap.specs.IndexMap.{insert_all}
+use Rattle.fab_netlist.specs.declared.wide.Cube.{Cube}
 use Rattle.fab_blif_models.specs.Plain.{PlainBody, PlainStatement, PlainModel, inputs, outputs, clock, cover, latch, instance}
 use Rattle.fab_instances.specs.Formals.{sides}
 use Rattle.fab_instances.specs.Places.{place_of_model, statements_of}
@@ -60,7 +61,7 @@ pub data Placed : Type 0 where
   placed_outputs : (line : ℕ) → List PlainNet → Placed
   placed_clock : (line : ℕ) → PlainNet → Placed
   copied_clock : (line : ℕ) → PlainNet → Placed
-  placed_cover : (line : ℕ) → List PlainNet → PlainNet → (table : ℕ) → Placed
+  placed_cover : (line : ℕ) → List PlainNet → PlainNet → (on : Bool) → (rows : List Cube) → Placed
   placed_latch : (line : ℕ) → (input output : PlainNet) → (control : Option PlainNet) → (initial : ℕ) → Placed
 
 -- the port lines of the first model are lines of the flattened text, those of copies are not
@@ -81,7 +82,7 @@ abbrev pub lines_by : List PlainModel → (inner : PlainCopy → ℕ → List Pl
 lines_by models inner copy line (inputs names) = if_top copy.depth (placed_inputs line (map (net_in copy) names))
 lines_by models inner copy line (outputs names) = if_top copy.depth (placed_outputs line (map (net_in copy) names))
 lines_by models inner copy line (clock name) = clock_at copy.depth line (net_in copy name) ∷ []
-lines_by models inner copy line (cover names output table) = placed_cover line (map (net_in copy) names) (net_in copy output) table ∷ []
+lines_by models inner copy line (cover names output on rows) = placed_cover line (map (net_in copy) names) (net_in copy output) on rows ∷ []
 lines_by models inner copy line (latch input output control initial) = placed_latch line (net_in copy input) (net_in copy output) (option_map (net_in copy) control) initial ∷ []
 lines_by models inner copy line (instance model_name words) = of_model (inner (copy_in copy line words)) (place_of_model models model_name)
 

@@ -2,17 +2,17 @@
 use Rattle.std.specs.Prelude.{ℕ, ◌+◌, ◌<◌, ◌≤◌, Bool, not, ◌&&◌, ◌||◌, List, [], ◌∷◌, ◌++◌, map, min, if◌then◌else◌, nat_eq, nat_le, Option, Some, None}
 use Rattle.std.specs.List.{list_any, count_by, filter, flat_map, zip}
 use Rattle.fab_netlist.specs.declared.netlist.Latch.{Latch}
-use Rattle.fab_netlist.specs.Plain.{PlainCover}
+use Rattle.fab_netlist.specs.Wide.{PlainWideCover}
 use Rattle.fab_blif.specs.declared.design.Use.{Use}
 use Rattle.fab_blif.specs.declared.judge.Driver.{Driver}
 use Rattle.fab_blif.specs.Design.{PlainDesign}
 
 -- ---- what drives nets, and what reads them
 
-abbrev pub output_uses : List PlainCover → List Use
+abbrev pub output_uses : List PlainWideCover → List Use
 output_uses covers = map (λ cover. record { line = cover.line; net = cover.output }) covers
 
-abbrev pub input_uses : List PlainCover → List Use
+abbrev pub input_uses : List PlainWideCover → List Use
 input_uses covers = flat_map (λ cover. map (λ net. record { line = cover.line; net = net }) cover.inputs) covers
 
 -- the nets of latches, at their lines

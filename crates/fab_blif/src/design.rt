@@ -12,6 +12,7 @@ use crate::net::Net;
 use crate::parts::{DesignCover, DesignLatch};
 use fab_base::{Memory, Name};
 use fab_blif_models::{Body, Statement};
+use fab_netlist::Cube;
 use indexmap::IndexSet;
 use std::alloc::Global;
 use std::marker::Model;
@@ -34,7 +35,7 @@ pub(crate) struct ClockName {
 
 /// What the lines of a text say of its nets.
 #[derive(Drop)]
-pub(crate) struct Design {
+pub(crate) struct Design<'a> {
     /// The nets, each where it is first named.
     pub nets: IndexSet<Net>,
     /// The input ports that `.inputs` declares.
@@ -42,14 +43,14 @@ pub(crate) struct Design {
     pub outputs: Vec<Use>,
     /// The input ports that `.clock` declares.
     pub clock_ports: Vec<Use>,
-    pub covers: Vec<DesignCover>,
+    pub covers: Vec<DesignCover<'a>>,
     pub latches: Vec<DesignLatch>,
     /// The lines of the latches.
     pub latch_lines: Vec<u32>,
     pub clocks: Vec<ClockName>,
 }
 
-impl Model for Design {
+impl<'a> Model for Design<'a> {
     ghost use Rattle.std.specs.Prelude.{map};
     ghost use Rattle.fab_blif.specs.Design.{PlainDesign};
     ghost use Rattle.fab_blif.specs.inner.Walk.{plain_nets, plain_clock};
@@ -130,7 +131,7 @@ fn name_clock(
     Ok(())
 }
 
-impl Design {
+impl<'a> Design<'a> {
     /// Notes input ports, which only the first model declares.
     fn put_inputs(
         &mut self,
@@ -189,9 +190,10 @@ impl Design {
         line: u32,
         inputs: &[Name],
         output: &Name,
-        table: u16,
+        on: bool,
+        rows: &'a [Cube],
     ) -> Result<(), Memory>
-        ensures { OnOk result (self.new ≡ with_cover self.old line (map (net_in copy.now) inputs.now) (net_in copy.now output.now) table) }
+        ensures { OnOk result (self.new ≡ with_cover self.old line (map (net_in copy.now) inputs.now) (net_in copy.now output.now) on rows.now) }
     {
         let inputs = number_names(alloc, &mut self.nets, copy, inputs)?;
         let output = number_name(alloc, &mut self.nets, copy, output)?;
@@ -199,7 +201,8 @@ impl Design {
             line,
             inputs,
             output,
-            table,
+            on,
+            rows,
         })?;
         Ok(())
     }
@@ -251,7 +254,7 @@ impl Design {
         &mut self,
         alloc: Global,
         copy: &ModelCopy,
-        statement: &Statement,
+        statement: &'a Statement,
     ) -> Result<(), Memory>
         ensures { OnOk result (self.new ≡ after_all self.old (lines_by [] (λ _ _. []) copy.now statement.now.line (plain_body statement.now.body))) }
     {
@@ -263,8 +266,9 @@ impl Design {
             Body::Cover {
                 inputs,
                 output,
-                table,
-            } => self.put_cover(alloc, copy, line, inputs, output, *table),
+                on,
+                rows,
+            } => self.put_cover(alloc, copy, line, inputs, output, *on, rows),
             Body::Latch {
                 input,
                 output,

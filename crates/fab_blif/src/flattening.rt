@@ -3,11 +3,12 @@
 ghost use Rattle.std.specs.Prelude.{◌≡◌, ◌≢◌, ◌<◌, ◌≤◌, Some, None, IfErr, IfOk, OnOk, length, map, option_and_then, position, slice_get};
 ghost use Rattle.fab_base.specs.declared.fault.Fault.TheVariants as faults;
 ghost use Rattle.fab_blif_models.specs.Plain.{plain_models};
-ghost use Rattle.fab_blif.specs.Design.{data_inputs, design_of, flattened, is_number, netlist_of};
+ghost use Rattle.fab_blif.specs.Design.{data_inputs, design_of, flattened, is_number, netlist_of, wide_of};
 ghost use Rattle.fab_blif.specs.Flat.{flat_lines, net_eq};
 ghost use Rattle.fab_instances.specs.Places.{model_names};
 ghost use Rattle.fab_blif_models.specs.Rules.{AreModels};
-ghost use Rattle.fab_netlist.specs.WellMade.{most_nets, IsWellMade};
+ghost use Rattle.fab_netlist.specs.Wide.{IsWideMade};
+ghost use Rattle.fab_netlist.specs.WellMade.{IsWired};
 ghost use Rattle.fab_instances.specs.Order.{NamesDiffer};
 ghost use Rattle.fab_instances.specs.Refusals.{AreFineModels};
 ghost use Rattle.fab_blif.specs.Refusals.{IsFineDesign, RefusesDesign, RefusesFile};
@@ -23,11 +24,15 @@ use crate::walk::take_all;
 use fab_base::{Fault, Memory, Name, Problem, Quantity};
 use fab_blif_models::Model;
 use fab_instances::index_models;
-use fab_netlist::{MAX_NETS, Netlist};
+use fab_netlist::{MAX_NETS, WideNetlist};
 use indexmap::IndexSet;
 use std::alloc::Global;
 
-fn design_of(alloc: Global, models: &[Model], places: &IndexSet<Vec<u8>>) -> Result<Design, Memory>
+fn design_of<'a>(
+    alloc: Global,
+    models: &'a [Model],
+    places: &IndexSet<Vec<u8>>,
+) -> Result<Design<'a>, Memory>
     requires places { key_names places.now.keys ≡ model_names (plain_models models.now) }
     requires some { 0 < length models.now }
     ensures { IfOk result (λ design. design ≡ design_of (flat_lines (plain_models models.now))) }
@@ -109,9 +114,9 @@ fn data_inputs(alloc: Global, clock: Option<usize>, ports: &[Use]) -> Result<Vec
     Ok(nets)
 }
 
-fn netlist_of(alloc: Global, design: &Design) -> Result<Netlist, Memory>
-    requires { IsWellMade (netlist_of design.now) }
-    ensures { IfOk result (λ netlist. netlist ≡ netlist_of design.now) }
+fn netlist_of(alloc: Global, design: &Design) -> Result<WideNetlist, Memory>
+    requires { IsWired (netlist_of design.now) }
+    ensures { IfOk result (λ netlist. netlist ≡ wide_of design.now) }
 {
     let clock = clock_number(&design.nets, &design.clocks);
     let nets = names_of(alloc, &design.nets)?;
@@ -119,10 +124,17 @@ fn netlist_of(alloc: Global, design: &Design) -> Result<Netlist, Memory>
     let outputs = netlist_numbers(alloc, &nets_of(alloc, &design.outputs)?)?;
     let covers = netlist_covers(alloc, &design.covers)?;
     let latches = netlist_latches(alloc, &design.latches)?;
-    Netlist::new(alloc, nets, inputs, outputs, covers, latches)
+    Ok(WideNetlist {
+        nets,
+        inputs,
+        outputs,
+        covers,
+        latches,
+    })
 }
 
-/// The netlist of the first of the models, with a copy of its covers and latches for each instance of a model.
+/// The netlist of the first of the models, with a copy of its covers and latches for each instance of a model. Their covers
+/// have at most 16 inputs.
 ///
 /// What breaks a rule is refused in the order of the rules: no model, two models of one name; and of the models that the
 /// first one uses, itself included, unknown models, recursive ones and formals that are no ports; instances above the limit;
@@ -133,10 +145,10 @@ pub fn flatten(
     file: &Name,
     last_line: u32,
     models: &[Model],
-) -> Result<Netlist, Fault>
-    requires { AreModels (plain_models models.now) }
+) -> Result<WideNetlist, Fault>
+    requires { AreModels 16 (plain_models models.now) }
     ensures netlist { IfOk result (λ netlist. netlist ≡ flattened (plain_models models.now)) }
-    ensures small { IfOk result (λ netlist. length netlist.nets ≤ most_nets) }
+    ensures made { IfOk result IsWideMade }
     ensures fine { OnOk result (IsFineDesign (design_of (flat_lines (plain_models models.now)))) }
     ensures named { OnOk result ((0 < length models.now) × NamesDiffer (plain_models models.now)) }
     ensures models { OnOk result (AreFineModels (plain_models models.now)) }

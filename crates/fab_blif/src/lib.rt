@@ -11,8 +11,9 @@ mod model_copy;
 mod net;
 mod parts;
 mod reading;
+mod tables;
 mod walk;
 
 pub use flattening::flatten;
 pub use laws::{blif_is_refused_once, refused_blif_has_no_netlist};
-pub use reading::read_blif;
+pub use reading::{read_blif, read_wide};

@@ -4,25 +4,27 @@
 ghost use Rattle.std.specs.Prelude.{◌≡◌, ◌<◌, ◌^◌, All, IfOk};
 
 use fab_base::Memory;
-use fab_netlist::{Cover, Latch};
+use fab_netlist::{Cube, Latch, WideCover};
 use std::alloc::Global;
 use std::marker::Model;
 
 /// A cover between nets of a design.
 #[derive(Drop)]
-pub(crate) struct DesignCover {
+pub(crate) struct DesignCover<'a> {
     pub line: u32,
     pub inputs: Vec<usize>,
     pub output: usize,
-    pub table: u16,
+    pub on: bool,
+    /// The rows of the model's line: all copies of a model share them.
+    pub rows: &'a [Cube],
 }
 
-impl Model for DesignCover {
-    ghost use Rattle.fab_netlist.specs.Plain.{PlainCover};
+impl<'a> Model for DesignCover<'a> {
+    ghost use Rattle.fab_netlist.specs.Wide.{PlainWideCover};
 
-    ghost Value = { PlainCover };
+    ghost Value = { PlainWideCover };
 
-    ghost view = { λ cover. record { line = cover.line; inputs = cover.inputs.items; output = cover.output; table = cover.table } };
+    ghost view = { λ cover. record { line = cover.line; inputs = cover.inputs.items; output = cover.output; on = cover.on; rows = cover.rows.now } };
 }
 
 /// A latch between nets of a design.
@@ -55,22 +57,27 @@ pub(crate) fn netlist_numbers(alloc: Global, nets: &[usize]) -> Result<Vec<u32>,
     Ok(numbers)
 }
 
-fn netlist_cover(alloc: Global, cover: &DesignCover) -> Result<Cover, Memory>
+fn netlist_cover(alloc: Global, cover: &DesignCover) -> Result<WideCover, Memory>
     requires inputs { All (λ net. net < 2 ^ 32) cover.now.inputs }
     requires output { cover.now.output < 2 ^ 32 }
     ensures { IfOk result (λ made. made ≡ cover.now) }
 {
     let inputs = netlist_numbers(alloc, &cover.inputs)?;
-    Ok(Cover {
+    let rows = Vec::from_slice(alloc, cover.rows)?;
+    Ok(WideCover {
         line: cover.line,
         inputs,
         output: cover.output as u32,
-        table: cover.table,
+        on: cover.on,
+        rows,
     })
 }
 
 /// The covers of a netlist.
-pub(crate) fn netlist_covers(alloc: Global, covers: &[DesignCover]) -> Result<Vec<Cover>, Memory>
+pub(crate) fn netlist_covers(
+    alloc: Global,
+    covers: &[DesignCover],
+) -> Result<Vec<WideCover>, Memory>
     requires { All (λ cover. All (λ net. net < 2 ^ 32) cover.inputs × (cover.output < 2 ^ 32)) covers.now }
     ensures { IfOk result (λ made. made.items ≡ covers.now) }
 {

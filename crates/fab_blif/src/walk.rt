@@ -206,14 +206,14 @@ fn advanced(frame: Frame) -> Frame
 }
 
 /// Takes a line of the model of a frame that has the whole path.
-fn take_line(
+fn take_line<'a>(
     alloc: Global,
     models: &[Model],
     places: &IndexSet<Vec<u8>>,
-    design: &mut Design,
+    design: &mut Design<'a>,
     stack: &mut Stack,
     frame: Frame,
-    line: &Statement,
+    line: &'a Statement,
 ) -> Result<(), Memory>
     requires places { key_names places.now.keys ≡ model_names (plain_models models.now) }
     requires room { frame.next + 1 < 2 ^ 64 }
@@ -231,11 +231,11 @@ fn take_line(
 }
 
 /// Takes all lines of the flattened text.
-pub(crate) fn take_all(
+pub(crate) fn take_all<'a>(
     alloc: Global,
-    models: &[Model],
+    models: &'a [Model],
     places: &IndexSet<Vec<u8>>,
-    design: &mut Design,
+    design: &mut Design<'a>,
 ) -> Result<(), Memory>
     requires places { key_names places.now.keys ≡ model_names (plain_models models.now) }
     requires some { 0 < length models.now }

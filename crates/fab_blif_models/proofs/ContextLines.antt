@@ -14,7 +14,7 @@ use Rattle.fab_blif_models.specs.Covers.{rows_on}
 use Rattle.fab_blif_models.specs.Context.{named_by, named, model_lines, ports, width_by, width_of, open_rows, context_of}
 use Rattle.fab_blif_models.specs.inner.Following.{with_ports, context_after}
 use Rattle.fab_blif_models.proofs.Parts.{any_push, after_push, after_passes, filter_push, filter_kept, last_or-push}
-use Rattle.fab_blif_models.proofs.Tables.{rows_on-push}
+use Rattle.fab_blif_models.proofs.Cubes.{rows_on-push}
 
 -- more names, each at its first place
 firsts_append : (names more : List Word) → firsts bytes_eq (names ++ more) ≡ insert_all bytes_eq (firsts bytes_eq names) more

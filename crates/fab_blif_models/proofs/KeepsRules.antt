@@ -12,20 +12,14 @@ use Rattle.fab_blif_models.specs.inner.Following.{State, with_statements}
 use Rattle.fab_blif_models.specs.Rules.{IsFineBody, input_names, output_names, declared_inputs, declared_outputs, IsModel, AreModels}
 use Rattle.fab_blif_models.proofs.Ends.{AtLast, last_pushed, all_pushed}
 use Rattle.fab_blif_models.proofs.Ports.{count_both, count_none}
-use Rattle.fab_blif_models.proofs.Repeated.{IsRepeated}
 
 -- ---- what is kept
 
 -- a cover that takes rows has so many inputs
 abbrev pub IsOfWidth : Option ℕ → PlainBody → Type 0
 IsOfWidth None body = Unit {0}
-IsOfWidth (Some width) (cover ins output table) = length ins ≡ width
+IsOfWidth (Some width) (cover ins output on rows) = length ins ≡ width
 IsOfWidth (Some width) _ = Unit {0}
-
--- the rows so far of a cover that takes rows
-abbrev pub AreRows : Option ℕ → (covered : ℕ) → Type 0
-AreRows None covered = Unit {0}
-AreRows (Some width) covered = (width ≤ 4) × IsRepeated width covered
 
 -- a model whose lines leave this to the next line
 pub record IsBefore (context : Context) (model : PlainModel) : Type 0 where
@@ -34,15 +28,14 @@ pub record IsBefore (context : Context) (model : PlainModel) : Type 0 where
   pub cover : AtLast (λ statement. IsOfWidth context.width statement.body) model.statements
 
 pub record Keeps (state : State) : Type 0 where
-  pub models : AreModels state.models
+  pub models : AreModels state.most state.models
   pub last : AtLast (IsBefore state.context) state.models
-  pub rows : AreRows state.context.width state.covered
 
 -- ---- one statement more
 
 -- a line that says this leads from one context to the next
-pub record Adds (old next : Context) (body : PlainBody) : Type 0 where
-  pub fine : IsFineBody body
+pub record Adds (most : ℕ) (old next : Context) (body : PlainBody) : Type 0 where
+  pub fine : IsFineBody most body
   pub counted : (name : List ℕ) → count_by (bytes_eq name) (input_names body ++ output_names body) ≤ 1
   pub new : (name : List ℕ) → is_among (input_names body ++ output_names body) name ≡ true → (is_among old.inputs name ≡ false) × (is_among old.outputs name ≡ false)
   pub inputs : (name : List ℕ) → (is_among old.inputs name || is_among (input_names body) name) ≡ true → is_among next.inputs name ≡ true
@@ -86,9 +79,9 @@ four name ins outs more_ins more_outs = omega (
   count_both name more_ins more_outs,
 )
 
-pub ports_more : (old next : Context) (number : ℕ) (body : PlainBody) → Adds old next body → (model : PlainModel) → IsModel model → IsBefore old model → (name : List ℕ)
+pub ports_more : (most : ℕ) (old next : Context) (number : ℕ) (body : PlainBody) → Adds most old next body → (model : PlainModel) → IsModel most model → IsBefore old model → (name : List ℕ)
     → count_by (bytes_eq name) (declared_inputs (model.statements ++ record { line = number; body = body } ∷ []) ++ declared_outputs (model.statements ++ record { line = number; body = body } ∷ [])) ≤ 1
-ports_more old next number body adds model rules before name =
+ports_more most old next number body adds model rules before name =
     let statement : PlainStatement = record { line = number; body = body } in
     let ins = declared_inputs model.statements in
     let outs = declared_outputs model.statements in
@@ -103,13 +96,13 @@ ports_more old next number body adds model rules before name =
       | inr f ↦ omega (arith, parted, so_far, count_none name (input_names body ++ output_names body) f)
     ]
 
-pub said : (old next : Context) (number : ℕ) (body : PlainBody) → Adds old next body → (model : PlainModel) → IsModel model → IsBefore old model
-    → IsModel (with_statements (λ statements. statements ++ record { line = number; body = body } ∷ []) model) × IsBefore next (with_statements (λ statements. statements ++ record { line = number; body = body } ∷ []) model)
-said old next number body adds model rules before =
+pub said : (most : ℕ) (old next : Context) (number : ℕ) (body : PlainBody) → Adds most old next body → (model : PlainModel) → IsModel most model → IsBefore old model
+    → IsModel most (with_statements (λ statements. statements ++ record { line = number; body = body } ∷ []) model) × IsBefore next (with_statements (λ statements. statements ++ record { line = number; body = body } ∷ []) model)
+said most old next number body adds model rules before =
     let statement : PlainStatement = record { line = number; body = body } in (
       record {
-        bodies = all_pushed (λ s. IsFineBody s.body) model.statements statement rules.bodies adds.fine;
-        ports = ports_more old next number body adds model rules before;
+        bodies = all_pushed (λ s. IsFineBody most s.body) model.statements statement rules.bodies adds.fine;
+        ports = ports_more most old next number body adds model rules before;
       },
       record {
         inputs = λ name. still input_names model.statements statement old.inputs next.inputs name (before.inputs name) (adds.inputs name);

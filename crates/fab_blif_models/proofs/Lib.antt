@@ -1,13 +1,12 @@
 pub mod Parts
 pub mod Sets
-pub mod Patterns
-pub mod Tables
+pub mod Cubes
 pub mod Models
 pub mod ContextLines
+pub mod Passing
 pub mod ModelLines
 pub mod FollowsLines
 pub mod Ports
-pub mod Repeated
 pub mod Ends
 pub mod KeepsRules
 pub mod RulesOfLines

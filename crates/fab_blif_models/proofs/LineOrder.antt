@@ -15,11 +15,14 @@ use Rattle.fab_blif_models.specs.declared.words.Kind.TheVariants as kinds
 use Rattle.fab_blif_models.specs.Plain.{PlainBody, PlainStatement, PlainModel}
 use Rattle.fab_blif_models.specs.Words.{Word, words, kind_of}
 use Rattle.fab_lines.specs.Items.{word_at, with_last}
+use Rattle.fab_netlist.specs.declared.wide.Cube.{Cube}
+use Rattle.fab_blif_models.specs.Covers.{is_on_set, pattern_of}
 use Rattle.fab_blif_models.specs.Judge.{judge}
 use Rattle.fab_blif_models.specs.Spelled.{body_of, spelled}
-use Rattle.fab_blif_models.specs.inner.Following.{State, with_body, pushed, with_table, retabled, table_by, context_after, covered_after, models_after}
+use Rattle.fab_blif_models.specs.inner.Following.{State, with_body, pushed, pushed_row, row_of, with_cube, context_after, models_after}
 use Rattle.fab_blif_models.specs.Rules.{line_numbers, LinesAscend}
-use Rattle.fab_blif_models.proofs.FollowsLines.{summary, state_more, each_line}
+use Rattle.fab_blif_models.proofs.FollowsLines.{summary, state_more}
+use Rattle.fab_blif_models.proofs.Passing.{each_line}
 
 -- ---- the number of lines
 
@@ -44,15 +47,15 @@ lines_count bytes = joined_count (map uncommented (lines bytes)) ∙ length-map 
 abbrev numbers_of : PlainModel → List ℕ
 numbers_of model = model.line ∷ map (λ statement. statement.line) model.statements
 
-retabled_statements : (table : ℕ) (statements : List PlainStatement) → map (λ s. s.line) (with_last (with_table table) statements) ≡ map (λ s. s.line) statements
-retabled_statements table [] = refl
-retabled_statements table (s ∷ []) = refl
-retabled_statements table (s ∷ t ∷ statements) = ap (λ (l : List ℕ). s.line ∷ l) (retabled_statements table (t ∷ statements))
+row_statements : (on : Bool) (row : Cube) (statements : List PlainStatement) → map (λ s. s.line) (with_last (with_cube on row) statements) ≡ map (λ s. s.line) statements
+row_statements on row [] = refl
+row_statements on row (s ∷ []) = refl
+row_statements on row (s ∷ t ∷ statements) = ap (λ (l : List ℕ). s.line ∷ l) (row_statements on row (t ∷ statements))
 
-retabled_lines : (table : ℕ) (models : List PlainModel) → line_numbers (retabled table models) ≡ line_numbers models
-retabled_lines table [] = refl
-retabled_lines table (model ∷ []) = ap (λ (l : List ℕ). (model.line ∷ l) ++ []) (retabled_statements table model.statements)
-retabled_lines table (model ∷ other ∷ models) = ap (λ (l : List ℕ). numbers_of model ++ l) (retabled_lines table (other ∷ models))
+row_lines : (on : Bool) (row : Cube) (models : List PlainModel) → line_numbers (pushed_row on row models) ≡ line_numbers models
+row_lines on row [] = refl
+row_lines on row (model ∷ []) = ap (λ (l : List ℕ). (model.line ∷ l) ++ []) (row_statements on row model.statements)
+row_lines on row (model ∷ other ∷ models) = ap (λ (l : List ℕ). numbers_of model ++ l) (row_lines on row (other ∷ models))
 
 -- a line more of some number, or of none where there is no model
 IsMore : (number : ℕ) (old new : List ℕ) → Type 0
@@ -81,23 +84,23 @@ unfolding IsMore
 said_lines number None models = inl refl
 said_lines number (Some body) models = pushed_lines number body models
 
-after_lines : (models : List PlainModel) (number : ℕ) (on : Option Bool) (covered : ℕ) (kind : Kind) (line : List Word)
-    → IsMore number (line_numbers models) (line_numbers (models_after models number on covered kind line))
+after_lines : (most : ℕ) (models : List PlainModel) (number : ℕ) (on : Option Bool) (kind : Kind) (line : List Word)
+    → IsMore number (line_numbers models) (line_numbers (models_after most models number on kind line))
 unfolding IsMore
-after_lines models number on covered kinds.Model line =
+after_lines most models number on kinds.Model line =
     inr (flat_map-append numbers_of models (record { line = number; name = word_at line 1; statements = [] } ∷ []))
-after_lines models number on covered kinds.Row line = inl (retabled_lines (table_by on covered) models)
-after_lines models number on covered kinds.Blank line = said_lines number (body_of kinds.Blank line []) models
-after_lines models number on covered kinds.Passed line = said_lines number (body_of kinds.Passed line []) models
-after_lines models number on covered kinds.End line = said_lines number (body_of kinds.End line []) models
-after_lines models number on covered kinds.Inputs line = said_lines number (body_of kinds.Inputs line []) models
-after_lines models number on covered kinds.Outputs line = said_lines number (body_of kinds.Outputs line []) models
-after_lines models number on covered kinds.Clock line = said_lines number (body_of kinds.Clock line []) models
-after_lines models number on covered kinds.Names line = said_lines number (body_of kinds.Names line []) models
-after_lines models number on covered kinds.Latch line = said_lines number (body_of kinds.Latch line []) models
-after_lines models number on covered kinds.Instance line = said_lines number (body_of kinds.Instance line []) models
-after_lines models number on covered kinds.Buffer line = said_lines number (body_of kinds.Buffer line []) models
-after_lines models number on covered kinds.Other line = said_lines number (body_of kinds.Other line []) models
+after_lines most models number on kinds.Row line = inl (row_lines (is_on_set on) (row_of most (pattern_of line)) models)
+after_lines most models number on kinds.Blank line = said_lines number (body_of kinds.Blank line []) models
+after_lines most models number on kinds.Passed line = said_lines number (body_of kinds.Passed line []) models
+after_lines most models number on kinds.End line = said_lines number (body_of kinds.End line []) models
+after_lines most models number on kinds.Inputs line = said_lines number (body_of kinds.Inputs line []) models
+after_lines most models number on kinds.Outputs line = said_lines number (body_of kinds.Outputs line []) models
+after_lines most models number on kinds.Clock line = said_lines number (body_of kinds.Clock line []) models
+after_lines most models number on kinds.Names line = said_lines number (body_of kinds.Names line []) models
+after_lines most models number on kinds.Latch line = said_lines number (body_of kinds.Latch line []) models
+after_lines most models number on kinds.Instance line = said_lines number (body_of kinds.Instance line []) models
+after_lines most models number on kinds.Buffer line = said_lines number (body_of kinds.Buffer line []) models
+after_lines most models number on kinds.Other line = said_lines number (body_of kinds.Other line []) models
 
 -- ---- one line more
 
@@ -127,22 +130,21 @@ unfolding IsMore
 more_ascends old new count (inl same) all = subst (λ (l : List ℕ). Ascends l (count + 1)) (sym same) (wider old count all)
 more_ascends old new count (inr more) all = subst (λ (l : List ℕ). Ascends l (count + 1)) (sym more) (one_more old count all)
 
-line_ascends : (front : List (List ℕ)) (line : List ℕ) → judge front line ≡ None → Ascends (line_numbers (spelled front)) (length front)
+line_ascends : (most : ℕ) (front : List (List ℕ)) (line : List ℕ) → IsFine (judge most) front → judge most front line ≡ None → Ascends (line_numbers (spelled front)) (length front)
     → Ascends (line_numbers (spelled (front ++ line ∷ []))) (length (front ++ line ∷ []))
-line_ascends front line fine all =
-    let state = summary front in
+line_ascends most front line fine_before fine all =
+    let state = summary most front in
     let kind = kind_of (words line) in
-    let covered = covered_after state.covered kind (words line) in
-    let after = models_after state.models (length front + 1) (context_after state.context kind (words line)).on covered kind (words line) in
-    let same : after ≡ spelled (front ++ line ∷ []) = ap (λ (s : State). s.models) (state_more front line fine) in
+    let after = models_after most state.models (length front + 1) (context_after state.context kind (words line)).on kind (words line) in
+    let same : after ≡ spelled (front ++ line ∷ []) = ap (λ (s : State). s.models) (state_more most front line fine_before fine) in
     let count : length front + 1 ≡ length (front ++ line ∷ []) = sym (length-append front (line ∷ [])) in
     let next : Ascends (line_numbers after) (length front + 1) =
-    more_ascends (line_numbers state.models) (line_numbers after) (length front) (after_lines state.models (length front + 1) (context_after state.context kind (words line)).on covered kind (words line)) all in
+    more_ascends (line_numbers state.models) (line_numbers after) (length front) (after_lines most state.models (length front + 1) (context_after state.context kind (words line)).on kind (words line)) all in
     subst (λ (models : List PlainModel). Ascends (line_numbers models) (length (front ++ line ∷ []))) same (subst (Ascends (line_numbers after)) count next)
 
 -- the lines of models that lines spell, where none is refused
-pub spelled_ascend : (text : List (List ℕ)) → IsFine judge text → LinesAscend (spelled text) (length text)
-spelled_ascend text fine =
+pub spelled_ascend : (most : ℕ) (text : List (List ℕ)) → IsFine (judge most) text → LinesAscend (spelled text) (length text)
+spelled_ascend most text fine =
     let none : Ascends [] 0 = record { ascend = λ i j d less within. absurd (omega arith); within = All-nil (λ line. (1 ≤ line) × (line ≤ 0)) } in
-    let all = each_line (λ l. Ascends (line_numbers (spelled l)) (length l)) line_ascends none text fine in
+    let all = each_line most (λ l. Ascends (line_numbers (spelled l)) (length l)) (line_ascends most) none text fine in
     record { ascend = all.ascend; within = all.within }

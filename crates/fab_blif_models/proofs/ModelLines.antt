@@ -2,15 +2,16 @@
 use Rattle.std.proofs.Common.{◌≡◌, ℕ, ◌<◌, Bool, true, false, ◌||◌, List, [], ◌∷◌, ◌++◌, length, map, filter, Option, Some, None, refl, sym, ap, subst, ◌∙◌, inl, inr, arith, append-nil, append_assoc}
 use Rattle.std.specs.List.{list_any, before_first}
 use Rattle.std.proofs.lemmas.Bool.{cases_Bool}
-use Rattle.std.proofs.lemmas.List.{map-append}
+use Rattle.std.proofs.lemmas.List.{map-append, map_push}
 use Rattle.fab_blif_models.specs.declared.words.Kind.{Kind}
 use Rattle.fab_blif_models.specs.declared.words.Kind.TheVariants as kinds
 use Rattle.fab_blif_models.specs.Plain.{PlainBody, PlainStatement, PlainModel}
 use Rattle.fab_blif_models.specs.Words.{Word, kind_of, begins_model, ends_cover, is_row_kind, is_model, is_row, is_statement}
 use Rattle.fab_lines.specs.Items.{word_at, with_last}
-use Rattle.fab_blif_models.specs.Covers.{table_of}
+use Rattle.fab_blif_models.specs.Covers.{cube_of, cubes_of, is_on_set, pattern_of, rows_on}
+use Rattle.fab_netlist.specs.declared.wide.Cube.{Cube}
 use Rattle.fab_blif_models.specs.Spelled.{Line, cover_of, body_of, at_line, rows_in, statements, models_of}
-use Rattle.fab_blif_models.specs.inner.Following.{with_statements, with_body, with_table}
+use Rattle.fab_blif_models.specs.inner.Following.{with_statements, with_body, with_cube, pushed_row}
 use Rattle.fab_blif_models.proofs.Models.{with_last-push}
 use Rattle.fab_blif_models.proofs.Parts.{before_within, before_none, before_found, since, since_found, since_first, since_append, filter_push, filter_kept, with_last-behind}
 
@@ -129,24 +130,31 @@ models_within (line ∷ lines) none = elim (cases_Bool (is_statement line.1)) [
       ap (λ (b : Bool). b || list_any begins lines) (no_model (kind_of line.1) f) ∙ models_within lines rest)
 ]
 
+-- what a cover with these rows says
+abbrev with_rows : (line : List Word) → (rows : List (List Word)) → PlainBody
+with_rows line rows = cover_of line (is_on_set (rows_on rows)) (cubes_of rows)
+
 -- a cover and its rows at the end
 cover_last : (before : List Line) (line : Line) (after : List Line) → kind_of line.1 ≡ kinds.Names → list_any is_statement (seen after) ≡ false
-    → statements (before ++ line ∷ after) ≡ statements before ++ record { line = line.0; body = cover_of line.1 (table_of (rows_in after)) } ∷ []
+    → statements (before ++ line ∷ after) ≡ statements before ++ record { line = line.0; body = with_rows line.1 (rows_in after) } ∷ []
 cover_last before line after is none =
     statements_append before line after (ap ends_cover is)
     ∙ ap (λ (kind : Kind). statements before ++ (at_line line.0 (body_of kind line.1 (rows_in after)) ++ statements after)) is
-    ∙ ap (λ (l : List PlainStatement). statements before ++ record { line = line.0; body = cover_of line.1 (table_of (rows_in after)) } ∷ l) (statements_none after none)
+    ∙ ap (λ (l : List PlainStatement). statements before ++ record { line = line.0; body = with_rows line.1 (rows_in after) } ∷ l) (statements_none after none)
 
 -- and with one row more
 cover_row : (before : List Line) (line : Line) (after : List Line) (row : Line) → kind_of line.1 ≡ kinds.Names → list_any is_statement (seen after) ≡ false → kind_of row.1 ≡ kinds.Row
-    → statements ((before ++ line ∷ after) ++ row ∷ []) ≡ with_last (with_table (table_of (rows_in after ++ row.1 ∷ []))) (statements (before ++ line ∷ after))
+    → statements ((before ++ line ∷ after) ++ row ∷ []) ≡ with_last (with_cube (is_on_set (rows_on (rows_in after ++ row.1 ∷ []))) (cube_of (pattern_of row.1))) (statements (before ++ line ∷ after))
 cover_row before line after row is none row_is =
-    let table = table_of (rows_in after ++ row.1 ∷ []) in
+    let rows = rows_in after in
+    let on = is_on_set (rows_on (rows ++ row.1 ∷ [])) in
+    let change = with_cube on (cube_of (pattern_of row.1)) in
     ap statements (append_assoc before (line ∷ after) (row ∷ []))
     ∙ cover_last before line (after ++ row ∷ []) is (any_still after row none (ap ends_cover row_is))
-    ∙ ap (λ (rows : List (List Word)). statements before ++ record { line = line.0; body = cover_of line.1 (table_of rows) } ∷ []) (rows_row after row none (ap ends_cover row_is) (ap is_row_kind row_is))
-    ∙ sym (with_last-push (with_table table) (statements before) (record { line = line.0; body = cover_of line.1 (table_of (rows_in after)) }))
-    ∙ ap (with_last (with_table table)) (sym (cover_last before line after is none))
+    ∙ ap (λ (all : List (List Word)). statements before ++ record { line = line.0; body = with_rows line.1 all } ∷ []) (rows_row after row none (ap ends_cover row_is) (ap is_row_kind row_is))
+    ∙ ap (λ (cubes : List Cube). statements before ++ record { line = line.0; body = cover_of line.1 on cubes } ∷ []) (map_push (λ (r : List Word). cube_of (pattern_of r)) rows row.1)
+    ∙ sym (with_last-push change (statements before) (record { line = line.0; body = with_rows line.1 rows }))
+    ∙ ap (with_last change) (sym (cover_last before line after is none))
 
 -- ---- models
 
@@ -219,9 +227,9 @@ bodied number (Some body) models = refl
 
 -- a row goes into the last cover
 pub models_row : (before : List Line) (line : Line) (after : List Line) (row : Line) → kind_of line.1 ≡ kinds.Names → list_any is_statement (seen after) ≡ false → kind_of row.1 ≡ kinds.Row
-    → models_of ((before ++ line ∷ after) ++ row ∷ []) ≡ with_last (with_statements (with_last (with_table (table_of (rows_in after ++ row.1 ∷ []))))) (models_of (before ++ line ∷ after))
+    → models_of ((before ++ line ∷ after) ++ row ∷ []) ≡ pushed_row (is_on_set (rows_on (rows_in after ++ row.1 ∷ []))) (cube_of (pattern_of row.1)) (models_of (before ++ line ∷ after))
 models_row before line after row is none row_is =
-    let change = with_last (with_table (table_of (rows_in after ++ row.1 ∷ []))) in
+    let change = with_last (with_cube (is_on_set (rows_on (rows_in after ++ row.1 ∷ []))) (cube_of (pattern_of row.1))) in
     let within : list_any begins (line ∷ after) ≡ false = ap (λ (b : Bool). b || list_any begins after) (ap begins_model is) ∙ models_within after none in
     let from_last : since begins (before ++ line ∷ after) ≡ since begins before ++ line ∷ after = since_append begins before (line ∷ after) within in
     models_other change (before ++ line ∷ after) row (ap begins_model row_is)

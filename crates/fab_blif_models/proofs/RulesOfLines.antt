@@ -1,72 +1,32 @@
 -- Each line that is not refused keeps the rules of models, so lines of which none is refused spell models that keep them.
-use Rattle.std.proofs.Common.{◌≡◌, ℕ, ◌+◌, ◌-◌, ◌≤◌, Bool, true, false, not, ◌||◌, ◌&&◌, ◌==◌, nat_le, List, [], ◌∷◌, ◌++◌, length, drop, get_or, Option, Some, None, if◌then◌else◌, refl, sym, ap, subst, ◌∙◌, arith, append-nil, codes}
-use Rattle.std.specs.List.{list_any, list_all, count_by, flat_map}
-use Rattle.std.specs.Int.Bits.{bit_or}
+use Rattle.std.proofs.Common.{◌≡◌, ℕ, ◌+◌, ◌-◌, ◌<◌, ◌≤◌, ◌^◌, Bool, true, false, not, ◌||◌, ◌&&◌, ◌==◌, nat_le, List, [], ◌∷◌, ◌++◌, length, take, drop, get_or, Option, Some, None, if◌then◌else◌, refl, sym, ap, subst, ◌∙◌, arith, append-nil}
+use Rattle.std.specs.List.{All, count_by, flat_map}
+use Rattle.std.specs.Int.Bits.{and_self}
 use Rattle.std.specs.Str.{bytes_eq}
-use Rattle.std.proofs.lemmas.Bool.{leb-true, ltb-false, eqb-true, not-false, and_parts, or_parts}
-use Rattle.std.proofs.lemmas.List.{length-take-le, length-drop}
+use Rattle.std.proofs.lemmas.Bool.{leb-true, not-false, and_parts, or_parts}
+use Rattle.std.proofs.lemmas.List.{length-take, length-take-le, length-drop}
+use Rattle.std.proofs.lemmas.List.Elements.{All-nil, All-push}
 use Rattle.indexmap.specs.IndexSet.{insert_all}
-use Rattle.fab_base.specs.declared.words.Reason.{Reason}
-use Rattle.fab_base.specs.declared.words.Reason.TheVariants as reasons
-use Rattle.fab_base.specs.declared.problem.Problem.{Problem}
-use Rattle.fab_base.specs.declared.problem.Problem.TheVariants as problems
 use Rattle.fab_lines.specs.Order.{IsFine}
+use Rattle.fab_netlist.specs.declared.wide.Cube.{Cube}
+use Rattle.fab_netlist.specs.Wide.{IsFineRow}
 use Rattle.fab_blif_models.specs.declared.words.Kind.{Kind}
 use Rattle.fab_blif_models.specs.declared.words.Kind.TheVariants as kinds
 use Rattle.fab_blif_models.specs.Plain.{PlainBody, inputs, outputs, clock, cover, latch, instance, PlainStatement, PlainModel}
-use Rattle.fab_blif_models.specs.Words.{Word, words, arguments, kind_of, is_foreign}
+use Rattle.fab_blif_models.specs.Words.{Word, words, arguments, kind_of}
 use Rattle.fab_lines.specs.Items.{word_at, with_last, is_among}
-use Rattle.fab_blif_models.specs.Covers.{pattern_of, is_on, table_of}
+use Rattle.fab_blif_models.specs.Covers.{is_on_set, pattern_of}
 use Rattle.fab_blif_models.specs.Context.{Context}
-use Rattle.fab_blif_models.specs.Judge.{count_fits, has_initial, breaks_number, needs_model, repeats_port, on_both_sides, port_problem, same_output, has_output, is_sign, breaks_row, is_wide, construct_problem, problem_of, malformed_by, judge_words, judge}
-use Rattle.fab_blif_models.specs.Spelled.{control_of, initial_of, inner_words, spelled}
-use Rattle.fab_blif_models.specs.inner.Following.{State, with_statements, pushed, tabled, with_table, with_ports, context_after, mask_of, table_by, state_after}
-use Rattle.fab_blif_models.specs.Rules.{Repeats, IsFineBody, input_names, output_names, declared_inputs, declared_outputs, IsModel, AreModels}
+use Rattle.fab_blif_models.specs.Judge.{has_initial, on_both_sides, port_problem, judge}
+use Rattle.fab_blif_models.specs.Spelled.{buffer_of, buffer_row, control_of, cover_of, initial_of, inner_words, spelled}
+use Rattle.fab_blif_models.specs.inner.Following.{State, with_statements, pushed, rowed, with_cube, with_ports, context_after, row_of, state_after}
+use Rattle.fab_blif_models.specs.Rules.{IsFineBody, input_names, output_names, declared_inputs, declared_outputs, IsModel, AreModels}
 use Rattle.fab_blif_models.proofs.Ends.{AtLast, last_as, last_pushed, all_pushed, changed}
 use Rattle.fab_blif_models.proofs.Ports.{IsOnce, once, not_found, among_old, among_new}
-use Rattle.fab_blif_models.proofs.Repeated.{IsRepeated, repeated, none_repeated, buffer_repeated, mask_repeated, either_repeated, table_repeated}
-use Rattle.fab_blif_models.proofs.KeepsRules.{IsOfWidth, AreRows, IsBefore, Keeps, Adds, said}
-use Rattle.fab_blif_models.proofs.FollowsLines.{summary, state_more, each_line}
-
--- ---- what a line that is not refused keeps to
-
-record Passes (context : Context) (kind : Kind) (line : List Word) : Type 0 where
-  counted : not (count_fits kind context.width (length line)) ≡ false
-  numbered : breaks_number kind line ≡ false
-  new : repeats_port context kind line ≡ false
-  row : breaks_row context.width context.on kind line ≡ false
-  supported : construct_problem context kind line ≡ None
-
-no_problem : (reason : Option Reason) (construct : Option Problem) → problem_of reason construct ≡ None → (reason ≡ None) × (construct ≡ None)
-no_problem None construct none = (refl, none)
-no_problem (Some reason) construct none = absurd cc
-
--- of seven tests in turn none passes
-no_reason : (a b c d e f g : Bool) →
-    (if a then Some reasons.Row else if b then Some reasons.Number else if c then Some reasons.Name else if d then Some reasons.AfterEnd else if e then Some reasons.NameTwice else if f then Some reasons.NoModel else if g then Some reasons.CoverRow else None) ≡ None
-    → (a ≡ false) × (b ≡ false) × (e ≡ false) × (g ≡ false)
-no_reason true b c d e f g none = absurd cc
-no_reason false true c d e f g none = absurd cc
-no_reason false false true d e f g none = absurd cc
-no_reason false false false true e f g none = absurd cc
-no_reason false false false false true f g none = absurd cc
-no_reason false false false false false true g none = absurd cc
-no_reason false false false false false false true none = absurd cc
-no_reason false false false false false false false none = (refl, refl, refl, refl)
-
-passes : (context : Context) (text : List ℕ) (kind : Kind) (line : List Word) → judge_words context text kind line ≡ None → Passes context kind line
-passes context text kind line fine =
-    let parts = no_problem (malformed_by context text kind line) (construct_problem context kind line) fine in
-    let tests = no_reason
-    (not (count_fits kind context.width (length line)))
-    (breaks_number kind line)
-    (list_any is_foreign text)
-    (context.ended && needs_model kind)
-    (repeats_port context kind line)
-    (not context.begun && needs_model kind)
-    (breaks_row context.width context.on kind line)
-    parts.0 in
-    record { counted = tests.0; numbered = tests.1; new = tests.2; row = tests.3; supported = parts.1 }
+use Rattle.fab_blif_models.proofs.Cubes.{fine_row}
+use Rattle.fab_blif_models.proofs.KeepsRules.{IsOfWidth, IsBefore, Keeps, Adds, said}
+use Rattle.fab_blif_models.proofs.Passing.{Passes, passes, cover_narrow, row_width, each_line}
+use Rattle.fab_blif_models.proofs.FollowsLines.{summary, state_more}
 
 -- ---- what each line says
 
@@ -86,8 +46,8 @@ same_side old name = either_is (is_among old name) false (is_among old name) (λ
 more_side : (old more : List Word) (name : Word) → (is_among old name || is_among more name) ≡ true → is_among (insert_all bytes_eq old more) name ≡ true
 more_side old more name = either_is (is_among old name) (is_among more name) (is_among (insert_all bytes_eq old more) name) (among_old old more name) (among_new old more name)
 
-adds_inputs : (old : Context) (line : List Word) → Passes old kinds.Inputs line → Adds old (with_ports old (arguments line) [] [] None) (inputs (arguments line))
-adds_inputs old line passed =
+adds_inputs : (most : ℕ) (old : Context) (line : List Word) → Passes most old kinds.Inputs line → Adds most old (with_ports old (arguments line) [] [] None) (inputs (arguments line))
+adds_inputs most old line passed =
     let names = arguments line in
     let all : names ++ [] ≡ names = append-nil names in
     let each : (name : Word) → IsOnce old.inputs names name = λ name. once old.inputs names name passed.new in
@@ -102,8 +62,8 @@ adds_inputs old line passed =
       width = tt;
     }
 
-adds_outputs : (old : Context) (line : List Word) → Passes old kinds.Outputs line → Adds old (with_ports old [] (arguments line) [] None) (outputs (arguments line))
-adds_outputs old line passed =
+adds_outputs : (most : ℕ) (old : Context) (line : List Word) → Passes most old kinds.Outputs line → Adds most old (with_ports old [] (arguments line) [] None) (outputs (arguments line))
+adds_outputs most old line passed =
     let names = arguments line in
     let each : (name : Word) → IsOnce old.outputs names name = λ name. once old.outputs names name passed.new in
     let other : (name : Word) → is_among names name ≡ true → (is_among old.inputs name || is_among old.clocks name) ≡ false =
@@ -118,9 +78,9 @@ adds_outputs old line passed =
     }
 
 -- a body that names no port
-adds_other : (old : Context) (clocks : List Word) (width : Option ℕ) (body : PlainBody) → input_names body ≡ [] → output_names body ≡ [] → IsFineBody body → IsOfWidth width body
-    → Adds old (with_ports old [] [] clocks width) body
-adds_other old clocks width body no_inputs no_outputs fine wide =
+adds_other : (most : ℕ) (old : Context) (clocks : List Word) (width : Option ℕ) (body : PlainBody) → input_names body ≡ [] → output_names body ≡ [] → IsFineBody most body → IsOfWidth width body
+    → Adds most old (with_ports old [] [] clocks width) body
+adds_other most old clocks width body no_inputs no_outputs fine wide =
     let none : input_names body ++ output_names body ≡ [] = (λ j. no_inputs j ++ no_outputs j) in
     record {
       fine = fine;
@@ -139,87 +99,65 @@ initial_low true single byte fine =
     let low = leb-true byte 51 (and_parts (nat_le 48 byte) (nat_le byte 51) parts.1).1 in
     omega (arith, low)
 
-latch_low : (context : Context) (line : List Word) → Passes context kinds.Latch line → initial_of line ≤ 3
-latch_low context line passed =
+latch_low : (most : ℕ) (context : Context) (line : List Word) → Passes most context kinds.Latch line → initial_of line ≤ 3
+latch_low most context line passed =
     let word = word_at line (length line - 1) in
     initial_low (has_initial (length line)) (length word == 1) (get_or word 0 0) passed.numbered
 
 -- a cover
-not_wide : (wide : Bool) (problem : Problem) → (if wide then Some problem else None) ≡ None → wide ≡ false
-not_wide true problem none = absurd cc
-not_wide false problem none = refl
-
-cover_narrow : (context : Context) (line : List Word) → Passes context kinds.Names line → length line - 2 ≤ 4
-cover_narrow context line passed =
-    let few = ltb-false 6 (length line) (not_wide (is_wide (length line)) (problems.Unsupported (codes "wide cover")) passed.supported) in
-    omega (arith, few)
-
 inner_count : (line : List Word) → length (inner_words line) ≡ length line - 2
 inner_count line =
     let left : length (arguments line) ≡ length line - 1 = length-drop 1 line in
     length-take-le (length line - 2) (arguments line) (omega (arith, left))
 
-adds_cover : (old : Context) (line : List Word) → Passes old kinds.Names line → Adds old (with_ports old [] [] [] (Some (length line - 2))) (cover (inner_words line) (word_at line (length line - 1)) (table_of []))
-adds_cover old line passed =
-    let narrow : length (inner_words line) ≤ 4 = omega (arith, inner_count line, cover_narrow old line passed) in
-    adds_other old [] (Some (length line - 2)) (cover (inner_words line) (word_at line (length line - 1)) (table_of [])) refl refl
-    (narrow, repeated (length (inner_words line)) 0 (none_repeated (length (inner_words line))))
-    (inner_count line)
+adds_cover : (most : ℕ) (old : Context) (line : List Word) → Passes most old kinds.Names line → Adds most old (with_ports old [] [] [] (Some (length line - 2))) (cover_of line true [])
+adds_cover most old line passed =
+    let few : length (inner_words line) ≤ most = omega (arith, inner_count line, cover_narrow most old line passed) in
+    adds_other most old [] (Some (length line - 2)) (cover_of line true []) refl refl (few, All-nil (IsFineRow (length (inner_words line)))) (inner_count line)
 
 -- ---- a row
 
-row_width : (width : Option ℕ) (on : Option Bool) (line : List Word) → not (count_fits kinds.Row width (length line)) ≡ false → breaks_row width on kinds.Row line ≡ false
-    → (n : ℕ) × (width ≡ Some n) × (length (pattern_of line) ≡ n)
-row_width None on line counted fine = absurd cc
-row_width (Some n) on line counted fine =
-    let long = length (pattern_of line) == n in
-    let signs = list_all is_sign (pattern_of line) in
-    let output = has_output line in
-    let same = same_output on (is_on line) in
-    let all = and_parts (long && signs && output) same (not-false (long && signs && output && same) fine) in
-    let three = and_parts (long && signs) output all.0 in
-    (n, refl, eqb-true (length (pattern_of line)) n (and_parts long signs three.0).0)
+rowed_fine : (most width : ℕ) (on : Bool) (row : Cube) → IsFineRow width row → (body : PlainBody) → IsFineBody most body → IsOfWidth (Some width) body
+    → IsFineBody most (rowed on row body) × IsOfWidth (Some width) (rowed on row body)
+rowed_fine most width on row r (inputs names) fine wide = (fine, wide)
+rowed_fine most width on row r (outputs names) fine wide = (fine, wide)
+rowed_fine most width on row r (clock name) fine wide = (fine, wide)
+rowed_fine most width on row r (cover ins output old rows) fine wide =
+    ((fine.0, All-push (IsFineRow (length ins)) rows row fine.1 (subst (λ (count : ℕ). IsFineRow count row) (sym wide) r)), wide)
+rowed_fine most width on row r (latch input output control initial) fine wide = (fine, wide)
+rowed_fine most width on row r (instance model joins) fine wide = (fine, wide)
 
-tabled_fine : (width table : ℕ) → width ≤ 4 → IsRepeated width table → (body : PlainBody) → IsFineBody body → IsOfWidth (Some width) body
-    → IsFineBody (tabled table body) × IsOfWidth (Some width) (tabled table body)
-tabled_fine width table narrow r (inputs names) fine wide = (fine, wide)
-tabled_fine width table narrow r (outputs names) fine wide = (fine, wide)
-tabled_fine width table narrow r (clock name) fine wide = (fine, wide)
-tabled_fine width table narrow r (cover ins output old) fine wide = ((omega (arith, wide, narrow), subst (Repeats table) (sym wide) (repeated width table r)), wide)
-tabled_fine width table narrow r (latch input output control initial) fine wide = (fine, wide)
-tabled_fine width table narrow r (instance model joins) fine wide = (fine, wide)
+rowed_inputs : (on : Bool) (row : Cube) (body : PlainBody) → input_names (rowed on row body) ≡ input_names body
+rowed_inputs on row (inputs names) = refl
+rowed_inputs on row (outputs names) = refl
+rowed_inputs on row (clock name) = refl
+rowed_inputs on row (cover ins output old rows) = refl
+rowed_inputs on row (latch input output control initial) = refl
+rowed_inputs on row (instance model joins) = refl
 
-tabled_inputs : (table : ℕ) (body : PlainBody) → input_names (tabled table body) ≡ input_names body
-tabled_inputs table (inputs names) = refl
-tabled_inputs table (outputs names) = refl
-tabled_inputs table (clock name) = refl
-tabled_inputs table (cover ins output old) = refl
-tabled_inputs table (latch input output control initial) = refl
-tabled_inputs table (instance model joins) = refl
+rowed_outputs : (on : Bool) (row : Cube) (body : PlainBody) → output_names (rowed on row body) ≡ output_names body
+rowed_outputs on row (inputs names) = refl
+rowed_outputs on row (outputs names) = refl
+rowed_outputs on row (clock name) = refl
+rowed_outputs on row (cover ins output old rows) = refl
+rowed_outputs on row (latch input output control initial) = refl
+rowed_outputs on row (instance model joins) = refl
 
-tabled_outputs : (table : ℕ) (body : PlainBody) → output_names (tabled table body) ≡ output_names body
-tabled_outputs table (inputs names) = refl
-tabled_outputs table (outputs names) = refl
-tabled_outputs table (clock name) = refl
-tabled_outputs table (cover ins output old) = refl
-tabled_outputs table (latch input output control initial) = refl
-tabled_outputs table (instance model joins) = refl
+rowed_names : (names : PlainBody → List Word) (on : Bool) (row : Cube) → ((body : PlainBody) → names (rowed on row body) ≡ names body) → (old : List PlainStatement)
+    → flat_map (λ s. names s.body) (with_last (with_cube on row) old) ≡ flat_map (λ s. names s.body) old
+rowed_names names on row same [] = refl
+rowed_names names on row same (s ∷ []) = ap (λ (l : List Word). l ++ []) (same s.body)
+rowed_names names on row same (s ∷ t ∷ old) = ap (λ (l : List Word). names s.body ++ l) (rowed_names names on row same (t ∷ old))
 
-tabled_names : (names : PlainBody → List Word) (table : ℕ) → ((body : PlainBody) → names (tabled table body) ≡ names body) → (old : List PlainStatement)
-    → flat_map (λ s. names s.body) (with_last (with_table table) old) ≡ flat_map (λ s. names s.body) old
-tabled_names names table same [] = refl
-tabled_names names table same (s ∷ []) = ap (λ (l : List Word). l ++ []) (same s.body)
-tabled_names names table same (s ∷ t ∷ old) = ap (λ (l : List Word). names s.body ++ l) (tabled_names names table same (t ∷ old))
-
-row_model : (old next : Context) (width table : ℕ) → old.width ≡ Some width → next.width ≡ Some width → next.inputs ≡ old.inputs → next.outputs ≡ old.outputs → width ≤ 4 → IsRepeated width table
-    → (model : PlainModel) → IsModel model → IsBefore old model
-    → IsModel (with_statements (with_last (with_table table)) model) × IsBefore next (with_statements (with_last (with_table table)) model)
-row_model old next width table wide wide_next same_inputs same_outputs narrow r model rules before =
-    let lines = changed (λ s. IsFineBody s.body) (λ s. IsOfWidth (Some width) s.body) (λ s. IsOfWidth (Some width) s.body) (with_table table)
-    (λ s fine of_width. tabled_fine width table narrow r s.body fine of_width) model.statements rules.bodies
+row_model : (most : ℕ) (old next : Context) (width : ℕ) (on : Bool) (row : Cube) → old.width ≡ Some width → next.width ≡ Some width → next.inputs ≡ old.inputs → next.outputs ≡ old.outputs → IsFineRow width row
+    → (model : PlainModel) → IsModel most model → IsBefore old model
+    → IsModel most (with_statements (with_last (with_cube on row)) model) × IsBefore next (with_statements (with_last (with_cube on row)) model)
+row_model most old next width on row wide wide_next same_inputs same_outputs r model rules before =
+    let lines = changed (λ s. IsFineBody most s.body) (λ s. IsOfWidth (Some width) s.body) (λ s. IsOfWidth (Some width) s.body) (with_cube on row)
+    (λ s fine of_width. rowed_fine most width on row r s.body fine of_width) model.statements rules.bodies
     (subst (λ (w : Option ℕ). AtLast (λ s. IsOfWidth w s.body) model.statements) wide before.cover) in
-    let ins : declared_inputs (with_last (with_table table) model.statements) ≡ declared_inputs model.statements = tabled_names input_names table (tabled_inputs table) model.statements in
-    let outs : declared_outputs (with_last (with_table table) model.statements) ≡ declared_outputs model.statements = tabled_names output_names table (tabled_outputs table) model.statements in (
+    let ins : declared_inputs (with_last (with_cube on row) model.statements) ≡ declared_inputs model.statements = rowed_names input_names on row (rowed_inputs on row) model.statements in
+    let outs : declared_outputs (with_last (with_cube on row) model.statements) ≡ declared_outputs model.statements = rowed_names output_names on row (rowed_outputs on row) model.statements in (
       record {
         bodies = lines.all;
         ports = λ name. subst (λ (l : List Word). count_by (bytes_eq name) l ≤ 1) (sym (λ j. ins j ++ outs j)) (rules.ports name);
@@ -227,23 +165,24 @@ row_model old next width table wide wide_next same_inputs same_outputs narrow r 
       record {
         inputs = λ name among. ap (λ (l : List Word). is_among l name) same_inputs ∙ before.inputs name (sym (ap (λ (l : List Word). is_among l name) ins) ∙ among);
         outputs = λ name among. ap (λ (l : List Word). is_among l name) same_outputs ∙ before.outputs name (sym (ap (λ (l : List Word). is_among l name) outs) ∙ among);
-        cover = subst (λ (w : Option ℕ). AtLast (λ s. IsOfWidth w s.body) (with_last (with_table table) model.statements)) (sym wide_next) lines.last;
+        cover = subst (λ (w : Option ℕ). AtLast (λ s. IsOfWidth w s.body) (with_last (with_cube on row) model.statements)) (sym wide_next) lines.last;
       },
     )
 
 -- ---- a line
 
 -- a line that says something
-keeps_said : (state : State) (next : Context) (covered number : ℕ) (body : PlainBody) → Adds state.context next body → AreRows next.width covered → Keeps state
-    → Keeps (record { context = next; covered = covered; models = pushed number body state.models })
-keeps_said state next covered number body adds rows kept =
-    let both = changed IsModel (IsBefore state.context) (IsBefore next) (with_statements (λ statements. statements ++ record { line = number; body = body } ∷ [])) (said state.context next number body adds) state.models kept.models kept.last in
-    record { models = both.all; last = both.last; rows = rows }
+keeps_said : (state : State) (next : Context) (number : ℕ) (body : PlainBody) → Adds state.most state.context next body → Keeps state
+    → Keeps (record { most = state.most; context = next; models = pushed number body state.models })
+keeps_said state next number body adds kept =
+    let both = changed (IsModel state.most) (IsBefore state.context) (IsBefore next) (with_statements (λ statements. statements ++ record { line = number; body = body } ∷ []))
+    (said state.most state.context next number body adds) state.models kept.models kept.last in
+    record { models = both.all; last = both.last }
 
 -- or nothing, and ends a cover
-no_cover : (state : State) (covered : ℕ) (next : Context) → next.width ≡ None → next.inputs ≡ state.context.inputs → next.outputs ≡ state.context.outputs → Keeps state
-    → Keeps (record { context = next; covered = covered; models = state.models })
-no_cover state covered next none same_inputs same_outputs kept = record {
+no_cover : (state : State) (next : Context) → next.width ≡ None → next.inputs ≡ state.context.inputs → next.outputs ≡ state.context.outputs → Keeps state
+    → Keeps (record { most = state.most; context = next; models = state.models })
+no_cover state next none same_inputs same_outputs kept = record {
   models = kept.models;
   last = last_as (IsBefore state.context) (IsBefore next)
       (λ model before. record {
@@ -252,62 +191,59 @@ no_cover state covered next none same_inputs same_outputs kept = record {
         cover = subst (λ (w : Option ℕ). AtLast (λ s. IsOfWidth w s.body) model.statements) (sym none) (last_as (λ s. IsOfWidth state.context.width s.body) (λ s. Unit {0}) (λ s of_width. tt) model.statements before.cover);
       })
       state.models kept.last;
-  rows = subst (λ (w : Option ℕ). AreRows w covered) (sym none) tt;
 }
 
-keeps_row : (state : State) (number : ℕ) (line : List Word) → Passes state.context kinds.Row line → Keeps state → Keeps (state_after state number kinds.Row line)
+keeps_row : (state : State) (number : ℕ) (line : List Word) → Passes state.most state.context kinds.Row line → Keeps state → Keeps (state_after state number kinds.Row line)
 keeps_row state number line passed kept =
     let old = state.context in
     let next = context_after old kinds.Row line in
-    let covered = bit_or state.covered (mask_of (pattern_of line)) in
+    let pattern = pattern_of line in
+    let row = row_of state.most pattern in
+    let on = is_on_set next.on in
     let width = row_width old.width old.on line passed.counted passed.row in
-    let rows : AreRows (Some width.0) state.covered = subst (λ (w : Option ℕ). AreRows w state.covered) width.1 kept.rows in
-    let r : IsRepeated width.0 covered = either_repeated width.0 state.covered (mask_of (pattern_of line)) rows.1 (mask_repeated width.0 (pattern_of line) width.2) in
-    let both = changed IsModel (IsBefore old) (IsBefore next) (with_statements (with_last (with_table (table_by next.on covered))))
-    (row_model old next width.0 (table_by next.on covered) width.1 width.1 refl refl rows.0 (table_repeated width.0 covered next.on r)) state.models kept.models kept.last in
-    record { models = both.all; last = both.last; rows = subst (λ (w : Option ℕ). AreRows w covered) (sym width.1) (rows.0, r) }
+    let short : length (take state.most pattern) ≤ width.0 = omega (arith, length-take state.most pattern, width.2) in
+    let both = changed (IsModel state.most) (IsBefore old) (IsBefore next) (with_statements (with_last (with_cube on row)))
+    (row_model state.most old next width.0 on row width.1 width.1 refl refl (fine_row width.0 (take state.most pattern) short)) state.models kept.models kept.last in
+    record { models = both.all; last = both.last }
 
-keeps_kind : (state : State) (number : ℕ) (kind : Kind) (line : List Word) → Passes state.context kind line → Keeps state → Keeps (state_after state number kind line)
-keeps_kind state number kinds.Blank line passed kept = kept
-keeps_kind state number kinds.Passed line passed kept = kept
-keeps_kind state number kinds.Row line passed kept = keeps_row state number line passed kept
-keeps_kind state number kinds.Model line passed kept =
+keeps_kind : (state : State) → 1 ≤ state.most → (number : ℕ) (kind : Kind) (line : List Word) → Passes state.most state.context kind line → Keeps state → Keeps (state_after state number kind line)
+keeps_kind state some number kinds.Blank line passed kept = kept
+keeps_kind state some number kinds.Passed line passed kept = kept
+keeps_kind state some number kinds.Row line passed kept = keeps_row state number line passed kept
+keeps_kind state some number kinds.Model line passed kept =
     let model : PlainModel = record { line = number; name = word_at line 1; statements = [] } in
     record {
-      models = all_pushed IsModel state.models model kept.models (record { bodies = tt; ports = λ name. omega arith });
+      models = all_pushed (IsModel state.most) state.models model kept.models (record { bodies = tt; ports = λ name. omega arith });
       last = last_pushed (IsBefore (context_after state.context kinds.Model line)) state.models model (record { inputs = λ name among. absurd cc; outputs = λ name among. absurd cc; cover = tt });
-      rows = tt;
     }
-keeps_kind state number kinds.End line passed kept = no_cover state 0 (context_after state.context kinds.End line) refl refl refl kept
-keeps_kind state number kinds.Inputs line passed kept =
-    keeps_said state (context_after state.context kinds.Inputs line) 0 number (inputs (arguments line)) (adds_inputs state.context line passed) tt kept
-keeps_kind state number kinds.Outputs line passed kept =
-    keeps_said state (context_after state.context kinds.Outputs line) 0 number (outputs (arguments line)) (adds_outputs state.context line passed) tt kept
-keeps_kind state number kinds.Clock line passed kept =
-    keeps_said state (context_after state.context kinds.Clock line) 0 number (clock (word_at line 1)) (adds_other state.context (arguments line) None (clock (word_at line 1)) refl refl tt tt) tt kept
-keeps_kind state number kinds.Names line passed kept =
-    keeps_said state (context_after state.context kinds.Names line) 0 number (cover (inner_words line) (word_at line (length line - 1)) (table_of [])) (adds_cover state.context line passed)
-    (cover_narrow state.context line passed, none_repeated (length line - 2)) kept
-keeps_kind state number kinds.Latch line passed kept =
+keeps_kind state some number kinds.End line passed kept = no_cover state (context_after state.context kinds.End line) refl refl refl kept
+keeps_kind state some number kinds.Inputs line passed kept =
+    keeps_said state (context_after state.context kinds.Inputs line) number (inputs (arguments line)) (adds_inputs state.most state.context line passed) kept
+keeps_kind state some number kinds.Outputs line passed kept =
+    keeps_said state (context_after state.context kinds.Outputs line) number (outputs (arguments line)) (adds_outputs state.most state.context line passed) kept
+keeps_kind state some number kinds.Clock line passed kept =
+    keeps_said state (context_after state.context kinds.Clock line) number (clock (word_at line 1)) (adds_other state.most state.context (arguments line) None (clock (word_at line 1)) refl refl tt tt) kept
+keeps_kind state some number kinds.Names line passed kept =
+    keeps_said state (context_after state.context kinds.Names line) number (cover_of line true []) (adds_cover state.most state.context line passed) kept
+keeps_kind state some number kinds.Latch line passed kept =
     let body = latch (word_at line 1) (word_at line 2) (control_of line) (initial_of line) in
-    keeps_said state (context_after state.context kinds.Latch line) 0 number body (adds_other state.context [] None body refl refl (latch_low state.context line passed) tt) tt kept
-keeps_kind state number kinds.Instance line passed kept =
+    keeps_said state (context_after state.context kinds.Latch line) number body (adds_other state.most state.context [] None body refl refl (latch_low state.most state.context line passed) tt) kept
+keeps_kind state some number kinds.Instance line passed kept =
     let body = instance (word_at line 1) (drop 2 line) in
-    keeps_said state (context_after state.context kinds.Instance line) 0 number body (adds_other state.context [] None body refl refl tt tt) tt kept
-keeps_kind state number kinds.Buffer line passed kept =
-    let body = cover (word_at line 1 ∷ []) (word_at line 2) 43690 in
-    let narrow : 1 ≤ 4 = omega arith in
-    keeps_said state (context_after state.context kinds.Buffer line) 0 number body (adds_other state.context [] None body refl refl (narrow, repeated 1 43690 buffer_repeated) tt) tt kept
-keeps_kind state number kinds.Other line passed kept = no_cover state 0 (context_after state.context kinds.Other line) refl refl refl kept
+    keeps_said state (context_after state.context kinds.Instance line) number body (adds_other state.most state.context [] None body refl refl tt tt) kept
+keeps_kind state some number kinds.Buffer line passed kept =
+    let rows : All (IsFineRow 1) (buffer_row ∷ []) = All-push (IsFineRow 1) [] buffer_row (All-nil (IsFineRow 1)) (record { low = omega arith; cared = and_self 1 }) in
+    keeps_said state (context_after state.context kinds.Buffer line) number (buffer_of line) (adds_other state.most state.context [] None (buffer_of line) refl refl (some, rows) tt) kept
+keeps_kind state some number kinds.Other line passed kept = no_cover state (context_after state.context kinds.Other line) refl refl refl kept
 
 -- ---- lines
 
-keeps_line : (front : List (List ℕ)) (line : List ℕ) → judge front line ≡ None → Keeps (summary front) → Keeps (summary (front ++ line ∷ []))
-keeps_line front line fine kept =
-    let state = summary front in
+keeps_line : (most : ℕ) → 1 ≤ most → (front : List (List ℕ)) (line : List ℕ) → IsFine (judge most) front → judge most front line ≡ None → Keeps (summary most front) → Keeps (summary most (front ++ line ∷ []))
+keeps_line most some front line fine_before fine kept =
+    let state = summary most front in
     let kind = kind_of (words line) in
-    subst Keeps (state_more front line fine) (keeps_kind state (length front + 1) kind (words line) (passes state.context line kind (words line) fine) kept)
+    subst Keeps (state_more most front line fine_before fine) (keeps_kind state some (length front + 1) kind (words line) (passes most state.context line kind (words line) fine) kept)
 
 -- lines of which none is refused spell models that keep the rules
-pub spelled_keeps : (lines : List (List ℕ)) → IsFine judge lines → AreModels (spelled lines)
-spelled_keeps lines fine = (each_line (λ l. Keeps (summary l)) keeps_line (record { models = tt; last = tt; rows = tt }) lines fine).models
+pub spelled_keeps : (most : ℕ) → 1 ≤ most → (lines : List (List ℕ)) → IsFine (judge most) lines → AreModels most (spelled lines)
+spelled_keeps most some lines fine = (each_line most (λ l. Keeps (summary most l)) (keeps_line most some) (record { models = tt; last = tt }) lines fine).models

@@ -104,8 +104,9 @@ breaks_row width so_far kind line = false
 abbrev pub unsupported : Word → Option Problem
 unsupported construct = Some (problems.Unsupported construct)
 
-abbrev pub is_wide : (count : ℕ) → Bool
-is_wide count = nat_lt 6 count
+-- a cover whose line has so many words has more inputs than this
+abbrev pub is_wide : (most count : ℕ) → Bool
+is_wide most count = nat_lt most (count - 2)
 
 -- a latch of five or six words has a type and a control
 abbrev pub has_type : (count : ℕ) → Bool
@@ -119,11 +120,11 @@ abbrev pub port_problem : Option Word → Option Problem
 port_problem None = None
 port_problem (Some port) = unsupported (codes "input and output " ++ port)
 
-abbrev pub construct_problem : Context → Kind → List Word → Option Problem
-construct_problem context kinds.Names line = if is_wide (length line) then unsupported (codes "wide cover") else None
-construct_problem context kinds.Latch line = type_problem line
-construct_problem context kinds.Other line = unsupported (word_at line 0)
-construct_problem context kind line = port_problem (on_both_sides context kind line)
+abbrev pub construct_problem : (most : ℕ) → Context → Kind → List Word → Option Problem
+construct_problem most context kinds.Names line = if is_wide most (length line) then unsupported (codes "wide cover") else None
+construct_problem most context kinds.Latch line = type_problem line
+construct_problem most context kinds.Other line = unsupported (word_at line 0)
+construct_problem most context kind line = port_problem (on_both_sides context kind line)
 
 -- ---- the whole
 
@@ -143,10 +144,10 @@ abbrev pub problem_of : Option Reason → (construct : Option Problem) → Optio
 problem_of None construct = construct
 problem_of (Some reason) construct = Some (problems.Malformed reason)
 
--- a line of this kind and these words, within what it depends on
-abbrev pub judge_words : Context → (line : List ℕ) → Kind → List Word → Option Problem
-judge_words context line kind words = problem_of (malformed_by context line kind words) (construct_problem context kind words)
+-- a line of this kind and these words, within what it depends on, where a cover has at most so many inputs
+abbrev pub judge_words : (most : ℕ) → Context → (line : List ℕ) → Kind → List Word → Option Problem
+judge_words most context line kind words = problem_of (malformed_by context line kind words) (construct_problem most context kind words)
 
 -- a line after the lines before it, all without comments and joined
-abbrev pub judge : (before : List (List ℕ)) → (line : List ℕ) → Option Problem
-judge before line = judge_words (context_of (map words before)) line (kind_of (words line)) (words line)
+abbrev pub judge : (most : ℕ) → (before : List (List ℕ)) → (line : List ℕ) → Option Problem
+judge most before line = judge_words most (context_of (map words before)) line (kind_of (words line)) (words line)

@@ -1,5 +1,6 @@
 -- Models as plain data: no pointers, each vector a list, each name its bytes.
-use Rattle.std.specs.Prelude.{ℕ, List, map, Option}
+use Rattle.std.specs.Prelude.{ℕ, Bool, List, map, Option}
+use Rattle.fab_netlist.specs.declared.wide.Cube.{Cube}
 use Rattle.fab_blif_models.specs.declared.model.Model.{Model}
 use Rattle.fab_blif_models.specs.declared.model.Statement.{Statement}
 use Rattle.fab_blif_models.specs.declared.model.Body.{Body}
@@ -10,7 +11,7 @@ pub data PlainBody : Type 0 where
   inputs : (names : List (List ℕ)) → PlainBody
   outputs : (names : List (List ℕ)) → PlainBody
   clock : (name : List ℕ) → PlainBody
-  cover : (inputs : List (List ℕ)) (output : List ℕ) (table : ℕ) → PlainBody
+  cover : (inputs : List (List ℕ)) (output : List ℕ) (on : Bool) (rows : List Cube) → PlainBody
   latch : (input output : List ℕ) (control : Option (List ℕ)) (initial : ℕ) → PlainBody
   instance : (model_name : List ℕ) (joins : List (List ℕ)) → PlainBody
 
@@ -28,7 +29,7 @@ abbrev pub plain_body : Body → PlainBody
 plain_body (Inputs names) = inputs names.items
 plain_body (Outputs names) = outputs names.items
 plain_body (Clock name) = clock name
-plain_body (Cover ins output table) = cover ins.items output table
+plain_body (Cover ins output on rows) = cover ins.items output on rows.items
 plain_body (Latch input output control initial) = latch input output control initial
 plain_body (Instance model joins) = instance model joins.items
 

@@ -1,18 +1,15 @@
 -- What holds of all models that are read.
-use Rattle.std.specs.Prelude.{◌≡◌, ℕ, ◌<◌, ◌≤◌, ◌/◌, ◌%◌, ◌^◌, List, [], ◌∷◌, ◌++◌, length, map, nat_eq}
+use Rattle.std.specs.Prelude.{ℕ, ◌<◌, ◌≤◌, List, [], ◌∷◌, ◌++◌, length, map}
 use Rattle.std.specs.List.{All, AllByRecursion, AllPairs, count_by, flat_map}
 use Rattle.std.specs.Str.{bytes_eq}
+use Rattle.fab_netlist.specs.Wide.{IsFineRow}
 use Rattle.fab_blif_models.specs.Plain.{PlainBody, inputs, outputs, cover, latch, PlainStatement, PlainModel}
 
--- the table of a cover of so many inputs is repeated over those that the cover does not have
-abbrev pub Repeats : (table width : ℕ) → Type 0
-Repeats table width = (place : ℕ) → place < 16 → nat_eq (table / 2 ^ place % 2) 1 ≡ nat_eq (table / 2 ^ (place % 2 ^ width) % 2) 1
-
--- a cover has at most four inputs, and an initial value is at most 3
-abbrev pub IsFineBody : PlainBody → Type 0
-IsFineBody (cover ins output table) = (length ins ≤ 4) × Repeats table (length ins)
-IsFineBody (latch input output control initial) = initial ≤ 3
-IsFineBody _ = Unit {0}
+-- a cover has at most so many inputs, and rows that look at these alone; an initial value is at most 3
+abbrev pub IsFineBody : (most : ℕ) → PlainBody → Type 0
+IsFineBody most (cover ins output on rows) = (length ins ≤ most) × All (IsFineRow (length ins)) rows
+IsFineBody most (latch input output control initial) = initial ≤ 3
+IsFineBody most _ = Unit {0}
 
 abbrev pub input_names : PlainBody → List (List ℕ)
 input_names (inputs names) = names
@@ -30,12 +27,12 @@ abbrev pub declared_outputs : List PlainStatement → List (List ℕ)
 declared_outputs statements = flat_map (λ statement. output_names statement.body) statements
 
 -- The lines of a model are fine, and `.inputs` and `.outputs` declare no port twice, nor one as both.
-pub record IsModel (model : PlainModel) : Type 0 where
-  pub bodies : AllByRecursion (λ statement. IsFineBody statement.body) model.statements
+pub record IsModel (most : ℕ) (model : PlainModel) : Type 0 where
+  pub bodies : AllByRecursion (λ statement. IsFineBody most statement.body) model.statements
   pub ports : (name : List ℕ) → count_by (bytes_eq name) (declared_inputs model.statements ++ declared_outputs model.statements) ≤ 1
 
-abbrev pub AreModels : List PlainModel → Type 0
-AreModels models = AllByRecursion IsModel models
+abbrev pub AreModels : (most : ℕ) → List PlainModel → Type 0
+AreModels most models = AllByRecursion (IsModel most) models
 
 -- the numbers of the lines that begin models or are their statements, in the order of the models
 abbrev pub line_numbers : List PlainModel → List ℕ

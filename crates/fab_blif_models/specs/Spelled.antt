@@ -1,5 +1,5 @@
 -- The models that lines spell.
-use Rattle.std.specs.Prelude.{ℕ, List, [], ◌∷◌, ◌++◌, ◌-◌, length, map, filter, take, drop, codes, slice_index, Option, Some, None, if◌then◌else◌}
+use Rattle.std.specs.Prelude.{ℕ, Bool, true, List, [], ◌∷◌, ◌++◌, ◌-◌, length, map, filter, take, drop, codes, slice_index, Option, Some, None, if◌then◌else◌}
 use Rattle.std.specs.List.{before_first, enumerate_from}
 use Rattle.std.specs.Str.{bytes_eq}
 use Rattle.fab_blif_models.specs.declared.words.Kind.{Kind}
@@ -7,7 +7,8 @@ use Rattle.fab_blif_models.specs.declared.words.Kind.TheVariants as kinds
 use Rattle.fab_blif_models.specs.Plain.{PlainBody, inputs, outputs, clock, cover, latch, instance, PlainStatement, PlainModel}
 use Rattle.fab_blif_models.specs.Words.{Word, words, arguments, kind_of, is_model, is_row, is_statement}
 use Rattle.fab_lines.specs.Items.{word_at}
-use Rattle.fab_blif_models.specs.Covers.{table_of}
+use Rattle.fab_netlist.specs.declared.wide.Cube.{Cube}
+use Rattle.fab_blif_models.specs.Covers.{cubes_of, is_on_set, rows_on}
 use Rattle.fab_blif_models.specs.Judge.{has_initial, has_type}
 
 -- the words of a line, with its number
@@ -22,16 +23,16 @@ control_of line = if has_type (length line) then (if bytes_eq (word_at line 4) (
 abbrev pub initial_of : (line : List Word) → ℕ
 initial_of line = if has_initial (length line) then slice_index (word_at line (length line - 1)) 0 - 48 else 3
 
--- the table of a buffer, 1 where its input is 1
-abbrev pub buffer_table : ℕ
-buffer_table = 43690
+-- the row of a buffer, which is 1 where its input is 1
+abbrev pub buffer_row : Cube
+buffer_row = record { care = 1; value = 1 }
 
 -- the words between the first and the last
 abbrev pub inner_words : (line : List Word) → List Word
 inner_words line = take (length line - 2) (arguments line)
 
-abbrev pub cover_of : (line : List Word) → (table : ℕ) → PlainBody
-cover_of line table = cover (inner_words line) (word_at line (length line - 1)) table
+abbrev pub cover_of : (line : List Word) → (on : Bool) → (rows : List Cube) → PlainBody
+cover_of line on rows = cover (inner_words line) (word_at line (length line - 1)) on rows
 
 abbrev pub latch_of : (line : List Word) → PlainBody
 latch_of line = latch (word_at line 1) (word_at line 2) (control_of line) (initial_of line)
@@ -40,14 +41,14 @@ abbrev pub instance_of : (line : List Word) → PlainBody
 instance_of line = instance (word_at line 1) (drop 2 line)
 
 abbrev pub buffer_of : (line : List Word) → PlainBody
-buffer_of line = cover (word_at line 1 ∷ []) (word_at line 2) buffer_table
+buffer_of line = cover (word_at line 1 ∷ []) (word_at line 2) true (buffer_row ∷ [])
 
 -- what a line of this kind says, where these rows follow it
 abbrev pub body_of : Kind → (line : List Word) → (rows : List (List Word)) → Option PlainBody
 body_of kinds.Inputs line rows = Some (inputs (arguments line))
 body_of kinds.Outputs line rows = Some (outputs (arguments line))
 body_of kinds.Clock line rows = Some (clock (word_at line 1))
-body_of kinds.Names line rows = Some (cover_of line (table_of rows))
+body_of kinds.Names line rows = Some (cover_of line (is_on_set (rows_on rows)) (cubes_of rows))
 body_of kinds.Latch line rows = Some (latch_of line)
 body_of kinds.Instance line rows = Some (instance_of line)
 body_of kinds.Buffer line rows = Some (buffer_of line)

@@ -1,21 +1,19 @@
 //! What the lines of a model say, and the models so far.
 
-ghost use Rattle.std.specs.Prelude.{◌≡◌, ◌++◌, ◌∷◌, [], map, option_map, IfOk, OnOk};
-ghost use Rattle.fab_blif_models.specs.inner.Following.{pushed, retabled, with_body, with_statements, with_table, models_after};
+ghost use Rattle.std.specs.Prelude.{◌≡◌, ◌≤◌, ◌++◌, ◌∷◌, [], true, map, option_map, IfOk, OnOk};
+ghost use Rattle.fab_blif_models.specs.inner.Following.{pushed, pushed_row, rowed, with_body, with_cube, with_statements, models_after};
 ghost use Rattle.fab_lines.specs.Items.{with_last};
 ghost use Rattle.fab_blif_models.specs.Plain.{plain_body, plain_model, plain_models, plain_statement};
 ghost use Rattle.fab_blif_models.specs.Spelled.{body_of, buffer_of, control_of, cover_of, initial_of, inner_words, instance_of, latch_of};
 
-use crate::cover::table_by;
+use crate::cover::{is_on_set, pattern_of, row_of};
 use crate::judging::{has_initial, has_type};
 use crate::model::{Body, Model, Statement};
 use crate::words::{Kind, names_of, words_from, words_up_to};
 use fab_base::{Memory, Name};
 use fab_lines::word_at;
+use fab_netlist::Cube;
 use std::alloc::Global;
-
-/// The table of a buffer: 1 where its input is 1.
-const BUFFER_TABLE: u16 = 0xAAAA;
 
 fn control_of(alloc: Global, words: &[&[u8]]) -> Result<Option<Name>, Memory>
     ensures { IfOk result (λ name. name ≡ control_of (map (λ w. w.now) words.now)) }
@@ -47,14 +45,15 @@ fn inner_words<'a, 'b>(words: &'a [&'b [u8]]) -> &'a [&'b [u8]]
 }
 
 fn cover_of(alloc: Global, words: &[&[u8]]) -> Result<Body, Memory>
-    ensures { IfOk result (λ body. plain_body body ≡ cover_of (map (λ w. w.now) words.now) 0) }
+    ensures { IfOk result (λ body. plain_body body ≡ cover_of (map (λ w. w.now) words.now) true []) }
 {
     let inputs = names_of(alloc, inner_words(words))?;
     let output = Name::of(alloc, word_at(words, words.len().saturating_sub(1)))?;
     Ok(Body::Cover {
         inputs,
         output,
-        table: 0,
+        on: true,
+        rows: Vec::new(alloc),
     })
 }
 
@@ -74,10 +73,14 @@ fn buffer_of(alloc: Global, words: &[&[u8]]) -> Result<Body, Memory>
 {
     let mut inputs = Vec::new(alloc);
     inputs.push(Name::of(alloc, word_at(words, 1))?)?;
+    let output = Name::of(alloc, word_at(words, 2))?;
+    let mut rows = Vec::new(alloc);
+    rows.push(Cube { care: 1, value: 1 })?;
     Ok(Body::Cover {
         inputs,
-        output: Name::of(alloc, word_at(words, 2))?,
-        table: BUFFER_TABLE,
+        output,
+        on: true,
+        rows,
     })
 }
 
@@ -127,36 +130,45 @@ fn push_statement(models: &mut Vec<Model>, number: u32, body: Body) -> Result<()
     Ok(())
 }
 
-/// A statement with this table, where it is a cover.
-fn with_table(statement: Statement, table: u16) -> Statement
-    ensures { plain_statement result ≡ with_table table (plain_statement statement) }
+/// What a line says with one row more, where it is a cover.
+fn rowed(body: Body, on: bool, row: Cube) -> Result<Body, Memory>
+    ensures { IfOk result (λ made. plain_body made ≡ rowed on row (plain_body body)) }
 {
-    let Statement { line, body } = statement;
-    let body = match body {
-        Body::Cover { inputs, output, .. } => Body::Cover {
+    match body {
+        Body::Cover {
             inputs,
             output,
-            table,
-        },
-        other => other,
-    };
-    Statement { line, body }
+            mut rows,
+            ..
+        } => {
+            rows.push(row)?;
+            Ok(Body::Cover {
+                inputs,
+                output,
+                on,
+                rows,
+            })
+        }
+        other => Ok(other),
+    }
 }
 
-/// Gives the last statement a table.
-fn set_last(statements: &mut Vec<Statement>, table: u16) -> Result<(), Memory>
-    ensures { OnOk result (map plain_statement statements.new.items ≡ with_last (with_table table) (map plain_statement statements.old.items)) }
+/// Gives the last statement a row.
+fn row_last(statements: &mut Vec<Statement>, on: bool, row: Cube) -> Result<(), Memory>
+    ensures { OnOk result (map plain_statement statements.new.items ≡ with_last (with_cube on row) (map plain_statement statements.old.items)) }
 {
     let Some(last) = statements.pop() else {
         return Ok(());
     };
-    statements.push(with_table(last, table))?;
+    let Statement { line, body } = last;
+    let body = rowed(body, on, row)?;
+    statements.push(Statement { line, body })?;
     Ok(())
 }
 
-/// Gives the last statement of the last model a table.
-fn set_table(models: &mut Vec<Model>, table: u16) -> Result<(), Memory>
-    ensures { OnOk result (plain_models models.new.items ≡ retabled table (plain_models models.old.items)) }
+/// Gives the last statement of the last model a row.
+fn push_row(models: &mut Vec<Model>, on: bool, row: Cube) -> Result<(), Memory>
+    ensures { OnOk result (plain_models models.new.items ≡ pushed_row on row (plain_models models.old.items)) }
 {
     let Some(last) = models.pop() else {
         return Ok(());
@@ -166,7 +178,7 @@ fn set_table(models: &mut Vec<Model>, table: u16) -> Result<(), Memory>
         name,
         mut statements,
     } = last;
-    set_last(&mut statements, table)?;
+    row_last(&mut statements, on, row)?;
     models.push(Model {
         line,
         name,
@@ -175,20 +187,23 @@ fn set_table(models: &mut Vec<Model>, table: u16) -> Result<(), Memory>
     Ok(())
 }
 
-/// Follows a line of this kind that is not refused, where the open cover has these rows.
+/// Follows a line of this kind that is not refused, where a cover has at most so many inputs, and the rows of the open one
+/// are of an on-set or an off-set.
 pub fn follow(
     models: &mut Vec<Model>,
     alloc: Global,
+    most: usize,
     number: u32,
-    rows: (Option<bool>, u16),
+    on: Option<bool>,
     kind: Kind,
     words: &[&[u8]],
 ) -> Result<(), Memory>
-    ensures { OnOk result (plain_models models.new.items ≡ models_after (plain_models models.old.items) number rows.0 rows.1 kind (map (λ w. w.now) words.now)) }
+    requires { most ≤ 16 }
+    ensures { OnOk result (plain_models models.new.items ≡ models_after most (plain_models models.old.items) number on kind (map (λ w. w.now) words.now)) }
 {
     match kind {
         Kind::Model => push_model(models, alloc, number, word_at(words, 1)),
-        Kind::Row => set_table(models, table_by(rows.0, rows.1)),
+        Kind::Row => push_row(models, is_on_set(on), row_of(most, pattern_of(words))),
         _ => push_body(models, number, body_of(alloc, kind, words)?),
     }
 }

@@ -1,14 +1,14 @@
-//! The rows of a cover, and the table that they make.
+//! The rows of a cover.
 
-ghost use Rattle.std.specs.Prelude.{◌≡◌, ◌≤◌, map};
+ghost use Rattle.std.specs.Prelude.{◌≡◌, ◌≤◌, length, map};
 ghost use Rattle.std.specs.List.{list_all};
 ghost use Rattle.fab_bits.specs.Bits.{bit_number};
-ghost use Rattle.fab_blif_models.specs.Covers.{is_off, is_on, matches, output_of, pattern_of, sign_matches};
-ghost use Rattle.fab_blif_models.specs.inner.Following.{covered_after, mask_of, table_by};
+ghost use Rattle.fab_blif_models.specs.Covers.{cube_of, is_asked, is_on, is_on_set, is_one, output_of, pattern_of};
+ghost use Rattle.fab_blif_models.specs.inner.Following.{row_of};
 ghost use Rattle.fab_blif_models.specs.Judge.{has_output, is_fine_row, is_sign, same_output};
 
-use crate::words::Kind;
 use fab_lines::word_at;
+use fab_netlist::Cube;
 
 /// The pattern of a row: its first word, where the row has two.
 pub fn pattern_of<'a>(row: &[&'a [u8]]) -> &'a [u8]
@@ -31,24 +31,16 @@ pub fn is_on(row: &[&[u8]]) -> bool
     output_of(row) == b"1".as_slice()
 }
 
-fn sign_matches(sign: u8, value: bool) -> bool
-    ensures { result ≡ sign_matches sign value }
+fn is_asked(sign: u8) -> bool
+    ensures { result ≡ is_asked sign }
 {
-    sign == b'-' || sign == if value { b'1' } else { b'0' }
+    sign != b'-'
 }
 
-/// Whether a pattern matches the inputs that spell a number, the first as least significant.
-fn matches_inputs(pattern: &[u8], inputs: u16) -> bool
-    ensures { result ≡ matches pattern.now inputs }
+fn is_one(sign: u8) -> bool
+    ensures { result ≡ is_one sign }
 {
-    let mut rest = inputs;
-    for sign in pattern {
-        if !sign_matches(*sign, rest % 2 == 1) {
-            return false;
-        }
-        rest /= 2;
-    }
-    true
+    sign == b'1'
 }
 
 fn bit_number(bit: bool) -> u16
@@ -58,27 +50,37 @@ fn bit_number(bit: bool) -> u16
     if bit { 1 } else { 0 }
 }
 
-/// Bit i tells whether a pattern matches the inputs that spell i.
-pub fn mask_of(pattern: &[u8]) -> u16
-    ensures { result ≡ mask_of pattern.now }
+/// The inputs that a pattern looks at, and those that it wants to be 1.
+fn cube_of(pattern: &[u8]) -> Cube
+    requires { length pattern.now ≤ 16 }
+    ensures { result ≡ cube_of pattern.now }
 {
-    let mut mask: u16 = 0;
-    let mut inputs: u16 = 16;
-    while 0 < inputs {
-        inputs -= 1;
-        mask = 2 * mask + bit_number(matches_inputs(pattern, inputs));
+    let mut care: u16 = 0;
+    let mut value: u16 = 0;
+    let mut place = pattern.len();
+    while 0 < place {
+        place -= 1;
+        let sign = pattern[place];
+        care = 2 * care + bit_number(is_asked(sign));
+        value = 2 * value + bit_number(is_one(sign));
     }
-    mask
+    Cube { care, value }
 }
 
-/// The table of rows that match these inputs, and that are of an on-set or an off-set.
-pub fn table_by(on: Option<bool>, covered: u16) -> u16
-    ensures { result ≡ table_by on covered }
+/// The row of a pattern. A pattern that fits its cover has no more signs than a cover may have inputs.
+pub fn row_of(most: usize, pattern: &[u8]) -> Cube
+    requires { most ≤ 16 }
+    ensures { result ≡ row_of most pattern.now }
 {
-    match on {
-        Some(false) => u16::MAX - covered,
-        _ => covered,
-    }
+    let (signs, _) = pattern.split_at(most.min(pattern.len()));
+    cube_of(signs)
+}
+
+/// Whether a cover of such rows is an on-set. One without a row is.
+pub fn is_on_set(on: Option<bool>) -> bool
+    ensures { result ≡ is_on_set on }
+{
+    on.unwrap_or(true)
 }
 
 fn is_sign(sign: u8) -> bool
@@ -117,15 +119,4 @@ pub fn is_fine_row(width: usize, so_far: Option<bool>, row: &[&[u8]]) -> bool
         && has_signs(pattern)
         && has_output(row)
         && same_output(so_far, is_on(row))
-}
-
-/// Which inputs the rows of the open cover match after a line of this kind.
-pub fn covered_after(covered: u16, kind: Kind, words: &[&[u8]]) -> u16
-    ensures { result ≡ covered_after covered kind (map (λ w. w.now) words.now) }
-{
-    match kind {
-        Kind::Row => covered | mask_of(pattern_of(words)),
-        Kind::Blank | Kind::Passed => covered,
-        _ => 0,
-    }
 }

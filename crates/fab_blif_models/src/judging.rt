@@ -219,15 +219,16 @@ fn port_construct(alloc: Global, port: Option<&[u8]>) -> Result<Option<Name>, Me
 /// The construct of a line that is not supported, if it has one.
 fn unsupported_by(
     alloc: Global,
+    most: usize,
     context: &Context,
     kind: Kind,
     words: &[&[u8]],
 ) -> Result<Option<Name>, Memory>
-    ensures { IfOk result (λ name. option_map problems.Unsupported name ≡ construct_problem context.now kind (map (λ w. w.now) words.now)) }
+    ensures { IfOk result (λ name. option_map problems.Unsupported name ≡ construct_problem most context.now kind (map (λ w. w.now) words.now)) }
 {
     match kind {
         Kind::Names => {
-            if 6 < words.len() {
+            if most < words.len().saturating_sub(2) {
                 return Ok(Some(Name::of(alloc, b"wide cover")?));
             }
             Ok(None)
@@ -238,20 +239,21 @@ fn unsupported_by(
     }
 }
 
-/// Why a line is refused, if it is.
+/// Why a line is refused, if it is. A cover has at most so many inputs.
 pub fn judge(
     alloc: Global,
+    most: usize,
     context: &Context,
     line: &[u8],
     kind: Kind,
     words: &[&[u8]],
 ) -> Result<Option<Problem>, Memory>
-    ensures { IfOk result (λ problem. problem ≡ judge_words context.now line.now kind (map (λ w. w.now) words.now)) }
+    ensures { IfOk result (λ problem. problem ≡ judge_words most context.now line.now kind (map (λ w. w.now) words.now)) }
 {
     if let Some(reason) = malformed_by(alloc, context, line, kind, words)? {
         return Ok(Some(Problem::Malformed(reason)));
     }
-    match unsupported_by(alloc, context, kind, words)? {
+    match unsupported_by(alloc, most, context, kind, words)? {
         Some(construct) => Ok(Some(Problem::Unsupported(construct))),
         None => Ok(None),
     }

@@ -1,6 +1,7 @@
 //! The models of a BLIF file.
 
 use fab_base::Name;
+use fab_netlist::Cube;
 
 /// A model, as its lines spell it.
 #[derive(Debug, Drop)]
@@ -27,12 +28,13 @@ pub enum Body {
     Outputs(Vec<Name>),
     /// A clock input.
     Clock(Name),
-    /// A cover of at most 4 inputs, or a buffer. Bit i of the table is the value of the output where the inputs, the first
-    /// as least significant, spell i; the table is repeated to 16 bits over inputs that are not there.
+    /// A cover, or a buffer, with its rows in the order of the file. Where `on` is true the output is 1 exactly where some
+    /// row matches the inputs, and else 0 exactly there.
     Cover {
         inputs: Vec<Name>,
         output: Name,
-        table: u16,
+        on: bool,
+        rows: Vec<Cube>,
     },
     /// A latch of initial value 0 to 3; a control `NIL` is none.
     Latch {

@@ -24,6 +24,7 @@ fn main(rt: HostRuntime) -> Result<(), Stop> {
         "flow.cases",
         "search.cases",
         "reset.cases",
+        "wide.cases",
         "bits.cases",
         "partial.cases",
         "faults.cases",

@@ -29,7 +29,7 @@ use fab_small_fabric::small_fabric;
 use fasm::Features;
 use legal::read_design;
 use models::Models;
-use netlists::Netlists;
+use netlists::{Netlists, WideNetlists};
 use packing::Packing;
 use places::{Places, Sides};
 use std::alloc::Global;
@@ -58,6 +58,7 @@ fn print_blif<D: Desk, S: Sink>(alloc: Global, desk: &mut D, out: &mut S) -> Res
     ] {
         print_cases(alloc, desk, out, &Netlists, file)?;
     }
+    print_cases(alloc, desk, out, &WideNetlists, "wide.cases")?;
     print_cases(alloc, desk, out, &Packing, "packed.cases")
 }
 

@@ -4,15 +4,16 @@ use crate::cases::{Case, Subject};
 use crate::words::{headed, put_names, put_number, put_word};
 use fab_base::{Fault, Memory, Name};
 use fab_blif_models::{Body, Model, Statement, read_models};
+use fab_netlist::Cube;
 use std::alloc::Global;
 
-/// Each model is printed in a line, by the numbers of its lines and what they say.
+/// Each model is printed in a line, by the numbers of its lines and what they say. Their covers have at most four inputs.
 #[derive(Drop)]
 pub struct Models;
 
 impl Subject for Models {
     fn shown(&self, alloc: Global, case: &Case) -> Result<Vec<u8>, Fault> {
-        let models = read_models(alloc, &case.file, case.text)?;
+        let models = read_models(alloc, &case.file, case.text, 4)?;
         let mut out = headed(alloc, &case.file)?;
         out.push(b'\n')?;
         for model in &models {
@@ -49,8 +50,14 @@ fn put_body(out: &mut Vec<u8>, body: &Body) -> Result<(), Memory> {
         Body::Cover {
             inputs,
             output,
-            table,
-        } => put_cover(out, inputs, output, *table),
+            on,
+            rows,
+        } => {
+            put_list(out, b"cover", inputs)?;
+            put_word(out, b">")?;
+            put_word(out, output.bytes())?;
+            put_rows(out, *on, rows)
+        }
         Body::Latch {
             input,
             output,
@@ -72,11 +79,14 @@ fn put_list(out: &mut Vec<u8>, word: &[u8], names: &[Name]) -> Result<(), Memory
     put_names(out, names)
 }
 
-fn put_cover(out: &mut Vec<u8>, inputs: &[Name], output: &Name, table: u16) -> Result<(), Memory> {
-    put_list(out, b"cover", inputs)?;
-    put_word(out, b">")?;
-    put_word(out, output.bytes())?;
-    put_number(out, u128::from(table))
+/// Whether rows are of an on-set, and of each the inputs that it looks at and their values, as numbers.
+pub fn put_rows(out: &mut Vec<u8>, on: bool, rows: &[Cube]) -> Result<(), Memory> {
+    put_word(out, if on { b"on" } else { b"off" })?;
+    for row in rows {
+        put_number(out, u128::from(row.care))?;
+        put_number(out, u128::from(row.value))?;
+    }
+    Ok(())
 }
 
 fn put_latch(

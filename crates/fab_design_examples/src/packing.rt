@@ -8,9 +8,11 @@ use fab_blif::flatten;
 use fab_blif_models::read_models;
 use fab_lines::{capped_number, last_line};
 use fab_netlist::{Cell, NetId, Netlist, Packed, kept, pack};
+use fab_wide::split;
 use std::alloc::Global;
 
-/// The netlist of each BLIF file is printed, also one with a cycle of covers, with how many covers are kept. Then comes what
+/// The netlist of each BLIF file is printed, also one with a cycle of covers, its wide covers split, with how many covers are
+/// kept. Then comes what
 /// it is packed into, or the report that there are too few sites. The numbers of LUT4c sites and of pads stand behind the
 /// name of the case.
 #[derive(Drop)]
@@ -22,8 +24,14 @@ impl Subject for Packing {
             let file = case.file.copy(alloc)?;
             return Err(Fault::Malformed(Place { file, line: 1 }, Reason::Number));
         };
-        let models = read_models(alloc, &case.file, case.text)?;
-        let netlist = flatten(alloc, &case.file, last_line(case.text), &models)?;
+        let models = read_models(alloc, &case.file, case.text, 16)?;
+        let last = last_line(case.text);
+        let netlist = split(
+            alloc,
+            &case.file,
+            last,
+            &flatten(alloc, &case.file, last, &models)?,
+        )?;
         let mut out = shown(alloc, &case.file, &netlist)?;
         put_kept(&mut out, &case.file, &netlist)?;
         match pack(alloc, &netlist, luts, pads) {

@@ -16,7 +16,7 @@ pub struct Places;
 
 impl Subject for Places {
     fn shown(&self, alloc: Global, case: &Case) -> Result<Vec<u8>, Fault> {
-        let models = read_models(alloc, &case.file, case.text)?;
+        let models = read_models(alloc, &case.file, case.text, 16)?;
         let places = index_models(alloc, &case.file, last_line(case.text), &models)?;
         let mut out = headed(alloc, &case.file)?;
         for name in places.as_slice() {

@@ -1,5 +1,5 @@
 -- Files spell one design or are refused with one status number, and a file spells one implementation or is refused for one fault.
-use Rattle.std.proofs.Common.{◌≡◌, ℕ, List, [], Option, refl, sym, ap, ◌∙◌}
+use Rattle.std.proofs.Common.{◌≡◌, ℕ, List, [], Option, inl, inr, refl, sym, ap, ◌∙◌, arith}
 use Rattle.fab_base.specs.Report.{number_of}
 use Rattle.fab_base.specs.declared.fault.Fault.{Fault}
 use Rattle.fab_desk.specs.Files.{Map}
@@ -14,14 +14,13 @@ use Rattle.fab_implementation.specs.Plain.{Pad, PlainImplementation}
 use Rattle.fab_texts.specs.Rows.{rows_of}
 use Rattle.fab_read.specs.Fabrics.{SpellsFabric, MeetsFabric}
 use Rattle.fab_read.proofs.FabricsOnce.{one_fabric, refused_once, not_refused}
-use Rattle.fab_blif.specs.Blif.{RefusesBlif}
 use Rattle.fab_blif.proofs.Once.{numbered_once}
 use Rattle.fab_blif.proofs.Excluded as blif
 use Rattle.fab_state.specs.Constraints.{data_ports}
 use Rattle.fab_state.proofs.FixingsBack.{spelled_fixings}
 use Rattle.fab_impl.specs.Spelled.{Spells}
 use Rattle.fab_impl.proofs.ReadBack.{spelled_is_read}
-use Rattle.fab_designs.specs.Designs.{DesignFiles, PlainDesign, SpellsNetlist, SpellsConstraints, SpellsDesign, RefusesConstraints, MeetsNetlist, MeetsConstraints, MeetsBehindFabric, MeetsDesign}
+use Rattle.fab_designs.specs.Designs.{DesignFiles, PlainDesign, SpellsNetlist, SpellsConstraints, SpellsDesign, RefusesNetlist, RefusesConstraints, MeetsNetlist, MeetsConstraints, MeetsBehindFabric, MeetsDesign}
 use Rattle.fab_designs.specs.Implementations.{SpellsImplementation, ReadsImplementation, RefusesImplementation, MeetsImplementation}
 
 abbrev pub SameNumber : Fault → Fault → Type 0
@@ -36,11 +35,23 @@ fabric_is_judged files name = record {
   apart = not_refused files name;
 }
 
-netlist_is_judged : (file : List ℕ) → AreJudged SameNumber SpellsNetlist (RefusesBlif file)
+-- A file is refused for its text, or its netlist for too many nets behind the splitting.
+netlist_numbered : (file bytes : List ℕ) (a b : Fault) → RefusesNetlist file bytes a → RefusesNetlist file bytes b → SameNumber a b
+netlist_numbered file bytes a b (inl x) (inl y) = numbered_once 16 file bytes a b x y
+netlist_numbered file bytes a b (inl x) (inr y) = absurd (blif.not_refused 16 file bytes a y.0 x)
+netlist_numbered file bytes a b (inr x) (inl y) = absurd (blif.not_refused 16 file bytes b x.0 y)
+netlist_numbered file bytes a b (inr x) (inr y) = ap number_of (x.1.1 ∙ sym y.1.1)
+
+netlist_apart : (file bytes : List ℕ) (netlist : PlainNetlist) (fault : Fault) → SpellsNetlist bytes netlist → RefusesNetlist file bytes fault → ⊥
+netlist_apart file bytes netlist fault spells (inl x) = blif.not_refused 16 file bytes fault spells.is_blif x
+netlist_apart file bytes netlist fault spells (inr x) =
+    omega (arith, spells.few, x.1.0)
+
+netlist_is_judged : (file : List ℕ) → AreJudged SameNumber SpellsNetlist (RefusesNetlist file)
 netlist_is_judged file = record {
-  once = λ bytes a b x y. x.1 ∙ sym y.1;
-  refused_once = λ bytes a b x y. numbered_once file bytes a b x y;
-  apart = λ bytes netlist fault x y. blif.not_refused file bytes fault x.0 y;
+  once = λ bytes a b x y. x.is ∙ sym y.is;
+  refused_once = λ bytes a b x y. netlist_numbered file bytes a b x y;
+  apart = λ bytes netlist fault x y. netlist_apart file bytes netlist fault x y;
 }
 
 constraints_are_judged : (fabric : PlainFabric) (netlist : PlainNetlist) (file : List ℕ) → AreJudged SameNumber (SpellsConstraints fabric netlist) (RefusesConstraints fabric netlist file)
@@ -66,7 +77,7 @@ module _ (files : Map) where
     behind_is_judged : (fabric : PlainFabric) → IsJudged SameNumber (Behind fabric) (MeetsBehindFabric files names fabric)
     behind_is_judged fabric =
         turn_is_judged SameNumber (ReadsFrom files names.blif SpellsNetlist) (MeetsNetlist files names.blif) (λ netlist. MeetsConstraints files names.pcf fabric netlist)
-        (file_is_judged SameNumber (λ fault. refl) files SpellsNetlist (RefusesBlif names.blif) (netlist_is_judged names.blif) names.blif)
+        (file_is_judged SameNumber (λ fault. refl) files SpellsNetlist (RefusesNetlist names.blif) (netlist_is_judged names.blif) names.blif)
         (λ netlist fixed. ReadsIfNamed files names.pcf (SpellsConstraints fabric netlist) [] fixed) (λ netlist reads. pcf_is_judged names.pcf fabric netlist)
 
     parts_are_judged : IsJudged SameNumber (λ (value : PlainFabric × (PlainNetlist × List Pad)). SpellsFabric files names.fabric value.0 × Behind value.0 value.1) (MeetsDesign files names)

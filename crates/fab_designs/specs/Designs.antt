@@ -1,9 +1,10 @@
 -- The files of a design, one behind the other: what they spell, and what a reader of them comes upon before anything is refused.
-use Rattle.std.specs.Prelude.{◌≡◌, ℕ, List, [], Option}
+use Rattle.std.specs.Prelude.{◌≡◌, ◌≤◌, ◌⊎◌, ℕ, List, [], Option}
 use Rattle.fab_base.specs.declared.fault.Fault.{Fault}
 use Rattle.fab_desk.specs.Files.{Map}
 use Rattle.fab_model.specs.Grid.{PlainFabric}
 use Rattle.fab_netlist.specs.Plain.{PlainNetlist}
+use Rattle.fab_netlist.specs.WellMade.{most_nets}
 use Rattle.fab_implementation.specs.Plain.{Pad}
 use Rattle.fab_lines.specs.Order.{IsTextFault}
 use Rattle.fab_texts.specs.Rows.{rows_of}
@@ -12,6 +13,7 @@ use Rattle.fab_files.specs.Files.{Event}
 use Rattle.fab_files.specs.Stages.{ReadsFrom, MeetsIn, ReadsIfNamed, MeetsIfNamed, MeetsBehind}
 use Rattle.fab_read.specs.Fabrics.{SpellsFabric, MeetsFabric}
 use Rattle.fab_blif.specs.Blif.{IsBlif, RefusesBlif, netlist_in}
+use Rattle.fab_wide.specs.Split.{split_of, split_nets, RefusesSplit}
 use Rattle.fab_state.specs.Constraints.{SpellsFixings, constraint_format, data_ports}
 
 -- the names of the fabric file, of the BLIF file, and of the pcf file where a command names one
@@ -31,8 +33,11 @@ pub record PlainDesign : Type 0 where
 
 -- ---- what the files spell
 
-abbrev pub SpellsNetlist : (bytes : List ℕ) → PlainNetlist → Type 0
-SpellsNetlist bytes netlist = IsBlif bytes × (netlist ≡ netlist_in bytes)
+-- The netlist of a BLIF file, with each cover of more than four inputs split. It has few enough nets then, too.
+pub record SpellsNetlist (bytes : List ℕ) (netlist : PlainNetlist) : Type 0 where
+  pub is_blif : IsBlif 16 bytes
+  pub few : split_nets (netlist_in bytes) ≤ most_nets
+  pub is : netlist ≡ split_of (netlist_in bytes)
 
 -- constraints of the data ports of this netlist, on sites of this fabric
 abbrev pub SpellsConstraints : PlainFabric → PlainNetlist → (bytes : List ℕ) → (fixed : List Pad) → Type 0
@@ -44,10 +49,18 @@ pub record SpellsDesign (files : Map) (names : DesignFiles) (design : PlainDesig
   pub netlist : ReadsFrom files names.blif SpellsNetlist design.netlist
   pub fixed : ReadsIfNamed files names.pcf (SpellsConstraints design.fabric design.netlist) [] design.fixed
 
+-- The netlist as it stands in the BLIF file, wide covers and all. What runs is said of this one.
+abbrev pub read_of : {files : Map} {names : DesignFiles} {design : PlainDesign} → SpellsDesign files names design → PlainNetlist
+read_of spelled = netlist_in spelled.netlist.bytes
+
 -- ---- what is come upon
 
+-- The first refusal of a BLIF file with these bytes. Behind all others comes that its netlist has too many nets when it is split.
+abbrev pub RefusesNetlist : (file bytes : List ℕ) → Fault → Type 0
+RefusesNetlist file bytes fault = RefusesBlif 16 file bytes fault ⊎ (IsBlif 16 bytes × RefusesSplit file (last_line bytes) (netlist_in bytes) fault)
+
 abbrev pub MeetsNetlist : (files : Map) (blif : List ℕ) → Event → Type 0
-MeetsNetlist files blif event = MeetsIn files blif (RefusesBlif blif) event
+MeetsNetlist files blif event = MeetsIn files blif (RefusesNetlist blif) event
 
 -- the first line that is refused, of a pcf file with these bytes
 abbrev pub RefusesConstraints : PlainFabric → PlainNetlist → (file bytes : List ℕ) → Fault → Type 0

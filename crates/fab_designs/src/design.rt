@@ -26,7 +26,7 @@ use std::marker::Model;
 pub struct Design {
     /// The fabric that it is for.
     pub fabric: Fabric,
-    /// Its netlist.
+    /// Its netlist, in which wide covers are split.
     pub netlist: Netlist,
     /// The sites on which some of its ports have to stand.
     pub fixed: Fixed,
@@ -72,8 +72,9 @@ fn read<D: Desk, P: Progress>(
 /// Reads a design: the fabric with all files that its file names, then the BLIF file, and then the pcf file, if one is
 /// named. Files that spell a design are read, unless the device fails or memory is refused.
 ///
-/// The faults of each file come as `read_fabric`, `read_blif` and `read_pcf` give them, those of an earlier file before
-/// those of a later one, which is then not asked for. `Missing`, `TooLong` and `ReadFault` name the file.
+/// The faults of each file come as `read_fabric`, `read_wide` and `read_pcf` give them, those of an earlier file before
+/// those of a later one, which is then not asked for. Behind those of `read_wide` comes that of `split`. `Missing`, `TooLong`
+/// and `ReadFault` name the file.
 pub fn read_design<D: Desk, P: Progress>(
     alloc: Global,
     desk: &mut D,

@@ -100,7 +100,7 @@ pub record RunsThrough (fabric : PlainFabric) (text : List PlainModule) (netlist
       IsDesignRun fabric text netlist implementation (partial_words fabric others first last) run start after →
       IsConfigured fabric (exchanged (lies_within first last) bits others) after
       × Configures fabric (packed netlist) implementation (exchanged (lies_within first last) bits others)
-      × RunsFrom fabric text netlist implementation after
+      × RunsFrom fabric text netlist netlist implementation after
 
 -- What words of some columns do in a text, for a netlist and its implementation.
 pub record ExchangesColumns (fabric : PlainFabric) (text : List PlainModule) (netlist : PlainNetlist) (implementation : PlainImplementation)
@@ -145,4 +145,4 @@ ArrivedDesignsRun =
     IsWellMade netlist → HasNoCycle netlist → IsLegal fabric (packed netlist) fixed implementation →
     AreUnused fabric implementation (λ x. not (lies_within first last x)) → Configures fabric (packed netlist) implementation others →
     IsConfigured fabric (exchanged (lies_within first last) bits others) after →
-    Configures fabric (packed netlist) implementation (exchanged (lies_within first last) bits others) × RunsFrom fabric text netlist implementation after
+    Configures fabric (packed netlist) implementation (exchanged (lies_within first last) bits others) × RunsFrom fabric text netlist netlist implementation after

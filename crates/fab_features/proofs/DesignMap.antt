@@ -416,7 +416,7 @@ module _ (fabric : PlainFabric) (packed : PlainPacked) (fixed : List Pad) (i : P
         let feature : IsCellFeature Resets cell line.0.1 g = subst (λ (s : Site). IsCellFeature Resets cell s g) (sym line.2) (of_cell Resets site cell g here) in
         of_a_cell line.0 cell tile number g line.1 line.3 (subst (λ (s : Site). tile_at fabric s.x s.y ≡ Some tile) (sym line.2) tile_is) feature
 
-    design_line : (f : Feature) → Contains (design_features fabric packed i) f → IsDesignLine f
+    pub design_line : (f : Feature) → Contains (design_features fabric packed i) f → IsDesignLine f
     design_line f here =
         let n = from_numbered 1 (flat_map (tile_features fabric packed i) (placed_tiles fabric)) f here in
         let g = n.1 in
@@ -442,7 +442,7 @@ module _ (fabric : PlainFabric) (packed : PlainPacked) (fixed : List Pad) (i : P
       pub entered : edge_into i (wire_index fabric x y output) ≡ Some edge
       pub from_is : edge.0.0 ≡ wire_index fabric x y input
 
-    entered_by : {f : Feature} (x y output input : ℕ) → IsDesignLine f → Chooses fabric f x y output input → IsEntered x y output input
+    pub entered_by : {f : Feature} (x y output input : ℕ) → IsDesignLine f → Chooses fabric f x y output input → IsEntered x y output input
     entered_by x y output input (of_a_cell line cell tile number g here at tile_is feature) chooses =
         absurd (never line cell g tile here tile_is feature (choice x y output input) chooses.said_is)
       where

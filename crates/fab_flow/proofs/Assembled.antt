@@ -39,7 +39,6 @@ use Rattle.fab_assemble.specs.fab_features_Design.{design_features}
 use Rattle.fab_assemble.specs.fab_features_Features.{IsBitMapOf}
 use Rattle.fab_assemble.specs.fab_features_Naming.{HasPrefixes}
 use Rattle.fab_gen_tile.specs.Words.{IsNamed}
-use Rattle.fab_read.specs.Fabrics.{SpellsFabric}
 use Rattle.fab_spelled_fabrics_laws.proofs.Prefixes.{ArePrefixed, prefixes_kept}
 use Rattle.fab_spelled_fabrics_laws.proofs.Blocks.{names_kept}
 use Rattle.fab_spelled_fabrics_laws.proofs.Readings.{spelled_keep}
@@ -48,12 +47,14 @@ use Rattle.fab_assemble.specs.fab_use_defs_Configuring.{Configures}
 use Rattle.fab_assemble.specs.fab_use_defs_Headline.{RunsDesign}
 use Rattle.fab_assemble.specs.fab_use_defs_Registers.{bound_pad, design_state, register_of}
 use Rattle.fab_assemble.specs.fab_settling_laws_Settling.{SettlesDesign}
-use Rattle.fab_designs.specs.Designs.{PlainDesign, MeetsDesign, SpellsDesign}
+use Rattle.fab_designs.specs.Designs.{PlainDesign, MeetsDesign, SpellsDesign, read_of}
+use Rattle.fab_designs.proofs.SplitNetlists.{design_runs}
 use Rattle.fab_designs.specs.Implementations.{MeetsImplementation, ReadsImplementation}
 use Rattle.fab_flow.specs.Resetting.{HasReset, LacksReset}
 use Rattle.fab_flow.specs.Assembling.{AssemblyFiles, Fits, HasAssembleCause, IsAssembly, IsReadyToAssemble, MeetsAssembly, RefusesAssembly, RefusesImplementation, assemble_refusals, assembly_outputs, illegal, no_input, packing_for, short, unfit}
 use Rattle.fab_outputs.specs.Storing.{PlainOutput, Leaves, plain_output}
 use Rattle.fab_outputs.proofs.Ending.{Reads, cause_of_read, leaves_of_memory}
+use Rattle.fab_flow.proofs.ReadAs.{assembly_read}
 use Rattle.fab_flow.proofs.ResetPorts.{lacks_illegal}
 
 -- ---- letters
@@ -108,9 +109,9 @@ state_has_letters fabric packed implementation is on = record {
 pub assembly_is : (fabric : PlainFabric) (netlist : PlainNetlist) (implementation : PlainImplementation) (base : List ℕ) (outputs : List PlainOutput)
     (features : List Feature) (bits : PlainBits) (words : List ℕ) (state : PlainState) → outputs ≡ assembly_outputs base features words state
     → features ≡ design_features fabric (packed netlist) implementation → Configures fabric (packed netlist) implementation bits → IsBitMapOf fabric features bits → words ≡ stream fabric bits
-    → state ≡ design_state (packed netlist) implementation → ((text : List PlainModule) → IsFabricText fabric text → RunsDesign fabric text netlist implementation words state)
-    → ((text : List PlainModule) → IsFabricText fabric text → SettlesDesign fabric text netlist implementation words)
-    → IsAssembly fabric netlist implementation base outputs
+    → state ≡ design_state (packed netlist) implementation → ((text : List PlainModule) → IsFabricText fabric text → RunsDesign fabric text netlist netlist implementation words state)
+    → ((text : List PlainModule) → IsFabricText fabric text → SettlesDesign fabric text netlist netlist implementation words)
+    → IsAssembly fabric netlist netlist implementation base outputs
 assembly_is fabric netlist implementation base outputs features bits words state are features_are configures bit_map words_are state_is runs settles =
     record {
       bits = bits;
@@ -122,18 +123,25 @@ assembly_is fabric netlist implementation base outputs features bits words state
           ∙ ap (λ (w : List ℕ). assembly_outputs base (design_features fabric (packed netlist) implementation) w state) words_are
           ∙ ap (λ (s : PlainState). assembly_outputs base (design_features fabric (packed netlist) implementation) (stream fabric bits) s) state_is;
       runs = λ text is.
-          subst (λ (s : PlainState). RunsDesign fabric text netlist implementation (stream fabric bits) s) state_is
-          (subst (λ (w : List ℕ). RunsDesign fabric text netlist implementation w state) words_are (runs text is));
-      settles = λ text is. subst (λ (w : List ℕ). SettlesDesign fabric text netlist implementation w) words_are (settles text is);
+          subst (λ (s : PlainState). RunsDesign fabric text netlist netlist implementation (stream fabric bits) s) state_is
+          (subst (λ (w : List ℕ). RunsDesign fabric text netlist netlist implementation w state) words_are (runs text is));
+      settles = λ text is. subst (λ (w : List ℕ). SettlesDesign fabric text netlist netlist implementation w) words_are (settles text is);
     }
 
--- the same of outputs, on a fabric that files spell
-pub made_of : (files : Map) (name : List ℕ) (fabric : PlainFabric) (netlist : PlainNetlist) (implementation : PlainImplementation) (base : List ℕ) (made stored : List Output) → stored ≡ made
-    → SpellsFabric files name fabric → (All IsNamed fabric.types → All HasPrefixes fabric.types → IsAssembly fabric netlist implementation base (map plain_output made))
-    → IsAssembly fabric netlist implementation base (map plain_output stored)
-made_of files name fabric netlist implementation base made stored same spelled is =
-    subst (λ (items : List Output). IsAssembly fabric netlist implementation base (map plain_output items)) (sym same)
-    (is (spelled_keep IsNamed IsNamed names_kept files name fabric spelled) (spelled_keep ArePrefixed ArePrefixed prefixes_kept files name fabric spelled))
+-- the same of outputs, on a fabric that files spell; and of the netlist in the BLIF file, as which the packed one runs
+pub made_of : (files : Map) (names : AssemblyFiles) (design : PlainDesign) (spelled : SpellsDesign files names.design design) (implementation : PlainImplementation)
+    (made stored : List Output) → stored ≡ made → (All IsNamed design.fabric.types → All HasPrefixes design.fabric.types
+    → IsAssembly design.fabric (netlist_with implementation.reset design.netlist) (netlist_with implementation.reset design.netlist) implementation names.base (map plain_output made))
+    → IsAssembly design.fabric (netlist_with implementation.reset (read_of spelled)) (netlist_with implementation.reset design.netlist) implementation names.base
+    (map plain_output stored)
+made_of files names design spelled implementation made stored same is =
+    let read = netlist_with implementation.reset (read_of spelled) in
+    let netlist = netlist_with implementation.reset design.netlist in
+    let fabric = design.fabric in
+    let name = names.design.fabric in
+    subst (λ (items : List Output). IsAssembly fabric read netlist implementation names.base (map plain_output items)) (sym same)
+    (assembly_read read netlist (design_runs spelled implementation.reset) fabric implementation names.base (map plain_output made)
+    (is (spelled_keep IsNamed IsNamed names_kept files name fabric spelled.fabric) (spelled_keep ArePrefixed ArePrefixed prefixes_kept files name fabric spelled.fabric)))
 
 -- ---- refusals
 

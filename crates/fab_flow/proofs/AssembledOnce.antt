@@ -14,10 +14,10 @@ use Rattle.fab_implementation.specs.Plain.{PlainImplementation}
 use Rattle.fab_legal.specs.Legal.{IsLegal}
 use Rattle.fab_legal.proofs.NotLegal.{broken_is_not_legal}
 use Rattle.fab_legal.proofs.PackedMade.{packed_is_well_made}
-use Rattle.fab_blif.proofs.Netlists.{netlist_is_well_made}
 use Rattle.fab_designs.specs.Designs.{PlainDesign, SpellsDesign, MeetsDesign}
 use Rattle.fab_designs.specs.Implementations.{ReadsImplementation, MeetsImplementation}
 use Rattle.fab_designs.proofs.Judged.{SameNumber, design_is_judged, implementation_is_judged}
+use Rattle.fab_designs.proofs.SplitNetlists.{netlist_made}
 use Rattle.fab_flow.specs.Resetting.{HasReset}
 use Rattle.fab_flow.specs.Assembling.{AssemblyFiles, Fits, IsReadyToAssemble, MeetsAssembly, MeetsBehindDesign, RefusesAssembly, no_input, unfit, short, illegal}
 use Rattle.fab_flow.proofs.ResetPorts.{has_apart, lacks_once}
@@ -59,10 +59,8 @@ module _ (design : PlainDesign) (made : IsWellMade design.netlist) (implementati
   }
 
 -- a design that is spelled has a well-made netlist
-netlist_made : (files : Map) (names : AssemblyFiles) (design : PlainDesign) → SpellsDesign files names.design design → IsWellMade design.netlist
-netlist_made files names design spelled =
-    let read = spelled.netlist in
-    subst IsWellMade (sym read.spelled.1) (netlist_is_well_made read.bytes read.spelled.0)
+design_made : (files : Map) (names : AssemblyFiles) (design : PlainDesign) → SpellsDesign files names.design design → IsWellMade design.netlist
+design_made files names design spelled = netlist_made spelled.netlist.bytes design.netlist spelled.netlist.spelled
 
 -- an implementation is read, and taken
 abbrev IsAssembled : (files : Map) → (implementation : List ℕ) → PlainDesign → PlainImplementation × Unit {0} → Type 0
@@ -79,7 +77,7 @@ module _ (files : Map) (names : AssemblyFiles) where
   behind_is_judged design spelled =
       turn_is_judged SameNumber (ReadsImplementation files names.implementation design.fabric) (MeetsImplementation files names.implementation design.fabric)
       (λ it. MeetsLast (RefusesAssembly design it))
-      (same_of_equal names.implementation design) (IsTaken design) (λ it read. assembling_is_judged design (netlist_made files names design spelled) it)
+      (same_of_equal names.implementation design) (IsTaken design) (λ it read. assembling_is_judged design (design_made files names design spelled) it)
 
   assembly_is_judged : IsJudged SameNumber (λ (value : PlainDesign × (PlainImplementation × Unit {0})). SpellsDesign files names.design value.0
       × IsAssembled files names.implementation value.0 value.1) (MeetsAssembly files names)

@@ -28,11 +28,11 @@ use Rattle.fab_assemble.specs.fab_fabric_text_defs_Texts.{IsFabricText}
 use Rattle.fab_assemble.specs.fab_features_Naming.{HasPrefixes}
 use Rattle.fab_impl.specs.Spelled.{implementation_text}
 use Rattle.fab_map.specs.Causes.{HasMapCause}
-use Rattle.fab_read.specs.Fabrics.{SpellsFabric}
 use Rattle.fab_spelled_fabrics_laws.proofs.Prefixes.{ArePrefixed, prefixes_kept}
 use Rattle.fab_spelled_fabrics_laws.proofs.Blocks.{names_kept}
 use Rattle.fab_spelled_fabrics_laws.proofs.Readings.{spelled_keep}
-use Rattle.fab_designs.specs.Designs.{PlainDesign, MeetsDesign, SpellsDesign}
+use Rattle.fab_designs.specs.Designs.{PlainDesign, MeetsDesign, SpellsDesign, read_of}
+use Rattle.fab_designs.proofs.SplitNetlists.{design_runs}
 use Rattle.fab_outputs.specs.declared.storing.Output.{Output}
 use Rattle.fab_outputs.specs.Storing.{PlainOutput, Leaves, plain_output}
 use Rattle.fab_flow.specs.Generating.{generated_text, text_length, most_text_bytes, IsTooLong}
@@ -42,6 +42,7 @@ use Rattle.fab_flow.specs.Flowing.{FlowFiles, EndsFlow, FailsToFlow, HasFlowCaus
 use Rattle.fab_flow.specs.Resetting.{HasReset, LacksReset}
 use Rattle.fab_flow.proofs.ResetPorts.{lacks_illegal}
 use Rattle.fab_flow.proofs.Assembled.{is_short}
+use Rattle.fab_flow.proofs.ReadAs.{flow_read}
 use Rattle.fab_outputs.proofs.Ending.{Reads, cause_of_read, searched}
 
 -- ---- what is made
@@ -49,14 +50,14 @@ use Rattle.fab_outputs.proofs.Ending.{Reads, cause_of_read, searched}
 -- the outputs behind an implementation, with those that are assembled of it
 abbrev pub AreAssembled : (fabric : PlainFabric) (netlist : PlainNetlist) (implementation : PlainImplementation) (base text : List ℕ) (outputs : List PlainOutput) → Type 0
 AreAssembled fabric netlist implementation base text outputs =
-    (assembled : List PlainOutput) × IsAssembly fabric netlist implementation base assembled × (outputs ≡ flow_outputs base text (implementation_text fabric implementation) assembled)
+    (assembled : List PlainOutput) × IsAssembly fabric netlist netlist implementation base assembled × (outputs ≡ flow_outputs base text (implementation_text fabric implementation) assembled)
 
 module _ (fabric : PlainFabric) (netlist : PlainNetlist) (fixed : List Pad) (allowed : ℕ) (base text : List ℕ) (implementation : PlainImplementation) (outputs : List PlainOutput) where
   -- the text of a fabric, a mapping onto it, and what is assembled of this
   pub flow_is : text ≡ text_bytes (generated_text fabric) → IsFabricText fabric (generated_text fabric) → ShowsDrives fabric (generated_text fabric)
       → LoadsConfigurations fabric (generated_text fabric) → text_length fabric ≤ most_text_bytes → length text ≤ MAX_FILE_BYTES
       → IsMapping fabric (packed netlist) fixed allowed implementation → IsLegal fabric (packed netlist) fixed implementation
-      → AreAssembled fabric netlist implementation base text outputs → IsFlow fabric netlist fixed allowed base outputs
+      → AreAssembled fabric netlist implementation base text outputs → IsFlow fabric netlist netlist fixed allowed base outputs
   flow_is printed is_text drives loads few readable mapping legal assembled = record {
     implementation = implementation;
     mapping = mapping;
@@ -73,13 +74,18 @@ module _ (fabric : PlainFabric) (netlist : PlainNetlist) (fixed : List Pad) (all
     outputs_are = assembled.2 ∙ ap (λ (bytes : List ℕ). flow_outputs base bytes (implementation_text fabric implementation) assembled.0) printed;
   }
 
--- on a fabric that files spell, names are as texts and features need them
-pub flow_of : (files : Map) (name : List ℕ) (fabric : PlainFabric) (netlist : PlainNetlist) (fixed : List Pad) (allowed : ℕ) (base : List ℕ) (made stored : List Output) → stored ≡ made
-    → SpellsFabric files name fabric → (All IsNamed fabric.types → All HasPrefixes fabric.types → IsFlow fabric netlist fixed allowed base (map plain_output made))
-    → IsFlow fabric netlist fixed allowed base (map plain_output stored)
-flow_of files name fabric netlist fixed allowed base made stored same spelled is =
-    subst (λ (items : List Output). IsFlow fabric netlist fixed allowed base (map plain_output items)) (sym same)
-    (is (spelled_keep IsNamed IsNamed names_kept files name fabric spelled) (spelled_keep ArePrefixed ArePrefixed prefixes_kept files name fabric spelled))
+-- On a fabric that files spell, names are as texts and features need them; and what is packed runs as the netlist in the BLIF file does.
+pub flow_of : (files : Map) (names : FlowFiles) (design : PlainDesign) (spelled : SpellsDesign files names.design design) (allowed : ℕ) (made stored : List Output)
+    → stored ≡ made → (All IsNamed design.fabric.types → All HasPrefixes design.fabric.types
+    → IsFlow design.fabric (used names design) (used names design) design.fixed allowed names.base (map plain_output made))
+    → IsFlow design.fabric (netlist_with names.reset (read_of spelled)) (used names design) design.fixed allowed names.base (map plain_output stored)
+flow_of files names design spelled allowed made stored same is =
+    let read = netlist_with names.reset (read_of spelled) in
+    let fabric = design.fabric in
+    let name = names.design.fabric in
+    subst (λ (items : List Output). IsFlow fabric read (used names design) design.fixed allowed names.base (map plain_output items)) (sym same)
+    (flow_read read (used names design) (design_runs spelled names.reset) fabric design.fixed allowed names.base (map plain_output made)
+    (is (spelled_keep IsNamed IsNamed names_kept files name fabric spelled.fabric) (spelled_keep ArePrefixed ArePrefixed prefixes_kept files name fabric spelled.fabric)))
 
 -- ---- why nothing is made
 

@@ -3,6 +3,7 @@ pub mod Lengths
 pub mod Spelled
 pub mod Generated
 pub mod ResetPorts
+pub mod ReadAs
 pub mod Assembled
 pub mod AssembledOnce
 pub mod BitsMade
@@ -15,3 +16,4 @@ pub mod BitFeaturesMade
 pub mod BitFeaturesOnce
 pub mod PartialMade
 pub mod PartialOnce
+pub use Rattle.fab_designs.proofs.fab_wide_Whole as fab_wide_Whole

@@ -31,7 +31,7 @@ use Rattle.fab_assemble.specs.fab_use_defs_Registers.{design_state}
 use Rattle.fab_assemble.specs.fab_settling_laws_Settling.{SettlesDesign}
 use Rattle.fab_assemble.specs.fab_features_Design.{design_features}
 use Rattle.fab_assemble.specs.fab_features_Features.{IsBitMapOf}
-use Rattle.fab_designs.specs.Designs.{DesignFiles, PlainDesign, design_files, SpellsDesign, MeetsDesign}
+use Rattle.fab_designs.specs.Designs.{DesignFiles, PlainDesign, design_files, SpellsDesign, read_of, MeetsDesign}
 use Rattle.fab_designs.specs.Implementations.{ReadsImplementation, MeetsImplementation}
 use Rattle.fab_outputs.specs.Storing.{PlainOutput, output}
 use Rattle.fab_outputs.specs.Ending.{HasCause}
@@ -64,18 +64,18 @@ assembly_outputs base features words state =
     ∷ output (base ++ codes ".state") (state_text state) ∷ []
 
 -- The outputs are the features of an implementation of a netlist, the bitstream of configuration bits that are those of the implementation and those
--- that the features set, and its state. In each text of the fabric the words run the netlist, from its initial values where flip-flops hold what the
--- state says; and they do so whatever order the text settles in.
-pub record IsAssembly (fabric : PlainFabric) (netlist : PlainNetlist) (implementation : PlainImplementation) (base : List ℕ) (outputs : List PlainOutput) : Type 0 where
+-- that the features set, and its state. In each text of the fabric the words run the netlist that was read, from its initial values where flip-flops hold
+-- what the state says; and they do so whatever order the text settles in. `netlist` is the one that is packed, in which wide covers are split.
+pub record IsAssembly (fabric : PlainFabric) (read netlist : PlainNetlist) (implementation : PlainImplementation) (base : List ℕ) (outputs : List PlainOutput) : Type 0 where
   pub bits : PlainBits
   pub configures : Configures fabric (packed netlist) implementation bits
   pub bit_map : IsBitMapOf fabric (design_features fabric (packed netlist) implementation) bits
   pub outputs_are : outputs ≡ assembly_outputs base (design_features fabric (packed netlist) implementation) (stream fabric bits) (design_state (packed netlist) implementation)
-  pub runs : (text : List PlainModule) → IsFabricText fabric text → RunsDesign fabric text netlist implementation (stream fabric bits) (design_state (packed netlist) implementation)
-  pub settles : (text : List PlainModule) → IsFabricText fabric text → SettlesDesign fabric text netlist implementation (stream fabric bits)
+  pub runs : (text : List PlainModule) → IsFabricText fabric text → RunsDesign fabric text read netlist implementation (stream fabric bits) (design_state (packed netlist) implementation)
+  pub settles : (text : List PlainModule) → IsFabricText fabric text → SettlesDesign fabric text read netlist implementation (stream fabric bits)
 
 -- The files spell a design and an implementation of it, which is legal under the design's constraints, and the outputs are what is made of these. The
--- netlist has the reset port that the implementation names.
+-- netlist has the reset port that the implementation names. What runs is the netlist as it stands in the BLIF file.
 pub record MakesAssembly (files : Map) (names : AssemblyFiles) (outputs : List PlainOutput) : Type 0 where
   pub design : PlainDesign
   pub implementation : PlainImplementation
@@ -84,7 +84,8 @@ pub record MakesAssembly (files : Map) (names : AssemblyFiles) (outputs : List P
   pub resets : HasReset implementation.reset design.netlist
   pub fits : Fits design.fabric (netlist_with implementation.reset design.netlist)
   pub legal : IsLegal design.fabric (packed (netlist_with implementation.reset design.netlist)) design.fixed implementation
-  pub made : IsAssembly design.fabric (netlist_with implementation.reset design.netlist) implementation names.base outputs
+  pub made : IsAssembly design.fabric (netlist_with implementation.reset (read_of spelled)) (netlist_with implementation.reset design.netlist) implementation
+      names.base outputs
 
 -- ---- the first refusal
 

@@ -23,7 +23,7 @@ use Rattle.fab_assemble.specs.fab_use_defs_Registers.{design_state}
 use Rattle.fab_assemble.specs.fab_settling_laws_Settling.{SettlesDesign}
 use Rattle.fab_impl.specs.Spelled.{implementation_text}
 use Rattle.fab_map.specs.Causes.{HasMapCause}
-use Rattle.fab_designs.specs.Designs.{DesignFiles, PlainDesign, design_files, SpellsDesign, MeetsDesign}
+use Rattle.fab_designs.specs.Designs.{DesignFiles, PlainDesign, design_files, SpellsDesign, read_of, MeetsDesign}
 use Rattle.fab_outputs.specs.Storing.{PlainOutput, output}
 use Rattle.fab_outputs.specs.Ending.{HasSearchCause}
 use Rattle.fab_flow.specs.Generating.{generated_text, text_length, most_text_bytes, IsTooLong}
@@ -49,9 +49,9 @@ used names design = netlist_with names.reset design.netlist
 abbrev pub flow_outputs : (base text implementation : List ℕ) → (assembled : List PlainOutput) → List PlainOutput
 flow_outputs base text implementation assembled = output (base ++ codes ".v") text ∷ output (base ++ codes ".impl") implementation ∷ assembled
 
--- The outputs are the text of a chip, and what makes a netlist run on it. `fixed` says on which sites some ports have to stand, and `allowed` how many
--- rounds the router may take.
-pub record IsFlow (fabric : PlainFabric) (netlist : PlainNetlist) (fixed : List Pad) (allowed : ℕ) (base : List ℕ) (outputs : List PlainOutput) : Type 0 where
+-- The outputs are the text of a chip, and what makes a netlist run on it. It runs as the netlist that was read; `netlist` is the one that is packed, in which
+-- wide covers are split. `fixed` says on which sites some ports have to stand, and `allowed` how many rounds the router may take.
+pub record IsFlow (fabric : PlainFabric) (read netlist : PlainNetlist) (fixed : List Pad) (allowed : ℕ) (base : List ℕ) (outputs : List PlainOutput) : Type 0 where
   -- One implementation stands behind all outputs. It is a mapping of the packed netlist: placed so that no exchange lowers the cost, and routed,
   pub implementation : PlainImplementation
   pub mapping : IsMapping fabric (packed netlist) fixed allowed implementation
@@ -67,21 +67,22 @@ pub record IsFlow (fabric : PlainFabric) (netlist : PlainNetlist) (fixed : List 
   pub readable : length (text_bytes (generated_text fabric)) ≤ MAX_FILE_BYTES
   -- BASE.fasm has the features of this implementation, BASE.bit the words of its bits, and BASE.state its pads and what its flip-flops begin with.
   pub assembled : List PlainOutput
-  pub assembly : IsAssembly fabric netlist implementation base assembled
-  -- The headline: the text in BASE.v, loaded with the words in BASE.bit, runs the netlist at the pads in BASE.state, from the values there.
-  pub runs : RunsDesign fabric (generated_text fabric) netlist implementation (stream fabric assembly.bits) (design_state (packed netlist) implementation)
+  pub assembly : IsAssembly fabric read netlist implementation base assembled
+  -- The headline: the text in BASE.v, loaded with the words in BASE.bit, runs the netlist that was read at the pads in BASE.state, from the values there.
+  pub runs : RunsDesign fabric (generated_text fabric) read netlist implementation (stream fabric assembly.bits) (design_state (packed netlist) implementation)
   -- It does so step by step, whatever order its points are activated in.
-  pub settles : SettlesDesign fabric (generated_text fabric) netlist implementation (stream fabric assembly.bits)
+  pub settles : SettlesDesign fabric (generated_text fabric) read netlist implementation (stream fabric assembly.bits)
   -- These are the five files, in the order in which they are stored.
   pub outputs_are : outputs ≡ flow_outputs base (text_bytes (generated_text fabric)) (implementation_text fabric implementation) assembled
 
--- The files spell a design that its fabric has sites for, and the outputs are those of a flow from it, with the reset port that is named.
+-- The files spell a design that its fabric has sites for, and the outputs are those of a flow from it, with the reset port that is named. What runs is the
+-- netlist as it stands in the BLIF file.
 pub record MakesFlow (files : Map) (names : FlowFiles) (allowed : ℕ) (outputs : List PlainOutput) : Type 0 where
   pub design : PlainDesign
   pub spelled : SpellsDesign files names.design design
   pub resets : HasReset names.reset design.netlist
   pub fits : Fits design.fabric (used names design)
-  pub made : IsFlow design.fabric (used names design) design.fixed allowed names.base outputs
+  pub made : IsFlow design.fabric (netlist_with names.reset (read_of spelled)) (used names design) design.fixed allowed names.base outputs
 
 -- ---- the first refusal
 

@@ -71,8 +71,8 @@ fn assembled(
     ensures map { IfOk result (λ it. All IsNamed design.now.fabric.types → All HasPrefixes design.now.fabric.types → IsBitMapOf design.now.fabric it.features.items (plain_bits it.bits)) }
     ensures words { IfOk result (λ it. it.words.items ≡ stream design.now.fabric (plain_bits it.bits)) }
     ensures state { IfOk result (λ it. it.state ≡ design_state (packed_of design.now.netlist) implementation) }
-    ensures runs { IfOk result (λ it. (text : List PlainModule) → IsFabricText design.now.fabric text → RunsDesign design.now.fabric text design.now.netlist implementation it.words.items it.state) }
-    ensures settles { IfOk result (λ it. (text : List PlainModule) → IsFabricText design.now.fabric text → SettlesDesign design.now.fabric text design.now.netlist implementation it.words.items) }
+    ensures runs { IfOk result (λ it. (text : List PlainModule) → IsFabricText design.now.fabric text → RunsDesign design.now.fabric text design.now.netlist design.now.netlist implementation it.words.items it.state) }
+    ensures settles { IfOk result (λ it. (text : List PlainModule) → IsFabricText design.now.fabric text → SettlesDesign design.now.fabric text design.now.netlist design.now.netlist implementation it.words.items) }
     ensures refused { IfErr result (λ fault. (fault ≡ faults.Memory) ⊎ RefusesImplementation design.now.fabric design.now.netlist design.now.fixed implementation fault) }
 {
     let made = assemble(
@@ -120,7 +120,7 @@ pub(crate) fn assembly(
     requires lines { InputsAreLines implementation }
     ensures legal { OnOk result (IsLegal design.now.fabric (packed_of design.now.netlist) design.now.fixed implementation) }
     ensures made { IfOk result (λ outputs. All IsNamed design.now.fabric.types → All HasPrefixes design.now.fabric.types
-        → IsAssembly design.now.fabric design.now.netlist implementation base.now (map plain_output outputs.items)) }
+        → IsAssembly design.now.fabric design.now.netlist design.now.netlist implementation base.now (map plain_output outputs.items)) }
     ensures names { IsUtf8 base.now → IfOk result (λ outputs. All (λ output. IsUtf8 output.name) outputs.items) }
     ensures refused { IfErr result (λ fault. (fault ≡ faults.Memory) ⊎ RefusesImplementation design.now.fabric design.now.netlist design.now.fixed implementation fault) }
 {
@@ -142,7 +142,7 @@ fn packed_assembly(
     ensures fits { OnOk result (Fits design.now.fabric design.now.netlist) }
     ensures legal { OnOk result (IsLegal design.now.fabric (packed_of design.now.netlist) design.now.fixed implementation) }
     ensures made { IfOk result (λ outputs. All IsNamed design.now.fabric.types → All HasPrefixes design.now.fabric.types
-        → IsAssembly design.now.fabric design.now.netlist implementation base.now (map plain_output outputs.items)) }
+        → IsAssembly design.now.fabric design.now.netlist design.now.netlist implementation base.now (map plain_output outputs.items)) }
     ensures names { IsUtf8 base.now → IfOk result (λ outputs. All (λ output. IsUtf8 output.name) outputs.items) }
     ensures refused { IfErr result (λ fault. (fault ≡ faults.Memory) ⊎ RefusesImplementation design.now.fabric design.now.netlist design.now.fixed implementation fault) }
 {
@@ -164,7 +164,7 @@ fn reset_assembly(
     ensures fits { OnOk result (Fits design.fabric (netlist_with implementation.reset design.netlist)) }
     ensures legal { OnOk result (IsLegal design.fabric (packed_of (netlist_with implementation.reset design.netlist)) design.fixed implementation) }
     ensures made { IfOk result (λ outputs. All IsNamed design.fabric.types → All HasPrefixes design.fabric.types
-        → IsAssembly design.fabric (netlist_with implementation.reset design.netlist) implementation base.now (map plain_output outputs.items)) }
+        → IsAssembly design.fabric (netlist_with implementation.reset design.netlist) (netlist_with implementation.reset design.netlist) implementation base.now (map plain_output outputs.items)) }
     ensures names { IsUtf8 base.now → IfOk result (λ outputs. All (λ output. IsUtf8 output.name) outputs.items) }
     ensures refused { IfErr result (λ fault. (fault ≡ faults.Memory) ⊎ RefusesAssembly design implementation fault) }
 {
@@ -175,7 +175,7 @@ fn reset_assembly(
 /// Reads a design and an implementation of it, and stores what a device is given: the features in BASE.fasm, the
 /// bitstream in BASE.bit, and in BASE.state the ports at their pads with what the flip-flops hold at first.
 ///
-/// The netlist takes the reset port that the implementation names, if it names one.
+/// The netlist takes the reset port that the implementation names, if it names one. Its wide covers are split before it is packed.
 ///
 /// The faults of the files come as `read_design` and `read_implementation` give them. Behind them come `Illegal` with rule 12, where the reset port is no
 /// data input of the netlist, `Short`, where the fabric has fewer LUT4c than the packed netlist has cells, or fewer IO pads than it has data ports, and

@@ -71,7 +71,7 @@ fn all_outputs(
     requires on_fabric { IsOnFabric design.now.fabric implementation }
     requires inputs { InputsAreLines implementation }
     ensures made { IfOk result (λ outputs. All IsNamed design.now.fabric.types → All HasPrefixes design.now.fabric.types
-        → (assembled : List PlainOutput) × IsAssembly design.now.fabric design.now.netlist implementation base.now assembled
+        → (assembled : List PlainOutput) × IsAssembly design.now.fabric design.now.netlist design.now.netlist implementation base.now assembled
         × (map plain_output outputs.items ≡ flow_outputs base.now text.items (implementation_text design.now.fabric implementation) assembled)) }
     ensures names { IsUtf8 base.now → IfOk result (λ outputs. All (λ output. IsUtf8 output.name) outputs.items) }
     ensures memory { IfErr result (λ fault. fault ≡ faults.Memory) }
@@ -101,7 +101,7 @@ fn mapped_outputs<P: Progress>(
     ensures made { IfOk result (λ outputs. All IsNamed design.now.fabric.types → All HasPrefixes design.now.fabric.types
         → (implementation : PlainImplementation) × IsMapping design.now.fabric (packed_of design.now.netlist) design.now.fixed rounds implementation
         × IsLegal design.now.fabric (packed_of design.now.netlist) design.now.fixed implementation
-        × ((assembled : List PlainOutput) × IsAssembly design.now.fabric design.now.netlist implementation base.now assembled
+        × ((assembled : List PlainOutput) × IsAssembly design.now.fabric design.now.netlist design.now.netlist implementation base.now assembled
         × (map plain_output outputs.items ≡ flow_outputs base.now text.items (implementation_text design.now.fabric implementation) assembled))) }
     ensures names { IsUtf8 base.now → IfOk result (λ outputs. All (λ output. IsUtf8 output.name) outputs.items) }
     ensures ends { IfErr result (EndsUnmapped design.now rounds) }
@@ -131,7 +131,8 @@ fn flowed<P: Progress>(
     ensures resets { OnOk result (HasReset (option_copied reset.entry) design.netlist) }
     ensures fits { OnOk result (Fits design.fabric (netlist_with (option_copied reset.entry) design.netlist)) }
     ensures made { IfOk result (λ outputs. All IsNamed design.fabric.types → All HasPrefixes design.fabric.types
-        → IsFlow design.fabric (netlist_with (option_copied reset.entry) design.netlist) design.fixed rounds base.now (map plain_output outputs.items)) }
+        → IsFlow design.fabric (netlist_with (option_copied reset.entry) design.netlist) (netlist_with (option_copied reset.entry) design.netlist) design.fixed rounds
+        base.now (map plain_output outputs.items)) }
     ensures names { IsUtf8 base.now → IfOk result (λ outputs. All (λ output. IsUtf8 output.name) outputs.items) }
     ensures ends { IfErr result (EndsFlow name.now (option_copied reset.entry) design rounds) }
 {

@@ -12,7 +12,8 @@ use Rattle.fab_grammar_defs.proofs.Once.{text_once}
 use Rattle.fab_netlist.specs.Cycles.{HasNoCycle}
 use Rattle.fab_netlist.specs.Meaning.{IsRun}
 use Rattle.fab_netlist.specs.Packing.{packed}
-use Rattle.fab_netlist.specs.Plain.{PlainNetlist}
+use Rattle.fab_netlist.specs.Plain.{PlainNetlist, name_of}
+use Rattle.fab_netlist.specs.Resets.{netlist_with}
 use Rattle.fab_netlist.specs.WellMade.{IsWellMade}
 use Rattle.fab_netlist.proofs.Resetting.{made_with, no_cycle_with}
 use Rattle.fab_model.specs.Grid.{PlainFabric}
@@ -39,13 +40,16 @@ use Rattle.fab_netlist_traces_laws.specs.SimulatedLaws.{LegalDesignsSimulate}
 use Rattle.fab_netlist_traces_laws.specs.OrderedDesigns.{EachRight}
 use Rattle.fab_netlist_traces_laws.specs.OrderedLaws.{LegalDesignsSimulateInOrder}
 use Rattle.fab_spelled_designs_laws.specs.DesignLaws.{IsSound, LegalDesignsAreSpelled, SpelledDesignsAreSound}
+use Rattle.fab_designs.specs.Designs.{read_of}
+use Rattle.fab_designs.proofs.SplitNetlists.{design_runs, netlist_acyclic}
 use Rattle.fab_outputs.specs.Storing.{PlainOutput, output, with_outputs}
 use Rattle.fab_flow_laws.specs.fab_flow_Generating.{generated_text}
 use Rattle.fab_flow_laws.specs.fab_flow_Flowing.{FlowFiles, MakesFlow, used}
 use Rattle.fab_simulate_command.specs.Simulating.{MakesTrace, Shows, SimulationFiles, simulation_files}
 use Rattle.fab_flow_laws.specs.StoredLaws.{FlowFilesStand, HoldsFlow, KeepsFlowFiles, flow_state}
 use Rattle.fab_flow_laws.proofs.HandedOut.{found_is, found_short}
-use Rattle.fab_flow_laws.proofs.Ports.{input_names, output_names}
+use Rattle.fab_flow_laws.proofs.Ports.{input_names, output_names, output_ports}
+use Rattle.fab_flow_laws.proofs.ReadTraces.{traces_read}
 use Rattle.fab_flow_laws.specs.SimulatedLaws.{KnowsDesign, TracesNetlist}
 use Rattle.fab_flow_laws.proofs.Digits.{same_digits}
 use Rattle.fab_flow_laws.proofs.Narrow.{narrow_text}
@@ -117,7 +121,7 @@ module _ (stand : FlowFilesStand) (read_again : GeneratedTextsAreRead) (simulate
 
   no_cycle : HasNoCycle netlist
   no_cycle =
-      no_cycle_with flow.design.netlist names.reset (subst HasNoCycle (sym flow.spelled.netlist.spelled.1) flow.spelled.netlist.spelled.0.acyclic)
+      no_cycle_with flow.design.netlist names.reset (netlist_acyclic flow.spelled.netlist.bytes flow.design.netlist flow.spelled.netlist.spelled)
 
   printed : IsPrintableText (generated_text fabric) × SpellsText 300 128 (text_bytes (generated_text fabric)) (generated_text fabric)
   printed = read_again files names.design.fabric fabric flow.spelled.fabric sound.fabric sound.tiles
@@ -175,8 +179,8 @@ module _ (stand : FlowFilesStand) (read_again : GeneratedTextsAreRead) (simulate
   traces_netlist =
       let ins_are : ports_of made.made.state.ins ≡ (packed netlist).inputs =
       ap (λ (s : PlainState). ports_of s.ins) state_is ∙ input_names implementation.ins (packed netlist).inputs in
-      let outs_are : ports_of made.made.state.outs ≡ map (λ port. port.0) (packed netlist).outputs =
-      ap (λ (s : PlainState). ports_of s.outs) state_is ∙ output_names implementation.outs (packed netlist).outputs in
+      let outs_are : ports_of made.made.state.outs ≡ map (name_of netlist) netlist.outputs =
+      ap (λ (s : PlainState). ports_of s.outs) state_is ∙ output_names implementation.outs (packed netlist).outputs ∙ output_ports netlist in
       let it = shows_run in
       let values = shown_values netlist made.made.traces.shown it.nows it.shows in
       let given = made.made.given in
@@ -192,5 +196,12 @@ module _ (stand : FlowFilesStand) (read_again : GeneratedTextsAreRead) (simulate
         outputs_are = made.outputs_are ∙ ap (λ (b : List ℕ). output trace b ∷ []) (made.made.traces.bytes_are ∙ (λ j. trace_text (outs_are j) (values j)));
       }
 
-  pub simulates_flow : TracesNetlist later stimulus trace netlist outputs × KnowsDesign fabric netlist implementation order made
-  simulates_flow = (traces_netlist, knows_design fabric netlist implementation later _ order outputs made shows_run.knows)
+  -- and so it is with the netlist as it stands in the BLIF file
+  abbrev read : PlainNetlist
+  read = netlist_with names.reset (read_of flow.spelled)
+
+  pub simulates_flow : TracesNetlist later stimulus trace read outputs × KnowsDesign fabric netlist implementation order made
+  simulates_flow = (
+    traces_read read netlist (design_runs flow.spelled names.reset) later stimulus trace outputs traces_netlist,
+    knows_design fabric netlist implementation later _ order outputs made shows_run.knows,
+  )

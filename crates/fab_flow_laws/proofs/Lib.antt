@@ -1,5 +1,6 @@
 pub mod HandedOut
 pub mod Ports
+pub mod ReadTraces
 pub mod Stored
 pub mod Words
 pub mod Ready

@@ -120,7 +120,7 @@ module _ (models : List PlainModel) (names : List (List ℕ)) (same : names ≡ 
       by_body (inputs list) body is at = cc
       by_body (outputs list) body is at = cc
       by_body (clock port) body is at = cc
-      by_body (cover ins output table) body is at = cc
+      by_body (cover ins output on rows) body is at = cc
       by_body (latch input output control initial) body is at = cc
       by_body (instance name words) body is at = told name words (position (bytes_eq name) names) at body (ap (λ (n : List (List ℕ)). position (bytes_eq name) n) (sym same)) is
 

@@ -93,7 +93,7 @@ module _ (models : List PlainModel) (ranks : List ℕ) where
       by_body (inputs ports) body is = cc
       by_body (outputs ports) body is = cc
       by_body (clock port) body is = cc
-      by_body (cover ins output table) body is = cc
+      by_body (cover ins output on rows) body is = cc
       by_body (latch input output control initial) body is = cc
       by_body (instance name words) body is =
           elim (cases_Bool (nat_lt (rank place) (rank inner))) [
@@ -162,7 +162,7 @@ module _ (models : List PlainModel) (ranks : List ℕ) where
         by_body (inputs ports) body is = cc
         by_body (outputs ports) body is = cc
         by_body (clock port) body is = cc
-        by_body (cover ins output table) body is = cc
+        by_body (cover ins output on rows) body is = cc
         by_body (latch input output control initial) body is = cc
         by_body (instance name words) body is = told name words (position (bytes_eq name) names) body (ap (λ (n : List (List ℕ)). position (bytes_eq name) n) (sym same)) is
 

@@ -107,7 +107,7 @@ pub inner_within : (names : List (List ℕ)) (body : PlainBody) (place : ℕ) �
 inner_within names (inputs ports) place is = cc
 inner_within names (outputs ports) place is = cc
 inner_within names (clock port) place is = cc
-inner_within names (cover ins output table) place is = cc
+inner_within names (cover ins output on rows) place is = cc
 inner_within names (latch input output control initial) place is = cc
 inner_within names (instance name words) place is = position_within (bytes_eq name) names place is
 

@@ -1,45 +1,46 @@
 -- The clocks of the inner text, seen from the outer one.
-use Rattle.std.proofs.Common.{◌≡◌, ℕ, Bool, true, false, List, [], ◌∷◌, Option, Some, None, if◌then◌else◌, refl, ap, ap₂, ◌∙◌, inl, inr}
+use Rattle.std.proofs.Common.{◌≡◌, ℕ, Bool, true, false, List, [], ◌∷◌, Option, Some, None, if◌then◌else◌, refl, sym, ap, ap₂, ◌∙◌, inl, inr}
 use Rattle.std.proofs.lemmas.Bool.{cases_Bool}
 use Rattle.fab_syntax.specs.Plain.{PlainExpr, constant, variable, pick, part, concatenation, complement, operation, conditional, PlainModule}
 use Rattle.fab_syntax.specs.Declarations.{is_input_of}
 use Rattle.fab_meaning.specs.Points.{Path, instance_in, module_at}
 use Rattle.fab_meaning.specs.Runs.{join_of, named_by, clock_of, is_clock}
-use Rattle.fab_nested_laws.specs.Nested.{path_in, StandsIn, IsSameClock}
+use Rattle.fab_nested_laws.specs.Nested.{path_in, StandsIn}
 use Rattle.fab_nested_laws.proofs.Stands.{above, same_module}
 
--- two ways up that agree on names agree on what is joined
-leads_alike : (clock : List ℕ) (lead other : List ℕ → Option (List ℕ)) → ((name : List ℕ) → is_clock clock (lead name) ≡ is_clock clock (other name)) →
-    (is_input : Bool) (to : Option PlainExpr) →
-    is_clock clock (if is_input then named_by to lead else None) ≡ is_clock clock (if is_input then named_by to other else None)
-leads_alike clock lead other each false to = refl
-leads_alike clock lead other each true None = refl
-leads_alike clock lead other each true (Some (variable name)) = each name
-leads_alike clock lead other each true (Some (constant bits)) = refl
-leads_alike clock lead other each true (Some (pick name index)) = refl
-leads_alike clock lead other each true (Some (part name high low)) = refl
-leads_alike clock lead other each true (Some (concatenation parts)) = refl
-leads_alike clock lead other each true (Some (complement e)) = refl
-leads_alike clock lead other each true (Some (operation op a b)) = refl
-leads_alike clock lead other each true (Some (conditional c a b)) = refl
+-- two ways up that agree on names agree on what is joined; of the inner text it is asked what `ticks` tells of an input of its top
+leads_alike : (clock : List ℕ) (ticks : Option (List ℕ) → Bool) → ticks None ≡ false → (lead other : List ℕ → Option (List ℕ)) →
+    ((name : List ℕ) → is_clock clock (lead name) ≡ ticks (other name)) → (is_input : Bool) (to : Option PlainExpr) →
+    is_clock clock (if is_input then named_by to lead else None) ≡ ticks (if is_input then named_by to other else None)
+leads_alike clock ticks no lead other each false to = sym no
+leads_alike clock ticks no lead other each true None = sym no
+leads_alike clock ticks no lead other each true (Some (variable name)) = each name
+leads_alike clock ticks no lead other each true (Some (constant bits)) = sym no
+leads_alike clock ticks no lead other each true (Some (pick name index)) = sym no
+leads_alike clock ticks no lead other each true (Some (part name high low)) = sym no
+leads_alike clock ticks no lead other each true (Some (concatenation parts)) = sym no
+leads_alike clock ticks no lead other each true (Some (complement e)) = sym no
+leads_alike clock ticks no lead other each true (Some (operation op a b)) = sym no
+leads_alike clock ticks no lead other each true (Some (conditional c a b)) = sym no
 
-module _ (inner outer : List PlainModule) (i : List ℕ) (stands : StandsIn inner outer i) (clock : List ℕ) (same : IsSameClock inner outer i clock) where
-  at_top : (m : PlainModule) (own : List ℕ) → module_at inner [] ≡ Some m → is_clock clock (clock_of outer (i ∷ []) own) ≡ is_clock clock (clock_of inner [] own)
+module _ (inner outer : List PlainModule) (i : List ℕ) (stands : StandsIn inner outer i) (clock : List ℕ) (ticks : Option (List ℕ) → Bool) (no : ticks None ≡ false)
+    (same : (name : List ℕ) → is_input_of (module_at inner []) name ≡ true → is_clock clock (clock_of outer (i ∷ []) name) ≡ ticks (Some name)) where
+  at_top : (m : PlainModule) (own : List ℕ) → module_at inner [] ≡ Some m → is_clock clock (clock_of outer (i ∷ []) own) ≡ ticks (clock_of inner [] own)
   at_top m own at =
       elim (cases_Bool (is_input_of (module_at inner []) own)) [
         | inl input ↦ same own input ∙ rw input refl
         | inr other ↦ (
             let none : is_input_of (module_at outer (i ∷ [])) own ≡ false = ap (λ o. is_input_of o own) (same_module inner outer i stands [] m at) ∙ other in
-            rw (none, other) refl)
+            rw (none, other) (sym no))
       ]
 
   -- by induction on the path
   pub same_clock : (path : Path) (m : PlainModule) (own : List ℕ) → module_at inner path ≡ Some m →
-      is_clock clock (clock_of outer (path_in i path) own) ≡ is_clock clock (clock_of inner path own)
+      is_clock clock (clock_of outer (path_in i path) own) ≡ ticks (clock_of inner path own)
   same_clock [] m own at = at_top m own at
   same_clock (j ∷ path) m own at =
-      above inner (is_clock clock (clock_of outer (path_in i (j ∷ path)) own) ≡ is_clock clock (clock_of inner (j ∷ path) own)) j path m at (λ holder here.
+      above inner (is_clock clock (clock_of outer (path_in i (j ∷ path)) own) ≡ ticks (clock_of inner (j ∷ path) own)) j path m at (λ holder here.
       ap₂ (λ o holds. is_clock clock (if is_input_of o own then named_by (join_of (instance_in holds j) own) (λ name. clock_of outer (path_in i path) name) else None))
       (same_module inner outer i stands (j ∷ path) m at) (same_module inner outer i stands path holder here)
-      ∙ leads_alike clock (λ name. clock_of outer (path_in i path) name) (λ name. clock_of inner path name) (λ name. same_clock path holder name here)
+      ∙ leads_alike clock ticks no (λ name. clock_of outer (path_in i path) name) (λ name. clock_of inner path name) (λ name. same_clock path holder name here)
       (is_input_of (module_at inner (j ∷ path)) own) (join_of (instance_in (module_at inner path) j) own))

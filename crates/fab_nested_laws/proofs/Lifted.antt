@@ -10,11 +10,12 @@ use Rattle.fab_syntax.specs.Declarations.{module_named, is_input_of, width_in}
 use Rattle.fab_meaning.specs.Value.{value, bit_at}
 use Rattle.fab_meaning.specs.Points.{Path, Point, point, Driver, outside, copy, bit_of, flop, hold, JoinDrives, ItemDrives, IsDrivenByItem, Drives, module_at}
 use Rattle.fab_meaning.specs.Settled.{Assignment, names_at, shown}
-use Rattle.fab_meaning.specs.Runs.{kept}
+use Rattle.fab_meaning.specs.Runs.{is_clock, kept}
 use Rattle.fab_meaning.specs.Reads.{mentions, same_path, is_declared, expression_reads, reads, next_reads}
 use Rattle.fab_meaning.specs.Loading.{IsDerived}
 use Rattle.fab_meaning.proofs.Dependence.{value_same, same_path_refl, same_point_refl, same_point_is}
 use Rattle.fab_nested_laws.specs.Nested.{path_in, inside, within, NamesAlike, StandsIn, IsSameClock, IsShown, IsKept, IsNested}
+use Rattle.fab_nested_laws.specs.Together.{is_among, kept_together, TicksAs, IsKeptTogether, NestedTicksTogether}
 use Rattle.fab_nested_laws.proofs.Stands.{items_alike, module_inside, same_module}
 use Rattle.fab_nested_laws.proofs.Clocks.{same_clock}
 
@@ -52,6 +53,11 @@ pub record IsReadInside (i : List ℕ) (q : Point) (read : Point → Bool) : Typ
   pub is_read : read front ≡ true
   pub is : inside i front ≡ q
 
+-- what is no input of the top is none of the clocks
+none_among : (clocks : List (List ℕ)) → is_among clocks None ≡ false
+none_among [] = refl
+none_among (clock ∷ clocks) = none_among clocks
+
 module _ (inner outer : List PlainModule) (i : List ℕ) (stands : StandsIn inner outer i) where
   -- ---- values
 
@@ -79,9 +85,19 @@ module _ (inner outer : List PlainModule) (i : List ℕ) (stands : StandsIn inne
   kept_inside clock same held now p (copy other) place = refl
   kept_inside clock same held now p (bit_of path e bit) place = refl
   kept_inside clock same held now p (flop path own next bit) place =
-      ap₂ (λ (ticks : Bool) bits. if ticks then bit_at bits bit else held (inside i p)) (same_clock inner outer i stands clock same path place.here own place.stands)
+      ap₂ (λ (ticks : Bool) bits. if ticks then bit_at bits bit else held (inside i p)) (same_clock inner outer i stands clock (is_clock clock) refl same path place.here own place.stands)
       (value_inside now path place next)
   kept_inside clock same held now p (hold path gate e bit) place = refl
+
+  pub kept_together_inside : (clock : List ℕ) (clocks : List (List ℕ)) → TicksAs inner outer i clock clocks → (held now : Assignment) (p : Point) (d : Driver) → HasPlace inner d →
+      kept outer clock held now (inside i p) (lifted i d) ≡ kept_together inner clocks (within i held) (within i now) p d
+  kept_together_inside clock clocks same held now p outside place = absurd place
+  kept_together_inside clock clocks same held now p (copy other) place = refl
+  kept_together_inside clock clocks same held now p (bit_of path e bit) place = refl
+  kept_together_inside clock clocks same held now p (flop path own next bit) place =
+      ap₂ (λ (ticks : Bool) bits. if ticks then bit_at bits bit else held (inside i p))
+      (same_clock inner outer i stands clock (is_among clocks) (none_among clocks) same path place.here own place.stands) (value_inside now path place next)
+  kept_together_inside clock clocks same held now p (hold path gate e bit) place = refl
 
   -- ---- reads
 
@@ -184,5 +200,15 @@ module _ (inner outer : List PlainModule) (i : List ℕ) (stands : StandsIn inne
   ticks clock held now next same p kept_there d (inr by) =
       let there = driven_inside p d by in kept_there (lifted i d) there.1 ∙ kept_inside clock same held now p d there.0
 
+  together : (clock : List ℕ) (clocks : List (List ℕ)) (held now next : Assignment) → TicksAs inner outer i clock clocks → (p : Point) →
+      IsKept outer clock held now next (inside i p) → IsKeptTogether inner clocks (within i held) (within i now) (within i next) p
+  together clock clocks held now next same p kept_there d (inl out) =
+      subst (λ e. within i next p ≡ kept_together inner clocks (within i held) (within i now) p e) (sym out.is) (input_kept clock held now next p out.top out.input kept_there)
+  together clock clocks held now next same p kept_there d (inr by) =
+      let there = driven_inside p d by in kept_there (lifted i d) there.1 ∙ kept_together_inside clock clocks same held now p d there.0
+
   pub nested : IsNested inner outer i
   nested = record { settles = settles; ticks = ticks }
+
+pub nested_ticks_together : NestedTicksTogether
+nested_ticks_together inner outer i stands clock clocks held now next same p kept_there = together inner outer i stands clock clocks held now next same p kept_there

@@ -21,3 +21,5 @@ pub mod Carried
 pub mod Examples
 pub mod RunLaw
 pub mod Resetting
+pub mod Rows
+pub mod Bare

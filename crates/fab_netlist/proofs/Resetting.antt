@@ -100,7 +100,7 @@ module _ (place : ℕ) (netlist : PlainNetlist) where
 -- ---- with the reset port of a name
 
 -- the place of a name is that of an input
-place_below : (netlist : PlainNetlist) (port : List ℕ) (place : ℕ) → reset_place netlist port ≡ Some place → place < length netlist.inputs
+pub place_below : (netlist : PlainNetlist) (port : List ℕ) (place : ℕ) → reset_place netlist port ≡ Some place → place < length netlist.inputs
 place_below netlist port place =
     by_test (position_or_len (bytes_eq port) (names netlist port)) (length (names netlist port)) (as_many netlist port)
   where

@@ -3,6 +3,7 @@ pub mod WellMade
 pub mod Cycles
 pub mod Meaning
 pub mod Resets
+pub mod Wide
 pub mod Kept
 pub mod Packed
 pub mod Packing

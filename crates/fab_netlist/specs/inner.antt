@@ -2,5 +2,6 @@
 pub mod Passes
 pub mod Order
 pub mod Search
+pub mod Skeleton
 pub mod Survey
 pub mod Places

@@ -13,6 +13,7 @@ mod packing;
 mod refusal;
 mod survey;
 mod walk;
+mod wide;
 
 pub use cycle::step;
 pub use keeping::kept;
@@ -20,6 +21,7 @@ pub use net_id::NetId;
 pub use netlist::{Cover, Latch, MAX_NETS, Netlist};
 pub use packing::{Cell, Packed, pack};
 pub use refusal::check_acyclic;
+pub use wide::{Cube, WideCover, WideNetlist, check_acyclic_wide};
 
 /// Covers have a rank exactly where no list of them is a cycle.
 pub fn rank_means_no_cycle()

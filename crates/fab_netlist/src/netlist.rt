@@ -49,23 +49,23 @@ pub struct Latch {
     pub init: u8,
 }
 
-/// What a netlist is made of.
+/// What a netlist is made of. A search for cycles goes through it.
 #[derive(Drop)]
-pub(crate) struct Parts {
-    pub nets: Vec<Name>,
-    pub inputs: Vec<u32>,
-    pub outputs: Vec<u32>,
-    pub covers: Vec<Cover>,
-    pub latches: Vec<Latch>,
+pub(crate) struct Parts<'a> {
+    pub nets: &'a [Name],
+    pub inputs: &'a [u32],
+    pub outputs: &'a [u32],
+    pub covers: &'a [Cover],
+    pub latches: &'a [Latch],
+    pub reset: Option<u32>,
 }
 
-impl Model for Parts {
-    ghost use Rattle.std.specs.Prelude.{None};
+impl<'a> Model for Parts<'a> {
     ghost use Rattle.fab_netlist.specs.Plain.{PlainNetlist};
 
     ghost Value = { PlainNetlist };
 
-    ghost view = { λ parts. record { nets = parts.nets.items; inputs = parts.inputs.items; outputs = parts.outputs.items; covers = parts.covers.items; latches = parts.latches.items; reset = None } };
+    ghost view = { λ parts. record { nets = parts.nets.now; inputs = parts.inputs.now; outputs = parts.outputs.now; covers = parts.covers.now; latches = parts.latches.now; reset = parts.reset } };
 }
 
 /// In what order the covers of a netlist may be asked.
@@ -122,20 +122,14 @@ impl Netlist {
         ensures { IfOk result (λ netlist. netlist ≡ record { nets = nets.items; inputs = inputs.items; outputs = outputs.items; covers = covers.items; latches = latches.items; reset = None }) }
     {
         let parts = Parts {
-            nets,
-            inputs,
-            outputs,
-            covers,
-            latches,
+            nets: &nets,
+            inputs: &inputs,
+            outputs: &outputs,
+            covers: &covers,
+            latches: &latches,
+            reset: None,
         };
         let order = find_order(alloc, &parts)?;
-        let Parts {
-            nets,
-            inputs,
-            outputs,
-            covers,
-            latches,
-        } = parts;
         Ok(Netlist {
             nets,
             inputs,
@@ -152,6 +146,20 @@ impl Netlist {
         ensures { IsWellMade self.now }
     {
         let _ = &self.nets;
+    }
+
+    /// What it is made of, as a search for cycles sees it.
+    pub(crate) fn parts(&self) -> Parts<'_>
+        ensures { result ≡ self.now }
+    {
+        Parts {
+            nets: &self.nets,
+            inputs: &self.inputs,
+            outputs: &self.outputs,
+            covers: &self.covers,
+            latches: &self.latches,
+            reset: self.reset,
+        }
     }
 
     /// Whether a net has a name.

@@ -8,26 +8,28 @@ ghost use Rattle.fab_netlist.specs.Cycles.{ComesFirst, HasNoCycle, IsOneCycle, N
 ghost use Rattle.fab_netlist.specs.Plain.{cover_at, name_of};
 ghost use Rattle.fab_netlist.specs.WellMade.{IsWired};
 
-use crate::netlist::Netlist;
+use crate::netlist::{Cover, Netlist, Parts};
 use fab_base::{Fault, Memory, Name, Place};
 use std::alloc::Global;
 
-fn line_of(netlist: &Netlist, place: u32) -> u32
+fn line_of(netlist: &Parts<'_>, place: u32) -> u32
     requires { place < length netlist.now.covers }
     ensures { result ≡ (cover_at netlist.now place).line }
 {
-    netlist.covers[place as usize].line
+    let cover: &Cover = &netlist.covers[place as usize];
+    cover.line
 }
 
-fn output_of(netlist: &Netlist, place: u32) -> u32
+fn output_of(netlist: &Parts<'_>, place: u32) -> u32
     requires { place < length netlist.now.covers }
     ensures { result ≡ (cover_at netlist.now place).output }
 {
-    netlist.covers[place as usize].output
+    let cover: &Cover = &netlist.covers[place as usize];
+    cover.output
 }
 
 /// Whether a cover comes before another one: by line, and on one line as they stand in the netlist.
-fn comes_before(netlist: &Netlist, place: u32, other: u32) -> bool
+fn comes_before(netlist: &Parts<'_>, place: u32, other: u32) -> bool
     requires place { place < length netlist.now.covers }
     requires other { other < length netlist.now.covers }
     ensures yes { result ≡ true → ComesFirst netlist.now place other }
@@ -39,7 +41,7 @@ fn comes_before(netlist: &Netlist, place: u32, other: u32) -> bool
 }
 
 /// Where in a cycle its first cover stands.
-fn first_of(netlist: &Netlist, round: &[u32]) -> usize
+fn first_of(netlist: &Parts<'_>, round: &[u32]) -> usize
     requires within { All (λ place. place < length netlist.now.covers) round.now }
     requires some { 0 < length round.now }
     ensures within { result < length round.now }
@@ -55,7 +57,7 @@ fn first_of(netlist: &Netlist, round: &[u32]) -> usize
 }
 
 /// The name of the net that a cover drives.
-fn output_name(netlist: &Netlist, place: u32) -> &Name
+fn output_name<'a>(netlist: &Parts<'a>, place: u32) -> &'a Name
     requires wired { IsWired netlist.now }
     requires within { place < length netlist.now.covers }
     ensures { result.now ≡ name_of netlist.now (cover_at netlist.now place).output }
@@ -64,7 +66,7 @@ fn output_name(netlist: &Netlist, place: u32) -> &Name
 }
 
 /// Writes the names of the nets that covers drive, each after a blank.
-fn put_names(out: &mut Vec<u8>, netlist: &Netlist, places: &[u32]) -> Result<(), Memory>
+fn put_names(out: &mut Vec<u8>, netlist: &Parts<'_>, places: &[u32]) -> Result<(), Memory>
     requires wired { IsWired netlist.now }
     requires within { All (λ place. place < length netlist.now.covers) places.now }
     ensures { OnOk result (out.new.items ≡ out.old.items ++ flat_map (λ place. spaced (name_of netlist.now (cover_at netlist.now place).output)) places.now) }
@@ -77,7 +79,12 @@ fn put_names(out: &mut Vec<u8>, netlist: &Netlist, places: &[u32]) -> Result<(),
 }
 
 /// `cycle` and the names of the nets that the covers drive, from one of them on.
-fn words_from(alloc: Global, netlist: &Netlist, round: &[u32], first: usize) -> Result<Name, Memory>
+fn words_from(
+    alloc: Global,
+    netlist: &Parts<'_>,
+    round: &[u32],
+    first: usize,
+) -> Result<Name, Memory>
     requires wired { IsWired netlist.now }
     requires within { All (λ place. place < length netlist.now.covers) round.now }
     requires first { first < length round.now }
@@ -90,7 +97,13 @@ fn words_from(alloc: Global, netlist: &Netlist, round: &[u32], first: usize) -> 
     Ok(Name::from(out))
 }
 
-fn fault_of(alloc: Global, file: &Name, netlist: &Netlist, round: &[u32]) -> Result<Fault, Memory>
+/// The refusal of the cycle that these covers form.
+pub(crate) fn fault_of(
+    alloc: Global,
+    file: &Name,
+    netlist: &Parts<'_>,
+    round: &[u32],
+) -> Result<Fault, Memory>
     requires wired { IsWired netlist.now }
     requires cycle { IsOneCycle netlist.now round.now }
     ensures { IfOk result (NamesCycle file.now netlist.now) }
@@ -113,6 +126,6 @@ pub fn check_acyclic(alloc: Global, file: &Name, netlist: &Netlist) -> Result<()
     netlist.is_well_made();
     match netlist.cycle() {
         None => Ok(()),
-        Some(round) => Err(fault_of(alloc, file, netlist, round)?),
+        Some(round) => Err(fault_of(alloc, file, &netlist.parts(), round)?),
     }
 }

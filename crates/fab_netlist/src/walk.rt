@@ -10,7 +10,7 @@ ghost use Rattle.fab_netlist.specs.inner.Order.{IsFound, IsOrder};
 ghost use Rattle.fab_netlist.specs.inner.Search.{HasEnded, IsDriverTable, IsListed, IsRound, IsSearch, if_unfinished, is_done, is_open, unfinished};
 ghost use Rattle.fab_netlist.specs.WellMade.{IsWired};
 
-use crate::netlist::{Order, Parts};
+use crate::netlist::{Cover, Order, Parts};
 use fab_base::Memory;
 use std::alloc::Global;
 
@@ -46,7 +46,7 @@ impl Mark {
 }
 
 /// For each net the place of the cover that drives it.
-fn driver_table(alloc: Global, netlist: &Parts) -> Result<Vec<Option<u32>>, Memory>
+fn driver_table(alloc: Global, netlist: &Parts<'_>) -> Result<Vec<Option<u32>>, Memory>
     requires { IsWired netlist.now }
     ensures { IfOk result (λ drivers. IsDriverTable netlist.now drivers.items) }
 {
@@ -83,14 +83,20 @@ fn unfinished(drivers: &[Option<u32>], marks: &[Mark], nets: &[u32]) -> Option<u
 }
 
 /// The first cover that is not done among those that a cover reads.
-fn next_source(netlist: &Parts, drivers: &[Option<u32>], marks: &[Mark], reader: u32) -> Option<u32>
+fn next_source(
+    netlist: &Parts<'_>,
+    drivers: &[Option<u32>],
+    marks: &[Mark],
+    reader: u32,
+) -> Option<u32>
     requires wired { IsWired netlist.now }
     requires table { IsDriverTable netlist.now drivers.now }
     requires fits { length marks.now ≡ length netlist.now.covers }
     requires within { reader < length netlist.now.covers }
     ensures { result ≡ unfinished drivers.now marks.now (cover_at netlist.now reader).inputs }
 {
-    unfinished(drivers, marks, &netlist.covers[reader as usize].inputs)
+    let cover: &Cover = &netlist.covers[reader as usize];
+    unfinished(drivers, marks, &cover.inputs)
 }
 
 fn last(path: &[u32]) -> Option<u32>
@@ -104,7 +110,7 @@ fn last(path: &[u32]) -> Option<u32>
 /// Goes on from the last cover of the path until the path is empty, or until the last cover reads one of the path, which is
 /// returned.
 fn follow(
-    netlist: &Parts,
+    netlist: &Parts<'_>,
     drivers: &[Option<u32>],
     marks: &mut [Mark],
     path: &mut Vec<u32>,
@@ -138,7 +144,7 @@ fn follow(
 
 /// Searches from one cover, where the path is empty.
 fn search_from(
-    netlist: &Parts,
+    netlist: &Parts<'_>,
     drivers: &[Option<u32>],
     start: u32,
     marks: &mut [Mark],
@@ -164,7 +170,7 @@ fn search_from(
 
 /// Searches from one cover after another, where none was met yet.
 fn search_all(
-    netlist: &Parts,
+    netlist: &Parts<'_>,
     drivers: &[Option<u32>],
     marks: &mut [Mark],
     path: &mut Vec<u32>,
@@ -201,7 +207,7 @@ fn place_in(places: &[u32], sought: u32) -> usize
 }
 
 /// An order of the covers, or those of a cycle where there is one.
-pub(crate) fn find_order(alloc: Global, netlist: &Parts) -> Result<Order, Memory>
+pub(crate) fn find_order(alloc: Global, netlist: &Parts<'_>) -> Result<Order, Memory>
     requires { IsWired netlist.now }
     ensures { IfOk result (IsFound netlist.now) }
 {

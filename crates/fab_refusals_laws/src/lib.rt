@@ -31,7 +31,7 @@ pub fn one_rule_is_broken_first()
 pub fn lines_are_refused_once()
     ensures any { (judge : List (List ℕ) → List ℕ → Option Problem) → RefusesLinesOnce judge }
     ensures fasm { RefusesLinesOnce fasm_judge }
-    ensures blif { RefusesLinesOnce blif_judge }
+    ensures blif { (most : ℕ) → RefusesLinesOnce (blif_judge most) }
 {}
 
 /// A text of rows of words is refused once in any format, as are states, pad constraints, stimuli and implementations.

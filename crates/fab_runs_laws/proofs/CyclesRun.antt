@@ -135,7 +135,7 @@ module _ (s : Setting) where
         let still = ticks_configured given instants between held fed are_instants behind.1.configured in
         settles_once s held inputs still feeds.low
 
-    pub runs_from : RunsFrom s.fabric s.text s.netlist s.implementation start
+    pub runs_from : RunsFrom s.fabric s.text s.netlist s.netlist s.implementation start
     runs_from = record {
       latches = latches_held;
       shows = λ cycles after latches are_cycles holds.

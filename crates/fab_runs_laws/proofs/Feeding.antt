@@ -70,7 +70,7 @@ module _ (fabric : PlainFabric) (text : List PlainModule) (netlist : PlainNetlis
         ticks = tick.1;
       }
 
-  module _ (start : Assignment) (runs : RunsFrom fabric text netlist implementation start) where
+  module _ (read : PlainNetlist) (start : Assignment) (runs : RunsFrom fabric text read netlist implementation start) where
     -- ---- a cycle behind others
 
     module _ (behind : List Cycle) (between : Assignment) (are_behind : AreCycles Has text netlist implementation behind start between) (given : List Bool) where
@@ -147,4 +147,5 @@ module _ (fabric : PlainFabric) (text : List PlainModule) (netlist : PlainNetlis
         )
 
 pub fed_designs_run : FedDesignsRun
-fed_designs_run fabric text netlist implementation start is is_text runs cycles fine = cycles_run fabric text netlist implementation is is_text start runs cycles [] start fine (λ p has. refl)
+fed_designs_run fabric text read netlist implementation start is is_text runs cycles fine =
+    cycles_run fabric text netlist implementation is is_text read start runs cycles [] start fine (λ p has. refl)

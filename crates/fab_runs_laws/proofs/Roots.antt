@@ -36,7 +36,7 @@ use Rattle.fab_points_laws.proofs.Origins.{pin_index}
 use Rattle.fab_runs_laws.proofs.Edges.{HasIt}
 use Rattle.fab_runs_laws.proofs.Trees.{all_have, pin_has}
 
-zero_is : (dest : Option (List ℕ)) → constant dest ≡ zero_bit → fixed_bit dest ≡ false
+pub zero_is : (dest : Option (List ℕ)) → constant dest ≡ zero_bit → fixed_bit dest ≡ false
 zero_is None is = refl
 zero_is (Some name) is = elim (cases_Bool (bytes_eq name (codes "VCC"))) [ inl vcc ↦ (let e : one_bit ≡ zero_bit = rw vcc at is in cc) | inr other ↦ other ]
 

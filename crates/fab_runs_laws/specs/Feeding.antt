@@ -30,6 +30,6 @@ IsCycleAtLow netlist implementation c = IsCycle netlist implementation c × All 
 -- Where a design runs from a start, there is a run with whatever is fed in cycles.
 abbrev pub FedDesignsRun : Type 0
 FedDesignsRun =
-    (fabric : PlainFabric) (text : List PlainModule) (netlist : PlainNetlist) (implementation : PlainImplementation) (start : Assignment) → IsFabric fabric → IsFabricText fabric text →
-    RunsFrom fabric text netlist implementation start → (cycles : List Cycle) → All (IsCycleAtLow netlist implementation) cycles →
+    (fabric : PlainFabric) (text : List PlainModule) (read netlist : PlainNetlist) (implementation : PlainImplementation) (start : Assignment) →
+    IsFabric fabric → IsFabricText fabric text → RunsFrom fabric text read netlist implementation start → (cycles : List Cycle) → All (IsCycleAtLow netlist implementation) cycles →
     (run : List Cycle) × AllZip AreGivenAlike run cycles × (last : Assignment) × AreCycles (DesignPoints fabric text netlist implementation) text netlist implementation run start last

@@ -1,13 +1,13 @@
 -- The netlist of a model of items, by names.
-use Rattle.std.proofs.Common.{◌≡◌, ℕ, suc, ◌+◌, ◌-◌, ◌≤◌, not, List, [], ◌∷◌, length, map, filter, None, position, refl, ap, ◌∙◌, inl, inr, arith, length-append}
+use Rattle.std.proofs.Common.{◌≡◌, ℕ, suc, ◌+◌, ◌-◌, ◌≤◌, not, List, [], ◌∷◌, length, map, filter, codes, None, position, refl, ap, ◌∙◌, inl, inr, arith, length-append}
 use Rattle.std.specs.Prelude.{slice_get, option_and_then}
 use Rattle.std.specs.List.{AllByRecursion as Each, flat_map}
 use Rattle.std.proofs.lemmas.Bool.{cases_Bool}
 use Rattle.std.proofs.lemmas.List.Sums.{length-filter, count_by-le-length}
 use Rattle.fab_blif_models.specs.Words.{Word}
-use Rattle.fab_blif_models.specs.Covers.{table_of}
 use Rattle.fab_netlist.specs.declared.netlist.Latch.{Latch}
 use Rattle.fab_netlist.specs.Plain.{PlainCover, PlainNetlist}
+use Rattle.fab_netlist.specs.Wide.{tabled_cover}
 use Rattle.fab_netlist.specs.WellMade.{ports}
 use Rattle.fab_netlist.specs.Kept.{is_kept}
 use Rattle.fab_netlist.specs.Packing.{works, others, is_paired, of_cover, of_latch, pair}
@@ -16,7 +16,7 @@ use Rattle.fab_blif.specs.Design.{PlainClock, covers_by, latches_by, data_inputs
 use Rattle.fab_blif.proofs.Below.{IsNamed, all_named, name_back, name_in}
 use Rattle.fab_sample_laws.specs.Items.{Item, cover, wire, latch, pattern_row, item_rows}
 use Rattle.fab_sample.specs.Netlists.{digit}
-use Rattle.fab_sample_laws.specs.Named.{NamedCover, NamedLatch, named_cover, named_latch, item_covers, item_latches, IsOfItems}
+use Rattle.fab_sample_laws.specs.Named.{NamedCover, NamedLatch, named_cover, named_latch, item_covers, item_latches, table_of, IsOfItems}
 use Rattle.fab_sample_laws.proofs.PlacedItems.{plain, num, There, model_placed, placed_from, no_clocks, output_ports, input_uses_are, used_nets, ports_there}
 use Rattle.fab_sample_laws.proofs.DrivenOnce.{nets, made}
 use Rattle.fab_sample_laws.proofs.OrderedCovers.{length-mapped}
@@ -34,7 +34,7 @@ module _ (all_nets : List PlainNet) where
   latch_named : Latch → NamedLatch
   latch_named it = record { input = name_in all_nets it.input; output = name_in all_nets it.output; initial = it.init }
 
-  covers_named : (line : ℕ) (items : List Item) → Each (IsNamed all_nets) (placed_from line items) → map cover_named (flat_map (covers_by all_nets) (placed_from line items)) ≡ flat_map item_covers items
+  covers_named : (line : ℕ) (items : List Item) → Each (IsNamed all_nets) (placed_from line items) → map cover_named (map tabled_cover (flat_map (covers_by all_nets) (placed_from line items))) ≡ flat_map item_covers items
   unfolding cover_named
   covers_named line [] all = refl
   covers_named line (cover first second third output patterns ∷ items) all =
@@ -48,7 +48,7 @@ module _ (all_nets : List PlainNet) where
   covers_named line (wire source output ∷ items) all =
       let a = all.0 in
       let back : (name : Word) → There all_nets name → name_in all_nets (num all_nets name) ≡ name = λ name there. name_back all_nets (plain name) there in
-      λ j. record { inputs = back source a.0 j ∷ []; output = back output a.1.0 j; table = 43690 } ∷ covers_named (line + 2) items all.1 j
+      λ j. record { inputs = back source a.0 j ∷ []; output = back output a.1.0 j; table = table_of ((codes "1" ∷ codes "1" ∷ []) ∷ []) } ∷ covers_named (line + 2) items all.1 j
   covers_named line (latch input output initial ∷ items) all = covers_named (line + 1) items all.1
 
   latches_named : (line : ℕ) (items : List Item) → Each (IsNamed all_nets) (placed_from line items) → map latch_named (flat_map (latches_by all_nets) (placed_from line items)) ≡ flat_map item_latches items

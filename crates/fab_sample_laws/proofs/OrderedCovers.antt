@@ -83,16 +83,16 @@ named_back all_nets (x ∷ names) name all here reads = elim (first_or_later (nu
 ]
 
 module _ (inputs outputs : List Word) (items : List Item) where
-  placed_edges : map edge_of (made inputs outputs items).covers ≡ map (edge_nets (nets inputs outputs items)) (flat_map edges items)
+  placed_edges : map edge_of (netlist_of (made inputs outputs items)).covers ≡ map (edge_nets (nets inputs outputs items)) (flat_map edges items)
   placed_edges = edges_placed (nets inputs outputs items) 4 items
 
-  same_many : length (made inputs outputs items).covers ≡ length (flat_map edges items)
-  same_many = sym (length-mapped edge_of (made inputs outputs items).covers) ∙ ap length placed_edges ∙ length-mapped (edge_nets (nets inputs outputs items)) (flat_map edges items)
+  same_many : length (netlist_of (made inputs outputs items)).covers ≡ length (flat_map edges items)
+  same_many = sym (length-mapped edge_of (netlist_of (made inputs outputs items)).covers) ∙ ap length placed_edges ∙ length-mapped (edge_nets (nets inputs outputs items)) (flat_map edges items)
 
   cover_is : (place : ℕ) → place < length (flat_map edges items)
-      → edge_of (get_or (made inputs outputs items).covers place no_cover) ≡ edge_nets (nets inputs outputs items) (get_or (flat_map edges items) place no_edge)
+      → edge_of (get_or (netlist_of (made inputs outputs items)).covers place no_cover) ≡ edge_nets (nets inputs outputs items) (get_or (flat_map edges items) place no_edge)
   cover_is place within =
-      sym (at_mapped edge_of (made inputs outputs items).covers place no_cover ([], 0) (omega (arith, within, same_many)))
+      sym (at_mapped edge_of (netlist_of (made inputs outputs items)).covers place no_cover ([], 0) (omega (arith, within, same_many)))
       ∙ ap (λ (l : List (List ℕ × ℕ)). get_or l place ([], 0)) placed_edges
       ∙ at_mapped (edge_nets (nets inputs outputs items)) (flat_map edges items) place no_edge ([], 0) within
 
@@ -106,7 +106,7 @@ module _ (inputs outputs : List Word) (items : List Item) where
       let source_edge = get_or (flat_map edges items) source no_edge in
       let read : Contains (map (num all_nets) reader_edge.0) (num all_nets source_edge.1) =
       subst (λ (e : List ℕ × ℕ). Contains e.0 (num all_nets source_edge.1)) (cover_is reader reader_within)
-      (subst (λ (e : List ℕ × ℕ). Contains (edge_of (get_or (made inputs outputs items).covers reader no_cover)).0 e.1) (cover_is source source_within) reads.2) in
+      (subst (λ (e : List ℕ × ℕ). Contains (edge_of (get_or (netlist_of (made inputs outputs items)).covers reader no_cover)).0 e.1) (cover_is source source_within) reads.2) in
       let back = named_back all_nets reader_edge.0 source_edge.1 (each_at (EdgeThere all_nets) (flat_map edges items) reader there reader_within).0
       (each_at (EdgeThere all_nets) (flat_map edges items) source there source_within).1 read in
       ordered_before (flat_map edges items) ordered reader source reader_within source_within back

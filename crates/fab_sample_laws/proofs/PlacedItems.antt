@@ -1,28 +1,33 @@
 -- The lines of the flattened text of a model of items, and what they say of nets by number.
-use Rattle.std.proofs.Common.{◌≡◌, ℕ, ◌+◌, ◌-◌, ◌≤◌, ◌*◌, List, [], ◌∷◌, ◌++◌, length, map, None, refl, ap, ◌∙◌, inl, inr, arith, append-nil, length-append}
+use Rattle.std.proofs.Common.{◌≡◌, ℕ, ◌+◌, ◌-◌, ◌≤◌, ◌*◌, List, [], ◌∷◌, ◌++◌, length, map, codes, None, refl, ap, ◌∙◌, inl, inr, arith, append-nil, length-append}
 use Rattle.std.specs.List.{AllByRecursion as Each, flat_map, list_any}
 use Rattle.std.proofs.lemmas.Bool.{cases_Bool}
 use Rattle.std.proofs.lemmas.List.{map-append}
 use Rattle.indexmap.specs.IndexSet.{insert_all, insert_key}
 use Rattle.fab_blif_models.specs.Words.{Word}
-use Rattle.fab_blif_models.specs.Covers.{table_of}
+use Rattle.fab_blif_models.specs.Covers.{cubes_of, is_on_set, rows_on}
 use Rattle.fab_blif_models.specs.Plain.{PlainModel}
 use Rattle.fab_netlist.specs.declared.netlist.Latch.{Latch}
 use Rattle.fab_netlist.specs.Plain.{PlainCover}
+use Rattle.fab_netlist.specs.Wide.{PlainWideCover, tabled_cover}
 use Rattle.fab_blif.specs.Flat.{PlainNet, net_eq, Placed, placed_inputs, placed_outputs, placed_cover, placed_latch, lines_at, lines_of, flat_lines, top_copy}
 use Rattle.fab_blif.specs.Design.{PlainDesign, design_by, uses, number_in, named, inputs_by, outputs_by, clock_ports_by, covers_by, latches_by, latch_lines, clocks_by}
 use Rattle.fab_blif.specs.Judged.{output_uses, input_uses, latch_uses, inner_drivers, input_ports, readers}
 use Rattle.fab_blif.proofs.Below.{IsThere, IsNamed}
-use Rattle.fab_sample_laws.specs.Items.{Item, cover, wire, latch, pattern_row, item_rows, statements_from, model_said, cover_outputs, cover_inputs, latch_outputs, latch_inputs, Edge, edges}
+use Rattle.fab_sample_laws.specs.Items.{Row, Item, cover, wire, latch, pattern_row, item_rows, statements_from, model_said, cover_outputs, cover_inputs, latch_outputs, latch_inputs, Edge, edges}
 use Rattle.fab_sample.specs.Netlists.{digit}
 
 abbrev pub plain : Word → PlainNet
 plain name = record { depth = 0; name = name }
 
+-- a cover of these inputs and rows
+abbrev pub placed_rows : (line : ℕ) → (inputs : List PlainNet) → (output : Word) → (rows : List Row) → Placed
+placed_rows line inputs output rows = placed_cover line inputs (plain output) (is_on_set (rows_on rows)) (cubes_of rows)
+
 -- the line of an item
 abbrev pub placed_at : (line : ℕ) → Item → Placed
-placed_at line (cover first second third output patterns) = placed_cover line (plain first ∷ plain second ∷ plain third ∷ []) (plain output) (table_of (map pattern_row patterns))
-placed_at line (wire source output) = placed_cover line (plain source ∷ []) (plain output) 43690
+placed_at line (cover first second third output patterns) = placed_rows line (plain first ∷ plain second ∷ plain third ∷ []) output (map pattern_row patterns)
+placed_at line (wire source output) = placed_rows line (plain source ∷ []) output ((codes "1" ∷ codes "1" ∷ []) ∷ [])
 placed_at line (latch input output initial) = placed_latch line (plain input) (plain output) None (digit initial - 48)
 
 abbrev pub placed_from : (line : ℕ) → List Item → List Placed
@@ -51,10 +56,10 @@ model_flat name inputs outputs items =
 -- ---- by number
 
 -- the nets that covers and latches drive and read
-abbrev pub output_nets : List PlainCover → List ℕ
+abbrev pub output_nets : List PlainWideCover → List ℕ
 output_nets covers = map (λ u. u.net) (output_uses covers)
 
-abbrev pub input_nets : List PlainCover → List ℕ
+abbrev pub input_nets : List PlainWideCover → List ℕ
 input_nets covers = map (λ u. u.net) (input_uses covers)
 
 abbrev pub latch_nets : (net_of : Latch → ℕ) → (lines : List ℕ) → List Latch → List ℕ
@@ -182,7 +187,7 @@ module _ (nets : List PlainNet) where
   abbrev pub edge_nets : Edge → List ℕ × ℕ
   edge_nets edge = (map num edge.0, num edge.1)
 
-  pub edges_placed : (line : ℕ) (items : List Item) → map edge_of (flat_map (covers_by nets) (placed_from line items)) ≡ map edge_nets (flat_map edges items)
+  pub edges_placed : (line : ℕ) (items : List Item) → map edge_of (map tabled_cover (flat_map (covers_by nets) (placed_from line items))) ≡ map edge_nets (flat_map edges items)
   edges_placed line [] = refl
   edges_placed line (cover first second third output patterns ∷ items) =
       ap (λ (l : List (List ℕ × ℕ)). edge_nets (first ∷ second ∷ third ∷ [], output) ∷ l) (edges_placed (line + length (item_rows (cover first second third output patterns))) items)

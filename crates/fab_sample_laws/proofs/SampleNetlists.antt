@@ -61,7 +61,8 @@ module _ (size : ℕ) (draws : ℕ → ℕ) (least : 2 ≤ size) (most : size �
       subst (λ (l : List Item). length (rows_text (model_rows (codes "sample") ins outs l)) ≤ MAX_FILE_BYTES) (sym (items_are size draws words)) (short_model size draws words some most) in
       subst (ReadsNetlist size drawn held) text (record {
         short = short;
-        blif = text_blif (codes "sample") ins outs all fit;
+        blif = text_blif (codes "sample") ins outs all 16 (omega arith) fit;
+        narrow = text_blif (codes "sample") ins outs all 4 (omega arith) fit;
         model = text_models (codes "sample") ins outs all fit;
         netlist = subst (λ (n : PlainNetlist). IsOfItems n ins outs all) (sym netlist) (of_items ins outs all);
         cells = subst (λ (n : PlainNetlist). length (works n) ≤ 2 * (size * size)) (sym netlist) cells;

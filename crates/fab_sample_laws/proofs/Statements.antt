@@ -5,7 +5,7 @@ use Rattle.std.proofs.lemmas.List.Folds.{list_any-append}
 use Rattle.fab_blif_models.specs.declared.words.Kind.{Kind}
 use Rattle.fab_blif_models.specs.declared.words.Kind.TheVariants as kinds
 use Rattle.fab_blif_models.specs.Words.{Word, kind_of, is_model, is_row, is_statement, ends_cover, is_row_kind}
-use Rattle.fab_blif_models.specs.Covers.{table_of}
+use Rattle.fab_blif_models.specs.Covers.{cubes_of, is_on_set, rows_on}
 use Rattle.fab_blif_models.specs.Plain as bodies
 use Rattle.fab_blif_models.specs.Plain.{PlainBody, PlainStatement, PlainModel}
 use Rattle.fab_blif_models.specs.Spelled.{Line, cover_of, body_of, at_line, rows_in, statements, models_of, spelled}
@@ -50,7 +50,7 @@ passed n (row ∷ rows) rest all =
 
 -- a cover and its rows
 names_said : (n : ℕ) (line : Row) (rows : List Row) (next : Row) (rest : List Row) → kind_of line ≡ kinds.Names → Each OfCover rows → is_statement next ≡ true
-    → statements (enumerate_from n (line ∷ rows ++ next ∷ rest)) ≡ record { line = n; body = cover_of line (table_of rows) } ∷ statements (enumerate_from (n + length (line ∷ rows)) (next ∷ rest))
+    → statements (enumerate_from n (line ∷ rows ++ next ∷ rest)) ≡ record { line = n; body = cover_of line (is_on_set (rows_on rows)) (cubes_of rows) } ∷ statements (enumerate_from (n + length (line ∷ rows)) (next ∷ rest))
 names_said n line rows next rest is all ends =
     let after = enumerate_from (n + 1) (rows ++ next ∷ rest) in
     let same : n + 1 + length rows ≡ n + length (line ∷ rows) = omega arith in

@@ -60,7 +60,7 @@ module _ (name : Word) (inputs outputs : List Word) (items : List Item) where
       none_here (bodies.inputs names) plain = refl
       none_here (bodies.outputs names) plain = refl
       none_here (bodies.clock name) plain = refl
-      none_here (bodies.cover inputs output table) plain = refl
+      none_here (bodies.cover inputs output on rows) plain = refl
       none_here (bodies.latch input output control initial) plain = refl
       none_here (bodies.instance name words) plain = absurd plain
 
@@ -100,12 +100,13 @@ module _ (name : Word) (inputs outputs : List Word) (items : List Item) where
   pub text_flat : IsReadable → flat_lines (models_in model_text) ≡ model_placed inputs outputs items
   text_flat readable = ap flat_lines (text_models readable) ∙ model_flat name inputs outputs items
 
-  pub text_blif : IsReadable → IsBlif model_text
-  text_blif readable =
+  -- A bound for the inputs of a cover that leaves room for three does.
+  pub text_blif : (most : ℕ) → 3 ≤ most → IsReadable → IsBlif most model_text
+  text_blif most room readable =
       let said = sym (text_models readable) in
       let flat = sym (text_flat readable) in
       record {
-        fine = subst (IsFine judge) (sym (rows_joined (model_rows name inputs outputs items) readable.rows)) (model_fine name inputs outputs items readable.ports readable.rows);
+        fine = subst (IsFine (judge most)) (sym (rows_joined (model_rows name inputs outputs items) readable.rows)) (model_fine most room name inputs outputs items readable.ports readable.rows);
         some = (let one : 1 ≡ length (models_in model_text) = ap length said in omega (arith, one));
         named = subst NamesDiffer said named_once;
         models = subst AreFineModels said fine_models;

@@ -3,9 +3,9 @@ use Rattle.std.specs.Prelude.{ℕ, ◌+◌, ◌-◌, Bool, List, [], ◌∷◌, 
 use Rattle.std.specs.List.{flat_map, join_with_byte}
 use Rattle.fab_sample.specs.Netlists.{digit}
 use Rattle.fab_blif_models.specs.Words.{Word}
-use Rattle.fab_blif_models.specs.Covers.{table_of}
+use Rattle.fab_blif_models.specs.Covers.{cubes_of, is_on_set, rows_on}
 use Rattle.fab_blif_models.specs.Plain as bodies
-use Rattle.fab_blif_models.specs.Plain.{PlainStatement, PlainModel}
+use Rattle.fab_blif_models.specs.Plain.{PlainBody, PlainStatement, PlainModel}
 
 -- a line, by its words
 abbrev pub Row : Type 0
@@ -47,11 +47,15 @@ model_rows name inputs outputs items =
 
 -- ---- what the rows say
 
+-- a cover of these inputs and rows
+abbrev pub cover_said : (inputs : List Word) → (output : Word) → (rows : List Row) → PlainBody
+cover_said inputs output rows = bodies.cover inputs output (is_on_set (rows_on rows)) (cubes_of rows)
+
 -- what an item says on a line
 abbrev pub statement_at : (line : ℕ) → Item → PlainStatement
 statement_at line (cover first second third output patterns) =
-    record { line = line; body = bodies.cover (first ∷ second ∷ third ∷ []) output (table_of (map pattern_row patterns)) }
-statement_at line (wire source output) = record { line = line; body = bodies.cover (source ∷ []) output (table_of ((codes "1" ∷ codes "1" ∷ []) ∷ [])) }
+    record { line = line; body = cover_said (first ∷ second ∷ third ∷ []) output (map pattern_row patterns) }
+statement_at line (wire source output) = record { line = line; body = cover_said (source ∷ []) output ((codes "1" ∷ codes "1" ∷ []) ∷ []) }
 statement_at line (latch input output initial) = record { line = line; body = bodies.latch input output None (digit initial - 48) }
 
 -- the statements of items whose rows begin on a line

@@ -22,8 +22,9 @@ netlist_text size covers latches = text (netlist_lines size covers latches)
 pub record ReadsNetlist (size : ℕ) (drawn : List Cover) (latches : List Latch) (bytes : List ℕ) : Type 0 where
   -- They are no more than a file may have,
   pub short : length bytes ≤ MAX_FILE_BYTES
-  -- and a BLIF file of one model, which says no more and no less.
-  pub blif : IsBlif bytes
+  -- and a BLIF file of one model, which says no more and no less. No cover is wide.
+  pub blif : IsBlif 16 bytes
+  pub narrow : IsBlif 4 bytes
   pub model : models_in bytes ≡ sample_model size drawn latches ∷ []
   -- Its netlist has these ports, covers and latches.
   pub netlist : IsOfItems (netlist_in bytes) (input_words size) (output_words size) (sample_items size drawn latches)

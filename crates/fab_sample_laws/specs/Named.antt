@@ -2,10 +2,12 @@
 use Rattle.std.specs.Prelude.{◌≡◌, ℕ, ◌-◌, List, [], ◌∷◌, codes, map}
 use Rattle.std.specs.List.{flat_map}
 use Rattle.fab_blif_models.specs.Words.{Word}
-use Rattle.fab_blif_models.specs.Covers.{table_of}
+use Rattle.fab_blif_models.specs.Covers.{cubes_of, is_on_set, rows_on}
+use Rattle.fab_bits.specs.Bits.{number, first_bits}
 use Rattle.fab_netlist.specs.declared.netlist.Latch.{Latch}
 use Rattle.fab_netlist.specs.Plain.{PlainCover, PlainNetlist, name_of}
-use Rattle.fab_sample_laws.specs.Items.{Item, cover, wire, latch, pattern_row}
+use Rattle.fab_netlist.specs.Wide.{rows_say}
+use Rattle.fab_sample_laws.specs.Items.{Row, Item, cover, wire, latch, pattern_row}
 use Rattle.fab_sample.specs.Netlists.{digit}
 
 -- a cover by names: what it reads, what it drives, and its table
@@ -27,6 +29,10 @@ abbrev pub named_latch : PlainNetlist → Latch → NamedLatch
 named_latch netlist it = record { input = name_of netlist it.input; output = name_of netlist it.output; initial = it.init }
 
 -- ---- what items are
+
+-- the table of a cover with these rows, which has at most four inputs
+abbrev pub table_of : (rows : List Row) → ℕ
+table_of rows = number (first_bits 16 (rows_say (is_on_set (rows_on rows)) (cubes_of rows)))
 
 abbrev pub item_covers : Item → List NamedCover
 item_covers (cover first second third output patterns) = record { inputs = first ∷ second ∷ third ∷ []; output = output; table = table_of (map pattern_row patterns) } ∷ []

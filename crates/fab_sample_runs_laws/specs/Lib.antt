@@ -9,6 +9,7 @@ pub use Rattle.fab_flow_laws.specs.fab_flow_Mapping as fab_flow_Mapping
 pub use Rattle.fab_flow_laws.specs.fab_flow_Matrix as fab_flow_Matrix
 pub use Rattle.fab_flow_laws.specs.fab_flow_Partial as fab_flow_Partial
 pub use Rattle.fab_flow_laws.specs.fab_flow_Timing as fab_flow_Timing
+pub use Rattle.fab_flow_laws.specs.SimulatedLaws as fab_flow_laws_SimulatedLaws
 pub use Rattle.fab_sample_laws.specs.Designs as fab_sample_laws_Designs
 pub use Rattle.fab_sample_laws.specs.Ready as fab_sample_laws_Ready
 pub use Rattle.fab_sample_laws.specs.Fabrics as fab_sample_laws_Fabrics

@@ -9,7 +9,8 @@ use fab_flow_laws::{
 };
 pub use fab_flow_laws::{
     do_assemble, do_bits, do_features, do_flow, do_generate, do_map, do_matrix, do_partial,
-    do_simulate, do_timing, legal_designs_are_spelled, spelled_designs_are_sound,
+    do_simulate, do_timing, flow_files_simulate, legal_designs_are_spelled,
+    spelled_designs_are_sound,
 };
 use fab_read::fabrics_are_spelled_once;
 use fab_sample_laws::{sample_stimuli_are_read, sample_texts_are_small};

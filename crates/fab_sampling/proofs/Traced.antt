@@ -9,7 +9,7 @@ use Rattle.fab_ways_laws.specs.Placing.{cost}
 use Rattle.fab_outputs.specs.Storing.{IsDone, with_outputs}
 use Rattle.fab_sample_runs_laws.specs.fab_simulate_command_Simulating.{HasSimulateCause, IsReadyToSimulate, MakesTrace, MeetsSimulation, simulate_refusals}
 use Rattle.fab_sample_runs_laws.proofs.fab_simulate_command_SimulatedOnce.{not_both}
-use Rattle.fab_flow_laws.specs.SimulatedLaws.{FlowFilesSimulate}
+use Rattle.fab_sample_runs_laws.specs.fab_flow_laws_SimulatedLaws.{FlowFilesSimulate}
 use Rattle.fab_draws.specs.Draws.{draws_of}
 use Rattle.fab_sample_runs_laws.specs.Commands.{rounds, simulated, names}
 use Rattle.fab_sample_runs_laws.specs.Laws.{SamplesSimulate}

@@ -5,11 +5,11 @@ use Rattle.fab_base.specs.declared.fault.Fault.TheVariants as faults
 use Rattle.fab_desk.specs.Files.{Map}
 use Rattle.fab_netlist.specs.Packing.{packed}
 use Rattle.fab_ways_laws.specs.Placing.{cost}
-use Rattle.fab_designs.specs.Designs.{PlainDesign, SpellsDesign}
+use Rattle.fab_designs.specs.Designs.{PlainDesign, SpellsDesign, read_of}
 use Rattle.fab_outputs.specs.Storing.{PlainOutput, output, with_outputs}
 use Rattle.fab_sample_runs_laws.specs.fab_flow_Flowing.{FailsToFlow, MakesFlow}
 use Rattle.fab_sample_runs_laws.specs.fab_simulate_command_Simulating.{MakesTrace}
-use Rattle.fab_flow_laws.specs.SimulatedLaws.{TracesNetlist}
+use Rattle.fab_sample_runs_laws.specs.fab_flow_laws_SimulatedLaws.{TracesNetlist}
 use Rattle.fab_sample.specs.declared.file.File.{File}
 use Rattle.fab_draws.specs.Draws.{draws_of}
 use Rattle.fab_sample.specs.Files.{sample_files}
@@ -43,7 +43,7 @@ pub record IsMapped (files : Map) (price count : ℕ) : Type 0 where
   pub flow : MakesFlow files names rounds stored
   pub trace : List PlainOutput
   pub made : MakesTrace (with_outputs stored files) simulated None trace
-  pub traces : TracesNetlist (with_outputs stored files) simulated.stimulus simulated.trace flow.design.netlist trace
+  pub traces : TracesNetlist (with_outputs stored files) simulated.stimulus simulated.trace (read_of flow.spelled) trace
   pub cost : price ≡ cost (packed flow.design.netlist) flow.made.implementation
   pub edges : count ≡ edge_count flow.made.implementation
 

@@ -16,10 +16,10 @@ use crate::shelf::Shelf;
 use crate::stocking::stocked;
 use fab_base::{Fault, Memory, Name};
 use fab_designs::{Design, read_design};
-use fab_flow_laws::flow_files_simulate;
 use fab_progress::{Progress, Silent};
 use fab_sample_runs_laws::{
-    do_flow, do_simulate, sample_designs_are_read, samples_are_ready, samples_simulate,
+    do_flow, do_simulate, flow_files_simulate, sample_designs_are_read, samples_are_ready,
+    samples_simulate,
 };
 use std::alloc::Global;
 

@@ -152,7 +152,7 @@ module _ (s : Setting) where
         let rest = cycles_run more between after left.0 (fed_on cycle before between stands is).0 (next_holds cycle before between stands is held holds) are in
         (rest.0, ((refl, All-cons IsGiven (end_of cycle) [] fed (All-nil IsGiven)), left.0, instants cycle before between stands is held holds, rest.1))
 
-    pub settles_from : (start : State) → Stands s start → SettlesFrom (Has s) count s.text s.netlist s.implementation start
+    pub settles_from : (start : State) → Stands s start → SettlesFrom (Has s) count s.text s.netlist s.netlist s.implementation start
     settles_from start stands = record {
       stays = λ events after steps. (let used = use_steps s events start after stands steps in (used.0.rest, used.1));
       once = λ events before steps.

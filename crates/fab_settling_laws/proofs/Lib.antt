@@ -3,3 +3,8 @@ pub mod OneStep
 pub mod Blocks
 pub mod EachCycle
 pub mod Law
+pub mod Going
+pub mod Both
+pub mod Rows
+pub mod PadRows
+pub mod Further

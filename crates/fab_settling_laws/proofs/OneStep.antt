@@ -92,21 +92,21 @@ module _ (s : Setting) where
   input_stays (tick clock) a b p by step out = step.stays p
   input_stays (change q value) a b p by step out = (step.others p out).0
 
-  port_outside : (name : List ℕ) → is_input (top_module s.fabric).ports name ≡ true → Drives s.text (point [] name 0) outside
+  pub port_outside : (name : List ℕ) → is_input (top_module s.fabric).ports name ≡ true → Drives s.text (point [] name 0) outside
   port_outside name input =
       inl (record { top = refl; input = ap (λ m. is_input_of m name) (has_fabric s.fabric s.text s.is s.is_text).top_is ∙ input; is = refl })
 
   declared_port : (name : List ℕ) → width_in (Some (top_module s.fabric)) name ≡ 1 → nat_lt 0 (width_in (module_at s.text []) name) ≡ true
   declared_port name wide = ap (λ m. nat_lt 0 (width_in m name)) (has_fabric s.fabric s.text s.is s.is_text).top_is ∙ ap (nat_lt 0) wide
 
-  clock_stream : IsStream s.text (point [] clock_name 0)
+  pub clock_stream : IsStream s.text (point [] clock_name 0)
   clock_stream = record {
     input = record { top = refl; input = ap (λ m. is_input_of m clock_name) (has_fabric s.fabric s.text s.is s.is_text).top_is; is = refl };
     declared = declared_port clock_name refl;
     named = inl refl;
   }
 
-  strobe_stream : IsStream s.text (point [] write_strobe_name 0)
+  pub strobe_stream : IsStream s.text (point [] write_strobe_name 0)
   strobe_stream = record {
     input = record { top = refl; input = ap (λ m. is_input_of m write_strobe_name) (has_fabric s.fabric s.text s.is s.is_text).top_is; is = refl };
     declared = declared_port write_strobe_name refl;

@@ -29,8 +29,8 @@ use Rattle.fab_runs_laws.specs.fab_use_defs_Headline.{SettlesOnce, DesignPoints}
 use Rattle.fab_settling_laws.specs.Steps.{IsAtRest, IsUseStep, IsFreeStep}
 use Rattle.fab_settling_laws.specs.Blocks.{HasAtMost, AreBlocks, BlockCycle, as_cycle, AreBlockCycles}
 
--- From a state on, a set of so many points settles and runs as a netlist, whatever the points beside it do.
-pub record SettlesFrom (Has : Point → Type 0) (count : ℕ) (text : List PlainModule) (netlist : PlainNetlist) (implementation : PlainImplementation)
+-- From a state on, a set of so many points settles and runs as the netlist that was read, whatever the points beside it do. `netlist` was packed for it.
+pub record SettlesFrom (Has : Point → Type 0) (count : ℕ) (text : List PlainModule) (read netlist : PlainNetlist) (implementation : PlainImplementation)
     (start : State) : Type 0 where
   -- Whatever steps of use are taken, the loading points stay, and hold what they hold.
   pub stays : (events : List Event) (after : State) → AreSteps (IsUseStep text) events start after →
@@ -45,20 +45,20 @@ pub record SettlesFrom (Has : Point → Type 0) (count : ℕ) (text : List Plain
   -- So where each tick of UserCLK comes behind as many blocks, the states at these ticks are the instants of a run of cycles of use,
   pub runs : (cycles : List BlockCycle) (after : State) → AreBlockCycles Has count text netlist implementation cycles start after →
       (last : Assignment) × AreCycles Has text netlist implementation (map as_cycle cycles) start.held last
-  -- and the pads show there what the nets have in a run of the netlist over the given values.
+  -- and the pads show there what the nets have in a run of the netlist that was read over the given values.
   pub shows : (cycles : List BlockCycle) (after : State) (latches : List Bool) → AreBlockCycles Has count text netlist implementation cycles start after →
       HoldsLatches netlist implementation start.held latches →
-      (nows : List (ℕ → Bool)) × IsRun netlist latches (map (λ c. c.given) cycles) nows × EachShows netlist implementation (map as_cycle cycles) nows
+      (nows : List (ℕ → Bool)) × IsRun read latches (map (λ c. c.given) cycles) nows × EachShows read implementation (map as_cycle cycles) nows
 
 -- What words do to a text, step by step. The design points are finitely many. Where the loading points hold what the words leave, whatever they
 -- held before, and are settled, the design settles and runs, whatever all other points have and hold.
-pub record SettlesDesign (fabric : PlainFabric) (text : List PlainModule) (netlist : PlainNetlist) (implementation : PlainImplementation)
+pub record SettlesDesign (fabric : PlainFabric) (text : List PlainModule) (read netlist : PlainNetlist) (implementation : PlainImplementation)
     (words : List ℕ) : Type 0 where
   pub counted : (count : ℕ) × HasAtMost (DesignPoints fabric text netlist implementation) count
   pub from : (moments : List Moment) (held after : Assignment) (start : State) (count : ℕ) →
       Writes text (map (digits 32) words) moments → IsRunOn (IsLoading text) text moments held after →
       ((p : Point) → IsLoading text p → start.held p ≡ after p) → IsAtRest text start → HasAtMost (DesignPoints fabric text netlist implementation) count →
-      SettlesFrom (DesignPoints fabric text netlist implementation) count text netlist implementation start
+      SettlesFrom (DesignPoints fabric text netlist implementation) count text read netlist implementation start
 
 -- The law. In each text of a fabric, loaded with the bitstream of configuration bits that are those of a legal implementation, the design settles
 -- under every interleaving.
@@ -67,4 +67,4 @@ LegalDesignsSettle =
     (fabric : PlainFabric) (text : List PlainModule) (netlist : PlainNetlist) (fixed : List Pad) (implementation : PlainImplementation) (bits : PlainBits) →
     IsFabric fabric → AreTiles fabric → IsFabricText fabric text → IsWellMade netlist → HasNoCycle netlist →
     IsLegal fabric (packed netlist) fixed implementation → Configures fabric (packed netlist) implementation bits →
-    SettlesDesign fabric text netlist implementation (stream fabric bits)
+    SettlesDesign fabric text netlist netlist implementation (stream fabric bits)

@@ -1,9 +1,9 @@
 -- What the laws of fabrics, of netlists and of legal implementations say together of a design that files spell.
-use Rattle.std.proofs.Common.{◌≡◌, ◌<◌, ◌++◌, ℕ, true, All, List, [], ◌∷◌, Option, Some, None, map, sym, ap, subst, ◌∙◌, arith}
+use Rattle.std.proofs.Common.{◌≡◌, ◌<◌, ◌++◌, ℕ, true, All, Contains, List, [], ◌∷◌, Option, Some, None, map, sym, ap, subst, ◌∙◌, arith}
 use Rattle.std.specs.List.{AllByRecursion as Each, filter, list_all}
 use Rattle.std.proofs.lemmas.Bool.{and_parts}
 use Rattle.std.proofs.lemmas.List.{map-append}
-use Rattle.std.proofs.lemmas.List.Elements.{All-from_recursion, All-map, recursion_from_All}
+use Rattle.std.proofs.lemmas.List.Elements.{All-contains, All-contains_itself, All-from_recursion, All-map, All-weaker, recursion_from_All}
 use Rattle.std.proofs.lemmas.Simd.{map-map}
 use Rattle.fab_desk.specs.Files.{Map}
 use Rattle.fab_fabric.specs.Fabric.{AreTiles, IsFabric}
@@ -13,6 +13,7 @@ use Rattle.fab_netlist.specs.Packing.{Work, cell_of, net_of, of_cover, of_latch,
 use Rattle.fab_netlist.specs.Plain.{PlainCover, PlainNetlist, name_of}
 use Rattle.fab_netlist.specs.Resets.{netlist_with, reset_place, set_at, with_reset}
 use Rattle.fab_netlist.specs.WellMade.{IsWellMade, ports}
+use Rattle.fab_netlist.specs.Wide.{RunsAs}
 use Rattle.fab_netlist.proofs.Resetting.{made_with}
 use Rattle.fab_implementation.specs.Plain.{PlainImplementation, reset_name}
 use Rattle.fab_legal.specs.Legal.{IsLegal}
@@ -26,10 +27,9 @@ use Rattle.fab_texts.specs.Printed.{ends_line, is_last_word, is_word}
 use Rattle.fab_texts.specs.Rows.{Word}
 use Rattle.fab_features.specs.fab_use_defs_Registers.{design_state}
 use Rattle.fab_blif.proofs.Each.{each_joined, each_kept, each_mapped, each_weaker}
-use Rattle.fab_blif.proofs.Netlists.{netlist_is_well_made}
-use Rattle.fab_designs.specs.Designs.{DesignFiles, PlainDesign, SpellsDesign}
+use Rattle.fab_designs.specs.Designs.{DesignFiles, PlainDesign, SpellsDesign, read_of}
+use Rattle.fab_designs.proofs.SplitNetlists.{design_runs, netlist_made as made_of, netlist_small}
 use Rattle.fab_spelled_designs_laws.proofs.Named.{ports_are_words}
-use Rattle.fab_spelled_designs_laws.proofs.SmallTables.{tables_are_small}
 use Rattle.fab_spelled_fabrics_laws.proofs.Whole.{spelled_fabric, spelled_tiles, spelled_words}
 use Rattle.fab_spelled_designs_laws.proofs.Apart.{each_tested}
 use Rattle.fab_spelled_designs_laws.proofs.States.{state_spelled}
@@ -60,6 +60,17 @@ HaveWords netlist = All (λ net. IsLast (name_of netlist net)) (ports netlist)
 
 port_words : (netlist : PlainNetlist) → HaveWords netlist → All IsLast (design_ports (packed netlist))
 port_words netlist all = subst (All IsLast) (sym (ports_are netlist)) (All-map IsLast (name_of netlist) (ports netlist) all)
+
+-- what is packed has the port names of what was read
+words_again : (read netlist : PlainNetlist) → RunsAs read netlist → HaveWords read → HaveWords netlist
+words_again read netlist alike words =
+    let HasWord : ℕ → Type 0 = λ net. IsLast (name_of netlist net) in
+    let inputs = sym alike.inputs in
+    let outputs = sym alike.outputs in
+    subst (All HasWord) (λ j. inputs j ++ outputs j)
+    (All-weaker (Contains (ports read)) HasWord (λ net among.
+    subst IsLast (sym (alike.names net (alike.ports net among))) (All-contains (λ port. IsLast (name_of read port)) (ports read) net words among))
+    (ports read) (All-contains_itself (ports read)))
 
 all_words : (names : List Word) → All IsLast names → list_all is_word names ≡ true
 all_words names all =
@@ -99,7 +110,7 @@ module _ (files : Map) (names : DesignFiles) (design : PlainDesign) (spelled : S
   tiles_are = spelled_tiles files names.fabric design.fabric spelled.fabric
 
   pub netlist_made : IsWellMade design.netlist
-  netlist_made = subst IsWellMade (sym spelled.netlist.spelled.1) (netlist_is_well_made spelled.netlist.bytes spelled.netlist.spelled.0)
+  netlist_made = made_of spelled.netlist.bytes design.netlist spelled.netlist.spelled
 
   module _ (reset : Option (List ℕ)) where
     -- the netlist with its reset port
@@ -111,12 +122,13 @@ module _ (files : Map) (names : DesignFiles) (design : PlainDesign) (spelled : S
 
     pub names_are : All IsLast (design_ports (packed used))
     names_are =
-        let all = subst HaveWords (sym spelled.netlist.spelled.1) (ports_are_words spelled.netlist.bytes spelled.netlist.spelled.0) in
+        let all = words_again (read_of spelled) design.netlist (design_runs spelled None) (ports_are_words 16 spelled.netlist.bytes spelled.netlist.spelled.is_blif) in
         port_words used (holds_with HaveWords design.netlist all (λ place. all) reset)
 
     tables_small : All HasSmallTable (packed used).cells
     tables_small =
-        let all = subst HaveSmallTables (sym spelled.netlist.spelled.1) (tables_are_small spelled.netlist.bytes) in
+        let all : HaveSmallTables design.netlist =
+        recursion_from_All (λ (cover : PlainCover). cover.table < 65536) design.netlist.covers (netlist_small spelled.netlist.bytes design.netlist spelled.netlist.spelled) in
         small_cells used (holds_with HaveSmallTables design.netlist all (λ place. all) reset)
 
     module _ (implementation : PlainImplementation) (legal : IsLegal design.fabric (packed used) design.fixed implementation) where

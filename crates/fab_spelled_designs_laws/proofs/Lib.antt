@@ -1,7 +1,6 @@
 pub mod Lines
 pub mod Spoken
 pub mod Named
-pub mod SmallTables
 pub mod Apart
 pub mod Sited
 pub mod States

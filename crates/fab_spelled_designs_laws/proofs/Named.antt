@@ -78,7 +78,7 @@ module _ (bytes : List ℕ) where
   outputs_named : Each HasLastName (netlist_in bytes).outputs
   outputs_named = nets_named (λ port. port.net) design.outputs _ (output_uses_named nets text (all_named text) ∙ text_outputs (models_in bytes)) (outputs_are_spoken bytes)
 
-pub ports_are_words : (bytes : List ℕ) → IsBlif bytes → All (λ net. is_last_word (name_of (netlist_in bytes) net) ≡ true) (ports (netlist_in bytes))
-ports_are_words bytes is =
+pub ports_are_words : (most : ℕ) (bytes : List ℕ) → IsBlif most bytes → All (λ net. is_last_word (name_of (netlist_in bytes) net) ≡ true) (ports (netlist_in bytes))
+ports_are_words most bytes is =
     All-from_recursion (λ net. is_last_word (name_of (netlist_in bytes) net) ≡ true) (ports (netlist_in bytes))
     (each_joined (HasLastName bytes) (netlist_in bytes).inputs (netlist_in bytes).outputs (inputs_named bytes) (outputs_named bytes))

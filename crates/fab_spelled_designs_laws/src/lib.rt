@@ -3,7 +3,7 @@
 #![tactic(auto)]
 
 ghost use Rattle.fab_spelled_designs_laws.specs.DesignLaws.{LegalDesignsAreSpelled, SpelledDesignsAreSound};
-ghost use Rattle.fab_spelled_designs_laws.specs.PortLaws.{NetlistsAreWellMade, PortNamesAreWords, TablesAreSmall};
+ghost use Rattle.fab_spelled_designs_laws.specs.PortLaws.{NetlistsAreWellMade, PortNamesAreWords, WideNetlistsAreMade};
 
 /// In the netlist of a BLIF text the name of each data port is a word: not empty, without a blank, a tab, `#`, LF or CR. So it can stand in any
 /// line of the texts of words.
@@ -11,14 +11,11 @@ pub fn port_names_are_words()
     ensures { PortNamesAreWords }
 {}
 
-/// The netlist of a BLIF text is well made: among others each net that is read has one driver, and no two ports have one name.
+/// The netlist of a BLIF text is well made: among others each net that is read has one driver, and no two ports have one name. It is so
+/// with covers of up to 16 inputs, and with the tables of covers of at most four.
 pub fn netlists_are_well_made()
-    ensures { NetlistsAreWellMade }
-{}
-
-/// In the netlist of a BLIF text the table of each cover is below 65536, as a value of 16 bits.
-pub fn tables_are_small()
-    ensures { TablesAreSmall }
+    ensures wide { WideNetlistsAreMade }
+    ensures narrow { NetlistsAreWellMade }
 {}
 
 /// A design that files spell has a fabric as tables promise it, and a netlist that is well made.

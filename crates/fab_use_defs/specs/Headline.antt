@@ -45,20 +45,22 @@ IsGivenReset netlist given = (place : ℕ) × (netlist.reset ≡ Some place) × 
 abbrev pub DesignPoints : PlainFabric → List PlainModule → PlainNetlist → PlainImplementation → Point → Type 0
 DesignPoints fabric text netlist implementation = IsDesignPoint fabric text (packed netlist) implementation
 
--- From what is held when use starts, the design runs as its netlist, whatever the points beside it carry.
-pub record RunsFrom (fabric : PlainFabric) (text : List PlainModule) (netlist : PlainNetlist) (implementation : PlainImplementation) (start : Assignment) : Type 0 where
+-- From what is held when use starts, the design runs as the netlist that was read, whatever the points beside it carry. `netlist` is the one that was packed
+-- for it: the same, or the same ports and latches with each wide cover split.
+pub record RunsFrom (fabric : PlainFabric) (text : List PlainModule) (read netlist : PlainNetlist) (implementation : PlainImplementation)
+    (start : Assignment) : Type 0 where
   -- the flip-flops hold values of the latches,
   pub latches : (latches : List Bool) × HoldsLatches netlist implementation start latches
-  -- and from these each run of cycles shows at the pads, cycle by cycle, what the nets have in a run of the netlist over the given values
+  -- and from these each run of cycles shows at the pads, cycle by cycle, what the nets have in a run of the netlist that was read over the given values
   pub shows : (cycles : List Cycle) (after : Assignment) (latches : List Bool) →
       AreCycles (DesignPoints fabric text netlist implementation) text netlist implementation cycles start after →
       HoldsLatches netlist implementation start latches →
-      (nows : List (ℕ → Bool)) × IsRun netlist latches (map (λ c. c.given) cycles) nows × EachShows netlist implementation cycles nows
+      (nows : List (ℕ → Bool)) × IsRun read latches (map (λ c. c.given) cycles) nows × EachShows read implementation cycles nows
   -- A reset starts it anew: behind a cycle in which 1 is given for the reset port, each flip-flop of a latch holds what the state file says of it,
   -- whatever any flip-flop held before.
   pub resets : (cycles : List Cycle) (cycle : Cycle) (between after : Assignment) →
       AreCycles (DesignPoints fabric text netlist implementation) text netlist implementation cycles start between → IsCycle netlist implementation cycle →
-      AreInstants (DesignPoints fabric text netlist implementation) text cycle.instants between after → IsGivenReset netlist cycle.given →
+      AreInstants (DesignPoints fabric text netlist implementation) text cycle.instants between after → IsGivenReset read cycle.given →
       HoldsState (design_state (packed netlist) implementation) after
   -- There are such runs: behind any cycles, and any ticks of CLK in the next one, exactly one assignment is settled, and it can be ticked.
   pub settles : (cycles : List Cycle) (instants : List Instant) (between held : Assignment) (given : List Bool) (inputs : Assignment) →
@@ -68,14 +70,15 @@ pub record RunsFrom (fabric : PlainFabric) (text : List PlainModule) (netlist : 
 
 -- What words and a state do to a text. No point of the design is missing; the words can be written, from any state, in exactly one way; and
 -- whatever else is held when use starts, what they leave runs the design.
-pub record RunsDesign (fabric : PlainFabric) (text : List PlainModule) (netlist : PlainNetlist) (implementation : PlainImplementation) (words : List ℕ) (state : PlainState) : Type 0 where
+pub record RunsDesign (fabric : PlainFabric) (text : List PlainModule) (read netlist : PlainNetlist) (implementation : PlainImplementation)
+    (words : List ℕ) (state : PlainState) : Type 0 where
   pub exist : (p : Point) → DesignPoints fabric text netlist implementation p → is_declared text p ≡ true
   pub once : RunsOnce text
   pub writable : (moments : List Moment) × Writes text (map (digits 32) words) moments × All IsClockLow moments
   pub runs : (moments : List Moment) (held after start : Assignment) → Writes text (map (digits 32) words) moments → IsRunOn (IsLoading text) text moments held after →
-      ((p : Point) → IsLoading text p → start p ≡ after p) → RunsFrom fabric text netlist implementation start
+      ((p : Point) → IsLoading text p → start p ≡ after p) → RunsFrom fabric text read netlist implementation start
   -- flip-flops that hold the state hold what the latches begin with
-  pub begins : (held : Assignment) (latches : List Bool) → HoldsState state held → HoldsLatches netlist implementation held latches → IsInitial netlist latches
+  pub begins : (held : Assignment) (latches : List Bool) → HoldsState state held → HoldsLatches netlist implementation held latches → IsInitial read latches
 
 -- The headline. In each text of a fabric, the bitstream of configuration bits that are those of a legal implementation runs its netlist.
 abbrev pub LegalDesignsRun : Type 0
@@ -83,4 +86,4 @@ LegalDesignsRun =
     (fabric : PlainFabric) (text : List PlainModule) (netlist : PlainNetlist) (fixed : List Pad) (implementation : PlainImplementation) (bits : PlainBits) →
     IsFabric fabric → AreTiles fabric → IsFabricText fabric text → IsWellMade netlist → HasNoCycle netlist → IsLegal fabric (packed netlist) fixed implementation →
     Configures fabric (packed netlist) implementation bits →
-    RunsDesign fabric text netlist implementation (stream fabric bits) (design_state (packed netlist) implementation)
+    RunsDesign fabric text netlist netlist implementation (stream fabric bits) (design_state (packed netlist) implementation)

@@ -1,7 +1,8 @@
 -- What is known of the flattened text after one line of it after another.
-use Rattle.std.specs.Prelude.{ℕ, List, [], ◌∷◌, ◌++◌, Vec, map, fold, Some, None, option_to_list}
+use Rattle.std.specs.Prelude.{ℕ, Bool, List, [], ◌∷◌, ◌++◌, Vec, map, fold, Some, None, option_to_list}
 use Rattle.indexmap.specs.IndexSet.{insert_all, insert_key}
 use Rattle.fab_netlist.specs.declared.netlist.Latch.{Latch}
+use Rattle.fab_netlist.specs.declared.wide.Cube.{Cube}
 use Rattle.fab_blif.specs.declared.design.ClockName.{ClockName}
 use Rattle.fab_blif.specs.declared.design.Use.{Use}
 use Rattle.fab_blif.specs.declared.net.Net.{Net}
@@ -43,10 +44,10 @@ with_clock design line net = record design { clocks = design.clocks ++ record { 
 abbrev pub with_clock_port : PlainDesign → ℕ → PlainNet → PlainDesign
 with_clock_port design line net = record design { nets = insert_key net_eq design.nets net; clock_ports = design.clock_ports ++ used_at line (number_in design.nets net ∷ []) }
 
-abbrev pub with_cover : PlainDesign → ℕ → List PlainNet → PlainNet → ℕ → PlainDesign
-with_cover design line names output table = record design {
+abbrev pub with_cover : PlainDesign → ℕ → List PlainNet → PlainNet → (on : Bool) → (rows : List Cube) → PlainDesign
+with_cover design line names output on rows = record design {
   nets = insert_key net_eq (insert_all net_eq design.nets names) output;
-  covers = design.covers ++ record { line = line; inputs = net_numbers design.nets names; output = number_in (insert_all net_eq design.nets names) output; table = table } ∷ [];
+  covers = design.covers ++ record { line = line; inputs = net_numbers design.nets names; output = number_in (insert_all net_eq design.nets names) output; on = on; rows = rows } ∷ [];
 }
 
 abbrev pub clocked : (line : ℕ) → Latch → List PlainNet → List PlainClock
@@ -72,7 +73,7 @@ after design (placed_inputs line names) = with_inputs design line names
 after design (placed_outputs line names) = with_outputs design line names
 after design (placed_clock line net) = with_clock (with_clock_port design line net) line net
 after design (copied_clock line net) = with_clock design line net
-after design (placed_cover line names output table) = with_cover design line names output table
+after design (placed_cover line names output on rows) = with_cover design line names output on rows
 after design (placed_latch line input output control initial) = with_control (with_latch design line input output initial) line (latch_next design.nets input output initial) (option_to_list control)
 
 abbrev pub after_all : PlainDesign → List Placed → PlainDesign

@@ -1,27 +1,26 @@
 -- How the reader follows the lines: what it keeps, and what one line more makes of it.
-use Rattle.std.specs.Prelude.{ℕ, Bool, true, false, List, [], ◌∷◌, ◌++◌, ◌-◌, length, Option, Some, None, Result, unwrap_or, if◌then◌else◌}
-use Rattle.std.specs.Int.Bits.{bit_or}
+use Rattle.std.specs.Prelude.{ℕ, Bool, true, false, List, [], ◌∷◌, ◌++◌, ◌-◌, length, take, Option, Some, None, Result, unwrap_or}
 use Rattle.std.specs.Str.{bytes_eq}
 use Rattle.indexmap.specs.IndexSet.{insert_all}
 use Rattle.fab_base.specs.declared.fault.Fault.{Fault}
 use Rattle.fab_base.specs.declared.problem.Problem.{Problem}
-use Rattle.fab_bits.specs.Bits.{number, first_bits}
 use Rattle.fab_lines.specs.Joined.{joined_lines}
 use Rattle.fab_lines.specs.Order.{judged, placed, read_from}
+use Rattle.fab_netlist.specs.declared.wide.Cube.{Cube}
 use Rattle.fab_blif_models.specs.declared.words.Kind.{Kind}
 use Rattle.fab_blif_models.specs.declared.words.Kind.TheVariants as kinds
 use Rattle.fab_blif_models.specs.Plain.{PlainBody, cover, PlainStatement, PlainModel}
 use Rattle.fab_blif_models.specs.Words.{Word, words, arguments, kind_of}
 use Rattle.fab_lines.specs.Items.{word_at, with_last}
-use Rattle.fab_blif_models.specs.Covers.{pattern_of, is_on, is_off, matches}
+use Rattle.fab_blif_models.specs.Covers.{cube_of, pattern_of, is_on, is_on_set}
 use Rattle.fab_blif_models.specs.Context.{Context}
 use Rattle.fab_blif_models.specs.Judge.{judge_words}
 use Rattle.fab_blif_models.specs.Spelled.{body_of}
 
--- `covered` has bit i where some row of the open cover matches i
+-- A cover has at most `most` inputs.
 pub record State : Type 0 where
+  pub most : ℕ
   pub context : Context
-  pub covered : ℕ
   pub models : List PlainModel
 
 -- ---- the models
@@ -37,15 +36,16 @@ abbrev pub with_body : ℕ → Option PlainBody → List PlainModel → List Pla
 with_body number None models = models
 with_body number (Some body) models = pushed number body models
 
-abbrev pub tabled : ℕ → PlainBody → PlainBody
-tabled table (cover ins output old) = cover ins output table
-tabled table other = other
+-- with one row more, of an on-set or not
+abbrev pub rowed : (on : Bool) → Cube → PlainBody → PlainBody
+rowed on row (cover ins output old rows) = cover ins output on (rows ++ row ∷ [])
+rowed on row other = other
 
-abbrev pub with_table : ℕ → PlainStatement → PlainStatement
-with_table table statement = record { line = statement.line; body = tabled table statement.body }
+abbrev pub with_cube : (on : Bool) → Cube → PlainStatement → PlainStatement
+with_cube on row statement = record { line = statement.line; body = rowed on row statement.body }
 
-abbrev pub retabled : ℕ → List PlainModel → List PlainModel
-retabled table models = with_last (with_statements (with_last (with_table table))) models
+abbrev pub pushed_row : (on : Bool) → Cube → List PlainModel → List PlainModel
+pushed_row on row models = with_last (with_statements (with_last (with_cube on row))) models
 
 -- ---- what the next line depends on
 
@@ -88,36 +88,25 @@ context_after old kinds.Passed line = old
 
 -- ---- the whole
 
--- bit i where a pattern matches i
-abbrev pub mask_of : (pattern : Word) → ℕ
-mask_of pattern = number (first_bits 16 (matches pattern))
+-- the row of a pattern; a pattern that fits its cover has no more signs than a cover may have inputs
+abbrev pub row_of : (most : ℕ) → (pattern : Word) → Cube
+row_of most pattern = cube_of (take most pattern)
 
-abbrev pub covered_after : ℕ → Kind → List Word → ℕ
-covered_after covered kinds.Row line = bit_or covered (mask_of (pattern_of line))
-covered_after covered kinds.Blank line = covered
-covered_after covered kinds.Passed line = covered
-covered_after covered _ line = 0
-
--- the table of rows that are of an on-set or of an off-set
-abbrev pub table_by : (on : Option Bool) → (covered : ℕ) → ℕ
-table_by on covered = if is_off on then 65535 - covered else covered
-
-abbrev pub models_after : List PlainModel → (number : ℕ) → (on : Option Bool) → (covered : ℕ) → Kind → List Word → List PlainModel
-models_after models number on covered kinds.Model line = models ++ record { line = number; name = word_at line 1; statements = [] } ∷ []
-models_after models number on covered kinds.Row line = retabled (table_by on covered) models
-models_after models number on covered kind line = with_body number (body_of kind line []) models
+abbrev pub models_after : (most : ℕ) → List PlainModel → (number : ℕ) → (on : Option Bool) → Kind → List Word → List PlainModel
+models_after most models number on kinds.Model line = models ++ record { line = number; name = word_at line 1; statements = [] } ∷ []
+models_after most models number on kinds.Row line = pushed_row (is_on_set on) (row_of most (pattern_of line)) models
+models_after most models number on kind line = with_body number (body_of kind line []) models
 
 abbrev pub state_after : State → (number : ℕ) → Kind → List Word → State
 state_after old number kind line =
     let context = context_after old.context kind line in
-    let covered = covered_after old.covered kind line in
-    record { context = context; covered = covered; models = models_after old.models number context.on covered kind line }
+    record { most = old.most; context = context; models = models_after old.most old.models number context.on kind line }
 
 abbrev pub after_line : State → (number : ℕ) → (line : List ℕ) → Result State Problem
-after_line state number line = judged (judge_words state.context line (kind_of (words line)) (words line)) (state_after state number (kind_of (words line)) (words line))
+after_line state number line = judged (judge_words state.most state.context line (kind_of (words line)) (words line)) (state_after state number (kind_of (words line)) (words line))
 
-abbrev pub start : State
-start = record { context = beginning false; covered = 0; models = [] }
+abbrev pub start : (most : ℕ) → State
+start most = record { most = most; context = beginning false; models = [] }
 
-abbrev pub read_of : (file bytes : List ℕ) → Result State Fault
-read_of file bytes = placed file (read_from after_line start 1 (joined_lines bytes))
+abbrev pub read_of : (most : ℕ) → (file bytes : List ℕ) → Result State Fault
+read_of most file bytes = placed file (read_from after_line (start most) 1 (joined_lines bytes))

@@ -10,4 +10,4 @@ pub returns-clause-fasm : goal.returns-clause-fasm
 returns-clause-fasm c = lines_once fasm_judge
 
 pub returns-clause-blif : goal.returns-clause-blif
-returns-clause-blif c = lines_once judge
+returns-clause-blif c = λ most. lines_once (judge most)

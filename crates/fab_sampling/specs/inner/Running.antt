@@ -4,11 +4,11 @@ use Rattle.fab_base.specs.declared.fault.Fault.{Fault}
 use Rattle.fab_base.specs.declared.fault.Fault.TheVariants as faults
 use Rattle.fab_desk.specs.Files.{Map}
 use Rattle.fab_desk.specs.Memory.{map_of}
-use Rattle.fab_designs.specs.Designs.{PlainDesign, SpellsDesign}
+use Rattle.fab_designs.specs.Designs.{PlainDesign, SpellsDesign, read_of}
 use Rattle.fab_outputs.specs.Storing.{PlainOutput, with_outputs}
 use Rattle.fab_sample_runs_laws.specs.fab_flow_Flowing.{MakesFlow}
 use Rattle.fab_sample_runs_laws.specs.fab_simulate_command_Simulating.{MakesTrace}
-use Rattle.fab_flow_laws.specs.SimulatedLaws.{TracesNetlist}
+use Rattle.fab_sample_runs_laws.specs.fab_flow_laws_SimulatedLaws.{TracesNetlist}
 use Rattle.fab_sample_runs_laws.specs.Commands.{names, rounds, simulated}
 use Rattle.fab_sampling.specs.Sampling.{IsUnmapped, sample_map}
 use Rattle.fab_sampling.specs.declared.run.Run.{Run}
@@ -40,7 +40,7 @@ pub record HasFlowed (run : Run) : Type 0 where
 pub record HasTraced (run : Run) (flowed : HasFlowed run) : Type 0 where
   pub trace : List PlainOutput
   pub made : MakesTrace (with_outputs flowed.stored (files_of run)) simulated None trace
-  pub traces : TracesNetlist (with_outputs flowed.stored (files_of run)) simulated.stimulus simulated.trace flowed.flow.design.netlist trace
+  pub traces : TracesNetlist (with_outputs flowed.stored (files_of run)) simulated.stimulus simulated.trace (read_of flowed.flow.spelled) trace
 
 -- memory was refused, or the design of the sample is not mapped
 abbrev pub EndsFlow : Run → Fault → Type 0

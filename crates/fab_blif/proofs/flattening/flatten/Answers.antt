@@ -1,13 +1,11 @@
-use Rattle.std.proofs.Common.{◌≡◌, ◌++◌, ℕ, ◌<◌, ◌⊎◌, List, length, inl, inr, subst, arith}
+use Rattle.std.proofs.Common.{◌≡◌, ℕ, ◌<◌, ◌≤◌, ◌⊎◌, List, length, inl, inr, sym, subst, arith}
 use Rattle.std.proofs.lemmas.List.{length-map}
 use Rattle.std.proofs.lemmas.Result.{err_from_is_err_and}
 use Rattle.fab_base.specs.declared.fault.Fault.{Fault}
 use Rattle.fab_blif_models.specs.declared.model.Model.{Model}
 use Rattle.fab_blif_models.specs.Plain.{plain_model, plain_models}
-use Rattle.fab_blif.proofs.Clocking.{none_later}
-use Rattle.fab_blif.proofs.WellMade.{well_made_design}
-use Rattle.fab_blif.specs.Judged.{inner_drivers, is_driven, readers}
-use Rattle.fab_blif.specs.Clocks.{clock_uses, data_faults, first_use, is_clock, named_faults}
+use Rattle.fab_netlist.specs.Wide.{IsWideMade}
+use Rattle.fab_blif.proofs.WellMade.{wide_design, wired_design}
 use Rattle.fab_blif.specs.Design.{PlainDesign, design_of}
 use Rattle.fab_blif.specs.Flat.{flat_lines}
 use Rattle.fab_instances.specs.Order.{NamesDiffer, RefusesNames}
@@ -17,11 +15,12 @@ use Rattle.fab_blif.proofs.flattening.flatten.Goals as goal
 
 pub netlist_of-requires : goal.netlist_of-requires
 netlist_of-requires c =
-    let judged = c.in_ok-refuse_design.ensures.fine in
-    let design = c.in_ok-design.design in
-    let named = named_faults (is_driven design) (is_clock design) (first_use (clock_uses design.nets design.clocks)) design.nets design.clocks in
-    let unread = none_later named (data_faults (is_clock design) (readers design ++ inner_drivers design)) judged.clocks in
-    well_made_design (plain_models c.args.models.now) c.requires design c.in_ok-design.ensures judged.small judged.once judged.driven unread
+    wired_design 16 (plain_models c.args.models.now) c.requires c.in_ok-design.design c.in_ok-design.ensures c.in_ok-refuse_design.ensures.fine
+
+pub returns-clause-made : goal.returns-clause-made
+returns-clause-made c =
+    subst IsWideMade (sym c.in_ok-netlist_of.ensures)
+    (wide_design 16 (omega arith) (plain_models c.args.models.now) c.requires c.in_ok-design.design c.in_ok-design.ensures c.in_ok-refuse_design.ensures.fine)
 
 -- the refusal of models or of their design is one of their file
 models_refused : (file : List ℕ) (last_line : ℕ) (models : List Model) (fault : Fault) →

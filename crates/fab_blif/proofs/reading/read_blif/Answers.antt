@@ -1,81 +1,19 @@
-use Rattle.std.proofs.Common.{◌≢◌, ◌∙◌, ap, inl, sym, arith}
-use Rattle.std.proofs.lemmas.List.{length-map}
+use Rattle.std.proofs.Common.{◌≡◌, ◌∙◌, ap, All, ℕ, List, length, ◌≤◌, sym, subst}
 use Rattle.std.proofs.lemmas.Result.{err_from_is_err_and}
-use Rattle.fab_base.specs.declared.fault.Fault.TheVariants as faults
-use Rattle.fab_blif_models.specs.Plain.{plain_model, plain_models}
-use Rattle.fab_blif.specs.Blif.{RefusesBlif}
-use Rattle.fab_blif.specs.Design.{flattened}
+use Rattle.fab_netlist.specs.Cycles.{HasNoCycle}
+use Rattle.fab_netlist.specs.Plain.{PlainNetlist}
+use Rattle.fab_netlist.specs.Wide.{PlainWide, PlainWideCover, tabled}
+use Rattle.fab_netlist.specs.WellMade.{IsWellMade, most_nets}
+use Rattle.fab_blif.specs.Blif.{netlist_in}
 use Rattle.fab_blif.proofs.Excluded.{not_refused, reads_unless}
-use Rattle.fab_blif.proofs.Files.{IsRead, IsFlat, cycle_refused, is_blif, models_refused}
+use Rattle.fab_blif.proofs.Netlists.{netlist_is_well_made, narrow_is_narrow}
 use Rattle.fab_blif.proofs.reading.read_blif.Goals as goal
 
--- ---- a line is refused
+pub with_tables-requires-clause-made : goal.with_tables-requires-clause-made
+with_tables-requires-clause-made c =
+    subst (λ (wide : PlainWide). IsWellMade (tabled wide)) (sym c.in_ok-netlist.ensures.netlist) (netlist_is_well_made c.args.bytes.now c.in_ok-netlist.ensures.fine)
 
-pub returns-in_err-models-clause-refused : goal.returns-in_err-models-clause-refused
-returns-in_err-models-clause-refused c =
-    let told = err_from_is_err_and c.from_residual.result c.from_residual.ensures.1 in
-    rw (told.1, told.2) (λ some. (some, inl (c.in_err-models.ensures.first some)))
-
-pub returns-in_err-models-clause-reads : goal.returns-in_err-models-clause-reads
-returns-in_err-models-clause-reads c =
-    let told = err_from_is_err_and c.from_residual.result c.from_residual.ensures.1 in
-    rw (told.1, told.2) (reads_unless c.args.file.now c.args.bytes.now c.in_err-models.field-0.0 (λ some. (some, inl (c.in_err-models.ensures.first some))))
-
--- ---- the models are refused
-
-pub returns-in_err-netlist-clause-refused : goal.returns-in_err-netlist-clause-refused
-returns-in_err-netlist-clause-refused c =
-    let told = err_from_is_err_and c.from_residual-in_err-netlist.result c.from_residual-in_err-netlist.ensures.1 in
-    let models = plain_models c.deref.result.now in
-    let read : IsRead c.args.bytes.now models = record { fine = c.in_ok-models.ensures.fine; spelled = ap plain_models c.deref.ensures.value ∙ c.in_ok-models.ensures.spelled } in
-    rw (told.1, told.2) (models_refused c.args.file.now c.args.bytes.now models c.in_err-netlist.field-0.0 read (rw (sym c.last_line.ensures) c.in_err-netlist.ensures.refused))
-
-pub returns-in_err-netlist-clause-reads : goal.returns-in_err-netlist-clause-reads
-returns-in_err-netlist-clause-reads c =
-    let told = err_from_is_err_and c.from_residual-in_err-netlist.result c.from_residual-in_err-netlist.ensures.1 in
-    let models = plain_models c.deref.result.now in
-    let read : IsRead c.args.bytes.now models = record { fine = c.in_ok-models.ensures.fine; spelled = ap plain_models c.deref.ensures.value ∙ c.in_ok-models.ensures.spelled } in
-    let refused : c.in_err-netlist.field-0.0 ≢ faults.Memory → RefusesBlif c.args.file.now c.args.bytes.now c.in_err-netlist.field-0.0 =
-    models_refused c.args.file.now c.args.bytes.now models c.in_err-netlist.field-0.0 read (rw (sym c.last_line.ensures) c.in_err-netlist.ensures.refused) in
-    rw (told.1, told.2) (reads_unless c.args.file.now c.args.bytes.now c.in_err-netlist.field-0.0 refused)
-
--- ---- a cycle is refused
-
-pub returns-in_err-check_acyclic-clause-refused : goal.returns-in_err-check_acyclic-clause-refused
-returns-in_err-check_acyclic-clause-refused c =
-    let told = err_from_is_err_and c.from_residual-in_err-check_acyclic.result c.from_residual-in_err-check_acyclic.ensures.1 in
-    let models = plain_models c.deref.result.now in
-    let read : IsRead c.args.bytes.now models = record { fine = c.in_ok-models.ensures.fine; spelled = ap plain_models c.deref.ensures.value ∙ c.in_ok-models.ensures.spelled } in
-    let named = c.in_ok-netlist.ensures.named in
-    let flat : IsFlat models = record { some = omega (arith, named.0, length-map c.deref.result.now plain_model); named = named.1; fine = c.in_ok-netlist.ensures.models; design = c.in_ok-netlist.ensures.fine } in
-    let netlist = c.in_ok-netlist.netlist in
-    rw (told.1, told.2) (cycle_refused c.args.file.now c.args.bytes.now models netlist c.in_err-check_acyclic.field-0.0 read flat (c.in_ok-netlist.ensures.netlist ∙ ap flattened read.spelled) c.in_err-check_acyclic.ensures.refused)
-
-pub returns-in_err-check_acyclic-clause-reads : goal.returns-in_err-check_acyclic-clause-reads
-returns-in_err-check_acyclic-clause-reads c =
-    let told = err_from_is_err_and c.from_residual-in_err-check_acyclic.result c.from_residual-in_err-check_acyclic.ensures.1 in
-    let fault = c.in_err-check_acyclic.field-0.0 in
-    let models = plain_models c.deref.result.now in
-    let read : IsRead c.args.bytes.now models = record { fine = c.in_ok-models.ensures.fine; spelled = ap plain_models c.deref.ensures.value ∙ c.in_ok-models.ensures.spelled } in
-    let named = c.in_ok-netlist.ensures.named in
-    let flat : IsFlat models = record { some = omega (arith, named.0, length-map c.deref.result.now plain_model); named = named.1; fine = c.in_ok-netlist.ensures.models; design = c.in_ok-netlist.ensures.fine } in
-    let netlist = c.in_ok-netlist.netlist in
-    let refused : fault ≢ faults.Memory → RefusesBlif c.args.file.now c.args.bytes.now fault =
-    cycle_refused c.args.file.now c.args.bytes.now models netlist fault read flat (c.in_ok-netlist.ensures.netlist ∙ ap flattened read.spelled) c.in_err-check_acyclic.ensures.refused in
-    rw (told.1, told.2) (reads_unless c.args.file.now c.args.bytes.now fault refused)
-
--- ---- the file is read
-
-pub returns-clause-netlist : goal.returns-clause-netlist
-returns-clause-netlist c = c.in_ok-netlist.ensures.netlist ∙ ap flattened (ap plain_models c.deref.ensures.value ∙ c.in_ok-models.ensures.spelled)
-
-pub returns-clause-fine : goal.returns-clause-fine
-returns-clause-fine c =
-    let models = plain_models c.deref.result.now in
-    let read : IsRead c.args.bytes.now models = record { fine = c.in_ok-models.ensures.fine; spelled = ap plain_models c.deref.ensures.value ∙ c.in_ok-models.ensures.spelled } in
-    let named = c.in_ok-netlist.ensures.named in
-    let flat : IsFlat models = record { some = omega (arith, named.0, length-map c.deref.result.now plain_model); named = named.1; fine = c.in_ok-netlist.ensures.models; design = c.in_ok-netlist.ensures.fine } in
-    is_blif c.args.bytes.now models c.in_ok-netlist.netlist read flat (returns-clause-netlist c) c.in_ok-check_acyclic.ensures.acyclic
-
-pub returns-clause-refuses : goal.returns-clause-refuses
-returns-clause-refuses c = λ fault refused. absurd (not_refused c.args.file.now c.args.bytes.now fault (returns-clause-fine c) refused)
+pub with_tables-requires-clause-narrow : goal.with_tables-requires-clause-narrow
+with_tables-requires-clause-narrow c =
+    subst (λ (wide : PlainWide). All (λ (cover : PlainWideCover). length cover.inputs ≤ 4) wide.covers) (sym c.in_ok-netlist.ensures.netlist)
+    (narrow_is_narrow c.args.bytes.now c.in_ok-netlist.ensures.fine)

@@ -20,7 +20,7 @@ returns-in_err-bytes-clause-cause g c =
 pub returns-clause-spelled : goal.returns-clause-spelled
 returns-clause-spelled g c = λ files is.
     let found : handed_out files c.args.blif.now ≡ Ok c.deref.result.now = rw c.deref.ensures.value (c.in_ok-bytes.ensures.found files is) in
-    netlist_read files c.args.blif.now c.deref.result.now c.read_blif.result found c.read_blif.ensures.fine c.read_blif.ensures.netlist
+    netlist_read files c.args.blif.now c.deref.result.now c.split_netlist.result found c.split_netlist.ensures.spelled
 
 pub returns-clause-cause : goal.returns-clause-cause
 returns-clause-cause g c =
@@ -28,5 +28,5 @@ returns-clause-cause g c =
     let rose = g.D.Desk.reads c.args.desk.now < g.D.Desk.reads c.fetch.new.desk in
     let blif = c.args.blif.now in
     let found : (files : Map) → told ≡ Some files → handed_out files blif ≡ Ok c.deref.result.now = λ files is. rw c.deref.ensures.value (c.in_ok-bytes.ensures.found files is) in
-    IfErr-weaker c.read_blif.result _ _
-    (λ fault refused. blif_cause told rose (λ files. MeetsNetlist files blif) blif c.deref.result.now fault refused (λ files is why. of_bytes (found files is) why)) c.read_blif.ensures.refused
+    IfErr-weaker c.split_netlist.result _ _
+    (λ fault refused. blif_cause told rose (λ files. MeetsNetlist files blif) blif c.deref.result.now fault refused (λ files is why. of_bytes (found files is) why)) c.split_netlist.ensures.refused

@@ -17,12 +17,12 @@ use Rattle.fab_flow.proofs.assembling.assembled.Goals as goal
 
 pub returns-in-Ok-clause-runs : goal.returns-in-Ok-clause-runs
 returns-in-Ok-clause-runs c =
-    subst (λ (d : PlainDesign). (text : List PlainModule) → IsFabricText d.fabric text → RunsDesign d.fabric text d.netlist c.args.implementation c.in-Ok.assembled.words.items c.in-Ok.assembled.state)
+    subst (λ (d : PlainDesign). (text : List PlainModule) → IsFabricText d.fabric text → RunsDesign d.fabric text d.netlist d.netlist c.args.implementation c.in-Ok.assembled.words.items c.in-Ok.assembled.state)
     c.design.view_is c.in-Ok.ensures.runs
 
 pub returns-in-Ok-clause-settles : goal.returns-in-Ok-clause-settles
 returns-in-Ok-clause-settles c =
-    subst (λ (d : PlainDesign). (text : List PlainModule) → IsFabricText d.fabric text → SettlesDesign d.fabric text d.netlist c.args.implementation c.in-Ok.assembled.words.items)
+    subst (λ (d : PlainDesign). (text : List PlainModule) → IsFabricText d.fabric text → SettlesDesign d.fabric text d.netlist d.netlist c.args.implementation c.in-Ok.assembled.words.items)
     c.design.view_is c.in-Ok.ensures.settles
 
 pub returns-in-Ok-clause-map : goal.returns-in-Ok-clause-map

@@ -1,11 +1,10 @@
 use Rattle.std.proofs.Common.{◌<◌, ◌∙◌, All, map, arith, sym, subst}
-use Rattle.std.specs.Option.{ForSome, option_copied}
+use Rattle.std.specs.Option.{option_copied}
 use Rattle.std.specs.Str.{IsUtf8}
 use Rattle.std.proofs.lemmas.Result.{IfErr-weaker, on_ok_weaker, err_from_is_err_and}
 use Rattle.fab_outputs.specs.declared.storing.Output.{Output}
 use Rattle.fab_outputs.specs.Storing.{plain_output}
-use Rattle.fab_netlist.specs.Resets.{netlist_with}
-use Rattle.fab_flow.specs.Assembling.{AssemblyFiles, IsAssembly, IsReadyToAssemble, MakesAssembly, MeetsAssembly, assemble_refusals, assembly_files}
+use Rattle.fab_flow.specs.Assembling.{AssemblyFiles, IsReadyToAssemble, MakesAssembly, MeetsAssembly, assemble_refusals, assembly_files}
 use Rattle.fab_outputs.proofs.Ending.{cause_of_store, leaves_of_store, done_of_store}
 use Rattle.fab_flow.proofs.Assembled.{assembly_cause, assembly_leaves, design_cause, implementation_cause, made_of, read_behind}
 use Rattle.fab_flow.proofs.assembling.do_assemble.Goals as goal
@@ -60,12 +59,18 @@ returns-clause-done g c =
     let implemented = read_behind told (g.D.Desk.told c.read_design.new.desk) c.args.implementation.now _ c.in_ok-design.design c.in_ok-read.read c.in_ok-design.ensures.told c.design.view_is c.in_ok-read.ensures.spelled in
     let outputs = map plain_output c.deref.result.now in
     let of = c.in_ok-outputs.ensures in
-    let netlist = netlist_with c.in_ok-read.read.reset c.in_ok-design.design.netlist in
-    let made : ForSome told (λ files. IsAssembly c.in_ok-design.design.fabric netlist c.in_ok-read.read c.args.base.now outputs) =
-    λ files is. made_of files names.design.fabric c.in_ok-design.design.fabric netlist c.in_ok-read.read c.args.base.now c.in_ok-outputs.outputs.items c.deref.result.now
-    c.deref.ensures.value (c.in_ok-design.ensures.spelled files is).fabric of.made in
+    let spelled = c.in_ok-design.ensures.spelled in
     on_ok_weaker c.store_all.result (λ stored. done_of_store (λ files. MakesAssembly files names) told outputs (g.D.Desk.told c.read_implementation.new.desk) (g.D.Desk.told c.store_all.new.desk)
-    (λ files is. record { design = c.in_ok-design.design; implementation = c.in_ok-read.read; spelled = c.in_ok-design.ensures.spelled files is; implemented = implemented files is; resets = of.resets; fits = of.fits; legal = of.legal; made = made files is })
+    (λ files is. record {
+      design = c.in_ok-design.design;
+      implementation = c.in_ok-read.read;
+      spelled = spelled files is;
+      implemented = implemented files is;
+      resets = of.resets;
+      fits = of.fits;
+      legal = of.legal;
+      made = made_of files names c.in_ok-design.design (spelled files is) c.in_ok-read.read c.in_ok-outputs.outputs.items c.deref.result.now c.deref.ensures.value of.made;
+    })
     (c.in_ok-read.ensures.told ∙ c.in_ok-design.ensures.told) stored) c.store_all.ensures.done
 
 pub returns-clause-leaves : goal.returns-clause-leaves
@@ -75,12 +80,18 @@ returns-clause-leaves g c =
     let implemented = read_behind told (g.D.Desk.told c.read_design.new.desk) c.args.implementation.now _ c.in_ok-design.design c.in_ok-read.read c.in_ok-design.ensures.told c.design.view_is c.in_ok-read.ensures.spelled in
     let outputs = map plain_output c.deref.result.now in
     let of = c.in_ok-outputs.ensures in
-    let netlist = netlist_with c.in_ok-read.read.reset c.in_ok-design.design.netlist in
-    let made : ForSome told (λ files. IsAssembly c.in_ok-design.design.fabric netlist c.in_ok-read.read c.args.base.now outputs) =
-    λ files is. made_of files names.design.fabric c.in_ok-design.design.fabric netlist c.in_ok-read.read c.args.base.now c.in_ok-outputs.outputs.items c.deref.result.now
-    c.deref.ensures.value (c.in_ok-design.ensures.spelled files is).fabric of.made in
+    let spelled = c.in_ok-design.ensures.spelled in
     IfErr-weaker c.store_all.result _ _ (λ fault stopped. leaves_of_store (λ files. MakesAssembly files names) told outputs (g.D.Desk.told c.read_implementation.new.desk) (g.D.Desk.told c.store_all.new.desk) _ fault
-    (λ files is. record { design = c.in_ok-design.design; implementation = c.in_ok-read.read; spelled = c.in_ok-design.ensures.spelled files is; implemented = implemented files is; resets = of.resets; fits = of.fits; legal = of.legal; made = made files is })
+    (λ files is. record {
+      design = c.in_ok-design.design;
+      implementation = c.in_ok-read.read;
+      spelled = spelled files is;
+      implemented = implemented files is;
+      resets = of.resets;
+      fits = of.fits;
+      legal = of.legal;
+      made = made_of files names c.in_ok-design.design (spelled files is) c.in_ok-read.read c.in_ok-outputs.outputs.items c.deref.result.now c.deref.ensures.value of.made;
+    })
     (c.in_ok-read.ensures.told ∙ c.in_ok-design.ensures.told) stopped) c.store_all.ensures.stopped
 
 pub returns-clause-cause : goal.returns-clause-cause

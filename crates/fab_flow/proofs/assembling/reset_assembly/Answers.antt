@@ -69,7 +69,7 @@ returns-clause-made c =
     let set = c.in_ok-take_reset.ensures.set ∙ ap (λ (p : Option (List ℕ)). netlist_with p c.design.inside.netlist) port_is in
     IfOk-weaker c.packed_assembly.result _ _
     (λ outputs. seen (λ d. All IsNamed d.fabric.types → All HasPrefixes d.fabric.types
-    → IsAssembly d.fabric d.netlist c.args.implementation c.args.base.now (map plain_output outputs.items)) c.args.implementation.reset inside c.args.design _
+    → IsAssembly d.fabric d.netlist d.netlist c.args.implementation c.args.base.now (map plain_output outputs.items)) c.args.implementation.reset inside c.args.design _
     c.design.view_is set) c.packed_assembly.ensures.made
 
 pub returns-clause-refused : goal.returns-clause-refused

@@ -1,12 +1,12 @@
 use Rattle.std.proofs.Common.{All, List, map, arith, refl, sym, subst}
-use Rattle.std.specs.Option.{ForSome, option_copied}
+use Rattle.std.specs.Option.{option_copied}
 use Rattle.std.specs.Str.{IsUtf8}
 use Rattle.std.proofs.lemmas.Result.{IfErr-weaker, on_ok_weaker, err_from_is_err_and}
 use Rattle.fab_desk.specs.Files.{Map}
 use Rattle.fab_files.specs.Files.{Event}
 use Rattle.fab_outputs.specs.declared.storing.Output.{Output}
 use Rattle.fab_outputs.specs.Storing.{PlainOutput, plain_output}
-use Rattle.fab_flow.specs.Flowing.{FlowFiles, FailsToFlow, IsFlow, IsReadyToFlow, MakesFlow, MeetsFlow, flow_files, flow_refusals, used}
+use Rattle.fab_flow.specs.Flowing.{FlowFiles, FailsToFlow, IsReadyToFlow, MakesFlow, MeetsFlow, flow_files, flow_refusals}
 use Rattle.fab_outputs.proofs.Ending.{cause_of_store, leaves_of_store, done_of_store, searched}
 use Rattle.fab_flow.proofs.Flowed.{design_cause, flow_cause, flow_leaves, flow_of}
 use Rattle.fab_flow.proofs.flowing.do_flow.Goals as goal
@@ -49,13 +49,16 @@ returns-clause-done g c =
     let design = c.in_ok-design.design in
     let outputs = map plain_output c.deref.result.now in
     let of = c.in_ok-outputs.ensures in
-    let netlist = used names design in
-    let made : ForSome told (λ files. IsFlow design.fabric netlist design.fixed c.args.rounds c.args.base.now outputs) =
-    λ files is. flow_of files names.design.fabric design.fabric netlist design.fixed c.args.rounds c.args.base.now c.in_ok-outputs.outputs.items c.deref.result.now
-    c.deref.ensures.value (c.in_ok-design.ensures.spelled files is).fabric of.made in
+    let spelled = c.in_ok-design.ensures.spelled in
     let makes : Map → List PlainOutput → Type 0 = λ files. MakesFlow files names c.args.rounds in
     on_ok_weaker c.store_all.result (λ stored. done_of_store makes told outputs (g.D.Desk.told c.read_design.new.desk) (g.D.Desk.told c.store_all.new.desk)
-    (λ files is. record { design = design; spelled = c.in_ok-design.ensures.spelled files is; resets = of.resets; fits = of.fits; made = made files is })
+    (λ files is. record {
+      design = design;
+      spelled = spelled files is;
+      resets = of.resets;
+      fits = of.fits;
+      made = flow_of files names design (spelled files is) c.args.rounds c.in_ok-outputs.outputs.items c.deref.result.now c.deref.ensures.value of.made;
+    })
     c.in_ok-design.ensures.told stored) c.store_all.ensures.done
 
 pub returns-clause-leaves : goal.returns-clause-leaves
@@ -65,13 +68,16 @@ returns-clause-leaves g c =
     let design = c.in_ok-design.design in
     let outputs = map plain_output c.deref.result.now in
     let of = c.in_ok-outputs.ensures in
-    let netlist = used names design in
-    let made : ForSome told (λ files. IsFlow design.fabric netlist design.fixed c.args.rounds c.args.base.now outputs) =
-    λ files is. flow_of files names.design.fabric design.fabric netlist design.fixed c.args.rounds c.args.base.now c.in_ok-outputs.outputs.items c.deref.result.now
-    c.deref.ensures.value (c.in_ok-design.ensures.spelled files is).fabric of.made in
+    let spelled = c.in_ok-design.ensures.spelled in
     let makes : Map → List PlainOutput → Type 0 = λ files. MakesFlow files names c.args.rounds in
     IfErr-weaker c.store_all.result _ _ (λ fault stopped. leaves_of_store makes told outputs (g.D.Desk.told c.read_design.new.desk) (g.D.Desk.told c.store_all.new.desk) _ fault
-    (λ files is. record { design = design; spelled = c.in_ok-design.ensures.spelled files is; resets = of.resets; fits = of.fits; made = made files is })
+    (λ files is. record {
+      design = design;
+      spelled = spelled files is;
+      resets = of.resets;
+      fits = of.fits;
+      made = flow_of files names design (spelled files is) c.args.rounds c.in_ok-outputs.outputs.items c.deref.result.now c.deref.ensures.value of.made;
+    })
     c.in_ok-design.ensures.told stopped) c.store_all.ensures.stopped
 
 pub returns-clause-cause : goal.returns-clause-cause

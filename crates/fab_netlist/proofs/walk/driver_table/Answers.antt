@@ -8,13 +8,13 @@ use Rattle.fab_netlist.proofs.walk.driver_table.Goals as goal
 
 pub overflow_cast-place : goal.overflow_cast-place
 overflow_cast-place c =
-    let covers : c.deref-cover-items.result.now ≡ c.args.netlist.now.covers = search rules in
+    let covers : c.netlist.inside.covers.now ≡ c.args.netlist.now.covers = search rules in
     let small : c.loop-place.place < length c.args.netlist.now.covers = omega (arith, c.loop-place-test.true, ap length covers) in
     omega (arith, few_covers c.args.netlist.now c.requires, small)
 
 pub index_mut-requires : goal.index_mut-requires
 index_mut-requires c =
-    let covers : c.deref-cover-items.result.now ≡ c.args.netlist.now.covers = search rules in
+    let covers : c.netlist.inside.covers.now ≡ c.args.netlist.now.covers = search rules in
     let small : c.loop-place.place < length c.args.netlist.now.covers = omega (arith, c.loop-place-test.true, ap length covers) in
     let cover : c.cover-item.result ≡ cover_at c.args.netlist.now c.loop-place.place =
     get_or_read c.args.netlist.now.covers c.loop-place.place c.cover-item.result small (c.cover-item.is ∙ ap (λ list. get_or list c.loop-place.place c.cover-item.result) covers) no_cover in
@@ -25,7 +25,7 @@ index_mut-requires c =
 
 pub loop-place-preserved : goal.loop-place-preserved
 loop-place-preserved c =
-    let covers : c.deref-cover-items.result.now ≡ c.args.netlist.now.covers = search rules in
+    let covers : c.netlist.inside.covers.now ≡ c.args.netlist.now.covers = search rules in
     let small : c.loop-place.place < length c.args.netlist.now.covers = omega (arith, c.loop-place-test.true, ap length covers) in
     let cover : c.cover-item.result ≡ cover_at c.args.netlist.now c.loop-place.place =
     get_or_read c.args.netlist.now.covers c.loop-place.place c.cover-item.result small (c.cover-item.is ∙ ap (λ list. get_or list c.loop-place.place c.cover-item.result) covers) no_cover in
@@ -36,6 +36,6 @@ loop-place-preserved c =
 
 pub returns : goal.returns
 returns c =
-    let covers : c.deref-cover-items.result.now ≡ c.args.netlist.now.covers = search rules in
+    let covers : c.netlist.inside.covers.now ≡ c.args.netlist.now.covers = search rules in
     let ends : c.loop-place.place ≡ length c.args.netlist.now.covers = omega (arith, c.loop-place-test.false, c.loop-place.auto.place-end, ap length covers) in
     subst (λ count. HasDrivers c.args.netlist.now count c.loop-place.drivers.items) ends c.loop-place.invariant

@@ -5,7 +5,7 @@ use Rattle.fab_netlist.proofs.walk.search_all.Goals as goal
 
 pub overflow_cast-start : goal.overflow_cast-start
 overflow_cast-start c =
-    let count : c.len-start-end.result ≡ length c.args.netlist.now.covers = search rules in
+    let count : length c.netlist.inside.covers.now ≡ length c.args.netlist.now.covers = search rules in
     omega (arith, count, c.loop-start-test.true, few_covers c.args.netlist.now c.requires.wired)
 
 pub loop-start-preserved : goal.loop-start-preserved
@@ -20,7 +20,7 @@ loop-start-preserved c =
 
 pub returns : goal.returns
 returns c =
-    let count : c.len-start-end.result ≡ length c.args.netlist.now.covers = search rules in
+    let count : length c.netlist.inside.covers.now ≡ length c.args.netlist.now.covers = search rules in
     let enough : length c.args.netlist.now.covers ≤ c.loop-start.start = omega (arith, count, c.loop-start-test.false) in (
       all_listed c.args.netlist.now c.loop-start.marks c.loop-start.order.items c.loop-start.start c.loop-start.invariant.listed c.loop-start.invariant.done enough,
       all_done c.args.netlist.now c.loop-start.marks c.loop-start.start c.loop-start.invariant.state c.loop-start.invariant.done enough,

@@ -1,0 +1,11 @@
+pub mod Halves
+pub mod Values
+pub mod Drivers
+pub mod Runs
+pub mod Falls
+pub mod Heights
+pub mod Stays
+pub mod Made
+pub mod Joined
+pub mod Steps
+pub mod Whole

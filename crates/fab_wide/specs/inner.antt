@@ -1,0 +1,3 @@
+-- What only contracts inside the crate cite.
+pub mod Narrowing
+pub mod Words
