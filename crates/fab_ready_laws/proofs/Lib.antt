@@ -12,3 +12,6 @@ pub mod Placements
 pub mod NetRules
 pub mod Legality
 pub mod Designs
+pub mod Graphs
+pub mod Leasts
+pub mod Cycles
