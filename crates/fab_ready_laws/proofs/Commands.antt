@@ -67,18 +67,20 @@ handed_bytes files hold file bytes is = by_name (is_utf8 file) is
     by_name true out = by_file (files file) refl out
     by_name false out = absurd cc
 
+-- lines spell an implementation, or one of them is refused
+pub implementation_text_judged : (fabric : PlainFabric) (file bytes : List ℕ) → IsSpelledOrRefused (SpellsImplementation fabric bytes) (RefusesImplementation fabric file bytes)
+implementation_text_judged fabric file bytes = elim (texts_judged (implementation_format fabric) file (rows_of bytes) (last_line bytes)) [
+  | inl whole ↦ inl (implementation_of (known fabric (words_of (rows_of bytes))), record { lines = whole_spells fabric (rows_of bytes) whole; says = (whole, refl) })
+  | inr refusal ↦ inr refusal
+]
+
 module _ (files : Map) where
   pub features_file_judged : (file : List ℕ) → IsReadyOrRefused ((features : List Feature) × ReadsFeatures files file features) (MeetsFeatures files file)
   features_file_judged file = file_judged files file _ _ (λ bytes found. fasm_judged file (lines bytes))
 
   pub implementation_judged : (fabric : PlainFabric) (file : List ℕ) → IsReadyOrRefused ((it : PlainImplementation) × ReadsImplementation files file fabric it) (MeetsImplementation files file fabric)
-  implementation_judged fabric file = file_judged files file (SpellsImplementation fabric) (RefusesImplementation fabric file) (λ bytes found. spelled bytes)
-    where
-      spelled : (bytes : List ℕ) → IsSpelledOrRefused (SpellsImplementation fabric bytes) (RefusesImplementation fabric file bytes)
-      spelled bytes = elim (texts_judged (implementation_format fabric) file (rows_of bytes) (last_line bytes)) [
-        | inl whole ↦ inl (implementation_of (known fabric (words_of (rows_of bytes))), record { lines = whole_spells fabric (rows_of bytes) whole; says = (whole, refl) })
-        | inr refusal ↦ inr refusal
-      ]
+  implementation_judged fabric file =
+      file_judged files file (SpellsImplementation fabric) (RefusesImplementation fabric file) (λ bytes found. implementation_text_judged fabric file bytes)
 
   -- ---- generate
 

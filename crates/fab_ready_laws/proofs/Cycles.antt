@@ -121,4 +121,4 @@ module _ (netlist : PlainNetlist) where
       never : ((place : ℕ) × Contains (places_below (length netlist.covers)) place × ReadsItself place → ⊥) → HasNoCycle netlist
       never none [] cycle = cycle
       never none (first ∷ rest) cycle =
-          none (first, below_in (length netlist.covers) first (first_within first rest first cycle), rest, on_reads first rest first cycle)
+          none (first, below_in (length netlist.covers) first (first_within first rest first cycle), (rest, on_reads first rest first cycle))

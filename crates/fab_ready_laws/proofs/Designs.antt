@@ -39,7 +39,7 @@ use Rattle.fab_ready_laws.proofs.Commands.{implementation_judged, long_or_short}
 
 -- ---- a design
 
-constraints_judged : (fabric : PlainFabric) (netlist : PlainNetlist) (file bytes : List ℕ) → IsSpelledOrRefused (SpellsConstraints fabric netlist bytes) (RefusesConstraints fabric netlist file bytes)
+pub constraints_judged : (fabric : PlainFabric) (netlist : PlainNetlist) (file bytes : List ℕ) → IsSpelledOrRefused (SpellsConstraints fabric netlist bytes) (RefusesConstraints fabric netlist file bytes)
 constraints_judged fabric netlist file bytes = elim (texts_judged (constraint_format fabric (data_ports netlist)) file (rows_of bytes) (last_line bytes)) [
   | inl whole ↦ inl ((fixed fabric (data_ports netlist) (words_of (rows_of bytes))).pads, spelled_by_reading fabric (data_ports netlist) (rows_of bytes) whole)
   | inr refusal ↦ inr refusal

@@ -44,7 +44,7 @@ module _ (Edge : ℕ → ℕ → Type 0) where
   ]
 
   pub once_each : (a : ℕ) (rest : List ℕ) (b : ℕ) → On a rest b → (inner : List ℕ) × On a inner b × Apart (a ∷ inner)
-  once_each a [] b on = ([], on, (λ there. omega (arith, there.1)), tt)
+  once_each a [] b on = ([], on, ((λ there. omega (arith, there.1)), tt))
   once_each a (m ∷ rest) b on =
       let next = once_each m rest b on.1 in
       elim (listed_decided (λ x y. cases_eq x y) (m ∷ next.0) a) [

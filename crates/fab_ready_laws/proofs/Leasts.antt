@@ -20,7 +20,7 @@ module _ (P : ℕ → Type 0) where
     | inl found ↦ inl (found.0, omega (arith, found.1), found.2)
     | inr none ↦
         elim (each bound) [
-          | inl here ↦ inl (bound, omega arith, here, none)
+          | inl here ↦ inl (bound, omega arith, (here, none))
           | inr never ↦ inr (λ n less holds. none_at none never n less holds)
         ]
   ]

@@ -15,3 +15,7 @@ pub mod Designs
 pub mod Graphs
 pub mod Leasts
 pub mod Cycles
+pub mod Models
+pub mod Drivers
+pub mod Blifs
+pub mod Jobs

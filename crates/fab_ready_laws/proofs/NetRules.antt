@@ -92,14 +92,16 @@ module _ (fabric : PlainFabric) (packed : PlainPacked) (i : PlainImplementation)
         let edge = has.wrong.0 in
         let first = has.wrong.1 in
         let within = at_place (HasWires fabric) has.item.edges first.place edge (tree_wires has.place has.item has.is_at) first.is_at in
-        let text = written_wire fabric edge.1 within.1 in
-        (text.0, record {
-          tree = has.item;
-          edge = edge;
-          first_tree = record { place = has.place; is_at = has.is_at; wrong = wrong_not_right (IsRightEdge has.item) has.item.edges edge first; before = has.before };
-          first_edge = first;
-          text = text.1;
-        })
+        let text = written_wire fabric edge.1 within.1 in (
+          text.0,
+          record {
+            tree = has.item;
+            edge = edge;
+            first_tree = record { place = has.place; is_at = has.is_at; wrong = wrong_not_right (IsRightEdge has.item) has.item.edges edge first; before = has.before };
+            first_edge = first;
+            text = text.1;
+          },
+        )
 
     edges_judged : AreRight HasRightEdges i.trees ⊎ ((item : List ℕ) × IsEdgeItem fabric HasRightEdges IsRightEdge i.trees item)
     edges_judged = elim (right_or_wrong HasRightEdges HasWrongEdge i.trees tree_judged) [
@@ -314,9 +316,9 @@ module _ (fabric : PlainFabric) (packed : PlainPacked) (i : PlainImplementation)
       beside : (tree : PlainTree) → Contains i.trees tree → HasWire wire tree → IsApart i wire ⊎ IsShared wire
       beside tree there has = elim (some_decided (λ (other : PlainTree). HasWire wire other × (net_of i tree.net ≢ net_of i other.net))
           (λ other. both (has_decided wire other) (denied (net_eq (net_of i tree.net) (net_of i other.net)))) i.trees) [
-        | inl found ↦ inr (record { first = tree; second = found.0; one = there; other = found.1; in_one = has; in_other = found.2; two = found.3 })
-        | inr none ↦ inl (λ first second in_first in_second. sym (same none first in_first) ∙ same none second in_second)
-      ]
+            | inl found ↦ inr (record { first = tree; second = found.0; one = there; other = found.1; in_one = has; in_other = found.2; two = found.3 })
+            | inr none ↦ inl (λ first second in_first in_second. sym (same none first in_first) ∙ same none second in_second)
+          ]
         where
           same : ((other : PlainTree) × Contains i.trees other × HasWire wire other × (net_of i tree.net ≢ net_of i other.net) → ⊥) → (net : Net) → StandsIn i net wire → net_of i tree.net ≡ net
           same none net stands = elim (net_eq (net_of i tree.net) (net_of i stands.tree.net)) [
@@ -324,26 +326,26 @@ module _ (fabric : PlainFabric) (packed : PlainPacked) (i : PlainImplementation)
             | inr differ ↦ absurd (none (stands.tree, stands.listed, stands.has_wire, differ))
           ]
 
-  AreApartTo : ℕ → Type 0
+  abbrev AreApartTo : ℕ → Type 0
   AreApartTo n = (wire : Wire) → wire.0 < n → IsApart i wire
 
   shared_item : (n : ℕ) → n < wire_count fabric → AreApartTo n → IsShared (numbered_wire n) → (item : List ℕ) × IsSharedItem fabric i item
-  unfolding AreApartTo
   shared_item n within apart shared =
-      let text = written_wire fabric (numbered_wire n) within in
-      (text.0, record {
-        wire = numbered_wire n;
-        one_net = net_of i shared.first.net;
-        other_net = net_of i shared.second.net;
-        in_one = record { tree = shared.first; listed = shared.one; net_is = refl; has_wire = shared.in_one };
-        in_other = record { tree = shared.second; listed = shared.other; net_is = refl; has_wire = shared.in_other };
-        two = shared.two;
-        least = λ other less. apart other less;
-        text = text.1;
-      })
+      let text = written_wire fabric (numbered_wire n) within in (
+        text.0,
+        record {
+          wire = numbered_wire n;
+          one_net = net_of i shared.first.net;
+          other_net = net_of i shared.second.net;
+          in_one = record { tree = shared.first; listed = shared.one; net_is = refl; has_wire = shared.in_one };
+          in_other = record { tree = shared.second; listed = shared.other; net_is = refl; has_wire = shared.in_other };
+          two = shared.two;
+          least = λ other less. apart other less;
+          text = text.1;
+        },
+      )
 
   one_more_wire : (n : ℕ) → AreApartTo n → IsApart i (numbered_wire n) → AreApartTo (suc n)
-  unfolding AreApartTo
   one_more_wire n apart next wire below = elim (cases_lt wire.0 n) [
     | inl less ↦ apart wire less
     | inr past ↦ (let same : n ≡ wire.0 = omega (arith, below, past) in subst (λ (k : ℕ). IsApart i (numbered_wire k)) same next)
@@ -353,7 +355,6 @@ module _ (fabric : PlainFabric) (packed : PlainPacked) (i : PlainImplementation)
   wires_to zero few = inl none
     where
       none : AreApartTo zero
-      unfolding AreApartTo
       none wire below = absurd (omega (arith, below))
   wires_to (suc n) few = elim (wires_to n (omega (arith, few))) [
     | inr found ↦ inr found
@@ -386,5 +387,4 @@ module _ (fabric : PlainFabric) (packed : PlainPacked) (i : PlainImplementation)
   ]
     where
       all_apart : AreApartTo (wire_count fabric) → NetsAreApart i
-      unfolding AreApartTo
       all_apart apart wire first second in_first in_second = apart wire (standing_within first wire in_first) first second in_first in_second

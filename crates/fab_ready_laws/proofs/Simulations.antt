@@ -52,7 +52,7 @@ unfit_device file bytes text spelled = elim (sound_judged text) [
       ]
 ]
 
-device_judged : (file bytes : List ℕ) → IsSpelledOrRefused (SpellsDevice bytes) (RefusesDevice file bytes)
+pub device_judged : (file bytes : List ℕ) → IsSpelledOrRefused (SpellsDevice bytes) (RefusesDevice file bytes)
 device_judged file bytes = elim (verilog_judged file bytes) [
   | inl text ↦ unfit_device file bytes text.0 text.1
   | inr refusal ↦ inr (refusal.0, misspelled refusal.1)
@@ -60,7 +60,7 @@ device_judged file bytes = elim (verilog_judged file bytes) [
 
 -- ---- the state, and the stimulus
 
-state_judged : PointsOfSoundTextsHaveOneDriver → (text : List PlainModule) → IsSound text → (file bytes : List ℕ) → IsSpelledOrRefused (SpellsState text bytes) (RefusesState text file bytes)
+pub state_judged : PointsOfSoundTextsHaveOneDriver → (text : List PlainModule) → IsSound text → (file bytes : List ℕ) → IsSpelledOrRefused (SpellsState text bytes) (RefusesState text file bytes)
 state_judged one text sound file bytes = elim (texts_judged state_format file (rows_of bytes) (last_line bytes)) [
   | inr refusal ↦ inr (refusal.0, misspelled refusal.1)
   | inl whole ↦ (
@@ -72,7 +72,7 @@ state_judged one text sound file bytes = elim (texts_judged state_format file (r
       ])
 ]
 
-stimulus_judged : (text : List PlainModule) (state : PlainState) (of : List ℕ) → SpellsState text of state → (file bytes : List ℕ)
+pub stimulus_judged : (text : List PlainModule) (state : PlainState) (of : List ℕ) → SpellsState text of state → (file bytes : List ℕ)
     → IsSpelledOrRefused (SpellsStimulus state bytes) (RefusesStimulus state file bytes)
 stimulus_judged text state of spelled file bytes = elim (texts_judged (stimulus_format (ports_of state.ins)) file (rows_of bytes) (last_line bytes)) [
   | inr refusal ↦ inr refusal
