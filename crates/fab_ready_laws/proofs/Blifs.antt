@@ -1,6 +1,7 @@
 -- A BLIF file spells a netlist, or it has a first refusal.
-use Rattle.std.proofs.Common.{◌≡◌, ◌≢◌, ◌<◌, ◌≤◌, ◌⊎◌, ℕ, Bool, true, false, List, length, Option, Some, None, if◌then◌else◌, refl, sym, ap, ◌∙◌, inl, inr}
+use Rattle.std.proofs.Common.{◌≡◌, ◌≢◌, ◌<◌, ◌≤◌, ◌⊎◌, ℕ, Bool, true, false, ◌&&◌, not, List, ◌++◌, map, length, Option, Some, None, if◌then◌else◌, refl, sym, ap, ◌∙◌, inl, inr}
 use Rattle.std.specs.Prelude.{codes}
+use Rattle.std.specs.Str.{bytes_eq}
 use Rattle.std.proofs.lemmas.Bool.{cases_lt}
 use Rattle.fab_base.specs.Reading.{fault_at}
 use Rattle.fab_base.specs.declared.fault.Fault.{Fault}
@@ -13,12 +14,13 @@ use Rattle.fab_base.specs.declared.words.Reason.{Reason}
 use Rattle.fab_base.specs.declared.words.Reason.TheVariants as reasons
 use Rattle.fab_desk.specs.Files.{Map}
 use Rattle.fab_lines.specs.Counts.{last_line}
+use Rattle.fab_lines.specs.Items.{word_at}
 use Rattle.fab_lines.specs.Joined.{joined_lines}
 use Rattle.fab_lines.specs.Order.{IsFine, IsFirstFault}
 use Rattle.fab_blif_models.specs.declared.words.Kind.{Kind}
 use Rattle.fab_blif_models.specs.declared.words.Kind.TheVariants as kinds
 use Rattle.fab_blif_models.specs.Context.{Context, context_of}
-use Rattle.fab_blif_models.specs.Judge.{judge, judge_words, construct_problem, malformed_by, on_both_sides, port_problem, problem_of}
+use Rattle.fab_blif_models.specs.Judge.{judge, construct_problem, has_type, is_wide, malformed_by, on_both_sides, port_problem, problem_of}
 use Rattle.fab_blif_models.specs.Plain.{PlainModel}
 use Rattle.fab_blif_models.specs.Words.{Word, kind_of, words}
 use Rattle.fab_netlist.specs.Plain.{PlainNetlist}
@@ -70,7 +72,7 @@ test_told false word = none_told
 
 port_told : (port : Option Word) → TellsContent (port_problem port)
 port_told None = none_told
-port_told (Some port) = unsupported_told _
+port_told (Some port) = unsupported_told (codes "input and output " ++ port)
 
 construct_told : (most : ℕ) (context : Context) (kind : Kind) (line : List Word) → TellsContent (construct_problem most context kind line)
 construct_told most context kinds.Blank line = port_told (on_both_sides context kinds.Blank line)
@@ -80,12 +82,13 @@ construct_told most context kinds.End line = port_told (on_both_sides context ki
 construct_told most context kinds.Inputs line = port_told (on_both_sides context kinds.Inputs line)
 construct_told most context kinds.Outputs line = port_told (on_both_sides context kinds.Outputs line)
 construct_told most context kinds.Clock line = port_told (on_both_sides context kinds.Clock line)
-construct_told most context kinds.Names line = test_told _ _
-construct_told most context kinds.Latch line = test_told _ _
+construct_told most context kinds.Names line = test_told (is_wide most (length line)) (codes "wide cover")
+construct_told most context kinds.Latch line =
+    test_told (has_type (length line) && not (bytes_eq (word_at line 3) (codes "re"))) (codes "latch type " ++ word_at line 3)
 construct_told most context kinds.Instance line = port_told (on_both_sides context kinds.Instance line)
 construct_told most context kinds.Buffer line = port_told (on_both_sides context kinds.Buffer line)
 construct_told most context kinds.Passed line = port_told (on_both_sides context kinds.Passed line)
-construct_told most context kinds.Other line = unsupported_told _
+construct_told most context kinds.Other line = unsupported_told (word_at line 0)
 
 problem_told : (reason : Option Reason) (construct : Option Problem) → TellsContent construct → TellsContent (problem_of reason construct)
 problem_told None construct tells = tells
@@ -94,7 +97,10 @@ problem_told (Some reason) construct tells problem is memory =
     cc
 
 judge_told : (most : ℕ) (before : List (List ℕ)) (line : List ℕ) → TellsContent (judge most before line)
-judge_told most before line = problem_told _ _ (construct_told most _ (kind_of (words line)) (words line))
+judge_told most before line =
+    let context = context_of (map words before) in
+    problem_told (malformed_by context line (kind_of (words line)) (words line)) (construct_problem most context (kind_of (words line)) (words line))
+    (construct_told most context (kind_of (words line)) (words line))
 
 -- a refusal of lines, models or a design is told at a line, and is none of memory
 abbrev IsTold : Fault → Type 0

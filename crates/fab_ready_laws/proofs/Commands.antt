@@ -84,7 +84,7 @@ module _ (files : Map) where
 
   -- ---- generate
 
-  long_or_short : (name : List ℕ) (fabric : PlainFabric) → (text_length fabric ≤ most_text_bytes) ⊎ ((fault : Fault) × IsTooLong name fabric fault)
+  pub long_or_short : (name : List ℕ) (fabric : PlainFabric) → (text_length fabric ≤ most_text_bytes) ⊎ ((fault : Fault) × IsTooLong name fabric fault)
   long_or_short name fabric = elim (cases_lt most_text_bytes (text_length fabric)) [
     | inr short ↦ inl short
     | inl long ↦ inr (fault_at name 0 (problems.Limit quantities.TextBytes (text_length fabric) most_text_bytes), record { long = long; is = refl })

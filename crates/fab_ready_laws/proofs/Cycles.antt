@@ -18,14 +18,14 @@ none_times : (xs : List ℕ) (place : ℕ) → (Contains xs place → ⊥) → t
 none_times [] place out = refl
 none_times (x ∷ xs) place out = elim (cases_Bool (nat_eq x place)) [
   | inl same ↦ absurd (out (subst (Contains (x ∷ xs)) (eqb-true x place same) (in_front x xs)))
-  | inr other ↦ rw other (none_times xs place (λ there. out (behind x place xs there)))
+  | inr other ↦ rw other (omega (arith, none_times xs place (λ there. out (behind x place xs there))))
 ]
 
 once_times : (xs : List ℕ) → Apart xs → (place : ℕ) → times place xs ≤ 1
 once_times [] apart place = omega arith
 once_times (x ∷ xs) apart place = elim (cases_Bool (nat_eq x place)) [
   | inl same ↦ rw same (omega (arith, none_times xs place (subst (λ (y : ℕ). Contains xs y → ⊥) (eqb-true x place same) apart.0)))
-  | inr other ↦ rw other (once_times xs apart.1 place)
+  | inr other ↦ rw other (omega (arith, once_times xs apart.1 place))
 ]
 
 module _ (netlist : PlainNetlist) where

@@ -36,8 +36,8 @@ module _ (P : ℕ → Type 0) where
 -- ---- marks
 
 bit : {P : Type 0} → IsDecided P → (mark : Bool) × ((mark ≡ true) ↔ P)
-bit (inl holds) = (true, (λ is. holds), (λ p. refl))
-bit (inr never) = (false, (λ is. absurd (false≢true is)), (λ p. absurd (never p)))
+bit (inl holds) = (true, ((λ is. holds), (λ p. refl)))
+bit (inr never) = (false, ((λ is. absurd (false≢true is)), (λ p. absurd (never p))))
 
 abbrev Marks : (P : ℕ → Type 0) → (marks : List Bool) → Type 0
 Marks P marks = (place : ℕ) → (get_or marks place false ≡ true) ↔ P place

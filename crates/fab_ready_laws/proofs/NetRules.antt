@@ -1,6 +1,6 @@
 -- The edges and nets of an implementation are right, or there is a first item that is not.
 use Rattle.std.proofs.Common.{◌≡◌, ◌≢◌, ◌<◌, ◌≤◌, ◌⊎◌, ◌++◌, ◌↔◌, ℕ, zero, suc, Bool, true, false, List, length, map, take, All, Contains, Option, Some, None, refl, sym, ap, ◌∙◌, subst, arith, inl, inr}
-use Rattle.std.specs.Prelude.{codes, slice_get}
+use Rattle.std.specs.Prelude.{codes, slice_get, if◌then◌else◌}
 use Rattle.std.specs.Str.{bytes_eq}
 use Rattle.std.proofs.lemmas.Bool.{cases_eq, cases_lt}
 use Rattle.std.proofs.lemmas.List.Elements.{Contains-append_cases}
@@ -133,11 +133,11 @@ module _ (fabric : PlainFabric) (packed : PlainPacked) (i : PlainImplementation)
   source_decided {X} same lines pin thing wire =
       decided_as to back (some_decided (λ (line : X × Site). (line.0 ≡ thing) × (wire ≡ pin_wire fabric line.1 pin)) (λ line. both (same line.0 thing) (wire_eq wire (pin_wire fabric line.1 pin))) lines)
     where
-      to : ((line : X × Site) × Contains lines line × (line.0 ≡ thing) × (wire ≡ pin_wire fabric line.1 pin)) → IsSource fabric lines pin thing wire
-      to found = record { site = found.0.1; listed = subst (λ (x : X). Contains lines (x, found.0.1)) found.2 found.1; wire_is = found.3 }
+      to : ((line : X × Site) × Contains lines line × ((line.0 ≡ thing) × (wire ≡ pin_wire fabric line.1 pin))) → IsSource fabric lines pin thing wire
+      to found = record { site = found.0.1; listed = subst (λ (x : X). Contains lines (x, found.0.1)) found.2.0 found.1; wire_is = found.2.1 }
 
-      back : IsSource fabric lines pin thing wire → (line : X × Site) × Contains lines line × (line.0 ≡ thing) × (wire ≡ pin_wire fabric line.1 pin)
-      back is = ((thing, is.site), is.listed, refl, is.wire_is)
+      back : IsSource fabric lines pin thing wire → (line : X × Site) × Contains lines line × ((line.0 ≡ thing) × (wire ≡ pin_wire fabric line.1 pin))
+      back is = ((thing, is.site), is.listed, (refl, is.wire_is))
 
   -- a constant is 0 or 1
   constant_is : (dest : Option (List ℕ)) (value : Bool) → IsDecided (constant dest ≡ bit_drive value)
@@ -267,11 +267,11 @@ module _ (fabric : PlainFabric) (packed : PlainPacked) (i : PlainImplementation)
       decided_as to back (some_decided (λ (tree : PlainTree). (net_of i tree.net ≡ net) × Contains (left_wires tree.edges ++ entered_wires tree.edges) wire)
       (λ tree. both (net_eq (net_of i tree.net) net) (listed_decided wire_eq (left_wires tree.edges ++ entered_wires tree.edges) wire)) i.trees)
     where
-      to : ((tree : PlainTree) × Contains i.trees tree × (net_of i tree.net ≡ net) × Contains (left_wires tree.edges ++ entered_wires tree.edges) wire) → StandsIn i net wire
-      to found = record { tree = found.0; listed = found.1; net_is = found.2; has_wire = found.3 }
+      to : ((tree : PlainTree) × Contains i.trees tree × ((net_of i tree.net ≡ net) × Contains (left_wires tree.edges ++ entered_wires tree.edges) wire)) → StandsIn i net wire
+      to found = record { tree = found.0; listed = found.1; net_is = found.2.0; has_wire = found.2.1 }
 
-      back : StandsIn i net wire → (tree : PlainTree) × Contains i.trees tree × (net_of i tree.net ≡ net) × Contains (left_wires tree.edges ++ entered_wires tree.edges) wire
-      back is = (is.tree, is.listed, is.net_is, is.has_wire)
+      back : StandsIn i net wire → (tree : PlainTree) × Contains i.trees tree × ((net_of i tree.net ≡ net) × Contains (left_wires tree.edges ++ entered_wires tree.edges) wire)
+      back is = (is.tree, is.listed, (is.net_is, is.has_wire))
 
   module _ (made : IsWellMadePacked packed) (cells : CellsHaveSites fabric packed i) (ports : PortsHavePads fabric packed i) where
     all_stand : AreRight (StandsInItsNet packed i) (sinks fabric packed i) → SinksStand fabric packed i
@@ -316,14 +316,14 @@ module _ (fabric : PlainFabric) (packed : PlainPacked) (i : PlainImplementation)
       beside : (tree : PlainTree) → Contains i.trees tree → HasWire wire tree → IsApart i wire ⊎ IsShared wire
       beside tree there has = elim (some_decided (λ (other : PlainTree). HasWire wire other × (net_of i tree.net ≢ net_of i other.net))
           (λ other. both (has_decided wire other) (denied (net_eq (net_of i tree.net) (net_of i other.net)))) i.trees) [
-            | inl found ↦ inr (record { first = tree; second = found.0; one = there; other = found.1; in_one = has; in_other = found.2; two = found.3 })
+            | inl found ↦ inr (record { first = tree; second = found.0; one = there; other = found.1; in_one = has; in_other = found.2.0; two = found.2.1 })
             | inr none ↦ inl (λ first second in_first in_second. sym (same none first in_first) ∙ same none second in_second)
           ]
         where
-          same : ((other : PlainTree) × Contains i.trees other × HasWire wire other × (net_of i tree.net ≢ net_of i other.net) → ⊥) → (net : Net) → StandsIn i net wire → net_of i tree.net ≡ net
+          same : ((other : PlainTree) × Contains i.trees other × (HasWire wire other × (net_of i tree.net ≢ net_of i other.net)) → ⊥) → (net : Net) → StandsIn i net wire → net_of i tree.net ≡ net
           same none net stands = elim (net_eq (net_of i tree.net) (net_of i stands.tree.net)) [
             | inl is ↦ is ∙ stands.net_is
-            | inr differ ↦ absurd (none (stands.tree, stands.listed, stands.has_wire, differ))
+            | inr differ ↦ absurd (none (stands.tree, stands.listed, (stands.has_wire, differ)))
           ]
 
   abbrev AreApartTo : ℕ → Type 0
