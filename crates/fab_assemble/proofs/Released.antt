@@ -1,5 +1,5 @@
 -- Where no edge enters T of a pad, no feature chooses its input, and its select bits are 0.
-use Rattle.std.proofs.Common.{◌≡◌, ◌+◌, ◌*◌, ℕ, zero, suc, List, Contains, Some, refl, sym, ap, ◌∙◌, arith, eqb-true, nat_eq}
+use Rattle.std.proofs.Common.{◌≡◌, ℕ, zero, suc, List, Contains, Some, refl, sym, ap, ◌∙◌, arith, eqb-true, nat_eq}
 use Rattle.std.specs.List.{All, flat_map}
 use Rattle.std.specs.Option.{option_map_or}
 use Rattle.fab_bits.specs.Bits.{number, digits}
@@ -10,7 +10,6 @@ use Rattle.fab_model.specs.Grid.{PlainFabric, tile_at}
 use Rattle.fab_model.specs.Drive.{PlainBits, select_value}
 use Rattle.fab_fabric.specs.Fabric.{IsFabric, AreTiles}
 use Rattle.fab_fabric.specs.Wires.{wire_index, numbered_wire}
-use Rattle.fab_fabric.specs.declared.wire.Site.{Site}
 use Rattle.fab_netlist.specs.Packed.{PlainPacked}
 use Rattle.fab_netlist.specs.Packing.{packed}
 use Rattle.fab_implementation.specs.Plain.{Pad, Edge, PlainTree, PlainImplementation}
@@ -24,7 +23,7 @@ use Rattle.fab_features.specs.Features.{IsBitMapOf, Chooses}
 use Rattle.fab_features.specs.Design.{design_features}
 use Rattle.fab_features.proofs.DesignLines.{found_in}
 use Rattle.fab_features.proofs.DesignMap.{design_line, entered_by}
-use Rattle.fab_settling_laws.specs.Released.{ListsZeroFirst, IsLeftAlone, FirstZeroReleases}
+use Rattle.fab_settling_laws.specs.Released.{FirstZeroReleases}
 use Rattle.fab_assemble.specs.Releasing.{BitMapsReleasePads}
 
 no_bits : (width : ℕ) → number (digits width 0) ≡ 0

@@ -81,7 +81,11 @@ fn put_list(out: &mut Vec<u8>, word: &[u8], names: &[Name]) -> Result<(), Memory
 
 /// Whether rows are of an on-set, and of each the inputs that it looks at and their values, as numbers.
 pub fn put_rows(out: &mut Vec<u8>, on: bool, rows: &[Cube]) -> Result<(), Memory> {
-    put_word(out, if on { b"on" } else { b"off" })?;
+    if on {
+        put_word(out, b"on")?;
+    } else {
+        put_word(out, b"off")?;
+    }
     for row in rows {
         put_number(out, u128::from(row.care))?;
         put_number(out, u128::from(row.value))?;

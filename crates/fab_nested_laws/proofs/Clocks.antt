@@ -12,18 +12,18 @@ use Rattle.fab_nested_laws.proofs.Stands.{above, same_module}
 leads_alike : (clock : List ℕ) (ticks : Option (List ℕ) → Bool) → ticks None ≡ false → (lead other : List ℕ → Option (List ℕ)) →
     ((name : List ℕ) → is_clock clock (lead name) ≡ ticks (other name)) → (is_input : Bool) (to : Option PlainExpr) →
     is_clock clock (if is_input then named_by to lead else None) ≡ ticks (if is_input then named_by to other else None)
-leads_alike clock ticks no lead other each false to = sym no
-leads_alike clock ticks no lead other each true None = sym no
-leads_alike clock ticks no lead other each true (Some (variable name)) = each name
-leads_alike clock ticks no lead other each true (Some (constant bits)) = sym no
-leads_alike clock ticks no lead other each true (Some (pick name index)) = sym no
-leads_alike clock ticks no lead other each true (Some (part name high low)) = sym no
-leads_alike clock ticks no lead other each true (Some (concatenation parts)) = sym no
-leads_alike clock ticks no lead other each true (Some (complement e)) = sym no
-leads_alike clock ticks no lead other each true (Some (operation op a b)) = sym no
-leads_alike clock ticks no lead other each true (Some (conditional c a b)) = sym no
+leads_alike clock ticks unnamed lead other each false to = sym unnamed
+leads_alike clock ticks unnamed lead other each true None = sym unnamed
+leads_alike clock ticks unnamed lead other each true (Some (variable name)) = each name
+leads_alike clock ticks unnamed lead other each true (Some (constant bits)) = sym unnamed
+leads_alike clock ticks unnamed lead other each true (Some (pick name index)) = sym unnamed
+leads_alike clock ticks unnamed lead other each true (Some (part name high low)) = sym unnamed
+leads_alike clock ticks unnamed lead other each true (Some (concatenation parts)) = sym unnamed
+leads_alike clock ticks unnamed lead other each true (Some (complement e)) = sym unnamed
+leads_alike clock ticks unnamed lead other each true (Some (operation op a b)) = sym unnamed
+leads_alike clock ticks unnamed lead other each true (Some (conditional c a b)) = sym unnamed
 
-module _ (inner outer : List PlainModule) (i : List ℕ) (stands : StandsIn inner outer i) (clock : List ℕ) (ticks : Option (List ℕ) → Bool) (no : ticks None ≡ false)
+module _ (inner outer : List PlainModule) (i : List ℕ) (stands : StandsIn inner outer i) (clock : List ℕ) (ticks : Option (List ℕ) → Bool) (unnamed : ticks None ≡ false)
     (same : (name : List ℕ) → is_input_of (module_at inner []) name ≡ true → is_clock clock (clock_of outer (i ∷ []) name) ≡ ticks (Some name)) where
   at_top : (m : PlainModule) (own : List ℕ) → module_at inner [] ≡ Some m → is_clock clock (clock_of outer (i ∷ []) own) ≡ ticks (clock_of inner [] own)
   at_top m own at =
@@ -31,7 +31,7 @@ module _ (inner outer : List PlainModule) (i : List ℕ) (stands : StandsIn inne
         | inl input ↦ same own input ∙ rw input refl
         | inr other ↦ (
             let none : is_input_of (module_at outer (i ∷ [])) own ≡ false = ap (λ o. is_input_of o own) (same_module inner outer i stands [] m at) ∙ other in
-            rw (none, other) (sym no))
+            rw (none, other) (sym unnamed))
       ]
 
   -- by induction on the path
@@ -42,5 +42,5 @@ module _ (inner outer : List PlainModule) (i : List ℕ) (stands : StandsIn inne
       above inner (is_clock clock (clock_of outer (path_in i (j ∷ path)) own) ≡ ticks (clock_of inner (j ∷ path) own)) j path m at (λ holder here.
       ap₂ (λ o holds. is_clock clock (if is_input_of o own then named_by (join_of (instance_in holds j) own) (λ name. clock_of outer (path_in i path) name) else None))
       (same_module inner outer i stands (j ∷ path) m at) (same_module inner outer i stands path holder here)
-      ∙ leads_alike clock ticks no (λ name. clock_of outer (path_in i path) name) (λ name. clock_of inner path name) (λ name. same_clock path holder name here)
+      ∙ leads_alike clock ticks unnamed (λ name. clock_of outer (path_in i path) name) (λ name. clock_of inner path name) (λ name. same_clock path holder name here)
       (is_input_of (module_at inner (j ∷ path)) own) (join_of (instance_in (module_at inner path) j) own))

@@ -24,16 +24,16 @@ module _ {X : Type 0} (P : X → Type 0) (told : (x : X) → Told (P x)) where
   any_told (x ∷ xs) =
       elim (told x) [
         | inl here ↦ inl (x, (zero, omega arith, refl), here)
-        | inr no ↦
+        | inr differs ↦
             elim (any_told xs) [
               | inl found ↦ (let at = found.1 in inl (found.0, (suc at.0, (let few = at.1 in omega (arith, few)), at.2), found.2))
-              | inr none ↦ inr (λ h. in_neither x xs no none h.0 h.1 h.2)
+              | inr none ↦ inr (λ h. in_neither x xs differs none h.0 h.1 h.2)
             ]
       ]
     where
       in_neither : (x : X) (xs : List X) → (P x → ⊥) → ((y : X) × Contains xs y × P y → ⊥) → (y : X) → Contains (x ∷ xs) y → P y → ⊥
-      in_neither x xs no none y (zero, within, same) holds = no (subst P (sym same) holds)
-      in_neither x xs no none y (suc place, within, same) holds = none (y, (place, omega (arith, within), same), holds)
+      in_neither x xs differs none y (zero, within, same) holds = differs (subst P (sym same) holds)
+      in_neither x xs differs none y (suc place, within, same) holds = none (y, (place, omega (arith, within), same), holds)
 
 module _ (text : List PlainModule) (p : Point) where
   -- ---- at one path
@@ -43,19 +43,19 @@ module _ (text : List PlainModule) (p : Point) where
     ByJoin i input port to = (d : Driver) × JoinDrives path i input port to p d
 
     no_name : (i port : List ℕ) (e : PlainExpr) → ((name : List ℕ) → e ≡ variable name → ⊥) → Told (ByJoin i false port (Some e))
-    no_name i port e no = inr (λ h. no h.1.0 h.1.1)
+    no_name i port e differs = inr (λ h. differs h.1.0 h.1.1)
 
     join_told : (i : List ℕ) (input : Bool) (port : List ℕ) (to : Option PlainExpr) → Told (ByJoin i input port to)
     join_told i input port None = inr (λ h. h.1)
     join_told i true port (Some e) =
-        elim (same_told p (point (i ∷ path) port p.bit)) [ inl is ↦ inl (bit_of path e p.bit, (is, refl)) | inr no ↦ inr (λ h. no h.1.0) ]
+        elim (same_told p (point (i ∷ path) port p.bit)) [ inl is ↦ inl (bit_of path e p.bit, (is, refl)) | inr differs ↦ inr (λ h. differs h.1.0) ]
     join_told i false port (Some (variable name)) =
         elim (same_told p (point path name p.bit)) [
           | inl is ↦ inl (copy (point (i ∷ path) port p.bit), (name, refl, is, refl))
-          | inr no ↦ inr (λ h.
+          | inr differs ↦ inr (λ h.
               let named : variable name ≡ variable h.1.0 = h.1.1 in
               let same : name ≡ h.1.0 = cc in
-              no (h.1.2 ∙ ap (λ n. point path n p.bit) (sym same)))
+              differs (h.1.2 ∙ ap (λ n. point path n p.bit) (sym same)))
         ]
     join_told i false port (Some (constant bits)) = no_name i port (constant bits) (λ name e. cc)
     join_told i false port (Some (pick name index)) = no_name i port (pick name index) (λ name e. cc)
@@ -71,9 +71,9 @@ module _ (text : List PlainModule) (p : Point) where
     item_told : (item : PlainItem) → Told (ByItem item)
     item_told (wire shape name) = inr (λ h. h.1)
     item_told (reg shape name) = inr (λ h. h.1)
-    item_told (assign target e) = elim (same_told p (point path target p.bit)) [ inl is ↦ inl (bit_of path e p.bit, (is, refl)) | inr no ↦ inr (λ h. no h.1.0) ]
-    item_told (latch target gate e) = elim (same_told p (point path target p.bit)) [ inl is ↦ inl (hold path gate e p.bit, (is, refl)) | inr no ↦ inr (λ h. no h.1.0) ]
-    item_told (clocked clock target e) = elim (same_told p (point path target p.bit)) [ inl is ↦ inl (flop path clock e p.bit, (is, refl)) | inr no ↦ inr (λ h. no h.1.0) ]
+    item_told (assign target e) = elim (same_told p (point path target p.bit)) [ inl is ↦ inl (bit_of path e p.bit, (is, refl)) | inr differs ↦ inr (λ h. differs h.1.0) ]
+    item_told (latch target gate e) = elim (same_told p (point path target p.bit)) [ inl is ↦ inl (hold path gate e p.bit, (is, refl)) | inr differs ↦ inr (λ h. differs h.1.0) ]
+    item_told (clocked clock target e) = elim (same_told p (point path target p.bit)) [ inl is ↦ inl (flop path clock e p.bit, (is, refl)) | inr differs ↦ inr (λ h. differs h.1.0) ]
     item_told (instance module_name i joins) =
         let input : List ℕ → Bool = λ port. is_input_of (module_named text module_name) port in
         let By : PlainJoin → Type 0 = λ join. ByJoin i (input join.port) join.port join.to in

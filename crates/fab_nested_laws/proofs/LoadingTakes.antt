@@ -1,15 +1,17 @@
 -- The loading points take a tick of CLK alone.
 use Rattle.std.proofs.Common.{◌≡◌, ℕ, Bool, true, false, List, [], ◌∷◌, map, if◌then◌else◌, bytes_eq, Option, Some, All, refl, sym, ap, ◌∙◌, subst, inl}
+use Rattle.std.proofs.lemmas.Bool.{false≢true}
 use Rattle.fab_syntax.specs.Plain.{PlainModule}
 use Rattle.fab_meaning.specs.Value.{value, bit_at}
 use Rattle.fab_meaning.specs.Points.{Point, Driver, outside, copy, bit_of, flop, hold, Drives}
 use Rattle.fab_meaning.specs.Settled.{Assignment, names_at}
-use Rattle.fab_meaning.specs.Runs.{clock_name, user_clock_name, clock_of, is_clock, kept, Ticks, IsRunOn}
+use Rattle.fab_meaning.specs.Runs.{clock_name, user_clock_name, clock_of, is_clock, kept, IsRunOn}
+use Rattle.fab_meaning.specs.Reads.{reads}
 use Rattle.fab_meaning.specs.Sound.{DrivesOnce}
 use Rattle.fab_meaning.specs.Loading.{IsDerived, IsStream, WithinBy, by_flop, by_stream, by_reads, IsLoading}
 use Rattle.fab_meaning.proofs.Dependence.{same_name}
 use Rattle.fab_meaning.proofs.SingleDrivers.{one_driver}
-use Rattle.fab_nested_laws.specs.Together.{is_among, kept_together, TickTogether, JointMoment, IsJointRunOn, ticks_in, loader_moment, LoadingTakesOne}
+use Rattle.fab_nested_laws.specs.Together.{is_among, kept_together, JointMoment, IsJointRunOn, ticks_in, loader_moment, LoadingTakesOne}
 
 -- of a flip-flop, its clock
 abbrev pub HasClock : List PlainModule → Option (List ℕ) → Driver → Type 0
@@ -60,6 +62,20 @@ module _ (text : List PlainModule) (once : All (DrivesOnce text) text) where
       of_within p (by_stream is) d drives = subst (HasClock text (Some clock_name)) (one_driver text once p outside d (inl is.input) drives) tt
       of_within p (by_reads own declared by derived inside) d drives =
           subst (HasClock text (Some clock_name)) (one_driver text once p own d by drives) (derived_has text (Some clock_name) own derived)
+
+  -- a driver of a loading point reads loading points alone
+  pub loading_reads : (p : Point) (d : Driver) → IsLoading text p → Drives text p d → (q : Point) → reads text d q ≡ true → IsLoading text q
+  loading_reads p d (flops, closed, within) drives q read = (flops, closed, of_within p within d drives read)
+    where
+      of_within : (p : Point) → WithinBy text (IsStream text) flops p → (d : Driver) → Drives text p d → reads text d q ≡ true → WithinBy text (IsStream text) flops q
+      of_within p (by_flop declared f) d drives read =
+          let at = closed p f in
+          let own : flop at.path at.clock at.next at.bit ≡ d = one_driver text once p (flop at.path at.clock at.next at.bit) d at.drives drives in
+          absurd (false≢true (ap (λ e. reads text e q) own ∙ read))
+      of_within p (by_stream is) d drives read =
+          let own : outside ≡ d = one_driver text once p outside d (inl is.input) drives in absurd (false≢true (ap (λ e. reads text e q) own ∙ read))
+      of_within p (by_reads own declared by derived inside) d drives read =
+          inside q (ap (λ e. reads text e q) (one_driver text once p own d by drives) ∙ read)
 
   pub to_one : (moments : List JointMoment) (held after : Assignment) → IsJointRunOn (IsLoading text) text moments held after →
       IsRunOn (IsLoading text) text (map loader_moment moments) held after

@@ -1,9 +1,8 @@
 -- The next state behind each event, and that it is the only one at declared points.
-use Rattle.std.proofs.Common.{◌≡◌, ◌≢◌, ℕ, Bool, true, false, List, [], ◌∷◌, if◌then◌else◌, All, refl, sym, ap, ◌∙◌, subst, inl, inr}
+use Rattle.std.proofs.Common.{◌≡◌, ◌≢◌, Bool, true, false, List, [], ◌∷◌, if◌then◌else◌, All, refl, sym, ap, ◌∙◌, subst, inl, inr}
 use Rattle.std.proofs.lemmas.Bool.{cases_Bool}
 use Rattle.std.proofs.lemmas.List.Elements.{All-head, All-tail}
 use Rattle.fab_syntax.specs.Plain.{PlainModule}
-use Rattle.fab_syntax.specs.Sound.{IsSound}
 use Rattle.fab_meaning.specs.Points.{Point, Driver, Drives}
 use Rattle.fab_meaning.specs.Settled.{shown}
 use Rattle.fab_meaning.specs.Runs.{kept}
@@ -82,7 +81,7 @@ module _ (text : List PlainModule) (once : All (DrivesOnce text) text) where
       record { input = is; gets = moved_now p value (before.held p); holds = moved_held p value (before.held p); others = moved_others p value (before.held p) },
     )
 
-  leads_on : (events : List Event) → All (IsEvent text) events → (before : State) → (after : State) × AreSteps (IsStep text) events before after
+  pub leads_on : (events : List Event) → All (IsEvent text) events → (before : State) → (after : State) × AreSteps (IsStep text) events before after
   leads_on [] all before = (before, refl)
   leads_on (event ∷ events) all before =
       let first = next_state before event (All-head (IsEvent text) event events all) in

@@ -1,7 +1,7 @@
 -- Clocks of the top that tick at once, as where a chip joins two of them to one net.
 use Rattle.std.specs.Prelude.{◌≡◌, ◌↔◌, ℕ, Bool, true, List, [], ◌∷◌, map, bytes_eq, Option, Some, if◌then◌else◌, All}
 use Rattle.std.specs.List.{list_any}
-use Rattle.fab_syntax.specs.Plain.{PlainExpr, PlainModule}
+use Rattle.fab_syntax.specs.Plain.{PlainModule}
 use Rattle.fab_syntax.specs.Declarations.{is_input_of}
 use Rattle.fab_meaning.specs.Value.{value, bit_at}
 use Rattle.fab_meaning.specs.Points.{Point, Driver, outside, copy, bit_of, flop, hold, Drives, module_at}

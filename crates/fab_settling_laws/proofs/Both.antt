@@ -1,13 +1,12 @@
 -- Where CLK ticks with UserCLK, the design points are left with what UserCLK alone leaves.
-use Rattle.std.proofs.Common.{◌≡◌, ◌⊎◌, ℕ, Bool, true, false, List, [], ◌∷◌, ◌++◌, map, if◌then◌else◌, bytes_eq, Option, Some, refl, sym, ap, ◌∙◌, subst, inl, inr}
+use Rattle.std.proofs.Common.{◌≡◌, ℕ, Bool, true, false, List, [], ◌∷◌, ◌++◌, map, Some, refl, sym, ap, ◌∙◌, subst, inl, inr}
 use Rattle.std.specs.List.{All, flat_map}
 use Rattle.std.proofs.lemmas.List.Elements.{All-nil, All-cons, All-head, All-tail, All-contains}
 use Rattle.fab_systems_laws.specs.Ternary.{Tern, known}
 use Rattle.fab_systems_laws.specs.Steps.{blocks_then}
-use Rattle.fab_syntax.specs.Plain.{PlainModule}
-use Rattle.fab_meaning.specs.Points.{Point, point, Driver, outside, copy, bit_of, flop, hold, Drives}
+use Rattle.fab_meaning.specs.Points.{Point, Driver, outside, copy, bit_of, flop, hold, Drives}
 use Rattle.fab_meaning.specs.Settled.{Assignment, IsSettledOn}
-use Rattle.fab_meaning.specs.Runs.{clock_name, user_clock_name, clock_of, kept, AreClocksLow, Moment, IsRunOn, Ticks}
+use Rattle.fab_meaning.specs.Runs.{clock_name, user_clock_name, kept, AreClocksLow, Moment, IsRunOn, Ticks}
 use Rattle.fab_meaning.specs.Activation.{State, Event, tick, IsStep, AreSteps}
 use Rattle.fab_meaning.specs.Loading.{IsLoading}
 use Rattle.fab_meaning.specs.Sound.{DrivesOnce}
@@ -19,7 +18,7 @@ use Rattle.fab_netlist.specs.Packing.{packed}
 use Rattle.fab_ternary_laws.specs.Shown.{Terns, tern_shown}
 use Rattle.fab_runs_laws.specs.fab_text_loads_laws_Loads.{IsQuiet, IsConfigured}
 use Rattle.fab_runs_laws.specs.fab_use_defs_Design.{IsSourced}
-use Rattle.fab_runs_laws.specs.fab_use_defs_Cycles.{Instant, AreInstants, Feeds, EndsCycle, Cycle, AreCycles}
+use Rattle.fab_runs_laws.specs.fab_use_defs_Cycles.{Instant, AreInstants, Feeds, AreCycles}
 use Rattle.fab_runs_laws.specs.fab_use_defs_Sources as sources
 use Rattle.fab_runs_laws.specs.fab_use_defs_Sources.{Source, HasSource}
 use Rattle.fab_runs_laws.specs.fab_points_laws_Known.{KnowsBits}
@@ -29,8 +28,8 @@ use Rattle.fab_runs_laws.proofs.fab_points_laws_Configuration.{configuration_poi
 use Rattle.fab_runs_laws.proofs.fab_points_laws_EachSource.{sources_show}
 use Rattle.fab_runs_laws.proofs.Setting.{Setting, cells_made}
 use Rattle.fab_runs_laws.proofs.DesignRank.{settles_once}
-use Rattle.fab_runs_laws.proofs.Instants.{Has, Passes, same_configured, still_configured}
-use Rattle.fab_settling_laws.specs.Steps.{IsFree, IsFreeStep}
+use Rattle.fab_runs_laws.proofs.Instants.{Has, same_configured, still_configured}
+use Rattle.fab_settling_laws.specs.Steps.{IsFreeStep}
 use Rattle.fab_settling_laws.specs.Blocks.{BlockCycle}
 use Rattle.fab_settling_laws.specs.Together.{JointInstant, AreJointInstants, user_instant, JointCycle, user_cycle, AreJointCycles, IsJointBlockCycle, IsInTurn}
 use Rattle.fab_settling_laws.proofs.Origins.{all_of, single, source_register, register_flop}

@@ -6,7 +6,7 @@ use Rattle.std.proofs.lemmas.List.Elements.{All-nil, All-cons, All-head, All-tai
 use Rattle.fab_syntax.specs.Plain.{PlainExpr, PlainItem, wire, reg, assign, latch, clocked, instance, PlainModule}
 use Rattle.fab_syntax.specs.Declarations.{module_named, is_input_of}
 use Rattle.fab_systems_laws.specs.Steps.{blocks_then}
-use Rattle.fab_meaning.specs.Points.{Path, Point, point, Driver, outside, copy, bit_of, flop, hold, JoinDrives, ItemDrives, IsDrivenByItem, IsDrivenOutside, Drives}
+use Rattle.fab_meaning.specs.Points.{Path, Point, point, Driver, outside, copy, bit_of, flop, hold, JoinDrives, ItemDrives, IsDrivenOutside, Drives}
 use Rattle.fab_meaning.specs.Settled.{Assignment, shown, IsSettledOn}
 use Rattle.fab_meaning.specs.Reads.{same_point}
 use Rattle.fab_meaning.specs.Runs.{clock_name, user_clock_name}
@@ -17,8 +17,7 @@ use Rattle.fab_meaning.proofs.Dependence.{same_point_refl, same_point_is}
 use Rattle.fab_meaning.proofs.SoundTexts.{sound_drives_once}
 use Rattle.fab_nested_laws.specs.Events.{IsEvent}
 use Rattle.fab_nested_laws.proofs.Next.{next_state, leads_on}
-use Rattle.fab_fabric.specs.declared.wire.Site.{Site}
-use Rattle.fab_netlist.specs.Plain.{IsAt, bit_at, name_of}
+use Rattle.fab_netlist.specs.Plain.{name_of}
 use Rattle.fab_netlist.proofs.Members.{in_none, first_or_later, mapped_in}
 use Rattle.fab_implementation.specs.Plain.{Pad}
 use Rattle.fab_prim.specs.Ports.{top_name}
@@ -28,7 +27,7 @@ use Rattle.fab_runs_laws.specs.fab_use_defs_Cycles.{Feeds}
 use Rattle.fab_runs_laws.proofs.Setting.{Setting}
 use Rattle.fab_runs_laws.proofs.DesignRank.{settles_once}
 use Rattle.fab_runs_laws.proofs.Instants.{Has}
-use Rattle.fab_settling_laws.specs.Steps.{IsAtRest, IsUse, IsUseStep, IsInputPad, IsFree, IsFreeStep, IsFeeding, IsFeedingStep}
+use Rattle.fab_settling_laws.specs.Steps.{IsAtRest, IsUseStep, IsInputPad, IsFreeStep, IsFeeding, IsFeedingStep}
 use Rattle.fab_settling_laws.specs.Blocks.{IsBlockOf, BlockCycle, AreBlockCycles}
 use Rattle.fab_settling_laws.specs.Going.{IsUseEvent, IsFreeEvent, activations, Plan, IsPlan, IsPlanned, GoesAsPlanned, GoesOn}
 use Rattle.fab_settling_laws.proofs.Origins.{pad_outside}

@@ -68,7 +68,7 @@ module _ (fabric : PlainFabric) (packed : PlainPacked) (implementation : PlainIm
 -- ---- which drivers
 
 -- all points with one value
-abbrev all_of : Bool → Assignment
+abbrev pub all_of : Bool → Assignment
 all_of bit q = bit
 
 -- the one driver that heeds the inputs is the outside, and the one source is an input

@@ -1,5 +1,5 @@
 -- The points by which a constant 0 comes to T of a pad and out at the top: what each of them shows.
-use Rattle.std.proofs.Common.{◌≡◌, ◌<◌, ◌≤◌, ℕ, Bool, true, false, not, List, [], ◌∷◌, codes, length, slice_get, refl, sym, ap, ap₂, ◌∙◌, subst, arith, Option, Some, None, option_and_then, Contains, All, nat_lt}
+use Rattle.std.proofs.Common.{◌≡◌, ◌<◌, true, false, not, List, [], ◌∷◌, codes, length, slice_get, refl, sym, ap, ap₂, ◌∙◌, subst, arith, Some, option_and_then, Contains, nat_lt}
 use Rattle.std.specs.Option.{option_map, option_map_or}
 use Rattle.std.proofs.lemmas.Bool.{false≢true}
 use Rattle.std.proofs.lemmas.List.Elements.{All-contains, All-head}
@@ -8,7 +8,7 @@ use Rattle.fab_kinds.specs.Pins.{pad_t, pin_names, input_names, input_count}
 use Rattle.fab_model.specs.Rows.{dest_bits}
 use Rattle.fab_model.specs.Tiles.{PlainTile, IsTile, dest_bit, bel_pin, is_matrix_output}
 use Rattle.fab_model.specs.Wires.{PlainWire, dest_of, pin_of, plain_wires, pin_count, wire_number, IsWire, IsMatrixOutput}
-use Rattle.fab_model.specs.Drive.{input_at, matrix_inputs, select_value}
+use Rattle.fab_model.specs.Drive.{input_at, select_value}
 use Rattle.fab_model.proofs.Wires.{wire_at_number}
 use Rattle.fab_prim.specs.Ports.{top_outputs}
 use Rattle.fab_prim.specs.Modules.{module_of_kind}

@@ -1,15 +1,16 @@
 -- Points beside a design that take their values one after the other: each has a source that reads points before it.
-use Rattle.std.proofs.Common.{◌≡◌, ◌⊎◌, ◌≤◌, ℕ, zero, suc, Bool, true, false, List, [], ◌∷◌, length, map, if◌then◌else◌, refl, sym, ap, ◌∙◌, subst, inl, inr, arith, Contains}
+use Rattle.std.proofs.Common.{◌≡◌, ◌⊎◌, ◌≤◌, zero, suc, Bool, List, [], ◌∷◌, length, map, if◌then◌else◌, refl, sym, ap, ◌∙◌, subst, inl, inr, arith, Contains}
 use Rattle.std.specs.List.{All}
-use Rattle.std.proofs.lemmas.Bool.{cases_Bool, false≢true}
-use Rattle.std.proofs.lemmas.List.Elements.{All-nil, All-cons, All-head, All-tail, All-contains, All-weaker}
+use Rattle.std.proofs.lemmas.Bool.{cases_Bool}
+use Rattle.std.proofs.lemmas.List.Elements.{All-nil, All-cons, All-tail, All-contains, All-weaker}
 use Rattle.fab_systems_laws.specs.Ternary.{known}
 use Rattle.fab_meaning.specs.Points.{Point, Driver, Drives}
 use Rattle.fab_meaning.specs.Settled.{Assignment, IsSettledOn, shown}
-use Rattle.fab_meaning.specs.Reads.{same_point, reads}
+use Rattle.fab_meaning.specs.Reads.{same_point}
 use Rattle.fab_meaning.specs.Loading.{IsLoading}
 use Rattle.fab_meaning.proofs.Dependence.{same_point_refl, same_point_is, shown_same}
-use Rattle.fab_meaning.proofs.UserSteps.{reads_inside}
+use Rattle.fab_meaning.proofs.SoundTexts.{sound_drives_once}
+use Rattle.fab_nested_laws.proofs.LoadingTakes.{loading_reads}
 use Rattle.fab_netlist.specs.Packing.{packed}
 use Rattle.fab_netlist.proofs.Members.{first_or_later, mapped_in}
 use Rattle.fab_runs_laws.proofs.fab_legal_Members.{from_mapped}
@@ -99,7 +100,7 @@ module _ (s : Setting) (inputs held : Assignment) where
     loading_shown : (a : Assignment) → Stays a → (p : Point) → IsLoading s.text p → (d : Driver) → Drives s.text p d → shown s.text inputs held a p d ≡ now p
     loading_shown a stays p loads d drives =
         shown_same s.text inputs held a now p d
-        (λ q read. stays q (inr (loads.0, loads.1, reads_inside s.text (single s) loads.0 loads.1 p loads.2 d drives q read)))
+        (λ q read. stays q (inr (loading_reads s.text (sound_drives_once s.text s.is_text.sound) p d loads drives q read)))
         ∙ sym (settled p d (inr loads) drives)
 
     design_shown : (a : Assignment) → Stays a → (p : Point) → Has s p → (d : Driver) → Drives s.text p d → shown s.text inputs held a p d ≡ now p

@@ -1,5 +1,5 @@
 -- How often covers that were split drive a net: an old one as before, a new one once, and no other.
-use Rattle.std.proofs.Common.{◌≡◌, ℕ, zero, suc, ◌+◌, ◌<◌, ◌≤◌, Bool, true, false, List, [], ◌∷◌, ◌++◌, take, length, get_or, Contains, nat_eq, nat_lt, if◌then◌else◌, refl, sym, ap, ◌∙◌, inl, inr, arith}
+use Rattle.std.proofs.Common.{◌≡◌, ℕ, zero, suc, ◌+◌, ◌<◌, ◌≤◌, false, List, [], ◌∷◌, ◌++◌, length, get_or, Contains, nat_eq, nat_lt, if◌then◌else◌, refl, ap, ◌∙◌, inl, inr, arith}
 use Rattle.std.proofs.lemmas.Bool.{cases_Bool, cases_lt, ne_eqb, eq-eqb}
 use Rattle.std.proofs.lemmas.List.{map-append}
 use Rattle.fab_netlist.specs.Plain.{PlainCover}
@@ -15,14 +15,17 @@ none_at : (a b : ℕ) → (a ≡ b → ⊥) → ◌≡◌ {A = ℕ} (if nat_eq a
 none_at a b other = rw (ne_eqb a b other) refl
 
 split_sum : (net : ℕ) (first second : List PlainCover) (last : PlainCover) →
-    times net (cover_outputs (first ++ (second ++ last ∷ []))) ≡ times net (cover_outputs first) + (times net (cover_outputs second) + (if nat_eq last.output net then 1 else 0))
+    times net (cover_outputs (first ++ (second ++ last ∷ []))) ≡ times net (cover_outputs first) + (times net (cover_outputs second) +
+    (if nat_eq last.output net then 1 else 0))
 split_sum net first second last =
     ap (times net) (map-append (λ (c : PlainCover). c.output) first (second ++ last ∷ []))
     ∙ times_joined net (cover_outputs first) (cover_outputs (second ++ last ∷ []))
-    ∙ ap (λ k. times net (cover_outputs first) + k) (ap (times net) (map-append (λ (c : PlainCover). c.output) second (last ∷ [])) ∙ times_joined net (cover_outputs second) (last.output ∷ []) ∙ omega arith)
+    ∙ ap (λ k. times net (cover_outputs first) + k) (ap (times net) (map-append (λ (c : PlainCover). c.output) second (last ∷ [])) ∙ times_joined net
+    (cover_outputs second) (last.output ∷ []) ∙ omega arith)
 
 -- an old net is driven where it is the output of the table, and only there
-pub narrow_times : (line : ℕ) (inputs : List ℕ) (n table output fresh net : ℕ) → net < fresh → times net (cover_outputs (narrow line inputs n table output fresh)) ≡ (if nat_eq output net then 1 else 0)
+pub narrow_times : (line : ℕ) (inputs : List ℕ) (n table output fresh net : ℕ) → net < fresh →
+    times net (cover_outputs (narrow line inputs n table output fresh)) ≡ (if nat_eq output net then 1 else 0)
 narrow_times line inputs zero table output fresh net old = omega arith
 narrow_times line inputs (suc n) table output fresh net old =
     let low : ℕ = low_half n table in
@@ -44,8 +47,13 @@ narrow_times line inputs (suc n) table output fresh net old =
             let b_none : times net (cover_outputs second) ≡ 0 = b ∙ rw not_b refl in
             ap (λ cs. times net (cover_outputs cs)) as_both
             ∙ ap (times net) (map-append (λ (c : PlainCover). c.output) first (second ++ choose ∷ []))
-            ∙ times_joined net (cover_outputs first) (cover_outputs (second ++ choose ∷ []))
-            ∙ omega (arith, a_none, b_none, ap (times net) (map-append (λ (c : PlainCover). c.output) second (choose ∷ [])), times_joined net (cover_outputs second) (output ∷ [])))
+            ∙ times_joined net (cover_outputs first) (cover_outputs (second ++ choose ∷ [])) ∙ omega (
+              arith,
+              a_none,
+              b_none,
+              ap (times net) (map-append (λ (c : PlainCover). c.output) second (choose ∷ [])),
+              times_joined net (cover_outputs second) (output ∷ []),
+            ))
       ]
     ]
 
@@ -140,36 +148,49 @@ module _ (line : ℕ) (inputs : List ℕ) where
 -- ---- all covers
 
 -- an old net
-pub parts_times : (covers : List PlainCover) (fresh net : ℕ) → net < fresh → times net (cover_outputs (all_parts covers fresh)) ≡ times net (cover_outputs covers)
+pub parts_times : (covers : List PlainCover) (fresh net : ℕ) → net < fresh →
+    times net (cover_outputs (all_parts covers fresh)) ≡ times net (cover_outputs covers)
 parts_times [] fresh net old = refl
 parts_times (cover ∷ covers) fresh net old =
     ap (times net) (map-append (λ (c : PlainCover). c.output) (parts cover fresh) (all_parts covers (taken_by cover + fresh)))
-    ∙ times_joined net (cover_outputs (parts cover fresh)) (cover_outputs (all_parts covers (taken_by cover + fresh)))
-    ∙ omega (arith, narrow_times cover.line cover.inputs (length cover.inputs) cover.table cover.output fresh net old, parts_times covers (taken_by cover + fresh) net (omega (arith, old)))
+    ∙ times_joined net (cover_outputs (parts cover fresh)) (cover_outputs (all_parts covers (taken_by cover + fresh))) ∙ omega (
+      arith,
+      narrow_times cover.line cover.inputs (length cover.inputs) cover.table cover.output fresh net old,
+      parts_times covers (taken_by cover + fresh) net (omega (arith, old)),
+    )
 
 -- no net behind the outputs of covers is driven by them
-none_among : (covers : List PlainCover) (fresh net : ℕ) → ((cover : PlainCover) → Contains covers cover → cover.output < fresh) → fresh ≤ net → times net (cover_outputs covers) ≡ 0
+none_among : (covers : List PlainCover) (fresh net : ℕ) → ((cover : PlainCover) → Contains covers cover → cover.output < fresh) → fresh ≤ net →
+    times net (cover_outputs covers) ≡ 0
 none_among [] fresh net old above = refl
 none_among (cover ∷ covers) fresh net old above =
-    omega (arith, none_at cover.output net (λ e. omega (arith, e, above, old cover (first_in cover covers cover refl))), none_among covers fresh net (λ c here. old c (later_in cover covers c here)) above)
+    omega (
+      arith,
+      none_at cover.output net (λ e. omega (arith, e, above, old cover (first_in cover covers cover refl))),
+      none_among covers fresh net (λ c here. old c (later_in cover covers c here)) above,
+    )
 
 -- the drivers in the parts of the first cover, and in those of the others
 both_parts : (cover : PlainCover) (covers : List PlainCover) (fresh net : ℕ) →
-    times net (cover_outputs (all_parts (cover ∷ covers) fresh)) ≡ times net (cover_outputs (parts cover fresh)) + times net (cover_outputs (all_parts covers (taken_by cover + fresh)))
+    times net (cover_outputs (all_parts (cover ∷ covers) fresh)) ≡ times net (cover_outputs (parts cover fresh)) + times net
+    (cover_outputs (all_parts covers (taken_by cover + fresh)))
 both_parts cover covers fresh net =
     ap (times net) (map-append (λ (c : PlainCover). c.output) (parts cover fresh) (all_parts covers (taken_by cover + fresh)))
     ∙ times_joined net (cover_outputs (parts cover fresh)) (cover_outputs (all_parts covers (taken_by cover + fresh)))
 
 -- no net behind the last new one
-pub parts_past : (covers : List PlainCover) (fresh net : ℕ) → ((cover : PlainCover) → Contains covers cover → cover.output < fresh) → all_taken covers + fresh ≤ net → times net (cover_outputs (all_parts covers fresh)) ≡ 0
+pub parts_past : (covers : List PlainCover) (fresh net : ℕ) → ((cover : PlainCover) → Contains covers cover → cover.output < fresh) →
+    all_taken covers + fresh ≤ net → times net (cover_outputs (all_parts covers fresh)) ≡ 0
 parts_past [] fresh net old past = refl
 parts_past (cover ∷ covers) fresh net old past =
-    let first = narrow_past cover.line cover.inputs (length cover.inputs) cover.table cover.output fresh net (old cover (first_in cover covers cover refl)) (omega (arith, past)) in
+    let first = narrow_past cover.line cover.inputs (length cover.inputs) cover.table cover.output fresh net (old cover (first_in cover covers cover refl))
+    (omega (arith, past)) in
     let rest = parts_past covers (taken_by cover + fresh) net (λ c here. omega (arith, old c (later_in cover covers c here))) (omega (arith, past)) in
     both_parts cover covers fresh net ∙ omega (arith, first, rest)
 
 -- a new net once
-pub parts_new : (covers : List PlainCover) (fresh net : ℕ) → ((cover : PlainCover) → Contains covers cover → cover.output < fresh) → fresh ≤ net → net < all_taken covers + fresh →
+pub parts_new : (covers : List PlainCover) (fresh net : ℕ) → ((cover : PlainCover) → Contains covers cover → cover.output < fresh) → fresh ≤ net →
+    net < all_taken covers + fresh →
     times net (cover_outputs (all_parts covers fresh)) ≡ 1
 parts_new [] fresh net old above below = absurd (omega (arith, above, below))
 parts_new (cover ∷ covers) fresh net old above below =
@@ -179,7 +200,8 @@ parts_new (cover ∷ covers) fresh net old above below =
     elim (cases_lt net later) [
       | inl in_first ↦ (
           let first = narrow_new cover.line cover.inputs (length cover.inputs) cover.table cover.output fresh net first_old above in_first in
-          let rest : times net (cover_outputs (all_parts covers later)) ≡ 0 = parts_times covers later net in_first ∙ none_among covers fresh net rest_old above in
+          let rest : times net (cover_outputs (all_parts covers later)) ≡ 0 = parts_times covers later net in_first ∙ none_among covers fresh net rest_old
+          above in
           both_parts cover covers fresh net ∙ omega (arith, first, rest))
       | inr in_rest ↦ (
           let first = narrow_past cover.line cover.inputs (length cover.inputs) cover.table cover.output fresh net first_old in_rest in

@@ -1,10 +1,10 @@
 -- Levels of nets that fall from the output of each cover to its inputs, when a table is split.
-use Rattle.std.proofs.Common.{◌≡◌, ℕ, zero, suc, ◌+◌, ◌*◌, ◌<◌, ◌≤◌, Bool, true, false, List, [], ◌∷◌, ◌++◌, take, length, get_or, Contains, nat_eq, nat_lt, if◌then◌else◌, refl, sym, ap, ◌∙◌, subst, inl, inr, arith}
+use Rattle.std.proofs.Common.{◌≡◌, ℕ, zero, suc, ◌+◌, ◌<◌, ◌≤◌, List, [], ◌∷◌, ◌++◌, take, length, get_or, Contains, nat_eq, nat_lt, if◌then◌else◌, refl, ◌∙◌, subst, inl, inr, arith}
 use Rattle.std.proofs.lemmas.Bool.{cases_Bool, ne_eqb, eq-eqb}
 use Rattle.std.proofs.lemmas.List.{get_or_default}
 use Rattle.fab_netlist.specs.Plain.{PlainCover}
 use Rattle.fab_netlist.proofs.Members.{in_none, first_or_later, first_in, later_in}
-use Rattle.fab_wide.specs.Split.{low_half, high_half, chooser, cover_with, taken, narrow, taken_by, parts, all_taken, all_parts}
+use Rattle.fab_wide.specs.Split.{low_half, high_half, chooser, cover_with, taken, narrow}
 
 -- levels fall from the output of each of these covers to its inputs
 abbrev pub FallsAt : (ℕ → ℕ) → PlainCover → Type 0
@@ -14,7 +14,8 @@ abbrev pub Falls : (ℕ → ℕ) → List PlainCover → Type 0
 Falls level covers = (cover : PlainCover) → Contains covers cover → FallsAt level cover
 
 -- that hangs on the levels of its nets alone
-pub falls_alike : (a b : ℕ → ℕ) (bound : ℕ) (cover : PlainCover) → ((net : ℕ) → net < bound → b net ≡ a net) → (cover.output < bound) × ((net : ℕ) → Contains cover.inputs net → net < bound) → FallsAt a cover → FallsAt b cover
+pub falls_alike : (a b : ℕ → ℕ) (bound : ℕ) (cover : PlainCover) → ((net : ℕ) → net < bound → b net ≡ a net) →
+    (cover.output < bound) × ((net : ℕ) → Contains cover.inputs net → net < bound) → FallsAt a cover → FallsAt b cover
 falls_alike a b bound cover same (output, inputs) falls net here = omega (arith, falls net here, same net (inputs net here), same cover.output output)
 
 -- levels in which one net has another
@@ -43,7 +44,8 @@ in_taken (suc k) (y ∷ xs) x here = elim (first_or_later y (take k xs) x here) 
 ]
 
 -- what holds of the covers of two lists
-pub both_hold : {X : Type 0} (P : X → Type 0) (xs ys : List X) → ((x : X) → Contains xs x → P x) → ((x : X) → Contains ys x → P x) → (x : X) → Contains (xs ++ ys) x → P x
+pub both_hold : {X : Type 0} (P : X → Type 0) (xs ys : List X) → ((x : X) → Contains xs x → P x) → ((x : X) → Contains ys x → P x) → (x : X) →
+    Contains (xs ++ ys) x → P x
 both_hold P [] ys first second x here = second x here
 both_hold P (y ∷ xs) ys first second x here = elim (first_or_later y (xs ++ ys) x here) [
   | inl same ↦ first x (first_in y xs x same)
@@ -74,12 +76,14 @@ module _ (line : ℕ) (inputs : List ℕ) where
   -- the covers that stand for a table name old nets, and the new ones that it takes
   pub narrow_below : (n table output fresh : ℕ) → n ≤ length inputs → output < fresh → ((net : ℕ) → Contains inputs net → net < fresh) →
       (cover : PlainCover) → Contains (narrow line inputs n table output fresh) cover → IsBelow (taken n table + fresh) cover
-  narrow_below zero table output fresh few old low = one_holds (IsBelow (0 + fresh)) (cover_with line [] output table) (omega (arith, old), λ net here. absurd (in_none net here))
+  narrow_below zero table output fresh few old low = one_holds (IsBelow (0 + fresh)) (cover_with line [] output table)
+      (omega (arith, old), λ net here. absurd (in_none net here))
   narrow_below (suc n) table output fresh few old low =
       let low_table : ℕ = low_half n table in
       let high_table : ℕ = high_half n table in
       elim (cases_Bool (nat_lt n 4)) [
-        | inl small ↦ rw small (one_holds (IsBelow (0 + fresh)) (cover_with line (take (suc n) inputs) output table) (omega (arith, old), λ net here. omega (arith, low net (in_taken (suc n) inputs net here))))
+        | inl small ↦ rw small (one_holds (IsBelow (0 + fresh)) (cover_with line (take (suc n) inputs) output table)
+            (omega (arith, old), λ net here. omega (arith, low net (in_taken (suc n) inputs net here))))
         | inr large ↦ elim (cases_Bool (nat_eq low_table high_table)) [
           | inl same ↦ rw (large, same) (narrow_below n low_table output fresh (omega (arith, few)) old low)
           | inr other ↦ rw (large, other) (
@@ -111,7 +115,8 @@ module _ (line : ℕ) (inputs : List ℕ) (base : ℕ) where
       (omega (arith, few, small), omega (arith, less, same net small))
 
   -- an output that stands high enough above the inputs has room for the new nets below it
-  pub narrow_levels : (n table output fresh : ℕ) (level : ℕ → ℕ) → n ≤ length inputs → output < fresh → base + n < level output → AreLow fresh level → LevelsFrom fresh level (narrow line inputs n table output fresh)
+  pub narrow_levels : (n table output fresh : ℕ) (level : ℕ → ℕ) → n ≤ length inputs → output < fresh → base + n < level output → AreLow fresh level →
+      LevelsFrom fresh level (narrow line inputs n table output fresh)
   narrow_levels zero table output fresh level few old above low = record {
     all = level;
     old = λ net small. refl;
@@ -124,7 +129,8 @@ module _ (line : ℕ) (inputs : List ℕ) (base : ℕ) where
         | inl small ↦ rw small (record {
           all = level;
           old = λ net s. refl;
-          falls = one_holds (FallsAt level) (cover_with line (take (suc n) inputs) output table) (λ net here. omega (arith, above, (low net (in_taken (suc n) inputs net here)).1));
+          falls = one_holds (FallsAt level) (cover_with line (take (suc n) inputs) output table)
+              (λ net here. omega (arith, above, (low net (in_taken (suc n) inputs net here)).1));
         })
         | inr large ↦ elim (cases_Bool (nat_eq low_table high_table)) [
           | inl same ↦ rw (large, same) (narrow_levels n low_table output fresh level (omega (arith, few)) old (omega (arith, above)) low)
@@ -137,13 +143,15 @@ module _ (line : ℕ) (inputs : List ℕ) (base : ℕ) where
               λ net small. other_level b top (with_level a top level) net (omega (arith, small)) ∙ other_level a top level net small in
               let a_is : one a ≡ top = other_level b top (with_level a top level) a (omega arith) ∙ here_level a top level in
               let b_is : one b ≡ top = here_level b top (with_level a top level) in
-              let first = narrow_levels n low_table a (2 + fresh) one (omega (arith, few)) (omega arith) (omega (arith, a_is)) (low_again fresh (2 + fresh) level one (omega arith) low one_old) in
+              let first = narrow_levels n low_table a (2 + fresh) one (omega (arith, few)) (omega arith) (omega (arith, a_is))
+              (low_again fresh (2 + fresh) level one (omega arith) low one_old) in
               let first_old : (net : ℕ) → net < fresh → first.all net ≡ level net = λ net small. first.old net (omega (arith, small)) ∙ one_old net small in
               let later = taken n low_table + (2 + fresh) in
               let second = narrow_levels n high_table b later first.all (omega (arith, few)) (omega arith) (omega (arith, first.old b (omega arith), b_is))
               (low_again fresh later level first.all (omega arith) low first_old) in
               let choose = cover_with line (a ∷ b ∷ get_or inputs n 0 ∷ []) output chooser in
-              let second_old : (net : ℕ) → net < fresh → second.all net ≡ level net = λ net small. second.old net (omega (arith, small)) ∙ first_old net small in
+              let second_old : (net : ℕ) → net < fresh → second.all net ≡ level net = λ net small. second.old net (omega (arith, small)) ∙ first_old net
+              small in
               let last = get_or inputs n 0 in
               let last_low = low last (place_in inputs n (omega (arith, few))) in
               let a_at : second.all a ≡ top = second.old a (omega arith) ∙ first.old a (omega arith) ∙ a_is in

@@ -1,5 +1,5 @@
 -- A table is read at its last input: the halves have its bits.
-use Rattle.std.proofs.Common.{◌≡◌, ℕ, zero, suc, ◌+◌, ◌-◌, ◌*◌, ◌/◌, ◌%◌, ◌^◌, ◌<◌, ◌≤◌, Bool, true, false, List, [], ◌∷◌, ◌++◌, map, length, nat_eq, if◌then◌else◌, refl, sym, ap, ◌∙◌, arith, pow-suc}
+use Rattle.std.proofs.Common.{◌≡◌, ℕ, suc, ◌+◌, ◌-◌, ◌*◌, ◌/◌, ◌%◌, ◌^◌, ◌<◌, Bool, true, false, List, [], ◌∷◌, ◌++◌, length, nat_eq, if◌then◌else◌, refl, sym, ap, ◌∙◌, arith, pow-suc}
 use Rattle.std.proofs.lemmas.Nat.{shr-shr, field_of}
 use Rattle.std.proofs.Math.Pow.{mod-mod-pow}
 use Rattle.fab_bits.specs.Bits.{bit_number, number}
@@ -38,7 +38,8 @@ number_push (bit ∷ bits) false = omega (arith, number_push bits false)
 
 -- a table where one input more stands last
 pub table_push : (table : ℕ) (bits : List Bool) (last : Bool) →
-    table_bit table (number (bits ++ last ∷ [])) ≡ (if last then table_bit (high_half (length bits) table) (number bits) else table_bit (low_half (length bits) table) (number bits))
+    table_bit table (number (bits ++ last ∷ [])) ≡ (if last then table_bit (high_half (length bits) table) (number bits) else table_bit
+    (low_half (length bits) table) (number bits))
 table_push table bits true =
     let at : number bits + 1 * 2 ^ length bits ≡ 2 ^ length bits + number bits = omega arith in
     ap (table_bit table) (number_push bits true ∙ at) ∙ sym (high_bit (length bits) table (number bits))

@@ -1,12 +1,12 @@
 -- Words of 16 bits, and the table that they spell.
-use Rattle.std.proofs.Common.{◌≡◌, ℕ, zero, suc, ◌+◌, ◌-◌, ◌*◌, ◌/◌, ◌%◌, ◌^◌, ◌<◌, ◌≤◌, Bool, true, false, ◌&&◌, List, [], ◌∷◌, ◌++◌, max, take, drop, length, get_or, nat_eq, refl, sym, ap, ◌∙◌, subst, inl, inr, arith, pow-suc, eqb-true, eq-eqb}
+use Rattle.std.proofs.Common.{◌≡◌, ℕ, zero, suc, ◌+◌, ◌-◌, ◌*◌, ◌/◌, ◌%◌, ◌^◌, ◌<◌, ◌≤◌, Bool, ◌&&◌, List, [], ◌∷◌, ◌++◌, max, take, drop, length, nat_eq, refl, sym, ap, ◌∙◌, subst, inl, inr, arith, pow-suc, eqb-true, eq-eqb}
 use Rattle.std.specs.Cmp.Lexicographic.{pointwise}
 use Rattle.std.specs.List.{All}
 use Rattle.std.proofs.lemmas.Bool.{cases_Bool, eqb-false, ne_eqb}
 use Rattle.std.proofs.lemmas.List.{get_or-take, get_or-drop, length-drop, length-take-le, take-append-drop}
 use Rattle.std.proofs.lemmas.Nat.{div-mul-add, mod-mul-add, pow-add}
 use Rattle.std.proofs.Math.Nat.{mul_assoc, mul_left_comm, pow-le-pow_right}
-use Rattle.fab_bits.specs.Bits.{bit_number, number, first_bits}
+use Rattle.fab_bits.specs.Bits.{number, first_bits}
 use Rattle.fab_bits.proofs.Numbers.{drop_first_bits, first_bits_same, take_first_bits}
 use Rattle.fab_wide.specs.Split.{low_half, high_half}
 use Rattle.fab_wide.specs.inner.Words.{number_of_words, AreWords}
@@ -36,8 +36,7 @@ number_joined (x ∷ xs) ys =
     omega (arith, number_joined xs ys, product)
 
 bits_joined : (a b : ℕ) (f : ℕ → Bool) → first_bits (a + b) f ≡ first_bits a f ++ first_bits b (λ place. f (a + place))
-bits_joined zero b f = refl
-bits_joined (suc a) b f = ap (λ bits. f 0 ∷ bits) (bits_joined a b (λ place. f (suc place)))
+bits_joined a b f = sym (take-append-drop a (first_bits (a + b) f)) ∙ (λ j. take_first_bits a (a + b) f (omega arith) j ++ drop_first_bits a b f j)
 
 -- they spell its bits
 words_spell : (count : ℕ) (f : ℕ → Bool) → number_of_words (words_by count f) ≡ number (first_bits (16 * count) f)
@@ -75,7 +74,8 @@ all_words inputs count f words is many = record {
   small = subst (λ (list : List ℕ). All (λ word. word < 65536) list) (sym is) (small_words count f);
 }
 
-pub all_spell : (inputs count : ℕ) (f : ℕ → Bool) (words : List ℕ) → words ≡ words_by count f → count ≡ 2 ^ (inputs - 4) → number_of_words words ≡ number (first_bits (2 ^ max 4 inputs) f)
+pub all_spell : (inputs count : ℕ) (f : ℕ → Bool) (words : List ℕ) → words ≡ words_by count f → count ≡ 2 ^ (inputs - 4) →
+    number_of_words words ≡ number (first_bits (2 ^ max 4 inputs) f)
 all_spell inputs count f words is many =
     let bits : 16 * count ≡ 2 ^ max 4 inputs = ap (λ k. 16 * k) many ∙ table_bits inputs in
     ap number_of_words is ∙ words_spell count f ∙ ap (λ n. number (first_bits n f)) bits
@@ -123,13 +123,15 @@ module _ (n : ℕ) (above : 4 ≤ n) (words : List ℕ) (table : AreWords (suc n
   pub first_words : AreWords n first
   first_words = record {
     many = many_first;
-    small = λ k d within. subst (λ w. w < 65536) (sym (get_or-take half words k d (omega (arith, within, many_first)))) (table.small k d (omega (arith, within, many_first, twice)));
+    small = λ k d within. subst (λ w. w < 65536) (sym (get_or-take half words k d (omega (arith, within, many_first))))
+        (table.small k d (omega (arith, within, many_first, twice)));
   }
 
   pub second_words : AreWords n second
   second_words = record {
     many = omega (arith, length-drop half words, twice);
-    small = λ k d within. subst (λ w. w < 65536) (sym (get_or-drop half words k d)) (table.small (half + k) d (omega (arith, within, length-drop half words, twice)));
+    small = λ k d within. subst (λ w. w < 65536) (sym (get_or-drop half words k d))
+        (table.small (half + k) d (omega (arith, within, length-drop half words, twice)));
   }
 
   bits_half : 2 ^ (16 * length first) ≡ 2 ^ 2 ^ n
@@ -138,7 +140,8 @@ module _ (n : ℕ) (above : 4 ≤ n) (words : List ℕ) (table : AreWords (suc n
       ap (λ k. 2 ^ (16 * k)) many_first ∙ ap (λ k. 2 ^ k) (sym (ap (λ k. 2 ^ k) whole ∙ pow-add 2 4 (n - 4)))
 
   parted : number_of_words words ≡ number_of_words second * 2 ^ 2 ^ n + number_of_words first
-  parted = ap number_of_words (sym (take-append-drop half words)) ∙ joined_words first second ∙ ap (λ k. number_of_words second * k + number_of_words first) bits_half
+  parted = ap number_of_words (sym (take-append-drop half words)) ∙ joined_words first second ∙ ap (λ k. number_of_words second * k + number_of_words first)
+      bits_half
 
   first_small : number_of_words first < 2 ^ 2 ^ n
   first_small = subst (λ k. number_of_words first < k) bits_half (words_small first first_words.small)
@@ -151,7 +154,8 @@ module _ (n : ℕ) (above : 4 ≤ n) (words : List ℕ) (table : AreWords (suc n
   second_half = sym (ap (λ k. k / 2 ^ 2 ^ n) parted ∙ div-mul-add (number_of_words second) (2 ^ 2 ^ n) (number_of_words first) first_small)
 
 -- as many words are equal where they spell one table
-pub same_words : (xs ys : List ℕ) → length xs ≡ length ys → All (λ w. w < 65536) xs → All (λ w. w < 65536) ys → pointwise nat_eq xs ys ≡ nat_eq (number_of_words xs) (number_of_words ys)
+pub same_words : (xs ys : List ℕ) → length xs ≡ length ys → All (λ w. w < 65536) xs → All (λ w. w < 65536) ys →
+    pointwise nat_eq xs ys ≡ nat_eq (number_of_words xs) (number_of_words ys)
 same_words [] [] many small_x small_y = refl
 same_words [] (y ∷ ys) many small_x small_y = absurd (omega (arith, many))
 same_words (x ∷ xs) [] many small_x small_y = absurd (omega (arith, many))
@@ -159,14 +163,18 @@ same_words (x ∷ xs) (y ∷ ys) many small_x small_y =
     let rest = same_words xs ys (omega (arith, many)) (small_rest x xs small_x) (small_rest y ys small_y) in
     ap (λ (b : Bool). nat_eq x y && b) rest ∙ both_same (small_first x xs small_x) (small_first y ys small_y)
   where
-    both_same : x < 65536 → y < 65536 → (nat_eq x y && nat_eq (number_of_words xs) (number_of_words ys)) ≡ nat_eq (x + 65536 * number_of_words xs) (y + 65536 * number_of_words ys)
+    both_same : x < 65536 → y < 65536 → (nat_eq x y && nat_eq (number_of_words xs) (number_of_words ys)) ≡ nat_eq (x + 65536 * number_of_words xs)
+        (y + 65536 * number_of_words ys)
     both_same less_x less_y =
         elim (cases_Bool (nat_eq x y)) [
           | inl same ↦ (
               let equal : x ≡ y = eqb-true x y same in
               elim (cases_Bool (nat_eq (number_of_words xs) (number_of_words ys))) [
-                | inl later ↦ rw (same, later) (sym (eq-eqb (x + 65536 * number_of_words xs) (y + 65536 * number_of_words ys) (omega (arith, equal, eqb-true (number_of_words xs) (number_of_words ys) later))))
-                | inr later ↦ rw (same, later) (sym (ne_eqb (x + 65536 * number_of_words xs) (y + 65536 * number_of_words ys) (λ e. eqb-false (number_of_words xs) (number_of_words ys) later (omega (arith, e, equal)))))
+                | inl later ↦ rw (same, later) (sym (eq-eqb (x + 65536 * number_of_words xs) (y + 65536 * number_of_words ys)
+                    (omega (arith, equal, eqb-true (number_of_words xs) (number_of_words ys) later))))
+                | inr later ↦ rw (same, later) (sym (ne_eqb (x + 65536 * number_of_words xs) (y + 65536 * number_of_words ys)
+                    (λ e. eqb-false (number_of_words xs) (number_of_words ys) later (omega (arith, e, equal)))))
               ])
-          | inr other ↦ rw other (sym (ne_eqb (x + 65536 * number_of_words xs) (y + 65536 * number_of_words ys) (λ e. eqb-false x y other (omega (arith, e, less_x, less_y)))))
+          | inr other ↦ rw other (sym (ne_eqb (x + 65536 * number_of_words xs) (y + 65536 * number_of_words ys)
+              (λ e. eqb-false x y other (omega (arith, e, less_x, less_y)))))
         ]

@@ -1,5 +1,5 @@
 -- What a wired netlist is split into is well made.
-use Rattle.std.proofs.Common.{◌≡◌, ◌⊎◌, ℕ, zero, suc, ◌+◌, ◌-◌, ◌%◌, ◌^◌, ◌<◌, ◌≤◌, Bool, true, false, List, [], ◌∷◌, ◌++◌, map, take, replicate, length, get_or, Contains, nat_eq, nat_lt, if◌then◌else◌, refl, sym, ap, ◌∙◌, subst, inl, inr, arith}
+use Rattle.std.proofs.Common.{◌≡◌, ◌⊎◌, ℕ, zero, suc, ◌+◌, ◌-◌, ◌%◌, ◌^◌, ◌<◌, ◌≤◌, false, List, [], ◌∷◌, ◌++◌, take, replicate, length, get_or, Contains, nat_eq, nat_lt, refl, sym, ap, ◌∙◌, subst, inl, inr, arith}
 use Rattle.std.specs.List.{flat_map}
 use Rattle.std.proofs.lemmas.Bool.{cases_Bool, cases_lt, lt-ltb, ltb-true, false≢true}
 use Rattle.std.proofs.lemmas.List.{length-append, length-replicate, length-take}
@@ -7,7 +7,7 @@ use Rattle.fab_netlist.specs.Plain.{PlainCover, PlainNetlist, IsAt, name_of}
 use Rattle.fab_netlist.specs.WellMade.{IsWired, IsWellMade, most_nets, times, cover_outputs, latch_outputs, latch_inputs, driven, read, ports, table_bit}
 use Rattle.fab_netlist.proofs.Counts.{times_joined, member_counts, nowhere_or_at}
 use Rattle.fab_netlist.proofs.Meaning.{output_small, latch_small, input_small}
-use Rattle.fab_netlist.proofs.Members.{in_none, first_or_later, first_in, later_in, at_in, mapped_in, in_left, in_right}
+use Rattle.fab_netlist.proofs.Members.{in_none, first_in, later_in, at_in, in_left, in_right}
 use Rattle.fab_netlist.proofs.Packs.{from_mapped}
 use Rattle.fab_netlist.proofs.Stepping.{in_flat}
 use Rattle.fab_wide.specs.Split.{low_half, high_half, chooser, cover_with, taken, narrow, taken_by, parts, all_taken, all_parts, split_of, split_nets}
@@ -35,7 +35,8 @@ chooser_repeats place small =
       | inr high ↦ (
           let later : place ≡ 8 + (place - 8) = omega (arith, high) in
           let rest : place - 8 ≡ place % 8 = omega (arith, high, small) in
-          ap (table_bit chooser) later ∙ sym (high_bit 3 chooser (place - 8)) ∙ low_bit 3 chooser (place - 8) (omega (arith, small)) ∙ ap (table_bit chooser) rest)
+          ap (table_bit chooser) later ∙ sym (high_bit 3 chooser (place - 8)) ∙ low_bit 3 chooser (place - 8) (omega (arith, small)) ∙ ap (table_bit chooser)
+          rest)
     ]
 
 pub not_below : (a b : ℕ) → nat_lt a b ≡ false → b ≤ a
@@ -46,7 +47,8 @@ not_below a b not_less =
     ]
 
 module _ (line : ℕ) (inputs : List ℕ) where
-  narrow_narrow : (n table output fresh : ℕ) → n ≤ length inputs → (n < 4 → Repeats n table) → (cover : PlainCover) → Contains (narrow line inputs n table output fresh) cover → IsNarrow cover
+  narrow_narrow : (n table output fresh : ℕ) → n ≤ length inputs → (n < 4 → Repeats n table) → (cover : PlainCover) →
+      Contains (narrow line inputs n table output fresh) cover → IsNarrow cover
   narrow_narrow zero table output fresh few repeats = one_holds IsNarrow (cover_with line [] output table) (omega arith, repeats (omega arith))
   narrow_narrow (suc n) table output fresh few repeats =
       let low : ℕ = low_half n table in
@@ -69,8 +71,10 @@ module _ (line : ℕ) (inputs : List ℕ) where
                   let first = narrow line inputs n low fresh (2 + fresh) in
                   let second = narrow line inputs n high (1 + fresh) later in
                   let choose = cover_with line (fresh ∷ (1 + fresh) ∷ get_or inputs n 0 ∷ []) output chooser in
-                  both_hold IsNarrow first (second ++ choose ∷ []) (narrow_narrow n low fresh (2 + fresh) (omega (arith, few)) (λ below. absurd (omega (arith, below, more))))
-                  (both_hold IsNarrow second (choose ∷ []) (narrow_narrow n high (1 + fresh) later (omega (arith, few)) (λ below. absurd (omega (arith, below, more))))
+                  both_hold IsNarrow first (second ++ choose ∷ []) (narrow_narrow n low fresh (2 + fresh) (omega (arith, few))
+                  (λ below. absurd (omega (arith, below, more))))
+                  (both_hold IsNarrow second (choose ∷ []) (narrow_narrow n high (1 + fresh) later (omega (arith, few))
+                  (λ below. absurd (omega (arith, below, more))))
                   (one_holds IsNarrow choose (omega arith, chooser_repeats))))
             ])
       ]
@@ -87,13 +91,15 @@ module _ (line : ℕ) (inputs : List ℕ) where
       ]
 
   -- and so do all covers that stand for a table
-  narrow_reads : (n table output fresh : ℕ) → n ≤ length inputs → (cover : PlainCover) → Contains (narrow line inputs n table output fresh) cover → ReadsOld fresh cover
+  narrow_reads : (n table output fresh : ℕ) → n ≤ length inputs → (cover : PlainCover) → Contains (narrow line inputs n table output fresh) cover →
+      ReadsOld fresh cover
   narrow_reads zero table output fresh few = one_holds (ReadsOld fresh) (cover_with line [] output table) (λ net here. absurd (in_none net here))
   narrow_reads (suc n) table output fresh few =
       let low : ℕ = low_half n table in
       let high : ℕ = high_half n table in
       elim (cases_Bool (nat_lt n 4)) [
-        | inl small ↦ rw small (one_holds (ReadsOld fresh) (cover_with line (take (suc n) inputs) output table) (λ net here. inl (in_taken (suc n) inputs net here)))
+        | inl small ↦ rw small (one_holds (ReadsOld fresh) (cover_with line (take (suc n) inputs) output table)
+            (λ net here. inl (in_taken (suc n) inputs net here)))
         | inr large ↦ elim (cases_Bool (nat_eq low high)) [
           | inl same ↦ rw (large, same) (narrow_reads n low output fresh (omega (arith, few)))
           | inr other ↦ rw (large, other) (
@@ -101,9 +107,12 @@ module _ (line : ℕ) (inputs : List ℕ) where
               let first = narrow line inputs n low fresh (2 + fresh) in
               let second = narrow line inputs n high (1 + fresh) later in
               let choose = cover_with line (fresh ∷ (1 + fresh) ∷ get_or inputs n 0 ∷ []) output chooser in
-              both_hold (ReadsOld fresh) first (second ++ choose ∷ []) (λ c here. reads_more fresh (2 + fresh) c (omega arith) (narrow_reads n low fresh (2 + fresh) (omega (arith, few)) c here))
-              (both_hold (ReadsOld fresh) second (choose ∷ []) (λ c here. reads_more fresh later c (omega arith) (narrow_reads n high (1 + fresh) later (omega (arith, few)) c here))
-              (one_holds (ReadsOld fresh) choose (three_small (λ net. Contains inputs net ⊎ (fresh ≤ net)) fresh (1 + fresh) (get_or inputs n 0) (inr (omega arith)) (inr (omega arith))
+              both_hold (ReadsOld fresh) first (second ++ choose ∷ []) (λ c here. reads_more fresh (2 + fresh) c (omega arith)
+              (narrow_reads n low fresh (2 + fresh) (omega (arith, few)) c here))
+              (both_hold (ReadsOld fresh) second (choose ∷ []) (λ c here. reads_more fresh later c (omega arith)
+              (narrow_reads n high (1 + fresh) later (omega (arith, few)) c here))
+              (one_holds (ReadsOld fresh) choose (three_small (λ net. Contains inputs net ⊎ (fresh ≤ net)) fresh (1 + fresh) (get_or inputs n 0)
+              (inr (omega arith)) (inr (omega arith))
               (inl (place_in inputs n (omega (arith, few))))))))
         ]
       ]
@@ -112,30 +121,34 @@ module _ (line : ℕ) (inputs : List ℕ) where
 
 -- what holds of all parts of covers, where it holds of the parts of each
 pub all_hold : (P : PlainCover → Type 0) (nets : ℕ) (covers : List PlainCover) (fresh : ℕ) → nets ≤ fresh →
-    ((cover : PlainCover) → Contains covers cover → (at : ℕ) → nets ≤ at → (part : PlainCover) → Contains (parts cover at) part → P part) → (part : PlainCover) → Contains (all_parts covers fresh) part → P part
+    ((cover : PlainCover) → Contains covers cover → (at : ℕ) → nets ≤ at → (part : PlainCover) → Contains (parts cover at) part → P part) →
+    (part : PlainCover) → Contains (all_parts covers fresh) part → P part
 all_hold P nets [] fresh few each part here = absurd (in_none part here)
-all_hold P nets (cover ∷ covers) fresh few each =
+all_hold P nets (cover ∷ covers) fresh few each part here =
     both_hold P (parts cover fresh) (all_parts covers (taken_by cover + fresh)) (each cover (first_in cover covers cover refl) fresh few)
-    (all_hold P nets covers (taken_by cover + fresh) (omega (arith, few)) (λ c here. each c (later_in cover covers c here)))
+    (all_hold P nets covers (taken_by cover + fresh) (omega (arith, few)) (λ c among. each c (later_in cover covers c among))) part here
 
 -- their nets are old and new ones
-all_below : (covers : List PlainCover) (fresh : ℕ) → ((cover : PlainCover) → Contains covers cover → cover.output < fresh) → ((cover : PlainCover) → Contains covers cover → (net : ℕ) → Contains cover.inputs net → net < fresh) →
+all_below : (covers : List PlainCover) (fresh : ℕ) → ((cover : PlainCover) → Contains covers cover → cover.output < fresh) →
+    ((cover : PlainCover) → Contains covers cover → (net : ℕ) → Contains cover.inputs net → net < fresh) →
     (part : PlainCover) → Contains (all_parts covers fresh) part → IsBelow (all_taken covers + fresh) part
 all_below [] fresh outputs inputs part here = absurd (in_none part here)
-all_below (cover ∷ covers) fresh outputs inputs =
+all_below (cover ∷ covers) fresh outputs inputs part among =
     let later = taken_by cover + fresh in
     let here = first_in cover covers cover refl in
     both_hold (IsBelow (taken_by cover + all_taken covers + fresh)) (parts cover fresh) (all_parts covers later)
-    (λ c among. below_more later (taken_by cover + all_taken covers + fresh) c (omega arith) (narrow_below cover.line cover.inputs (length cover.inputs) cover.table cover.output fresh (omega arith) (outputs cover here) (inputs cover here) c among))
-    (λ c among. below_more (all_taken covers + later) (taken_by cover + all_taken covers + fresh) c (omega arith)
-    (all_below covers later (λ d known. omega (arith, outputs d (later_in cover covers d known))) (λ d known net reads. omega (arith, inputs d (later_in cover covers d known) net reads)) c among))
+    (λ c one. below_more later (taken_by cover + all_taken covers + fresh) c (omega arith) (narrow_below cover.line cover.inputs (length cover.inputs)
+    cover.table cover.output fresh (omega arith) (outputs cover here) (inputs cover here) c one))
+    (λ c one. below_more (all_taken covers + later) (taken_by cover + all_taken covers + fresh) c (omega arith)
+    (all_below covers later (λ d known. omega (arith, outputs d (later_in cover covers d known)))
+    (λ d known net reads. omega (arith, inputs d (later_in cover covers d known) net reads)) c one)) part among
 
 -- an item of joined lists stands in one of them
 from_flat : {X Y : Type 0} (f : X → List Y) (xs : List X) (y : Y) → Contains (flat_map f xs) y → (x : X) × Contains xs x × Contains (f x) y
 from_flat f [] y here = absurd (in_none y here)
-from_flat f (x ∷ xs) y =
-    both_hold (λ z. (w : X) × Contains (x ∷ xs) w × Contains (f w) z) (f x) (flat_map f xs) (λ z here. (x, first_in x xs x refl, here))
-    (λ z here. let (w, among, there) = from_flat f xs z here in (w, later_in x xs w among, there)) y
+from_flat {X = X} f (x ∷ xs) y here =
+    both_hold (λ z. (w : X) × Contains (x ∷ xs) w × Contains (f w) z) (f x) (flat_map f xs) (λ z one. (x, first_in x xs x refl, one))
+    (λ z one. let (w, among, there) = from_flat f xs z one in (w, later_in x xs w among, there)) y here
 
 none_above : (xs : List ℕ) (n net : ℕ) → ((other : ℕ) → Contains xs other → other < n) → n ≤ net → times net xs ≡ 0
 none_above xs n net small above =
@@ -162,7 +175,8 @@ module _ (netlist : PlainNetlist) (wiring : IsWired netlist) (fits : split_nets 
 
   narrow_parts : (part : PlainCover) → Contains all part → IsNarrow part
   narrow_parts =
-      all_hold IsNarrow n netlist.covers n (omega arith) (λ cover here at few. narrow_narrow cover.line cover.inputs (length cover.inputs) cover.table cover.output at (omega arith) (repeats cover here))
+      all_hold IsNarrow n netlist.covers n (omega arith) (λ cover here at few. narrow_narrow cover.line cover.inputs (length cover.inputs) cover.table
+      cover.output at (omega arith) (repeats cover here))
 
   parts_below : (part : PlainCover) → Contains all part → IsBelow (all_taken netlist.covers + n) part
   parts_below = all_below netlist.covers n (output_small netlist wiring) (input_below netlist wiring)
@@ -182,8 +196,12 @@ module _ (netlist : PlainNetlist) (wiring : IsWired netlist) (fits : split_nets 
   all_read_below : (net : ℕ) → Contains (read (split_of netlist)) net → net < length (split_of netlist).nets
   all_read_below =
       both_hold (λ net. net < length (split_of netlist).nets) (flat_map (λ (c : PlainCover). c.inputs) all) (latch_inputs netlist ++ netlist.outputs)
-      (λ net here. let (part, among, reads) = from_flat (λ (c : PlainCover). c.inputs) all net here in omega (arith, (parts_below part among).1 net reads, many))
-      (λ net here. omega (arith, read_old net (in_right (flat_map (λ (c : PlainCover). c.inputs) netlist.covers) (latch_inputs netlist ++ netlist.outputs) net here), many))
+      (λ net here. let (part, among, reads) = from_flat (λ (c : PlainCover). c.inputs) all net here in
+      omega (arith, (parts_below part among).1 net reads, many)) (λ net here. omega (
+        arith,
+        read_old net (in_right (flat_map (λ (c : PlainCover). c.inputs) netlist.covers) (latch_inputs netlist ++ netlist.outputs) net here),
+        many,
+      ))
 
   -- how often a net is driven
   count_parts : (net : ℕ) → times net (driven (split_of netlist)) ≡ times net (cover_outputs all) + times net behind
@@ -193,7 +211,12 @@ module _ (netlist : PlainNetlist) (wiring : IsWired netlist) (fits : split_nets 
   old_times net old = omega (arith, count_parts net, parts_times netlist.covers n net old, times_joined net (cover_outputs netlist.covers) behind)
 
   new_times : (net : ℕ) → n ≤ net → net < all_taken netlist.covers + n → times net (driven (split_of netlist)) ≡ 1
-  new_times net above below = omega (arith, count_parts net, parts_new netlist.covers n net (output_small netlist wiring) above below, none_above behind n net behind_below above)
+  new_times net above below = omega (
+    arith,
+    count_parts net,
+    parts_new netlist.covers n net (output_small netlist wiring) above below,
+    none_above behind n net behind_below above,
+  )
 
   all_driven_once : (net : ℕ) → times net (driven (split_of netlist)) ≤ 1
   all_driven_once net =
@@ -201,23 +224,29 @@ module _ (netlist : PlainNetlist) (wiring : IsWired netlist) (fits : split_nets 
         | inl old ↦ omega (arith, old_times net old, wiring.driven_once net)
         | inr above ↦ elim (cases_lt net (all_taken netlist.covers + n)) [
           | inl new ↦ omega (arith, new_times net above new)
-          | inr past ↦ omega (arith, count_parts net, parts_past netlist.covers n net (output_small netlist wiring) past, none_above behind n net behind_below above)
+          | inr past ↦ omega (
+            arith,
+            count_parts net,
+            parts_past netlist.covers n net (output_small netlist wiring) past,
+            none_above behind n net behind_below above,
+          )
         ]
       ]
 
   -- an old net that parts read is read by a cover
   read_before : (net : ℕ) → net < n → Contains (read (split_of netlist)) net → Contains (read netlist) net
-  read_before net old =
+  read_before net old here =
       both_hold (λ other. other < n → Contains (read netlist) other) (flat_map (λ (c : PlainCover). c.inputs) all) (latch_inputs netlist ++ netlist.outputs)
-      (λ other here small. let (part, among, reads) = from_flat (λ (c : PlainCover). c.inputs) all other here in part_reads part among other reads small)
-      (λ other here small. in_right (flat_map (λ (c : PlainCover). c.inputs) netlist.covers) (latch_inputs netlist ++ netlist.outputs) other here) net old
+      (λ other one small. let (part, among, reads) = from_flat (λ (c : PlainCover). c.inputs) all other one in part_reads part among other reads small)
+      (λ other one small. in_right (flat_map (λ (c : PlainCover). c.inputs) netlist.covers) (latch_inputs netlist ++ netlist.outputs) other one) net here old
     where
       part_reads : (part : PlainCover) → Contains all part → (net : ℕ) → Contains part.inputs net → net < n → Contains (read netlist) net
       part_reads =
           all_hold (λ part. (net : ℕ) → Contains part.inputs net → net < n → Contains (read netlist) net) n netlist.covers n (omega arith)
           (λ cover here at few part among net reads small.
           elim (narrow_reads cover.line cover.inputs (length cover.inputs) cover.table cover.output at (omega arith) part among net reads) [
-            | inl old ↦ in_left (flat_map (λ (c : PlainCover). c.inputs) netlist.covers) (latch_inputs netlist ++ netlist.outputs) net (in_flat (λ (c : PlainCover). c.inputs) netlist.covers cover net here old)
+            | inl old ↦ in_left (flat_map (λ (c : PlainCover). c.inputs) netlist.covers) (latch_inputs netlist ++ netlist.outputs) net
+                (in_flat (λ (c : PlainCover). c.inputs) netlist.covers cover net here old)
             | inr new ↦ absurd (omega (arith, new, few, small))
           ])
 
@@ -245,5 +274,6 @@ module _ (netlist : PlainNetlist) (wiring : IsWired netlist) (fits : split_nets 
     driven_once = all_driven_once;
     read_driven = all_read_driven;
     reset_below = wiring.reset_below;
-    ports_differ = λ j k first second at_j at_k same. wiring.ports_differ j k first second at_j at_k (sym (port_name j first at_j) ∙ same ∙ port_name k second at_k);
+    ports_differ = λ j k first second at_j at_k same. wiring.ports_differ j k first second at_j at_k
+        (sym (port_name j first at_j) ∙ same ∙ port_name k second at_k);
   }

@@ -1,6 +1,6 @@
 -- Runs of a split netlist are runs of the netlist, on its nets.
-use Rattle.std.proofs.Common.{◌≡◌, ℕ, zero, suc, ◌+◌, ◌<◌, ◌≤◌, Bool, false, ◌&&◌, List, [], ◌∷◌, ◌++◌, map, replicate, length, get_or, Contains, nat_lt, if◌then◌else◌, Option, Some, None, refl, sym, ap, ◌∙◌, subst, inl, inr, arith}
-use Rattle.std.proofs.lemmas.Bool.{cases_Bool, lt-ltb, le-ltb, ltb-true}
+use Rattle.std.proofs.Common.{◌≡◌, ℕ, ◌+◌, ◌<◌, Bool, false, List, [], ◌∷◌, ◌++◌, map, replicate, length, get_or, Contains, nat_lt, if◌then◌else◌, Option, Some, None, refl, sym, ap, ◌∙◌, subst, inl, inr, arith}
+use Rattle.std.proofs.lemmas.Bool.{cases_Bool, lt-ltb, ltb-true}
 use Rattle.std.proofs.lemmas.List.{get_or_append_left}
 use Rattle.std.proofs.Math.Seq.{take-length}
 use Rattle.std.specs.Str.{bytes_eq}
@@ -10,10 +10,9 @@ use Rattle.fab_bits.specs.Bits.{number}
 use Rattle.fab_netlist.specs.declared.netlist.Latch.{Latch}
 use Rattle.fab_netlist.specs.Plain.{PlainCover, PlainNetlist, bit_at, name_of}
 use Rattle.fab_netlist.specs.WellMade.{IsWired, times, cover_outputs, latch_outputs, latch_inputs, driven, ports, table_bit}
-use Rattle.fab_netlist.specs.Cycles.{HasNoCycle}
 use Rattle.fab_netlist.specs.Meaning.{cover_value, Meets, first_value, reset_by, is_reset, next_held, IsRun, AgreeAlways}
 use Rattle.fab_netlist.specs.Resets.{reset_place, with_reset, set_at, netlist_with}
-use Rattle.fab_netlist.specs.Wide.{within, RunsAs, RunsAsWith}
+use Rattle.fab_netlist.specs.Wide.{within, RunsAs}
 use Rattle.fab_netlist.proofs.Counts.{times_joined}
 use Rattle.fab_netlist.proofs.Meaning.{output_small, latch_small, input_small}
 use Rattle.fab_netlist.proofs.Members.{in_none, first_or_later, first_in, later_in, at_in, mapped_in, in_left, in_right}
@@ -34,7 +33,8 @@ parts_mean now (first ∷ covers) fresh holds cover here =
     let rest = all_parts covers (taken_by first + fresh) in
     elim (first_or_later first covers cover here) [
       | inl same ↦ (
-          let all = narrow_means now first.line first.inputs (length first.inputs) first.table first.output fresh (omega arith) (λ c among. holds c (in_left (parts first fresh) rest c among)) in
+          let all = narrow_means now first.line first.inputs (length first.inputs) first.table first.output fresh (omega arith)
+          (λ c among. holds c (in_left (parts first fresh) rest c among)) in
           let whole : now first.output ≡ cover_value first now = all ∙ ap (λ nets. table_bit first.table (number (map now nets))) (take-length first.inputs) in
           subst (λ (c : PlainCover). now c.output ≡ cover_value c now) same whole)
       | inr later ↦ parts_mean now covers (taken_by first + fresh) (λ c among. holds c (in_right (parts first fresh) rest c among)) cover later
@@ -61,7 +61,8 @@ module _ (netlist : PlainNetlist) (wiring : IsWired netlist) where
   -- what covers and latches read
   pub input_below : (cover : PlainCover) → Contains netlist.covers cover → (net : ℕ) → Contains cover.inputs net → net < n
   input_below cover here net reads =
-      wiring.read_below net (in_left (flat_map (λ (c : PlainCover). c.inputs) netlist.covers) (latch_inputs netlist ++ netlist.outputs) net (in_flat (λ (c : PlainCover). c.inputs) netlist.covers cover net here reads))
+      wiring.read_below net (in_left (flat_map (λ (c : PlainCover). c.inputs) netlist.covers) (latch_inputs netlist ++ netlist.outputs) net
+      (in_flat (λ (c : PlainCover). c.inputs) netlist.covers cover net here reads))
 
   latch_below : (latch : Latch) → Contains netlist.latches latch → latch.input < n
   latch_below latch here =
@@ -86,8 +87,7 @@ module _ (netlist : PlainNetlist) (wiring : IsWired netlist) where
           | inl small ↦ rw small (meets.others net (
               times_joined net (cover_outputs (all_parts netlist.covers n)) behind
               ∙ ap (λ k. k + times net behind) (parts_times netlist.covers n net (ltb-true net n small))
-              ∙ sym (times_joined net (cover_outputs netlist.covers) behind)
-              ∙ none))
+              ∙ sym (times_joined net (cover_outputs netlist.covers) behind) ∙ none))
         ]
 
     old_meets : Meets netlist given held old
@@ -98,12 +98,14 @@ module _ (netlist : PlainNetlist) (wiring : IsWired netlist) where
       others = others_meet;
     }
 
-  reset_same : (now : ℕ → Bool) (reset : Option ℕ) → ((place : ℕ) → reset ≡ Some place → place < length netlist.inputs) → reset_by netlist.inputs (within n now) reset ≡ reset_by netlist.inputs now reset
+  reset_same : (now : ℕ → Bool) (reset : Option ℕ) → ((place : ℕ) → reset ≡ Some place → place < length netlist.inputs) →
+      reset_by netlist.inputs (within n now) reset ≡ reset_by netlist.inputs now reset
   reset_same now None small = refl
   reset_same now (Some place) small = within_is n now (get_or netlist.inputs place 0) (inputs_below netlist wiring place 0 (small place refl))
 
   next_of : (now : ℕ → Bool) (reset : Bool) (latches : List Latch) → ((latch : Latch) → Contains latches latch → latch.input < n) →
-      map (λ latch. if reset then first_value latch else within n now latch.input) latches ≡ map (λ latch. if reset then first_value latch else now latch.input) latches
+      map (λ latch. if reset then first_value latch else within n now latch.input) latches ≡ map (λ latch. if reset then first_value latch else now
+      latch.input) latches
   next_of now reset [] small = refl
   next_of now reset (latch ∷ latches) small =
       let here = within_is n now latch.input (small latch (first_in latch latches latch refl)) in
@@ -113,10 +115,12 @@ module _ (netlist : PlainNetlist) (wiring : IsWired netlist) where
   -- both hold the same next
   next_same : (now : ℕ → Bool) → next_held netlist (within n now) ≡ next_held (split_of netlist) now
   next_same now =
-      ap (λ reset. map (λ (latch : Latch). if reset then first_value latch else within n now latch.input) netlist.latches) (reset_same now netlist.reset wiring.reset_below)
+      ap (λ reset. map (λ (latch : Latch). if reset then first_value latch else within n now latch.input) netlist.latches)
+      (reset_same now netlist.reset wiring.reset_below)
       ∙ next_of now (is_reset netlist now) netlist.latches latch_below
 
-  runs_kept : (held : List Bool) (vectors : List (List Bool)) (nows : List (ℕ → Bool)) → IsRun (split_of netlist) held vectors nows → IsRun netlist held vectors (map (within n) nows)
+  runs_kept : (held : List Bool) (vectors : List (List Bool)) (nows : List (ℕ → Bool)) → IsRun (split_of netlist) held vectors nows →
+      IsRun netlist held vectors (map (within n) nows)
   runs_kept held [] [] run = tt
   runs_kept held [] (now ∷ later) run = absurd run
   runs_kept held (given ∷ vectors) [] run = absurd run
@@ -132,9 +136,11 @@ module _ (netlist : PlainNetlist) (wiring : IsWired netlist) where
 
   pub port_below : (net : ℕ) → Contains (ports netlist) net → net < n
   port_below = ports_below netlist.inputs netlist.outputs (input_small netlist wiring)
-      (λ net here. wiring.read_below net (in_right (flat_map (λ (c : PlainCover). c.inputs) netlist.covers) (latch_inputs netlist ++ netlist.outputs) net (in_right (latch_inputs netlist) netlist.outputs net here)))
+      (λ net here. wiring.read_below net (in_right (flat_map (λ (c : PlainCover). c.inputs) netlist.covers) (latch_inputs netlist ++ netlist.outputs) net
+      (in_right (latch_inputs netlist) netlist.outputs net here)))
     where
-      ports_below : (xs ys : List ℕ) → ((net : ℕ) → Contains xs net → net < n) → ((net : ℕ) → Contains ys net → net < n) → (net : ℕ) → Contains (xs ++ ys) net → net < n
+      ports_below : (xs ys : List ℕ) → ((net : ℕ) → Contains xs net → net < n) → ((net : ℕ) → Contains ys net → net < n) → (net : ℕ) →
+          Contains (xs ++ ys) net → net < n
       ports_below [] ys first second net here = second net here
       ports_below (x ∷ xs) ys first second net here =
           elim (first_or_later x (xs ++ ys) net here) [
@@ -183,9 +189,11 @@ wired_with netlist wiring place few = record {
 pub split_keeps_runs : SplitKeepsRuns
 split_keeps_runs netlist wiring None = runs_as netlist wiring
 split_keeps_runs netlist wiring (Some port) =
-    subst (λ found. RunsAs (netlist_with (Some port) netlist) (set_at found (split_of netlist))) (sym (place_same netlist wiring port)) (by_place (reset_place netlist port) (place_below netlist port))
+    subst (λ found. RunsAs (netlist_with (Some port) netlist) (set_at found (split_of netlist))) (sym (place_same netlist wiring port))
+    (by_place (reset_place netlist port) (place_below netlist port))
   where
-    by_place : (found : Option ℕ) → ((place : ℕ) → found ≡ Some place → place < length netlist.inputs) → RunsAs (set_at found netlist) (set_at found (split_of netlist))
+    by_place : (found : Option ℕ) → ((place : ℕ) → found ≡ Some place → place < length netlist.inputs) →
+        RunsAs (set_at found netlist) (set_at found (split_of netlist))
     by_place None below = runs_as netlist wiring
     by_place (Some place) below = runs_as (with_reset place netlist) (wired_with netlist wiring place (below place refl))
 
@@ -200,4 +208,5 @@ agree_within n (a ∷ later) (b ∷ rest) agree = (λ net small. sym (within_is 
 pub split_shows_runs : SplitShowsRuns
 split_shows_runs netlist wiring acyclic held vectors first second split_run run =
     agree_within (length netlist.nets) first second
-    (runs_agree netlist wiring acyclic held vectors (map (within (length netlist.nets)) first) second (runs_kept netlist wiring held vectors first split_run) run)
+    (runs_agree netlist wiring acyclic held vectors (map (within (length netlist.nets)) first) second (runs_kept netlist wiring held vectors first split_run)
+    run)

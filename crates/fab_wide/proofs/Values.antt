@@ -1,5 +1,5 @@
 -- Where the covers that stand for a table have their values, its output has the table's value.
-use Rattle.std.proofs.Common.{◌≡◌, ℕ, zero, suc, ◌+◌, ◌-◌, ◌^◌, ◌<◌, ◌≤◌, Bool, true, false, List, [], ◌∷◌, ◌++◌, map, take, length, get_or, Contains, nat_eq, nat_lt, if◌then◌else◌, refl, sym, ap, ◌∙◌, subst, inl, inr, arith, eqb-true}
+use Rattle.std.proofs.Common.{◌≡◌, ℕ, zero, suc, ◌+◌, ◌<◌, ◌≤◌, Bool, true, false, List, [], ◌∷◌, ◌++◌, map, take, length, get_or, Contains, nat_eq, nat_lt, if◌then◌else◌, refl, sym, ap, ◌∙◌, subst, inl, inr, arith, eqb-true}
 use Rattle.std.proofs.lemmas.Bool.{cases_Bool}
 use Rattle.std.proofs.lemmas.List.{length-map, length-take, map_push, take_more}
 use Rattle.fab_bits.specs.Bits.{number}
@@ -33,18 +33,21 @@ module _ (now : ℕ → Bool) where
 
     -- a table at its last input
     last_input : (n table : ℕ) → n < length inputs →
-        table_bit table (number (bits (suc n))) ≡ (if now (get_or inputs n 0) then table_bit (high_half n table) (number (bits n)) else table_bit (low_half n table) (number (bits n)))
+        table_bit table (number (bits (suc n))) ≡ (if now (get_or inputs n 0) then table_bit (high_half n table) (number (bits n)) else table_bit
+        (low_half n table) (number (bits n)))
     last_input n table few =
         ap (λ b. table_bit table (number b)) (more_bits n few)
         ∙ table_push table (bits n) (now (get_or inputs n 0))
-        ∙ ap (λ k. if now (get_or inputs n 0) then table_bit (high_half k table) (number (bits n)) else table_bit (low_half k table) (number (bits n))) (many_bits n (omega (arith, few)))
+        ∙ ap (λ k. if now (get_or inputs n 0) then table_bit (high_half k table) (number (bits n)) else table_bit (low_half k table) (number (bits n)))
+        (many_bits n (omega (arith, few)))
 
     same_halves : (b : Bool) (x : Bool) → (if b then x else x) ≡ x
     same_halves true x = refl
     same_halves false x = refl
 
     -- by halves, down to covers of four inputs
-    pub narrow_means : (n table output fresh : ℕ) → n ≤ length inputs → Holds (narrow line inputs n table output fresh) → now output ≡ table_bit table (number (bits n))
+    pub narrow_means : (n table output fresh : ℕ) → n ≤ length inputs → Holds (narrow line inputs n table output fresh) →
+        now output ≡ table_bit table (number (bits n))
     narrow_means zero table output fresh few holds = holds (cover_with line [] output table) (first_in _ [] _ refl)
     narrow_means (suc n) table output fresh few holds =
         let low : ℕ = low_half n table in
@@ -70,13 +73,13 @@ module _ (now : ℕ → Bool) where
                 let choose = cover_with line (fresh ∷ (1 + fresh) ∷ get_or inputs n 0 ∷ []) output chooser in
                 let as_both : narrow line inputs (suc n) table output fresh ≡ first ++ (second ++ choose ∷ []) = rw (large, other) refl in
                 let all : Holds (first ++ (second ++ choose ∷ [])) = subst Holds as_both holds in
-                let a = narrow_means n low fresh (2 + fresh) (omega (arith, few)) (λ cover among. all cover (in_left first (second ++ choose ∷ []) cover among)) in
+                let a = narrow_means n low fresh (2 + fresh) (omega (arith, few))
+                (λ cover among. all cover (in_left first (second ++ choose ∷ []) cover among)) in
                 let b = narrow_means n high (1 + fresh) (taken n low + (2 + fresh)) (omega (arith, few))
                 (λ cover among. all cover (in_right first (second ++ choose ∷ []) cover (in_left second (choose ∷ []) cover among))) in
                 let c = all choose (in_right first (second ++ choose ∷ []) choose (in_right second (choose ∷ []) choose (first_in choose [] choose refl))) in
                 c
-                ∙ chooses (now fresh) (now (1 + fresh)) last
-                ∙ (λ j. if last then b j else a j)
+                ∙ chooses (now fresh) (now (1 + fresh)) last ∙ (λ j. if last then b j else a j)
                 ∙ sym (last_input n table (omega (arith, few))))
           ]
         ]

@@ -1,5 +1,5 @@
 -- What a netlist of wide covers is split into.
-use Rattle.std.proofs.Common.{◌≡◌, ℕ, zero, suc, ◌+◌, ◌*◌, ◌/◌, ◌%◌, ◌^◌, ◌<◌, ◌≤◌, Bool, true, false, not, ◌||◌, List, [], ◌∷◌, ◌++◌, max, map, take, replicate, length, get_or, Contains, nat_eq, nat_lt, bit_and, if◌then◌else◌, refl, sym, ap, ◌∙◌, subst, inl, inr, arith, pow-suc}
+use Rattle.std.proofs.Common.{◌≡◌, ℕ, zero, suc, ◌+◌, ◌*◌, ◌/◌, ◌%◌, ◌^◌, ◌<◌, ◌≤◌, Bool, true, false, not, ◌||◌, List, [], ◌∷◌, ◌++◌, max, take, replicate, length, get_or, Contains, nat_eq, nat_lt, bit_and, refl, sym, ap, ◌∙◌, subst, inl, inr, arith, pow-suc}
 use Rattle.std.specs.List.{All, list_any}
 use Rattle.std.proofs.lemmas.Bool.{cases_Bool, ltb-true}
 use Rattle.std.proofs.lemmas.List.{length-append, length-replicate}
@@ -12,10 +12,9 @@ use Rattle.fab_netlist.specs.Plain.{PlainCover, PlainNetlist}
 use Rattle.fab_netlist.specs.WellMade.{IsWellMade, most_nets, table_bit}
 use Rattle.fab_netlist.specs.Cycles.{HasNoCycle}
 use Rattle.fab_netlist.specs.Wide.{PlainWide, PlainWideCover, matches, rows_say, tabled_cover, tabled, IsFineRow, IsWideMade, RunsAsWith}
-use Rattle.fab_netlist.proofs.Members.{first_in, later_in}
 use Rattle.fab_netlist.proofs.Packs.{from_mapped}
 use Rattle.fab_netlist.proofs.Stepping.{all_of}
-use Rattle.fab_wide.specs.Split.{low_half, high_half, chooser, cover_with, taken, narrow, parts, all_taken, all_parts, split_of, split_nets}
+use Rattle.fab_wide.specs.Split.{low_half, high_half, chooser, cover_with, taken, narrow, parts, all_taken, split_of, split_nets}
 use Rattle.fab_wide.specs.Laws.{HasAtMost}
 use Rattle.fab_wide.proofs.Falls.{both_hold, one_holds}
 use Rattle.fab_wide.proofs.Halves.{number_small}
@@ -41,7 +40,11 @@ table_reads (suc n) f (suc place) small = higher (f 0) (number (first_bits n (λ
     halved false x = omega arith
 
     higher : (b : Bool) (x : ℕ) → table_bit (bit_number b + 2 * x) (suc place) ≡ table_bit x place
-    higher b x = ap (λ k. nat_eq (k % 2) 1) (sym (shr-shr (bit_number b + 2 * x) 1 place)) ∙ ap (λ k. nat_eq (k / 2 ^ place % 2) 1) (halved b x)
+    higher b x =
+        let one : suc place ≡ 1 + place = omega arith in
+        ap (table_bit (bit_number b + 2 * x)) one
+        ∙ ap (λ k. nat_eq (k % 2) 1) (sym (shr-shr (bit_number b + 2 * x) 1 place))
+        ∙ ap (λ k. nat_eq (k / 2 ^ place % 2) 1) (halved b x)
 
 -- a row of so many inputs does not look past them
 matches_low : (inputs : ℕ) (cube : Cube) → IsFineRow inputs cube → (place : ℕ) → matches cube place ≡ matches cube (place % 2 ^ inputs)
@@ -52,19 +55,22 @@ matches_low inputs cube fine place =
     sym (mod-eq_of_lt less) ∙ and_mod place cube.care inputs ∙ ap (bit_and (place % most)) (mod-eq_of_lt fine.low) in
     ap (λ k. nat_eq k cube.value) same
 
-some_low : (inputs : ℕ) (rows : List Cube) → All (IsFineRow inputs) rows → (place : ℕ) → list_any (λ cube. matches cube place) rows ≡ list_any (λ cube. matches cube (place % 2 ^ inputs)) rows
+some_low : (inputs : ℕ) (rows : List Cube) → All (IsFineRow inputs) rows → (place : ℕ) →
+    list_any (λ cube. matches cube place) rows ≡ list_any (λ cube. matches cube (place % 2 ^ inputs)) rows
 some_low inputs [] fine place = refl
 some_low inputs (cube ∷ rows) fine place =
     let here = matches_low inputs cube (fine 0 cube (omega arith)) place in
     let rest = some_low inputs rows (λ k d within. fine (suc k) d (omega (arith, within))) place in
     λ j. here j || rest j
 
-rows_low : (inputs : ℕ) (on : Bool) (rows : List Cube) → All (IsFineRow inputs) rows → (place : ℕ) → rows_say on rows place ≡ rows_say on rows (place % 2 ^ inputs)
+rows_low : (inputs : ℕ) (on : Bool) (rows : List Cube) → All (IsFineRow inputs) rows → (place : ℕ) →
+    rows_say on rows place ≡ rows_say on rows (place % 2 ^ inputs)
 rows_low inputs true rows fine place = some_low inputs rows fine place
 rows_low inputs false rows fine place = ap not (some_low inputs rows fine place)
 
 -- a table for fewer than four inputs is repeated to 16 bits
-table_repeats : (cover : PlainWideCover) → All (IsFineRow (length cover.inputs)) cover.rows → length cover.inputs < 4 → Repeats (length cover.inputs) (tabled_cover cover).table
+table_repeats : (cover : PlainWideCover) → All (IsFineRow (length cover.inputs)) cover.rows → length cover.inputs < 4 →
+    Repeats (length cover.inputs) (tabled_cover cover).table
 table_repeats cover fine few place small =
     let inputs = length cover.inputs in
     let says = rows_say cover.on cover.rows in
@@ -80,20 +86,23 @@ table_repeats cover fine few place small =
 
 module _ (line : ℕ) (inputs : List ℕ) where
   -- the covers that stand for a table
-  narrow_small : (n table output fresh : ℕ) → (n ≤ 4 → table < 65536) → (4 ≤ n → table < 2 ^ 2 ^ n) → (cover : PlainCover) → Contains (narrow line inputs n table output fresh) cover → cover.table < 65536
+  narrow_small : (n table output fresh : ℕ) → (n ≤ 4 → table < 65536) → (4 ≤ n → table < 2 ^ 2 ^ n) → (cover : PlainCover) →
+      Contains (narrow line inputs n table output fresh) cover → cover.table < 65536
   narrow_small zero table output fresh few many = one_holds (λ (c : PlainCover). c.table < 65536) (cover_with line [] output table) (few (omega arith))
   narrow_small (suc n) table output fresh few many =
       let low : ℕ = low_half n table in
       let high : ℕ = high_half n table in
       elim (cases_Bool (nat_lt n 4)) [
-        | inl small ↦ rw small (one_holds (λ (c : PlainCover). c.table < 65536) (cover_with line (take (suc n) inputs) output table) (few (omega (arith, ltb-true n 4 small))))
+        | inl small ↦ rw small (one_holds (λ (c : PlainCover). c.table < 65536) (cover_with line (take (suc n) inputs) output table)
+            (few (omega (arith, ltb-true n 4 small))))
         | inr large ↦ (
             let more : 4 ≤ n = not_below n 4 large in
             let twice : 2 ^ suc n ≡ 2 ^ n + 2 ^ n = omega (arith, pow-suc 2 n) in
             let bound : table < 2 ^ (2 ^ n + 2 ^ n) = subst (λ k. table < 2 ^ k) twice (many (omega (arith, more))) in
             let low_bound : low < 2 ^ 2 ^ n = mod_below table (2 ^ 2 ^ n) (pow_pos (2 ^ n)) in
             let high_bound : high < 2 ^ 2 ^ n = shr_below table (2 ^ n) (2 ^ n) bound in
-            let at_four : (half : ℕ) → half < 2 ^ 2 ^ n → n ≤ 4 → half < 65536 = λ half below most. subst (λ k. half < 2 ^ 2 ^ k) (omega (arith, more, most)) below in
+            let at_four : (half : ℕ) → half < 2 ^ 2 ^ n → n ≤ 4 →
+            half < 65536 = λ half below most. let four : n ≡ 4 = omega (arith, more, most) in subst (λ k. half < 2 ^ 2 ^ k) four below in
             elim (cases_Bool (nat_eq low high)) [
               | inl same ↦ rw (large, same) (narrow_small n low output fresh (at_four low low_bound) (λ some. low_bound))
               | inr other ↦ rw (large, other) (
@@ -101,8 +110,10 @@ module _ (line : ℕ) (inputs : List ℕ) where
                   let first = narrow line inputs n low fresh (2 + fresh) in
                   let second = narrow line inputs n high (1 + fresh) later in
                   let choose = cover_with line (fresh ∷ (1 + fresh) ∷ get_or inputs n 0 ∷ []) output chooser in
-                  both_hold (λ (c : PlainCover). c.table < 65536) first (second ++ choose ∷ []) (narrow_small n low fresh (2 + fresh) (at_four low low_bound) (λ some. low_bound))
-                  (both_hold (λ (c : PlainCover). c.table < 65536) second (choose ∷ []) (narrow_small n high (1 + fresh) later (at_four high high_bound) (λ some. high_bound))
+                  both_hold (λ (c : PlainCover). c.table < 65536) first (second ++ choose ∷ []) (narrow_small n low fresh (2 + fresh) (at_four low low_bound)
+                  (λ some. low_bound))
+                  (both_hold (λ (c : PlainCover). c.table < 65536) second (choose ∷ []) (narrow_small n high (1 + fresh) later (at_four high high_bound)
+                  (λ some. high_bound))
                   (one_holds (λ (c : PlainCover). c.table < 65536) choose (omega arith))))
             ])
       ]
@@ -118,7 +129,8 @@ table_small cover =
 
 module _ (wide : PlainWide) where
   -- a cover with a table is one of the covers with rows
-  by_rows : (P : PlainCover → Type 0) → ((cover : PlainWideCover) → Contains wide.covers cover → P (tabled_cover cover)) → (cover : PlainCover) → Contains (tabled wide).covers cover → P cover
+  by_rows : (P : PlainCover → Type 0) → ((cover : PlainWideCover) → Contains wide.covers cover → P (tabled_cover cover)) → (cover : PlainCover) →
+      Contains (tabled wide).covers cover → P cover
   by_rows P each cover here =
       let (from, among, is) = from_mapped tabled_cover wide.covers cover here in
       subst P is (each from among)
@@ -128,7 +140,8 @@ module _ (wide : PlainWide) where
 
   pub split_is_made : IsWideMade wide → split_nets (tabled wide) ≤ most_nets → IsWellMade (split_of (tabled wide))
   split_is_made made fits =
-      split_made (tabled wide) made.wired fits (by_rows (λ cover. length cover.inputs < 4 → Repeats (length cover.inputs) cover.table) (λ cover here. table_repeats cover (made.rows cover here)))
+      split_made (tabled wide) made.wired fits (by_rows (λ cover. length cover.inputs < 4 → Repeats (length cover.inputs) cover.table)
+      (λ cover here. table_repeats cover (made.rows cover here)))
 
   pub split_is_acyclic : IsWideMade wide → HasNoCycle (tabled wide) → HasNoCycle (split_of (tabled wide))
   split_is_acyclic made = split_keeps_order (tabled wide) made.wired (at_most_16 made)
@@ -140,11 +153,11 @@ module _ (wide : PlainWide) where
   split_is_small made =
       all_of (λ cover. cover.table < 65536) (split_of (tabled wide)).covers
       (all_hold (λ cover. cover.table < 65536) (length wide.nets) (tabled wide).covers (length wide.nets) (omega arith)
-      (by_rows (λ cover. (at : ℕ) → length wide.nets ≤ at → (part : PlainCover) → Contains (parts cover at) part → part.table < 65536)
-      (λ cover here at above.
+      (by_rows (λ cover. (at : ℕ) → length wide.nets ≤ at → (part : PlainCover) → Contains (parts cover at) part → part.table < 65536) (λ cover here at above.
       narrow_small cover.line cover.inputs (length cover.inputs) (tabled_cover cover).table cover.output at
       (λ few. let four : max 4 (length cover.inputs) ≡ 4 = omega (arith, few) in subst (λ k. (tabled_cover cover).table < 2 ^ 2 ^ k) four (table_small cover))
-      (λ many. let all : max 4 (length cover.inputs) ≡ length cover.inputs = omega (arith, many) in subst (λ k. (tabled_cover cover).table < 2 ^ 2 ^ k) all (table_small cover)))))
+      (λ many. let all : max 4 (length cover.inputs) ≡ length cover.inputs = omega (arith, many) in subst (λ k. (tabled_cover cover).table < 2 ^ 2 ^ k) all
+      (table_small cover)))))
 
 -- a netlist without wide covers stays as it is
 pub split_same : (netlist : PlainNetlist) → HasAtMost 4 netlist → split_of netlist ≡ netlist
@@ -152,4 +165,5 @@ split_same = split_keeps_narrow
 
 -- how many nets there are
 pub split_many : (netlist : PlainNetlist) → length (split_of netlist).nets ≡ split_nets netlist
-split_many netlist = length-append netlist.nets (replicate (all_taken netlist.covers) []) ∙ ap (λ k. length netlist.nets + k) (length-replicate {A = List ℕ} (all_taken netlist.covers) [])
+split_many netlist = length-append netlist.nets (replicate (all_taken netlist.covers) []) ∙ ap (λ k. length netlist.nets + k)
+    (length-replicate {A = List ℕ} (all_taken netlist.covers) [])

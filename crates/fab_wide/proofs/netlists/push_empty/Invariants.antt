@@ -1,5 +1,5 @@
 use Rattle.std.proofs.Common.{◌≡◌, ◌++◌, [], replicate}
 use Rattle.fab_wide.proofs.netlists.push_empty.Given as goal
 
-abbrev pub invariant-loop-_name : goal.invariant-loop-_name
-invariant-loop-_name l = l.names.items ≡ l.fn.names.items ++ replicate l._name []
+abbrev pub invariant-loop-name : goal.invariant-loop-name
+invariant-loop-name l = l.names.items ≡ l.fn.names.items ++ replicate l._name []
