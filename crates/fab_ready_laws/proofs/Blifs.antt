@@ -26,7 +26,8 @@ use Rattle.fab_blif_models.specs.Words.{Word, kind_of, words}
 use Rattle.fab_netlist.specs.Plain.{PlainNetlist}
 use Rattle.fab_netlist.specs.Cycles.{HasNoCycle}
 use Rattle.fab_netlist.specs.WellMade.{most_nets}
-use Rattle.fab_instances.specs.Order.{NamesDiffer, RefusesNames}
+use Rattle.fab_instances.specs.Counting.{in_64_bits, instances, most_instances}
+use Rattle.fab_instances.specs.Order.{NamesDiffer, RefusesNames, construct, model_at}
 use Rattle.fab_instances.specs.Refusals.{AreFineModels, RefusesModels}
 use Rattle.fab_blif.specs.declared.clocks.WrongClock.{WrongClock}
 use Rattle.fab_blif.specs.declared.clocks.WrongClock.TheVariants as wrongs
@@ -115,29 +116,35 @@ malformed reason memory = cc
 unsupported : (word : Word) → IsOfContent (problems.Unsupported word)
 unsupported word memory = cc
 
-limit : {quantity : Quantity} {value bound : ℕ} → IsOfContent (problems.Limit quantity value bound)
-limit memory = cc
+limit : (quantity : Quantity) (value bound : ℕ) → IsOfContent (problems.Limit quantity value bound)
+limit quantity value bound memory = cc
 
 clock_content : (wrong : WrongClock) → IsOfContent (clock_problem wrong)
-clock_content wrongs.Undriven = malformed _
-clock_content wrongs.Data = unsupported _
-clock_content wrongs.Second = unsupported _
+clock_content wrongs.Undriven = malformed reasons.Undriven
+clock_content wrongs.Data = unsupported (codes "clock as data")
+clock_content wrongs.Second = unsupported (codes "second clock")
 
 names_told : (file : List ℕ) (last : ℕ) (models : List PlainModel) (fault : Fault) → RefusesNames file last models fault → IsTold fault
-names_told file last models fault (inl none) = by_line file _ _ fault none.1 (malformed reasons.NoModel)
-names_told file last models fault (inr twice) = by_line file _ _ fault twice.2 (malformed reasons.NameTwice)
+names_told file last models fault (inl none) = by_line file last (problems.Malformed reasons.NoModel) fault none.1 (malformed reasons.NoModel)
+names_told file last models fault (inr twice) =
+    by_line file (model_at models twice.0).line (problems.Malformed reasons.NameTwice) fault twice.2 (malformed reasons.NameTwice)
 
 models_told : (file : List ℕ) (last : ℕ) (models : List PlainModel) (fault : Fault) → RefusesModels file last models fault → IsTold fault
-models_told file last models fault (inl x) = by_line file _ _ fault x.3 (unsupported _)
-models_told file last models fault (inr (inl x)) = by_line file _ _ fault x.1.3 (unsupported _)
-models_told file last models fault (inr (inr (inl x))) = by_line file _ _ fault x.2.3 (malformed reasons.Formal)
-models_told file last models fault (inr (inr (inr x))) = by_line file _ _ fault x.3.1 limit
+models_told file last models fault (inl x) =
+    by_line file x.0 (problems.Unsupported (construct (codes "model") x.1)) fault x.3 (unsupported (construct (codes "model") x.1))
+models_told file last models fault (inr (inl x)) =
+    by_line file x.1.0 (problems.Unsupported (construct (codes "recursive model") x.1.1)) fault x.1.3 (unsupported (construct (codes "recursive model") x.1.1))
+models_told file last models fault (inr (inr (inl x))) = by_line file x.2.0 (problems.Malformed reasons.Formal) fault x.2.3 (malformed reasons.Formal)
+models_told file last models fault (inr (inr (inr x))) =
+    by_line file last (problems.Limit quantities.Instances (in_64_bits (instances models)) most_instances) fault x.3.1
+    (limit quantities.Instances (in_64_bits (instances models)) most_instances)
 
 design_told : (file : List ℕ) (last : ℕ) (design : PlainDesign) (fault : Fault) → RefusesDesign file last design fault → IsTold fault
-design_told file last design fault (inl x) = by_line file _ _ fault x.2 (malformed reasons.Drivers)
-design_told file last design fault (inr (inl x)) = by_line file _ _ fault x.1.2 (malformed reasons.Undriven)
-design_told file last design fault (inr (inr (inl x))) = by_line file _ _ fault x.2.1 limit
-design_told file last design fault (inr (inr (inr x))) = by_line file _ _ fault x.3.2 (clock_content x.3.0.wrong)
+design_told file last design fault (inl x) = by_line file x.0 (problems.Malformed reasons.Drivers) fault x.2 (malformed reasons.Drivers)
+design_told file last design fault (inr (inl x)) = by_line file x.1.0 (problems.Malformed reasons.Undriven) fault x.1.2 (malformed reasons.Undriven)
+design_told file last design fault (inr (inr (inl x))) =
+    by_line file last (problems.Limit quantities.Nets (length design.nets) most_nets) fault x.2.1 (limit quantities.Nets (length design.nets) most_nets)
+design_told file last design fault (inr (inr (inr x))) = by_line file x.3.0.line (clock_problem x.3.0.wrong) fault x.3.2 (clock_content x.3.0.wrong)
 
 -- ---- the file
 
