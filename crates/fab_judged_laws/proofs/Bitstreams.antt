@@ -1,5 +1,5 @@
 -- Words are the bitstream of some configuration bits of a fabric, or one of them is the first that is refused.
-use Rattle.std.proofs.Common.{◌≡◌, ◌<◌, ◌≤◌, ◌+◌, ◌^◌, ◌⊎◌, ℕ, zero, suc, Bool, false, List, [], ◌∷◌, Option, Some, None, All, length, map, get_or, refl, sym, ap, ◌∙◌, subst, arith, inl, inr}
+use Rattle.std.proofs.Common.{◌≡◌, ◌<◌, ◌≤◌, ◌+◌, ◌^◌, ◌⊎◌, ℕ, zero, suc, Bool, false, List, [], ◌∷◌, Option, Some, None, All, length, map, get_or, refl, sym, ap, ◌∙◌, arith, inl, inr}
 use Rattle.std.specs.Prelude.{slice_get, option_map}
 use Rattle.std.specs.Option.{option_and_then, option_map_or}
 use Rattle.std.proofs.lemmas.Bool.{cases_lt}
@@ -12,8 +12,8 @@ use Rattle.fab_base.specs.Reading.{fault_at}
 use Rattle.fab_model.specs.Tiles.{PlainTile, counted, tile_bits}
 use Rattle.fab_model.specs.Grid.{PlainFabric, tile_at}
 use Rattle.fab_fabric.specs.Fabric.{IsFabric}
-use Rattle.fab_fabric.specs.Bits.{plain_bits, column_bits, place_bits, bits_at, AreBitsOf}
-use Rattle.fab_frames.specs.Stream.{Part, of_row, parts, stream, bit_placed_at, placed_bit, word_bit, problem_of, problem_at, IsFirstWrong}
+use Rattle.fab_fabric.specs.Bits.{plain_bits, column_bits, place_bits, AreBitsOf}
+use Rattle.fab_frames.specs.Stream.{of_row, parts, stream, placed_bit, word_bit, problem_of, problem_at, IsFirstWrong}
 use Rattle.fab_frames.specs.Refusals.{IsStreamRefusal}
 use Rattle.fab_frames.proofs.ByteWords.{all_fit}
 use Rattle.fab_frames.proofs.Lists.{length_counted}

@@ -2,7 +2,7 @@
 use Rattle.std.proofs.Common.{◌≡◌, ◌⊎◌, ℕ, List, Option, Some, None, Result, Ok, Err, refl, inl, inr}
 use Rattle.fab_base.specs.declared.fault.Fault.{Fault}
 use Rattle.fab_desk.specs.Files.{Map}
-use Rattle.fab_files.specs.Files.{handed_out, Event, refuses}
+use Rattle.fab_files.specs.Files.{handed_out, Event}
 use Rattle.fab_files.specs.Stages.{ReadsFrom, MeetsIn, of_file, of_bytes, ReadsIfNamed, MeetsIfNamed, MeetsBehind, at_first, behind_it, MeetsLast}
 use Rattle.fab_judged_laws.specs.Judged.{IsSpelledOrRefused, IsReadyOrRefused}
 

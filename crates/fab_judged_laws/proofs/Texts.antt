@@ -3,7 +3,7 @@ use Rattle.std.proofs.Common.{◌≡◌, ◌⊎◌, ℕ, List, Option, Some, Non
 use Rattle.fab_base.specs.declared.fault.Fault.{Fault}
 use Rattle.fab_base.specs.declared.problem.Problem.{Problem}
 use Rattle.fab_base.specs.Reading.{fault_at}
-use Rattle.fab_lines.specs.Order.{IsFine, IsFirst, IsFirstRefusal, IsFirstFault, Format, IsWhole, IsRefusal, IsTextFault}
+use Rattle.fab_lines.specs.Order.{IsFine, IsFirst, IsFirstRefusal, Format, IsWhole, IsRefusal, IsTextFault}
 use Rattle.fab_lines.proofs.Judging.{fine_or_refused}
 use Rattle.fab_judged_laws.specs.Judged.{JudgesLines, JudgesTexts}
 

@@ -1,5 +1,5 @@
 -- A BLIF file spells a netlist, or it has a first refusal.
-use Rattle.std.proofs.Common.{◌≡◌, ◌≢◌, ◌<◌, ◌≤◌, ◌⊎◌, ℕ, Bool, true, false, ◌&&◌, not, List, ◌++◌, map, length, Option, Some, None, if◌then◌else◌, refl, sym, ap, ◌∙◌, inl, inr}
+use Rattle.std.proofs.Common.{◌≡◌, ◌≢◌, ◌<◌, ◌⊎◌, ℕ, Bool, true, false, ◌&&◌, not, List, ◌++◌, map, length, Option, Some, None, if◌then◌else◌, refl, sym, ap, ◌∙◌, inl, inr}
 use Rattle.std.specs.Prelude.{codes}
 use Rattle.std.specs.Str.{bytes_eq}
 use Rattle.std.proofs.lemmas.Bool.{cases_lt}
@@ -23,8 +23,6 @@ use Rattle.fab_blif_models.specs.Context.{Context, context_of}
 use Rattle.fab_blif_models.specs.Judge.{judge, construct_problem, has_type, is_wide, malformed_by, on_both_sides, port_problem, problem_of}
 use Rattle.fab_blif_models.specs.Plain.{PlainModel}
 use Rattle.fab_blif_models.specs.Words.{Word, kind_of, words}
-use Rattle.fab_netlist.specs.Plain.{PlainNetlist}
-use Rattle.fab_netlist.specs.Cycles.{HasNoCycle}
 use Rattle.fab_netlist.specs.WellMade.{most_nets}
 use Rattle.fab_instances.specs.Counting.{in_64_bits, instances, most_instances}
 use Rattle.fab_instances.specs.Order.{NamesDiffer, RefusesNames, construct, model_at}

@@ -1,5 +1,5 @@
 -- An implementation uses none of some columns, or something is the first that stands in the way.
-use Rattle.std.proofs.Common.{◌≡◌, ◌<◌, ◌⊎◌, ℕ, zero, suc, Bool, true, false, List, [], ◌∷◌, ◌++◌, All, Contains, Option, Some, None, length, refl, sym, ap, ◌∙◌, subst, arith, inl, inr}
+use Rattle.std.proofs.Common.{◌≡◌, ◌<◌, ◌⊎◌, ℕ, Bool, true, false, List, [], ◌∷◌, ◌++◌, All, Contains, Some, refl, sym, ap, ◌∙◌, subst, arith, inl, inr}
 use Rattle.std.specs.List.{flat_map}
 use Rattle.std.proofs.lemmas.Bool.{cases_Bool, cases_eq, cases_lt}
 use Rattle.std.proofs.lemmas.List.Elements.{All-cons, All-head, All-nil, All-tail, All-weaker}
@@ -7,10 +7,9 @@ use Rattle.fab_select.specs.declared.pair.Pair.{Pair}
 use Rattle.fab_model.specs.Tiles.{PlainTile, output_field}
 use Rattle.fab_model.specs.Grid.{PlainFabric, tile_at}
 use Rattle.fab_fabric.specs.Fabric.{AreTiles, wires_at, wire_count}
-use Rattle.fab_fabric.specs.Wires.{wire_index, numbered_wire}
+use Rattle.fab_fabric.specs.Wires.{wire_index}
 use Rattle.fab_fabric.specs.Names.{site_text}
 use Rattle.fab_fabric.specs.declared.wire.Site.{Site}
-use Rattle.fab_fabric.specs.declared.wire.Wire.{Wire}
 use Rattle.fab_fabric.proofs.Numbered.{some_place, wired_tile}
 use Rattle.fab_implementation.specs.Plain.{Edge, PlainImplementation, PlainTree}
 use Rattle.fab_partial.specs.Use.{IsUsedEdge, AreUnused, IsFirst, all_edges, IsUse, of_cell, of_edge}

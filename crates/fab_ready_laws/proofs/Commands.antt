@@ -1,5 +1,5 @@
 -- Each command is ready, or it has a first refusal: the commands that read no netlist.
-use Rattle.std.proofs.Common.{◌≡◌, ◌<◌, ◌≤◌, ◌⊎◌, ℕ, Bool, true, false, List, All, Option, Some, None, Result, Ok, Err, refl, sym, ap, ◌∙◌, subst, arith, inl, inr}
+use Rattle.std.proofs.Common.{◌≡◌, ◌<◌, ◌≤◌, ◌⊎◌, ℕ, Bool, true, false, List, All, Option, Some, None, Result, Ok, Err, refl, subst, inl, inr}
 use Rattle.std.specs.Prelude.{decimal, length, nat_lt, if◌then◌else◌}
 use Rattle.std.specs.Str.{is_utf8}
 use Rattle.std.specs.Str.Lines.{lines}
@@ -11,10 +11,9 @@ use Rattle.fab_base.specs.declared.problem.Problem.TheVariants as problems
 use Rattle.fab_base.specs.declared.words.Quantity.TheVariants as quantities
 use Rattle.fab_base.specs.Reading.{fault_at}
 use Rattle.fab_desk.specs.Files.{Map}
-use Rattle.fab_files.specs.Files.{standing, given, needed, handed_out}
+use Rattle.fab_files.specs.Files.{given, needed, handed_out}
 use Rattle.fab_model.specs.Grid.{PlainFabric}
 use Rattle.fab_fabric.specs.Fabric.{AreTiles, IsFabric}
-use Rattle.fab_fabric.specs.Bits.{AreBitsOf, plain_bits}
 use Rattle.fab_lines.specs.Counts.{last_line}
 use Rattle.fab_texts.specs.Rows.{rows_of}
 use Rattle.fab_implementation.specs.Plain.{PlainImplementation}
@@ -22,20 +21,16 @@ use Rattle.fab_impl.specs.Lines.{known}
 use Rattle.fab_impl.specs.Spelled.{implementation_format, implementation_of}
 use Rattle.fab_impl.proofs.Spelled.{whole_spells}
 use Rattle.fab_texts.specs.Rows.{words_of}
-use Rattle.fab_legal.specs.Turns.{AreRight}
 use Rattle.fab_fasm.specs.declared.feature.Feature.{Feature}
-use Rattle.fab_frames.specs.Refusals.{IsCut}
-use Rattle.fab_outputs.specs.Bitstreams.{AreBytesOf}
 use Rattle.fab_partial.specs.Columns.{lies_within}
 use Rattle.fab_read.specs.Fabrics.{SpellsFabric, MeetsFabric}
 use Rattle.fab_designs.specs.Implementations.{SpellsImplementation, RefusesImplementation, ReadsImplementation, MeetsImplementation}
 use Rattle.fab_spelled_fabrics_laws.specs.Laws.{SpelledFabricsAreFabrics, SpelledFabricsHaveTiles}
 use Rattle.fab_flow.specs.Generating.{text_length, most_text_bytes, IsTooLong, MeetsGenerate, IsReadyToGenerate}
-use Rattle.fab_flow.specs.Bits.{BitsFiles, ReadsFeatures, MeetsFeatures, RefusesBits, illegal, MeetsBitsBehind, MeetsBits, IsReadyForBits}
-use Rattle.fab_flow.specs.BitFeatures.{FeaturesFiles, SpellsBits, ReadsBits, RefusesBitstream, cut, wrong, MeetsBitstream, MeetsBitFeatures, IsReadyForFeatures}
+use Rattle.fab_flow.specs.Bits.{BitsFiles, ReadsFeatures, MeetsFeatures, RefusesBits, illegal, MeetsBits, IsReadyForBits}
+use Rattle.fab_flow.specs.BitFeatures.{FeaturesFiles, SpellsBits, RefusesBitstream, cut, wrong, MeetsBitstream, MeetsBitFeatures, IsReadyForFeatures}
 use Rattle.fab_flow.specs.Partial.{PartialFiles, RefusesPartial, too_far, in_use, MeetsContent, MeetsRunning, MeetsPartial, IsReadyToExchange}
 use Rattle.fab_flow.specs.Partial.{wrong as wrong_feature}
-use Rattle.fab_features.specs.Wrong.{IsRightFeature}
 use Rattle.fab_judged_laws.specs.Judged.{HoldBytes, IsSpelledOrRefused, IsReadyOrRefused}
 use Rattle.fab_judged_laws.proofs.Bitstreams.{words_judged}
 use Rattle.fab_judged_laws.proofs.Bytes.{bytes_judged}
@@ -43,7 +38,7 @@ use Rattle.fab_judged_laws.proofs.Fabrics.{fabric_judged}
 use Rattle.fab_judged_laws.proofs.FeatureTexts.{fasm_judged}
 use Rattle.fab_judged_laws.proofs.Stages.{file_judged, in_turn, at_last}
 use Rattle.fab_judged_laws.proofs.Texts.{texts_judged}
-use Rattle.fab_ready_laws.proofs.Columns.{HasUse, use_judged}
+use Rattle.fab_ready_laws.proofs.Columns.{use_judged}
 use Rattle.fab_ready_laws.proofs.FeatureLists.{features_judged}
 
 -- ---- files that several commands read

@@ -5,7 +5,7 @@ use Rattle.fab_base.specs.declared.fault.Fault.{Fault}
 use Rattle.fab_base.specs.declared.fault.Fault.TheVariants as faults
 use Rattle.fab_netlist.specs.Plain.{PlainNetlist, cover_at}
 use Rattle.fab_netlist.specs.WellMade.{times}
-use Rattle.fab_netlist.specs.Cycles.{Reads, ReadsOn, IsCycle, IsOneCycle, HasNoCycle, ComesFirst, IsNamed, NamesCycle, cycle_words}
+use Rattle.fab_netlist.specs.Cycles.{Reads, ReadsOn, IsOneCycle, HasNoCycle, ComesFirst, IsNamed, NamesCycle, cycle_words}
 use Rattle.fab_netlist.proofs.Ranks.{below_in, places_below}
 use Rattle.fab_netlist.proofs.Rounds.{named_from}
 use Rattle.fab_ready_laws.proofs.Decisions.{IsDecided, behind, both, in_front, listed_decided, some_decided}

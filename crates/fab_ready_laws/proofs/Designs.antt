@@ -11,10 +11,10 @@ use Rattle.fab_netlist.specs.Packed.{PlainPacked}
 use Rattle.fab_netlist.specs.Packing.{packed, packing, works}
 use Rattle.fab_netlist.specs.Plain.{PlainNetlist}
 use Rattle.fab_netlist.specs.Resets.{netlist_with, reset_place}
-use Rattle.fab_netlist.specs.WellMade.{IsWellMade, ports}
+use Rattle.fab_netlist.specs.WellMade.{ports}
 use Rattle.fab_netlist.proofs.Resetting.{made_with}
 use Rattle.fab_implementation.specs.Plain.{Pad, PlainImplementation}
-use Rattle.fab_files.specs.Stages.{ReadsFrom, ReadsIfNamed, MeetsLast}
+use Rattle.fab_files.specs.Stages.{ReadsFrom, MeetsLast}
 use Rattle.fab_texts.specs.Rows.{rows_of, words_of}
 use Rattle.fab_legal.specs.WellMade.{PackedIsWellMade}
 use Rattle.fab_state.specs.Constraints.{constraint_format, data_ports, fixed}
@@ -22,7 +22,7 @@ use Rattle.fab_state.proofs.FixingsBack.{spelled_by_reading}
 use Rattle.fab_read.specs.Fabrics.{SpellsFabric, MeetsFabric}
 use Rattle.fab_designs.specs.Designs.{DesignFiles, PlainDesign, SpellsNetlist, SpellsConstraints, SpellsDesign, MeetsNetlist, RefusesConstraints, MeetsConstraints, MeetsBehindFabric, MeetsDesign}
 use Rattle.fab_designs.specs.Implementations.{ReadsImplementation, MeetsImplementation}
-use Rattle.fab_spelled_designs_laws.specs.DesignLaws.{IsSound, SpelledDesignsAreSound}
+use Rattle.fab_spelled_designs_laws.specs.DesignLaws.{SpelledDesignsAreSound}
 use Rattle.fab_flow.specs.Resetting.{HasReset, LacksReset}
 use Rattle.fab_flow.specs.Assembling.{AssemblyFiles, packing_for, Fits, RefusesAssembly, no_input, unfit, short, illegal, MeetsBehindDesign, MeetsAssembly, IsReadyToAssemble}
 use Rattle.fab_flow.specs.Flowing.{FlowFiles, used, RefusesFlow, MeetsFlow, IsReadyToFlow}

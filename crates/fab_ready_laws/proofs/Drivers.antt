@@ -1,6 +1,6 @@
 -- A design is fine, or it has a first refusal.
-use Rattle.std.proofs.Common.{◌≡◌, ◌<◌, ◌≤◌, ◌⊎◌, ◌+◌, ℕ, zero, suc, Bool, true, false, cond, List, [], ◌∷◌, length, Contains, Option, Some, None, nat_eq, nat_le, if◌then◌else◌, refl, sym, ap, subst, ◌∙◌, arith, inl, inr, eqb-true}
-use Rattle.std.specs.List.{count_by, filter, list_any}
+use Rattle.std.proofs.Common.{◌≡◌, ◌≤◌, ◌⊎◌, ◌+◌, ℕ, suc, Bool, true, false, cond, List, [], ◌∷◌, length, Contains, Option, Some, None, nat_le, if◌then◌else◌, refl, ap, subst, arith, inl, inr, eqb-true}
+use Rattle.std.specs.List.{count_by, list_any}
 use Rattle.std.proofs.lemmas.Bool.{cases_Bool, cases_lt}
 use Rattle.std.proofs.lemmas.Bool.Decides.{nat_tests}
 use Rattle.fab_base.specs.Reading.{fault_at}

@@ -1,5 +1,5 @@
 -- Features are right on a fabric, or one of them is the first that is wrong.
-use Rattle.std.proofs.Common.{◌≡◌, ◌<◌, ◌≤◌, ◌⊎◌, ℕ, zero, suc, List, [], ◌∷◌, take, Contains, Option, Some, None, refl, sym, ap, ◌∙◌, arith, inl, inr}
+use Rattle.std.proofs.Common.{◌≡◌, ◌≤◌, ◌⊎◌, ℕ, zero, suc, List, [], ◌∷◌, take, Contains, Option, Some, None, refl, sym, ap, ◌∙◌, arith, inl, inr}
 use Rattle.std.proofs.lemmas.Bool.{cases_eq, cases_lt}
 use Rattle.fab_model.specs.Grid.{PlainFabric}
 use Rattle.fab_legal.specs.Turns.{AreRight}
@@ -7,13 +7,12 @@ use Rattle.fab_fasm.specs.declared.feature.Feature.{Feature}
 use Rattle.fab_features.specs.Features.{Chooses}
 use Rattle.fab_features.specs.Said.{said_of, choice}
 use Rattle.fab_features.specs.Wrong.{said_width, IsFeature, Agrees, IsRightFeature, BreaksBehind, unknown, contrary, BreaksFirst}
-use Rattle.fab_features.specs.declared.said.BelField.{BelField}
 use Rattle.fab_features.specs.declared.said.Choice.{Choice}
 use Rattle.fab_features.specs.declared.said.Said.{Said}
 use Rattle.fab_features.specs.declared.said.Said.TheVariants as said
 use Rattle.fab_features.proofs.Saids.{one_choice, no_both}
 use Rattle.fab_ready_laws.proofs.Decisions.{IsDecided, behind, in_front}
-use Rattle.fab_ready_laws.proofs.Turns.{HasWrong, right_or_wrong}
+use Rattle.fab_ready_laws.proofs.Turns.{right_or_wrong}
 
 module _ (fabric : PlainFabric) where
   -- ---- what a feature says

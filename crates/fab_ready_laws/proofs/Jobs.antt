@@ -1,5 +1,5 @@
 -- Each job is ready, or it has a first refusal.
-use Rattle.std.proofs.Common.{ℕ, inl}
+use Rattle.std.proofs.Common.{inl}
 use Rattle.fab_desk.specs.Files.{Map}
 use Rattle.fab_meaning.specs.Sound.{PointsOfSoundTextsHaveOneDriver}
 use Rattle.fab_legal.specs.WellMade.{PackedIsWellMade}

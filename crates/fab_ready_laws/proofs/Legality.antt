@@ -1,5 +1,5 @@
 -- An implementation is legal, or a rule is the first that it breaks.
-use Rattle.std.proofs.Common.{◌⊎◌, ℕ, List, inl, inr}
+use Rattle.std.proofs.Common.{List, inl, inr}
 use Rattle.fab_model.specs.Grid.{PlainFabric}
 use Rattle.fab_fabric.specs.Fabric.{AreTiles}
 use Rattle.fab_netlist.specs.Packed.{PlainPacked}
@@ -7,8 +7,8 @@ use Rattle.fab_implementation.specs.Plain.{Pad, PlainImplementation}
 use Rattle.fab_implementation.specs.OnFabric.{IsOnFabric}
 use Rattle.fab_legal.specs.WellMade.{IsWellMadePacked}
 use Rattle.fab_legal.specs.Lines.{CellsHaveSites, SitesDiffer, ConstraintsHold}
-use Rattle.fab_legal.specs.Legal.{ArePlaced, EdgesAreSteps, WiresAreReached, NetsBeginRight, SinksStand, IsLegal}
-use Rattle.fab_legal.specs.Broken.{IsFirstBroken, rule_1, rule_2, rule_3, rule_4, rule_5, rule_6, rule_7, rule_8, rule_9}
+use Rattle.fab_legal.specs.Legal.{ArePlaced, EdgesAreSteps, WiresAreReached, NetsBeginRight, SinksStand}
+use Rattle.fab_legal.specs.Broken.{rule_1, rule_2, rule_3, rule_4, rule_5, rule_6, rule_7, rule_8, rule_9}
 use Rattle.fab_ways_laws.specs.Laws.{EndsAreSteps}
 use Rattle.fab_ready_laws.proofs.NetRules.{steps_judged, entries_judged, nets_judged, sinks_judged, shared_judged}
 use Rattle.fab_ready_laws.proofs.Placements.{cells_judged, sites_judged, ports_judged, constraints_judged}

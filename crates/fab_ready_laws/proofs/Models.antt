@@ -1,9 +1,9 @@
 -- Models are fine, or they have a first refusal.
-use Rattle.std.proofs.Common.{◌≡◌, ◌<◌, ◌≤◌, ◌⊎◌, ◌+◌, ℕ, zero, suc, Bool, true, false, List, [], ◌∷◌, ◌++◌, map, length, get_or, Contains, Option, Some, None, refl, sym, ap, subst, ◌∙◌, arith, inl, inr}
+use Rattle.std.proofs.Common.{◌≡◌, ◌<◌, ◌⊎◌, ◌+◌, ℕ, zero, suc, Bool, true, false, List, [], ◌∷◌, ◌++◌, map, length, get_or, Option, Some, None, refl, ap, subst, arith, inl, inr}
 use Rattle.std.specs.Prelude.{codes}
 use Rattle.std.specs.List.{list_any}
 use Rattle.std.specs.Str.{bytes_eq}
-use Rattle.std.proofs.lemmas.Bool.{cases_Bool, cases_eq, cases_lt}
+use Rattle.std.proofs.lemmas.Bool.{cases_eq, cases_lt}
 use Rattle.std.proofs.lemmas.List.{length-map}
 use Rattle.fab_base.specs.Reading.{fault_at}
 use Rattle.fab_base.specs.declared.fault.Fault.{Fault}
@@ -16,7 +16,7 @@ use Rattle.fab_instances.specs.Formals.{HasPorts, port_names}
 use Rattle.fab_instances.specs.Order.{BreaksFormals, IsFirstAgain, IsLeast, IsLeastFound, IsRecursive, IsUnknown, NamesDiffer, NoLine, RefusesNames, construct, is_again, model_at}
 use Rattle.fab_instances.specs.Places.{model_names, no_model, statements_of}
 use Rattle.fab_instances.specs.Refusals.{AreFineModels, RefusesModels}
-use Rattle.fab_instances.specs.Uses.{Found, IsMarked, IsUsed, MarksUsed, MarksUses, Uses, UsesAt, breaking_in, directly, inner_of, instance_in, lines_before, sooner, soonest_of, through, unknown_in}
+use Rattle.fab_instances.specs.Uses.{Found, IsUsed, MarksUsed, MarksUses, Uses, UsesAt, breaking_in, directly, inner_of, instance_in, lines_before, sooner, soonest_of, through, unknown_in}
 use Rattle.fab_instances.specs.inner.Ranks.{IsRecursiveAt}
 use Rattle.fab_instances.proofs.Fitting.{breaking_found}
 use Rattle.fab_instances.proofs.Found.{unknown_found}

@@ -1,5 +1,5 @@
 -- The edges and nets of an implementation are right, or there is a first item that is not.
-use Rattle.std.proofs.Common.{◌≡◌, ◌≢◌, ◌<◌, ◌≤◌, ◌⊎◌, ◌++◌, ◌↔◌, ℕ, zero, suc, Bool, true, false, List, length, map, take, All, Contains, Option, Some, None, refl, sym, ap, ◌∙◌, subst, arith, inl, inr}
+use Rattle.std.proofs.Common.{◌≡◌, ◌≢◌, ◌<◌, ◌≤◌, ◌⊎◌, ◌++◌, ℕ, zero, suc, Bool, true, false, List, length, map, take, All, Contains, Option, Some, None, refl, sym, ap, ◌∙◌, subst, arith, inl, inr}
 use Rattle.std.specs.Prelude.{codes, slice_get, if◌then◌else◌}
 use Rattle.std.specs.Str.{bytes_eq}
 use Rattle.std.proofs.lemmas.Bool.{cases_eq, cases_lt}
@@ -10,7 +10,7 @@ use Rattle.fab_model.specs.Grid.{PlainFabric, tile_at}
 use Rattle.fab_model.specs.Rows.{is_jump, is_named}
 use Rattle.fab_model.specs.Tiles.{PlainTile}
 use Rattle.fab_model.specs.Wires.{PlainWire, source_of, dest_of, pin_of}
-use Rattle.fab_model.specs.Drive.{PlainDrive, zero_bit, one_bit, constant}
+use Rattle.fab_model.specs.Drive.{zero_bit, one_bit, constant}
 use Rattle.fab_fabric.specs.Fabric.{AreTiles, wire_count}
 use Rattle.fab_fabric.specs.Wires.{numbered_wire, IsIndexOf}
 use Rattle.fab_fabric.specs.declared.wire.Site.{Site}
@@ -21,13 +21,13 @@ use Rattle.fab_netlist.specs.Packed.{PlainPacked}
 use Rattle.fab_netlist.specs.Plain.{IsAt}
 use Rattle.fab_implementation.specs.Plain.{Edge, PlainTree, PlainImplementation}
 use Rattle.fab_implementation.specs.OnFabric.{HasWires, IsOnFabric}
-use Rattle.fab_legal.specs.Turns.{FirstAreRight, AreRight, IsFirstWrong}
+use Rattle.fab_legal.specs.Turns.{AreRight, IsFirstWrong}
 use Rattle.fab_legal.specs.WellMade.{IsWellMadePacked}
-use Rattle.fab_legal.specs.Lines.{IsCell, IsInput, CellsHaveSites, PortsHavePads}
+use Rattle.fab_legal.specs.Lines.{CellsHaveSites, PortsHavePads}
 use Rattle.fab_legal.specs.Steps.{IsStep, IsConstant, bit_drive, pin_wire}
 use Rattle.fab_legal.specs.Nets.{Net, zero_net, one_net, port_net, cell_net, net_of, left_wires, entered_wires, StandsIn, IsRightStep, IsRightEntry, IsNet, IsSource, IsRoot, IsRightStart, IsRightName, IsRightNet}
-use Rattle.fab_legal.specs.Sinks.{sinks, packed_net, named_sink, Required}
-use Rattle.fab_legal.specs.Legal.{HasRightSteps, HasRightEntries, EdgesAreSteps, WiresAreReached, NetsBeginRight, SinksStand, IsApart, NetsAreApart}
+use Rattle.fab_legal.specs.Sinks.{sinks, packed_net, named_sink}
+use Rattle.fab_legal.specs.Legal.{EdgesAreSteps, WiresAreReached, NetsBeginRight, SinksStand, IsApart, NetsAreApart}
 use Rattle.fab_legal.specs.Broken.{net_text, IsEdgeItem, IsStepItem, IsEntryItem, IsNetItem, name, start, StandsInItsNet, IsSinkItem, IsSharedItem}
 use Rattle.fab_legal.proofs.Lists.{wrong_not_right}
 use Rattle.fab_legal.proofs.Members.{from_mapped}

@@ -1,13 +1,11 @@
 -- The command `simulate` is ready, or it has a first refusal.
-use Rattle.std.proofs.Common.{ℕ, Bool, List, All, Ok, refl, inl, inr}
+use Rattle.std.proofs.Common.{ℕ, List, refl, inl, inr}
 use Rattle.std.proofs.lemmas.Bool.{cases_lt}
 use Rattle.fab_base.specs.declared.fault.Fault.{Fault}
-use Rattle.fab_base.specs.declared.fault.Fault.TheVariants as faults
 use Rattle.fab_base.specs.declared.problem.Problem.TheVariants as problems
 use Rattle.fab_base.specs.declared.words.Quantity.TheVariants as quantities
 use Rattle.fab_base.specs.Reading.{fault_at}
 use Rattle.fab_desk.specs.Files.{Map}
-use Rattle.fab_files.specs.Files.{handed_out}
 use Rattle.fab_lines.specs.Counts.{last_line}
 use Rattle.fab_syntax.specs.Plain.{PlainModule}
 use Rattle.fab_syntax.specs.Sound.{IsSound}
@@ -19,13 +17,13 @@ use Rattle.fab_frames.specs.Refusals.{IsCut}
 use Rattle.fab_texts.specs.Rows.{rows_of, words_of}
 use Rattle.fab_state.specs.Plain.{PlainState}
 use Rattle.fab_state.specs.Lines.{known}
-use Rattle.fab_state.specs.Spelled.{Spells, Says, state_of, state_format}
+use Rattle.fab_state.specs.Spelled.{state_of, state_format}
 use Rattle.fab_state.proofs.Spelled.{whole_spells}
 use Rattle.fab_stimulus.specs.Stimuli.{ports_of, stimulus_format}
 use Rattle.fab_stimulus.specs.Stimuli.{known as stimulus_known}
 use Rattle.fab_stimulus.proofs.Once.{ins_apart}
 use Rattle.fab_stimulus.proofs.Spelling.{whole_spells as stimulus_spells}
-use Rattle.fab_simulate_command.specs.Simulating.{SimulationFiles, SpellsDevice, ReadsDevice, RefusesDevice, misspelled, unfit, MeetsDevice, SpellsWords, ReadsWords, MeetsWords, HasPoints, SpellsState, ReadsState, at_line, RefusesState, absent, MeetsState, SpellsStimulus, ReadsStimulus, RefusesStimulus, MeetsStimulus, MeetsBehindWords, MeetsBehindDevice, MeetsSimulation, IsReadyToSimulate}
+use Rattle.fab_simulate_command.specs.Simulating.{SimulationFiles, SpellsDevice, ReadsDevice, RefusesDevice, misspelled, unfit, MeetsDevice, SpellsWords, ReadsWords, MeetsWords, SpellsState, ReadsState, at_line, RefusesState, absent, MeetsState, SpellsStimulus, RefusesStimulus, MeetsStimulus, MeetsBehindWords, MeetsBehindDevice, MeetsSimulation, IsReadyToSimulate}
 use Rattle.fab_judged_laws.specs.Judged.{HoldBytes, IsSpelledOrRefused, IsReadyOrRefused}
 use Rattle.fab_judged_laws.proofs.Bytes.{bytes_judged}
 use Rattle.fab_judged_laws.proofs.Stages.{file_judged, in_turn}

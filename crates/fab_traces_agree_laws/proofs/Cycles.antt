@@ -1,5 +1,5 @@
 -- Cycle by cycle an ordered simulation goes on in one way.
-use Rattle.std.proofs.Common.{◌≡◌, ◌≢◌, ◌⊎◌, ◌+◌, ◌-◌, ℕ, zero, suc, Bool, true, false, List, [], ◌∷◌, map, length, codes, All, Contains, Some, refl, sym, ap, ◌∙◌, subst, inl, inr}
+use Rattle.std.proofs.Common.{◌≡◌, ◌≢◌, ◌+◌, ◌-◌, ℕ, zero, suc, Bool, true, false, List, [], ◌∷◌, map, length, codes, Some, refl, sym, ap, ◌∙◌, subst, inl, inr}
 use Rattle.std.specs.List.{AllZip}
 use Rattle.std.specs.Str.{bytes_eq}
 use Rattle.std.proofs.lemmas.Bool.{cases_Bool, false≢true}
@@ -7,13 +7,12 @@ use Rattle.std.proofs.lemmas.List.Elements.{All-head, All-tail}
 use Rattle.std.proofs.lemmas.Slice.Eq.{bytes_eq-Decides}
 use Rattle.fab_syntax.specs.Plain.{PlainModule}
 use Rattle.fab_syntax.specs.Sound.{IsSound}
-use Rattle.fab_systems_laws.specs.Ternary.{known}
 use Rattle.fab_draws.specs.Draws.{behind}
 use Rattle.fab_draws.specs.Shuffled.{shuffled}
 use Rattle.fab_meaning.specs.Points.{Point, Driver, outside, copy, bit_of, flop, hold, Drives}
 use Rattle.fab_meaning.specs.Reads.{is_declared}
 use Rattle.fab_meaning.specs.Runs.{user_clock_name}
-use Rattle.fab_meaning.specs.Loading.{LoadsAgree, LoadingPointsStay, IsLoading}
+use Rattle.fab_meaning.specs.Loading.{LoadsAgree, LoadingPointsStay}
 use Rattle.fab_meaning.specs.Sound.{PointsOfSoundTextsHaveOneDriver}
 use Rattle.fab_meaning.specs.Activation.{State, activate, IsStep, AreSteps}
 use Rattle.fab_equations.specs.Instances.{points}
@@ -22,13 +21,12 @@ use Rattle.fab_equations.proofs.Points.{declared_are_points}
 use Rattle.fab_load_runs_laws.specs.Runs.{LoadingIsDecided}
 use Rattle.fab_implementation.specs.Plain.{Pad}
 use Rattle.fab_simulation_laws.specs.Laws.{AreShown}
-use Rattle.fab_simulation_laws.specs.Simulation.{given}
 use Rattle.fab_simulation_laws.specs.fab_state_Plain.{PlainState}
 use Rattle.fab_simulation_laws.specs.fab_use_defs_Sites.{top_point}
 use Rattle.fab_prim.specs.Ports.{top_name}
 use Rattle.fab_solutions_laws.specs.Laws.{LeastSolutionsAgree}
-use Rattle.fab_ordering_laws.specs.Ordered.{Moment, AreDrawn, IsNamedInput, IsFreeInput, IsBegun, IsOrderedBlock, ChangesKnown, AreOrderedBlocks, enough, last, more, IsEnd, IsOrderedCycle, AreOrderedCycles, none, after, SimulatesInOrder}
-use Rattle.fab_traces_agree_laws.specs.Laws.{IsSimulable, OrderedSimulationsAgree}
+use Rattle.fab_ordering_laws.specs.Ordered.{Moment, AreDrawn, IsNamedInput, IsFreeInput, IsBegun, IsOrderedBlock, ChangesKnown, AreOrderedBlocks, enough, last, more, IsOrderedCycle, AreOrderedCycles, none, after}
+use Rattle.fab_traces_agree_laws.specs.Laws.{OrderedSimulationsAgree}
 use Rattle.fab_traces_agree_laws.proofs.Drawn.{AreSame, drawn_once}
 use Rattle.fab_traces_agree_laws.proofs.Starts.{listed_or_not, loads_or_not, start_alike, start_drawn, start_order}
 use Rattle.fab_traces_agree_laws.proofs.States.{AreAlike, known_once, activations_alike, ticked_alike, solutions_alike}

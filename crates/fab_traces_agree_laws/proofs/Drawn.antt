@@ -1,6 +1,5 @@
 -- What words draw for a set of points is one thing.
-use Rattle.std.proofs.Common.{◌≡◌, ◌+◌, ℕ, zero, suc, Bool, List, [], ◌∷◌, Contains, refl, sym, ap, ◌∙◌, subst, arith}
-use Rattle.fab_draws.specs.Draws.{is_one}
+use Rattle.std.proofs.Common.{◌≡◌, ◌+◌, ℕ, zero, suc, List, [], ◌∷◌, Contains, refl, sym, ◌∙◌, subst, arith}
 use Rattle.fab_meaning.specs.Points.{Point}
 use Rattle.fab_meaning.specs.Settled.{Assignment}
 use Rattle.fab_ordering_laws.specs.Ordered.{AreDrawn, none, passes, takes}

@@ -1,5 +1,5 @@
 -- Behind loaded words an ordered simulation starts in one way.
-use Rattle.std.proofs.Common.{◌≡◌, ◌⊎◌, ℕ, zero, suc, Bool, true, false, List, [], ◌∷◌, map, length, Contains, if◌then◌else◌, refl, sym, ap, ◌∙◌, subst, arith, inl, inr}
+use Rattle.std.proofs.Common.{◌≡◌, ◌⊎◌, ℕ, zero, suc, Bool, true, false, List, [], ◌∷◌, map, Contains, if◌then◌else◌, refl, sym, ap, ◌∙◌, arith, inl, inr}
 use Rattle.std.proofs.lemmas.Bool.{cases_Bool, false≢true}
 use Rattle.std.proofs.lemmas.List.Elements.{All-nil}
 use Rattle.fab_syntax.specs.Plain.{PlainModule}
@@ -9,7 +9,7 @@ use Rattle.fab_systems_laws.specs.Ternary.{known}
 use Rattle.fab_meaning.specs.Points.{Point, Driver, Drives, IsStored, module_at}
 use Rattle.fab_meaning.specs.Reads.{is_declared, same_point}
 use Rattle.fab_meaning.specs.Runs.{clock_name}
-use Rattle.fab_meaning.specs.Loading.{IsStream, IsLoading, IsIdle, LoadsAgree, LoadingPointsStay, write_strobe_name}
+use Rattle.fab_meaning.specs.Loading.{IsLoading, IsIdle, LoadsAgree, LoadingPointsStay, write_strobe_name}
 use Rattle.fab_meaning.proofs.Dependence.{same_point_refl, same_point_is}
 use Rattle.fab_equations.specs.Instances.{points}
 use Rattle.fab_equations.proofs.Points.{declared_are_points}

@@ -1,21 +1,18 @@
 -- Files have one trace, without an order and with each.
-use Rattle.std.proofs.Common.{◌≡◌, ◌<◌, ◌≤◌, ℕ, Bool, true, List, [], ◌∷◌, ◌++◌, map, codes, All, Option, Some, None, Result, Ok, refl, sym, ap, ◌∙◌, subst, arith, lt-ltb}
+use Rattle.std.proofs.Common.{◌≡◌, ℕ, Bool, true, List, [], ◌∷◌, ◌++◌, map, codes, All, Option, Some, None, Result, Ok, refl, sym, ap, ◌∙◌, subst, arith, lt-ltb}
 use Rattle.std.proofs.lemmas.List.Elements.{All-cons, All-head, All-nil, All-tail}
 use Rattle.fab_desk.specs.Files.{Map}
-use Rattle.fab_files.specs.Files.{handed_out}
 use Rattle.fab_files.specs.Stages.{ReadsFrom}
-use Rattle.fab_files.proofs.Stages.{file_is_judged}
 use Rattle.fab_bits.specs.Bits.{digits}
 use Rattle.fab_draws.specs.Draws.{draws_of}
 use Rattle.fab_syntax.specs.declared.tree.Shape.TheVariants.{Scalar}
 use Rattle.fab_syntax.specs.Declarations.{width, width_in}
 use Rattle.fab_syntax.specs.Plain.{PlainModule}
-use Rattle.fab_systems_laws.specs.Ternary.{known, yes, no, unknown}
-use Rattle.fab_systems_laws.specs.Ternary.{Tern as PlainTern}
+use Rattle.fab_systems_laws.specs.Ternary.{known}
 use Rattle.fab_ternary.specs.declared.Tern.{Tern}
 use Rattle.fab_ternary.specs.declared.Tern.TheVariants as terns
 use Rattle.fab_ternary.specs.Terns.{plain_tern}
-use Rattle.fab_meaning.specs.Points.{Path, point, module_at}
+use Rattle.fab_meaning.specs.Points.{Path, module_at}
 use Rattle.fab_meaning.specs.Reads.{is_declared}
 use Rattle.fab_values.specs.Declarations.{declared_at, found_in}
 use Rattle.fab_values.specs.declared.names.Role.{Role}
@@ -28,11 +25,11 @@ use Rattle.fab_stimulus.specs.Traces.{trace_text}
 use Rattle.fab_simulation_laws.specs.Laws.{AreShown, SimulationsAgree}
 use Rattle.fab_simulation_laws.specs.fab_use_defs_Sites.{top_point}
 use Rattle.fab_outputs.specs.Storing.{PlainOutput, output}
-use Rattle.fab_state_points.specs.Entries.{in_entries, out_entries, register_entries, entries_of, HasEntry}
+use Rattle.fab_state_points.specs.Entries.{in_entries, out_entries, register_entries, HasEntry}
 use Rattle.fab_state_points.specs.Finding.{IsDeclared}
 use Rattle.fab_state_points.specs.declared.entry.Entry.{Entry}
 use Rattle.fab_state_points.specs.declared.entry.Entry.TheVariants as entries
-use Rattle.fab_simulate_command.specs.Simulating.{SimulationFiles, SpellsDevice, RefusesDevice, ReadsDevice, SpellsWords, ReadsWords, SpellsState, RefusesState, ReadsState, SpellsStimulus, ReadsStimulus, Shows, Traces, IsTrace, MakesTrace}
+use Rattle.fab_simulate_command.specs.Simulating.{SimulationFiles, SpellsDevice, ReadsDevice, SpellsWords, SpellsState, SpellsStimulus, ReadsStimulus, Traces, IsTrace, MakesTrace}
 use Rattle.fab_simulate_command.proofs.SpellingOnce.{device_is_judged}
 use Rattle.fab_simulate_command.proofs.StandingOnce.{state_is_judged}
 use Rattle.fab_traces_agree_laws.specs.Laws.{IsSimulable, ShownIsOne, TracesAreOne}
