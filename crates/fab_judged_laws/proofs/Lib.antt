@@ -1,0 +1,10 @@
+pub mod Texts
+pub mod Stages
+pub mod Counted
+pub mod ListFiles
+pub mod Tiles
+pub mod Fabrics
+pub mod FeatureTexts
+pub mod Bytes
+pub mod Bitstreams
+pub mod Verilogs

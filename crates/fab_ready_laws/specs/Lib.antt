@@ -1,0 +1,3 @@
+pub mod Implementations
+pub mod Netlists
+pub mod Formats
