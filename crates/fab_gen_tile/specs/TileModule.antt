@@ -9,14 +9,16 @@ use Rattle.fab_syntax.specs.declared.tree.Port.{Port}
 use Rattle.fab_syntax.specs.Plain.{PlainJoin, PlainItem, PlainModule, variable, part, wire, instance}
 use Rattle.fab_matrix.specs.fab_meaning.specs.Runs.{user_clock_name}
 use Rattle.fab_select.specs.Selection.{select_bits}
+use Rattle.fab_model.specs.declared.mode.Mode.{Mode}
+use Rattle.fab_model.specs.declared.mode.Mode.TheVariants as modes
 use Rattle.fab_model.specs.declared.tiles.Bel.{Bel}
 use Rattle.fab_model.specs.Tiles.{PlainTile, TileWire, tile_wires, wire_name, matrix_names, is_matrix_output, numbered_pairs, bel_bits, tile_bits, bits_before}
 use Rattle.fab_matrix.specs.fab_meaning.specs.Ports.{scalar, config_name}
 use Rattle.fab_prim.specs.Ports.{clock_names, top_inputs, top_outputs}
 use Rattle.fab_prim.specs.Modules.{module_name}
-use Rattle.fab_gen_tile.specs.Names.{config_module_name, matrix_module_name, tile_module_name, config_instance_name, matrix_instance_name, bel_instance_name, frame_data_name, frame_strobe_name, bits_name, pad_name, port_join, same_join}
+use Rattle.fab_gen_tile.specs.Names.{config_module_name, matrix_module_name, tile_module_name, config_instance_name, matrix_instance_name, bel_instance_name, bits_name, pad_name, port_join, same_join}
 use Rattle.fab_gen_tile.specs.Borders.{border_ports, row_assigns}
-use Rattle.fab_gen_tile.specs.ConfigModule.{frame_ports}
+use Rattle.fab_gen_tile.specs.ConfigModule.{config_ports, chain_end}
 
 -- ---- ports
 
@@ -29,9 +31,9 @@ pad_ports place kind =
 abbrev pub bels_ports : List Bel → List Port
 bels_ports bels = flat_map (λ placed. pad_ports placed.0 placed.1.kind) (enumerate_from 0 bels)
 
-abbrev pub tile_ports : PlainTile → List Port
-tile_ports tile =
-    scalar true user_clock_name ∷ (frame_ports
+abbrev pub tile_ports : Mode → PlainTile → List Port
+tile_ports mode tile =
+    scalar true user_clock_name ∷ (config_ports mode
     ++ (flat_map border_ports tile.rows ++ bels_ports tile.bels))
 
 -- ---- configuration and matrix
@@ -41,13 +43,18 @@ abbrev pub bits_wire : (bits : ℕ) → List PlainItem
 bits_wire zero = []
 bits_wire (suc n) = wire (Vector (suc n)) bits_name ∷ []
 
-abbrev pub config_joins : List PlainJoin
-config_joins = same_join frame_data_name ∷ same_join frame_strobe_name ∷ port_join config_name (variable bits_name) ∷ []
+abbrev pub config_joins : Mode → List PlainJoin
+config_joins mode = map (λ port. same_join port.name) (config_ports mode) ++ port_join config_name (variable bits_name) ∷ []
+
+-- what stands in a tile without configuration bits: in a chain what comes in goes out
+abbrev pub no_config : Mode → List PlainItem
+no_config modes.Frames = []
+no_config modes.Chain = chain_end 0 ∷ []
 
 -- the configuration, where there are bits
-abbrev pub config_instances : PlainTile → (bits : ℕ) → List PlainItem
-config_instances tile zero = []
-config_instances tile (suc n) = instance (config_module_name tile) config_instance_name config_joins ∷ []
+abbrev pub config_instances : Mode → PlainTile → (bits : ℕ) → List PlainItem
+config_instances mode tile zero = no_config mode
+config_instances mode tile (suc n) = instance (config_module_name tile) config_instance_name (config_joins mode) ∷ []
 
 -- so many configuration bits from the bit `low` on go to the port of an instance, where there are any
 abbrev pub bits_join : (low bits : ℕ) → List PlainJoin
@@ -107,14 +114,14 @@ bel_instances bels = map (λ placed. bel_instance placed.0 (bits_before bels pla
 
 -- ---- the module
 
-abbrev pub tile_items : PlainTile → List PlainItem
-tile_items tile =
+abbrev pub tile_items : Mode → PlainTile → List PlainItem
+tile_items mode tile =
     map (wire Scalar) (matrix_names tile)
     ++ (bits_wire (tile_bits tile)
     ++ (flat_map row_assigns tile.rows
-    ++ (config_instances tile (tile_bits tile)
+    ++ (config_instances mode tile (tile_bits tile)
     ++ (matrix_instances tile (matrix_output_names tile)
     ++ bel_instances tile.bels))))
 
-abbrev pub tile_module : PlainTile → PlainModule
-tile_module tile = record { name = tile_module_name tile; ports = tile_ports tile; items = tile_items tile }
+abbrev pub tile_module : Mode → PlainTile → PlainModule
+tile_module mode tile = record { name = tile_module_name tile; ports = tile_ports mode tile; items = tile_items mode tile }

@@ -2,45 +2,87 @@
 
 ghost use Rattle.std.specs.Prelude.{◌≡◌, ◌++◌, [], ◌∷◌, ℕ, true, false, map, reverse, IfOk, OnOk, slice_index_or};
 ghost use Rattle.fab_syntax.specs.declared.tree.Shape.TheVariants as shapes;
-ghost use Rattle.fab_syntax.specs.Plain.{plain_expr, plain_exprs, plain_item, plain_module, concatenation, variable, reg, assign};
+ghost use Rattle.fab_syntax.specs.Plain.{plain_expr, plain_exprs, plain_item, plain_module, concatenation, variable, conditional, reg, assign};
 ghost use Rattle.fab_matrix.specs.fab_meaning.specs.Ports.{config_name};
+ghost use Rattle.fab_matrix.specs.fab_meaning.specs.Loading.{write_strobe_name};
+ghost use Rattle.fab_model.specs.declared.mode.Mode.TheVariants as modes;
 ghost use Rattle.fab_model.specs.Tiles.{counted};
 ghost use Rattle.fab_gen_tile.specs.Names.{frame_data_name, frame_strobe_name, latch_name, vector};
-ghost use Rattle.fab_gen_tile.specs.ConfigModule.{frame_ports, latch_at, all_latches, config_module};
+ghost use Rattle.fab_gen_tile.specs.ConfigModule.{frame_ports, chain_ports, config_ports, latch_at, bit_flop, before_bit, chain_end, keeping_items, all_latches, config_items, config_module};
 
-use crate::names::{latch_name, part, prefixed};
+use crate::borders::scalar;
+use crate::names::{latch_name, part, prefixed, variable};
 use fab_base::{Memory, Name};
-use fab_model::TileType;
+use fab_model::{Mode, TileType};
+use fab_prim::conditional;
 use fab_syntax::{Expr, Item, Module, Port, Shape};
 use std::alloc::Global;
 
-/// The module of the configuration bits of a tile.
+/// The module of the configuration bits of a tile, which latches keep in frames.
+///
+/// Its ports are `FrameData`, `FrameStrobe` and `ConfigBits`. Want of memory is the only error.
 pub fn config_module(alloc: Global, tile: &TileType) -> Result<Module, Memory>
-    ensures { IfOk result (λ m. plain_module m ≡ config_module tile.now) }
+    ensures { IfOk result (λ m. plain_module m ≡ config_module modes.Frames tile.now) }
 {
-    let bits = tile.bits();
+    config_of(alloc, tile, Mode::Frames)
+}
+
+/// The module of the configuration bits of a tile, which flip-flops keep in a chain.
+///
+/// Its ports are `CLK`, `WriteStrobe`, `fab_chain_i`, `fab_chain_o` and `ConfigBits`. Want of memory is the only error.
+pub fn chain_config_module(alloc: Global, tile: &TileType) -> Result<Module, Memory>
+    ensures { IfOk result (λ m. plain_module m ≡ config_module modes.Chain tile.now) }
+{
+    config_of(alloc, tile, Mode::Chain)
+}
+
+/// The module of the configuration bits of a tile, kept in this mode.
+pub fn config_of(alloc: Global, tile: &TileType, mode: Mode) -> Result<Module, Memory>
+    ensures { IfOk result (λ m. plain_module m ≡ config_module mode tile.now) }
+{
     let name = prefixed(alloc, b"config_", tile.name())?;
-    let ports = config_ports(alloc, bits)?;
-    let items = config_items(alloc, bits, tile.table().places())?;
+    let ports = config_ports(alloc, mode, tile.bits())?;
+    let items = config_items(alloc, tile, mode)?;
     Ok(Module { name, ports, items })
 }
 
-// The ports: the frame data and strobes, and the configuration bits.
-fn config_ports(alloc: Global, bits: u32) -> Result<Vec<Port>, Memory>
-    ensures { IfOk result (λ ports. ports.items ≡ frame_ports ++ vector false bits config_name ∷ []) }
+// ---- ports
+
+// Those by which the bits come, and the configuration bits.
+fn config_ports(alloc: Global, mode: Mode, bits: u32) -> Result<Vec<Port>, Memory>
+    ensures { IfOk result (λ ports. ports.items ≡ config_ports mode ++ vector false bits config_name ∷ []) }
 {
     let mut ports = Vec::new(alloc);
-    push_frame_ports(alloc, &mut ports)?;
+    push_config_ports(alloc, &mut ports, mode)?;
     push_vector(alloc, &mut ports, false, bits, b"ConfigBits")?;
     Ok(ports)
 }
 
-/// Adds the ports of the frame data and strobes.
-pub fn push_frame_ports(alloc: Global, ports: &mut Vec<Port>) -> Result<(), Memory>
+/// Adds the ports by which the bits come to a tile, and on to its configuration.
+pub fn push_config_ports(alloc: Global, ports: &mut Vec<Port>, mode: Mode) -> Result<(), Memory>
+    ensures { OnOk result (ports.new.items ≡ ports.old.items ++ config_ports mode) }
+{
+    match mode {
+        Mode::Frames => push_frame_ports(alloc, ports),
+        Mode::Chain => push_chain_ports(alloc, ports),
+    }
+}
+
+fn push_frame_ports(alloc: Global, ports: &mut Vec<Port>) -> Result<(), Memory>
     ensures { OnOk result (ports.new.items ≡ ports.old.items ++ frame_ports) }
 {
     push_vector(alloc, ports, true, 32, b"FrameData")?;
     push_vector(alloc, ports, true, 20, b"FrameStrobe")
+}
+
+fn push_chain_ports(alloc: Global, ports: &mut Vec<Port>) -> Result<(), Memory>
+    ensures { OnOk result (ports.new.items ≡ ports.old.items ++ chain_ports) }
+{
+    ports.push(scalar(true, Name::of(alloc, b"CLK")?))?;
+    ports.push(scalar(true, Name::of(alloc, b"WriteStrobe")?))?;
+    ports.push(scalar(true, Name::of(alloc, b"fab_chain_i")?))?;
+    ports.push(scalar(false, Name::of(alloc, b"fab_chain_o")?))?;
+    Ok(())
 }
 
 /// Adds a port of several bits.
@@ -62,18 +104,37 @@ pub fn push_vector(
     Ok(())
 }
 
-// The items: registers, latches and the assignment of all latches.
-fn config_items(alloc: Global, bits: u32, places: &[(u8, u8)]) -> Result<Vec<Item>, Memory>
-    ensures { IfOk result (λ items. map plain_item items.items
-        ≡ counted bits (λ bit. reg shapes.Scalar (latch_name bit))
-        ++ (counted bits (λ bit. latch_at bit (slice_index_or places.now bit (0, 0)))
-        ++ assign config_name (all_latches bits) ∷ [])) }
+// ---- items
+
+// Registers, what keeps them, and the assignment of them all.
+fn config_items(alloc: Global, tile: &TileType, mode: Mode) -> Result<Vec<Item>, Memory>
+    ensures { IfOk result (λ items. map plain_item items.items ≡ config_items mode tile.now) }
 {
+    let bits = tile.bits();
     let mut items = Vec::new(alloc);
     push_registers(alloc, &mut items, bits)?;
-    push_latches(alloc, &mut items, bits, places)?;
+    push_keeping(alloc, &mut items, tile, mode)?;
     push_all_latches(alloc, &mut items, bits)?;
     Ok(items)
+}
+
+// Adds what keeps the bits.
+fn push_keeping(
+    alloc: Global,
+    items: &mut Vec<Item>,
+    tile: &TileType,
+    mode: Mode,
+) -> Result<(), Memory>
+    ensures { OnOk result (map plain_item items.new.items ≡ map plain_item items.old.items ++ keeping_items mode tile.now) }
+{
+    let bits = tile.bits();
+    match mode {
+        Mode::Frames => push_latches(alloc, items, bits, tile.table().places()),
+        Mode::Chain => {
+            push_flops(alloc, items, bits)?;
+            push_chain_end(alloc, items, bits)
+        }
+    }
 }
 
 // Adds the assignment of all latches.
@@ -113,6 +174,55 @@ fn push_latches(
         let place = place_of(places, bit);
         items.push(latch(alloc, bit, place)?)?;
     }
+    Ok(())
+}
+
+// Adds a flip-flop for each bit.
+#[tactic(auto, using(crate::proofs::Counted::counted_none, fab_model::proofs::Inserts::counted_more))]
+fn push_flops(alloc: Global, items: &mut Vec<Item>, bits: u32) -> Result<(), Memory>
+    ensures { OnOk result (map plain_item items.new.items ≡ map plain_item items.old.items ++ counted bits bit_flop) }
+{
+    for bit in 0..bits {
+        items.push(bit_flop(alloc, bit)?)?;
+    }
+    Ok(())
+}
+
+// The flip-flop of a bit, which takes the bit before it while a bit is written.
+fn bit_flop(alloc: Global, bit: u32) -> Result<Item, Memory>
+    ensures { IfOk result (λ item. plain_item item ≡ bit_flop bit) }
+{
+    let next = next_bit(alloc, bit)?;
+    let clock = Name::of(alloc, b"CLK")?;
+    Ok(Item::Clocked(clock, latch_name(alloc, bit)?, next))
+}
+
+// What a flip-flop takes.
+fn next_bit(alloc: Global, bit: u32) -> Result<Expr, Memory>
+    ensures { IfOk result (λ e. plain_expr e ≡ conditional (variable write_strobe_name) (variable (before_bit bit)) (variable (latch_name bit))) }
+{
+    let (before, kept) = (before_bit(alloc, bit)?, latch_name(alloc, bit)?);
+    let written = variable(alloc, b"WriteStrobe")?;
+    conditional(alloc, written, Expr::Var(before), Expr::Var(kept))
+}
+
+// What stands before a bit in the chain of its tile.
+fn before_bit(alloc: Global, bit: u32) -> Result<Name, Memory>
+    ensures { IfOk result (λ name. name ≡ before_bit bit) }
+{
+    match bit.checked_sub(1) {
+        Some(before) => latch_name(alloc, before),
+        None => Name::of(alloc, b"fab_chain_i"),
+    }
+}
+
+/// Adds what goes out of a tile behind so many bits of a chain.
+pub fn push_chain_end(alloc: Global, items: &mut Vec<Item>, bits: u32) -> Result<(), Memory>
+    ensures { OnOk result (map plain_item items.new.items ≡ map plain_item items.old.items ++ chain_end bits ∷ []) }
+{
+    let value = Expr::Var(before_bit(alloc, bits)?);
+    let name = Name::of(alloc, b"fab_chain_o")?;
+    items.push(Item::Assign(name, value))?;
     Ok(())
 }
 

@@ -8,13 +8,14 @@ ghost use Rattle.fab_model.specs.Rows.{bit_name};
 ghost use Rattle.fab_model.specs.Tiles.{tile_wires, counted, row_wires, bel_wires};
 ghost use Rattle.fab_prim.specs.Ports.{clock_names, top_inputs, top_outputs};
 ghost use Rattle.fab_gen_tile.specs.Names.{port_join, same_join};
+ghost use Rattle.fab_gen_tile.specs.ConfigModule.{config_ports};
 ghost use Rattle.fab_gen_tile.specs.TileModule.{side_names, bits_join, config_joins, pin_join, pad_join, bel_joins};
 
 use crate::borders::bit_name;
 use crate::names::{pad_name, part, sum, variable};
 use fab_base::{Memory, Name};
 use fab_kinds::Kind;
-use fab_model::{Bel, TileType, WireRow};
+use fab_model::{Bel, Mode, TileType, WireRow};
 use fab_syntax::{Expr, Join};
 use std::alloc::Global;
 
@@ -55,16 +56,35 @@ pub fn push_bits_join(
     Ok(())
 }
 
-/// The joins of the configuration.
-pub fn config_joins(alloc: Global) -> Result<Vec<Join>, Memory>
-    ensures { IfOk result (λ joins. map plain_join joins.items ≡ config_joins) }
+/// The joins of the configuration, which is kept in this mode.
+pub fn config_joins(alloc: Global, mode: Mode) -> Result<Vec<Join>, Memory>
+    ensures { IfOk result (λ joins. map plain_join joins.items ≡ config_joins mode) }
 {
     let mut joins = Vec::new(alloc);
-    joins.push(same_join(alloc, b"FrameData")?)?;
-    joins.push(same_join(alloc, b"FrameStrobe")?)?;
+    push_carrying_joins(alloc, &mut joins, mode)?;
     let bits = variable(alloc, b"fab_bits")?;
     joins.push(port_join(alloc, b"ConfigBits", bits)?)?;
     Ok(joins)
+}
+
+// Adds the joins by which the bits come, each to the port of the tile with its name.
+fn push_carrying_joins(alloc: Global, joins: &mut Vec<Join>, mode: Mode) -> Result<(), Memory>
+    ensures { OnOk result (map plain_join joins.new.items
+        ≡ map plain_join joins.old.items ++ map (λ port. same_join port.name) (config_ports mode)) }
+{
+    match mode {
+        Mode::Frames => {
+            joins.push(same_join(alloc, b"FrameData")?)?;
+            joins.push(same_join(alloc, b"FrameStrobe")?)?;
+        }
+        Mode::Chain => {
+            joins.push(same_join(alloc, b"CLK")?)?;
+            joins.push(same_join(alloc, b"WriteStrobe")?)?;
+            joins.push(same_join(alloc, b"fab_chain_i")?)?;
+            joins.push(same_join(alloc, b"fab_chain_o")?)?;
+        }
+    }
+    Ok(())
 }
 
 // ---- the switch matrix

@@ -5,44 +5,61 @@ ghost use Rattle.std.specs.List.{flat_map};
 ghost use Rattle.fab_kinds.specs.Pins.{bit_count};
 ghost use Rattle.fab_syntax.specs.declared.tree.Shape.TheVariants as shapes;
 ghost use Rattle.fab_syntax.specs.Plain.{plain_module, plain_item, wire, instance};
+ghost use Rattle.fab_model.specs.declared.mode.Mode.TheVariants as modes;
 ghost use Rattle.fab_model.specs.Tiles.{bel_bits, tile_bits, matrix_names};
 ghost use Rattle.fab_prim.specs.Modules.{module_name};
 ghost use Rattle.fab_matrix.specs.fab_meaning.specs.Ports.{scalar};
 ghost use Rattle.fab_gen_tile.specs.Names.{pad_name};
 ghost use Rattle.fab_gen_tile.specs.Borders.{border_ports, row_assigns};
-ghost use Rattle.fab_gen_tile.specs.TileModule.{pad_ports, bels_ports, tile_ports, bits_wire, config_instances, matrix_output_names, matrix_instances, bel_instance, bel_instances, tile_items, tile_module};
+ghost use Rattle.fab_gen_tile.specs.TileModule.{pad_ports, bels_ports, tile_ports, bits_wire, no_config, config_instances, matrix_output_names, matrix_instances, bel_instance, bel_instances, tile_items, tile_module};
 
 use crate::borders::{push_border_ports, push_row_assigns, scalar};
-use crate::config::push_frame_ports;
+use crate::config::{push_chain_end, push_config_ports};
 use crate::joins::{bel_joins, config_joins, push_bits_join, side_joins};
 use crate::names::{bel_instance_name, pad_name, prefixed, sum};
 use fab_base::{Memory, Name};
 use fab_kinds::Kind;
-use fab_model::{Bel, TileType, WireRow};
+use fab_model::{Bel, Mode, TileType, WireRow};
 use fab_syntax::{Item, Module, Port, Shape};
 use std::alloc::Global;
 
-/// The module of a tile: its matrix names as wires, the border bits of its rows, and the instances of its configuration, its
-/// switch matrix and its BELs.
+/// The module of a tile whose configuration bits are latches in frames: its matrix names as wires, the border bits of its rows, and the
+/// instances of its configuration, its switch matrix and its BELs.
 ///
 /// Want of memory is also the answer where numbers of bits are too many for 32 bits, or BELs too many to have letters.
 pub fn tile_module(alloc: Global, tile: &TileType) -> Result<Module, Memory>
-    ensures { IfOk result (λ m. plain_module m ≡ tile_module tile.now) }
+    ensures { IfOk result (λ m. plain_module m ≡ tile_module modes.Frames tile.now) }
+{
+    tile_of(alloc, tile, Mode::Frames)
+}
+
+/// The module of a tile whose configuration bits are flip-flops in a chain, which comes in by `fab_chain_i` and goes out by `fab_chain_o`.
+///
+/// Want of memory is the answer as for `tile_module`.
+pub fn chain_tile_module(alloc: Global, tile: &TileType) -> Result<Module, Memory>
+    ensures { IfOk result (λ m. plain_module m ≡ tile_module modes.Chain tile.now) }
+{
+    tile_of(alloc, tile, Mode::Chain)
+}
+
+/// The module of a tile whose configuration bits are kept in this mode.
+pub fn tile_of(alloc: Global, tile: &TileType, mode: Mode) -> Result<Module, Memory>
+    ensures { IfOk result (λ m. plain_module m ≡ tile_module mode tile.now) }
 {
     let name = prefixed(alloc, b"tile_", tile.name())?;
-    let ports = tile_ports(alloc, tile)?;
-    let items = tile_items(alloc, tile)?;
+    let ports = tile_ports(alloc, tile, mode)?;
+    let items = tile_items(alloc, tile, mode)?;
     Ok(Module { name, ports, items })
 }
 
 // ---- ports
 
-fn tile_ports(alloc: Global, tile: &TileType) -> Result<Vec<Port>, Memory>
-    ensures { IfOk result (λ ports. ports.items ≡ tile_ports tile.now) }
+fn tile_ports(alloc: Global, tile: &TileType, mode: Mode) -> Result<Vec<Port>, Memory>
+    ensures { IfOk result (λ ports. ports.items ≡ tile_ports mode tile.now) }
 {
     let mut ports = Vec::new(alloc);
     ports.push(scalar(true, Name::of(alloc, b"UserCLK")?))?;
-    push_frame_ports(alloc, &mut ports)?;
+    push_config_ports(alloc, &mut ports, mode)?;
     push_rows_ports(alloc, &mut ports, tile.rows())?;
     push_bels_ports(alloc, &mut ports, tile.bels())?;
     Ok(ports)
@@ -101,14 +118,14 @@ fn push_pad_port(
 
 // ---- items
 
-fn tile_items(alloc: Global, tile: &TileType) -> Result<Vec<Item>, Memory>
-    ensures { IfOk result (λ items. map plain_item items.items ≡ tile_items tile.now) }
+fn tile_items(alloc: Global, tile: &TileType, mode: Mode) -> Result<Vec<Item>, Memory>
+    ensures { IfOk result (λ items. map plain_item items.items ≡ tile_items mode tile.now) }
 {
     let mut items = Vec::new(alloc);
     push_name_wires(alloc, &mut items, tile)?;
     push_bits_wire(alloc, &mut items, tile.bits())?;
     push_rows_assigns(alloc, &mut items, tile.rows())?;
-    push_config_instance(alloc, &mut items, tile)?;
+    push_config_instance(alloc, &mut items, tile, mode)?;
     push_matrix_instance(alloc, &mut items, tile)?;
     push_bel_instances(alloc, &mut items, tile.bels())?;
     Ok(items)
@@ -147,18 +164,33 @@ fn push_rows_assigns(alloc: Global, items: &mut Vec<Item>, rows: &[WireRow]) -> 
     Ok(())
 }
 
-// Adds the instance of the configuration, where there are bits.
-fn push_config_instance(alloc: Global, items: &mut Vec<Item>, tile: &TileType) -> Result<(), Memory>
+// Adds the instance of the configuration where there are bits, and else what hands a chain on.
+fn push_config_instance(
+    alloc: Global,
+    items: &mut Vec<Item>,
+    tile: &TileType,
+    mode: Mode,
+) -> Result<(), Memory>
     ensures { OnOk result (map plain_item items.new.items
-        ≡ map plain_item items.old.items ++ config_instances tile.now (tile_bits tile.now)) }
+        ≡ map plain_item items.old.items ++ config_instances mode tile.now (tile_bits tile.now)) }
 {
     if tile.bits() == 0 {
-        return Ok(());
+        return push_no_config(alloc, items, mode);
     }
     let of = prefixed(alloc, b"config_", tile.name())?;
     let name = Name::of(alloc, b"fab_config")?;
-    items.push(Item::Instance(of, name, config_joins(alloc)?))?;
+    items.push(Item::Instance(of, name, config_joins(alloc, mode)?))?;
     Ok(())
+}
+
+// Adds what stands in a tile without configuration bits.
+fn push_no_config(alloc: Global, items: &mut Vec<Item>, mode: Mode) -> Result<(), Memory>
+    ensures { OnOk result (map plain_item items.new.items ≡ map plain_item items.old.items ++ no_config mode) }
+{
+    match mode {
+        Mode::Frames => Ok(()),
+        Mode::Chain => push_chain_end(alloc, items, 0),
+    }
 }
 
 // Adds the instance of the switch matrix, where it has an output.

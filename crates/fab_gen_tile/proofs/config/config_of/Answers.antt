@@ -5,7 +5,7 @@ use Rattle.fab_matrix.specs.fab_meaning.specs.Ports.{config_name}
 use Rattle.fab_model.specs.Tiles.{counted}
 use Rattle.fab_gen_tile.specs.Names.{latch_name, vector}
 use Rattle.fab_gen_tile.specs.ConfigModule.{frame_ports, latch_at, all_latches}
-use Rattle.fab_gen_tile.proofs.config.config_module.Goals as goal
+use Rattle.fab_gen_tile.proofs.config.config_of.Goals as goal
 
 abbrev items_of : ℕ → List (ℕ × ℕ) → List PlainItem
 items_of n places =
