@@ -8,6 +8,7 @@ pub mod Chains
 pub mod Rows
 pub mod Standing
 pub mod Words
+pub mod PlacedWords
 pub mod Taken
 pub mod Streams
 pub mod ByteWords

@@ -22,8 +22,9 @@ use Rattle.fab_frames.specs.Refusals.{IsStreamRefusal}
 use Rattle.fab_frames.specs.inner.Taking.{placed_by, TakesBits, TakesWord}
 use Rattle.fab_frames.specs.declared.positions.BitPlace.{BitPlace}
 use Rattle.fab_frames.proofs.Chains.{IsBitOf}
+use Rattle.fab_frames.proofs.PlacedWords.{PlacesBits, places_bits, word_by_places, problem_by_places}
 use Rattle.fab_frames.proofs.Standing.{part_within, placed_once, part_once, each_stands}
-use Rattle.fab_frames.proofs.Words.{bit_there, placed_word_is, bit_of_word, zero_there, placed_word_fine, placed_word_mapped, has_spare_mapped}
+use Rattle.fab_frames.proofs.Words.{bit_there, placed_word_is, bit_of_word, zero_there, placed_word_fine}
 
 -- ---- words of a stream
 
@@ -50,31 +51,6 @@ problem_of_part fabric bits (Some part) = part_fine fabric bits part
 -- no word of a stream is refused
 pub stream_fine : (fabric : PlainFabric) (bits : PlainBits) (place : ℕ) → problem_at fabric (stream fabric bits) place ≡ None
 stream_fine fabric bits place = ap (problem_of fabric (slice_get (parts fabric) place)) (stream_at fabric bits place) ∙ problem_of_part fabric bits (slice_get (parts fabric) place)
-
--- ---- parts that place bits
-
--- the word is not the same for all configurations
-abbrev pub PlacesBits : Part → Type 0
-PlacesBits (fixed word) = ⊥
-PlacesBits (of_row x y frame) = Unit {0}
-PlacesBits (of_chain number) = Unit {0}
-
-pub places_bits : (fabric : PlainFabric) (part : Part) (bit : ℕ) (at : BitPlace) → placed_by fabric part bit ≡ Some at → PlacesBits part
-places_bits fabric (fixed word) bit at there = cc
-places_bits fabric (of_row x y frame) bit at there = tt
-places_bits fabric (of_chain number) bit at there = tt
-
--- its word has the bits that are placed, told by their places in the fabric,
-pub word_by_places : (fabric : PlainFabric) (bits : PlainBits) (part : Part) → PlacesBits part → word_of fabric bits part ≡ placed_word (placed_by fabric part) (bit_in bits)
-word_by_places fabric bits (fixed word) places = absurd places
-word_by_places fabric bits (of_row x y frame) places = placed_word_mapped (bit_place x y) (bit_placed_at fabric x y frame) (bit_in bits)
-word_by_places fabric bits (of_chain number) places = refl
-
--- and is refused for a spare bit alone
-pub problem_by_places : (fabric : PlainFabric) (part : Part) (word : ℕ) → PlacesBits part → part_problem fabric part word ≡ (if has_spare (placed_by fabric part) word then Some reasons.SpareBit else None)
-problem_by_places fabric (fixed expected) word places = absurd places
-problem_by_places fabric (of_row x y frame) word places = ap (λ b. if b then Some reasons.SpareBit else None) (has_spare_mapped (bit_place x y) (bit_placed_at fabric x y frame) word)
-problem_by_places fabric (of_chain number) word places = refl
 
 -- ---- words that are taken
 

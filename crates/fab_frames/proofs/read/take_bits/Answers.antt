@@ -1,7 +1,7 @@
-use Rattle.std.proofs.Common.{◌≡◌, ◌<◌, ◌∙◌, List, Bool, not, sym, ap, arith}
+use Rattle.std.proofs.Common.{◌≡◌, ◌<◌, ◌∙◌, not, sym, ap, arith}
 use Rattle.fab_frames.specs.inner.Taking.{plain_part, placed_by}
 use Rattle.fab_frames.proofs.Standing.{placed_is_bit, placed_has_bit, placed_once}
-use Rattle.fab_frames.proofs.Taken.{ArePlacedOnce, none_taken, still_bits, bit_set, bit_passed, spare_found, none_spare, all_taken}
+use Rattle.fab_frames.proofs.Taken.{ArePlacedOnce, still_bits, bit_set, bit_passed, spare_found, none_spare}
 use Rattle.fab_frames.proofs.read.take_bits.Goals as goal
 use Rattle.fab_frames.proofs.read.take_bits.Goals.{in-Some, in-None+else-value}
 
@@ -26,4 +26,17 @@ returns-clause-spare c =
     sym (ap not (none_spare placed c.args.word c.loop-bit.bit c.args.bits.now c.loop-bit.bits (omega (arith, c.loop-bit-test.false)) c.loop-bit.invariant))
 
 pub loop-bit-preserved : goal.loop-bit-preserved
-loop-bit-preserved c = ?
+loop-bit-preserved c =
+    let part = plain_part c.args.part in
+    let placed = placed_by c.args.fabric.now part in
+    let small : c.loop-bit.bit < 32 = omega (arith, c.loop-bit-test.true) in
+    let once : ArePlacedOnce placed = λ first second at few few2 there there2.
+    (placed_once c.args.fabric.now part part first second at c.requires.part c.requires.part few few2 there there2).1 in
+    elim c.match-at.branch [
+      | in-Some w ↦
+          rw w.bits-is (bit_set placed c.args.word c.loop-bit.bit w.in-Some.at c.word_bit-value.result c.args.bits.now c.loop-bit.bits w.set.new.self
+          small once (sym c.at.ensures ∙ w.in-Some.is) c.word_bit-value.ensures w.set.ensures c.loop-bit.invariant)
+      | in-None+else-value w ↦
+          rw w.bits-is (bit_passed placed c.args.word c.loop-bit.bit c.word_bit-value.result c.args.bits.now c.loop-bit.bits
+          (sym c.at.ensures ∙ w.in-None.is) c.word_bit-value.ensures w.if-value.false c.loop-bit.invariant)
+    ]
