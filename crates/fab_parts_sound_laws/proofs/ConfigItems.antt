@@ -1,9 +1,9 @@
 -- The ports of a configuration's module and what keeps its bits, mode by mode.
 use Rattle.std.proofs.Common.{◌≡◌, ◌≢◌, ℕ, zero, suc, ◌<◌, ◌≤◌, Bool, true, false, List, [], ◌∷◌, ◌++◌, map, refl, sym, ◌∙◌, arith, All, Contains, append-nil, append_assoc}
-use Rattle.std.specs.List.{flat_map}
+use Rattle.std.specs.List.{flat_map, list_any}
+use Rattle.std.specs.Str.{bytes_eq}
 use Rattle.std.proofs.lemmas.List.Concat.{flat_map-append}
 use Rattle.std.proofs.lemmas.List.Elements.{All-nil, All-cons, All-append, Contains-append_left, Contains-append_right}
-use Rattle.std.proofs.lemmas.List.Kept.{AllPairs-cons}
 use Rattle.fab_syntax.specs.declared.tree.Port.{Port}
 use Rattle.fab_syntax.specs.Plain.{PlainItem, PlainModule, variable, assign}
 use Rattle.fab_syntax.specs.Sound.{width_of_name}
@@ -18,7 +18,8 @@ use Rattle.fab_tile_drives_laws.specs.fab_model_Tables.{HasTable}
 use Rattle.fab_tile_drives_laws.specs.fab_gen_tile_Names.{latch_name, frame_data_name, frame_strobe_name, chain_in_name, chain_out_name, vector}
 use Rattle.fab_tile_drives_laws.specs.fab_gen_tile_ConfigModule.{frame_ports, chain_ports, config_ports, bit_latch, before_bit, bit_flop, chain_end, keeping_items, all_latches, config_module}
 use Rattle.fab_tile_drives_laws.proofs.Latches.{latch_width}
-use Rattle.fab_parts_sound_laws.proofs.Lists.{all_counted, pairs_none, contains_first, contains_counted, one_each}
+use Rattle.fab_parts_sound_laws.proofs.Lists.{all_counted, contains_first, contains_counted, one_each}
+use Rattle.fab_parts_sound_laws.proofs.Apart.{apart_if, differs_from, none_is}
 use Rattle.fab_parts_sound_laws.proofs.Names.{Differ, told_apart, AreApart, IsNoneOf}
 use Rattle.fab_parts_sound_laws.proofs.Counts.{item_drives, item_holds, IsPortAmong}
 use Rattle.fab_parts_sound_laws.proofs.Clocks.{ClocksBy}
@@ -35,32 +36,13 @@ abbrev pub output_names : Mode → List (List ℕ)
 output_names modes.Frames = config_name ∷ []
 output_names modes.Chain = chain_out_name ∷ config_name ∷ []
 
--- a name in front of others that it differs from
-in_front : (name : List ℕ) (names : List (List ℕ)) → All (Differ name) names → AreApart names → AreApart (name ∷ names)
-in_front = AllPairs-cons Differ
-
-alone : (name : List ℕ) → AreApart (name ∷ [])
-alone name = in_front name [] (All-nil (Differ name)) (pairs_none Differ)
+pub ports_apart : (mode : Mode) → AreApart (port_names mode)
+ports_apart modes.Frames = apart_if (port_names modes.Frames) refl
+ports_apart modes.Chain = apart_if (port_names modes.Chain) refl
 
 pub outputs_apart : (mode : Mode) → AreApart (output_names mode)
-outputs_apart modes.Frames = alone config_name
-outputs_apart modes.Chain =
-    in_front chain_out_name (config_name ∷ []) (each_all (Differ chain_out_name) (config_name ∷ []) (told_apart _ _ refl, tt)) (alone config_name)
-
-pub ports_apart : (mode : Mode) → AreApart (port_names mode)
-ports_apart modes.Frames =
-    in_front frame_data_name (frame_strobe_name ∷ config_name ∷ [])
-    (each_all (Differ frame_data_name) (frame_strobe_name ∷ config_name ∷ []) (told_apart _ _ refl, (told_apart _ _ refl, tt)))
-    (in_front frame_strobe_name (config_name ∷ []) (each_all (Differ frame_strobe_name) (config_name ∷ []) (told_apart _ _ refl, tt)) (alone config_name))
-ports_apart modes.Chain =
-    in_front clock_name (write_strobe_name ∷ chain_in_name ∷ chain_out_name ∷ config_name ∷ [])
-    (each_all (Differ clock_name) (write_strobe_name ∷ chain_in_name ∷ chain_out_name ∷ config_name ∷ [])
-    (told_apart _ _ refl, (told_apart _ _ refl, (told_apart _ _ refl, (told_apart _ _ refl, tt)))))
-    (in_front write_strobe_name (chain_in_name ∷ chain_out_name ∷ config_name ∷ [])
-    (each_all (Differ write_strobe_name) (chain_in_name ∷ chain_out_name ∷ config_name ∷ []) (told_apart _ _ refl, (told_apart _ _ refl, (told_apart _ _ refl, tt))))
-    (in_front chain_in_name (chain_out_name ∷ config_name ∷ [])
-    (each_all (Differ chain_in_name) (chain_out_name ∷ config_name ∷ []) (told_apart _ _ refl, (told_apart _ _ refl, tt)))
-    (outputs_apart modes.Chain)))
+outputs_apart modes.Frames = apart_if (output_names modes.Frames) refl
+outputs_apart modes.Chain = apart_if (output_names modes.Chain) refl
 
 -- no port has the name of a bit
 pub ports_differ : (mode : Mode) → All (λ name. (bit : ℕ) → name ≢ latch_name bit) (port_names mode)
@@ -72,8 +54,8 @@ ports_differ modes.Chain =
     (λ bit. told_apart _ _ refl, (λ bit. told_apart _ _ refl, (λ bit. told_apart _ _ refl, (λ bit. told_apart _ _ refl, (λ bit. told_apart _ _ refl, tt)))))
 
 pub outputs_differ : (mode : Mode) (bit : ℕ) → All (Differ (latch_name bit)) (output_names mode)
-outputs_differ modes.Frames bit = each_all (Differ (latch_name bit)) (output_names modes.Frames) (told_apart _ _ refl, tt)
-outputs_differ modes.Chain bit = each_all (Differ (latch_name bit)) (output_names modes.Chain) (told_apart _ _ refl, (told_apart _ _ refl, tt))
+outputs_differ modes.Frames bit = differs_from (latch_name bit) (output_names modes.Frames) refl
+outputs_differ modes.Chain bit = differs_from (latch_name bit) (output_names modes.Chain) refl
 
 pub config_port : (mode : Mode) → Contains (port_names mode) config_name
 config_port mode =
@@ -85,40 +67,34 @@ module _ (bits : ℕ) where
   abbrev latches : List (List ℕ)
   latches = counted bits latch_name
 
-  -- a name apart from these outputs and from all bits
-  none_driven : (outputs : List (List ℕ)) (name : List ℕ) → ((bit : ℕ) → latch_name bit ≢ name) → IsNoneOf outputs name → IsNoneOf (latches ++ outputs) name
-  none_driven outputs name no_latch no_output =
-      All-append (λ other. other ≢ name) latches outputs (all_counted (λ other. other ≢ name) bits latch_name (λ bit within. no_latch bit)) no_output
-
   none_held : (name : List ℕ) → ((bit : ℕ) → latch_name bit ≢ name) → IsNoneOf latches name
   none_held name no_latch = all_counted (λ other. other ≢ name) bits latch_name (λ bit within. no_latch bit)
+
+  -- an input: a name apart from all bits and from the outputs
+  apart : (mode : Mode) (name : List ℕ) → ((bit : ℕ) → latch_name bit ≢ name) → list_any (λ other. bytes_eq other name) (output_names mode) ≡ false →
+      IsNoneOf (latches ++ output_names mode) name
+  apart mode name no_latch no_output =
+      All-append (λ other. other ≢ name) latches (output_names mode) (none_held name no_latch) (none_is (output_names mode) name no_output)
 
   abbrev IsDriven : Mode → Port → Type 0
   IsDriven mode port = IsPortAmong (latches ++ output_names mode) latches port.input port.name
 
-  frames_in : (name : List ℕ) → ((bit : ℕ) → latch_name bit ≢ name) → config_name ≢ name → IsNoneOf (latches ++ output_names modes.Frames) name
-  frames_in name no_latch no_config = none_driven (output_names modes.Frames) name no_latch (each_all (λ other. other ≢ name) (output_names modes.Frames) (no_config, tt))
-
-  chain_in : (name : List ℕ) → ((bit : ℕ) → latch_name bit ≢ name) → chain_out_name ≢ name → config_name ≢ name → IsNoneOf (latches ++ output_names modes.Chain) name
-  chain_in name no_latch no_out no_config =
-      none_driven (output_names modes.Chain) name no_latch (each_all (λ other. other ≢ name) (output_names modes.Chain) (no_out, (no_config, tt)))
-
   pub ports_among : (mode : Mode) → All (IsDriven mode) (config_ports mode ++ vector false bits config_name ∷ [])
   ports_among modes.Frames =
       each_all (IsDriven modes.Frames) (frame_ports ++ vector false bits config_name ∷ []) (
-        frames_in frame_data_name (λ bit. told_apart _ _ refl) (told_apart _ _ refl),
+        apart modes.Frames frame_data_name (λ bit. told_apart _ _ refl) refl,
         (
-          frames_in frame_strobe_name (λ bit. told_apart _ _ refl) (told_apart _ _ refl),
+          apart modes.Frames frame_strobe_name (λ bit. told_apart _ _ refl) refl,
           ((Contains-append_right latches (output_names modes.Frames) config_name (0, omega arith, refl), none_held config_name (λ bit. told_apart _ _ refl)), tt),
         ),
       )
   ports_among modes.Chain =
       each_all (IsDriven modes.Chain) (chain_ports ++ vector false bits config_name ∷ []) (
-        chain_in clock_name (λ bit. told_apart _ _ refl) (told_apart _ _ refl) (told_apart _ _ refl),
+        apart modes.Chain clock_name (λ bit. told_apart _ _ refl) refl,
         (
-          chain_in write_strobe_name (λ bit. told_apart _ _ refl) (told_apart _ _ refl) (told_apart _ _ refl),
+          apart modes.Chain write_strobe_name (λ bit. told_apart _ _ refl) refl,
           (
-            chain_in chain_in_name (λ bit. told_apart _ _ refl) (told_apart _ _ refl) (told_apart _ _ refl),
+            apart modes.Chain chain_in_name (λ bit. told_apart _ _ refl) refl,
             (
               (Contains-append_right latches (output_names modes.Chain) chain_out_name (0, omega arith, refl), none_held chain_out_name (λ bit. told_apart _ _ refl)),
               ((Contains-append_right latches (output_names modes.Chain) config_name (1, omega arith, refl), none_held config_name (λ bit. told_apart _ _ refl)), tt),
