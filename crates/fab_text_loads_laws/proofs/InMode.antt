@@ -1,5 +1,5 @@
 -- What a fabric's text has of its top and of each tile, where its mode is known by another word.
-use Rattle.std.proofs.Common.{◌≡◌, ℕ, ◌<◌, List, [], ◌∷◌, ◌++◌, map, sym, subst, arith, Some, Contains}
+use Rattle.std.proofs.Common.{◌≡◌, ℕ, ◌<◌, refl, List, [], ◌∷◌, ◌++◌, map, sym, subst, arith, Some, Contains}
 use Rattle.std.specs.List.{flat_map, enumerate_from}
 use Rattle.std.proofs.lemmas.List.Elements.{Contains-append_left}
 use Rattle.fab_syntax.specs.Plain.{PlainJoin, PlainItem, PlainModule}
@@ -14,6 +14,7 @@ use Rattle.fab_drives_laws.specs.fab_gen_tile_Names.{tile_module_name, config_in
 use Rattle.fab_drives_laws.specs.fab_gen_tile_ConfigModule.{config_module}
 use Rattle.fab_drives_laws.specs.fab_gen_tile_TileModule.{tile_module}
 use Rattle.fab_drives_laws.specs.fab_fabric_text_defs_Mode.{text_mode}
+use Rattle.fab_loading_laws.specs.fab_frames_Stream.{stream_mode}
 use Rattle.fab_drives_laws.specs.fab_fabric_text_defs_Places.{PlacedTile, placed_tiles}
 use Rattle.fab_drives_laws.specs.fab_fabric_text_defs_Top.{carrying_items, tile_begin_wires, config_joins, row_joins, pad_joins, tile_joins, tile_instance, top_items}
 use Rattle.fab_drives_laws.specs.fab_tile_drives_laws_Stands.{TileStands}
@@ -23,6 +24,11 @@ use Rattle.fab_drives_laws.proofs.fab_tile_drives_laws_Members.{contains_later}
 use Rattle.fab_drives_laws.proofs.fab_tile_drives_laws_TileItems.{config_found}
 use Rattle.fab_drives_laws.proofs.Texts.{HasFabric}
 use Rattle.fab_text_loads_laws.specs.Points.{config_path}
+
+-- The text of a fabric and its bitstream are in one mode. Nothing else unfolds the two words.
+pub modes_agree : (fabric : PlainFabric) → text_mode fabric ≡ stream_mode fabric
+unfolding text_mode stream_mode
+modes_agree fabric = refl
 
 -- a text is not in both modes
 pub not_both : (mode : Mode) → mode ≡ modes.Frames → mode ≡ modes.Chain → ⊥

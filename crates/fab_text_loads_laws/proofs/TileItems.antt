@@ -96,7 +96,7 @@ IsNotCalled name (assign target e) = Unit {0}
 IsNotCalled name (latch target gate e) = Unit {0}
 IsNotCalled name (clocked clock target e) = Unit {0}
 
-none_named : (items : List PlainItem) (name : List ℕ) → All (IsNotCalled name) items → instance_named items name ≡ None
+pub none_named : (items : List PlainItem) (name : List ℕ) → All (IsNotCalled name) items → instance_named items name ≡ None
 none_named [] name all = refl
 none_named (wire shape other ∷ items) name all = none_named items name (All-tail (IsNotCalled name) (wire shape other) items all)
 none_named (reg shape other ∷ items) name all = none_named items name (All-tail (IsNotCalled name) (reg shape other) items all)
