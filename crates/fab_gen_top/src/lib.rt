@@ -2,6 +2,7 @@
 #![tactic(auto)]
 
 mod joins;
+mod mode;
 mod names;
 mod places;
 mod ports;
