@@ -51,7 +51,8 @@ fn printed_fabric(alloc: Global, fabric: &Fabric) -> Result<PrintedText, Memory>
 {
     let text = generate(alloc, fabric)?;
     let top = text.modules.len() - 1;
-    printed_text(alloc, text, top - loader_count(fabric), top)
+    let first = top - loader_count(fabric);
+    printed_text(alloc, text, first, top)
 }
 
 /// Refuses the text of a fabric that has too many bytes.

@@ -43,8 +43,9 @@ fn printed_with_port(alloc: Global, fabric: &Fabric) -> Result<PrintedText, Memo
     serial_texts_load();
     let text = generate(alloc, fabric)?;
     let top = text.modules.len() - 1;
+    let first = top - loader_count(fabric);
     let text = serial_text(alloc, text)?;
-    printed_text(alloc, text, top - loader_count(fabric), top)
+    printed_text(alloc, text, first, top)
 }
 
 /// The printed text of a fabric with a serial port, where the fabric is none with a chain and the text is not too long.
