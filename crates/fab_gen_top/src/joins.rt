@@ -16,7 +16,7 @@ ghost use Rattle.fab_text_loads_laws.specs.fab_fabric_text_defs_Mode.{text_mode}
 ghost use Rattle.fab_text_loads_laws.specs.fab_fabric_text_defs_Names.{column_strobe_name, chain_wire_name, begin_wire_name, pad_port_name};
 ghost use Rattle.fab_text_loads_laws.specs.fab_fabric_text_defs_Places.{placed_tiles};
 ghost use Rattle.fab_text_loads_laws.specs.fab_fabric_text_defs_Top.{config_joins, end_value, numbered_row, row_joins, pad_joins, tile_joins, tile_instance};
-ghost use Rattle.fab_gen_top.specs.inner.Standing.{type_of, placed_of, wire_behind, IsPlaceOf, IsBehind};
+ghost use Rattle.fab_gen_top.specs.inner.Standing.{type_of, placed_of, place_before, wire_behind, IsPlaceOf, IsBehind};
 
 use crate::mode::text_mode;
 use crate::names::{
@@ -32,6 +32,7 @@ use fab_syntax::{Expr, Item, Join, Word};
 use std::alloc::Global;
 
 /// Adds the instances of the tiles at these places, which are all.
+#[tactic(auto, using(crate::proofs::Steps::map_seen_more))]
 pub fn push_instances(
     alloc: Global,
     items: &mut Vec<Item>,
@@ -44,10 +45,19 @@ pub fn push_instances(
         ≡ map plain_item items.old.items ++ map (tile_instance fabric.now) (map (placed_of fabric.now) places.now)) }
 {
     for (number, place) in places.iter().enumerate() {
-        let before = places[..number].last().copied();
+        let before = place_before(places, number);
         items.push(tile_instance(alloc, fabric, *place, before)?)?;
     }
     Ok(())
+}
+
+// The place before one, by its number.
+#[tactic(auto, using(crate::proofs::Chain::none_before, crate::proofs::Chain::one_before))]
+fn place_before(places: &[Place], number: usize) -> Option<Place>
+    ensures { result ≡ place_before places.now number }
+{
+    let before = number.checked_sub(1)?;
+    places.get(before).copied()
 }
 
 // The instance of the tile at a place, with the place before it in the chain.

@@ -10,5 +10,6 @@ mod text;
 mod top;
 mod wires;
 
+pub use mode::text_mode;
 pub use text::generate;
 pub use top::top_module;
