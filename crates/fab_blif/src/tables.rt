@@ -34,7 +34,7 @@ fn covers_with_tables(alloc: Global, covers: &[WideCover]) -> Result<Vec<Cover>,
 /// The netlist with tables, of which no cover has more than four inputs.
 pub(crate) fn with_tables(alloc: Global, netlist: WideNetlist) -> Result<Netlist, Memory>
     requires made { IsWellMade (tabled netlist) }
-    requires narrow { All (λ cover. length cover.inputs ≤ 4) netlist.covers.items }
+    requires narrow { All (λ cover. length cover.inputs ≤ 4) netlist.covers }
     ensures { IfOk result (λ made. made ≡ tabled netlist) }
 {
     let covers = covers_with_tables(alloc, &netlist.covers)?;

@@ -5,7 +5,7 @@ use Rattle.fab_syntax.specs.Plain.{PlainExpr, constant, variable, pick, part, co
 use Rattle.fab_syntax.specs.Declarations.{is_input_of}
 use Rattle.fab_meaning.specs.Points.{Path, instance_in, module_at}
 use Rattle.fab_meaning.specs.Runs.{join_of, named_by, clock_of, is_clock}
-use Rattle.fab_nested_laws.specs.Nested.{path_in, StandsIn}
+use Rattle.fab_nested_laws.specs.Nested.{path_in, StandsIn, IsSameClock}
 use Rattle.fab_nested_laws.proofs.Stands.{above, same_module}
 
 -- two ways up that agree on names agree on what is joined; of the inner text it is asked what `ticks` tells of an input of its top
@@ -35,12 +35,18 @@ module _ (inner outer : List PlainModule) (i : List ℕ) (stands : StandsIn inne
       ]
 
   -- by induction on the path
-  pub same_clock : (path : Path) (m : PlainModule) (own : List ℕ) → module_at inner path ≡ Some m →
+  pub same_ticks : (path : Path) (m : PlainModule) (own : List ℕ) → module_at inner path ≡ Some m →
       is_clock clock (clock_of outer (path_in i path) own) ≡ ticks (clock_of inner path own)
-  same_clock [] m own at = at_top m own at
-  same_clock (j ∷ path) m own at =
+  same_ticks [] m own at = at_top m own at
+  same_ticks (j ∷ path) m own at =
       above inner (is_clock clock (clock_of outer (path_in i (j ∷ path)) own) ≡ ticks (clock_of inner (j ∷ path) own)) j path m at (λ holder here.
       ap₂ (λ o holds. is_clock clock (if is_input_of o own then named_by (join_of (instance_in holds j) own) (λ name. clock_of outer (path_in i path) name) else None))
       (same_module inner outer i stands (j ∷ path) m at) (same_module inner outer i stands path holder here)
-      ∙ leads_alike clock ticks unnamed (λ name. clock_of outer (path_in i path) name) (λ name. clock_of inner path name) (λ name. same_clock path holder name here)
+      ∙ leads_alike clock ticks unnamed (λ name. clock_of outer (path_in i path) name) (λ name. clock_of inner path name) (λ name. same_ticks path holder name here)
       (is_input_of (module_at inner (j ∷ path)) own) (join_of (instance_in (module_at inner path) j) own))
+
+-- so a clock of the outer text that is one of the inner text ticks the same flip-flops
+module _ (inner outer : List PlainModule) (i : List ℕ) (stands : StandsIn inner outer i) (clock : List ℕ) (same : IsSameClock inner outer i clock) where
+  pub same_clock : (path : Path) (m : PlainModule) (own : List ℕ) → module_at inner path ≡ Some m →
+      is_clock clock (clock_of outer (path_in i path) own) ≡ is_clock clock (clock_of inner path own)
+  same_clock path m own at = same_ticks inner outer i stands clock (is_clock clock) refl same path m own at

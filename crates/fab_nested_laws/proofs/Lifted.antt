@@ -10,14 +10,14 @@ use Rattle.fab_syntax.specs.Declarations.{module_named, is_input_of, width_in}
 use Rattle.fab_meaning.specs.Value.{value, bit_at}
 use Rattle.fab_meaning.specs.Points.{Path, Point, point, Driver, outside, copy, bit_of, flop, hold, JoinDrives, ItemDrives, IsDrivenByItem, Drives, module_at}
 use Rattle.fab_meaning.specs.Settled.{Assignment, names_at, shown}
-use Rattle.fab_meaning.specs.Runs.{is_clock, kept}
+use Rattle.fab_meaning.specs.Runs.{kept}
 use Rattle.fab_meaning.specs.Reads.{mentions, same_path, is_declared, expression_reads, reads, next_reads}
 use Rattle.fab_meaning.specs.Loading.{IsDerived}
 use Rattle.fab_meaning.proofs.Dependence.{value_same, same_path_refl, same_point_refl, same_point_is}
 use Rattle.fab_nested_laws.specs.Nested.{path_in, inside, within, NamesAlike, StandsIn, IsSameClock, IsShown, IsKept, IsNested}
 use Rattle.fab_nested_laws.specs.Together.{is_among, kept_together, TicksAs, IsKeptTogether, NestedTicksTogether}
 use Rattle.fab_nested_laws.proofs.Stands.{items_alike, module_inside, same_module}
-use Rattle.fab_nested_laws.proofs.Clocks.{same_clock}
+use Rattle.fab_nested_laws.proofs.Clocks.{same_clock, same_ticks}
 
 -- a driver of the inner text in the outer one
 abbrev pub lifted : (i : List ℕ) → Driver → Driver
@@ -85,7 +85,7 @@ module _ (inner outer : List PlainModule) (i : List ℕ) (stands : StandsIn inne
   kept_inside clock same held now p (copy other) place = refl
   kept_inside clock same held now p (bit_of path e bit) place = refl
   kept_inside clock same held now p (flop path own next bit) place =
-      ap₂ (λ (ticks : Bool) bits. if ticks then bit_at bits bit else held (inside i p)) (same_clock inner outer i stands clock (is_clock clock) refl same path place.here own place.stands)
+      ap₂ (λ (ticks : Bool) bits. if ticks then bit_at bits bit else held (inside i p)) (same_clock inner outer i stands clock same path place.here own place.stands)
       (value_inside now path place next)
   kept_inside clock same held now p (hold path gate e bit) place = refl
 
@@ -96,7 +96,7 @@ module _ (inner outer : List PlainModule) (i : List ℕ) (stands : StandsIn inne
   kept_together_inside clock clocks same held now p (bit_of path e bit) place = refl
   kept_together_inside clock clocks same held now p (flop path own next bit) place =
       ap₂ (λ (ticks : Bool) bits. if ticks then bit_at bits bit else held (inside i p))
-      (same_clock inner outer i stands clock (is_among clocks) (none_among clocks) same path place.here own place.stands) (value_inside now path place next)
+      (same_ticks inner outer i stands clock (is_among clocks) (none_among clocks) same path place.here own place.stands) (value_inside now path place next)
   kept_together_inside clock clocks same held now p (hold path gate e bit) place = refl
 
   -- ---- reads
