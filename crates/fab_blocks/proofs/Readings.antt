@@ -172,7 +172,7 @@ has_lines (blocks.Tile block) lines some = some
 
 -- with other lines in the grid
 pub sound_lines : (reading : PlainReading) (lines : List PlainGridLine) → IsReading reading → IsGrid lines → 1 ≤ length lines
-    → IsReading (record { types = reading.types; grid = Some lines; parameters = reading.parameters; begun = reading.begun })
+    → IsReading (record reading { grid = Some lines })
 sound_lines reading lines sound grid some = record {
   names = sound.names;
   few_types = sound.few_types;
@@ -206,8 +206,8 @@ sound_closed reading block begun sound was outside = record {
 
 -- with one tile more
 pub sound_type : (reading : PlainReading) (types : List PlainTile) (tile : PlainTile) → IsReading reading → reading.begun ≡ blocks.Outside → HasRoom reading.types tile.name tile.bels → types ≡ reading.types ++ tile ∷ []
-    → IsReading (record { types = types; grid = reading.grid; parameters = reading.parameters; begun = reading.begun })
-sound_type reading types tile sound outside room is = subst (λ (now : List PlainTile). IsReading (record { types = now; grid = reading.grid; parameters = reading.parameters; begun = reading.begun })) (sym is) (record {
+    → IsReading (record reading { types = types })
+sound_type reading types tile sound outside room is = subst (λ (now : List PlainTile). IsReading (record reading { types = now })) (sym is) (record {
   names = names_more reading.types tile sound.names room.fresh;
   few_types = omega (arith, room.room, length-append reading.types (tile ∷ []));
   few_bels = All-push (λ (t : PlainTile). length t.bels ≤ 26) reading.types tile sound.few_bels room.few_bels;

@@ -1,4 +1,4 @@
--- What a row says that leaves what was read so far as it is, but perhaps for the block in which it stands.
+-- What a row says that leaves what was read so far as it is, but perhaps for the block in which it stands; and what a parameter tells.
 use Rattle.std.specs.Prelude.{ℕ, List, ◌==◌, ◌||◌, ◌&&◌, not, nat_lt, length, codes, Option, Some, None, Result, Ok, Err, if◌then◌else◌}
 use Rattle.std.specs.Str.{bytes_eq}
 use Rattle.fab_base.specs.declared.problem.Problem.{Problem}
@@ -8,6 +8,8 @@ use Rattle.fab_base.specs.declared.words.Reason.TheVariants as reasons
 use Rattle.fab_base.specs.declared.words.Quantity.TheVariants as quantities
 use Rattle.fab_lines.specs.Order.{judged}
 use Rattle.fab_paths.specs.Paths.{stem, is_path, resolved}
+use Rattle.fab_model.specs.declared.mode.Mode.{Mode}
+use Rattle.fab_model.specs.declared.mode.Mode.TheVariants as modes
 use Rattle.fab_model.specs.declared.tiles.Dir.{Dir}
 use Rattle.fab_blocks.specs.declared.words.Word.{Word}
 use Rattle.fab_blocks.specs.declared.words.Word.TheVariants as rows
@@ -26,12 +28,18 @@ foreign_row cells = Err (problems.Unsupported (cell_at cells 0))
 
 -- ---- parameters
 
--- configuration bits come in frames; a chain of flip-flops is not supported
+-- frames keep the configuration, or a chain of flip-flops
 unfoldable pub mode_problem : (value : List ℕ) → Option Problem
 mode_problem value =
     if bytes_eq value (codes "frame_based") then None
-    else if bytes_eq value (codes "FlipFlopChain") then Some (problems.Unsupported value)
+    else if bytes_eq value (codes "FlipFlopChain") then None
     else Some (problems.Malformed reasons.Row)
+
+-- the mode behind a row of parameters; the last row of the key counts
+unfoldable pub told_mode : (key value : List ℕ) → Mode → Mode
+told_mode key value old =
+    if bytes_eq key (codes "ConfigBitMode") then (if bytes_eq value (codes "FlipFlopChain") then modes.Chain else modes.Frames)
+    else old
 
 -- Frames have 32 bits for each row and columns have 20 frames. Other keys have no effect, whatever their value.
 unfoldable pub value_problem : (key value : List ℕ) → Option Problem
@@ -40,11 +48,6 @@ value_problem key value =
     else if bytes_eq key (codes "FrameBitsPerRow") && not (bytes_eq value (codes "32")) then Some (problems.Unsupported key)
     else if bytes_eq key (codes "MaxFramesPerCol") && not (bytes_eq value (codes "20")) then Some (problems.Unsupported key)
     else None
-
-unfoldable pub parameter_row : (cells : List (List ℕ)) → Result Said Problem
-parameter_row cells =
-    if not (length cells == 2) then malformed reasons.Row
-    else judged (value_problem (cell_at cells 0) (cell_at cells 1)) said.Taken
 
 -- ---- other files
 
@@ -67,18 +70,13 @@ include_row holder cells = judged (first_problem (path_problem holder cells) (de
 unfoldable pub tiles_row : PlainHolder → (cells : List (List ℕ)) → Result Said Problem
 tiles_row holder cells = judged (path_problem holder cells) (said.NamesTiles (file_named holder cells))
 
--- ---- rows outside of blocks, and inside the parameter block
+-- ---- rows outside of blocks
 
 unfoldable pub outer_row : PlainHolder → Word → (cells : List (List ℕ)) → Result Said Problem
 outer_row holder rows.Foreign cells = foreign_row cells
 outer_row holder rows.Tile cells = if holder.is_fabric then tiles_row holder cells else malformed reasons.Row
 outer_row holder rows.Include cells = include_row holder cells
 outer_row holder _ cells = malformed reasons.Row
-
-unfoldable pub inner_parameter : PlainHolder → Word → (cells : List (List ℕ)) → Result Said Problem
-inner_parameter holder rows.Foreign cells = foreign_row cells
-inner_parameter holder rows.Tile cells = tiles_row holder cells
-inner_parameter holder _ cells = parameter_row cells
 
 -- ---- rows of a tile block
 

@@ -1,6 +1,8 @@
 -- What was read so far of a fabric file and of the files that stand in it.
 use Rattle.std.specs.Prelude.{◌≡◌, ◌≢◌, ◌≤◌, ◌<◌, ℕ, Bool, true, false, All, AllPairs, List, [], ◌∷◌, ◌++◌, map, length, Option, Some, None}
 use Rattle.std.specs.Option.{ForSome}
+use Rattle.fab_model.specs.declared.mode.Mode.{Mode}
+use Rattle.fab_model.specs.declared.mode.Mode.TheVariants as modes
 use Rattle.fab_model.specs.declared.tiles.Bel.{Bel}
 use Rattle.fab_model.specs.Tiles.{PlainTile}
 use Rattle.fab_blocks.specs.declared.standing.OpenBlock.{OpenBlock}
@@ -22,11 +24,13 @@ pub record PlainReading : Type 0 where
   -- the lines of the grid, where its block has begun
   pub grid : Option (List PlainGridLine)
   pub parameters : Parameters
+  -- the mode that the last row of its key has told; frames where there is none
+  pub configuration : Mode
   -- the grid or the tile block that is open
   pub begun : OpenBlock
 
 abbrev pub start : PlainReading
-start = record { types = []; grid = None; parameters = parts.Absent; begun = blocks.Outside }
+start = record { types = []; grid = None; parameters = parts.Absent; configuration = modes.Frames; begun = blocks.Outside }
 
 -- Where a row stands: its file, whether that is a fabric file or is included in one (else it holds tiles alone), whether the block that is open, if one is, was begun in this
 -- file, and how many INCLUDE rows may still be opened.
@@ -69,16 +73,19 @@ tile_names reading = map (λ tile. tile.name) reading.types ++ open_name reading
 -- ---- one row more
 
 abbrev pub with_open_block : PlainReading → OpenBlock → PlainReading
-with_open_block reading begun = record { types = reading.types; grid = reading.grid; parameters = reading.parameters; begun = begun }
+with_open_block reading begun = record reading { begun = begun }
 
 abbrev pub with_grid : PlainReading → List PlainGridLine → OpenBlock → PlainReading
-with_grid reading lines begun = record { types = reading.types; grid = Some lines; parameters = reading.parameters; begun = begun }
+with_grid reading lines begun = record reading { grid = Some lines; begun = begun }
 
 abbrev pub with_parameters : PlainReading → Parameters → PlainReading
-with_parameters reading parameters = record { types = reading.types; grid = reading.grid; parameters = parameters; begun = reading.begun }
+with_parameters reading parameters = record reading { parameters = parameters }
+
+abbrev pub with_configuration : PlainReading → Mode → PlainReading
+with_configuration reading mode = record reading { configuration = mode }
 
 abbrev pub with_type : PlainReading → PlainTile → PlainReading
-with_type reading tile = record { types = reading.types ++ tile ∷ []; grid = reading.grid; parameters = reading.parameters; begun = reading.begun }
+with_type reading tile = record reading { types = reading.types ++ tile ∷ [] }
 
 -- ---- what holds of every reading
 

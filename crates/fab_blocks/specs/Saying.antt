@@ -22,12 +22,17 @@ use Rattle.fab_blocks.specs.Cells.{is_null, is_tile_name, long_of, long_problem,
 use Rattle.fab_lines.specs.Items.{is_among}
 use Rattle.fab_blocks.specs.Words.{word_of}
 use Rattle.fab_blocks.specs.Blocks.{PlainBlock, new_block}
-use Rattle.fab_blocks.specs.Inner.{malformed, outer_row, inner_parameter, block_row}
-use Rattle.fab_blocks.specs.Reading.{PlainReading, HasRoom, PlainGridLine, PlainHolder, place_of, tile_names, with_open_block, with_grid, with_parameters}
+use Rattle.fab_blocks.specs.Inner.{malformed, foreign_row, value_problem, told_mode, tiles_row, outer_row, block_row}
+use Rattle.fab_blocks.specs.Reading.{PlainReading, HasRoom, PlainGridLine, PlainHolder, place_of, tile_names, with_open_block, with_grid, with_parameters, with_configuration}
 
 -- what a row says, and what was read then
 abbrev pub Step : Type 0
 Step = PlainReading × Said
+
+-- what a row says that leaves what was read so far as it is
+abbrev pub with_said : PlainReading → Result Said Problem → Result Step Problem
+with_said reading (Ok says) = Ok (reading, says)
+with_said reading (Err problem) = Err problem
 
 unfoldable pub is_place : Place → Place → Bool
 is_place places.Outside places.Outside = true
@@ -113,6 +118,21 @@ end_parameters reading holder cells =
     else if not (stands reading holder places.Parameters && holder.is_own) then malformed reasons.Block
     else Ok (with_parameters reading parts.Ended, said.Taken)
 
+-- what was read then, where a parameter has this value
+abbrev pub with_parameter : PlainReading → (key value : List ℕ) → PlainReading
+with_parameter reading key value = with_configuration reading (told_mode key value reading.configuration)
+
+unfoldable pub parameter_row : PlainReading → (cells : List (List ℕ)) → Result Step Problem
+parameter_row reading cells =
+    if not (length cells == 2) then malformed reasons.Row
+    else judged (value_problem (cell_at cells 0) (cell_at cells 1)) (with_parameter reading (cell_at cells 0) (cell_at cells 1), said.Taken)
+
+-- a row in the block of parameters
+unfoldable pub inner_parameter : PlainReading → PlainHolder → Word → (cells : List (List ℕ)) → Result Step Problem
+inner_parameter reading holder rows.Foreign cells = with_said reading (foreign_row cells)
+inner_parameter reading holder rows.Tile cells = with_said reading (tiles_row holder cells)
+inner_parameter reading holder _ cells = parameter_row reading cells
+
 -- ---- tile blocks
 
 unfoldable pub begin_reason : PlainReading → PlainHolder → (cells : List (List ℕ)) → Option Reason
@@ -148,10 +168,6 @@ end_tile reading holder cells =
 
 -- ---- other rows, by where they stand
 
-abbrev pub with_said : PlainReading → Result Said Problem → Result Step Problem
-with_said reading (Ok says) = Ok (reading, says)
-with_said reading (Err problem) = Err problem
-
 abbrev pub with_block : PlainReading → Result (PlainBlock × Said) Problem → Result Step Problem
 with_block reading (Ok step) = Ok (with_open_block reading (blocks.Tile step.0), step.1)
 with_block reading (Err problem) = Err problem
@@ -160,7 +176,7 @@ unfoldable pub row_in : PlainReading → OpenBlock → PlainHolder → Word → 
 row_in reading blocks.Grid holder word row = grid_line reading holder row
 row_in reading (blocks.Tile block) holder word row = with_block reading (block_row block holder word row.cells)
 row_in reading blocks.Outside holder word row =
-    with_said reading (if stands reading holder places.Parameters then inner_parameter holder word row.cells else outer_row holder word row.cells)
+    if stands reading holder places.Parameters then inner_parameter reading holder word row.cells else with_said reading (outer_row holder word row.cells)
 
 -- the words that begin and end blocks keep their meaning everywhere
 unfoldable pub say : PlainReading → PlainHolder → Word → PlainRow → Result Step Problem

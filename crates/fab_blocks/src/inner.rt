@@ -1,14 +1,15 @@
-//! Rows that leave what was read so far as it is: values of parameters, and rows that name other files.
+//! Rows that leave what was read so far as it is, as those that name other files; and what a parameter tells.
 
 ghost use Rattle.std.specs.Prelude.{◌≡◌, IfOk};
 ghost use Rattle.fab_base.specs.Reading.{Answers};
-ghost use Rattle.fab_blocks.specs.Inner.{IsPlain, depth_problem, file_named, foreign_row, include_row, inner_parameter, mode_problem, outer_row, parameter_row, path_problem, tiles_row, value_problem};
+ghost use Rattle.fab_blocks.specs.Inner.{IsPlain, depth_problem, file_named, foreign_row, include_row, mode_problem, outer_row, path_problem, tiles_row, told_mode, value_problem};
 
 use crate::cells::{cell_at, is_path};
 use crate::holder::Holder;
 use crate::standing::Said;
 use crate::words::Word;
 use fab_base::{Memory, Name, Problem, Quantity, Reason};
+use fab_model::Mode;
 use fab_paths::resolve;
 use std::alloc::Global;
 
@@ -24,24 +25,36 @@ pub fn foreign_row(alloc: Global, cells: &[Name]) -> Result<Said, Problem>
 }
 
 #[tactic(auto, unfolding(crate::specs::Inner::mode_problem))]
-fn mode_problem(alloc: Global, value: &[u8]) -> Result<Option<Problem>, Memory>
-    ensures { IfOk result (λ problem. problem ≡ mode_problem value.now) }
+fn mode_problem(value: &[u8]) -> Option<Problem>
+    ensures { result ≡ mode_problem value.now }
 {
-    if value == b"frame_based".as_slice() {
-        return Ok(None);
+    if value == b"frame_based".as_slice() || value == b"FlipFlopChain".as_slice() {
+        return None;
     }
-    if value == b"FlipFlopChain".as_slice() {
-        return Ok(Some(Problem::Unsupported(Name::of(alloc, value)?)));
-    }
-    Ok(Some(Problem::Malformed(Reason::Row)))
+    Some(Problem::Malformed(Reason::Row))
 }
 
+/// The mode behind a row of parameters whose value is not refused, where this one came before.
+#[tactic(auto, unfolding(crate::specs::Inner::told_mode))]
+pub fn told_mode(key: &[u8], value: &[u8], old: Mode) -> Mode
+    ensures { result ≡ told_mode key.now value.now old }
+{
+    if key != b"ConfigBitMode".as_slice() {
+        return old;
+    }
+    if value == b"FlipFlopChain".as_slice() {
+        return Mode::Chain;
+    }
+    Mode::Frames
+}
+
+/// Why a parameter may not have this value, if so.
 #[tactic(auto, unfolding(crate::specs::Inner::value_problem))]
-fn value_problem(alloc: Global, key: &[u8], value: &[u8]) -> Result<Option<Problem>, Memory>
+pub fn value_problem(alloc: Global, key: &[u8], value: &[u8]) -> Result<Option<Problem>, Memory>
     ensures { IfOk result (λ problem. problem ≡ value_problem key.now value.now) }
 {
     if key == b"ConfigBitMode".as_slice() {
-        return mode_problem(alloc, value);
+        return Ok(mode_problem(value));
     }
     if key == b"FrameBitsPerRow".as_slice() && value != b"32".as_slice() {
         return Ok(Some(Problem::Unsupported(Name::of(alloc, key)?)));
@@ -50,20 +63,6 @@ fn value_problem(alloc: Global, key: &[u8], value: &[u8]) -> Result<Option<Probl
         return Ok(Some(Problem::Unsupported(Name::of(alloc, key)?)));
     }
     Ok(None)
-}
-
-#[tactic(auto, unfolding(crate::specs::Inner::parameter_row))]
-fn parameter_row(alloc: Global, cells: &[Name]) -> Result<Said, Problem>
-    ensures said { Answers (λ said. said) result (parameter_row cells.now) }
-    ensures plain { IfOk result IsPlain }
-{
-    if cells.len() != 2 {
-        return Err(Problem::Malformed(Reason::Row));
-    }
-    match value_problem(alloc, cell_at(cells, 0), cell_at(cells, 1))? {
-        Some(problem) => Err(problem),
-        None => Ok(Said::Taken),
-    }
 }
 
 #[tactic(auto, unfolding(crate::specs::Inner::path_problem))]
@@ -111,7 +110,7 @@ pub fn include_row(alloc: Global, holder: &Holder, cells: &[Name]) -> Result<Sai
 }
 
 #[tactic(auto, unfolding(crate::specs::Inner::tiles_row))]
-fn tiles_row(alloc: Global, holder: &Holder, cells: &[Name]) -> Result<Said, Problem>
+pub fn tiles_row(alloc: Global, holder: &Holder, cells: &[Name]) -> Result<Said, Problem>
     ensures said { Answers (λ said. said) result (tiles_row holder.now cells.now) }
     ensures plain { IfOk result IsPlain }
 {
@@ -142,23 +141,5 @@ pub fn outer_row(
         }
         Word::Include => include_row(alloc, holder, cells),
         _ => Err(Problem::Malformed(Reason::Row)),
-    }
-}
-
-/// What a row says inside the block of parameters.
-#[tactic(auto, unfolding(crate::specs::Inner::inner_parameter))]
-pub fn inner_parameter(
-    alloc: Global,
-    holder: &Holder,
-    word: Word,
-    cells: &[Name],
-) -> Result<Said, Problem>
-    ensures said { Answers (λ said. said) result (inner_parameter holder.now word cells.now) }
-    ensures plain { IfOk result IsPlain }
-{
-    match word {
-        Word::Foreign => foreign_row(alloc, cells),
-        Word::Tile => tiles_row(alloc, holder, cells),
-        _ => parameter_row(alloc, cells),
     }
 }

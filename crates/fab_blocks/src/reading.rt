@@ -12,19 +12,20 @@ use crate::holder::Holder;
 use crate::standing::{OpenBlock, Parameters, Place, Said};
 use crate::words::word_of;
 use fab_base::{Memory, Problem, Reason};
-use fab_model::TileType;
+use fab_model::{Mode, TileType};
 use fab_rows::Row;
 use std::alloc::Global;
 use std::marker::Model;
 
 mod steps;
 
-/// What was read so far: the tiles whose blocks have ended, the grid, and the block that is open.
+/// What was read so far: the tiles whose blocks have ended, the grid, what parameters tell, and the block that is open.
 #[derive(Debug, Drop)]
 pub struct Reading {
     types: Vec<TileType>,
     grid: Option<Vec<GridLine>>,
     parameters: Parameters,
+    configuration: Mode,
     begun: OpenBlock,
 }
 
@@ -34,9 +35,9 @@ impl Model for Reading {
 
     ghost Value = { PlainReading };
 
-    ghost view = { λ r. record { types = r.types.items; grid = option_map (λ lines. lines.items) r.grid; parameters = r.parameters; begun = r.begun } };
+    ghost view = { λ r. record { types = r.types.items; grid = option_map (λ lines. lines.items) r.grid; parameters = r.parameters; configuration = r.configuration; begun = r.begun } };
 
-    ghost invariant = { λ r. IsReading (record { types = r.types.items; grid = option_map (λ lines. lines.items) r.grid; parameters = r.parameters; begun = r.begun }) };
+    ghost invariant = { λ r. IsReading (record { types = r.types.items; grid = option_map (λ lines. lines.items) r.grid; parameters = r.parameters; configuration = r.configuration; begun = r.begun }) };
 }
 
 impl Reading {
@@ -48,6 +49,7 @@ impl Reading {
             types: Vec::new(alloc),
             grid: None,
             parameters: Parameters::Absent,
+            configuration: Mode::Frames,
             begun: OpenBlock::Outside,
         }
     }
@@ -96,6 +98,13 @@ impl Reading {
     {
         self.types.push(tile)?;
         Ok(())
+    }
+
+    /// What keeps the configuration, as the last row of its key has told.
+    pub fn configuration(&self) -> Mode
+        ensures { result ≡ self.now.configuration }
+    {
+        self.configuration
     }
 
     /// The tiles in the order of their blocks' ends, and the lines of the grid, if there is one.

@@ -7,6 +7,7 @@ pub mod Picking
 pub mod Compiling
 pub mod Placed
 pub mod Evaluated
+pub mod Written
 pub use Rattle.fab_equations.proofs.Numbering as fab_equations_Numbering
 pub use Rattle.fab_solutions_laws.proofs.Demanded as fab_solutions_laws_Demanded
 pub use Rattle.fab_solutions_laws.proofs.Orders as fab_solutions_laws_Orders

@@ -13,12 +13,15 @@ ghost use Rattle.fab_compiled.specs.Evaluation.{all_known, known_bits, value_see
 use crate::operators::{agreed, both, differs, either, inverse};
 use crate::tree::Tree;
 use crate::view::View;
+use crate::whole_values::deep_bit;
 use fab_ternary::Tern;
 
 /// The most bits that an index may have.
 pub(crate) const MOST_INDEX_BITS: usize = 32;
 
-/// A bit of the value of an expression over the points of an instance, of which the first is given.
+/// A bit of the value of an expression over the points of an instance, of which the first is given. Each bit of its operands is found at most
+/// once: of `==` and `-` by their values as a whole, for which memory is taken where an operand is more than a name, a part of one or a constant.
+/// Where there is no memory, their bits are found anew for each bit.
 #[cycle(value)]
 pub fn eval(tree: &Tree, bit: u64, first: usize, view: &View) -> Tern
     requires made { IsMade tree.now }
@@ -53,8 +56,14 @@ pub fn eval(tree: &Tree, bit: u64, first: usize, view: &View) -> Tern
             eval(left, bit, first, view),
             eval(right, bit, first, view),
         ),
-        Tree::Equal(_, _, _) => same(tree, first, view),
-        Tree::Minus(_, _, _) => difference_bit(tree, bit, first, view),
+        Tree::Equal(_, left, right) => match deep_bit(tree, (left, right), bit, first, view) {
+            Some(found) => found,
+            None => same(tree, first, view),
+        },
+        Tree::Minus(_, left, right) => match deep_bit(tree, (left, right), bit, first, view) {
+            Some(found) => found,
+            None => difference_bit(tree, bit, first, view),
+        },
         Tree::Cond(test, yes, no) => match eval(test, 0, first, view) {
             Tern::Yes => eval(yes, bit, first, view),
             Tern::No => eval(no, bit, first, view),
@@ -93,7 +102,7 @@ fn index_bits(index: &Tree, width: u32, first: usize, view: &View) -> [Tern; MOS
 }
 
 // The entry at an index of a table whose entries are points, of which the first is given, and how far each is behind the one before it.
-fn entry(index: &[Tern], first: usize, stride: usize, view: &View) -> Tern
+pub(crate) fn entry(index: &[Tern], first: usize, stride: usize, view: &View) -> Tern
     requires leads { IsView view.now.terns.now view.now.leads.now }
     requires small { length view.now.leads.now ≤ 2 ^ 32 }
     requires within { first + stride * 2 ^ length index.now < length view.now.leads.now + stride }

@@ -1,4 +1,4 @@
-//! Ternary values of expressions whose names are places already: compiled once for all instances of a module, and evaluated without memory.
+//! Ternary values of expressions whose names are places already: compiled once for all instances of a module, and evaluated bit by bit or as a whole.
 #![tactic(auto)]
 
 mod compiler;
@@ -10,6 +10,7 @@ mod operators;
 mod picks;
 mod tree;
 mod view;
+mod whole_values;
 
 pub use compiler::{Compiled, compile};
 pub use evaluation::eval;
@@ -17,3 +18,4 @@ pub use leads::{Lead, follow};
 pub use operators::through;
 pub use tree::Tree;
 pub use view::View;
+pub use whole_values::whole;

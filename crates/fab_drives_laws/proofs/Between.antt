@@ -5,6 +5,7 @@ use Rattle.fab_fabric_text_defs.specs.fab_meaning_Points.{Point, point}
 use Rattle.fab_fabric_text_defs.specs.fab_meaning_Settled.{Assignment, names_at}
 use Rattle.fab_fabric_text_defs.specs.fab_meaning_Value.{value, bit_at}
 use Rattle.fab_fabric_text_defs.specs.fab_prim_Ports.{top_name, top_inputs}
+use Rattle.fab_fabric_text_defs.specs.fab_model_mode_Mode.{Mode}
 use Rattle.fab_fabric_text_defs.specs.fab_model_tiles_Bel.{Bel}
 use Rattle.fab_fabric_text_defs.specs.fab_model_Rows.{is_jump}
 use Rattle.fab_fabric_text_defs.specs.fab_model_Tiles.{PlainTile}
@@ -16,6 +17,7 @@ use Rattle.fab_fabric_text_defs.specs.fab_gen_tile_Names.{tile_module_name, begi
 use Rattle.fab_fabric_text_defs.specs.fab_gen_tile_Borders.{side_border}
 use Rattle.fab_fabric_text_defs.specs.fab_gen_tile_TileModule.{tile_module}
 use Rattle.fab_fabric_text_defs.specs.Names.{pad_port_name, begin_wire_name}
+use Rattle.fab_fabric_text_defs.specs.Mode.{text_mode}
 use Rattle.fab_fabric_text_defs.specs.Top.{end_value, tile_joins, top_module}
 use Rattle.fab_tile_drives_laws.specs.Stands.{IsSettledOnDeclared}
 use Rattle.fab_tile_drives_laws.proofs.Driven.{joined_in, joined_out, variable_bit}
@@ -40,6 +42,9 @@ at_one Has text inputs held now q has = fewer Has (λ p. p ≡ q) text inputs he
 
 module _ (fabric : PlainFabric) (text : List PlainModule) (has : HasFabric fabric text) (Has : Point → Type 0) (inputs held now : Assignment)
     (settled : IsSettledOnDeclared Has text inputs held now) where
+  abbrev mode : Mode
+  mode = text_mode fabric
+
   -- an end bit of a tile has the value of the wire that comes to it
   pub end_gets : (here : PlacedRow) (bit : ℕ) → IsPlaced fabric here → is_jump here.row.dir ≡ false → bit < side_border here.row here.row.dest →
       Has (point (row_path here) (end_name here.row bit) 0) →
@@ -50,10 +55,10 @@ module _ (fabric : PlainFabric) (text : List PlainModule) (has : HasFabric fabri
       let tile = here.tile in
       let number = here.place.row in
       let placed = placed_tile x y tile in
-      joined_in Has text inputs held now settled [] (top_module fabric) (tile_module tile) (tile_module_name tile) (place_name x y) (tile_joins fabric placed) has.top_is
+      joined_in Has text inputs held now settled [] (top_module fabric) (tile_module mode tile) (tile_module_name tile) (place_name x y) (tile_joins fabric placed) has.top_is
       (has.module_is x y tile stands.tile_is) (tile_instance_there fabric x y tile stands.tile_is) (end_name here.row bit) (end_value (previous_row fabric here) bit) 0
       (end_is_joined fabric placed number here.row bit stands.row_is no_jump few) (has.stands x y tile stands.tile_is).tile_is
-      (end_is_input tile number here.row bit stands.row_is no_jump few) (end_wide tile number bit here.row stands.row_is no_jump few) own
+      (end_is_input mode tile number here.row bit stands.row_is no_jump few) (end_wide mode tile number bit here.row stands.row_is no_jump few) own
 
   -- a wire between tiles has the value of the begin bit from which it comes
   pub wire_gets : (here : PlacedRow) (bit : ℕ) → IsPlaced fabric here → is_jump here.row.dir ≡ false → bit < side_border here.row here.row.source →
@@ -68,9 +73,9 @@ module _ (fabric : PlainFabric) (text : List PlainModule) (has : HasFabric fabri
       let placed = placed_tile x y tile in
       let some = begin_wire_has_bits fabric x y tile number here.row bit stands.tile_is stands.row_is no_jump few in
       variable_bit text now [] (top_module fabric) has.top_is name 0 some
-      ∙ joined_out Has text inputs held now settled [] (top_module fabric) (tile_module tile) (tile_module_name tile) (place_name x y) (tile_joins fabric placed) has.top_is
+      ∙ joined_out Has text inputs held now settled [] (top_module fabric) (tile_module mode tile) (tile_module_name tile) (place_name x y) (tile_joins fabric placed) has.top_is
       (has.module_is x y tile stands.tile_is) (tile_instance_there fabric x y tile stands.tile_is) (begin_name here.row bit) name 0
-      (begin_is_joined fabric placed number here.row bit stands.row_is no_jump few) (begin_is_output tile number here.row bit stands.row_is no_jump few) some own
+      (begin_is_joined fabric placed number here.row bit stands.row_is no_jump few) (begin_is_output mode tile number here.row bit stands.row_is no_jump few) some own
 
   -- what comes to a pad comes from outside
   pub pad_gets : (x y : ℕ) (tile : PlainTile) (number : ℕ) (bel : Bel) → tile_at fabric x y ≡ Some tile → slice_get tile.bels number ≡ Some bel →
@@ -79,8 +84,8 @@ module _ (fabric : PlainFabric) (text : List PlainModule) (has : HasFabric fabri
   pad_gets x y tile number bel there stands is_pad own =
       let port = pad_port_name x y number top_name in
       let placed = placed_tile x y tile in
-      joined_in Has text inputs held now settled [] (top_module fabric) (tile_module tile) (tile_module_name tile) (place_name x y) (tile_joins fabric placed) has.top_is
+      joined_in Has text inputs held now settled [] (top_module fabric) (tile_module mode tile) (tile_module_name tile) (place_name x y) (tile_joins fabric placed) has.top_is
       (has.module_is x y tile there) (tile_instance_there fabric x y tile there) (pad_name number top_name) (variable port) 0
-      (pad_is_joined fabric placed number bel stands is_pad) (has.stands x y tile there).tile_is (pad_is_input tile number bel stands is_pad)
-      (top_wide tile number bel top_name stands is_pad) own
+      (pad_is_joined fabric placed number bel stands is_pad) (has.stands x y tile there).tile_is (pad_is_input mode tile number bel stands is_pad)
+      (top_wide mode tile number bel top_name stands is_pad) own
       ∙ variable_bit text now [] (top_module fabric) has.top_is port 0 (pad_port_has_bits fabric x y tile number bel there stands is_pad)

@@ -6,6 +6,7 @@ use Rattle.fab_fabric_text_defs.specs.fab_model_Tiles.{PlainTile, IsTile}
 use Rattle.fab_fabric_text_defs.specs.fab_model_Grid.{PlainFabric, tile_at, AllRows, AreRows}
 use Rattle.fab_fabric_text_defs.specs.fab_fabric_Fabric.{IsFabric, AreTiles}
 use Rattle.fab_fabric_text_defs.specs.fab_gen_loader_Loader.{loader_module_name}
+use Rattle.fab_fabric_text_defs.specs.Mode.{text_mode}
 use Rattle.fab_fabric_text_defs.specs.Text.{fabric_text}
 use Rattle.fab_tile_drives_laws.specs.Tiles.{TileWorks}
 use Rattle.fab_tile_drives_laws.proofs.Together.{tile_works}
@@ -23,7 +24,7 @@ each_works : (fabric : PlainFabric) (text : List PlainModule) → AreTiles fabri
     (x y : ℕ) (tile : PlainTile) → tile_at fabric x y ≡ Some tile → TileWorks text (place_path x y) tile
 each_works fabric text are has x y tile there =
     let listed = tile_of_types fabric x y tile there in
-    tile_works text (place_path x y) tile (All-contains IsTile fabric.types tile are listed) (has.stands x y tile there)
+    tile_works (text_mode fabric) text (place_path x y) tile (All-contains IsTile fabric.types tile are listed) (has.stands x y tile there)
 
 pub fabric_shows_drives : (fabric : PlainFabric) (loaders : List PlainModule) → IsFabric fabric → AreTiles fabric → All (λ loader. loader.name ≡ loader_module_name) loaders →
     ShowsDrives fabric (fabric_text fabric loaders)

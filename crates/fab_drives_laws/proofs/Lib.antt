@@ -3,6 +3,7 @@ pub mod Apart
 pub mod Modules
 pub mod Places
 pub mod Instances
+pub mod Chains
 pub mod Loaders
 pub mod Texts
 pub mod Declared

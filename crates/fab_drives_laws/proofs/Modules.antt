@@ -13,6 +13,7 @@ use Rattle.fab_syntax.specs.Declarations.{module_named}
 use Rattle.fab_fabric_text_defs.specs.fab_meaning_Points.{last_of, module_at}
 use Rattle.fab_fabric_text_defs.specs.fab_prim_Modules.{module_name, module_of_kind}
 use Rattle.fab_fabric_text_defs.specs.fab_model_tiles_Bel.{Bel}
+use Rattle.fab_fabric_text_defs.specs.fab_model_mode_Mode.{Mode}
 use Rattle.fab_fabric_text_defs.specs.fab_model_Tiles.{PlainTile, tile_bits}
 use Rattle.fab_fabric_text_defs.specs.fab_model_Grid.{PlainFabric, tile_at, numbered_type}
 use Rattle.fab_fabric_text_defs.specs.fab_fabric_Fabric.{IsFabric}
@@ -22,6 +23,7 @@ use Rattle.fab_fabric_text_defs.specs.fab_gen_tile_ConfigModule.{config_module}
 use Rattle.fab_fabric_text_defs.specs.fab_gen_tile_MatrixModule.{matrix_module}
 use Rattle.fab_fabric_text_defs.specs.fab_gen_loader_Loader.{loader_module_name}
 use Rattle.fab_fabric_text_defs.specs.Names.{top_module_name}
+use Rattle.fab_fabric_text_defs.specs.Mode.{text_mode}
 use Rattle.fab_fabric_text_defs.specs.Top.{top_module}
 use Rattle.fab_fabric_text_defs.specs.fab_fabric_Sites.{same_kind}
 use Rattle.fab_fabric_text_defs.specs.Text.{stands, standing_types, is_used, used_kinds, matrix_modules, config_modules, tile_modules, fabric_text}
@@ -44,8 +46,9 @@ last_of_both (x ∷ xs) ys last is = last_behind x (xs ++ ys) last (last_of_both
 pub top_is_last : (fabric : PlainFabric) (loaders : List PlainModule) → module_at (fabric_text fabric loaders) [] ≡ Some (top_module fabric)
 top_is_last fabric loaders =
     let top = top_module fabric in
-    last_of_both (map module_of_kind (used_kinds fabric)) (flat_map tile_modules (standing_types fabric) ++ (loaders ++ top ∷ [])) top
-    (last_of_both (flat_map tile_modules (standing_types fabric)) (loaders ++ top ∷ []) top
+    let mode = text_mode fabric in
+    last_of_both (map module_of_kind (used_kinds fabric)) (flat_map (tile_modules mode) (standing_types fabric) ++ (loaders ++ top ∷ [])) top
+    (last_of_both (flat_map (tile_modules mode) (standing_types fabric)) (loaders ++ top ∷ []) top
     (last_of_both loaders (top ∷ []) top refl))
 
 -- ---- the types that stand
@@ -109,26 +112,27 @@ all_of_matrix : (P : PlainModule → Type 0) (tile : PlainTile) (outputs : List 
 all_of_matrix P tile [] is = All-nil P
 all_of_matrix P tile (output ∷ outputs) is = All-cons P (matrix_module tile) [] is (All-nil P)
 
-all_of_config : (P : PlainModule → Type 0) (tile : PlainTile) (bits : ℕ) → P (config_module tile) → All P (config_modules tile bits)
-all_of_config P tile zero is = All-nil P
-all_of_config P tile (suc n) is = All-cons P (config_module tile) [] is (All-nil P)
+all_of_config : (mode : Mode) (P : PlainModule → Type 0) (tile : PlainTile) (bits : ℕ) → P (config_module mode tile) → All P (config_modules mode tile bits)
+all_of_config mode P tile zero is = All-nil P
+all_of_config mode P tile (suc n) is = All-cons P (config_module mode tile) [] is (All-nil P)
 
-pub all_of_tile : (P : PlainModule → Type 0) (tile : PlainTile) → P (matrix_module tile) → P (config_module tile) → P (tile_module tile) → All P (tile_modules tile)
-all_of_tile P tile matrix config whole =
-    All-append P (matrix_modules tile (matrix_output_names tile)) (config_modules tile (tile_bits tile) ++ tile_module tile ∷ [])
+pub all_of_tile : (mode : Mode) (P : PlainModule → Type 0) (tile : PlainTile) → P (matrix_module tile) → P (config_module mode tile) → P (tile_module mode tile) → All P (tile_modules mode tile)
+all_of_tile mode P tile matrix config whole =
+    All-append P (matrix_modules tile (matrix_output_names tile)) (config_modules mode tile (tile_bits tile) ++ tile_module mode tile ∷ [])
     (all_of_matrix P tile (matrix_output_names tile) matrix)
-    (All-append P (config_modules tile (tile_bits tile)) (tile_module tile ∷ []) (all_of_config P tile (tile_bits tile) config)
-    (All-cons P (tile_module tile) [] whole (All-nil P)))
+    (All-append P (config_modules mode tile (tile_bits tile)) (tile_module mode tile ∷ []) (all_of_config mode P tile (tile_bits tile) config)
+    (All-cons P (tile_module mode tile) [] whole (All-nil P)))
 
 all_of_text : (fabric : PlainFabric) (loaders : List PlainModule) (P : PlainModule → Type 0) → ((kind : Kind) → P (module_of_kind kind)) →
-    All (λ tile. All P (tile_modules tile)) fabric.types → All P loaders → P (top_module fabric) → All P (fabric_text fabric loaders)
+    All (λ tile. All P (tile_modules (text_mode fabric) tile)) fabric.types → All P loaders → P (top_module fabric) → All P (fabric_text fabric loaders)
 all_of_text fabric loaders P kind_is tiles_are loaders_are top_is =
+    let mode = text_mode fabric in
     let kinds_text = map module_of_kind (used_kinds fabric) in
-    let tiles_text = flat_map tile_modules (standing_types fabric) in
+    let tiles_text = flat_map (tile_modules mode) (standing_types fabric) in
     All-append P kinds_text (tiles_text ++ (loaders ++ top_module fabric ∷ []))
     (All-map P module_of_kind (used_kinds fabric) (all_of (λ (kind : Kind). P (module_of_kind kind)) (used_kinds fabric) kind_is))
     (All-append P tiles_text (loaders ++ top_module fabric ∷ [])
-    (all_flat_map P tile_modules (standing_types fabric) (all_standing fabric (λ tile. All P (tile_modules tile)) tiles_are))
+    (all_flat_map P (tile_modules mode) (standing_types fabric) (all_standing fabric (λ tile. All P (tile_modules mode tile)) tiles_are))
     (All-append P loaders (top_module fabric ∷ []) loaders_are (All-cons P (top_module fabric) [] top_is (All-nil P))))
 
 -- a module that is in the text and has its name alone is found by it
@@ -141,20 +145,21 @@ found_alone text m there only =
 -- ---- the modules of a tile
 
 tile_part : (fabric : PlainFabric) (loaders : List PlainModule) (x y : ℕ) (tile : PlainTile) (m : PlainModule) → tile_at fabric x y ≡ Some tile →
-    Contains (tile_modules tile) m → Contains (fabric_text fabric loaders) m
+    Contains (tile_modules (text_mode fabric) tile) m → Contains (fabric_text fabric loaders) m
 tile_part fabric loaders x y tile m is there =
-    let tiles_text = flat_map tile_modules (standing_types fabric) in
+    let mode = text_mode fabric in
+    let tiles_text = flat_map (tile_modules mode) (standing_types fabric) in
     Contains-append_right (map module_of_kind (used_kinds fabric)) (tiles_text ++ (loaders ++ top_module fabric ∷ [])) m
     (Contains-append_left tiles_text (loaders ++ top_module fabric ∷ []) m
-    (contains_flat tile_modules (standing_types fabric) tile m (tile_stands fabric x y tile is) there))
+    (contains_flat (tile_modules mode) (standing_types fabric) tile m (tile_stands fabric x y tile is) there))
 
 pub contains_matrix : (tile : PlainTile) (outputs : List (List ℕ)) → 0 < length outputs → Contains (matrix_modules tile outputs) (matrix_module tile)
 contains_matrix tile [] some = absurd (omega arith)
 contains_matrix tile (output ∷ outputs) some = contains_first (matrix_module tile) []
 
-pub contains_config : (tile : PlainTile) (bits : ℕ) → 0 < bits → Contains (config_modules tile bits) (config_module tile)
-contains_config tile zero some = absurd (omega arith)
-contains_config tile (suc n) some = contains_first (config_module tile) []
+pub contains_config : (mode : Mode) (tile : PlainTile) (bits : ℕ) → 0 < bits → Contains (config_modules mode tile bits) (config_module mode tile)
+contains_config mode tile zero some = absurd (omega arith)
+contains_config mode tile (suc n) some = contains_first (config_module mode tile) []
 
 -- ---- the names of kinds
 
@@ -202,6 +207,9 @@ module _ (fabric : PlainFabric) (loaders : List PlainModule) (is : IsFabric fabr
   abbrev text : List PlainModule
   text = fabric_text fabric loaders
 
+  abbrev mode : Mode
+  mode = text_mode fabric
+
   -- the types of this name are this one
   one_type : All (λ other. other.name ≡ tile.name → other ≡ tile) fabric.types
   one_type =
@@ -216,51 +224,51 @@ module _ (fabric : PlainFabric) (loaders : List PlainModule) (is : IsFabric fabr
 
   -- a module alone has a name of a tile's modules
   only_in_text : (name : List ℕ) (m : PlainModule) → 78 ≤ get_or name 0 0 → loader_module_name ≢ name → top_module_name ≢ name →
-      ((other : PlainTile) → (other.name ≡ tile.name → other ≡ tile) → All (Only name m) (tile_modules other)) → All (Only name m) text
+      ((other : PlainTile) → (other.name ≡ tile.name → other ≡ tile) → All (Only name m) (tile_modules mode other)) → All (Only name m) text
   only_in_text name m high other no_top in_tile =
       all_of_text fabric loaders (Only name m)
       (λ kind same. absurd (kind_apart kind name high same))
-      (All-weaker (λ (other : PlainTile). other.name ≡ tile.name → other ≡ tile) (λ (other : PlainTile). All (Only name m) (tile_modules other)) in_tile fabric.types one_type)
+      (All-weaker (λ (other : PlainTile). other.name ≡ tile.name → other ≡ tile) (λ (other : PlainTile). All (Only name m) (tile_modules mode other)) in_tile fabric.types one_type)
       (no_loader name m other)
       (λ same. absurd (no_top same))
 
-  pub tile_found : module_named text (tile_module_name tile) ≡ Some (tile_module tile)
+  pub tile_found : module_named text (tile_module_name tile) ≡ Some (tile_module mode tile)
   tile_found =
       let name = tile_module_name tile in
-      found_alone text (tile_module tile)
-      (tile_part fabric loaders x y tile (tile_module tile) there
-      (Contains-append_right (matrix_modules tile (matrix_output_names tile)) (config_modules tile (tile_bits tile) ++ tile_module tile ∷ []) (tile_module tile)
-      (Contains-append_right (config_modules tile (tile_bits tile)) (tile_module tile ∷ []) (tile_module tile) (contains_first (tile_module tile) []))))
-      (only_in_text name (tile_module tile) (omega arith) (told_apart 0 loader_module_name name refl) (told_apart 0 top_module_name name refl)
-      (λ other one. all_of_tile (Only name (tile_module tile)) other
+      found_alone text (tile_module mode tile)
+      (tile_part fabric loaders x y tile (tile_module mode tile) there
+      (Contains-append_right (matrix_modules tile (matrix_output_names tile)) (config_modules mode tile (tile_bits tile) ++ tile_module mode tile ∷ []) (tile_module mode tile)
+      (Contains-append_right (config_modules mode tile (tile_bits tile)) (tile_module mode tile ∷ []) (tile_module mode tile) (contains_first (tile_module mode tile) []))))
+      (only_in_text name (tile_module mode tile) (omega arith) (told_apart 0 loader_module_name name refl) (told_apart 0 top_module_name name refl)
+      (λ other one. all_of_tile mode (Only name (tile_module mode tile)) other
       (λ same. absurd (told_apart 0 (matrix_module_name other) name refl same))
       (λ same. absurd (told_apart 0 (config_module_name other) name refl same))
-      (λ same. ap tile_module (one (ap (drop 5) same)))))
+      (λ same. ap (tile_module mode) (one (ap (drop 5) same)))))
 
   pub matrix_found : 0 < length (matrix_output_names tile) → module_named text (matrix_module_name tile) ≡ Some (matrix_module tile)
   matrix_found some =
       let name = matrix_module_name tile in
       found_alone text (matrix_module tile)
       (tile_part fabric loaders x y tile (matrix_module tile) there
-      (Contains-append_left (matrix_modules tile (matrix_output_names tile)) (config_modules tile (tile_bits tile) ++ tile_module tile ∷ []) (matrix_module tile)
+      (Contains-append_left (matrix_modules tile (matrix_output_names tile)) (config_modules mode tile (tile_bits tile) ++ tile_module mode tile ∷ []) (matrix_module tile)
       (contains_matrix tile (matrix_output_names tile) some)))
       (only_in_text name (matrix_module tile) (omega arith) (told_apart 0 loader_module_name name refl) (told_apart 0 top_module_name name refl)
-      (λ other one. all_of_tile (Only name (matrix_module tile)) other
+      (λ other one. all_of_tile mode (Only name (matrix_module tile)) other
       (λ same. ap matrix_module (one (ap (drop 7) same)))
       (λ same. absurd (told_apart 0 (config_module_name other) name refl same))
       (λ same. absurd (told_apart 0 (tile_module_name other) name refl same))))
 
-  pub config_found : 0 < tile_bits tile → module_named text (config_module_name tile) ≡ Some (config_module tile)
+  pub config_found : 0 < tile_bits tile → module_named text (config_module_name tile) ≡ Some (config_module mode tile)
   config_found some =
       let name = config_module_name tile in
-      found_alone text (config_module tile)
-      (tile_part fabric loaders x y tile (config_module tile) there
-      (Contains-append_right (matrix_modules tile (matrix_output_names tile)) (config_modules tile (tile_bits tile) ++ tile_module tile ∷ []) (config_module tile)
-      (Contains-append_left (config_modules tile (tile_bits tile)) (tile_module tile ∷ []) (config_module tile) (contains_config tile (tile_bits tile) some))))
-      (only_in_text name (config_module tile) (omega arith) (told_apart 0 loader_module_name name refl) (told_apart 0 top_module_name name refl)
-      (λ other one. all_of_tile (Only name (config_module tile)) other
+      found_alone text (config_module mode tile)
+      (tile_part fabric loaders x y tile (config_module mode tile) there
+      (Contains-append_right (matrix_modules tile (matrix_output_names tile)) (config_modules mode tile (tile_bits tile) ++ tile_module mode tile ∷ []) (config_module mode tile)
+      (Contains-append_left (config_modules mode tile (tile_bits tile)) (tile_module mode tile ∷ []) (config_module mode tile) (contains_config mode tile (tile_bits tile) some))))
+      (only_in_text name (config_module mode tile) (omega arith) (told_apart 0 loader_module_name name refl) (told_apart 0 top_module_name name refl)
+      (λ other one. all_of_tile mode (Only name (config_module mode tile)) other
       (λ same. absurd (told_apart 0 (matrix_module_name other) name refl same))
-      (λ same. ap config_module (one (ap (drop 7) same)))
+      (λ same. ap (config_module mode) (one (ap (drop 7) same)))
       (λ same. absurd (told_apart 0 (tile_module_name other) name refl same))))
 
   -- ---- the kinds of its BELs
@@ -276,11 +284,11 @@ module _ (fabric : PlainFabric) (loaders : List PlainModule) (is : IsFabric fabr
       let m = module_of_kind kind in
       let used : Contains (used_kinds fabric) kind = contains_kept (is_used fabric) (kinds.Lut4c ∷ kinds.Io ∷ kinds.Mux8 ∷ []) kind (all_kinds kind) (bel_is_used bel listed) in
       found_alone text m
-      (Contains-append_left (map module_of_kind (used_kinds fabric)) (flat_map tile_modules (standing_types fabric) ++ (loaders ++ top_module fabric ∷ [])) m
+      (Contains-append_left (map module_of_kind (used_kinds fabric)) (flat_map (tile_modules mode) (standing_types fabric) ++ (loaders ++ top_module fabric ∷ [])) m
       (contains_map module_of_kind (used_kinds fabric) kind used))
       (all_of_text fabric loaders (Only (module_name kind) m) (only_of_kind kind)
-      (all_of (λ (other : PlainTile). All (Only (module_name kind) m) (tile_modules other)) fabric.types
-      (λ other. all_of_tile (Only (module_name kind) m) other
+      (all_of (λ (other : PlainTile). All (Only (module_name kind) m) (tile_modules mode other)) fabric.types
+      (λ other. all_of_tile mode (Only (module_name kind) m) other
       (λ same. absurd (kind_apart kind (matrix_module_name other) (omega arith) (sym same)))
       (λ same. absurd (kind_apart kind (config_module_name other) (omega arith) (sym same)))
       (λ same. absurd (kind_apart kind (tile_module_name other) (omega arith) (sym same)))))

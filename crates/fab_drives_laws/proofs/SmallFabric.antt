@@ -12,6 +12,7 @@ use Rattle.fab_fabric_text_defs.specs.fab_fabric_Fabric.{IsPlace, IsFabric, AreT
 use Rattle.fab_fabric_text_defs.specs.fab_fabric_Examples.{pads, lut, pad_rows, pad_bels, pad_pairs, lut_rows, lut_bels, lut_pairs}
 use Rattle.fab_fabric_text_defs.proofs.fab_fabric_Samples.{pads_tile, lut_tile, pad_pairs_fit, lut_pairs_fit, two_tiles_fabric, names_differ}
 use Rattle.fab_fabric_text_defs.specs.fab_gen_loader_Loader.{loader_module_name}
+use Rattle.fab_fabric_text_defs.specs.Mode.{text_mode}
 use Rattle.fab_fabric_text_defs.specs.Top.{top_module}
 use Rattle.fab_fabric_text_defs.specs.Text.{fabric_text}
 use Rattle.fab_tile_drives_laws.specs.Stands.{wire_point}
@@ -110,7 +111,7 @@ names_with o i =
     ∷ begin_names i o (codes "W1BEG") o ∷ begin_names i i (codes "W1BEG") o ∷ [])))))
 
 pub small_names_are : declared_names (top_module small_fabric) ≡ small_top_names
-unfolding counted
+unfolding counted text_mode
 small_names_are = λ j. names_with (zero_is j) (one_is j)
 
 pub small_names_differ : AllPairs (λ first second. first ≢ second) small_top_names

@@ -10,6 +10,7 @@ use Rattle.fab_fabric_text_defs.specs.fab_fabric_Fabric.{IsFabric}
 use Rattle.fab_fabric_text_defs.specs.fab_gen_tile_Names.{tile_module_name}
 use Rattle.fab_fabric_text_defs.specs.fab_gen_tile_TileModule.{tile_module}
 use Rattle.fab_fabric_text_defs.specs.fab_gen_loader_Loader.{loader_module_name}
+use Rattle.fab_fabric_text_defs.specs.Mode.{text_mode}
 use Rattle.fab_fabric_text_defs.specs.Top.{top_module}
 use Rattle.fab_fabric_text_defs.specs.Text.{fabric_text}
 use Rattle.fab_tile_drives_laws.specs.Stands.{TileStands}
@@ -19,13 +20,13 @@ use Rattle.fab_drives_laws.proofs.Instances.{tile_instance_found}
 
 pub record HasFabric (fabric : PlainFabric) (text : List PlainModule) : Type 0 where
   pub top_is : module_at text [] ≡ Some (top_module fabric)
-  pub module_is : (x y : ℕ) (tile : PlainTile) → tile_at fabric x y ≡ Some tile → module_named text (tile_module_name tile) ≡ Some (tile_module tile)
-  pub stands : (x y : ℕ) (tile : PlainTile) → tile_at fabric x y ≡ Some tile → TileStands text (place_path x y) tile
+  pub module_is : (x y : ℕ) (tile : PlainTile) → tile_at fabric x y ≡ Some tile → module_named text (tile_module_name tile) ≡ Some (tile_module (text_mode fabric) tile)
+  pub stands : (x y : ℕ) (tile : PlainTile) → tile_at fabric x y ≡ Some tile → TileStands (text_mode fabric) text (place_path x y) tile
 
 -- the instance of a place is its tile
 tile_is_there : (fabric : PlainFabric) (text : List PlainModule) → IsFabric fabric → module_at text [] ≡ Some (top_module fabric) →
-    (x y : ℕ) (tile : PlainTile) → tile_at fabric x y ≡ Some tile → module_named text (tile_module_name tile) ≡ Some (tile_module tile) →
-    module_at text (place_path x y) ≡ Some (tile_module tile)
+    (x y : ℕ) (tile : PlainTile) → tile_at fabric x y ≡ Some tile → module_named text (tile_module_name tile) ≡ Some (tile_module (text_mode fabric) tile) →
+    module_at text (place_path x y) ≡ Some (tile_module (text_mode fabric) tile)
 tile_is_there fabric text is top x y tile there named =
     ap (λ m. module_of text (instance_in m (place_name x y))) top
     ∙ ap (module_of text) (tile_instance_found fabric is x y tile there)

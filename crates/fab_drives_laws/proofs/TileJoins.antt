@@ -11,18 +11,18 @@ use Rattle.fab_fabric_text_defs.specs.fab_model_Rows.{is_jump}
 use Rattle.fab_fabric_text_defs.specs.fab_model_Tiles.{counted}
 use Rattle.fab_fabric_text_defs.specs.fab_model_Grid.{PlainFabric}
 use Rattle.fab_fabric_text_defs.specs.fab_model_Cascade.{previous_row}
-use Rattle.fab_fabric_text_defs.specs.fab_gen_tile_Names.{frame_data_name, frame_strobe_name, begin_name, end_name, pad_name, port_join, same_join}
+use Rattle.fab_fabric_text_defs.specs.fab_gen_tile_Names.{begin_name, end_name, pad_name, port_join, same_join}
 use Rattle.fab_fabric_text_defs.specs.fab_gen_tile_Borders.{side_border}
-use Rattle.fab_fabric_text_defs.specs.Names.{column_strobe_name, pad_port_name, begin_wire_name}
-use Rattle.fab_fabric_text_defs.specs.fab_gen_loader_Loader.{row_port}
+use Rattle.fab_fabric_text_defs.specs.Names.{pad_port_name, begin_wire_name}
 use Rattle.fab_fabric_text_defs.specs.Places.{PlacedTile}
-use Rattle.fab_fabric_text_defs.specs.Top.{end_value, numbered_row, row_joins, pad_joins, tile_joins}
+use Rattle.fab_fabric_text_defs.specs.Mode.{text_mode}
+use Rattle.fab_fabric_text_defs.specs.Top.{end_value, numbered_row, row_joins, pad_joins, config_joins, tile_joins}
 use Rattle.fab_tile_drives_laws.proofs.Members.{contains_counted, contains_map}
 use Rattle.fab_drives_laws.proofs.Lists.{contains_flat, contains_numbered}
 
 module _ (fabric : PlainFabric) (placed : PlacedTile) where
   abbrev front : List PlainJoin
-  front = same_join user_clock_name ∷ port_join frame_data_name (variable (row_port placed.y)) ∷ port_join frame_strobe_name (variable (column_strobe_name placed.x)) ∷ []
+  front = same_join user_clock_name ∷ config_joins (text_mode fabric) fabric placed
 
   abbrev borders : List PlainJoin
   borders = flat_map (row_joins fabric placed) (enumerate_from 0 placed.tile.rows)

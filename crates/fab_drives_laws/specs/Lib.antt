@@ -5,6 +5,8 @@ pub use Rattle.fab_fabric_text_defs.specs.fab_fabric_Fabric as fab_fabric_Fabric
 pub use Rattle.fab_fabric_text_defs.specs.fab_fabric_Names as fab_fabric_Names
 pub use Rattle.fab_fabric_text_defs.specs.fab_fabric_Sites as fab_fabric_Sites
 pub use Rattle.fab_fabric_text_defs.specs.fab_fabric_Wires as fab_fabric_Wires
+pub use Rattle.fab_fabric_text_defs.specs.Chain as fab_fabric_text_defs_Chain
+pub use Rattle.fab_fabric_text_defs.specs.Mode as fab_fabric_text_defs_Mode
 pub use Rattle.fab_fabric_text_defs.specs.Names as fab_fabric_text_defs_Names
 pub use Rattle.fab_fabric_text_defs.specs.Places as fab_fabric_text_defs_Places
 pub use Rattle.fab_fabric_text_defs.specs.Text as fab_fabric_text_defs_Text

@@ -1,4 +1,6 @@
 pub mod Names
+pub mod Mode
+pub mod Chain
 pub mod Top
 pub mod Text
 pub mod Texts

@@ -22,6 +22,10 @@ pad_port_name x y bel port = place_name x y ++ (codes "_" ++ letter bel ∷ (cod
 abbrev pub column_strobe_name : (x : ℕ) → List ℕ
 column_strobe_name x = codes "fab_strobe_" ++ decimal x
 
+-- the wire behind the bits of the tile at a place in a chain through tiles, as X1Y0_fab_chain
+abbrev pub chain_wire_name : (x y : ℕ) → List ℕ
+chain_wire_name x y = place_name x y ++ codes "_fab_chain"
+
 -- a border bit that goes out of a row of the tile at a place, as X1Y0_N1BEG_0
 abbrev pub begin_wire_name : (x y : ℕ) → WireRow → (bit : ℕ) → List ℕ
 begin_wire_name x y row bit = place_name x y ++ (codes "_" ++ border_name row.source bit)

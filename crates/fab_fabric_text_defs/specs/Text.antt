@@ -1,4 +1,4 @@
--- The modules of a fabric's text in their order: primitives, tiles, loaders and the top.
+-- The modules of a fabric's text in their order: primitives, tiles, the loader where there is one, and the top.
 use Rattle.std.specs.Prelude.{ℕ, zero, suc, Bool, false, List, [], ◌∷◌, ◌++◌, map, filter, nat_eq}
 use Rattle.std.specs.List.{flat_map, list_any, enumerate_from}
 use Rattle.std.specs.Option.{option_map_or}
@@ -6,12 +6,14 @@ use Rattle.fab_kinds.specs.declared.kind.Kind.{Kind}
 use Rattle.fab_kinds.specs.declared.kind.Kind.TheVariants as kinds
 use Rattle.fab_syntax.specs.Plain.{PlainModule}
 use Rattle.fab_gen_tile.specs.fab_prim.specs.Modules.{module_of_kind}
+use Rattle.fab_gen_tile.specs.fab_model.specs.declared.mode.Mode.{Mode}
 use Rattle.fab_gen_tile.specs.fab_model.specs.Tiles.{PlainTile, tile_bits}
 use Rattle.fab_gen_tile.specs.fab_model.specs.Grid.{PlainFabric}
 use Rattle.fab_fabric.specs.Sites.{same_kind}
 use Rattle.fab_gen_tile.specs.TileModule.{tile_module, matrix_output_names}
 use Rattle.fab_gen_tile.specs.ConfigModule.{config_module}
 use Rattle.fab_gen_tile.specs.MatrixModule.{matrix_module}
+use Rattle.fab_fabric_text_defs.specs.Mode.{text_mode}
 use Rattle.fab_fabric_text_defs.specs.Top.{top_module}
 
 -- ---- what stands in the grid
@@ -39,16 +41,17 @@ matrix_modules tile [] = []
 matrix_modules tile (output ∷ outputs) = matrix_module tile ∷ []
 
 -- the configuration, where there are bits
-abbrev pub config_modules : PlainTile → (bits : ℕ) → List PlainModule
-config_modules tile zero = []
-config_modules tile (suc n) = config_module tile ∷ []
+abbrev pub config_modules : Mode → PlainTile → (bits : ℕ) → List PlainModule
+config_modules mode tile zero = []
+config_modules mode tile (suc n) = config_module mode tile ∷ []
 
-abbrev pub tile_modules : PlainTile → List PlainModule
-tile_modules tile = matrix_modules tile (matrix_output_names tile) ++ (config_modules tile (tile_bits tile) ++ tile_module tile ∷ [])
+abbrev pub tile_modules : Mode → PlainTile → List PlainModule
+tile_modules mode tile =
+    matrix_modules tile (matrix_output_names tile) ++ (config_modules mode tile (tile_bits tile) ++ tile_module mode tile ∷ [])
 
--- The text of a fabric with these loaders.
+-- The text of a fabric with these loaders: one in frames, none in a chain.
 abbrev pub fabric_text : PlainFabric → (loaders : List PlainModule) → List PlainModule
 fabric_text fabric loaders =
     map module_of_kind (used_kinds fabric)
-    ++ (flat_map tile_modules (standing_types fabric)
+    ++ (flat_map (tile_modules (text_mode fabric)) (standing_types fabric)
     ++ (loaders ++ top_module fabric ∷ []))

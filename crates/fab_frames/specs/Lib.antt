@@ -1,3 +1,4 @@
+pub mod Positions
 pub mod Stream
 pub mod Refusals
 pub mod Bytes

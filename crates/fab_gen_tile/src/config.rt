@@ -18,7 +18,7 @@ use fab_prim::conditional;
 use fab_syntax::{Expr, Item, Module, Port, Shape};
 use std::alloc::Global;
 
-/// The module of the configuration bits of a tile, which are latches in frames.
+/// The module of the configuration bits of a tile, which latches keep in frames.
 ///
 /// Its ports are `FrameData`, `FrameStrobe` and `ConfigBits`. Want of memory is the only error.
 pub fn config_module(alloc: Global, tile: &TileType) -> Result<Module, Memory>
@@ -27,7 +27,7 @@ pub fn config_module(alloc: Global, tile: &TileType) -> Result<Module, Memory>
     config_of(alloc, tile, Mode::Frames)
 }
 
-/// The module of the configuration bits of a tile, which are flip-flops in a chain.
+/// The module of the configuration bits of a tile, which flip-flops keep in a chain.
 ///
 /// Its ports are `CLK`, `WriteStrobe`, `fab_chain_i`, `fab_chain_o` and `ConfigBits`. Want of memory is the only error.
 pub fn chain_config_module(alloc: Global, tile: &TileType) -> Result<Module, Memory>

@@ -10,7 +10,7 @@ use Rattle.fab_base.specs.Reading.{fault_at}
 use Rattle.fab_desk.specs.Files.{Map}
 use Rattle.fab_rows.specs.Rows.{PlainRow, rows_of}
 use Rattle.fab_model.specs.Grid.{PlainFabric}
-use Rattle.fab_fabric.specs.Fabric.{wire_count}
+use Rattle.fab_fabric.specs.Fabric.{in_mode, wire_count}
 use Rattle.fab_lines.specs.Counts.{last_line}
 use Rattle.fab_files.specs.Files.{handed_out}
 use Rattle.fab_blocks.specs.Blocks.{PlainBlock}
@@ -125,7 +125,10 @@ module _ (files : Map) (name : List ℕ) where
   by_wires bytes reading lines parts = elim (cases_lt most_wires (wire_count (grid_fabric reading.types lines))) [
     | inl many ↦
         inr (fault_at name (last_line bytes) (problems.Limit quantities.Wires (wire_count (grid_fabric reading.types lines)) most_wires), many_wires parts many)
-    | inr few ↦ inl (grid_fabric reading.types lines, record { bytes = bytes; types = reading.types; lines = lines; parts = parts; few_wires = few; is = refl })
+    | inr few ↦ inl (
+        in_mode parts.reading.configuration (grid_fabric reading.types lines),
+        record { bytes = bytes; types = reading.types; lines = lines; parts = parts; few_wires = few; is = refl },
+      )
   ]
 
   by_names : (bytes : List ℕ) (reading : PlainReading) (lines : List PlainGridLine) → ReadsFile files (top name) start bytes reading → reading.grid ≡ Some lines

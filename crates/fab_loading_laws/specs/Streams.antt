@@ -1,11 +1,12 @@
 -- What the words of a bitstream leave in the loader and in the configuration latches, however the clocks tick between them.
 use Rattle.std.specs.Prelude.{◌≡◌, ◌<◌, ℕ, Bool, false, List, map, Some}
 use Rattle.fab_bits.specs.Bits.{digits}
+use Rattle.fab_gen_loader.specs.fab_model.specs.declared.mode.Mode.TheVariants as modes
 use Rattle.fab_gen_loader.specs.fab_model.specs.Grid.{PlainFabric}
 use Rattle.fab_gen_loader.specs.fab_model.specs.Drive.{PlainBits}
 use Rattle.fab_frames.specs.fab_fabric.specs.Fabric.{IsFabric}
 use Rattle.fab_gen_loader.specs.Machine.{Machine, Word, tick}
-use Rattle.fab_frames.specs.Stream.{stream, bit_placed_at}
+use Rattle.fab_frames.specs.Stream.{stream_mode, stream, bit_placed_at}
 use Rattle.fab_loading_laws.specs.Latches.{IsWord, IsMachine, LatchPlace, Turn, words_of, after_turns, latch_after}
 
 -- the words of a bitstream as bits
@@ -27,11 +28,11 @@ pub record IsLoaded (fabric : PlainFabric) (bits : PlainBits) (machine : Machine
       bit_placed_at fabric place.x place.y place.frame place.bit ≡ Some number →
       latch_after fabric.rows machine place held turns ≡ bits place.x place.y number
 
--- The words of a bitstream load its bits from every machine, whatever turns without words come before, between and behind them.
+-- The words of a bitstream in frames load its bits from every machine, whatever turns without words come before, between and behind them.
 abbrev pub StreamsLoad : Type 0
 StreamsLoad =
-    (fabric : PlainFabric) (bits : PlainBits) (machine : Machine) (turns : List Turn) → IsFabric fabric → IsMachine fabric.rows machine →
-    words_of turns ≡ stream_words fabric bits → IsLoaded fabric bits machine turns
+    (fabric : PlainFabric) (bits : PlainBits) (machine : Machine) (turns : List Turn) → stream_mode fabric ≡ modes.Frames → IsFabric fabric →
+    IsMachine fabric.rows machine → words_of turns ≡ stream_words fabric bits → IsLoaded fabric bits machine turns
 
 -- What registers can hold, they can hold after a tick.
 abbrev pub TicksKeepMachines : Type 0

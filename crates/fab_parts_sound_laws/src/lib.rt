@@ -6,6 +6,8 @@ ghost use Rattle.fab_kinds.specs.declared.kind.Kind.{Kind};
 ghost use Rattle.fab_syntax.specs.Plain.{PlainModule};
 ghost use Rattle.fab_syntax.specs.Sound.{ServesAsClock};
 ghost use Rattle.fab_tile_drives_laws.specs.fab_meaning_Runs.{clock_name, user_clock_name};
+ghost use Rattle.fab_tile_drives_laws.specs.fab_model_mode_Mode.{Mode};
+ghost use Rattle.fab_tile_drives_laws.specs.fab_model_mode_Mode_TheVariants as modes;
 ghost use Rattle.fab_tile_drives_laws.specs.fab_model_Tiles.{PlainTile, IsTile};
 ghost use Rattle.fab_tile_drives_laws.specs.fab_model_Tables.{HasTable};
 ghost use Rattle.fab_tile_drives_laws.specs.fab_prim_Modules.{module_of_kind};
@@ -27,11 +29,13 @@ pub fn primitives_fit()
         ServesAsClock text (module_of_kind kind) port → port ≡ user_clock_name }
 {}
 
-/// The module of a tile's configuration bits fits where the bits have places, and no port serves it as a clock.
+/// The module of a tile's configuration bits fits where the bits have places. No port serves it as a clock in frames, and CLK alone in a
+/// chain.
 pub fn configurations_fit()
-    ensures fits { (text before : List PlainModule) (tile : PlainTile) → HasTable tile → FitsIn text before (config_module tile) }
-    ensures clocks { (text : List PlainModule) (tile : PlainTile) (port : List ℕ) →
-        ServesAsClock text (config_module tile) port → ⊥ }
+    ensures fits { (mode : Mode) (text before : List PlainModule) (tile : PlainTile) → HasTable tile →
+        FitsIn text before (config_module mode tile) }
+    ensures clocks { (mode : Mode) (text : List PlainModule) (tile : PlainTile) (port : List ℕ) →
+        ServesAsClock text (config_module mode tile) port → (mode ≡ modes.Chain) × (port ≡ clock_name) }
 {}
 
 /// The module of a tile's switch matrix fits, and no port serves it as a clock.

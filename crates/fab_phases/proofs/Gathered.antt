@@ -1,6 +1,7 @@
 -- Flip-flops and latches that are gathered point by point, and the runs of latches.
 use Rattle.std.proofs.Common.{◌≡◌, ◌⊎◌, ℕ, ◌+◌, ◌<◌, Bool, List, [], ◌∷◌, ◌++◌, map, append_assoc, append-nil, None, Some, refl, sym, ap, ◌∙◌, subst, inl, inr, arith}
 use Rattle.std.specs.List.{slice_get}
+use Rattle.std.specs.Prelude.{IsPermutation}
 use Rattle.std.proofs.lemmas.Bool.{cases_lt}
 use Rattle.fab_compiled.specs.Leading.{IsMarked}
 use Rattle.fab_network.specs.declared.network.Network.{Network}
@@ -13,7 +14,7 @@ use Rattle.fab_phases.specs.declared.loading.LoadedFlop.{LoadedFlop}
 use Rattle.fab_phases.specs.declared.loading.Latch.{Latch}
 use Rattle.fab_phases.specs.declared.loading.Run.{Run}
 use Rattle.fab_phases.specs.declared.gathering.GatedLatch.{GatedLatch}
-use Rattle.fab_phases.proofs.Lists.{each_both, each_left, each_more, each_right, get_mapped, get_of_mapped, one_last, one_left}
+use Rattle.fab_phases.proofs.Lists.{each_both, each_left, each_more, each_moved, each_right, get_mapped, get_of_mapped, one_last, one_left, one_moved}
 
 -- a point below the next number is below this one or is it
 pub below : (n k : ℕ) → k < n + 1 → (k < n) ⊎ (k ≡ n)
@@ -60,6 +61,16 @@ has_gated_same network loads point latches has not_here p gate latched less mark
       | inl h ↦ has p gate latched h marked drives
       | inr e ↦ absurd (not_here gate latched (subst (IsMarked loads) e marked) (ap (slice_get network.drives.items) (sym e) ∙ drives))
     ]
+
+-- latches in another order
+pub gated_moved : (network : Network) (asked : Asked) (loads : List Bool) (old new : List GatedLatch) → IsPermutation old new → AreGated network asked loads old →
+    AreGated network asked loads new
+gated_moved network asked loads old new moved are = each_moved (IsGated network asked loads) old new moved are
+
+pub has_gated_moved : (network : Network) (loads : List Bool) (count : ℕ) (old new : List GatedLatch) → IsPermutation old new → HasGated network loads count old →
+    HasGated network loads count new
+has_gated_moved network loads count old new moved has point gate latched less marked is =
+    one_moved (λ gated. gated.latch.point ≡ point) old new moved (has point gate latched less marked is)
 
 -- ---- runs
 

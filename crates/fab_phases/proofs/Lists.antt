@@ -1,6 +1,9 @@
 -- What stands in lists, by places.
 use Rattle.std.proofs.Common.{◌≡◌, ◌⊎◌, ℕ, zero, suc, ◌+◌, List, [], ◌∷◌, ◌++◌, length, map, Some, refl, ap, inl, inr, subst, sym, arith}
 use Rattle.std.specs.List.{slice_get}
+use Rattle.std.specs.Prelude.{IsPermutation}
+use Rattle.std.proofs.lemmas.List.Sorted.{Contains-permutation, IsPermutation-sym}
+use Rattle.std.proofs.lemmas.Option.{get_or_from_slice_get, slice_get_read, slice_get_within}
 use Rattle.fab_phases.specs.Lists.{Each, HasOne}
 
 pub get_left : {X : Type 0} (xs ys : List X) (k : ℕ) (x : X) → slice_get xs k ≡ Some x → slice_get (xs ++ ys) k ≡ Some x
@@ -75,3 +78,16 @@ pub get_of_mapped : {X Y : Type 0} (f : X → Y) (xs : List X) (k : ℕ) (y : Y)
 get_of_mapped f [] k y e = cc
 get_of_mapped f (x ∷ xs) zero y e = let same : f x ≡ y = cc in (x, refl, same)
 get_of_mapped f (x ∷ xs) (suc k) y e = get_of_mapped f xs k y e
+
+-- ---- in another order
+
+get_moved : {X : Type 0} (xs ys : List X) → IsPermutation xs ys → (k : ℕ) (x : X) → slice_get xs k ≡ Some x → (j : ℕ) × (slice_get ys j ≡ Some x)
+get_moved xs ys moved k x e =
+    let there = Contains-permutation xs ys x moved (k, slice_get_within xs k x e, get_or_from_slice_get xs k x x e) in
+    (there.0, slice_get_read ys (length ys) there.0 x refl there.1 (sym there.2))
+
+pub each_moved : {X : Type 0} (P : X → Type 0) (xs ys : List X) → IsPermutation xs ys → Each xs P → Each ys P
+each_moved P xs ys moved each k x e = let before = get_moved ys xs (IsPermutation-sym xs ys moved) k x e in each before.0 x before.1
+
+pub one_moved : {X : Type 0} (P : X → Type 0) (xs ys : List X) → IsPermutation xs ys → HasOne xs P → HasOne ys P
+one_moved P xs ys moved one = let after = get_moved xs ys moved one.0 one.1 one.2 in (after.0, one.1, after.1, one.3)

@@ -1,4 +1,4 @@
--- What loading sets, by numbers: flip-flops, and latches in runs of neighbours whose gates open together.
+-- What loading sets, by numbers: flip-flops, and latches in runs whose gates open together.
 use Rattle.std.specs.Prelude.{◌≡◌, ℕ, ◌<◌, Bool, List, Some, length, slice_get}
 use Rattle.fab_compiled.specs.Leading.{PointTerns, IsMarked}
 use Rattle.fab_network.specs.declared.network.Clock.TheVariants.{Loader}

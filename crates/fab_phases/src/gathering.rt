@@ -1,6 +1,6 @@
 //! How the flip-flops and latches that loading sets are gathered, and how all that they need is asked for.
 
-ghost use Rattle.std.specs.Prelude.{◌≡◌, ◌+◌, ◌<◌, ◌≤◌, ◌^◌, Bool, List, length, map, IfOk, OnOk, IsTrue};
+ghost use Rattle.std.specs.Prelude.{◌≡◌, ◌+◌, ◌<◌, ◌≤◌, ◌^◌, Bool, List, length, map, IfOk, OnOk, IsPermutation, IsTrue};
 ghost use Rattle.fab_network.specs.declared.network.Clock.TheVariants.{Loader};
 ghost use Rattle.fab_network.specs.Network.{AreFit};
 ghost use Rattle.fab_network.specs.Passes.{kept_tern};
@@ -11,7 +11,7 @@ ghost use Rattle.fab_phases.specs.inner.Gathering.{AreGated, AreInRuns, HasGated
 
 use crate::loading::{Latch, LoadedFlop, Loading, Run};
 use fab_base::Memory;
-use fab_compiled::Lead;
+use fab_compiled::{Lead, Tree, View};
 use fab_demand::Demand;
 use fab_demand::laws::sources_stay_asked;
 use fab_network::{Clock, Drive, Network, Source, lead_of_source};
@@ -44,7 +44,8 @@ pub fn loading_of(
 {
     sources_stay_asked();
     let flops = flops_of(alloc, network, loads, given, demand)?;
-    let latches = latches_of(alloc, network, loads, given, demand)?;
+    let mut latches = latches_of(alloc, network, loads, given, demand)?;
+    bring_together(network, demand, &mut latches)?;
     let runs = runs_of(alloc, network, demand, &latches)?;
     Ok(Loading { flops, runs })
 }
@@ -213,6 +214,32 @@ fn latch_at(network: &Network, loads: &[bool], point: usize) -> Option<GatedLatc
 }
 
 // ---- runs
+
+// Puts latches next to each other whose gates lead to one point, so that a word asks for each such point once, whatever latches it opens.
+fn bring_together(
+    network: &Network,
+    demand: &Demand,
+    latches: &mut Vec<GatedLatch>,
+) -> Result<(), Memory>
+    ensures { IsPermutation latches.old.items latches.new.items }
+{
+    let view = demand.view();
+    latches.sort_by_cached_key(|gated| gate_point(network, &view, gated.gate))?;
+    Ok(())
+}
+
+// The point to which a gate leads that is a point itself, and one number for all other gates. It says which latches may stand together; whether they
+// open together is asked of the gates.
+fn gate_point(network: &Network, view: &View, gate: Source) -> u32 {
+    let Some(Tree::Bits(place, _)) = network.trees.get(gate.tree as usize) else {
+        return u32::MAX;
+    };
+    let first = (gate.first as usize).saturating_add(*place as usize);
+    view.leads
+        .get(first.saturating_add(gate.bit as usize))
+        .copied()
+        .unwrap_or(u32::MAX)
+}
 
 // The latches in runs of neighbours that open together.
 fn runs_of(

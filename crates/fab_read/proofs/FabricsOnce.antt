@@ -9,7 +9,7 @@ use Rattle.fab_desk.specs.Files.{Map}
 use Rattle.fab_rows.specs.Rows.{rows_of}
 use Rattle.fab_model.specs.Tiles.{PlainTile}
 use Rattle.fab_model.specs.Grid.{PlainFabric}
-use Rattle.fab_fabric.specs.Fabric.{wire_count}
+use Rattle.fab_fabric.specs.Fabric.{in_mode, wire_count}
 use Rattle.fab_lines.specs.Counts.{last_line}
 use Rattle.fab_files.specs.Files.{handed_out, refuses}
 use Rattle.fab_blocks.specs.Reading.{PlainReading, PlainGridLine, PlainHolder, start}
@@ -104,7 +104,8 @@ module _ (files : Map) (name : List ℕ) where
   pub one_fabric : (first second : PlainFabric) → SpellsFabric files name first → SpellsFabric files name second → first ≡ second
   one_fabric first second a b =
       let same = types_once a.bytes b.bytes a.types b.types a.lines b.lines a.parts b.parts in
-      a.is ∙ (λ j. grid_fabric (same.1 j) (same.2 j)) ∙ sym b.is
+      let reading = (read_once a.bytes b.bytes a.parts.reading b.parts.reading a.parts.read b.parts.read).1 in
+      a.is ∙ (λ j. in_mode (reading j).configuration (grid_fabric (same.1 j) (same.2 j))) ∙ sym b.is
 
   pub not_refused : (fabric : PlainFabric) (fault : Fault) → SpellsFabric files name fabric → RefusesFabric files name fault → ⊥
   not_refused fabric fault a (in_rows met) = file_not_refused files (top name) start a.bytes a.parts.reading fault a.parts.read met

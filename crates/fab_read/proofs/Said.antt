@@ -17,9 +17,9 @@ use Rattle.fab_blocks.specs.declared.standing.Said.{Said}
 use Rattle.fab_blocks.specs.declared.standing.Said.TheVariants as said
 use Rattle.fab_blocks.specs.Blocks.{PlainBlock}
 use Rattle.fab_blocks.specs.Cells.{first_problem, cell_at}
-use Rattle.fab_blocks.specs.Inner.{malformed, foreign_row, value_problem, parameter_row, path_problem, depth_problem, include_row, tiles_row, outer_row, inner_parameter, beside, wire_row, bel_row, matrix_row, block_row, file_named}
+use Rattle.fab_blocks.specs.Inner.{malformed, foreign_row, value_problem, path_problem, depth_problem, include_row, tiles_row, outer_row, beside, wire_row, bel_row, matrix_row, block_row, file_named}
 use Rattle.fab_blocks.specs.Reading.{PlainReading, PlainHolder, place_in, place_of, with_open_block, with_grid, with_parameters}
-use Rattle.fab_blocks.specs.Saying.{Step, is_place, stands, may_begin, lines_of, parameters_begun, begin_grid, end_grid, grid_line, begin_parameters, end_parameters, begin_tile, handed_out, end_tile, with_said, with_block, row_in, say, said_of, HasRoomIfEnded}
+use Rattle.fab_blocks.specs.Saying.{Step, is_place, stands, may_begin, lines_of, parameters_begun, begin_grid, end_grid, grid_line, begin_parameters, end_parameters, with_parameter, parameter_row, inner_parameter, begin_tile, handed_out, end_tile, with_said, with_block, row_in, say, said_of, HasRoomIfEnded}
 use Rattle.fab_blocks.specs.Words.{word_of}
 use Rattle.fab_read.specs.inner.Following.{IsSaid}
 use Rattle.fab_read.specs.Rows.{opened_by}
@@ -66,10 +66,6 @@ module _ (holder : PlainHolder) where
   unfolding foreign_row
   foreign cells = tt
 
-  parameter : (cells : List (List ℕ)) → OnSaid holder (parameter_row cells)
-  unfolding parameter_row
-  parameter cells = either (OnSaid holder) (not (length cells == 2)) _ _ tt (judged_said (value_problem (cell_at cells 0) (cell_at cells 1)) said.Taken tt)
-
   names_tiles : (cells : List (List ℕ)) → holder.is_fabric ≡ true → OnSaid holder (tiles_row holder cells)
   unfolding tiles_row
   names_tiles cells fabric = judged_said (path_problem holder cells) (said.NamesTiles (file_named holder cells)) fabric
@@ -100,12 +96,6 @@ module _ (holder : PlainHolder) where
   outer words.Tile cells = tiles_if holder.is_fabric cells refl
   outer words.Include cells = includes cells
   outer word cells = tt
-
-  in_parameters : (word : Word) (cells : List (List ℕ)) → holder.is_fabric ≡ true → OnSaid holder (inner_parameter holder word cells)
-  unfolding inner_parameter
-  in_parameters words.Foreign cells fabric = foreign cells
-  in_parameters words.Tile cells fabric = names_tiles cells fabric
-  in_parameters word cells fabric = parameter cells
 
   in_block : (block : PlainBlock) (word : Word) (cells : List (List ℕ)) → OnBlock holder (block_row block holder word cells)
   unfolding block_row wire_row bel_row matrix_row
@@ -184,11 +174,24 @@ module _ (before : PlainReading) (holder : PlainHolder) where
   unfolding end_tile
   tile_ends cells = either (OnStep before holder) (not (length cells == 1)) _ _ tt (block_out before.begun holder.is_own)
 
-  by_place : (there : Bool) (word : Word) (cells : List (List ℕ)) → (there ≡ true → holder.is_fabric ≡ true) → OnSaid holder (if there then inner_parameter holder word cells else outer_row holder word cells)
-  by_place true word cells fabric = in_parameters holder word cells (fabric refl)
-  by_place false word cells fabric = outer holder word cells
+  parameter : (cells : List (List ℕ)) → OnStep before holder (parameter_row before cells)
+  unfolding parameter_row
+  parameter cells = either (OnStep before holder) (not (length cells == 2)) _ _ tt
+      (judged_step (value_problem (cell_at cells 0) (cell_at cells 1)) (with_parameter before (cell_at cells 0) (cell_at cells 1)) refl)
 
-  outside : (word : Word) (cells : List (List ℕ)) → OnSaid holder (if stands before holder places.Parameters then inner_parameter holder word cells else outer_row holder word cells)
+  in_parameters : (word : Word) (cells : List (List ℕ)) → holder.is_fabric ≡ true → OnStep before holder (inner_parameter before holder word cells)
+  unfolding inner_parameter
+  in_parameters words.Foreign cells fabric = said_step (foreign_row cells) (foreign holder cells)
+  in_parameters words.Tile cells fabric = said_step (tiles_row holder cells) (names_tiles holder cells fabric)
+  in_parameters word cells fabric = parameter cells
+
+  by_place : (there : Bool) (word : Word) (cells : List (List ℕ)) → (there ≡ true → holder.is_fabric ≡ true)
+      → OnStep before holder (if there then inner_parameter before holder word cells else with_said before (outer_row holder word cells))
+  by_place true word cells fabric = in_parameters word cells (fabric refl)
+  by_place false word cells fabric = said_step (outer_row holder word cells) (outer holder word cells)
+
+  outside : (word : Word) (cells : List (List ℕ))
+      → OnStep before holder (if stands before holder places.Parameters then inner_parameter before holder word cells else with_said before (outer_row holder word cells))
   unfolding stands
   outside word cells = by_place (is_place (place_of before holder.is_fabric) places.Parameters) word cells (λ t. fabric_there before.begun before.parameters holder.is_fabric t)
 
@@ -196,7 +199,7 @@ module _ (before : PlainReading) (holder : PlainHolder) where
   unfolding row_in
   standing blocks.Grid word row = a_line row
   standing (blocks.Tile block) word row = block_step (block_row block holder word row.cells) (in_block holder block word row.cells)
-  standing blocks.Outside word row = said_step _ (outside word row.cells)
+  standing blocks.Outside word row = outside word row.cells
 
   by_word : (word : Word) (row : PlainRow) → OnStep before holder (say before holder word row)
   unfolding say

@@ -10,7 +10,7 @@ use Rattle.fab_base.specs.declared.problem.Problem.TheVariants as problems
 use Rattle.fab_desk.specs.Files.{Map}
 use Rattle.fab_model.specs.Tiles.{PlainTile}
 use Rattle.fab_model.specs.Grid.{PlainFabric}
-use Rattle.fab_fabric.specs.Fabric.{fabric_of, wire_count}
+use Rattle.fab_fabric.specs.Fabric.{fabric_of, in_mode, wire_count}
 use Rattle.fab_lines.specs.Counts.{last_line}
 use Rattle.fab_files.specs.Files.{Event, refuses}
 use Rattle.fab_list_files.specs.Lists.{most_open}
@@ -67,7 +67,7 @@ pub record SpellsFabric (files : Map) (name : List ℕ) (fabric : PlainFabric) :
   pub lines : List PlainGridLine
   pub parts : ReadsParts files name bytes types lines
   pub few_wires : wire_count (grid_fabric types lines) ≤ most_wires
-  pub is : fabric ≡ grid_fabric types lines
+  pub is : fabric ≡ in_mode parts.reading.configuration (grid_fabric types lines)
 
 -- What a reader of the fabric comes upon: what its files hold; behind them an absent grid, then the first line of the grid that
 -- names a tile which there is not, and at last too many wires.

@@ -48,6 +48,7 @@ fn read<D: Desk>(alloc: Global, desk: &mut D, name: &Name) -> Result<Fabric, Fau
         left: MOST_OPEN,
     };
     let last = take_file(alloc, desk, &mut reading, &holder)?;
+    let mode = reading.configuration();
     let (types, grid) = reading.into_parts();
     let Some(lines) = grid else {
         return Err(Problem::Malformed(Reason::Grid).at(alloc, name, last));
@@ -61,7 +62,7 @@ fn read<D: Desk>(alloc: Global, desk: &mut D, name: &Name) -> Result<Fabric, Fau
     if wires > MOST_WIRES {
         return Err(Problem::Limit(Quantity::Wires, wires, MOST_WIRES).at(alloc, name, last));
     }
-    Ok(Fabric::new(alloc, types, columns, grid)?)
+    Ok(Fabric::with_mode(alloc, types, columns, grid, mode)?)
 }
 
 /// The fabric that a fabric file spells with all files that it names. A file that spells a fabric is read, unless the device fails or

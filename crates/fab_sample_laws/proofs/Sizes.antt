@@ -12,6 +12,7 @@ use Rattle.fab_rows.specs.Rows.{rows_of}
 use Rattle.fab_paths.specs.Paths.{stem, resolved, is_file_name}
 use Rattle.fab_select.specs.declared.pair.Pair.{Pair as NumberPair}
 use Rattle.fab_names.specs.Names.{come_twice, all_names, text_of}
+use Rattle.fab_model.specs.declared.mode.Mode.TheVariants as modes
 use Rattle.fab_model.specs.Grid.{PlainFabric}
 use Rattle.fab_model.specs.Tiles.{PlainTile, with_table, counted}
 use Rattle.fab_fabric.specs.Fabric.{wire_count}
@@ -42,7 +43,7 @@ module _ (pairs_of : PlainBlock → List NumberPair) (table_of : PlainBlock → 
   types = tile_of west ∷ tile_of logic ∷ tile_of east ∷ []
 
   abbrev pub reading_of : (size : ℕ) → PlainReading
-  reading_of size = record { types = types; grid = Some (grid_from size 2 size); parameters = parts.Absent; begun = blocks.Outside }
+  reading_of size = record { types = types; grid = Some (grid_from size 2 size); parameters = parts.Absent; configuration = modes.Frames; begun = blocks.Outside }
 
   abbrev pub fabric_at : (size : ℕ) → PlainFabric
   fabric_at size = grid_fabric types (grid_from size 2 size)

@@ -19,10 +19,10 @@ use Rattle.fab_read.specs.fab_blocks_standing_Said.{Said}
 use Rattle.fab_read.specs.fab_blocks_standing_Said_TheVariants as said
 use Rattle.fab_read.specs.fab_blocks_Blocks.{PlainBlock, bare, new_block, with_row, with_matrix}
 use Rattle.fab_read.specs.fab_blocks_Cells.{first_problem, cell_at, is_tile_name}
-use Rattle.fab_read.specs.fab_blocks_Inner.{foreign_row, value_problem, parameter_row, path_problem, depth_problem, include_row, tiles_row, outer_row, inner_parameter, beside, wire_cells, wire_row, bel_row, matrix_row, block_row, file_named}
+use Rattle.fab_read.specs.fab_blocks_Inner.{foreign_row, value_problem, path_problem, depth_problem, include_row, tiles_row, outer_row, beside, wire_cells, wire_row, bel_row, matrix_row, block_row, file_named}
 use Rattle.fab_read.specs.fab_blocks_Rows.{WireCells, row_of, wire_problem, kind_of, bel_problem, matrix_problem, with_bel_of}
 use Rattle.fab_read.specs.fab_blocks_Reading.{PlainReading, PlainHolder, start, with_open_block, with_grid, with_parameters, with_type}
-use Rattle.fab_read.specs.fab_blocks_Saying.{Step, stands, may_begin, lines_of, line_problem, with_line, parameters_begun, begin_problem, begin_reason, begin_limit, begin_grid, end_grid, grid_line, begin_parameters, end_parameters, begin_tile, handed_out, end_tile, with_said, with_block, row_in, say, said_of}
+use Rattle.fab_read.specs.fab_blocks_Saying.{Step, stands, may_begin, lines_of, line_problem, with_line, parameters_begun, begin_problem, begin_reason, begin_limit, begin_grid, end_grid, grid_line, begin_parameters, end_parameters, with_parameter, parameter_row, inner_parameter, begin_tile, handed_out, end_tile, with_said, with_block, row_in, say, said_of}
 use Rattle.fab_read.specs.fab_blocks_Words.{word_of}
 use Rattle.fab_read.proofs.fab_blocks_Readings.{passed, no_problem}
 use Rattle.fab_read.specs.Rows.{end_at, ReadsRows, ends, takes_row, opens_file, ends_tile}
@@ -71,10 +71,6 @@ module _ (P Q : PlainTile → Type 0) (keeps : Keeps P Q) where
   unfolding foreign_row
   foreign cells = tt
 
-  parameter : (cells : List (List ℕ)) → OnSaid (parameter_row cells)
-  unfolding parameter_row
-  parameter cells = either OnSaid (not (length cells == 2)) _ _ tt (judged_said (value_problem (cell_at cells 0) (cell_at cells 1)) said.Taken tt)
-
   names_tiles : (holder : PlainHolder) (cells : List (List ℕ)) → OnSaid (tiles_row holder cells)
   unfolding tiles_row
   names_tiles holder cells = judged_said (path_problem holder cells) (said.NamesTiles (file_named holder cells)) tt
@@ -89,12 +85,6 @@ module _ (P Q : PlainTile → Type 0) (keeps : Keeps P Q) where
   outer holder words.Tile cells = either OnSaid holder.is_fabric _ _ (names_tiles holder cells) tt
   outer holder words.Include cells = includes holder cells
   outer holder word cells = tt
-
-  in_parameters : (holder : PlainHolder) (word : Word) (cells : List (List ℕ)) → OnSaid (inner_parameter holder word cells)
-  unfolding inner_parameter
-  in_parameters holder words.Foreign cells = foreign cells
-  in_parameters holder words.Tile cells = names_tiles holder cells
-  in_parameters holder word cells = parameter cells
 
   -- ---- rows of a block
 
@@ -183,6 +173,17 @@ module _ (P Q : PlainTile → Type 0) (keeps : Keeps P Q) where
         let done : OnStep (Ok (with_parameters before parts.Ended, said.Taken)) = (record { types = kept.types; open_block = kept.open_block }, tt) in
         either OnStep (not (length cells == 1)) _ _ tt (either OnStep (not (stands before holder places.Parameters && holder.is_own)) _ _ tt done)
 
+    parameter : (cells : List (List ℕ)) → OnStep (parameter_row before cells)
+    unfolding parameter_row
+    parameter cells = either OnStep (not (length cells == 2)) _ _ tt
+        (judged_step (value_problem (cell_at cells 0) (cell_at cells 1)) (with_parameter before (cell_at cells 0) (cell_at cells 1)) (record { types = kept.types; open_block = kept.open_block }))
+
+    in_parameters : (word : Word) (cells : List (List ℕ)) → OnStep (inner_parameter before holder word cells)
+    unfolding inner_parameter
+    in_parameters words.Foreign cells = said_step (foreign_row cells) (foreign cells)
+    in_parameters words.Tile cells = said_step (tiles_row holder cells) (names_tiles holder cells)
+    in_parameters word cells = parameter cells
+
     tile_begins : (cells : List (List ℕ)) → OnStep (begin_tile before holder cells)
     unfolding begin_tile
     tile_begins cells = judged_when (begin_problem before holder cells) (with_open_block before (blocks.Tile (new_block (cell_at cells 1)))) (λ fine.
@@ -202,7 +203,8 @@ module _ (P Q : PlainTile → Type 0) (keeps : Keeps P Q) where
     unfolding row_in
     standing blocks.Grid word row open_kept = a_line row
     standing (blocks.Tile block) word row open_kept = block_step (block_row block holder word row.cells) (in_block holder block open_kept word row.cells)
-    standing blocks.Outside word row open_kept = said_step _ (either OnSaid (stands before holder places.Parameters) _ _ (in_parameters holder word row.cells) (outer holder word row.cells))
+    standing blocks.Outside word row open_kept =
+        either OnStep (stands before holder places.Parameters) _ _ (in_parameters word row.cells) (said_step (outer_row holder word row.cells) (outer holder word row.cells))
 
     by_word : (word : Word) (row : PlainRow) → OnStep (say before holder word row)
     unfolding say

@@ -20,10 +20,10 @@ use Rattle.fab_blocks.specs.declared.standing.Said.{Said}
 use Rattle.fab_blocks.specs.declared.standing.Said.TheVariants as said
 use Rattle.fab_blocks.specs.Blocks.{PlainBlock, new_block, with_matrix, with_row}
 use Rattle.fab_blocks.specs.Cells.{cell_at, first_problem}
-use Rattle.fab_blocks.specs.Inner.{IsPlain, bel_row, beside, block_row, depth_problem, file_named, foreign_row, include_row, inner_parameter, matrix_row, outer_row, parameter_row, path_problem, tiles_row, value_problem, wire_cells, wire_row}
+use Rattle.fab_blocks.specs.Inner.{IsPlain, bel_row, beside, block_row, depth_problem, file_named, foreign_row, include_row, matrix_row, outer_row, path_problem, tiles_row, value_problem, wire_cells, wire_row}
 use Rattle.fab_blocks.specs.Reading.{HasLines, HasRoom, HasRoomFor, IsGrid, IsReading, PlainGridLine, PlainHolder, PlainReading, start, with_grid, with_open_block, with_parameters, with_type}
 use Rattle.fab_blocks.specs.Rows.{WireCells, bel_problem, bel_reason, kind_of, kind_problem, matrix_problem, row_of, wire_problem, with_bel_of}
-use Rattle.fab_blocks.specs.Saying.{HasRoomIfEnded, Step, begin_grid, begin_parameters, begin_problem, begin_tile, end_grid, end_parameters, end_tile, grid_line, handed_out, line_problem, lines_of, may_begin, parameters_begun, row_in, said_of, say, stands, with_block, with_line, with_said}
+use Rattle.fab_blocks.specs.Saying.{HasRoomIfEnded, Step, begin_grid, begin_parameters, begin_problem, begin_tile, end_grid, end_parameters, end_tile, grid_line, handed_out, inner_parameter, line_problem, lines_of, may_begin, parameter_row, parameters_begun, row_in, said_of, say, stands, with_block, with_line, with_parameter, with_said}
 use Rattle.fab_blocks.specs.Words.{word_of}
 use Rattle.fab_blocks.proofs.Readings.{begin_has_room, begin_outside, failed, grid_more, lines_are_grid, no_problem, passed, plain_room, room_of_next, sound_closed, sound_lines, sound_open, sound_type}
 use Rattle.fab_spelled_fabrics_laws.specs.fab_read_Rows.{ReadsRows, end_at, ends, ends_tile, opens_file, takes_row}
@@ -47,10 +47,6 @@ foreign : (cells : List (List ℕ)) → OnSaid (foreign_row cells)
 unfolding foreign_row
 foreign cells = tt
 
-parameter : (cells : List (List ℕ)) → OnSaid (parameter_row cells)
-unfolding parameter_row
-parameter cells = either OnSaid (not (length cells == 2)) _ _ tt (judged_said (value_problem (cell_at cells 0) (cell_at cells 1)) said.Taken tt)
-
 names_tiles : (holder : PlainHolder) (cells : List (List ℕ)) → OnSaid (tiles_row holder cells)
 unfolding tiles_row
 names_tiles holder cells = judged_said (path_problem holder cells) (said.NamesTiles (file_named holder cells)) tt
@@ -65,12 +61,6 @@ outer holder words.Foreign cells = foreign cells
 outer holder words.Tile cells = either OnSaid holder.is_fabric _ _ (names_tiles holder cells) tt
 outer holder words.Include cells = includes holder cells
 outer holder word cells = tt
-
-in_parameters : (holder : PlainHolder) (word : Word) (cells : List (List ℕ)) → OnSaid (inner_parameter holder word cells)
-unfolding inner_parameter
-in_parameters holder words.Foreign cells = foreign cells
-in_parameters holder words.Tile cells = names_tiles holder cells
-in_parameters holder word cells = parameter cells
 
 -- ---- rows of a block
 
@@ -210,6 +200,21 @@ module _ (before : PlainReading) (holder : PlainHolder) (sound : IsReading befor
       record { names = sound.names; few_types = sound.few_types; few_bels = sound.few_bels; room = sound.room; grid = sound.grid; lines = sound.lines } in
       either OnStep (not (length cells == 1)) _ _ tt (either OnStep (not (stands before holder places.Parameters && holder.is_own)) _ _ tt (after, tt))
 
+  parameter : (cells : List (List ℕ)) → OnStep (parameter_row before cells)
+  unfolding parameter_row
+  parameter cells =
+      let key = cell_at cells 0 in
+      let value = cell_at cells 1 in
+      let after : IsReading (with_parameter before key value) =
+      record { names = sound.names; few_types = sound.few_types; few_bels = sound.few_bels; room = sound.room; grid = sound.grid; lines = sound.lines } in
+      either OnStep (not (length cells == 2)) _ _ tt (judged_when (value_problem key value) (with_parameter before key value) (λ fine. after))
+
+  in_parameters : (word : Word) (cells : List (List ℕ)) → OnStep (inner_parameter before holder word cells)
+  unfolding inner_parameter
+  in_parameters words.Foreign cells = said_step (foreign_row cells) (foreign cells)
+  in_parameters words.Tile cells = said_step (tiles_row holder cells) (names_tiles holder cells)
+  in_parameters word cells = parameter cells
+
   tile_begins : (cells : List (List ℕ)) → OnStep (begin_tile before holder cells)
   unfolding begin_tile
   tile_begins cells = judged_when (begin_problem before holder cells) (with_open_block before (blocks.Tile (new_block (cell_at cells 1)))) (λ fine.
@@ -249,7 +254,8 @@ module _ (before : PlainReading) (holder : PlainHolder) (sound : IsReading befor
   standing (blocks.Tile block) word row is some =
       let few = (room_of (blocks.Tile block) is).few_bels in
       block_step block is few (block_row block holder word row.cells) (in_block holder block few word row.cells)
-  standing blocks.Outside word row is some = said_step _ (either OnSaid (stands before holder places.Parameters) _ _ (in_parameters holder word row.cells) (outer holder word row.cells))
+  standing blocks.Outside word row is some =
+      either OnStep (stands before holder places.Parameters) _ _ (in_parameters word row.cells) (said_step (outer_row holder word row.cells) (outer holder word row.cells))
 
   by_word : (word : Word) (row : PlainRow) → 0 < length row.cells → OnStep (say before holder word row)
   unfolding say

@@ -8,6 +8,7 @@ use Rattle.fab_model.specs.Tables.{HasTable}
 use Rattle.fab_model.specs.Tiles.{IsTile, matrix_names}
 use Rattle.fab_blocks.specs.Reading.{IsReading}
 use Rattle.fab_fabric.specs.Fabric.{AreTiles, IsFabric, wire_count}
+use Rattle.fab_fabric.proofs.Kept.{is_fabric_in}
 use Rattle.fab_gen_tile.specs.Words.{IsNamed}
 use Rattle.fab_spelled_fabrics_laws.specs.fab_read_Fabrics.{SpellsFabric, column_count, grid_fabric, places}
 use Rattle.fab_spelled_fabrics_laws.proofs.fab_read_Grids.{reading_is_fabric, some_lines}
@@ -35,8 +36,9 @@ module _ (files : Map) (name : List ℕ) (fabric : PlainFabric) (spelled : Spell
       let types = spelled.types in
       let lines = spelled.lines in
       subst IsFabric (sym spelled.is)
+      (is_fabric_in parts.reading.configuration (grid_fabric types lines)
       (reading_is_fabric parts.reading types lines (column_count lines) (places types lines) (wire_count (grid_fabric types lines)) parts.types_are parts.grid_is sound
-      (some_lines parts.reading lines sound parts.read.closed parts.grid_is) tables refl refl refl spelled.few_wires)
+      (some_lines parts.reading lines sound parts.read.closed parts.grid_is) tables refl refl refl spelled.few_wires))
 
   pub spelled_tiles : AreTiles fabric
   spelled_tiles = All-weaker IsRead IsTile (λ tile read. read.0) fabric.types all_read

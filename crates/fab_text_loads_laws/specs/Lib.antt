@@ -6,6 +6,7 @@ pub use Rattle.fab_drives_laws.specs.Points as fab_drives_laws_Points
 pub use Rattle.fab_drives_laws.specs.fab_fabric_Fabric as fab_fabric_Fabric
 pub use Rattle.fab_drives_laws.specs.fab_fabric_Sites as fab_fabric_Sites
 pub use Rattle.fab_drives_laws.specs.fab_fabric_Wires as fab_fabric_Wires
+pub use Rattle.fab_drives_laws.specs.fab_fabric_text_defs_Mode as fab_fabric_text_defs_Mode
 pub use Rattle.fab_drives_laws.specs.fab_fabric_text_defs_Names as fab_fabric_text_defs_Names
 pub use Rattle.fab_drives_laws.specs.fab_fabric_text_defs_Places as fab_fabric_text_defs_Places
 pub use Rattle.fab_drives_laws.specs.fab_fabric_text_defs_Text as fab_fabric_text_defs_Text

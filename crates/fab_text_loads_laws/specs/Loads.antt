@@ -13,6 +13,7 @@ use Rattle.fab_drives_laws.specs.fab_model_mode_Mode_TheVariants as modes
 use Rattle.fab_drives_laws.specs.fab_model_Grid.{PlainFabric}
 use Rattle.fab_drives_laws.specs.fab_model_Drive.{PlainBits}
 use Rattle.fab_drives_laws.specs.fab_gen_loader_Loader.{state_name, strobe_register_name}
+use Rattle.fab_drives_laws.specs.fab_fabric_text_defs_Mode.{text_mode}
 use Rattle.fab_drives_laws.specs.Points.{ShowsBits}
 use Rattle.fab_loading_laws.specs.Latches.{Turn, word, pause, other_clock, words_of}
 use Rattle.fab_loading_laws.specs.Streams.{stream_words}
@@ -73,9 +74,9 @@ abbrev pub LoaderRests : Mode → (held : Assignment) → Type 0
 LoaderRests modes.Frames held = LoaderWaits held
 LoaderRests modes.Chain held = Unit {0}
 
--- The loader rests, and what keeps the configuration holds each bit. Each text is one with frames.
+-- The loader rests, and what keeps the configuration holds each bit.
 pub record IsConfigured (fabric : PlainFabric) (bits : PlainBits) (held : Assignment) : Type 0 where
-  pub rests : LoaderRests modes.Frames held
+  pub rests : LoaderRests (text_mode fabric) held
   pub bits_held : ShowsBits fabric bits held
 
 pub record LoadsBits (fabric : PlainFabric) (text : List PlainModule) (bits : PlainBits) : Type 0 where

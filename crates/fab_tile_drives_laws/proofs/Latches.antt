@@ -15,10 +15,12 @@ use Rattle.fab_gen_tile.specs.fab_meaning.specs.Points.{Path, point, module_at}
 use Rattle.fab_gen_tile.specs.fab_meaning.specs.Settled.{Assignment, names_at}
 use Rattle.fab_gen_tile.specs.fab_meaning.proofs.Declared.{bits_of_name}
 use Rattle.fab_gen_tile.specs.fab_meaning.specs.Ports.{config_name}
+use Rattle.fab_gen_tile.specs.fab_model.specs.declared.mode.Mode.{Mode}
 use Rattle.fab_gen_tile.specs.fab_model.specs.Tiles.{PlainTile, counted, tile_bits}
 use Rattle.fab_gen_tile.specs.Names.{latch_name}
-use Rattle.fab_gen_tile.specs.ConfigModule.{bit_latch, all_latches, config_module}
+use Rattle.fab_gen_tile.specs.ConfigModule.{keeping_items, config_items, all_latches, config_module}
 use Rattle.fab_tile_drives_laws.proofs.Members.{contains_first}
+use Rattle.fab_tile_drives_laws.proofs.Modes.{bits_port, register_behind}
 use Rattle.fab_tile_drives_laws.proofs.Driven.{width_of}
 
 -- ---- widths
@@ -35,11 +37,11 @@ registers (suc n) f items (suc bit) few =
       | inr f' ↦ rw f' (registers n (λ i. f (suc i)) items bit (omega arith))
     ]
 
-pub latch_width : (tile : PlainTile) (bit : ℕ) → bit < tile_bits tile → width_of (config_module tile) (latch_name bit) ≡ 1
-latch_width tile bit few = ap width_if_any (registers (tile_bits tile) latch_name _ bit few)
+pub latch_width : (mode : Mode) (tile : PlainTile) (bit : ℕ) → bit < tile_bits tile → width_of (config_module mode tile) (latch_name bit) ≡ 1
+latch_width mode tile bit few = register_behind mode (tile_bits tile) bit (config_items mode tile) ∙ ap width_if_any (registers (tile_bits tile) latch_name _ bit few)
 
-pub all_width : (tile : PlainTile) → width_of (config_module tile) config_name ≡ tile_bits tile
-all_width tile = refl
+pub all_width : (mode : Mode) (tile : PlainTile) → width_of (config_module mode tile) config_name ≡ tile_bits tile
+all_width mode tile = bits_port mode (tile_bits tile) (config_items mode tile)
 
 -- ---- the value of all latches
 
@@ -64,9 +66,9 @@ reversed_parts names (suc n) f g each =
     ∙ parts_append names (reverse later) (f 0 ∷ [])
     ∙ (λ j. here j ++ rest j)
 
-module _ (text : List PlainModule) (now : Assignment) (path : Path) (tile : PlainTile) (stands : module_at text path ≡ Some (config_module tile)) where
+module _ (mode : Mode) (text : List PlainModule) (now : Assignment) (path : Path) (tile : PlainTile) (stands : module_at text path ≡ Some (config_module mode tile)) where
   latch_seen : (bit : ℕ) → bit < tile_bits tile → value (names_at text now path) (variable (latch_name bit)) ≡ now (point path (latch_name bit) 0) ∷ []
-  latch_seen bit few = bits_of_name text now path (config_module tile) (latch_name bit) 1 stands (latch_width tile bit few)
+  latch_seen bit few = bits_of_name text now path (config_module mode tile) (latch_name bit) 1 stands (latch_width mode tile bit few)
 
   pub latches_seen : (bit : ℕ) → bit < tile_bits tile → bit_at (value (names_at text now path) (all_latches (tile_bits tile))) bit ≡ now (point path (latch_name bit) 0)
   latches_seen bit few =
@@ -75,8 +77,8 @@ module _ (text : List PlainModule) (now : Assignment) (path : Path) (tile : Plai
       ∙ get_first_bits (tile_bits tile) (λ bit. now (point path (latch_name bit) 0)) bit false few
 
 -- the assign of all latches
-pub all_there : (tile : PlainTile) → Contains (config_module tile).items (assign config_name (all_latches (tile_bits tile)))
-all_there tile =
+pub all_there : (mode : Mode) (tile : PlainTile) → Contains (config_module mode tile).items (assign config_name (all_latches (tile_bits tile)))
+all_there mode tile =
     let item = assign config_name (all_latches (tile_bits tile)) in
-    Contains-append_right (counted (tile_bits tile) (λ bit. reg Scalar (latch_name bit))) (counted (tile_bits tile) (bit_latch tile) ++ item ∷ []) item
-    (Contains-append_right (counted (tile_bits tile) (bit_latch tile)) (item ∷ []) item (contains_first item []))
+    Contains-append_right (counted (tile_bits tile) (λ bit. reg Scalar (latch_name bit))) (keeping_items mode tile ++ item ∷ []) item
+    (Contains-append_right (keeping_items mode tile) (item ∷ []) item (contains_first item []))

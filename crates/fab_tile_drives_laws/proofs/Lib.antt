@@ -1,5 +1,6 @@
 pub mod Endings
 pub mod Members
+pub mod Modes
 pub mod Widths
 pub mod TileNames
 pub mod TileItems

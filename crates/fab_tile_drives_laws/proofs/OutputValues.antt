@@ -20,6 +20,7 @@ use Rattle.fab_gen_tile.specs.fab_matrix.specs.Selects as law
 use Rattle.fab_gen_tile.specs.fab_matrix.specs.Selects.{Selects, chosen}
 use Rattle.fab_gen_tile.specs.fab_matrix.proofs.Fields.{field_within}
 use Rattle.fab_gen_tile.specs.fab_matrix.proofs.Selecting.{matrix_selects}
+use Rattle.fab_gen_tile.specs.fab_model.specs.declared.mode.Mode.{Mode}
 use Rattle.fab_gen_tile.specs.fab_model.specs.Tiles.{PlainTile, TileWire, tile_wires, wire_name, matrix_names, is_matrix_output, numbered_pairs, IsPair, IsTile, wire_passes, bel_bits, output_field}
 use Rattle.fab_gen_tile.specs.fab_model.specs.Wires.{PlainWire, wire_of, IsWire, IsMatrixOutput, plain_wires, wire_number}
 use Rattle.fab_gen_tile.specs.fab_model.specs.Drive as drive
@@ -168,7 +169,7 @@ picked_is : (path : Path) (tile : PlainTile) (now : Assignment) (value : ℕ →
 picked_is path tile now value None each = refl
 picked_is path tile now value (Some input) each = let g = each input refl in g.2 ∙ sym (ap (picked_value path tile now) g.1)
 
-module _ (text : List PlainModule) (path : Path) (tile : PlainTile) (is_tile : IsTile tile) (stands : TileStands text path tile)
+module _ (mode : Mode) (text : List PlainModule) (path : Path) (tile : PlainTile) (is_tile : IsTile tile) (stands : TileStands mode text path tile)
     (bits : ℕ → Bool) (inputs held now : Assignment) (wire : PlainWire) (shows : ShowsTileBits path tile bits now) (exists : IsWire tile wire) (output : IsMatrixOutput tile wire)
     (settled : IsSettledOnDeclared (IsOwnOfOutput path tile bits wire) text inputs held now) where
   abbrev Has : Point → Type 0
@@ -205,7 +206,7 @@ module _ (text : List PlainModule) (path : Path) (tile : PlainTile) (is_tile : I
   some = (let within : named_output.0 < length (matrix_output_names tile) = named_output.1 in omega arith)
 
   of_module : module_at text here ≡ Some inner
-  of_module = inside text path tile matrix_instance_name _ inner stands.tile_is (matrix_found tile some) (stands.matrix_is some)
+  of_module = inside mode text path tile matrix_instance_name _ inner stands.tile_is (matrix_found mode tile some) (stands.matrix_is some)
 
   abbrev bit_joins : List PlainJoin
   bit_joins = bits_join (bel_bits tile) (select_bits nat_eq (numbered_pairs tile))
@@ -218,11 +219,11 @@ module _ (text : List PlainModule) (path : Path) (tile : PlainTile) (is_tile : I
   copies =
       let apart = subst (λ n. All (λ input. input ≢ n) (matrix_input_names tile)) (sym name_is) (sides_apart tile is_tile place at.found at.there is_output) in
       let low : EndsLow name = subst EndsLow (sym name_is) (wire_low) in
-      joined_out Has text inputs held now settled path (tile_module tile) inner (matrix_module_name tile) matrix_instance_name (matrix_joins tile)
-      stands.tile_is (stands.matrix_is some) (matrix_there tile some) name name 0
+      joined_out Has text inputs held now settled path (tile_module mode tile) inner (matrix_module_name tile) matrix_instance_name (matrix_joins tile)
+      stands.tile_is (stands.matrix_is some) (matrix_there mode tile some) name name 0
       (Contains-append_right (map same_join (matrix_input_names tile)) (bit_joins ++ output_joins) (same_join name)
       (Contains-append_right bit_joins output_joins (same_join name) (contains_map same_join (matrix_output_names tile) name named_output)))
-      (output_is_output tile name low apart) (name_wide tile name (name_there tile wire exists)) itself
+      (output_is_output tile name low apart) (name_wide mode tile name (name_there tile wire exists)) itself
     where
       wire_low : EndsLow (wire_name at.found)
       wire_low = All-contains (λ w. EndsLow (wire_name w)) (tile_wires tile) at.found (low_wires tile) (contains_at (tile_wires tile) place at.found at.there)
@@ -232,8 +233,8 @@ module _ (text : List PlainModule) (path : Path) (tile : PlainTile) (is_tile : I
   bit_value bit few =
       let same : select_bits nat_eq (named_pairs tile) ≡ select_bits nat_eq (numbered_pairs tile) = bits_same (matrix_names tile) tile.pairs in
       let wide : width_of inner config_name ≡ select_bits nat_eq (named_pairs tile) = bits_width tile (omega arith) in
-      instance_shows text path tile stands bits Has (λ p own. configuration own) inputs held now shows settled
-      inner (matrix_module_name tile) matrix_instance_name (matrix_joins tile) of_module (stands.matrix_is some) (matrix_there tile some)
+      instance_shows mode text path tile stands bits Has (λ p own. configuration own) inputs held now shows settled
+      inner (matrix_module_name tile) matrix_instance_name (matrix_joins tile) of_module (stands.matrix_is some) (matrix_there mode tile some)
       (bel_bits tile) (select_bits nat_eq (numbered_pairs tile)) bit
       (λ join among. Contains-append_right (map same_join (matrix_input_names tile)) (bit_joins ++ output_joins) join (Contains-append_left bit_joins output_joins join among))
       (bits_input tile (omega arith)) (omega arith) (omega arith) few
@@ -270,11 +271,11 @@ module _ (text : List PlainModule) (path : Path) (tile : PlainTile) (is_tile : I
       let same : get_or (matrix_names tile) input [] ≡ name_of tile from =
       get_or_from_slice_get (matrix_names tile) input (name_of tile from) [] (name_at_number tile from input found.stands) in
       let shown : now (point here (name_of tile from) 0) ≡ now (wire_point path tile from) =
-      joined_in Has text inputs held now settled path (tile_module tile) inner (matrix_module_name tile) matrix_instance_name (matrix_joins tile)
-      stands.tile_is (stands.matrix_is some) (matrix_there tile some) (name_of tile from) (variable (name_of tile from)) 0
+      joined_in Has text inputs held now settled path (tile_module mode tile) inner (matrix_module_name tile) matrix_instance_name (matrix_joins tile)
+      stands.tile_is (stands.matrix_is some) (matrix_there mode tile some) (name_of tile from) (variable (name_of tile from)) 0
       (Contains-append_left (map same_join (matrix_input_names tile)) (bit_joins ++ output_joins) (same_join (name_of tile from)) (contains_map same_join (matrix_input_names tile) (name_of tile from) there))
       of_module (first_input (matrix_input_names tile) _ (name_of tile from) there) (omega arith) (input_port is)
-      ∙ wire_seen text path tile is_tile stands now from (number_has_wire tile input from found.stands).0 in
+      ∙ wire_seen mode text path tile is_tile stands now from (number_has_wire tile input from found.stands).0 in
       (from, found.stands, ap (λ n. now (point here n 0)) same ∙ shown)
 
   pub output_shows : now (point path name 0) ≡ picked_value path tile now (picked tile bits wire)
@@ -285,6 +286,6 @@ module _ (text : List PlainModule) (path : Path) (tile : PlainTile) (is_tile : I
       ∙ chosen_named (λ input. get_or (matrix_names tile) input []) (λ input. now (point here input 0)) (drive.matrix_inputs tile place) (drive.select_value tile bits place)
       ∙ picked_is path tile now (λ input. now (point here (get_or (matrix_names tile) input []) 0)) picked_number input_value
 
-pub outputs_show : (text : List PlainModule) (path : Path) (tile : PlainTile) → IsTile tile → TileStands text path tile → ShowsMatrixOutputs text path tile
-outputs_show text path tile is_tile stands bits inputs held now wire shows exists output settled =
-    output_shows text path tile is_tile stands bits inputs held now wire shows exists output settled
+pub outputs_show : (mode : Mode) (text : List PlainModule) (path : Path) (tile : PlainTile) → IsTile tile → TileStands mode text path tile → ShowsMatrixOutputs text path tile
+outputs_show mode text path tile is_tile stands bits inputs held now wire shows exists output settled =
+    output_shows mode text path tile is_tile stands bits inputs held now wire shows exists output settled

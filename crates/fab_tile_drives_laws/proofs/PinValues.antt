@@ -12,6 +12,7 @@ use Rattle.fab_gen_tile.specs.fab_syntax.specs.Plain.{PlainModule, variable}
 use Rattle.fab_gen_tile.specs.fab_syntax.specs.Declarations.{module_named}
 use Rattle.fab_gen_tile.specs.fab_meaning.specs.Points.{Path, point, module_at}
 use Rattle.fab_gen_tile.specs.fab_meaning.specs.Settled.{Assignment}
+use Rattle.fab_gen_tile.specs.fab_model.specs.declared.mode.Mode.{Mode}
 use Rattle.fab_gen_tile.specs.fab_model.specs.declared.tiles.Bel.{Bel}
 use Rattle.fab_gen_tile.specs.fab_model.specs.Tiles.{PlainTile, bel_pin, wire_name, matrix_names, bits_before}
 use Rattle.fab_gen_tile.specs.fab_model.specs.Wires.{pin_of, pin_count, IsWire}
@@ -54,11 +55,11 @@ module _ (tile : PlainTile) (bel : ℕ) (found : Bel) (there : slice_get tile.be
   pin_there : (pin : ℕ) → pin < pin_count found → Contains (matrix_names tile) (found.prefix ++ pin_name pin)
   pin_there pin few = subst (Contains (matrix_names tile)) (named pin) (name_there tile (pin_of bel pin) (pin_exists pin few))
 
-  input_wide : (name : List ℕ) → Contains (input_names found.kind) name → 0 < width_of (tile_module tile) (found.prefix ++ name)
-  input_wide name among =
+  input_wide : (mode : Mode) (name : List ℕ) → Contains (input_names found.kind) name → 0 < width_of (tile_module mode tile) (found.prefix ++ name)
+  input_wide mode name among =
       let all : Contains (pin_names found.kind) name = Contains-append_left (input_names found.kind) (output_names found.kind) name among in
       let same : get_or (pin_names found.kind) all.0 [] ≡ name = get_or_default (pin_names found.kind) all.0 [] name all.1 ∙ all.2 in
-      name_wide tile (found.prefix ++ name) (subst (λ n. Contains (matrix_names tile) (found.prefix ++ n)) same (pin_there all.0 all.1))
+      name_wide mode tile (found.prefix ++ name) (subst (λ n. Contains (matrix_names tile) (found.prefix ++ n)) same (pin_there all.0 all.1))
 
   -- a pin behind the inputs is an output
   output_there : (pin : ℕ) → input_count found.kind ≤ pin → pin < pin_count found → Contains (output_names found.kind) (pin_name pin)
@@ -69,7 +70,7 @@ module _ (tile : PlainTile) (bel : ℕ) (found : Bel) (there : slice_get tile.be
       let same : pin_name pin ≡ get_or outputs (pin - length inputs) [] = get_or-append_right inputs outputs (length inputs) pin [] refl past in
       contains_at outputs (pin - length inputs) (pin_name pin) (slice_get-get_or outputs (pin - length inputs) [] inside ∙ ap Some (sym same))
 
-  module _ (text : List PlainModule) (path : Path) (stands : TileStands text path tile) (bits : ℕ → Bool) (pin : ℕ) (past : input_count found.kind ≤ pin) (few : pin < pin_count found)
+  module _ (mode : Mode) (text : List PlainModule) (path : Path) (stands : TileStands mode text path tile) (bits : ℕ → Bool) (pin : ℕ) (past : input_count found.kind ≤ pin) (few : pin < pin_count found)
       (inputs held now : Assignment) (shows : ShowsTileBits path tile bits now) (settled : IsSettledOnDeclared (IsOwnOfPin path tile bel pin) text inputs held now) where
     abbrev kind_module : PlainModule
     kind_module = module_of_kind found.kind
@@ -85,43 +86,43 @@ module _ (tile : PlainTile) (bel : ℕ) (found : Bel) (there : slice_get tile.be
         All-contains (λ (b : Bel). module_named text (module_name b.kind) ≡ Some (module_of_kind b.kind)) tile.bels found stands.kinds_are (contains_at tile.bels bel found there)
 
     placed : module_at text here ≡ Some kind_module
-    placed = inside text path tile (bel_instance_name bel) _ kind_module stands.tile_is (bel_found tile bel found there) of_kind
+    placed = inside mode text path tile (bel_instance_name bel) _ kind_module stands.tile_is (bel_found mode tile bel found there) of_kind
 
     -- the pin copies its port
     copies : now (point path (found.prefix ++ pin_name pin) 0) ≡ now (point here (pin_name pin) 0)
     copies =
-        joined_out (IsOwnOfPin path tile bel pin) text inputs held now settled path (tile_module tile) kind_module (module_name found.kind) (bel_instance_name bel)
-        (bel_joins bel low found) stands.tile_is of_kind (bel_there tile bel found there) (pin_name pin) (found.prefix ++ pin_name pin) 0
+        joined_out (IsOwnOfPin path tile bel pin) text inputs held now settled path (tile_module mode tile) kind_module (module_name found.kind) (bel_instance_name bel)
+        (bel_joins bel low found) stands.tile_is of_kind (bel_there mode tile bel found there) (pin_name pin) (found.prefix ++ pin_name pin) 0
         (output_joined bel low found (pin_name pin) (output_there pin past few))
         (All-contains (IsNoInput found.kind) (output_names found.kind) (pin_name pin) (outputs_are_outputs found.kind) (output_there pin past few))
-        (name_wide tile (found.prefix ++ pin_name pin) (pin_there pin few))
+        (name_wide mode tile (found.prefix ++ pin_name pin) (pin_there pin few))
         (subst (λ n. IsOwnOfPin path tile bel pin (point path n 0)) (named pin) itself)
 
     -- an input port has the value of its pin
     input_value : (name : List ℕ) → Contains (input_names found.kind) name → now (point here name 0) ≡ now (point path (found.prefix ++ name) 0)
     input_value name among =
         let one : width_of kind_module name ≡ 1 = first_width (input_names found.kind) _ kind_module.items name among in
-        joined_in (IsOwnOfPin path tile bel pin) text inputs held now settled path (tile_module tile) kind_module (module_name found.kind) (bel_instance_name bel)
-        (bel_joins bel low found) stands.tile_is of_kind (bel_there tile bel found there) name (variable (found.prefix ++ name)) 0
+        joined_in (IsOwnOfPin path tile bel pin) text inputs held now settled path (tile_module mode tile) kind_module (module_name found.kind) (bel_instance_name bel)
+        (bel_joins bel low found) stands.tile_is of_kind (bel_there mode tile bel found there) name (variable (found.prefix ++ name)) 0
         (input_joined bel low found name among) placed (first_input (input_names found.kind) _ name among) (omega arith) (in_bel refl)
-        ∙ variable_bit text now path (tile_module tile) stands.tile_is (found.prefix ++ name) 0 (input_wide name among)
+        ∙ variable_bit text now path (tile_module mode tile) stands.tile_is (found.prefix ++ name) 0 (input_wide mode name among)
 
     -- and what comes from outside that of its port of the tile
     top_value_is : Contains (top_inputs found.kind) top_name → now (point here top_name 0) ≡ now (point path (pad_name bel top_name) 0)
     top_value_is among =
         let one : width_of kind_module top_name ≡ 1 = top_width found.kind top_name among in
-        joined_in (IsOwnOfPin path tile bel pin) text inputs held now settled path (tile_module tile) kind_module (module_name found.kind) (bel_instance_name bel)
-        (bel_joins bel low found) stands.tile_is of_kind (bel_there tile bel found there) top_name (variable (pad_name bel top_name)) 0
+        joined_in (IsOwnOfPin path tile bel pin) text inputs held now settled path (tile_module mode tile) kind_module (module_name found.kind) (bel_instance_name bel)
+        (bel_joins bel low found) stands.tile_is of_kind (bel_there mode tile bel found there) top_name (variable (pad_name bel top_name)) 0
         (top_joined bel low found top_name among) placed (top_input found.kind top_name among) (omega arith) (in_bel refl)
-        ∙ variable_bit text now path (tile_module tile) stands.tile_is (pad_name bel top_name) 0 (top_wide tile bel found top_name there among)
+        ∙ variable_bit text now path (tile_module mode tile) stands.tile_is (pad_name bel top_name) 0 (top_wide mode tile bel found top_name there among)
 
     -- the configuration bits are those of the BEL
     config_bit : (bit : ℕ) → bit < bit_count found.kind → now (point here config_name bit) ≡ bits (low + bit)
     config_bit bit within =
         let width : width_of kind_module config_name ≡ bit_count found.kind = config_width found.kind (omega arith) in
         let enough : bits_before tile.bels bel + bit_count found.kind ≤ _ = bits_within tile.bels bel found there in
-        instance_shows text path tile stands bits (IsOwnOfPin path tile bel pin) (λ p own. configuration own) inputs held now shows settled
-        kind_module (module_name found.kind) (bel_instance_name bel) (bel_joins bel low found) placed of_kind (bel_there tile bel found there)
+        instance_shows mode text path tile stands bits (IsOwnOfPin path tile bel pin) (λ p own. configuration own) inputs held now shows settled
+        kind_module (module_name found.kind) (bel_instance_name bel) (bel_joins bel low found) placed of_kind (bel_there mode tile bel found there)
         low (bit_count found.kind) bit (config_joined bel low found) (config_input found.kind (omega arith)) (omega arith) (omega arith) within
 
     pub pin_shows : now (point path (name_of tile (pin_of bel pin)) 0) ≡ pin_value path tile bits held now bel pin found
@@ -139,6 +140,6 @@ module _ (tile : PlainTile) (bel : ℕ) (found : Bel) (there : slice_get tile.be
         ∙ (λ j. output_of found.kind pin (pins j) (config j) kept (top_value now here))
         ∙ top_matters found.kind pin _ _ kept (top_value now here) (now (point path (pad_name bel top_name) 0)) top_value_is
 
-pub pins_show : (text : List PlainModule) (path : Path) (tile : PlainTile) → TileStands text path tile → ShowsPins text path tile
-pins_show text path tile stands bits inputs held now bel pin found shows there past few settled =
+pub pins_show : (mode : Mode) (text : List PlainModule) (path : Path) (tile : PlainTile) → TileStands mode text path tile → ShowsPins text path tile
+pins_show mode text path tile stands bits inputs held now bel pin found shows there past few settled =
     pin_shows tile bel found there text path stands bits pin past few inputs held now shows settled

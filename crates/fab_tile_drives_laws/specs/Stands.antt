@@ -7,6 +7,7 @@ use Rattle.fab_gen_tile.specs.fab_meaning.specs.Points.{Path, Point, point, modu
 use Rattle.fab_gen_tile.specs.fab_meaning.specs.Settled.{Assignment, IsSettledOn}
 use Rattle.fab_gen_tile.specs.fab_meaning.specs.Reads.{is_declared}
 use Rattle.fab_gen_tile.specs.fab_prim.specs.Modules.{module_name, module_of_kind}
+use Rattle.fab_gen_tile.specs.fab_model.specs.declared.mode.Mode.{Mode}
 use Rattle.fab_gen_tile.specs.fab_model.specs.Tiles.{PlainTile, wire_name, tile_bits}
 use Rattle.fab_gen_tile.specs.fab_model.specs.Wires.{PlainWire, wire_of}
 use Rattle.fab_gen_tile.specs.Names.{config_module_name, matrix_module_name, matrix_instance_name, bel_instance_name}
@@ -15,9 +16,9 @@ use Rattle.fab_gen_tile.specs.MatrixModule.{matrix_module}
 use Rattle.fab_gen_tile.specs.TileModule.{tile_module, matrix_output_names}
 
 -- The instance at a path is the tile, and its text has the modules of the tile's configuration, of its switch matrix and of its BELs.
-pub record TileStands (text : List PlainModule) (path : Path) (tile : PlainTile) : Type 0 where
-  pub tile_is : module_at text path ≡ Some (tile_module tile)
-  pub config_is : 0 < tile_bits tile → module_named text (config_module_name tile) ≡ Some (config_module tile)
+pub record TileStands (mode : Mode) (text : List PlainModule) (path : Path) (tile : PlainTile) : Type 0 where
+  pub tile_is : module_at text path ≡ Some (tile_module mode tile)
+  pub config_is : 0 < tile_bits tile → module_named text (config_module_name tile) ≡ Some (config_module mode tile)
   pub matrix_is : 0 < length (matrix_output_names tile) → module_named text (matrix_module_name tile) ≡ Some (matrix_module tile)
   pub kinds_are : All (λ bel. module_named text (module_name bel.kind) ≡ Some (module_of_kind bel.kind)) tile.bels
 

@@ -10,6 +10,7 @@ pub mod Sources
 pub use Rattle.fab_text_loads_laws.specs.fab_drives_laws_Drives as fab_drives_laws_Drives
 pub use Rattle.fab_text_loads_laws.specs.fab_drives_laws_Examples as fab_drives_laws_Examples
 pub use Rattle.fab_text_loads_laws.specs.fab_drives_laws_Points as fab_drives_laws_Points
+pub use Rattle.fab_text_loads_laws.specs.fab_fabric_text_defs_Mode as fab_fabric_text_defs_Mode
 pub use Rattle.fab_text_loads_laws.specs.fab_fabric_text_defs_Names as fab_fabric_text_defs_Names
 pub use Rattle.fab_text_loads_laws.specs.fab_fabric_text_defs_Places as fab_fabric_text_defs_Places
 pub use Rattle.fab_text_loads_laws.specs.fab_fabric_text_defs_Text as fab_fabric_text_defs_Text

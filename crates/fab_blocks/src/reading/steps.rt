@@ -7,9 +7,9 @@ ghost use Rattle.fab_base.specs.Reading.{Answers};
 ghost use Rattle.fab_blocks.specs.declared.standing.OpenBlock.TheVariants as blocks;
 ghost use Rattle.fab_blocks.specs.declared.standing.Place.TheVariants as places;
 ghost use Rattle.fab_lines.specs.Items.{is_among};
-ghost use Rattle.fab_blocks.specs.Inner.{IsPlain, block_row, inner_parameter, outer_row};
+ghost use Rattle.fab_blocks.specs.Inner.{IsPlain, block_row, outer_row};
 ghost use Rattle.fab_blocks.specs.Reading.{HasRoom, open_name, tile_names};
-ghost use Rattle.fab_blocks.specs.Saying.{begin_grid, begin_limit, begin_parameters, begin_problem, begin_reason, begin_tile, end_grid, end_parameters, end_tile, grid_line, is_place, lines_of, may_begin, parameters_begun, row_in, say, stands, with_block, HasRoomIfEnded};
+ghost use Rattle.fab_blocks.specs.Saying.{begin_grid, begin_limit, begin_parameters, begin_problem, begin_reason, begin_tile, end_grid, end_parameters, end_tile, grid_line, inner_parameter, is_place, lines_of, may_begin, parameter_row, parameters_begun, row_in, say, stands, with_block, with_said, HasRoomIfEnded};
 
 use super::Reading;
 use crate::block::Block;
@@ -17,7 +17,7 @@ use crate::block_rows::block_row;
 use crate::cells::{cell_at, is_tile_name, long_of};
 use crate::grid::{line_of, line_problem};
 use crate::holder::Holder;
-use crate::inner::{inner_parameter, outer_row};
+use crate::inner::{foreign_row, outer_row, tiles_row, told_mode, value_problem};
 use crate::standing::{OpenBlock, Parameters, Place, Said};
 use crate::words::Word;
 use fab_base::{Name, Problem, Quantity, Reason};
@@ -281,20 +281,56 @@ impl Reading {
         Ok(said)
     }
 
-    /// What a row says that stands outside of the grid and of tile blocks.
-    fn free_row(
-        &self,
+    /// Takes the value of a parameter.
+    #[tactic(auto, unfolding(crate::specs::Saying::parameter_row))]
+    fn parameter_row(&mut self, alloc: Global, cells: &[Name]) -> Result<Said, Problem>
+        ensures plain { IfOk result IsPlain }
+        ensures said { Answers (λ said. (self.new, said)) result (parameter_row self.old cells.now) }
+    {
+        if cells.len() != 2 {
+            return Err(Problem::Malformed(Reason::Row));
+        }
+        let (key, value) = (cell_at(cells, 0), cell_at(cells, 1));
+        if let Some(problem) = value_problem(alloc, key, value)? {
+            return Err(problem);
+        }
+        self.configuration = told_mode(key, value, self.configuration);
+        Ok(Said::Taken)
+    }
+
+    /// What a row says in the block of parameters.
+    #[tactic(auto, unfolding(crate::specs::Saying::inner_parameter))]
+    fn inner_parameter(
+        &mut self,
         alloc: Global,
         holder: &Holder,
         word: Word,
         cells: &[Name],
     ) -> Result<Said, Problem>
         ensures plain { IfOk result IsPlain }
-        ensures said { Answers (λ said. said) result
-            (if stands self.now holder.now places.Parameters then inner_parameter holder.now word cells.now else outer_row holder.now word cells.now) }
+        ensures said { Answers (λ said. (self.new, said)) result (inner_parameter self.old holder.now word cells.now) }
+    {
+        match word {
+            Word::Foreign => foreign_row(alloc, cells),
+            Word::Tile => tiles_row(alloc, holder, cells),
+            _ => self.parameter_row(alloc, cells),
+        }
+    }
+
+    /// What a row says that stands outside of the grid and of tile blocks.
+    fn free_row(
+        &mut self,
+        alloc: Global,
+        holder: &Holder,
+        word: Word,
+        cells: &[Name],
+    ) -> Result<Said, Problem>
+        ensures plain { IfOk result IsPlain }
+        ensures said { Answers (λ said. (self.new, said)) result
+            (if stands self.old holder.now places.Parameters then inner_parameter self.old holder.now word cells.now else with_said self.old (outer_row holder.now word cells.now)) }
     {
         if self.stands(holder, Place::Parameters) {
-            return inner_parameter(alloc, holder, word, cells);
+            return self.inner_parameter(alloc, holder, word, cells);
         }
         outer_row(alloc, holder, word, cells)
     }

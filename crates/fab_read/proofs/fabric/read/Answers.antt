@@ -97,8 +97,8 @@ returns-then-wires-gt-MOST_WIRES-clause-cause g c =
     (λ files is. wires_past files name reading last (read files is) types c.into_parts-types.ensures.types lines grid_of columns grid wires named columns_are grid_is wires_are c.if-wires-gt-MOST_WIRES.true)
     c.at-then-wires-gt-MOST_WIRES.ensures
 
-pub new-requires : goal.new-requires
-new-requires g c =
+pub with_mode-requires : goal.with_mode-requires
+with_mode-requires g c =
     let reading = c.take_file.new.reading in
     let types = c.into_parts-types.result.0.items in
     let lines = c.in-Some.lines.items in
