@@ -9,4 +9,4 @@ mod words;
 pub use cycles::{ask_for_run, cycle, feed, open};
 pub use gathering::{GatedLatch, loading_of};
 pub use loading::{Latch, LoadedFlop, Loading, Run};
-pub use words::{load_words, offer};
+pub use words::{load_bits, load_words, offer, offer_bit};

@@ -34,6 +34,7 @@ pub use Rattle.fab_drives_laws.proofs.fab_tile_drives_laws_Endings as fab_tile_d
 pub use Rattle.fab_drives_laws.proofs.fab_tile_drives_laws_Latches as fab_tile_drives_laws_Latches
 pub use Rattle.fab_drives_laws.proofs.fab_tile_drives_laws_MatrixPorts as fab_tile_drives_laws_MatrixPorts
 pub use Rattle.fab_drives_laws.proofs.fab_tile_drives_laws_Members as fab_tile_drives_laws_Members
+pub use Rattle.fab_drives_laws.proofs.fab_tile_drives_laws_Modes as fab_tile_drives_laws_Modes
 pub use Rattle.fab_drives_laws.proofs.fab_tile_drives_laws_NamedPairs as fab_tile_drives_laws_NamedPairs
 pub use Rattle.fab_drives_laws.proofs.fab_tile_drives_laws_PinPorts as fab_tile_drives_laws_PinPorts
 pub use Rattle.fab_drives_laws.proofs.fab_tile_drives_laws_TileItems as fab_tile_drives_laws_TileItems

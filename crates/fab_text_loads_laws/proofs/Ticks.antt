@@ -148,7 +148,8 @@ module _ (fabric : PlainFabric) (next : NextValues) (text : List PlainModule) (h
       input_shows fabric next text has is inputs held now settled write_strobe_name 0 (1, omega arith, refl) (1, omega arith, refl) refl refl (omega arith) (omega arith) ∙ writes.strobe in
       let bits : bits_at now loader_path write_data_name 32 ≡ word =
       first_bits_same 32 (λ bit. now (point loader_path write_data_name bit)) (λ bit. bit_at word bit)
-      (λ bit few. input_shows fabric next text has is inputs held now settled write_data_name bit (2, omega arith, refl) (2, omega arith, refl) refl refl few few
+      (λ bit few. input_shows fabric next text has is inputs held now settled write_data_name bit (2, omega arith, refl) (2, omega arith, refl) refl refl few
+      (subst (λ (m : Mode). bit < width (data_shape m)) (sym has.frames) few)
       ∙ writes.bits bit (omega (arith, few, long)))
       ∙ ap (λ n. first_bits n (λ bit. bit_at word bit)) (sym long)
       ∙ bits_again word in

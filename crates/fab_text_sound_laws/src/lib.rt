@@ -14,7 +14,7 @@ ghost use Rattle.fab_tiles_sound_laws.specs.fab_parts_sound_laws_Fits.{FitsIn};
 ghost use Rattle.fab_text_sound_laws.specs.HasTop.{HasTopClocks, HasTopModules};
 
 /// The top of a fabric fits into a text behind modules among which are its loaders and the modules of its tiles, where no port of
-/// a loader but CLK and none of a tile but UserCLK serves as a clock.
+/// a loader but CLK and none of a tile but UserCLK and CLK serves as a clock.
 pub fn tops_fit()
     ensures { (fabric : PlainFabric) (text before : List PlainModule) → IsFabric fabric → AreTiles fabric → All IsNamed fabric.types →
         HasTopModules before fabric → HasTopModules text fabric → HasTopClocks text fabric → FitsIn text before (top_module fabric) }
