@@ -189,14 +189,14 @@ module _ (fabric : PlainFabric) (text : List PlainModule) (is : IsFabric fabric)
     abbrev path : Path
     path = place_path x y
 
-    abbrev stands : TileStands text path tile
+    abbrev stands : TileStands (text_mode fabric) text path tile
     stands = has.tiles.stands x y tile there
 
     is_tile : IsTile tile
     is_tile = All-contains IsTile fabric.types tile are (tile_of_types fabric x y tile there)
 
-    in_tile_loads : (name : List ℕ) (width : ℕ) → width_of (tile_module tile) name ≡ width → Contains (frame_data_name ∷ frame_strobe_name ∷ bits_name ∷ []) name → Loads (named_bits path name width)
-    in_tile_loads name width wide among = by_name path (tile_module tile) name width stands.tile_is wide (λ bit. in_tile x y tile there refl among)
+    in_tile_loads : (name : List ℕ) (width : ℕ) → width_of (tile_module (text_mode fabric) tile) name ≡ width → Contains (frame_data_name ∷ frame_strobe_name ∷ bits_name ∷ []) name → Loads (named_bits path name width)
+    in_tile_loads name width wide among = by_name path (tile_module (text_mode fabric) tile) name width stands.tile_is wide (λ bit. in_tile x y tile there refl among)
 
     frames_load : All Loads (frame_names path)
     frames_load =
@@ -214,19 +214,19 @@ module _ (fabric : PlainFabric) (text : List PlainModule) (is : IsFabric fabric)
             ∷ (frame_names (config_instance_name ∷ path) ++ counted (tile_bits tile) (λ bit. named_bits (config_instance_name ∷ path) (latch_name bit) 1)))
         of_some some =
             let here = config_stands fabric next text has x y tile there some in
-            let of_name : (name : List ℕ) (width : ℕ) → width_of (config_module tile) name ≡ width → Loads (named_bits (config_path x y) name width) =
-            λ name width wide. by_name (config_path x y) (config_module tile) name width here wide (λ bit. in_configuration x y tile there refl) in
+            let of_name : (name : List ℕ) (width : ℕ) → width_of (config_module (text_mode fabric) tile) name ≡ width → Loads (named_bits (config_path x y) name width) =
+            λ name width wide. by_name (config_path x y) (config_module (text_mode fabric) tile) name width here wide (λ bit. in_configuration x y tile there refl) in
             let front : List NamedBits = named_bits path bits_name (tile_bits tile) ∷ named_bits (config_path x y) config_name (tile_bits tile) ∷ named_bits (config_path x y) frame_data_name 32
             ∷ named_bits (config_path x y) frame_strobe_name 20 ∷ [] in
             All-append Loads front (counted (tile_bits tile) (λ bit. named_bits (config_path x y) (latch_name bit) 1))
             (each_all Loads front (
-              in_tile_loads bits_name (tile_bits tile) (bits_wide tile some) (2, omega arith, refl),
+              in_tile_loads bits_name (tile_bits tile) (bits_wide (text_mode fabric) tile some) (2, omega arith, refl),
               (
                 of_name config_name (tile_bits tile) refl,
                 (of_name frame_data_name 32 refl, (of_name frame_strobe_name 20 refl, tt)),
               ),
             ))
-            (all_counted Loads (tile_bits tile) (λ bit. named_bits (config_path x y) (latch_name bit) 1) (λ bit few. of_name (latch_name bit) 1 (latch_width tile bit few)))
+            (all_counted Loads (tile_bits tile) (λ bit. named_bits (config_path x y) (latch_name bit) 1) (λ bit few. of_name (latch_name bit) 1 (latch_width (text_mode fabric) tile bit few)))
 
     -- ---- where bits are used
 
@@ -242,12 +242,12 @@ module _ (fabric : PlainFabric) (text : List PlainModule) (is : IsFabric fabric)
             let outputs = selects_outputs tile is_tile some in
             let inner = matrix_module tile in
             let count = select_bits nat_eq (numbered_pairs tile) in
-            let here : module_at text (matrix_path path) ≡ Some inner = inside text path tile matrix_instance_name _ inner stands.tile_is (matrix_found tile outputs) (stands.matrix_is outputs) in
+            let here : module_at text (matrix_path path) ≡ Some inner = inside (text_mode fabric) text path tile matrix_instance_name _ inner stands.tile_is (matrix_found (text_mode fabric) tile outputs) (stands.matrix_is outputs) in
             let same : select_bits nat_eq (named_pairs tile) ≡ count = bits_same (matrix_names tile) tile.pairs in
             let wide : width_of inner config_name ≡ select_bits nat_eq (named_pairs tile) = bits_width tile (omega arith) in
             loads fabric next text has x y tile there (matrix_path path) config_name bit
             (instance_loads fabric next text has x y tile there (omega arith) inner (matrix_module_name tile) matrix_instance_name (matrix_joins tile) here (stands.matrix_is outputs)
-            (matrix_there tile outputs) (bits_input tile (omega arith)) (bel_bits tile) count
+            (matrix_there (text_mode fabric) tile outputs) (bits_input tile (omega arith)) (bel_bits tile) count
             (λ join among. Contains-append_right (map same_join (matrix_input_names tile)) (bits_join (bel_bits tile) count ++ map same_join (matrix_output_names tile)) join
             (Contains-append_left (bits_join (bel_bits tile) count) (map same_join (matrix_output_names tile)) join among)) some)
             (declared_at text (matrix_path path) inner config_name bit here (omega arith))
@@ -258,14 +258,14 @@ module _ (fabric : PlainFabric) (text : List PlainModule) (is : IsFabric fabric)
           All-contains (λ (b : Bel). module_named text (module_name b.kind) ≡ Some (module_of_kind b.kind)) tile.bels bel stands.kinds_are (contains_at tile.bels number bel at)
 
       bel_here : module_at text (bel_path path number) ≡ Some (module_of_kind bel.kind)
-      bel_here = inside text path tile (bel_instance_name number) _ (module_of_kind bel.kind) stands.tile_is (bel_found tile number bel at) of_kind
+      bel_here = inside (text_mode fabric) text path tile (bel_instance_name number) _ (module_of_kind bel.kind) stands.tile_is (bel_found (text_mode fabric) tile number bel at) of_kind
 
       bel_are : 0 < bit_count bel.kind → AreWithin text (flops fabric next text has) (bel_path path number) config_name
       bel_are some =
           let low = bits_before tile.bels number in
           let enough : low + bit_count bel.kind ≤ bel_bits tile = bits_within tile.bels number bel at in
           instance_loads fabric next text has x y tile there (omega arith) (module_of_kind bel.kind) (module_name bel.kind) (bel_instance_name number) (bel_joins number low bel) bel_here of_kind
-          (bel_there tile number bel at) (config_input bel.kind some) low (bit_count bel.kind) (config_joined number low bel) some
+          (bel_there (text_mode fabric) tile number bel at) (config_input bel.kind some) low (bit_count bel.kind) (config_joined number low bel) some
 
       pub config_load : 0 < bit_count bel.kind → Loads (named_bits (bel_path path number) config_name (bit_count bel.kind))
       config_load some bit few =

@@ -84,9 +84,9 @@ wide_tile tile =
     (all_of (λ (placed : ℕ × Bel). All P (pad_ports placed.0 placed.1.kind)) (enumerate_from 0 tile.bels)
     (λ placed. all_pad_ports P (λ bel. omega arith) (λ bel. omega arith) (λ bel. omega arith) placed.0 placed.1.kind)))))
 
-outside_wide : (tile : PlainTile) (number : ℕ) (bel : Bel) (port : List ℕ) → slice_get tile.bels number ≡ Some bel → Contains (top_outputs bel.kind) port → 0 < width_of (tile_module tile) (pad_name number port)
+outside_wide : (tile : PlainTile) (number : ℕ) (bel : Bel) (port : List ℕ) → slice_get tile.bels number ≡ Some bel → Contains (top_outputs bel.kind) port → 0 < width_of (tile_module (text_mode fabric) tile) (pad_name number port)
 outside_wide tile number bel port stands is_pad =
-    wide_port (tile_ports tile) (tile_items tile) (scalar false (pad_name number port)) (wide_tile tile) (outside_port tile number bel stands port is_pad)
+    wide_port (tile_ports tile) (tile_items (text_mode fabric) tile) (scalar false (pad_name number port)) (wide_tile tile) (outside_port tile number bel stands port is_pad)
 
 wide_pads : (x y : ℕ) (placed : ℕ × Bel) → All IsWide (top.pad_ports x y placed)
 wide_pads x y placed =
@@ -141,14 +141,14 @@ module _ (fabric : PlainFabric) (text : List PlainModule) (packed : PlainPacked)
 
   wire_declared : (x y : ℕ) (tile : PlainTile) (plain : PlainWire) → tile_at fabric x y ≡ Some tile → IsWire tile plain → Is (wire_point (place_path x y) tile plain)
   wire_declared x y tile plain there exists =
-      declared_at text (place_path x y) (tile_module tile) (name_of tile plain) 0 (has.stands x y tile there).tile_is (name_wide tile (name_of tile plain) (name_there tile plain exists))
+      declared_at text (place_path x y) (tile_module (text_mode fabric) tile) (name_of tile plain) 0 (has.stands x y tile there).tile_is (name_wide (text_mode fabric) tile (name_of tile plain) (name_there tile plain exists))
 
   port_declared : (x y : ℕ) (tile : PlainTile) (plain : PlainWire) → tile_at fabric x y ≡ Some tile → IsWire tile plain → 0 < length (matrix_output_names tile) →
       Is (point (matrix_path (place_path x y)) (name_of tile plain) 0)
   port_declared x y tile plain there exists some =
       let stands = has.stands x y tile there in
       let inner = matrix_module tile in
-      let here : module_at text (matrix_path (place_path x y)) ≡ Some inner = inside text (place_path x y) tile matrix_instance_name _ inner stands.tile_is (matrix_found tile some) (stands.matrix_is some) in
+      let here : module_at text (matrix_path (place_path x y)) ≡ Some inner = inside (text_mode fabric) text (place_path x y) tile matrix_instance_name _ inner stands.tile_is (matrix_found (text_mode fabric) tile some) (stands.matrix_is some) in
       let place = wire_number tile plain in
       let at = at_number tile plain place (wire_at_number tile plain exists) in
       let name_is : name_of tile plain ≡ wire_name at.found = ap (λ found. option_map_or wire_name found []) at.is in
@@ -166,14 +166,14 @@ module _ (fabric : PlainFabric) (text : List PlainModule) (packed : PlainPacked)
   end_declared : (at : PlacedRow) (n : ℕ) → IsTreeWay fabric implementation at n → Is (end_port at n)
   end_declared at n way =
       let c = way_comes fabric rows_are implementation at n way in
-      declared_at text (row_path at) (tile_module at.tile) (end_name at.row n) 0 (has.stands at.place.x at.place.y at.tile c.placed.tile_is).tile_is
-      (end_wide at.tile at.place.row n at.row c.placed.row_is c.no_jump c.few)
+      declared_at text (row_path at) (tile_module (text_mode fabric) at.tile) (end_name at.row n) 0 (has.stands at.place.x at.place.y at.tile c.placed.tile_is).tile_is
+      (end_wide (text_mode fabric) at.tile at.place.row n at.row c.placed.row_is c.no_jump c.few)
 
   begin_declared : (at previous : PlacedRow) (n : ℕ) → IsTreeWay fabric implementation at n → previous_row fabric at ≡ Some previous → Is (begin_port previous n)
   begin_declared at previous n way is =
       let b = row_before fabric rows_are at previous n (way_comes fabric rows_are implementation at n way) is in
-      declared_at text (row_path previous) (tile_module previous.tile) (begin_name previous.row n) 0 (has.stands previous.place.x previous.place.y previous.tile b.placed.tile_is).tile_is
-      (begin_wide previous.tile previous.place.row n previous.row b.placed.row_is b.no_jump b.few_source)
+      declared_at text (row_path previous) (tile_module (text_mode fabric) previous.tile) (begin_name previous.row n) 0 (has.stands previous.place.x previous.place.y previous.tile b.placed.tile_is).tile_is
+      (begin_wide (text_mode fabric) previous.tile previous.place.row n previous.row b.placed.row_is b.no_jump b.few_source)
 
   across_declared : (at previous : PlacedRow) (n : ℕ) → IsTreeWay fabric implementation at n → previous_row fabric at ≡ Some previous → Is (begin_wire previous n)
   across_declared at previous n way is =
@@ -206,14 +206,14 @@ module _ (fabric : PlainFabric) (text : List PlainModule) (packed : PlainPacked)
       entering : Contains (top_inputs kind) top_name → Is (port_point site top_name) × Is (top_point site top_name)
       entering is_pad =
           let among : Contains (top_inputs bel.found.kind) top_name = subst (λ k. Contains (top_inputs k) top_name) (sym bel.kind_is) is_pad in (
-            declared_at text (site_path site) (tile_module tile) (pad_name site.bel top_name) 0 (has.stands site.x site.y tile there).tile_is (top_wide tile site.bel bel.found top_name bel.there among),
+            declared_at text (site_path site) (tile_module (text_mode fabric) tile) (pad_name site.bel top_name) 0 (has.stands site.x site.y tile there).tile_is (top_wide (text_mode fabric) tile site.bel bel.found top_name bel.there among),
             declared_at text [] (top_module fabric) (pad_port_name site.x site.y site.bel top_name) 0 has.top_is (pad_port_has_bits fabric site.x site.y tile site.bel bel.found there bel.there among),
           )
 
       leaving : (port : List ℕ) → Contains (top_outputs kind) port → Is (port_point site port) × Is (top_point site port)
       leaving port is_pad =
           let among : Contains (top_outputs bel.found.kind) port = subst (λ k. Contains (top_outputs k) port) (sym bel.kind_is) is_pad in (
-            declared_at text (site_path site) (tile_module tile) (pad_name site.bel port) 0 (has.stands site.x site.y tile there).tile_is (outside_wide tile site.bel bel.found port bel.there among),
+            declared_at text (site_path site) (tile_module (text_mode fabric) tile) (pad_name site.bel port) 0 (has.stands site.x site.y tile there).tile_is (outside_wide tile site.bel bel.found port bel.there among),
             declared_at text [] (top_module fabric) (pad_port_name site.x site.y site.bel port) 0 has.top_is (leaving_wide fabric site.x site.y tile site.bel bel.found port there bel.there among),
           )
 

@@ -53,7 +53,7 @@ module _ (fabric : PlainFabric) (next : NextValues) (text : List PlainModule) (h
   abbrev path : Path
   path = place_path x y
 
-  abbrev stands : TileStands text path tile
+  abbrev stands : TileStands (text_mode fabric) text path tile
   stands = has.tiles.stands x y tile there
 
   abbrev Are : Path → List ℕ → Type 0
@@ -66,22 +66,22 @@ module _ (fabric : PlainFabric) (next : NextValues) (text : List PlainModule) (h
     -- the wire in the tile
     pub wire_within : Are path bits_name
     wire_within bit declared =
-        let below : bit < width_of (tile_module tile) bits_name = bit_below text path (tile_module tile) bits_name bit stands.tile_is declared in
-        let wide : tile_width tile bits_name ≡ tile_bits tile = bits_wide tile some in
+        let below : bit < width_of (tile_module (text_mode fabric) tile) bits_name = bit_below text path (tile_module (text_mode fabric) tile) bits_name bit stands.tile_is declared in
+        let wide : tile_width (text_mode fabric) tile bits_name ≡ tile_bits tile = bits_wide (text_mode fabric) tile some in
         let inner : is_declared text (point (config_path x y) config_name bit) ≡ true =
-        declared_at text (config_path x y) (config_module tile) config_name bit (config_stands fabric next text has x y tile there some) (omega (arith, below, wide)) in
+        declared_at text (config_path x y) (config_module (text_mode fabric) tile) config_name bit (config_stands fabric next text has x y tile there some) (omega (arith, below, wide)) in
         copy_within text (flops fabric next text has) (point path bits_name bit) (point (config_path x y) config_name bit) declared
-        (joined_from text path (tile_module tile) stands.tile_is (config_module tile) (config_module_name tile) config_instance_name config_joins
-        (stands.config_is some) (config_there tile some) config_name bits_name bit (2, omega arith, refl) refl)
+        (joined_from text path (tile_module (text_mode fabric) tile) stands.tile_is (config_module (text_mode fabric) tile) (config_module_name tile) config_instance_name config_joins
+        (stands.config_is some) (config_there (text_mode fabric) tile some) config_name bits_name bit (2, omega arith, refl) refl)
         (config_within fabric next text has x y tile there config_name bit inner)
 
     -- an instance that has some of the bits
     module _ (inner : PlainModule) (module_name name : List ℕ) (joins : List PlainJoin) (here : module_at text (name ∷ path) ≡ Some inner) (named : module_named text module_name ≡ Some inner)
-        (item : Contains (tile_items tile) (instance module_name name joins)) (low last : ℕ) (among : Contains joins (port_join config_name (part bits_name (low + last) low)))
+        (item : Contains (tile_items (text_mode fabric) tile) (instance module_name name joins)) (low last : ℕ) (among : Contains joins (port_join config_name (part bits_name (low + last) low)))
         (input : is_input inner.ports config_name ≡ true) where
       port_drives : (bit : ℕ) → Drives text (point (name ∷ path) config_name bit) (bit_of path (part bits_name (low + last) low) bit)
       port_drives bit =
-          joined_to text path (tile_module tile) stands.tile_is inner module_name name joins named item config_name (part bits_name (low + last) low) bit among input
+          joined_to text path (tile_module (text_mode fabric) tile) stands.tile_is inner module_name name joins named item config_name (part bits_name (low + last) low) bit among input
 
       instance_within : Are (name ∷ path) config_name
       instance_within bit declared =
@@ -90,7 +90,7 @@ module _ (fabric : PlainFabric) (next : NextValues) (text : List PlainModule) (h
 
     -- the bits of an instance that has some
     pub instance_loads : (inner : PlainModule) (module_name name : List ℕ) (joins : List PlainJoin) → module_at text (name ∷ path) ≡ Some inner → module_named text module_name ≡ Some inner →
-        Contains (tile_items tile) (instance module_name name joins) → is_input inner.ports config_name ≡ true → (low count : ℕ) →
+        Contains (tile_items (text_mode fabric) tile) (instance module_name name joins) → is_input inner.ports config_name ≡ true → (low count : ℕ) →
         ((join : PlainJoin) → Contains (bits_join low count) join → Contains joins join) → 0 < count → Are (name ∷ path) config_name
     instance_loads inner module_name name joins here named item input low zero among more = absurd (omega arith)
     instance_loads inner module_name name joins here named item input low (suc last) among more =
@@ -104,22 +104,22 @@ module _ (fabric : PlainFabric) (next : NextValues) (text : List PlainModule) (h
       port_value bit few =
           let inner = config_stands fabric next text has x y tile there some in
           settled (point (config_path x y) config_name bit) (bit_of (config_path x y) (all_latches (tile_bits tile)) bit)
-          (loads (config_path x y) config_name bit (config_within fabric next text has x y tile there config_name) (declared_at text (config_path x y) (config_module tile) config_name bit inner few))
-          (assigned_by text (config_path x y) (config_module tile) inner config_name (all_latches (tile_bits tile)) bit (all_there tile))
-          ∙ latches_seen text now (config_path x y) tile inner bit few
+          (loads (config_path x y) config_name bit (config_within fabric next text has x y tile there config_name) (declared_at text (config_path x y) (config_module (text_mode fabric) tile) config_name bit inner few))
+          (assigned_by text (config_path x y) (config_module (text_mode fabric) tile) inner config_name (all_latches (tile_bits tile)) bit (all_there (text_mode fabric) tile))
+          ∙ latches_seen (text_mode fabric) text now (config_path x y) tile inner bit few
           ∙ shows bit few
 
       wire_value : (bit : ℕ) → bit < tile_bits tile → now (point path bits_name bit) ≡ bits bit
       wire_value bit few =
-          let wide : tile_width tile bits_name ≡ tile_bits tile = bits_wide tile some in
+          let wide : tile_width (text_mode fabric) tile bits_name ≡ tile_bits tile = bits_wide (text_mode fabric) tile some in
           settled (point path bits_name bit) (copy (point (config_path x y) config_name bit))
-          (loads path bits_name bit wire_within (declared_at text path (tile_module tile) bits_name bit stands.tile_is (omega arith)))
-          (joined_from text path (tile_module tile) stands.tile_is (config_module tile) (config_module_name tile) config_instance_name config_joins
-          (stands.config_is some) (config_there tile some) config_name bits_name bit (2, omega arith, refl) refl)
+          (loads path bits_name bit wire_within (declared_at text path (tile_module (text_mode fabric) tile) bits_name bit stands.tile_is (omega arith)))
+          (joined_from text path (tile_module (text_mode fabric) tile) stands.tile_is (config_module (text_mode fabric) tile) (config_module_name tile) config_instance_name config_joins
+          (stands.config_is some) (config_there (text_mode fabric) tile some) config_name bits_name bit (2, omega arith, refl) refl)
           ∙ port_value bit few
 
       module _ (inner : PlainModule) (module_name name : List ℕ) (joins : List PlainJoin) (here : module_at text (name ∷ path) ≡ Some inner) (named : module_named text module_name ≡ Some inner)
-          (item : Contains (tile_items tile) (instance module_name name joins)) (input : is_input inner.ports config_name ≡ true) where
+          (item : Contains (tile_items (text_mode fabric) tile) (instance module_name name joins)) (input : is_input inner.ports config_name ≡ true) where
         -- the point of a bit of an instance is a loading point, with its value
         instance_value : (low count bit : ℕ) → ((join : PlainJoin) → Contains (bits_join low count) join → Contains joins join) → count ≤ width_of inner config_name →
             low + count ≤ tile_bits tile → bit < count → Are (name ∷ path) config_name × (now (point (name ∷ path) config_name bit) ≡ bits (low + bit))
@@ -127,13 +127,13 @@ module _ (fabric : PlainFabric) (next : NextValues) (text : List PlainModule) (h
         instance_value low (suc last) bit among wide within few =
             let join = port_join config_name (part bits_name (low + last) low) in
             let there_is = among join (contains_first join []) in
-            let all : tile_width tile bits_name ≡ tile_bits tile = bits_wide tile some in
+            let all : tile_width (text_mode fabric) tile bits_name ≡ tile_bits tile = bits_wide (text_mode fabric) tile some in
             let are = instance_within inner module_name name joins here named item low last there_is input in (
               are,
               settled (point (name ∷ path) config_name bit) (bit_of path (part bits_name (low + last) low) bit)
                   (loads (name ∷ path) config_name bit are (declared_at text (name ∷ path) inner config_name bit here (omega arith)))
                   (port_drives inner module_name name joins here named item low last there_is input bit)
-                  ∙ part_bit text now path (tile_module tile) stands.tile_is bits_name low last bit (omega arith) (omega arith)
+                  ∙ part_bit text now path (tile_module (text_mode fabric) tile) stands.tile_is bits_name low last bit (omega arith) (omega arith)
                   ∙ wire_value (low + bit) (omega arith),
             )
 
@@ -145,11 +145,11 @@ module _ (fabric : PlainFabric) (next : NextValues) (text : List PlainModule) (h
     matrix_value bit outputs few =
         let inner = matrix_module tile in
         let count = select_bits nat_eq (numbered_pairs tile) in
-        let here : module_at text (matrix_path path) ≡ Some inner = inside text path tile matrix_instance_name _ inner stands.tile_is (matrix_found tile outputs) (stands.matrix_is outputs) in
+        let here : module_at text (matrix_path path) ≡ Some inner = inside (text_mode fabric) text path tile matrix_instance_name _ inner stands.tile_is (matrix_found (text_mode fabric) tile outputs) (stands.matrix_is outputs) in
         let same : select_bits nat_eq (named_pairs tile) ≡ count = bits_same (matrix_names tile) tile.pairs in
         let wide : width_of inner config_name ≡ select_bits nat_eq (named_pairs tile) = bits_width tile (omega arith) in
         let got = instance_value (omega arith) bits inputs held now shows settled inner (matrix_module_name tile) matrix_instance_name (matrix_joins tile) here (stands.matrix_is outputs)
-        (matrix_there tile outputs) (bits_input tile (omega arith)) (bel_bits tile) count bit
+        (matrix_there (text_mode fabric) tile outputs) (bits_input tile (omega arith)) (bel_bits tile) count bit
         (λ join among. Contains-append_right (map same_join (matrix_input_names tile)) (bits_join (bel_bits tile) count ++ map same_join (matrix_output_names tile)) join
         (Contains-append_left (bits_join (bel_bits tile) count) (map same_join (matrix_output_names tile)) join among))
         (omega arith) (omega arith) few in
@@ -161,7 +161,7 @@ module _ (fabric : PlainFabric) (next : NextValues) (text : List PlainModule) (h
           All-contains (λ (b : Bel). module_named text (module_name b.kind) ≡ Some (module_of_kind b.kind)) tile.bels found stands.kinds_are (contains_at tile.bels bel found at)
 
       bel_here : module_at text (bel_path path bel) ≡ Some (module_of_kind found.kind)
-      bel_here = inside text path tile (bel_instance_name bel) _ (module_of_kind found.kind) stands.tile_is (bel_found tile bel found at) of_kind
+      bel_here = inside (text_mode fabric) text path tile (bel_instance_name bel) _ (module_of_kind found.kind) stands.tile_is (bel_found (text_mode fabric) tile bel found at) of_kind
 
       bel_got : (bit : ℕ) → bit < bit_count found.kind → Are (bel_path path bel) config_name × (now (point (bel_path path bel) config_name bit) ≡ bits (bits_before tile.bels bel + bit))
       bel_got bit few =
@@ -169,7 +169,7 @@ module _ (fabric : PlainFabric) (next : NextValues) (text : List PlainModule) (h
           let width : width_of (module_of_kind found.kind) config_name ≡ bit_count found.kind = config_width found.kind (omega arith) in
           let enough : low + bit_count found.kind ≤ bel_bits tile = bits_within tile.bels bel found at in
           instance_value (omega arith) bits inputs held now shows settled (module_of_kind found.kind) (module_name found.kind) (bel_instance_name bel) (bel_joins bel low found) bel_here of_kind
-          (bel_there tile bel found at) (config_input found.kind (omega arith)) low (bit_count found.kind) bit (config_joined bel low found) (omega arith) (omega arith) few
+          (bel_there (text_mode fabric) tile bel found at) (config_input found.kind (omega arith)) low (bit_count found.kind) bit (config_joined bel low found) (omega arith) (omega arith) few
 
       bel_declared : (bit : ℕ) → bit < bit_count found.kind → is_declared text (point (bel_path path bel) config_name bit) ≡ true
       bel_declared bit few =

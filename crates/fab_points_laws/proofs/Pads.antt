@@ -169,15 +169,15 @@ module _ (fabric : PlainFabric) (text : List PlainModule) (is : IsFabric fabric)
   pub comes_shown : Contains (top_inputs bel.kind) top_name → Shown text inputs held t (point (place_path x y) (pad_name number top_name) 0) (shows (point [] (pad_port_name x y number top_name) 0))
   comes_shown is_pad =
       let placed = placed_tile x y tile in
-      shown_in text inputs held t [] (top_module fabric) has.top_is (tile_module tile) (tile_module_name tile) (place_name x y) (tile_joins fabric placed)
+      shown_in text inputs held t [] (top_module fabric) has.top_is (tile_module (text_mode fabric) tile) (tile_module_name tile) (place_name x y) (tile_joins fabric placed)
       (has.module_is x y tile there) (tile_instance_there fabric x y tile there) (pad_name number top_name) (pad_port_name x y number top_name)
-      (pad_is_joined fabric placed number bel stands is_pad) (pad_is_input tile number bel stands is_pad)
+      (pad_is_joined fabric placed number bel stands is_pad) (pad_is_input (text_mode fabric) tile number bel stands is_pad)
       (pad_port_has_bits fabric x y tile number bel there stands is_pad)
 
   -- and the top what the tile gives
   pub leaves_shown : (port : List ℕ) → Contains (top_outputs bel.kind) port → Shown text inputs held t (point [] (pad_port_name x y number port) 0) (shows (point (place_path x y) (pad_name number port) 0))
   leaves_shown port is_pad =
       let placed = placed_tile x y tile in
-      shown_out text inputs held t [] (top_module fabric) has.top_is (tile_module tile) (tile_module_name tile) (place_name x y) (tile_joins fabric placed)
+      shown_out text inputs held t [] (top_module fabric) has.top_is (tile_module (text_mode fabric) tile) (tile_module_name tile) (place_name x y) (tile_joins fabric placed)
       (has.module_is x y tile there) (tile_instance_there fabric x y tile there) (pad_name number port) (pad_port_name x y number port)
       (outside_is_joined fabric placed number bel port stands is_pad) (outside_is_output tile number bel stands port is_pad (which_outside bel.kind port is_pad))
