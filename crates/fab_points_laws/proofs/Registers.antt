@@ -19,6 +19,7 @@ use Rattle.fab_meaning.specs.Ports.{config_name}
 use Rattle.fab_prim.specs.Modules as modules
 use Rattle.fab_prim.specs.Modules.{flip_flop_name, flip_flop, module_of_kind}
 use Rattle.fab_prim.proofs.Instance.{seen}
+use Rattle.fab_use_defs.specs.fab_fabric_text_defs_Mode.{text_mode}
 use Rattle.fab_use_defs.specs.fab_gen_tile_Names.{bel_instance_name}
 use Rattle.fab_use_defs.specs.fab_gen_tile_TileModule.{bel_joins, tile_module}
 use Rattle.fab_use_defs.specs.fab_fabric_text_defs_Top.{top_module}
