@@ -9,11 +9,11 @@ use Rattle.fab_sim.proofs.making.given_of.Goals as goal
 pub returns-clause-first : goal.returns-clause-first
 returns-clause-first c =
     let made = c.in_ok-given.ensures in
-    let data = c.args.stream.data in
+    let carrier = c.args.stream.carrier in
     let old = kept_tern c.deref_mut.result.now in
     let new = kept_tern c.fill.new.given in
-    let opened : AreFilled (first_data data) (data_width data) unknown old new =
-    subst (λ (width : ℕ). AreFilled (first_data data) width unknown old new) c.width.ensures
+    let opened : AreFilled (first_data carrier) (data_width carrier) unknown old new =
+    subst (λ (width : ℕ). AreFilled (first_data carrier) width unknown old new) c.width.ensures
     (subst (λ (first : ℕ). AreFilled first c.width.result unknown old new) c.first.ensures c.fill.ensures) in
     first_written c.args.count c.args.stream c.in_ok-given.given.len c.in_ok-given.given.items c.deref_mut.result.now c.fill.new.given
     c.requires.strobe c.in_ok-given.given.ok.0 (made.items_if_clones_equal (λ y same. same)) c.deref_mut.ensures.value c.fill.auto.given opened

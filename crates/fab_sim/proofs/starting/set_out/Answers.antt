@@ -8,15 +8,15 @@ use Rattle.fab_sim.proofs.Setting.{all_set}
 use Rattle.fab_sim.proofs.starting.set_out.Goals as goal
 
 pub fill-requires : goal.fill-requires
-fill-requires c = let room = c.requires.data in omega (arith, room, c.first.ensures, c.width.ensures)
+fill-requires c = let room = c.requires.carrier in omega (arith, room, c.first.ensures, c.width.ensures)
 
 pub returns : goal.returns
 returns c =
-    let data = c.args.points.now.stream.data in
+    let carrier = c.args.points.now.stream.carrier in
     let old = kept_tern (slice_set c.args.given.now c.args.points.now.stream.strobe No) in
     let new = kept_tern c.fill.new.given in
-    let cleared : AreFilled (first_data data) (data_width data) no old new =
-    subst (λ (width : ℕ). AreFilled (first_data data) width no old new) c.width.ensures
+    let cleared : AreFilled (first_data carrier) (data_width carrier) no old new =
+    subst (λ (width : ℕ). AreFilled (first_data carrier) width no old new) c.width.ensures
     (subst (λ (first : ℕ). AreFilled first c.width.result no old new) c.first.ensures c.fill.ensures) in
     all_set c.args.points.now c.args.values.now c.args.given.now c.fill.new.given c.open.new.given c.feed.new.given c.deref.result.now c.deref-2.result.now
     c.deref.ensures.value c.deref-2.ensures.value c.requires.strobe cleared c.open.ensures.opened c.open.ensures.others c.feed.ensures
