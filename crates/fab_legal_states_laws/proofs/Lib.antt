@@ -7,4 +7,5 @@ pub mod Lines
 pub mod Edges
 pub mod Implementations
 pub mod States
+pub mod Chains
 pub mod Bitstreams

@@ -7,7 +7,7 @@ use Rattle.std.proofs.lemmas.List.Elements.{Contains-append_right}
 use Rattle.std.proofs.lemmas.Slice.Eq.{bytes_eq-Decides}
 use Rattle.std.specs.Prelude.{true, false, slice_get}
 use Rattle.fab_syntax.specs.declared.tree.Port.{Port}
-use Rattle.fab_syntax.specs.declared.tree.Shape.TheVariants.{Scalar, Vector}
+use Rattle.fab_syntax.specs.declared.tree.Shape.TheVariants.{Scalar}
 use Rattle.fab_syntax.specs.Plain.{PlainModule}
 use Rattle.fab_meaning.specs.Points.{module_at}
 use Rattle.fab_meaning.specs.Runs.{clock_name, user_clock_name}
@@ -17,16 +17,18 @@ use Rattle.fab_values.specs.Declarations.{Declaration, declared_at, found_from, 
 use Rattle.fab_values.specs.declared.names.Local.{Local}
 use Rattle.fab_values.specs.declared.names.Role.TheVariants as roles
 use Rattle.fab_prim.specs.Ports.{top_inputs, top_outputs}
+use Rattle.fab_model.specs.declared.mode.Mode.{Mode}
+use Rattle.fab_model.specs.declared.mode.Mode.TheVariants as modes
 use Rattle.fab_model.specs.declared.tiles.Bel.{Bel}
 use Rattle.fab_model.specs.Tiles.{PlainTile}
 use Rattle.fab_model.specs.Grid.{PlainFabric, tile_at}
 use Rattle.fab_fabric.specs.Fabric.{IsFabric, AreTiles}
 use Rattle.fab_netlist.proofs.Members.{first_in, later_in, first_or_later, in_none}
-use Rattle.fab_gen_tile.specs.Names.{vector}
 use Rattle.fab_fabric_text_defs.specs.Names.{pad_port_name}
 use Rattle.fab_fabric_text_defs.specs.Places.{placed_tiles}
 use Rattle.fab_fabric_text_defs.specs.Top as top
-use Rattle.fab_fabric_text_defs.specs.Top.{tile_pads, top_items, top_module, top_ports}
+use Rattle.fab_fabric_text_defs.specs.Mode.{text_mode}
+use Rattle.fab_fabric_text_defs.specs.Top.{data_port, data_shape, tile_pads, top_items, top_module, top_ports}
 use Rattle.fab_tile_drives_laws.proofs.Members.{contains_map}
 use Rattle.fab_points_laws.proofs.fab_drives_laws_Apart.{one_of_name}
 use Rattle.fab_points_laws.proofs.fab_drives_laws_Lists.{contains_flat, contains_numbered}
@@ -35,7 +37,7 @@ use Rattle.fab_points_laws.proofs.fab_drives_laws_Places.{placed_tile, tile_is_p
 use Rattle.fab_fabric_text_defs.specs.Texts.{IsFabricText}
 use Rattle.fab_points_laws.proofs.fab_text_sound_laws_TopDeclared.{ports_apart}
 use Rattle.fab_state_points.specs.Finding.{IsDeclared}
-use Rattle.fab_state_points.specs.Standing.{HasStream}
+use Rattle.fab_state_points.specs.Standing.{HasStream, IsDataShape}
 
 -- ---- any module
 
@@ -66,6 +68,11 @@ found_port first (p ∷ ports) more port here one =
 
 -- ---- the top
 
+-- words come whole, or bit by bit
+carries_words : (mode : Mode) → IsDataShape (data_shape mode)
+carries_words modes.Frames = refl
+carries_words modes.Chain = tt
+
 module _ (fabric : PlainFabric) (text : List PlainModule) (is_text : IsFabricText fabric text) where
   top_is : module_at text [] ≡ Some (top_module fabric)
   top_is = ap (λ (t : List PlainModule). module_at t []) is_text.is ∙ top_is_last fabric is_text.loaders
@@ -79,7 +86,9 @@ module _ (fabric : PlainFabric) (text : List PlainModule) (is_text : IsFabricTex
     loader = first_port clock_name (record { first = 0; shape = Scalar; role = roles.Input }) refl;
     user = first_port user_clock_name (record { first = 1; shape = Scalar; role = roles.Input }) refl;
     strobe = first_port write_strobe_name (record { first = 2; shape = Scalar; role = roles.Input }) refl;
-    words = first_port write_data_name (record { first = 3; shape = Vector 32; role = roles.Input }) refl;
+    shape = data_shape (text_mode fabric);
+    is_data = carries_words (text_mode fabric);
+    words = first_port write_data_name (record { first = 3; shape = data_shape (text_mode fabric); role = roles.Input }) refl;
   }
 
   module _ (is : IsFabric fabric) (are : AreTiles fabric) where
@@ -95,7 +104,7 @@ pub leaving_port : (fabric : PlainFabric) (x y : ℕ) (tile : PlainTile) (number
 leaving_port fabric x y tile number bel port there stands is_pad =
     let one = scalar false (pad_port_name x y number port) in
     let placed : ℕ × Bel = (number, bel) in
-    let front = scalar true clock_name ∷ scalar true user_clock_name ∷ scalar true write_strobe_name ∷ vector true 32 write_data_name ∷ [] in
+    let front = scalar true clock_name ∷ scalar true user_clock_name ∷ scalar true write_strobe_name ∷ data_port (text_mode fabric) ∷ [] in
     let in_port = λ (name : List ℕ). scalar true (pad_port_name x y number name) in
     let out_port = λ (name : List ℕ). scalar false (pad_port_name x y number name) in
     Contains-append_right front (flat_map tile_pads (placed_tiles fabric)) one

@@ -1,8 +1,9 @@
--- A word that is loaded: what is given stays kept, and the step is done.
-use Rattle.std.proofs.Common.{◌≡◌, ◌⊎◌, ℕ, ◌+◌, ◌-◌, ◌<◌, ◌≤◌, Bool, List, [], ◌∷◌, ◌++◌, Option, Some, refl, sym, ap, ◌∙◌, subst, inl, inr, arith}
-use Rattle.std.specs.List.{slice_get}
+-- A piece that is loaded: what is given stays kept, and the step is done.
+use Rattle.std.proofs.Common.{◌≡◌, ◌⊎◌, ℕ, ◌+◌, ◌-◌, ◌<◌, ◌≤◌, Bool, List, [], ◌∷◌, ◌++◌, length, map, append-nil, Option, Some, refl, sym, ap, ◌∙◌, subst, inl, inr, arith}
+use Rattle.std.specs.List.{flat_map, slice_get}
 use Rattle.std.proofs.lemmas.Bool.{cases_lt}
 use Rattle.std.proofs.lemmas.Option.{slice_get_within}
+use Rattle.fab_meaning.specs.Loading.{single_bits}
 use Rattle.fab_systems_laws.specs.Ternary.{unknown, IsBelow, Tern as PlainTern}
 use Rattle.fab_ternary_laws.specs.Shown.{through}
 use Rattle.fab_ternary.specs.declared.Tern.{Tern}
@@ -19,18 +20,18 @@ use Rattle.fab_demand.specs.Asked.{Asked, DiffersInOwn, IsPossible}
 use Rattle.fab_demand.specs.Demand.{IsAsked, IsKept, IsKeptBy, ShowsLeast}
 use Rattle.fab_phases.specs.Lists.{HasOne}
 use Rattle.fab_phases.specs.Loading.{AreLoading, IsInRuns}
-use Rattle.fab_phases.specs.Words.{AreLoadSteps, IsLeft, IsLoadingAt, IsLoadStep, IsOffered}
-use Rattle.fab_phases.specs.inner.Ticks.{AreOnWay, IsSet, LeavesFlops, LeavesPoints, LeavesRuns, Tick}
+use Rattle.fab_phases.specs.Words.{AreLoadSteps, IsLeft, IsLoadingAt, IsLoadStep, IsOffered, word_bits}
+use Rattle.fab_phases.specs.inner.Ticks.{AreOnWay, IsLoadTick, IsSet, LeavesFlops, LeavesPoints, LeavesRuns, Tick}
 use Rattle.fab_phases.specs.declared.loading.Loading.{Loading}
 
--- ---- what is given while a word is offered
+-- ---- what is given while a piece is offered
 
--- a point is among those of the word, or it is not
-among : (first point : ℕ) → ((bit : ℕ) × (bit < 32) × (point ≡ first + bit)) ⊎ ((point < first) ⊎ (first + 32 ≤ point))
-among first point =
+-- a point is among those of the piece, or it is not
+among : (first width point : ℕ) → ((bit : ℕ) × (bit < width) × (point ≡ first + bit)) ⊎ ((point < first) ⊎ (first + width ≤ point))
+among first width point =
     elim (cases_lt point first) [
       | inl l ↦ inr (inl l)
-      | inr g ↦ elim (cases_lt point (first + 32)) [
+      | inr g ↦ elim (cases_lt point (first + width)) [
         | inl l ↦ inl (point - first, omega arith, omega arith)
         | inr h ↦ inr (inr h)
       ]
@@ -47,11 +48,11 @@ kept_input network base asked point later drives open_at =
     subst (λ (drive : Option Drive). IsKeptBy network.trees.items Loader asked.terns asked.leads (base point) later drive) (sym drives)
     (subst (λ (t : PlainTern). IsBelow t later) (sym open_at) tt)
 
-pub offered_kept : (network : Network) (base : PointTerns) (asked : Asked) (first word : ℕ) (old new : PointTerns) →
-    ((bit : ℕ) → bit < 32 → (slice_get network.drives.items (first + bit) ≡ Some Given) × (base (first + bit) ≡ unknown)) → IsOffered first word old new →
+pub offered_kept : (network : Network) (base : PointTerns) (asked : Asked) (first : ℕ) (piece : List Bool) (old new : PointTerns) →
+    ((bit : ℕ) → bit < length piece → (slice_get network.drives.items (first + bit) ≡ Some Given) × (base (first + bit) ≡ unknown)) → IsOffered first piece old new →
     IsKept network Loader base asked.terns asked.leads old → IsKept network Loader base asked.terns asked.leads new
-offered_kept network base asked first word old new inputs is kept point =
-    elim (among first point) [
+offered_kept network base asked first piece old new inputs is kept point =
+    elim (among first (length piece) point) [
       | inl b ↦
           let input = inputs b.0 b.1 in
           kept_input network base asked point (new point) (ap (slice_get network.drives.items) b.2 ∙ input.0) (ap base b.2 ∙ input.1)
@@ -133,22 +134,33 @@ not_set : (network : Network) (tick : Tick network) (given : List Tern) → AreO
     kept_tern given point ≡ tick.before point
 not_set network tick given way point unmarked = elim (way point) [ inl e ↦ e | inr set ↦ absurd (unmarked set.marked) ]
 
--- what a word has done
-pub record IsWordLoaded (network : Network) (loading : Loading) (loads : List Bool) (first word : ℕ) (demand : Asked) (old new : List Tern) : Type 0 where
-  pub loading_at : IsLoadingAt network loading loads first demand new
-  pub step : IsLoadStep network loads first word (kept_tern old) (kept_tern new)
+-- while a piece is offered, all is as it was for loading
+pub still_loading : (network : Network) (loading : Loading) (loads : List Bool) (first width : ℕ) (piece : List Bool) (demand : Asked) (old new : List Tern) → length piece ≡ width →
+    IsOffered first piece (kept_tern old) (kept_tern new) → IsLoadingAt network loading loads first width demand old → IsLoadingAt network loading loads first width demand new
+still_loading network loading loads first width piece demand old new long offered at = record {
+  base = at.base;
+  asked = at.asked;
+  is_asked = at.is_asked;
+  differs = at.differs;
+  gathered = at.gathered;
+  inputs = at.inputs;
+  kept = offered_kept network at.base at.asked first piece (kept_tern old) (kept_tern new) (λ bit less. at.inputs bit (omega (arith, less, long))) offered at.kept;
+}
 
-pub word_loaded : (network : Network) (loading : Loading) (loads : List Bool) (first word : ℕ) (demand after : Asked) (old one two new : List Tern) →
-    ((given : PointTerns) → (t : PointTerns) × IsLeast network.trees.items network.drives.items given t) → IsLoadingAt network loading loads first demand old →
-    IsOffered first word (kept_tern old) (kept_tern one) → ((asked : Asked) → DiffersInOwn asked demand → DiffersInOwn asked after) → ShowsLeast network one demand after →
-    LeavesFlops network loading.flops.items after one two → LeavesRuns network loading.runs.items after two new →
-    IsWordLoaded network loading loads first word after old new
+-- what a tick has done
+pub record HasTicked (network : Network) (loading : Loading) (loads : List Bool) (first width : ℕ) (demand : Asked) (old new : List Tern) : Type 0 where
+  pub loading_at : IsLoadingAt network loading loads first width demand new
+  pub tick : IsLoadTick network loads (kept_tern old) (kept_tern new)
+
+pub has_ticked : (network : Network) (loading : Loading) (loads : List Bool) (first width : ℕ) (demand after : Asked) (one two new : List Tern) →
+    ((given : PointTerns) → (t : PointTerns) × IsLeast network.trees.items network.drives.items given t) → IsLoadingAt network loading loads first width demand one →
+    ((asked : Asked) → DiffersInOwn asked demand → DiffersInOwn asked after) → ShowsLeast network one demand after →
+    LeavesFlops network loading.flops.items after one two → LeavesRuns network loading.runs.items after two new → HasTicked network loading loads first width after one new
 unfolding tick_of
-word_loaded network loading loads first word demand after old one two new solvable at offered stays shows flops runs =
-    let kept = offered_kept network at.base at.asked first word (kept_tern old) (kept_tern one) at.inputs offered at.kept in
+has_ticked network loading loads first width demand after one two new solvable at stays shows flops runs =
     let solved = solvable (kept_tern one) in
-    let tick = tick_of network at.base at.asked loads (kept_tern one) solved.0 at.is_asked kept solved.1.solves in
-    let shown = shows Loader at.base at.asked at.is_asked at.differs (kept_tern one) solved.0 kept (λ p listed. refl) solved.1 in
+    let tick = tick_of network at.base at.asked loads (kept_tern one) solved.0 at.is_asked at.kept solved.1.solves in
+    let shown = shows Loader at.base at.asked at.is_asked at.differs (kept_tern one) solved.0 at.kept (λ p listed. refl) solved.1 in
     let first_left = flops tick shown at.gathered.flops (λ p. inl refl) in
     let then_left = runs tick shown at.gathered.runs first_left.on_way in
     record {
@@ -159,11 +171,9 @@ word_loaded network loading loads first word demand after old one two new solvab
         differs = stays at.asked at.differs;
         gathered = at.gathered;
         inputs = at.inputs;
-        kept = ticked_kept network tick at.base at.asked new refl kept then_left.on_way;
+        kept = ticked_kept network tick at.base at.asked new refl at.kept then_left.on_way;
       };
-      step = record {
-        offered = kept_tern one;
-        is_offered = offered;
+      tick = record {
         t = solved.0;
         least = solved.1;
         loaded = all_left network tick loading one two new at.gathered first_left then_left;
@@ -171,11 +181,23 @@ word_loaded network loading loads first word demand after old one two new solvab
       };
     }
 
+-- a piece is offered, and then the clock ticks
+pub step_of : (network : Network) (loads : List Bool) (first : ℕ) (piece : List Bool) (old offered new : PointTerns) → IsOffered first piece old offered →
+    IsLoadTick network loads offered new → IsLoadStep network loads first piece old new
+step_of network loads first piece old offered new is tick = record {
+  offered = offered;
+  is_offered = is;
+  t = tick.t;
+  least = tick.least;
+  loaded = tick.loaded;
+  others = tick.others;
+}
+
 -- ---- steps one after the other
 
-from_same : (network : Network) (loads : List Bool) (first word : ℕ) (old now new : PointTerns) → ((point : ℕ) → now point ≡ old point) →
-    IsLoadStep network loads first word now new → IsLoadStep network loads first word old new
-from_same network loads first word old now new same step = record {
+from_same : (network : Network) (loads : List Bool) (first : ℕ) (piece : List Bool) (old now new : PointTerns) → ((point : ℕ) → now point ≡ old point) →
+    IsLoadStep network loads first piece now new → IsLoadStep network loads first piece old new
+from_same network loads first piece old now new same step = record {
   offered = step.offered;
   is_offered = record { bits = step.is_offered.bits; others = λ p outside. step.is_offered.others p outside ∙ same p };
   t = step.t;
@@ -184,7 +206,32 @@ from_same network loads first word old now new same step = record {
   others = step.others;
 }
 
-pub steps_more : (network : Network) (loads : List Bool) (first : ℕ) (words : List ℕ) (word : ℕ) (old now new : PointTerns) → AreLoadSteps network loads first words old now →
-    IsLoadStep network loads first word now new → AreLoadSteps network loads first (words ++ word ∷ []) old new
-steps_more network loads first [] word old now new same step = (new, from_same network loads first word old now new same step, λ p. refl)
-steps_more network loads first (w ∷ words) word old now new steps step = (steps.0, steps.1, steps_more network loads first words word steps.0 now new steps.2 step)
+steps_from_same : (network : Network) (loads : List Bool) (first : ℕ) (pieces : List (List Bool)) (old now new : PointTerns) → ((point : ℕ) → now point ≡ old point) →
+    AreLoadSteps network loads first pieces now new → AreLoadSteps network loads first pieces old new
+steps_from_same network loads first [] old now new same steps = λ p. steps p ∙ same p
+steps_from_same network loads first (piece ∷ pieces) old now new same steps = (steps.0, from_same network loads first piece old now steps.0 same steps.1, steps.2)
+
+pub steps_then : (network : Network) (loads : List Bool) (first : ℕ) (pieces more : List (List Bool)) (old now new : PointTerns) →
+    AreLoadSteps network loads first pieces old now → AreLoadSteps network loads first more now new → AreLoadSteps network loads first (pieces ++ more) old new
+steps_then network loads first [] more old now new same steps = steps_from_same network loads first more old now new same steps
+steps_then network loads first (piece ∷ pieces) more old now new before steps =
+    (before.0, before.1, steps_then network loads first pieces more before.0 now new before.2 steps)
+
+pub steps_more : (network : Network) (loads : List Bool) (first : ℕ) (pieces : List (List Bool)) (piece : List Bool) (old now new : PointTerns) →
+    AreLoadSteps network loads first pieces old now → IsLoadStep network loads first piece now new → AreLoadSteps network loads first (pieces ++ piece ∷ []) old new
+steps_more network loads first pieces piece old now new before step =
+    steps_then network loads first pieces (piece ∷ []) old now new before (new, step, λ p. refl)
+
+-- ---- the pieces of words
+
+pub words_more : (words : List ℕ) (word : ℕ) → map word_bits (words ++ word ∷ []) ≡ map word_bits words ++ word_bits word ∷ []
+words_more words word = map-append word_bits words (word ∷ [])
+
+-- the bits of words, one by one
+abbrev pub all_bits : List ℕ → List (List Bool)
+all_bits words = flat_map single_bits (map word_bits words)
+
+pub bits_more : (words : List ℕ) (word : ℕ) → all_bits (words ++ word ∷ []) ≡ all_bits words ++ single_bits (word_bits word)
+bits_more words word =
+    ap (flat_map single_bits) (words_more words word) ∙ flat_map-append single_bits (map word_bits words) (word_bits word ∷ [])
+    ∙ ap (λ (pieces : List (List Bool)). all_bits words ++ pieces) (append-nil (single_bits (word_bits word)))

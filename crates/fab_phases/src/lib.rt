@@ -1,6 +1,7 @@
 //! The two phases of a simulation by numbers: words are loaded one by one, and then the design runs cycle by cycle.
 #![tactic(auto)]
 
+mod chain;
 mod cycles;
 mod gathering;
 mod loading;
@@ -9,4 +10,4 @@ mod words;
 pub use cycles::{ask_for_run, cycle, feed, open};
 pub use gathering::{GatedLatch, loading_of};
 pub use loading::{Latch, LoadedFlop, Loading, Run};
-pub use words::{load_words, offer};
+pub use words::{load_bits, load_words, offer, offer_bit};

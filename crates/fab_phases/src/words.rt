@@ -1,20 +1,23 @@
-//! How words are loaded.
+//! How words are loaded, whole or bit by bit.
 
-ghost use Rattle.std.specs.Prelude.{◌≡◌, ◌+◌, ◌≤◌, Bool, List, length};
+ghost use Rattle.std.specs.Prelude.{◌≡◌, ◌+◌, ◌<◌, ◌≤◌, ℕ, [], ◌∷◌, Bool, List, length, map};
+ghost use Rattle.std.specs.List.{flat_map};
+ghost use Rattle.fab_meaning.specs.Loading.{single_bits};
 ghost use Rattle.fab_ternary.specs.Terns.{plain_tern};
 ghost use Rattle.fab_network.specs.Network.{AreFit};
 ghost use Rattle.fab_network.specs.Passes.{kept_tern};
 ghost use Rattle.fab_phases.specs.Loading.{IsSolvable};
-ghost use Rattle.fab_phases.specs.Words.{AreLoadSteps, IsLoadingAt, IsLoadStep, IsOffered};
-ghost use Rattle.fab_phases.specs.inner.Ticks.{AreFitFlops, AreFitLatches, AreFitRuns, IsFitRun, LeavesFlops, LeavesLatches, LeavesRun, LeavesRuns};
+ghost use Rattle.fab_phases.specs.Words.{AreLoadSteps, IsLoadingAt, IsLoadStep, IsOffered, word_bits};
+ghost use Rattle.fab_phases.specs.inner.Ticks.{AreFitFlops, AreFitLatches, AreFitRuns, IsFitRun, IsLoadTick, LeavesFlops, LeavesLatches, LeavesRun, LeavesRuns};
 
+use crate::chain::move_chain;
 use crate::loading::{Latch, LoadedFlop, Loading, Run};
 use fab_compiled::through;
 use fab_demand::Demand;
 use fab_network::{Network, evaluate};
 use fab_ternary::Tern;
 
-/// Loads words one by one. Inputs take the bits of a word from the first of its points on.
+/// Loads words one by one. Inputs take the bits of a word, from the first of their points on.
 pub fn load_words(
     network: &Network,
     loading: &Loading,
@@ -27,10 +30,10 @@ pub fn load_words(
     requires solvable { IsSolvable network.now }
     requires points { length network.now.drives.items ≡ length demand.old.leads }
     requires given { length given.old ≡ length demand.old.leads }
-    requires loading { (loads : List Bool) × IsLoadingAt network.now loading.now loads first demand.old given.old }
+    requires loading { (loads : List Bool) × IsLoadingAt network.now loading.now loads first 32 demand.old given.old }
     ensures points { length demand.new.leads ≡ length demand.old.leads }
-    ensures steps { (loads : List Bool) → IsLoadingAt network.now loading.now loads first demand.old given.old →
-        AreLoadSteps network.now loads first words.now (kept_tern given.old) (kept_tern given.new) }
+    ensures steps { (loads : List Bool) → IsLoadingAt network.now loading.now loads first 32 demand.old given.old →
+        AreLoadSteps network.now loads first (map word_bits words.now) (kept_tern given.old) (kept_tern given.new) }
 {
     for word in words {
         load_word(network, loading, first, *word, demand, given);
@@ -50,29 +53,135 @@ fn load_word(
     requires solvable { IsSolvable network.now }
     requires points { length network.now.drives.items ≡ length demand.old.leads }
     requires given { length given.old ≡ length demand.old.leads }
-    requires loading { (loads : List Bool) × IsLoadingAt network.now loading.now loads first demand.old given.old }
+    requires loading { (loads : List Bool) × IsLoadingAt network.now loading.now loads first 32 demand.old given.old }
     ensures points { length demand.new.leads ≡ length demand.old.leads }
-    ensures loading { (loads : List Bool) → IsLoadingAt network.now loading.now loads first demand.old given.old →
-        IsLoadingAt network.now loading.now loads first demand.new given.new }
-    ensures step { (loads : List Bool) → IsLoadingAt network.now loading.now loads first demand.old given.old →
-        IsLoadStep network.now loads first word (kept_tern given.old) (kept_tern given.new) }
+    ensures loading { (loads : List Bool) → IsLoadingAt network.now loading.now loads first 32 demand.old given.old →
+        IsLoadingAt network.now loading.now loads first 32 demand.new given.new }
+    ensures step { (loads : List Bool) → IsLoadingAt network.now loading.now loads first 32 demand.old given.old →
+        IsLoadStep network.now loads first (word_bits word) (kept_tern given.old) (kept_tern given.new) }
 {
     offer(first, word, given);
-    demand.settle(network, given);
-    take_flops(network, &loading.flops, demand, given);
-    take_runs(network, &loading.runs, demand, given);
+    tick(network, loading, demand, given);
 }
+
+/// Loads words bit by bit, each with its last bit first. An input of one point takes the bits. A chain behind it is moved by all bits at once,
+/// since by a tick for each bit the time would grow with the square of its length.
+pub fn load_bits(
+    network: &Network,
+    loading: &Loading,
+    point: u32,
+    words: &[u32],
+    demand: &mut Demand,
+    given: &mut [Tern],
+)
+    requires fit { AreFit network.now.trees.items network.now.drives.items }
+    requires solvable { IsSolvable network.now }
+    requires points { length network.now.drives.items ≡ length demand.old.leads }
+    requires given { length given.old ≡ length demand.old.leads }
+    requires loading { (loads : List Bool) × IsLoadingAt network.now loading.now loads point 1 demand.old given.old }
+    ensures points { length demand.new.leads ≡ length demand.old.leads }
+    ensures steps { (loads : List Bool) → IsLoadingAt network.now loading.now loads point 1 demand.old given.old →
+        AreLoadSteps network.now loads point (flat_map single_bits (map word_bits words.now)) (kept_tern given.old) (kept_tern given.new) }
+{
+    if loading.chain == Some(point) {
+        move_chain(&loading.flops, point, words, given);
+        return;
+    }
+    for word in words {
+        load_word_bits(network, loading, point, *word, demand, given);
+    }
+}
+
+// Loads the bits of a word, the last one first.
+fn load_word_bits(
+    network: &Network,
+    loading: &Loading,
+    point: u32,
+    word: u32,
+    demand: &mut Demand,
+    given: &mut [Tern],
+)
+    requires fit { AreFit network.now.trees.items network.now.drives.items }
+    requires solvable { IsSolvable network.now }
+    requires points { length network.now.drives.items ≡ length demand.old.leads }
+    requires given { length given.old ≡ length demand.old.leads }
+    requires loading { (loads : List Bool) × IsLoadingAt network.now loading.now loads point 1 demand.old given.old }
+    ensures points { length demand.new.leads ≡ length demand.old.leads }
+    ensures loading { (loads : List Bool) → IsLoadingAt network.now loading.now loads point 1 demand.old given.old →
+        IsLoadingAt network.now loading.now loads point 1 demand.new given.new }
+    ensures steps { (loads : List Bool) → IsLoadingAt network.now loading.now loads point 1 demand.old given.old →
+        AreLoadSteps network.now loads point (single_bits (word_bits word)) (kept_tern given.old) (kept_tern given.new) }
+{
+    for place in 0..32 {
+        let bit = word >> (31 - place) & 1 == 1;
+        load_bit(network, loading, point, bit, demand, given);
+    }
+}
+
+// Loads a bit.
+fn load_bit(
+    network: &Network,
+    loading: &Loading,
+    point: u32,
+    bit: bool,
+    demand: &mut Demand,
+    given: &mut [Tern],
+)
+    requires fit { AreFit network.now.trees.items network.now.drives.items }
+    requires solvable { IsSolvable network.now }
+    requires points { length network.now.drives.items ≡ length demand.old.leads }
+    requires given { length given.old ≡ length demand.old.leads }
+    requires loading { (loads : List Bool) × IsLoadingAt network.now loading.now loads point 1 demand.old given.old }
+    ensures points { length demand.new.leads ≡ length demand.old.leads }
+    ensures loading { (loads : List Bool) → IsLoadingAt network.now loading.now loads point 1 demand.old given.old →
+        IsLoadingAt network.now loading.now loads point 1 demand.new given.new }
+    ensures step { (loads : List Bool) → IsLoadingAt network.now loading.now loads point 1 demand.old given.old →
+        IsLoadStep network.now loads point (bit ∷ []) (kept_tern given.old) (kept_tern given.new) }
+{
+    offer_bit(point, bit, given);
+    tick(network, loading, demand, given);
+}
+
+// ---- what is offered
 
 /// Gives the bits of a word to inputs, from the first of their points on.
 pub fn offer(first: u32, word: u32, given: &mut [Tern])
     requires { first + 32 ≤ length given.old }
-    ensures { IsOffered first word (kept_tern given.old) (kept_tern given.new) }
+    ensures { IsOffered first (word_bits word) (kept_tern given.old) (kept_tern given.new) }
 {
     let mut rest = word;
     for bit in 0..32 {
         given[first as usize + bit] = Tern::known(rest % 2 == 1);
         rest /= 2;
     }
+}
+
+/// Gives a bit to the input of a point.
+pub fn offer_bit(point: u32, bit: bool, given: &mut [Tern])
+    requires { point < length given.old }
+    ensures { IsOffered point (bit ∷ []) (kept_tern given.old) (kept_tern given.new) }
+{
+    given[point as usize] = Tern::known(bit);
+}
+
+// ---- a tick
+
+// A tick of the loader's clock, while a piece is offered.
+fn tick(network: &Network, loading: &Loading, demand: &mut Demand, given: &mut [Tern])
+    requires fit { AreFit network.now.trees.items network.now.drives.items }
+    requires solvable { IsSolvable network.now }
+    requires points { length network.now.drives.items ≡ length demand.old.leads }
+    requires given { length given.old ≡ length demand.old.leads }
+    requires loading { (loads : List Bool) × (first : ℕ) × (width : ℕ) × IsLoadingAt network.now loading.now loads first width demand.old given.old }
+    ensures points { length demand.new.leads ≡ length demand.old.leads }
+    ensures loading { (loads : List Bool) (first width : ℕ) → IsLoadingAt network.now loading.now loads first width demand.old given.old →
+        IsLoadingAt network.now loading.now loads first width demand.new given.new }
+    ensures ticks { (loads : List Bool) (first width : ℕ) → IsLoadingAt network.now loading.now loads first width demand.old given.old →
+        IsLoadTick network.now loads (kept_tern given.old) (kept_tern given.new) }
+{
+    demand.settle(network, given);
+    take_flops(network, &loading.flops, demand, given);
+    take_runs(network, &loading.runs, demand, given);
 }
 
 // Flip-flops take their next values.

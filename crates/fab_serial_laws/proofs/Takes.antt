@@ -196,7 +196,7 @@ module _ (fabric : PlainFabric) (placed : PlacedTile) where
 
 top_has_no_clock : (fabric : PlainFabric) → All NoClock (top_items fabric)
 top_has_no_clock fabric =
-    all_of_top fabric NoClock (λ name. tt) (λ name. tt) (λ name. tt) (λ x. tt) (loader_joins_lead fabric.rows) (λ placed there. tile_joins_lead fabric placed)
+    all_of_top fabric NoClock (λ name. tt) (λ name. tt) (λ name. tt) (λ x. tt) (λ frames. loader_joins_lead fabric.rows) (λ placed there. tile_joins_lead fabric placed)
 
 -- ---- the loader's only clock is CLK
 

@@ -8,14 +8,14 @@ use Rattle.std.proofs.lemmas.List.{length-replicate, take-append-le, take_all}
 use Rattle.std.proofs.lemmas.Option.{slice_get_within}
 use Rattle.fab_syntax.specs.Plain.{PlainModule}
 use Rattle.fab_systems_laws.specs.Ternary.{no, unknown}
+use Rattle.fab_systems_laws.specs.Ternary.{Tern as PlainTern}
 use Rattle.fab_ternary.specs.declared.Tern.{Tern}
-use Rattle.fab_ternary.specs.declared.Tern.TheVariants.{No, Yes, Open}
+use Rattle.fab_ternary.specs.declared.Tern.TheVariants.{No, Yes}
 use Rattle.fab_compiled.specs.Leading.{PointTerns}
 use Rattle.fab_network.specs.Passes.{kept_tern}
 use Rattle.fab_network.proofs.Kept.{kept_same, kept_other}
 use Rattle.fab_syntax.specs.Declarations.{is_input_of}
 use Rattle.fab_syntax.specs.declared.tree.Shape.{Shape}
-use Rattle.fab_syntax.specs.declared.tree.Shape.TheVariants.{Vector}
 use Rattle.fab_ternary.specs.Terns.{plain_tern}
 use Rattle.fab_compiled.specs.Terns.{tern_or_unknown}
 use Rattle.fab_compiled.specs.declared.tree.Tree.{Tree}
@@ -42,39 +42,41 @@ use Rattle.fab_phases.specs.declared.loading.Loading.{Loading}
 use Rattle.fab_phases.proofs.Running.{differs_none}
 use Rattle.fab_state.specs.Plain.{PlainState}
 use Rattle.fab_state_points.specs.Finding.{IsDeclared}
-use Rattle.fab_state_points.specs.Standing.{StandsAt}
+use Rattle.fab_state_points.specs.Standing.{StandsAt, data_shape, data_width, first_data}
+use Rattle.fab_state_points.specs.declared.points.Stream.{Stream}
 use Rattle.fab_state_points.specs.declared.points.StatePoints.{StatePoints}
-use Rattle.fab_sim.specs.Making.{AreLoads, IsGivenFirst, IsWordOpened}
+use Rattle.fab_sim.specs.Making.{AreLoads, IsGivenFirst}
+use Rattle.fab_sim.specs.inner.Starting.{AreFilled}
 
 -- ---- what is given at first
 
-pub record IsOpenedSoFar (first count : ℕ) (old : PointTerns) (now : List Tern) : Type 0 where
-  pub word : (bit : ℕ) → bit < count → kept_tern now (first + bit) ≡ unknown
-  pub others : (number : ℕ) → (number < first) ⊎ (first + 32 ≤ number) → kept_tern now number ≡ old number
+pub record AreFilledSoFar (first width count : ℕ) (value : PlainTern) (old : PointTerns) (now : List Tern) : Type 0 where
+  pub filled : (bit : ℕ) → bit < count → kept_tern now (first + bit) ≡ value
+  pub others : (number : ℕ) → (number < first) ⊎ (first + width ≤ number) → kept_tern now number ≡ old number
 
-pub opened_none : (first : ℕ) (now : List Tern) → IsOpenedSoFar first 0 (kept_tern now) now
-opened_none first now = record { word = λ bit less. absurd (omega arith); others = λ number outside. refl }
+pub filled_none : (first width : ℕ) (value : PlainTern) (now : List Tern) → AreFilledSoFar first width 0 value (kept_tern now) now
+filled_none first width value now = record { filled = λ bit less. absurd (omega arith); others = λ number outside. refl }
 
-pub opened_more : (first count : ℕ) (old : PointTerns) (now : List Tern) → count < 32 → first + 32 ≤ length now → IsOpenedSoFar first count old now →
-    IsOpenedSoFar first (count + 1) old (slice_set now (first + count) Open)
-opened_more first count old now less room so_far =
+pub filled_more : (first width count : ℕ) (t : Tern) (old : PointTerns) (now : List Tern) → count < width → first + width ≤ length now →
+    AreFilledSoFar first width count (plain_tern t) old now → AreFilledSoFar first width (count + 1) (plain_tern t) old (slice_set now (first + count) t)
+filled_more first width count t old now less room so_far =
     let within : first + count < length now = omega arith in
     record {
-      word = λ bit l.
+      filled = λ bit l.
           elim (cases_eq bit count) [
-            | inl e ↦ ap (λ (n : ℕ). kept_tern (slice_set now (first + count) Open) (first + n)) e ∙ kept_same now (first + count) Open within
+            | inl e ↦ ap (λ (n : ℕ). kept_tern (slice_set now (first + count) t) (first + n)) e ∙ kept_same now (first + count) t within
             | inr apart ↦
                 let other : first + bit ≡ first + count → ⊥ = λ e. apart (omega arith) in
-                kept_other now (first + count) Open (first + bit) other ∙ so_far.word bit (omega (arith, apart))
+                kept_other now (first + count) t (first + bit) other ∙ so_far.filled bit (omega (arith, apart))
           ];
       others = λ number outside.
           let other : number ≡ first + count → ⊥ = λ e. elim outside [ inl l ↦ omega arith | inr g ↦ omega arith ] in
-          kept_other now (first + count) Open number other ∙ so_far.others number outside;
+          kept_other now (first + count) t number other ∙ so_far.others number outside;
     }
 
-pub opened_all : (first count : ℕ) (old : PointTerns) (now : List Tern) → 32 ≤ count → IsOpenedSoFar first count old now →
-    IsWordOpened first old (kept_tern now)
-opened_all first count old now all so_far = record { word = λ bit less. so_far.word bit (omega arith); others = so_far.others }
+pub filled_all : (first width count : ℕ) (value : PlainTern) (old : PointTerns) (now : List Tern) → width ≤ count → AreFilledSoFar first width count value old now →
+    AreFilled first width value old (kept_tern now)
+filled_all first width count value old now all so_far = record { filled = λ bit less. so_far.filled bit (omega arith); others = so_far.others }
 
 pub all_no : (count number : ℕ) → number < count → kept_tern (replicate count No) number ≡ no
 all_no count number less =
@@ -82,30 +84,32 @@ all_no count number less =
     let there = some_there (replicate count No) number (omega arith) in
     ap tern_or_unknown there.1 ∙ ap plain_tern (get_replicate count number No there.0 there.1).1
 
-pub given_first : (count strobe first : ℕ) (given : List Tern) → strobe < count →
-    IsWordOpened first (kept_tern (slice_set (replicate count No) strobe Yes)) (kept_tern given) → IsGivenFirst count strobe first (kept_tern given)
-given_first count strobe first given less opened =
+pub given_first : (count : ℕ) (stream : Stream) (given : List Tern) → stream.strobe < count →
+    AreFilled (first_data stream.carrier) (data_width stream.carrier) unknown (kept_tern (slice_set (replicate count No) stream.strobe Yes)) (kept_tern given) →
+    IsGivenFirst count stream (kept_tern given)
+given_first count stream given less opened =
+    let strobe = stream.strobe in
     let long : length (replicate count No) ≡ count = length-replicate count No in
     let inside : strobe < length (replicate count No) = omega arith in
     record {
       strobe_is = λ outside. opened.others strobe outside ∙ kept_same (replicate count No) strobe Yes inside;
-      word = opened.word;
+      carrier = opened.filled;
       others = λ number bound apart outside. opened.others number outside ∙ kept_other (replicate count No) strobe Yes number apart ∙ all_no count number bound;
     }
 
 -- ---- what is gathered
 
-pub made_loading : GivenIsKept → (network : Network) (loading : Loading) (loads : List Bool) (first : ℕ) (demand : Asked) (given : List Tern) →
+pub made_loading : GivenIsKept → (network : Network) (loading : Loading) (loads : List Bool) (first width : ℕ) (demand : Asked) (given : List Tern) →
     IsAsked network Loader (kept_tern given) demand → AreLoading network demand loads loading →
-    ((bit : ℕ) → bit < 32 → slice_get network.drives.items (first + bit) ≡ Some Given) → ((bit : ℕ) → bit < 32 → kept_tern given (first + bit) ≡ unknown) →
-    IsLoadingAt network loading loads first demand given
-made_loading kept network loading loads first demand given is_asked are inputs word = record {
+    ((bit : ℕ) → bit < width → slice_get network.drives.items (first + bit) ≡ Some Given) → ((bit : ℕ) → bit < width → kept_tern given (first + bit) ≡ unknown) →
+    IsLoadingAt network loading loads first width demand given
+made_loading kept network loading loads first width demand given is_asked are inputs carrier = record {
   base = kept_tern given;
   asked = demand;
   is_asked = is_asked;
   differs = differs_none demand;
   gathered = are;
-  inputs = λ bit less. (inputs bit less, word bit less);
+  inputs = λ bit less. (inputs bit less, carrier bit less);
   kept = kept network Loader (kept_tern given) demand.terns demand.leads;
 }
 
@@ -138,12 +142,13 @@ given_at text network number p are is drives =
     let wired = are number p outside is drives in
     wired.is ∙ ap (λ (d : Drive). Some d) (given_by text network.trees.items wired.drive wired.of)
 
-pub word_given : (text : List PlainModule) (network : Network) (state : PlainState) (points : StatePoints) →
+pub data_given : (text : List PlainModule) (network : Network) (state : PlainState) (points : StatePoints) →
     AreDrives text network.trees.items network.drives.items →
-    StandsAt text state points → (bit : ℕ) → bit < 32 → slice_get network.drives.items (points.stream.data_word + bit) ≡ Some Given
-word_given text network state points are stands bit less =
-    given_at text network (points.stream.data_word + bit) (point [] write_data_name bit) are (stands.stream.words bit less)
-    (outside_at text write_data_name (Vector 32) bit stands.has.words)
+    StandsAt text state points → (bit : ℕ) → bit < data_width points.stream.carrier → slice_get network.drives.items (first_data points.stream.carrier + bit) ≡ Some Given
+data_given text network state points are stands bit less =
+    let carrier = points.stream.carrier in
+    given_at text network (first_data carrier + bit) (point [] write_data_name bit) are (stands.stream.words.bits bit less)
+    (outside_at text write_data_name (data_shape carrier) bit stands.stream.words.declared)
 
 pub strobe_within : (text : List PlainModule) (state : PlainState) (points : StatePoints) → StandsAt text state points →
     points.stream.strobe < length (text_points text)
@@ -194,16 +199,19 @@ register_loads text all registers all_long marked long stored others =
 written : (n : ℕ) (old new : List Tern) → n ≡ length old → length new ≡ length old → take n (new ++ drop (length new) old) ≡ new
 written n old new is long = take-append-le n new (drop (length new) old) (omega (arith, is, long)) ∙ take_all n new (omega (arith, is, long))
 
-pub first_written : (count strobe first len : ℕ) (all before new : List Tern) → strobe < count → len ≡ length all → all ≡ replicate count No →
-    before ≡ slice_set all strobe Yes →
-    length new ≡ length before → IsWordOpened first (kept_tern before) (kept_tern new) →
-    IsGivenFirst count strobe first (kept_tern (take len (new ++ drop (length new) (slice_set all strobe Yes))))
-first_written count strobe first len all before new less len_is all_is before_is long opened =
+pub first_written : (count : ℕ) (stream : Stream) (len : ℕ) (all before new : List Tern) → stream.strobe < count → len ≡ length all → all ≡ replicate count No →
+    before ≡ slice_set all stream.strobe Yes → length new ≡ length before →
+    AreFilled (first_data stream.carrier) (data_width stream.carrier) unknown (kept_tern before) (kept_tern new) →
+    IsGivenFirst count stream (kept_tern (take len (new ++ drop (length new) (slice_set all stream.strobe Yes))))
+first_written count stream len all before new less len_is all_is before_is long opened =
+    let strobe = stream.strobe in
+    let first = first_data stream.carrier in
+    let width = data_width stream.carrier in
     let old = slice_set all strobe Yes in
     let old_long : length old ≡ length all = length-set all strobe Yes in
     let new_long : length new ≡ length old = long ∙ ap length before_is in
-    let made : IsWordOpened first (kept_tern (slice_set (replicate count No) strobe Yes)) (kept_tern new) =
-    subst (λ (xs : List Tern). IsWordOpened first (kept_tern xs) (kept_tern new)) (before_is ∙ ap (λ (xs : List Tern). slice_set xs strobe Yes) all_is) opened
+    let made : AreFilled first width unknown (kept_tern (slice_set (replicate count No) strobe Yes)) (kept_tern new) =
+    subst (λ (xs : List Tern). AreFilled first width unknown (kept_tern xs) (kept_tern new)) (before_is ∙ ap (λ (xs : List Tern). slice_set xs strobe Yes) all_is) opened
     in
-    subst (λ (xs : List Tern). IsGivenFirst count strobe first (kept_tern xs)) (sym (written len old new (omega arith) new_long))
-    (given_first count strobe first new less made)
+    subst (λ (xs : List Tern). IsGivenFirst count stream (kept_tern xs)) (sym (written len old new (omega arith) new_long))
+    (given_first count stream new less made)

@@ -1,19 +1,19 @@
--- What loading leaves, word by word: loading points have what the settled runs of the text leave there, and all else stays 0.
-use Rattle.std.proofs.Common.{◌≡◌, ◌≢◌, ◌⊎◌, ℕ, ◌+◌, ◌-◌, ◌<◌, ◌≤◌, Bool, true, false, List, [], ◌∷◌, Option, None, Some, map, length, refl, sym, ap}
+-- What loading leaves, piece by piece: loading points have what the settled runs of the text leave there, and all else stays 0.
+use Rattle.std.proofs.Common.{◌≡◌, ◌≢◌, ◌⊎◌, ℕ, ◌+◌, ◌-◌, ◌<◌, ◌≤◌, Bool, true, false, List, [], ◌∷◌, ◌++◌, Option, None, Some, map, length, reverse, refl, sym, ap}
 use Rattle.std.proofs.Common.{subst, ◌∙◌, inl, inr, arith}
-use Rattle.std.specs.List.{slice_get}
+use Rattle.std.specs.List.{AllByRecursion, flat_map, slice_get}
 use Rattle.std.proofs.lemmas.Bool.{cases_lt}
 use Rattle.std.proofs.lemmas.Option.{slice_get_within}
 use Rattle.fab_bits.specs.Bits.{digits}
 use Rattle.fab_syntax.specs.Plain.{PlainModule}
-use Rattle.fab_syntax.specs.declared.tree.Shape.TheVariants.{Scalar, Vector}
+use Rattle.fab_syntax.specs.declared.tree.Shape.TheVariants.{Scalar}
 use Rattle.fab_systems_laws.specs.Ternary.{Tern, no, yes, known}
 use Rattle.fab_meaning.specs.Value.{bit_at}
 use Rattle.fab_meaning.specs.Points.{Point, point, Driver, outside, copy, bit_of, flop, hold, Drives, IsStored}
 use Rattle.fab_meaning.specs.Settled.{Assignment, IsSettledOn}
 use Rattle.fab_meaning.specs.Reads.{is_declared}
 use Rattle.fab_meaning.specs.Runs.{AreClocksLow, clock_name, clock_of, IsRunOn, kept, Moment, Ticks}
-use Rattle.fab_meaning.specs.Loading.{IsClosed, IsDerived, IsLoading, IsStream, offered, offered_at, OffersWord, OfferWords, Within, by_flop, by_stream, by_reads, write_data_name, write_strobe_name}
+use Rattle.fab_meaning.specs.Loading.{IsClosed, IsDerived, IsLoading, IsStream, offered, offered_at, OffersWord, OfferWords, single_bits, Within, by_flop, by_stream, by_reads, write_data_name, write_strobe_name}
 use Rattle.fab_meaning.specs.Sound.{PointsOfSoundTextsHaveOneDriver}
 use Rattle.fab_ternary_laws.specs.Shown.{Terns}
 use Rattle.fab_solutions_laws.specs.Solutions.{Solves as SolvesText, tern_kept}
@@ -36,10 +36,13 @@ use Rattle.fab_ordering_laws.proofs.fab_drives_laws_Apart.{told_apart}
 use Rattle.fab_ordering_laws.specs.fab_simulation_laws_Simulation.{zeros}
 use Rattle.fab_ordering_laws.specs.fab_simulation_laws_Laws.{AreKnown, LoadingIsKept, LoadingIsKnown}
 use Rattle.fab_phases.specs.Loading.{IsSolvable}
-use Rattle.fab_phases.specs.Words.{AreLoadSteps, IsLoadStep, word_bit}
-use Rattle.fab_state_points.specs.Standing.{HasStream, IsStreamAt}
+use Rattle.fab_phases.specs.Words.{AreLoadSteps, IsLoadStep, word_bits}
+use Rattle.fab_phases.proofs.Offering.{word_long}
+use Rattle.fab_state_points.specs.Standing.{HasStream, IsStreamAt, data_shape, data_width, first_data}
+use Rattle.fab_state_points.specs.declared.points.DataPoints.{DataPoints}
+use Rattle.fab_state_points.specs.declared.points.DataPoints.TheVariants.{Bit, Word}
 use Rattle.fab_state_points.specs.declared.points.Stream.{Stream}
-use Rattle.fab_sim.specs.Making.{AreLoads, IsGivenFirst, IsNetworkOf}
+use Rattle.fab_sim.specs.Making.{AreLoads, IsGivenFirst, IsNetworkOf, IsNoData}
 use Rattle.fab_sim.proofs.Points.{flop_drive, given_driver, held_not_given, hold_drive, holds_or_not, input_bit, input_drives, input_width, number_declared, one_point, outside_drive, point_of}
 
 -- ---- flip-flops among the loading points are those of CLK
@@ -84,10 +87,6 @@ nowhere p = false
 pub stream_loads : (text : List PlainModule) (p : Point) → IsStream text p → IsLoading text p
 unfolding nowhere
 stream_loads text p is = (nowhere, λ q has. cc, by_stream is)
-
-word_bit_is : (word bit : ℕ) → word_bit word bit ≡ bit_at (digits 32 word) bit
-unfolding word_bit
-word_bit_is word bit = refl
 
 -- ---- what is held, by drives
 
@@ -143,30 +142,56 @@ solvable numbers terns least exist text network of given =
     by number p is (flop path clock next bit) = (terns text of.sound given).1 number p is
     by number p is (hold path gate e bit) = (terns text of.sound given).1 number p is
 
--- ---- the points of a word
+-- ---- the points of WriteData
 
-pub not_word_by : (first number : ℕ) → ((bit : ℕ) → bit < 32 → number ≡ first + bit → ⊥) → (number < first) ⊎ (first + 32 ≤ number)
-not_word_by first number none =
+pub no_data_by : (first width number : ℕ) → ((bit : ℕ) → bit < width → number ≡ first + bit → ⊥) → (number < first) ⊎ (first + width ≤ number)
+no_data_by first width number none =
     elim (cases_lt number first) [
       | inl before ↦ inl before
-      | inr behind ↦ elim (cases_lt number (first + 32)) [
+      | inr behind ↦ elim (cases_lt number (first + width)) [
         | inl inside ↦ absurd (none (number - first) (omega (arith, behind, inside)) (omega (arith, behind)))
         | inr after ↦ inr after
       ]
     ]
 
--- a text whose WriteData has 32 bits is offered words whole
-pub words_whole : (text : List PlainModule) → HasStream text → (words : List (List Bool)) → offered text words ≡ words
-words_whole text has words = ap (λ wide. offered_at wide words) (input_width text write_data_name (Vector 32) has.words)
+pub data_wide : (carrier : DataPoints) → 0 < data_width carrier
+data_wide (Bit point) = omega arith
+data_wide (Word first) = omega arith
 
--- What is given and held between words: loading points have this assignment, and all else but WriteStrobe and the word's points is 0.
+-- what a text is offered for words is what its WriteData takes at its width
+pub pieces_of_words : (text : List PlainModule) (stream : Stream) → IsStreamAt text stream → (words : List ℕ) →
+    offered text (map (digits 32) words) ≡ offered_at (data_width stream.carrier) (map word_bits words)
+unfolding word_bits
+pieces_of_words text stream at words =
+    ap (λ wide. offered_at wide (map (digits 32) words)) (input_width text write_data_name (data_shape stream.carrier) at.words.declared)
+
+-- pieces that are as wide as the input that takes them
+abbrev AreWide : (width : ℕ) → List (List Bool) → Type 0
+AreWide width pieces = AllByRecursion (λ piece. length piece ≡ width) pieces
+
+words_wide : (words : List ℕ) → AreWide 32 (map word_bits words)
+words_wide [] = tt
+words_wide (word ∷ words) = (word_long word, words_wide words)
+
+bits_wide : (bits : List Bool) (more : List (List Bool)) → AreWide 1 more → AreWide 1 (map (λ bit. bit ∷ []) bits ++ more)
+bits_wide [] more wide = wide
+bits_wide (bit ∷ bits) more wide = (refl, bits_wide bits more wide)
+
+all_bits_wide : (words : List (List Bool)) → AreWide 1 (flat_map single_bits words)
+all_bits_wide [] = tt
+all_bits_wide (word ∷ words) = bits_wide (reverse word) (flat_map single_bits words) (all_bits_wide words)
+
+pub pieces_wide : (carrier : DataPoints) (words : List ℕ) → AreWide (data_width carrier) (offered_at (data_width carrier) (map word_bits words))
+pieces_wide (Bit point) words = all_bits_wide (map word_bits words)
+pieces_wide (Word first) words = words_wide words
+
+-- What is given and held between pieces: loading points have this assignment, and all else but WriteStrobe and WriteData is 0.
 pub record IsHolding (text : List PlainModule) (network : Network) (stream : Stream) (base : Assignment) (given : PointTerns) : Type 0 where
   pub loading : (number : ℕ) (p : Point) (d : Driver) → IsPoint text number p → Drives text p d → IsStored d → IsLoading text p →
       given number ≡ known (base p)
   pub others : (number : ℕ) (p : Point) (d : Driver) → IsPoint text number p → Drives text p d → IsStored d → (IsLoading text p → ⊥) → given number ≡ no
   pub strobe : given stream.strobe ≡ yes
-  pub low : (number : ℕ) → slice_get network.drives.items number ≡ Some Given → number ≢ stream.strobe →
-      (number < stream.data_word) ⊎ (stream.data_word + 32 ≤ number) → given number ≡ no
+  pub low : (number : ℕ) → slice_get network.drives.items number ≡ Some Given → number ≢ stream.strobe → IsNoData stream.carrier number → given number ≡ no
 
 module _ (text : List PlainModule) (network : Network) (of : IsNetworkOf text network) (stream : Stream) (has : HasStream text) (at : IsStreamAt text stream)
   where
@@ -178,24 +203,26 @@ module _ (text : List PlainModule) (network : Network) (of : IsNetworkOf text ne
     pub strobe_within : stream.strobe < length (points text)
     strobe_within = slice_get_within (points text) stream.strobe (point [] write_strobe_name 0) strobe_point
 
-    pub word_within : stream.data_word + 32 ≤ length (points text)
-    word_within =
-        let last = slice_get_within (points text) (stream.data_word + 31) (point [] write_data_name 31) (at.words 31 (omega arith)) in
-        omega (arith, last)
+    pub data_within : first_data stream.carrier + data_width stream.carrier ≤ length (points text)
+    data_within =
+        let some = data_wide stream.carrier in
+        let end = data_width stream.carrier - 1 in
+        let last = slice_get_within (points text) (first_data stream.carrier + end) (point [] write_data_name end) (at.words.bits end (omega (arith, some))) in
+        omega (arith, some, last)
 
     pub strobe_drive : slice_get network.drives.items stream.strobe ≡ Some Given
     strobe_drive = outside_drive text network of stream.strobe (point [] write_strobe_name 0) strobe_point (input_drives text write_strobe_name Scalar 0 has.strobe)
 
-    pub word_drive : (bit : ℕ) → bit < 32 → slice_get network.drives.items (stream.data_word + bit) ≡ Some Given
-    word_drive bit less =
-        outside_drive text network of (stream.data_word + bit) (point [] write_data_name bit) (at.words bit less)
-        (input_drives text write_data_name (Vector 32) bit has.words)
+    pub data_drive : (bit : ℕ) → bit < data_width stream.carrier → slice_get network.drives.items (first_data stream.carrier + bit) ≡ Some Given
+    data_drive bit less =
+        outside_drive text network of (first_data stream.carrier + bit) (point [] write_data_name bit) (at.words.bits bit less)
+        (input_drives text write_data_name (data_shape stream.carrier) bit at.words.declared)
 
-    -- a point of another name is none of the word's, and one that is stored neither
-    pub not_word : (number : ℕ) (p : Point) → IsPoint text number p → p.name ≢ write_data_name → (number < stream.data_word) ⊎ (stream.data_word + 32 ≤ number)
-    not_word number p is differs =
-        not_word_by stream.data_word number (λ bit less same.
-        let here : IsPoint text number (point [] write_data_name bit) = subst (λ (n : ℕ). IsPoint text n (point [] write_data_name bit)) (sym same) (at.words bit less) in
+    -- a point of another name is none of WriteData, and one that is stored neither
+    pub no_data : (number : ℕ) (p : Point) → IsPoint text number p → p.name ≢ write_data_name → IsNoData stream.carrier number
+    no_data number p is differs =
+        no_data_by (first_data stream.carrier) (data_width stream.carrier) number (λ bit less same.
+        let here : IsPoint text number (point [] write_data_name bit) = subst (λ (n : ℕ). IsPoint text n (point [] write_data_name bit)) (sym same) (at.words.bits bit less) in
         differs (ap (λ (q : Point). q.name) (one_point text number p (point [] write_data_name bit) is here)))
 
     pub given_not_strobe : (number : ℕ) (p : Point) → IsPoint text number p → p.name ≢ write_strobe_name → number ≢ stream.strobe
@@ -203,43 +230,48 @@ module _ (text : List PlainModule) (network : Network) (of : IsNetworkOf text ne
         let here : IsPoint text number (point [] write_strobe_name 0) = subst (λ (n : ℕ). IsPoint text n (point [] write_strobe_name 0)) (sym same) strobe_point in
         differs (ap (λ (q : Point). q.name) (one_point text number p (point [] write_strobe_name 0) is here))
 
-    pub strobe_not_word : (stream.strobe < stream.data_word) ⊎ (stream.data_word + 32 ≤ stream.strobe)
-    strobe_not_word = not_word stream.strobe (point [] write_strobe_name 0) strobe_point (told_apart 5 write_strobe_name write_data_name refl)
+    pub strobe_no_data : IsNoData stream.carrier stream.strobe
+    strobe_no_data = no_data stream.strobe (point [] write_strobe_name 0) strobe_point (told_apart 5 write_strobe_name write_data_name refl)
 
     module _ (number : ℕ) (p : Point) (d : Driver) (is : IsPoint text number p) (driven : Drives text p d) (holds : IsStored d) where
-      pub stored_not_word : (number < stream.data_word) ⊎ (stream.data_word + 32 ≤ number)
-      stored_not_word =
-          not_word_by stream.data_word number (λ bit less same.
-          held_not_given text network of number p d is driven holds (ap (slice_get network.drives.items) same ∙ word_drive bit less))
+      pub stored_no_data : IsNoData stream.carrier number
+      stored_no_data =
+          no_data_by (first_data stream.carrier) (data_width stream.carrier) number (λ bit less same.
+          held_not_given text network of number p d is driven holds (ap (slice_get network.drives.items) same ∙ data_drive bit less))
 
       pub stored_not_strobe : number ≢ stream.strobe
       stored_not_strobe same = held_not_given text network of number p d is driven holds (ap (slice_get network.drives.items) same ∙ strobe_drive)
 
     -- what is given at first
-    pub holds_first : (given : PointTerns) → IsGivenFirst (length (points text)) stream.strobe stream.data_word given →
+    pub holds_first : (given : PointTerns) → IsGivenFirst (length (points text)) stream given →
         IsHolding text network stream zeros given
     holds_first given first =
         let low_at = λ (number : ℕ) (p : Point) (d : Driver) (is : IsPoint text number p) (driven : Drives text p d) (holds : IsStored d).
         first.others number (slice_get_within (points text) number p is) (stored_not_strobe number p d is driven holds)
-        (stored_not_word number p d is driven holds) in
+        (stored_no_data number p d is driven holds) in
         record {
           loading = λ number p d is driven holds loading. low_at number p d is driven holds;
           others = λ number p d is driven holds not. low_at number p d is driven holds;
-          strobe = first.strobe_is strobe_not_word;
+          strobe = first.strobe_is strobe_no_data;
           low = λ number e apart not.
               let p = point_of text network of number Given e in first.others number (slice_get_within (points text) number p.0 p.1) apart not;
         }
 
-    -- ---- a word
+    -- ---- a piece
 
     module _ (one : PointsOfSoundTextsHaveOneDriver) (numbers : NumbersHaveTerns) (terns : PointsHaveTerns) (solutions : SolutionsByNumber)
         (left : LeftByNumber)
         (is_known : LoadingIsKnown) (is_kept : LoadingIsKept) (loads : List Bool) (are : AreLoads text loads) where
-      module _ (word : ℕ) (old new : PointTerns) (base now next : Assignment) (moment : Moment) (holding : IsHolding text network stream base old)
-          (step : IsLoadStep network loads stream.data_word word old new) (offers : OffersWord (digits 32 word) moment.inputs)
+      module _ (piece : List Bool) (wide : length piece ≡ data_width stream.carrier) (old new : PointTerns) (base now next : Assignment) (moment : Moment) (holding : IsHolding text network stream base old)
+          (step : IsLoadStep network loads (first_data stream.carrier) piece old new) (offers : OffersWord piece moment.inputs)
           (clocked : moment.clock ≡ clock_name)
           (settled : IsSettledOn (IsLoading text) text moment.inputs base now) (low : AreClocksLow now)
           (ticks : Ticks (IsLoading text) text moment.clock base now next) where
+        -- what is no point of WriteData is offered what it had
+        same_offered : (number : ℕ) → IsNoData stream.carrier number → step.offered number ≡ old number
+        same_offered number outside =
+            step.is_offered.others number (elim outside [ inl before ↦ inl before | inr behind ↦ inr (omega (arith, behind, wide)) ])
+
         -- inputs, and what is held, as the text has them
         inputs : (t : Terns) × AreByNumber text t step.offered
         inputs = terns text of.sound step.offered
@@ -269,7 +301,7 @@ module _ (text : List PlainModule) (network : Network) (of : IsNetworkOf text ne
             let driver = one text of.sound p declared in
             elim (holds_or_not driver.0) [
               | inl holds ↦ held_is number.0 p driver.0 number.1 driver.1 holds
-                  ∙ step.is_offered.others number.0 (stored_not_word number.0 p driver.0 number.1 driver.1 holds)
+                  ∙ same_offered number.0 (stored_no_data number.0 p driver.0 number.1 driver.1 holds)
                   ∙ holding.loading number.0 p driver.0 number.1 driver.1 holds loading
               | inr not ↦ (
                   let w = of.drives number.0 p driver.0 number.1 driver.1 in
@@ -297,11 +329,11 @@ module _ (text : List PlainModule) (network : Network) (of : IsNetworkOf text ne
             let first : p.bit ≡ 0 = (let less = bit.1 in omega (arith, less)) in
             let same : point [] clock_name 0 ≡ p = ap (λ (n : ℕ). point [] clock_name n) (sym first) ∙ bit.0 in
             let number = is_point text p (declared_are_points text of.sound p is.declared) in
-            let word_apart = not_word number.0 p number.1 (λ e. told_apart 0 clock_name write_data_name refl (sym named ∙ e)) in
+            let data_apart = no_data number.0 p number.1 (λ e. told_apart 0 clock_name write_data_name refl (sym named ∙ e)) in
             let strobe_apart = given_not_strobe number.0 p number.1 (λ e. told_apart 0 clock_name write_strobe_name refl (sym named ∙ e)) in
             let drive = outside_drive text network of number.0 p number.1 (inl is.input) in
             let is_low : moment.inputs p ≡ false = sym (settled p outside (stream_loads text p is) (inl is.input)) ∙ ap now (sym same) ∙ low.0 in
-            sym (inputs.1 number.0 p number.1) ∙ step.is_offered.others number.0 word_apart ∙ holding.low number.0 drive strobe_apart word_apart ∙ ap known
+            sym (inputs.1 number.0 p number.1) ∙ same_offered number.0 data_apart ∙ holding.low number.0 drive strobe_apart data_apart ∙ ap known
             (sym is_low)
 
         strobe_known : (p : Point) → IsStream text p → p.name ≡ write_strobe_name → inputs.0 p ≡ known (moment.inputs p)
@@ -310,16 +342,16 @@ module _ (text : List PlainModule) (network : Network) (of : IsNetworkOf text ne
             let first : p.bit ≡ 0 = (let less = bit.1 in omega (arith, less)) in
             let same : point [] write_strobe_name 0 ≡ p = ap (λ (n : ℕ). point [] write_strobe_name n) (sym first) ∙ bit.0 in
             let here : inputs.0 (point [] write_strobe_name 0) ≡ known (moment.inputs (point [] write_strobe_name 0)) =
-            sym (inputs.1 stream.strobe (point [] write_strobe_name 0) strobe_point) ∙ step.is_offered.others stream.strobe strobe_not_word ∙ holding.strobe
+            sym (inputs.1 stream.strobe (point [] write_strobe_name 0) strobe_point) ∙ same_offered stream.strobe strobe_no_data ∙ holding.strobe
             ∙ ap known (sym offers.strobe) in
             subst (λ (q : Point). inputs.0 q ≡ known (moment.inputs q)) same here
 
         data_known : (p : Point) → IsStream text p → p.name ≡ write_data_name → inputs.0 p ≡ known (moment.inputs p)
         data_known p is named =
-            let bit = input_bit text write_data_name (Vector 32) has.words p is.input.top named is.declared in
+            let bit = input_bit text write_data_name (data_shape stream.carrier) at.words.declared p is.input.top named is.declared in
             let here : inputs.0 (point [] write_data_name p.bit) ≡ known (moment.inputs (point [] write_data_name p.bit)) =
-            sym (inputs.1 (stream.data_word + p.bit) (point [] write_data_name p.bit) (at.words p.bit bit.1)) ∙ step.is_offered.bits p.bit bit.1
-            ∙ ap known (word_bit_is word p.bit ∙ sym (offers.bits p.bit)) in
+            sym (inputs.1 (first_data stream.carrier + p.bit) (point [] write_data_name p.bit) (at.words.bits p.bit bit.1))
+            ∙ step.is_offered.bits p.bit (let less = bit.1 in omega (arith, less, wide)) ∙ ap known (sym (offers.bits p.bit)) in
             subst (λ (q : Point). inputs.0 q ≡ known (moment.inputs q)) bit.0 here
 
         stream_known : AreKnown (IsStream text) inputs.0 moment.inputs
@@ -375,7 +407,7 @@ module _ (text : List PlainModule) (network : Network) (of : IsNetworkOf text ne
         new_others : (number : ℕ) (p : Point) (d : Driver) → IsPoint text number p → Drives text p d → IsStored d → (IsLoading text p → ⊥) → new number ≡ no
         new_others number p d is driven holds not =
             step.others number (λ marked. not (are.sound number p d is driven holds marked))
-            ∙ step.is_offered.others number (stored_not_word number p d is driven holds) ∙ holding.others number p d is driven holds not
+            ∙ same_offered number (stored_no_data number p d is driven holds) ∙ holding.others number p d is driven holds not
 
         -- an input is not marked
         not_marked : (number : ℕ) (p : Point) → IsPoint text number p → Drives text p outside → IsMarked loads number → ⊥
@@ -385,33 +417,31 @@ module _ (text : List PlainModule) (network : Network) (of : IsNetworkOf text ne
         new_strobe : new stream.strobe ≡ yes
         new_strobe =
             step.others stream.strobe (not_marked stream.strobe (point [] write_strobe_name 0) strobe_point (input_drives text write_strobe_name Scalar 0 has.strobe))
-            ∙ step.is_offered.others stream.strobe strobe_not_word ∙ holding.strobe
+            ∙ same_offered stream.strobe strobe_no_data ∙ holding.strobe
 
-        new_low : (number : ℕ) → slice_get network.drives.items number ≡ Some Given → number ≢ stream.strobe →
-            (number < stream.data_word) ⊎ (stream.data_word + 32 ≤ number) → new number ≡ no
+        new_low : (number : ℕ) → slice_get network.drives.items number ≡ Some Given → number ≢ stream.strobe → IsNoData stream.carrier number → new number ≡ no
         new_low number e apart not =
             let p = point_of text network of number Given e in
             let driver = one text of.sound p.0 (number_declared text of.sound number p.0 p.1) in
             let driven : Drives text p.0 outside = subst (Drives text p.0) (given_driver text network of number p.0 driver.0 p.1 driver.1 e) driver.1 in
-            step.others number (not_marked number p.0 p.1 driven) ∙ step.is_offered.others number not ∙ holding.low number e apart not
+            step.others number (not_marked number p.0 p.1 driven) ∙ same_offered number not ∙ holding.low number e apart not
 
         pub holds_next : IsHolding text network stream next new
         holds_next = record { loading = new_loading; others = new_others; strobe = new_strobe; low = new_low }
 
-      -- ---- all words
+      -- ---- all pieces
 
-      pub holds_last : (words : List ℕ) (moments : List Moment) (old new : PointTerns) (base after : Assignment) → IsHolding text network stream base old →
-          AreLoadSteps network loads stream.data_word words old new → OfferWords (map (digits 32) words) moments → IsRunOn (IsLoading text) text moments base
-          after →
-          IsHolding text network stream after new
-      holds_last [] [] old new base after holding same offers run = record {
+      pub holds_last : (pieces : List (List Bool)) → AreWide (data_width stream.carrier) pieces → (moments : List Moment) (old new : PointTerns) (base after : Assignment) →
+          IsHolding text network stream base old → AreLoadSteps network loads (first_data stream.carrier) pieces old new → OfferWords pieces moments →
+          IsRunOn (IsLoading text) text moments base after → IsHolding text network stream after new
+      holds_last [] wide [] old new base after holding same offers run = record {
         loading = λ number p d is driven holds loading. same number ∙ holding.loading number p d is driven holds loading ∙ ap known (sym (run p loading));
         others = λ number p d is driven holds not. same number ∙ holding.others number p d is driven holds not;
         strobe = same stream.strobe ∙ holding.strobe;
         low = λ number e apart not. same number ∙ holding.low number e apart not;
       }
-      holds_last [] (moment ∷ moments) old new base after holding same offers run = absurd offers
-      holds_last (word ∷ words) [] old new base after holding steps offers run = absurd offers
-      holds_last (word ∷ words) (moment ∷ moments) old new base after holding steps offers run =
-          holds_last words moments steps.0 new run.1 after
-          (holds_next word old steps.0 base run.0 run.1 moment holding steps.1 offers.0 offers.1 run.2 run.3 run.4) steps.2 offers.2 run.5
+      holds_last [] wide (moment ∷ moments) old new base after holding same offers run = absurd offers
+      holds_last (piece ∷ pieces) wide [] old new base after holding steps offers run = absurd offers
+      holds_last (piece ∷ pieces) wide (moment ∷ moments) old new base after holding steps offers run =
+          holds_last pieces wide.1 moments steps.0 new run.1 after
+          (holds_next piece wide.0 old steps.0 base run.0 run.1 moment holding steps.1 offers.0 offers.1 run.2 run.3 run.4) steps.2 offers.2 run.5

@@ -7,7 +7,7 @@ use Rattle.fab_network.specs.Passes.{kept_tern}
 use Rattle.fab_phases.specs.Words.{IsLoadingAt}
 use Rattle.fab_wiring.specs.Clocks.{IsClockAt}
 use Rattle.fab_state.specs.Plain.{PlainState, Register}
-use Rattle.fab_state_points.specs.Standing.{StandsAt}
+use Rattle.fab_state_points.specs.Standing.{StandsAt, data_width, first_data}
 use Rattle.fab_state_points.specs.declared.points.StatePoints.{StatePoints}
 use Rattle.fab_sim.specs.Once.{StandsOnce}
 use Rattle.fab_sim.specs.Making.{AreLoadingPoints, AreLoads, IsGivenFirst, IsNetworkOf}
@@ -34,11 +34,12 @@ made_new text state network points loads values machine of once stands are value
   loads = loads;
   are = are;
   loading =
-      subst (λ (n : Network). IsLoadingAt n machine.loading loads machine.points.stream.data_word machine.demand machine.given.items) (sym made.network_is)
-      (subst (λ (p : StatePoints). IsLoadingAt network machine.loading loads p.stream.data_word machine.demand machine.given.items) (sym made.points_are)
-      made.loading);
+      subst (λ (n : Network). IsLoadingAt n machine.loading loads (first_data machine.points.stream.carrier) (data_width machine.points.stream.carrier) machine.demand machine.given.items)
+          (sym made.network_is)
+      (subst (λ (p : StatePoints). IsLoadingAt network machine.loading loads (first_data p.stream.carrier) (data_width p.stream.carrier) machine.demand machine.given.items)
+      (sym made.points_are) made.loading);
   first =
-      subst (λ (n : ℕ). IsGivenFirst n machine.points.stream.strobe machine.points.stream.data_word (kept_tern machine.given.items)) of.long
-      (subst (λ (p : StatePoints). IsGivenFirst (length network.drives.items) p.stream.strobe p.stream.data_word (kept_tern machine.given.items))
+      subst (λ (n : ℕ). IsGivenFirst n machine.points.stream (kept_tern machine.given.items)) of.long
+      (subst (λ (p : StatePoints). IsGivenFirst (length network.drives.items) p.stream (kept_tern machine.given.items))
       (sym made.points_are) made.first);
 }

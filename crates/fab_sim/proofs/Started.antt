@@ -19,19 +19,20 @@ use Rattle.fab_network.specs.declared.network.Network.{Network}
 use Rattle.fab_ordering_laws.specs.fab_simulation_laws_Simulation.{with_registers}
 use Rattle.fab_phases.specs.Lists.{Each}
 use Rattle.fab_phases.specs.Cycles.{IsIn}
+use Rattle.fab_state_points.specs.Standing.{data_width, first_data}
 use Rattle.fab_sim.specs.inner.Starting.{IsSetOut, IsUnnamed}
 use Rattle.fab_sim.specs.Machine.{IsNew}
 use Rattle.fab_sim.specs.declared.machine.Machine.{Machine}
 use Rattle.fab_sim.proofs.Points.{held_not_given}
 use Rattle.fab_sim.proofs.Numbers.{ff_not_given, in_given, is_in_given, registers_picked}
-use Rattle.fab_sim.proofs.Loaded.{IsHolding, stored_not_strobe, stored_not_word, strobe_not_word}
+use Rattle.fab_sim.proofs.Loaded.{IsHolding, stored_not_strobe, stored_no_data, strobe_no_data}
 
--- one of the word's points, or none
-word_or_not : (first number : ℕ) → ((bit : ℕ) × (bit < 32) × (first + bit ≡ number)) ⊎ ((number < first) ⊎ (first + 32 ≤ number))
-word_or_not first number =
+-- one of the points of WriteData, or none
+data_or_not : (first width number : ℕ) → ((bit : ℕ) × (bit < width) × (first + bit ≡ number)) ⊎ ((number < first) ⊎ (first + width ≤ number))
+data_or_not first width number =
     elim (cases_lt number first) [
       | inl before ↦ inr (inl before)
-      | inr behind ↦ elim (cases_lt number (first + 32)) [
+      | inr behind ↦ elim (cases_lt number (first + width)) [
         | inl inside ↦ inl (number - first, omega (arith, behind, inside), omega (arith, behind))
         | inr after ↦ inr (inr after)
       ]
@@ -88,7 +89,7 @@ module _ (text : List PlainModule) (state : PlainState) (machine : Machine) (new
             let mark = marked_so number p is in
             set.others number unnamed (stored_not_strobe text machine.network new.of.network machine.points.stream new.of.stands.has new.of.stands.stream
             number p d is driven holds)
-            (stored_not_word text machine.network new.of.network machine.points.stream new.of.stands.has new.of.stands.stream number p d is driven holds)
+            (stored_no_data text machine.network new.of.network machine.points.stream new.of.stands.has new.of.stands.stream number p d is driven holds)
             ∙ held_before number p d is driven holds mark.0 mark.1 ∙ sym none.1)
       ]
 
@@ -99,13 +100,13 @@ module _ (text : List PlainModule) (state : PlainState) (machine : Machine) (new
         ffs = λ named. ff_not_given text machine.network new.of.network state
             machine.points new.of.stands number named e;
       } in
-      elim (word_or_not machine.points.stream.data_word number) [
-        | inl bit ↦ subst (λ (n : ℕ). IsUnnamed machine.points n → given n ≡ no) bit.2 (set.word bit.0 bit.1) unnamed
-        | inr not_word ↦ elim (same_or_not number machine.points.stream.strobe) [
+      elim (data_or_not (first_data machine.points.stream.carrier) (data_width machine.points.stream.carrier) number) [
+        | inl bit ↦ subst (λ (n : ℕ). IsUnnamed machine.points n → given n ≡ no) bit.2 (set.carrier bit.0 bit.1) unnamed
+        | inr no_data ↦ elim (same_or_not number machine.points.stream.strobe) [
           | inl strobe ↦ subst (λ (n : ℕ). IsUnnamed machine.points n → given n ≡ no) (sym strobe)
-              (λ apart. set.strobe apart (strobe_not_word text machine.network new.of.network machine.points.stream new.of.stands.has new.of.stands.stream))
+              (λ apart. set.strobe apart (strobe_no_data text machine.network new.of.network machine.points.stream new.of.stands.has new.of.stands.stream))
               unnamed
-          | inr other ↦ set.others number unnamed other not_word ∙ holding.low number e other not_word
+          | inr other ↦ set.others number unnamed other no_data ∙ holding.low number e other no_data
         ]
       ]
 

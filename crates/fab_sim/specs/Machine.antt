@@ -15,7 +15,7 @@ use Rattle.fab_wiring.specs.Clocks.{IsClockAt}
 use Rattle.fab_ordering_laws.specs.fab_simulation_laws_Simulation.{with_registers}
 use Rattle.fab_phases.specs.Words.{IsLoadingAt}
 use Rattle.fab_phases.specs.Cycles.{IsIn, IsRunningAt}
-use Rattle.fab_state_points.specs.Standing.{StandsAt}
+use Rattle.fab_state_points.specs.Standing.{StandsAt, data_width, first_data}
 use Rattle.fab_sim.specs.Once.{StandsOnce}
 use Rattle.fab_sim.specs.Making.{AreLoadingPoints, AreLoads, IsGivenFirst, IsNetworkOf}
 use Rattle.fab_sim.specs.declared.machine.Machine.{Machine}
@@ -36,8 +36,9 @@ pub record IsNew (text : List PlainModule) (state : PlainState) (machine : Machi
   pub of : IsMachineOf text state machine
   pub loads : List Bool
   pub are : AreLoads text loads
-  pub loading : IsLoadingAt machine.network machine.loading loads machine.points.stream.data_word machine.demand machine.given.items
-  pub first : IsGivenFirst (length (points text)) machine.points.stream.strobe machine.points.stream.data_word (kept_tern machine.given.items)
+  pub loading : IsLoadingAt machine.network machine.loading loads (first_data machine.points.stream.carrier) (data_width machine.points.stream.carrier) machine.demand
+      machine.given.items
+  pub first : IsGivenFirst (length (points text)) machine.points.stream (kept_tern machine.given.items)
 
 -- Words are loaded, and flip-flops and latches hold this, as far as the outputs to come depend on it.
 pub record IsAt (text : List PlainModule) (state : PlainState) (machine : Machine) (held : Terns) : Type 0 where

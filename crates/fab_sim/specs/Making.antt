@@ -12,6 +12,9 @@ use Rattle.fab_compiled.specs.Leading.{PointTerns}
 use Rattle.fab_network.specs.declared.network.Network.{Network}
 use Rattle.fab_network.specs.Network.{AreFit}
 use Rattle.fab_wiring.specs.Wiring.{AreDrives}
+use Rattle.fab_state_points.specs.Standing.{data_width, first_data}
+use Rattle.fab_state_points.specs.declared.points.DataPoints.{DataPoints}
+use Rattle.fab_state_points.specs.declared.points.Stream.{Stream}
 
 -- A network is that of a sound text.
 pub record IsNetworkOf (text : List PlainModule) (network : Network) : Type 0 where
@@ -36,13 +39,12 @@ pub record AreLoadingPoints (text : List PlainModule) (loads : List Bool) : Type
   pub long : length loads ≡ length (points text)
   pub marked : (number : ℕ) (p : Point) → IsPoint text number p → (slice_get loads number ≡ Some true) ↔ IsLoading text p
 
--- What is given at first: WriteStrobe is 1, the inputs of a word are open, and all else is 0.
-pub record IsGivenFirst (count strobe first : ℕ) (given : PointTerns) : Type 0 where
-  pub strobe_is : (strobe < first) ⊎ (first + 32 ≤ strobe) → given strobe ≡ yes
-  pub word : (bit : ℕ) → bit < 32 → given (first + bit) ≡ unknown
-  pub others : (number : ℕ) → number < count → number ≢ strobe → (number < first) ⊎ (first + 32 ≤ number) → given number ≡ no
+-- none of the points of WriteData
+abbrev pub IsNoData : DataPoints → (number : ℕ) → Type 0
+IsNoData carrier number = (number < first_data carrier) ⊎ (first_data carrier + data_width carrier ≤ number)
 
--- the inputs of a word are open, and all other points have what they had
-pub record IsWordOpened (first : ℕ) (old new : PointTerns) : Type 0 where
-  pub word : (bit : ℕ) → bit < 32 → new (first + bit) ≡ unknown
-  pub others : (number : ℕ) → (number < first) ⊎ (first + 32 ≤ number) → new number ≡ old number
+-- What is given at first: WriteStrobe is 1, WriteData is open, and all else is 0.
+pub record IsGivenFirst (count : ℕ) (stream : Stream) (given : PointTerns) : Type 0 where
+  pub strobe_is : IsNoData stream.carrier stream.strobe → given stream.strobe ≡ yes
+  pub carrier : (bit : ℕ) → bit < data_width stream.carrier → given (first_data stream.carrier + bit) ≡ unknown
+  pub others : (number : ℕ) → number < count → number ≢ stream.strobe → IsNoData stream.carrier number → given number ≡ no

@@ -12,7 +12,7 @@ ghost use Rattle.fab_ordering_laws.specs.fab_simulation_laws_Simulation.{IsCycle
 ghost use Rattle.fab_sim.specs.Once.{StandsOnce};
 
 use crate::making::{clock_of, machine_of, values_of};
-use crate::starting::set_out;
+use crate::starting::{load_stream, set_out};
 use fab_base::{Fault, Name};
 use fab_demand::Demand;
 use fab_equations::Equations;
@@ -20,7 +20,7 @@ use fab_load_points::{loading_points, registers_among};
 use fab_meaning::laws::points_of_sound_texts_have_one_driver;
 use fab_network::Network;
 use fab_ordering_laws::loading_is_known;
-use fab_phases::{Loading, ask_for_run, cycle, load_words};
+use fab_phases::{Loading, ask_for_run, cycle};
 use fab_solutions_laws::least_solutions;
 use fab_state::State;
 use fab_state_points::{StatePoints, state_points};
@@ -54,9 +54,9 @@ impl Machine {
 
     /// The machine of a text and a state, to which no word has been loaded.
     ///
-    /// It is `Malformed` with `no port` at line 1 where the top lacks an input `CLK`, `UserCLK` or `WriteStrobe` of one bit, or an input `WriteData` of 32
-    /// bits. Otherwise the first line of the state is refused whose port or flip-flop the text does not have, with `no port` or `no register`. Lines are
-    /// counted as the state is printed, where the first is the header; so they are the entries of `entry_line`.
+    /// It is `Malformed` with `no port` at line 1 where the top lacks an input `CLK`, `UserCLK` or `WriteStrobe` of one bit, or an input `WriteData` of one
+    /// bit, declared without a range, or of 32. Otherwise the first line of the state is refused whose port or flip-flop the text does not have, with
+    /// `no port` or `no register`. Lines are counted as the state is printed, where the first is the header; so they are the entries of `entry_line`.
     pub fn new(
         alloc: Global,
         file: &Name,
@@ -95,10 +95,10 @@ impl Machine {
         numbered_solutions();
         numbered_kept();
         loading_is_known();
-        load_words(
+        load_stream(
             &self.network,
             &self.loading,
-            self.points.stream.data_word,
+            self.points.stream.carrier,
             words,
             &mut self.demand,
             &mut self.given,

@@ -8,10 +8,12 @@ ghost use Rattle.fab_network.specs.Network.{AreFit};
 ghost use Rattle.fab_network.specs.Passes.{kept_tern};
 ghost use Rattle.fab_network.specs.declared.network.Drive.TheVariants.{Given};
 ghost use Rattle.fab_wiring.specs.Clocks.{IsClockAt};
-ghost use Rattle.fab_sim.specs.Making.{IsGivenFirst, IsWordOpened};
+ghost use Rattle.fab_state_points.specs.Standing.{data_width, first_data};
+ghost use Rattle.fab_sim.specs.Making.{IsGivenFirst};
 ghost use Rattle.fab_sim.specs.inner.Made.{IsMadeOf};
 
 use crate::machine::Machine;
+use crate::starting::fill;
 use fab_base::Memory;
 use fab_demand::Demand;
 use fab_demand::laws::given_is_kept;
@@ -65,7 +67,7 @@ pub fn machine_of(
     requires fit { AreFit network.trees.items network.drives.items }
     requires registers { length registers.now ≡ count }
     requires strobe { points.stream.strobe < count }
-    requires word { (bit : ℕ) → bit < 32 → slice_get network.drives.items (points.stream.data_word + bit) ≡ Some Given }
+    requires carrier { (bit : ℕ) → bit < data_width points.stream.carrier → slice_get network.drives.items (first_data points.stream.carrier + bit) ≡ Some Given }
     ensures made { IfOk result (IsMadeOf network points registers.now) }
     ensures values { IfOk result (λ machine. machine.values ≡ values) }
     ensures loads { IfOk result (λ machine. machine.loads ≡ loads) }
@@ -87,25 +89,15 @@ pub fn machine_of(
     })
 }
 
-// What is given at first: WriteStrobe is 1, the inputs of a word are open, and all else is 0.
+// What is given at first: WriteStrobe is 1, WriteData is open, and all else is 0.
 fn given_of(alloc: Global, count: usize, stream: Stream) -> Result<Vec<Tern>, Memory>
     requires strobe { stream.strobe < count }
-    requires word { stream.data_word + 32 ≤ count }
+    requires carrier { first_data stream.carrier + data_width stream.carrier ≤ count }
     ensures long { IfOk result (λ given. length given.items ≡ count) }
-    ensures first { IfOk result (λ given. IsGivenFirst count stream.strobe stream.data_word (kept_tern given.items)) }
+    ensures first { IfOk result (λ given. IsGivenFirst count stream (kept_tern given.items)) }
 {
     let mut given = vec![in alloc; Tern::No; count]?;
     given[stream.strobe as usize] = Tern::Yes;
-    open_word(stream.data_word, &mut given);
+    fill(stream.carrier.first(), stream.carrier.width(), Tern::Open, &mut given);
     Ok(given)
-}
-
-// Opens the inputs of a word.
-fn open_word(first: u32, given: &mut [Tern])
-    requires { first + 32 ≤ length given.old }
-    ensures { IsWordOpened first (kept_tern given.old) (kept_tern given.new) }
-{
-    for bit in 0..32 {
-        given[first as usize + bit] = Tern::Open;
-    }
 }

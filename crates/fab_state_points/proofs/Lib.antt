@@ -1,2 +1,3 @@
 pub mod Found
+pub mod Streams
 pub mod Absent

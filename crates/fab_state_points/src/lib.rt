@@ -8,4 +8,4 @@ mod points;
 
 pub use entry::Entry;
 pub use finding::point_of;
-pub use points::{StatePoints, Stream, state_points};
+pub use points::{DataPoints, StatePoints, Stream, state_points};

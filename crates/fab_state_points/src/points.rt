@@ -5,7 +5,7 @@ ghost use Rattle.fab_base.specs.Reading.{fault_at, IsFaultOr};
 ghost use Rattle.fab_base.specs.declared.fault.Fault.TheVariants as faults;
 ghost use Rattle.fab_base.specs.declared.problem.Problem.TheVariants as problems;
 ghost use Rattle.fab_syntax.specs.Plain.{plain_text};
-ghost use Rattle.fab_state_points.specs.Standing.{AreAt, HasStream, IsFirstAbsent, IsFoundStream, IsRefusedState, StandsAt};
+ghost use Rattle.fab_state_points.specs.Standing.{AreAt, AreFoundData, HasStream, IsFirstAbsent, IsFoundStream, IsRefusedState, StandsAt};
 ghost use Rattle.fab_state_points.specs.Entries.{reason_of};
 
 use crate::entry::{Entry, in_entries, out_entries, register_entries};
@@ -16,13 +16,46 @@ use fab_state::State;
 use fab_syntax::Shape;
 use std::alloc::Global;
 
+/// The points of `WriteData`, which takes words whole or bit by bit.
+#[derive(Clone, Copy, Debug)]
+pub enum DataPoints {
+    /// Its one point.
+    Bit(u32),
+    /// The first of its 32 points.
+    Word(u32),
+}
+
+impl DataPoints {
+    ghost use Rattle.fab_state_points.specs.Standing.{data_width, first_data};
+
+    /// The first of them.
+    pub fn first(self) -> u32
+        ensures { result ≡ first_data self }
+    {
+        match self {
+            DataPoints::Bit(point) => point,
+            DataPoints::Word(first) => first,
+        }
+    }
+
+    /// How many there are.
+    pub fn width(self) -> u32
+        ensures { result ≡ data_width self }
+    {
+        match self {
+            DataPoints::Bit(_) => 1,
+            DataPoints::Word(_) => 32,
+        }
+    }
+}
+
 /// The inputs of the top that carry words.
 #[derive(Clone, Copy, Debug)]
 pub struct Stream {
     /// The point of `WriteStrobe`.
     pub strobe: u32,
-    /// The first of the 32 points of `WriteData`.
-    pub data_word: u32,
+    /// The points of `WriteData`.
+    pub carrier: DataPoints,
 }
 
 /// The points of the lines of a state, each in the place of its line.
@@ -44,8 +77,19 @@ fn stream_of(equations: &Equations) -> Option<Stream>
     top_input(equations, b"CLK", Shape::Scalar)?;
     top_input(equations, b"UserCLK", Shape::Scalar)?;
     let strobe = top_input(equations, b"WriteStrobe", Shape::Scalar)?;
-    let data_word = top_input(equations, b"WriteData", Shape::Vector(32))?;
-    Some(Stream { strobe, data_word })
+    let carrier = data_points(equations)?;
+    Some(Stream { strobe, carrier })
+}
+
+// The points of `WriteData`, if it has one bit or 32.
+fn data_points(equations: &Equations) -> Option<DataPoints>
+    ensures { AreFoundData (plain_text equations.now) result }
+{
+    if let Some(point) = top_input(equations, b"WriteData", Shape::Scalar) {
+        return Some(DataPoints::Bit(point));
+    }
+    let first = top_input(equations, b"WriteData", Shape::Vector(32))?;
+    Some(DataPoints::Word(first))
 }
 
 // Why a line is refused that has no point.
@@ -99,8 +143,8 @@ fn points_of(
 
 /// The points of the lines of a state in a text.
 ///
-/// `Malformed` with `no port` at line 1 comes where the top lacks an input `CLK`, `UserCLK` or `WriteStrobe` of one bit, or an input `WriteData` of 32
-/// bits. Otherwise the first line that has no point is refused, for `no port` or `no register`. Lines are counted as the state is printed, where
+/// `Malformed` with `no port` at line 1 comes where the top lacks an input `CLK`, `UserCLK` or `WriteStrobe` of one bit, or an input `WriteData` of one
+/// bit, declared without a range, or of 32. Otherwise the first line that has no point is refused, for `no port` or `no register`. Lines are counted as the state is printed, where
 /// the first is the header; so they are the entries of `entry_line`. Want of memory is also the answer where such a number does not fit.
 pub fn state_points(
     alloc: Global,

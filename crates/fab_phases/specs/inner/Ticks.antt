@@ -10,6 +10,7 @@ use Rattle.fab_network.specs.declared.network.Network.{Network}
 use Rattle.fab_network.specs.declared.network.Source.{Source}
 use Rattle.fab_network.specs.Network.{source_tern, IsFitSource}
 use Rattle.fab_network.specs.Passes.{kept_tern}
+use Rattle.fab_network.specs.Solved.{IsLeast}
 use Rattle.fab_demand.specs.Asked.{Asked, IsPossible}
 use Rattle.fab_demand.specs.Demand.{Shows}
 use Rattle.fab_phases.specs.Lists.{Each, HasOne}
@@ -101,3 +102,12 @@ abbrev pub LeavesRuns : (network : Network) → List Run → (demand : Asked) �
 LeavesRuns network runs demand old new =
     (tick : Tick network) → Shows network tick.asked demand tick.t → AreRuns network tick.asked tick.loads runs → AreOnWay network tick old →
     LeavesPoints network tick (IsInRuns runs) old new
+
+-- ---- the whole tick
+
+-- After a tick of the loader's clock all that loading sets has what the least solution leaves there.
+pub record IsLoadTick (network : Network) (loads : List Bool) (old new : PointTerns) : Type 0 where
+  pub t : PointTerns
+  pub least : IsLeast network.trees.items network.drives.items old t
+  pub loaded : (point : ℕ) → IsMarked loads point → IsLeft network Loader t point (new point)
+  pub others : (point : ℕ) → (IsMarked loads point → ⊥) → new point ≡ old point

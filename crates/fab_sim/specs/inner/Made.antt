@@ -3,6 +3,7 @@ use Rattle.std.specs.Prelude.{◌≡◌, Bool, List, length}
 use Rattle.fab_network.specs.declared.network.Network.{Network}
 use Rattle.fab_network.specs.Passes.{kept_tern}
 use Rattle.fab_phases.specs.Words.{IsLoadingAt}
+use Rattle.fab_state_points.specs.Standing.{data_width, first_data}
 use Rattle.fab_state_points.specs.declared.points.StatePoints.{StatePoints}
 use Rattle.fab_sim.specs.Making.{IsGivenFirst}
 use Rattle.fab_sim.specs.declared.machine.Machine.{Machine}
@@ -13,5 +14,5 @@ pub record IsMadeOf (network : Network) (state_points : StatePoints) (loads : Li
   pub points_are : machine.points ≡ state_points
   pub given : length machine.given.items ≡ length network.drives.items
   pub demand : length machine.demand.leads ≡ length network.drives.items
-  pub first : IsGivenFirst (length network.drives.items) state_points.stream.strobe state_points.stream.data_word (kept_tern machine.given.items)
-  pub loading : IsLoadingAt network machine.loading loads state_points.stream.data_word machine.demand machine.given.items
+  pub first : IsGivenFirst (length network.drives.items) state_points.stream (kept_tern machine.given.items)
+  pub loading : IsLoadingAt network machine.loading loads (first_data state_points.stream.carrier) (data_width state_points.stream.carrier) machine.demand machine.given.items

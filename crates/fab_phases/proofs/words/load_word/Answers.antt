@@ -1,12 +1,10 @@
-use Rattle.std.proofs.Common.{◌≡◌, ◌+◌, length, sym, ap, ◌∙◌, subst, arith, List}
+use Rattle.std.proofs.Common.{◌+◌, arith}
 use Rattle.std.proofs.lemmas.Option.{slice_get_within}
 use Rattle.fab_network.specs.declared.network.Drive.TheVariants.{Given}
-use Rattle.fab_phases.specs.inner.Ticks.{AreFitFlops, AreFitRuns, LeavesFlops, LeavesRuns}
-use Rattle.fab_phases.specs.declared.loading.LoadedFlop.{LoadedFlop}
-use Rattle.fab_phases.specs.declared.loading.Run.{Run}
-use Rattle.fab_phases.proofs.Running.{differs_none}
-use Rattle.fab_phases.proofs.Stepping.{word_loaded}
-use Rattle.fab_phases.proofs.Ticking.{flops_fit, runs_fit}
+use Rattle.fab_network.specs.Passes.{kept_tern}
+use Rattle.fab_phases.specs.Words.{word_bits}
+use Rattle.fab_phases.proofs.Offering.{word_long}
+use Rattle.fab_phases.proofs.Stepping.{step_of, still_loading}
 use Rattle.fab_phases.proofs.words.load_word.Goals as goal
 
 pub offer-requires : goal.offer-requires
@@ -15,45 +13,25 @@ offer-requires c =
     let last = slice_get_within c.args.network.now.drives.items (c.args.first + 31) Given (at.inputs 31 (omega arith)).0 in
     omega (arith, last)
 
-pub take_flops-requires-clause-points : goal.take_flops-requires-clause-points
-take_flops-requires-clause-points c = c.requires.points ∙ sym (ap length (c.settle.ensures.stays c.args.demand.now (differs_none c.args.demand.now)).leads)
-
-pub take_flops-requires-clause-given : goal.take_flops-requires-clause-given
-take_flops-requires-clause-given c =
-    let same : length c.settle.new.self.leads ≡ length c.args.demand.now.leads = ap length (c.settle.ensures.stays c.args.demand.now (differs_none c.args.demand.now)).leads in
-    omega arith
-
-pub take_flops-requires-clause-flops : goal.take_flops-requires-clause-flops
-take_flops-requires-clause-flops c =
-    let at = c.requires.loading.1 in
-    subst (AreFitFlops c.args.network.now) (sym c.deref.ensures.value) (flops_fit c.args.network.now at.asked c.requires.loading.0 c.args.loading.now at.gathered)
-
-pub take_runs-requires-clause-points : goal.take_runs-requires-clause-points
-take_runs-requires-clause-points c = c.requires.points ∙ sym (ap length (c.settle.ensures.stays c.args.demand.now (differs_none c.args.demand.now)).leads)
-
-pub take_runs-requires-clause-given : goal.take_runs-requires-clause-given
-take_runs-requires-clause-given c =
-    let same : length c.settle.new.self.leads ≡ length c.args.demand.now.leads = ap length (c.settle.ensures.stays c.args.demand.now (differs_none c.args.demand.now)).leads in
-    omega arith
-
-pub take_runs-requires-clause-runs : goal.take_runs-requires-clause-runs
-take_runs-requires-clause-runs c =
-    let at = c.requires.loading.1 in
-    subst (AreFitRuns c.args.network.now) (sym c.deref-2.ensures.value) (runs_fit c.args.network.now at.asked c.requires.loading.0 c.args.loading.now at.gathered)
-
-pub returns-clause-points : goal.returns-clause-points
-returns-clause-points c = ap length (c.settle.ensures.stays c.args.demand.now (differs_none c.args.demand.now)).leads
+pub tick-requires-clause-loading : goal.tick-requires-clause-loading
+tick-requires-clause-loading c =
+    let loads = c.requires.loading.0 in (
+      loads,
+      c.args.first,
+      32,
+      still_loading c.args.network.now c.args.loading.now loads c.args.first 32 (word_bits c.args.word) c.args.demand.now c.args.given.now c.offer.new.given
+          (word_long c.args.word) c.offer.ensures c.requires.loading.1,
+    )
 
 pub returns-clause-loading : goal.returns-clause-loading
 returns-clause-loading c loads at =
-    (word_loaded c.args.network.now c.args.loading.now loads c.args.first c.args.word c.args.demand.now c.settle.new.self c.args.given.now c.offer.new.given c.take_flops.new.given
-    c.take_runs.new.given c.requires.solvable at c.offer.ensures c.settle.ensures.stays c.settle.ensures.shows
-    (subst (λ (flops : List LoadedFlop). LeavesFlops c.args.network.now flops c.settle.new.self c.offer.new.given c.take_flops.new.given) c.deref.ensures.value c.take_flops.ensures)
-    (subst (λ (runs : List Run). LeavesRuns c.args.network.now runs c.settle.new.self c.take_flops.new.given c.take_runs.new.given) c.deref-2.ensures.value c.take_runs.ensures)).loading_at
+    c.tick.ensures.loading loads c.args.first 32
+    (still_loading c.args.network.now c.args.loading.now loads c.args.first 32 (word_bits c.args.word) c.args.demand.now c.args.given.now c.offer.new.given
+    (word_long c.args.word) c.offer.ensures at)
 
 pub returns-clause-step : goal.returns-clause-step
 returns-clause-step c loads at =
-    (word_loaded c.args.network.now c.args.loading.now loads c.args.first c.args.word c.args.demand.now c.settle.new.self c.args.given.now c.offer.new.given c.take_flops.new.given
-    c.take_runs.new.given c.requires.solvable at c.offer.ensures c.settle.ensures.stays c.settle.ensures.shows
-    (subst (λ (flops : List LoadedFlop). LeavesFlops c.args.network.now flops c.settle.new.self c.offer.new.given c.take_flops.new.given) c.deref.ensures.value c.take_flops.ensures)
-    (subst (λ (runs : List Run). LeavesRuns c.args.network.now runs c.settle.new.self c.take_flops.new.given c.take_runs.new.given) c.deref-2.ensures.value c.take_runs.ensures)).step
+    step_of c.args.network.now loads c.args.first (word_bits c.args.word) (kept_tern c.args.given.now) (kept_tern c.offer.new.given) (kept_tern c.tick.new.given) c.offer.ensures
+    (c.tick.ensures.ticks loads c.args.first 32
+    (still_loading c.args.network.now c.args.loading.now loads c.args.first 32 (word_bits c.args.word) c.args.demand.now c.args.given.now c.offer.new.given
+    (word_long c.args.word) c.offer.ensures at))

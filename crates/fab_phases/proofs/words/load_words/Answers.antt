@@ -1,8 +1,8 @@
-use Rattle.std.proofs.Common.{◌∙◌, List, ℕ, sym, subst, take, get_or}
+use Rattle.std.proofs.Common.{◌∙◌, Bool, List, ap, map, sym, subst, take, get_or}
 use Rattle.std.proofs.lemmas.List.{take_more}
 use Rattle.fab_network.specs.Passes.{kept_tern}
-use Rattle.fab_phases.specs.Words.{AreLoadSteps}
-use Rattle.fab_phases.proofs.Stepping.{steps_more}
+use Rattle.fab_phases.specs.Words.{AreLoadSteps, word_bits}
+use Rattle.fab_phases.proofs.Stepping.{steps_more, words_more}
 use Rattle.fab_phases.proofs.words.load_words.Goals as goal
 
 pub loop-word-preserved : goal.loop-word-preserved
@@ -12,8 +12,9 @@ loop-word-preserved c = record {
   steps = λ loads at.
       let words = c.args.words.now in
       let word = get_or words c.loop-word.word-index 0 in
-      subst (λ (ws : List ℕ). AreLoadSteps c.args.network.now loads c.args.first ws (kept_tern c.args.given.now) (kept_tern c.load_word.new.given))
-      (sym (take_more words c.loop-word.word-index 0 c.loop-word-test.true))
-      (steps_more c.args.network.now loads c.args.first (take c.loop-word.word-index words) word (kept_tern c.args.given.now) (kept_tern c.loop-word.given)
+      let before = take c.loop-word.word-index words in
+      subst (λ (pieces : List (List Bool)). AreLoadSteps c.args.network.now loads c.args.first pieces (kept_tern c.args.given.now) (kept_tern c.load_word.new.given))
+      (sym (ap (map word_bits) (take_more words c.loop-word.word-index 0 c.loop-word-test.true) ∙ words_more before word))
+      (steps_more c.args.network.now loads c.args.first (map word_bits before) (word_bits word) (kept_tern c.args.given.now) (kept_tern c.loop-word.given)
       (kept_tern c.load_word.new.given) (c.loop-word.invariant.steps loads at) (c.load_word.ensures.step loads (c.loop-word.invariant.loading loads at)));
 }

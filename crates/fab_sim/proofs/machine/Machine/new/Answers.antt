@@ -5,7 +5,7 @@ use Rattle.fab_state.specs.Plain.{PlainState, Register}
 use Rattle.fab_wiring.specs.Clocks.{IsClockAt}
 use Rattle.fab_sim.specs.Making.{AreLoadingPoints, IsNetworkOf}
 use Rattle.fab_sim.specs.inner.Made.{IsMadeOf}
-use Rattle.fab_sim.proofs.Building.{register_loads, strobe_within, word_given}
+use Rattle.fab_sim.proofs.Building.{register_loads, strobe_within, data_given}
 use Rattle.fab_sim.proofs.Made.{made_new}
 use Rattle.fab_sim.proofs.machine.Machine.new.Goals as goal
 
@@ -15,11 +15,11 @@ machine_of-requires-clause-strobe c =
     let less = strobe_within (plain_text c.args.equations.now) c.args.state.now c.in_ok-points.points points.stands in
     omega (arith, less, c.points-count.ensures)
 
-pub machine_of-requires-clause-word : goal.machine_of-requires-clause-word
-machine_of-requires-clause-word c bit less =
+pub machine_of-requires-clause-carrier : goal.machine_of-requires-clause-carrier
+machine_of-requires-clause-carrier c bit less =
     let points = c.in_ok-points.ensures in
     let network = c.in_ok-network.ensures in
-    word_given (plain_text c.args.equations.now) c.in_ok-network.network c.args.state.now c.in_ok-points.points network.drives points.stands bit less
+    data_given (plain_text c.args.equations.now) c.in_ok-network.network c.args.state.now c.in_ok-points.points network.drives points.stands bit less
 
 pub returns-clause-made : goal.returns-clause-made
 returns-clause-made c =

@@ -1,0 +1,13 @@
+use Rattle.std.proofs.Common.{◌≡◌, Bool, List, length, take}
+use Rattle.fab_network.specs.Passes.{kept_tern}
+use Rattle.fab_phases.specs.Words.{AreLoadSteps, IsLoadingAt}
+use Rattle.fab_phases.proofs.Stepping.{all_bits}
+use Rattle.fab_phases.proofs.words.load_bits.Given as goal
+
+abbrev pub invariant-loop-word : goal.invariant-loop-word
+invariant-loop-word l = record {
+  points : length l.demand.leads ≡ length l.fn.demand.leads;
+  loading : (loads : List Bool) → IsLoadingAt l.network l.loading loads l.point 1 l.fn.demand l.fn.given → IsLoadingAt l.network l.loading loads l.point 1 l.demand l.given;
+  steps : (loads : List Bool) → IsLoadingAt l.network l.loading loads l.point 1 l.fn.demand l.fn.given →
+      AreLoadSteps l.network loads l.point (all_bits (take l.word-index l.words)) (kept_tern l.fn.given) (kept_tern l.given);
+}
