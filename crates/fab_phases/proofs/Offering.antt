@@ -109,7 +109,7 @@ digit_at (suc width) n zero few = ap (λ k. nat_eq (k % 2) 1) (sym (div-one n))
 digit_at (suc width) n (suc i) few =
     digit_at width (n / 2) i (omega (arith, few)) ∙ ap (λ k. nat_eq (k % 2) 1) (shr-shr n 1 i ∙ ap (λ k. n / 2 ^ k) (one_more i))
 
-word_digit : (word i : ℕ) → i < 32 → bit_at (word_bits word) i ≡ nat_eq (word / 2 ^ i % 2) 1
+pub word_digit : (word i : ℕ) → i < 32 → bit_at (word_bits word) i ≡ nat_eq (word / 2 ^ i % 2) 1
 unfolding word_bits
 word_digit word i few = digit_at 32 word i few
 

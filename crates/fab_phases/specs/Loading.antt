@@ -1,8 +1,9 @@
 -- What loading sets, by numbers: flip-flops, and latches in runs whose gates open together.
-use Rattle.std.specs.Prelude.{◌≡◌, ℕ, ◌<◌, Bool, List, Some, length, slice_get}
+use Rattle.std.specs.Prelude.{◌≡◌, ℕ, zero, suc, ◌<◌, Bool, List, [], Some, length, slice_get}
+use Rattle.std.specs.Option.{ForSome, option_map_or}
 use Rattle.fab_compiled.specs.Leading.{PointTerns, IsMarked}
 use Rattle.fab_network.specs.declared.network.Clock.TheVariants.{Loader}
-use Rattle.fab_network.specs.declared.network.Drive.TheVariants.{Flop, Hold}
+use Rattle.fab_network.specs.declared.network.Drive.TheVariants.{Flop, Given, Hold}
 use Rattle.fab_network.specs.declared.network.Network.{Network}
 use Rattle.fab_network.specs.declared.network.Source.{Source}
 use Rattle.fab_network.specs.Network.{source_tern, IsFitSource}
@@ -69,6 +70,36 @@ abbrev pub HasLatches : Network → (loads : List Bool) → (count : ℕ) → Li
 HasLatches network loads count runs =
     (point : ℕ) (gate latched : Source) → point < count → IsMarked loads point → slice_get network.drives.items point ≡ Some (Hold gate latched) → IsInRuns runs point
 
+-- ---- a chain
+
+-- the point of the flip-flop at a place
+abbrev pub point_at : List LoadedFlop → (place : ℕ) → ℕ
+point_at flops place = option_map_or (λ (flop : LoadedFlop). flop.point) (slice_get flops place) 0
+
+-- the point before a place: that of the flip-flop before it, and before the first one this
+abbrev pub before_at : (source : ℕ) → List LoadedFlop → (place : ℕ) → ℕ
+before_at source flops zero = source
+before_at source flops (suc place) = point_at flops place
+
+-- what a flip-flop takes is what a point has
+abbrev pub Takes : Network → Asked → (next : Source) → (before : ℕ) → Type 0
+Takes network asked next before = (t : PointTerns) → IsPossible asked t → source_tern network.trees.items t next ≡ t before
+
+-- the points of flip-flops rise
+abbrev pub Rises : List LoadedFlop → Type 0
+Rises flops = (place : ℕ) (flop next : LoadedFlop) → slice_get flops place ≡ Some flop → slice_get flops (suc place) ≡ Some next → flop.point < next.point
+
+-- Each flip-flop takes what the one before it has, and the first what this point has.
+pub record IsInChain (network : Network) (asked : Asked) (source : ℕ) (flops : List LoadedFlop) : Type 0 where
+  pub takes : (place : ℕ) (flop : LoadedFlop) → slice_get flops place ≡ Some flop → Takes network asked flop.next (before_at source flops place)
+  pub rises : Rises flops
+
+-- All that loading sets is one chain behind an input.
+pub record IsChain (network : Network) (asked : Asked) (source : ℕ) (flops : List LoadedFlop) (runs : List Run) : Type 0 where
+  pub input : slice_get network.drives.items source ≡ Some Given
+  pub alone : runs ≡ []
+  pub chain : IsInChain network asked source flops
+
 -- ---- both
 
 pub record AreLoading (network : Network) (asked : Asked) (loads : List Bool) (loading : Loading) : Type 0 where
@@ -76,3 +107,4 @@ pub record AreLoading (network : Network) (asked : Asked) (loads : List Bool) (l
   pub has_flops : HasFlops network loads (length network.drives.items) loading.flops.items
   pub runs : AreRuns network asked loads loading.runs.items
   pub has_latches : HasLatches network loads (length network.drives.items) loading.runs.items
+  pub chain : ForSome loading.chain (λ source. IsChain network asked source loading.flops.items loading.runs.items)

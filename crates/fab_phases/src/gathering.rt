@@ -9,6 +9,7 @@ ghost use Rattle.fab_demand.specs.Demand.{IsAsked};
 ghost use Rattle.fab_phases.specs.Loading.{AreFlops, AreLoading, AreRuns, GoTogether, HasFlops, IsReady, IsRun};
 ghost use Rattle.fab_phases.specs.inner.Gathering.{AreGated, AreInRuns, HasGated, IsFlopAt, IsGated, IsGatedAt, IsLoaderFlop, IsTogetherUpTo};
 
+use crate::chain::chain_source;
 use crate::loading::{Latch, LoadedFlop, Loading, Run};
 use fab_base::Memory;
 use fab_compiled::{Lead, Tree, View};
@@ -47,7 +48,8 @@ pub fn loading_of(
     let mut latches = latches_of(alloc, network, loads, given, demand)?;
     bring_together(network, demand, &mut latches)?;
     let runs = runs_of(alloc, network, demand, &latches)?;
-    Ok(Loading { flops, runs })
+    let chain = chain_source(network, demand, &flops, &runs);
+    Ok(Loading { flops, runs, chain })
 }
 
 // ---- flip-flops

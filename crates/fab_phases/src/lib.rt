@@ -1,6 +1,7 @@
 //! The two phases of a simulation by numbers: words are loaded one by one, and then the design runs cycle by cycle.
 #![tactic(auto)]
 
+mod chain;
 mod cycles;
 mod gathering;
 mod loading;

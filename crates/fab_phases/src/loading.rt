@@ -24,8 +24,11 @@ pub struct Run {
 }
 
 /// The flip-flops and the latches that loading sets. A word opens the gates of few latches, so that most runs are passed over.
+///
+/// `chain` is the input from which a chain goes through all flip-flops as they stand here, if there is one and no latch is set.
 #[derive(Drop)]
 pub struct Loading {
     pub flops: Vec<LoadedFlop>,
     pub runs: Vec<Run>,
+    pub chain: Option<u32>,
 }

@@ -10,6 +10,7 @@ ghost use Rattle.fab_phases.specs.Loading.{IsSolvable};
 ghost use Rattle.fab_phases.specs.Words.{AreLoadSteps, IsLoadingAt, IsLoadStep, IsOffered, word_bits};
 ghost use Rattle.fab_phases.specs.inner.Ticks.{AreFitFlops, AreFitLatches, AreFitRuns, IsFitRun, IsLoadTick, LeavesFlops, LeavesLatches, LeavesRun, LeavesRuns};
 
+use crate::chain::move_chain;
 use crate::loading::{Latch, LoadedFlop, Loading, Run};
 use fab_compiled::through;
 use fab_demand::Demand;
@@ -63,7 +64,8 @@ fn load_word(
     tick(network, loading, demand, given);
 }
 
-/// Loads words bit by bit, each with its last bit first. An input of one point takes the bits.
+/// Loads words bit by bit, each with its last bit first. An input of one point takes the bits. A chain behind it is moved by all bits at once,
+/// since by a tick for each bit the time would grow with the square of its length.
 pub fn load_bits(
     network: &Network,
     loading: &Loading,
@@ -81,6 +83,10 @@ pub fn load_bits(
     ensures steps { (loads : List Bool) → IsLoadingAt network.now loading.now loads point 1 demand.old given.old →
         AreLoadSteps network.now loads point (flat_map single_bits (map word_bits words.now)) (kept_tern given.old) (kept_tern given.new) }
 {
+    if loading.chain == Some(point) {
+        move_chain(&loading.flops, point, words, given);
+        return;
+    }
     for word in words {
         load_word_bits(network, loading, point, *word, demand, given);
     }

@@ -1,6 +1,6 @@
 -- Each command is ready, or it has a first refusal: the commands that read no netlist.
 use Rattle.std.proofs.Common.{◌≡◌, ◌<◌, ◌≤◌, ◌⊎◌, ℕ, Bool, true, false, List, All, Option, Some, None, Result, Ok, Err, refl, subst, inl, inr}
-use Rattle.std.specs.Prelude.{decimal, length, nat_lt, if◌then◌else◌}
+use Rattle.std.specs.Prelude.{codes, decimal, length, nat_lt, if◌then◌else◌}
 use Rattle.std.specs.Str.{is_utf8}
 use Rattle.std.specs.Str.Lines.{lines}
 use Rattle.std.proofs.lemmas.Bool.{cases_lt}
@@ -15,6 +15,8 @@ use Rattle.fab_files.specs.Files.{given, needed, handed_out}
 use Rattle.fab_files.specs.Stages.{MeetsLast}
 use Rattle.fab_model.specs.declared.mode.Mode.TheVariants as modes
 use Rattle.fab_model.specs.Grid.{PlainFabric}
+use Rattle.fab_model.specs.declared.mode.Mode.{Mode}
+use Rattle.fab_model.specs.declared.mode.Mode.TheVariants as modes
 use Rattle.fab_fabric.specs.Fabric.{AreTiles, IsFabric}
 use Rattle.fab_lines.specs.Counts.{last_line}
 use Rattle.fab_texts.specs.Rows.{rows_of}
@@ -29,6 +31,7 @@ use Rattle.fab_read.specs.Fabrics.{SpellsFabric, MeetsFabric}
 use Rattle.fab_designs.specs.Implementations.{SpellsImplementation, RefusesImplementation, ReadsImplementation, MeetsImplementation}
 use Rattle.fab_spelled_fabrics_laws.specs.Laws.{SpelledFabricsAreFabrics, SpelledFabricsHaveTiles}
 use Rattle.fab_flow.specs.Generating.{text_length, most_text_bytes, IsTooLong, MeetsGenerate, IsReadyToGenerate}
+use Rattle.fab_flow.specs.Serial.{serial_length, RefusesSerial, chain, long, MeetsSerial, IsReadyForSerial}
 use Rattle.fab_flow.specs.Bits.{BitsFiles, ReadsFeatures, MeetsFeatures, RefusesBits, illegal, MeetsBits, IsReadyForBits}
 use Rattle.fab_flow.specs.BitFeatures.{FeaturesFiles, SpellsBits, RefusesBitstream, cut, wrong, MeetsBitstream, MeetsBitFeatures, IsReadyForFeatures}
 use Rattle.fab_flow.specs.Partial.{PartialFiles, HasFrames, RefusesChain, RefusesPartial, too_far, in_use, MeetsContent, MeetsRunning, MeetsPartial, IsReadyToExchange}
@@ -93,6 +96,27 @@ module _ (files : Map) where
         | inl short ↦ inl (record { fabric = fabric; spelled = spelled; short = short })
         | inr long ↦ inr long
       ]))
+
+  -- ---- serial
+
+  by_mode : (mode : Mode) → (mode ≡ modes.Frames) ⊎ (mode ≡ modes.Chain)
+  by_mode modes.Frames = inl refl
+  by_mode modes.Chain = inr refl
+
+  serial_content : (name : List ℕ) (fabric : PlainFabric) → SpellsFabric files name fabric →
+      IsReadyForSerial files name ⊎ ((fault : Fault) × RefusesSerial name fabric fault)
+  serial_content name fabric spelled = elim (by_mode fabric.mode) [
+    | inr is ↦ inr (fault_at name 0 (problems.Unsupported (codes "serial FlipFlopChain")), chain is)
+    | inl is ↦
+        elim (cases_lt most_text_bytes (serial_length fabric)) [
+          | inr short ↦ inl (record { fabric = fabric; spelled = spelled; frames = is; short = short })
+          | inl much ↦ inr (fault_at name 0 (problems.Limit quantities.TextBytes (serial_length fabric) most_text_bytes), long is much)
+        ]
+  ]
+
+  pub serial_judged : (name : List ℕ) → IsReadyOrRefused (IsReadyForSerial files name) (MeetsSerial files name)
+  serial_judged name = in_turn (SpellsFabric files name) (MeetsFabric files name) _ (fabric_judged files name)
+      (λ fabric spelled. at_last (RefusesSerial name fabric) (serial_content name fabric spelled))
 
   -- ---- bits
 

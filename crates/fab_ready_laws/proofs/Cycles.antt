@@ -8,7 +8,7 @@ use Rattle.fab_netlist.specs.WellMade.{times}
 use Rattle.fab_netlist.specs.Cycles.{Reads, ReadsOn, IsOneCycle, HasNoCycle, ComesFirst, IsNamed, NamesCycle, cycle_words}
 use Rattle.fab_netlist.proofs.Ranks.{below_in, places_below}
 use Rattle.fab_netlist.proofs.Rounds.{named_from}
-use Rattle.fab_ready_laws.proofs.Decisions.{IsDecided, behind, both, in_front, listed_decided, some_decided}
+use Rattle.fab_ready_laws.proofs.Decisions.{IsDecided, behind, both, decided_as, in_front, listed_decided, some_decided}
 use Rattle.fab_ready_laws.proofs.Graphs.{Apart, On, once_each, walk_decided}
 use Rattle.fab_ready_laws.proofs.Leasts.{below_decided}
 
@@ -81,8 +81,9 @@ module _ (netlist : PlainNetlist) where
 
   reads_decided : (a b : ℕ) → IsDecided (Reads netlist a b)
   reads_decided a b =
-      both (below_decided a (length netlist.covers))
-      (both (below_decided b (length netlist.covers)) (listed_decided (λ x y. cases_eq x y) (cover_at netlist a).inputs (cover_at netlist b).output))
+      decided_as (λ parts. (parts.0, parts.1.0, parts.1.1)) (λ reads. (reads.0, (reads.1, reads.2)))
+      (both (below_decided a (length netlist.covers))
+      (both (below_decided b (length netlist.covers)) (listed_decided (λ x y. cases_eq x y) (cover_at netlist a).inputs (cover_at netlist b).output)))
 
   reads_on : (first : ℕ) (rest : List ℕ) (end : ℕ) → On (Reads netlist) first rest end → ReadsOn netlist first rest end
   reads_on first [] end on = on

@@ -14,13 +14,13 @@ use Rattle.fab_flow.specs.Mapping.{mapping_files}
 use Rattle.fab_flow.specs.Partial.{partial_files}
 use Rattle.fab_simulate_command.specs.Simulating.{simulation_files}
 use Rattle.fab_words.specs.declared.job.Job.{Job}
-use Rattle.fab_words.specs.declared.job.Job.TheVariants.{Matrix, Generate, Assemble, Map as Mapping, Flow, Bits, Features, Simulate, Partial, Timing, Sample}
+use Rattle.fab_words.specs.declared.job.Job.TheVariants.{Matrix, Generate, Assemble, Map as Mapping, Flow, Bits, Features, Simulate, Partial, Timing, Serial, Sample}
 use Rattle.fab_commands.specs.Running.{IsReady, Meets}
 use Rattle.fab_judged_laws.specs.Judged.{HoldBytes, IsReadyOrRefused}
 use Rattle.fab_judged_laws.proofs.ListFiles.{pairs_judged}
 use Rattle.fab_ready_laws.specs.Implementations.{ImplementationsAreJudged}
 use Rattle.fab_ready_laws.proofs.Blifs.{netlists_judged}
-use Rattle.fab_ready_laws.proofs.Commands.{bit_features_judged, bits_judged, generate_judged, partial_judged}
+use Rattle.fab_ready_laws.proofs.Commands.{bit_features_judged, bits_judged, generate_judged, partial_judged, serial_judged}
 use Rattle.fab_ready_laws.proofs.Designs.{assembly_judged, flow_judged, map_judged}
 use Rattle.fab_ready_laws.proofs.Simulations.{simulate_judged}
 
@@ -39,4 +39,5 @@ module _ (fabrics : SpelledFabricsAreFabrics) (tiles : SpelledFabricsHaveTiles) 
   job_judged (Partial fabric implementation fasm first last out) = partial_judged files tiles (partial_files fabric implementation fasm first last out)
   job_judged (Timing fabric blif pcf implementation out) =
       assembly_judged files (netlists_judged files) sound packs implementations (assembly_files fabric blif pcf implementation out)
+  job_judged (Serial fabric out) = serial_judged files fabric
   job_judged (Sample size seed) = inl tt

@@ -12,6 +12,7 @@ ghost use Rattle.fab_flow.specs.Generating.{IsReadyToGenerate, MeetsGenerate};
 ghost use Rattle.fab_flow.specs.Mapping.{IsReadyToMap, MappingFiles, MeetsMapping};
 ghost use Rattle.fab_flow.specs.Matrix.{IsReadyForMatrix};
 ghost use Rattle.fab_flow.specs.Partial.{IsReadyToExchange, MeetsPartial, PartialFiles};
+ghost use Rattle.fab_flow.specs.Serial.{IsReadyForSerial, MeetsSerial};
 ghost use Rattle.fab_judged_laws.specs.Judged.{HoldBytes, IsReadyOrRefused};
 ghost use Rattle.fab_list_files.specs.Sides.{MeetsPairs};
 ghost use Rattle.fab_ready_laws.specs.Formats.{BlifsAreJudged, ConstraintsAreJudged, DevicesAreJudged, ImplementationTextsAreJudged, NetlistTextsAreJudged, StatesAreJudged, StimuliAreJudged};
@@ -74,6 +75,11 @@ pub fn matrix_is_ready_or_refused()
 /// `generate` is ready, or the fabric is refused, or its text is too long.
 pub fn generate_is_ready_or_refused()
     ensures { (files : Map) (name : List ℕ) → IsReadyOrRefused (IsReadyToGenerate files name) (MeetsGenerate files name) }
+{}
+
+/// `serial` is ready, or the fabric file is refused, or the fabric's configuration is a chain, or its text is too long.
+pub fn serial_is_ready_or_refused()
+    ensures { (files : Map) (name : List ℕ) → IsReadyOrRefused (IsReadyForSerial files name) (MeetsSerial files name) }
 {}
 
 /// `bits` is ready, or one of its files is refused, or a feature.

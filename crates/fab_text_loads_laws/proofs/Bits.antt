@@ -1,10 +1,10 @@
 -- All named points are within, where those of the top and of the loader are, and in each tile those by which its bits come and which keep them.
-use Rattle.std.proofs.Common.{◌≡◌, ℕ, ◌<◌, Bool, true, false, ◌||◌, List, [], ◌∷◌, ◌++◌, map, reverse, refl, sym, ap, ◌∙◌, subst, inl, inr, arith, Some, All, Contains}
+use Rattle.std.proofs.Common.{◌≡◌, ℕ, ◌<◌, Bool, true, false, List, [], ◌∷◌, ◌++◌, map, reverse, sym, ap, subst, inl, inr, arith, Some, All, Contains}
 use Rattle.std.proofs.lemmas.Bool.{or_cases, false≢true}
 use Rattle.std.proofs.lemmas.List.Elements.{All-nil, All-cons, All-head, All-tail, All-append, All-map, All-contains}
 use Rattle.fab_syntax.specs.declared.tree.Shape.TheVariants.{Scalar}
 use Rattle.fab_syntax.specs.declared.tree.Port.{Port}
-use Rattle.fab_syntax.specs.Plain.{PlainExpr, PlainItem, PlainModule, variable, plain_exprs, reg, assign}
+use Rattle.fab_syntax.specs.Plain.{PlainExpr, PlainModule, variable, plain_exprs, reg, assign}
 use Rattle.fab_syntax.specs.Declarations.{is_input}
 use Rattle.fab_meaning.specs.Points.{Path, Point, point, module_at}
 use Rattle.fab_meaning.specs.Reads.{mentions, some_mentions, is_declared}

@@ -4,7 +4,7 @@ use Rattle.std.specs.List.{flat_map, enumerate_from}
 use Rattle.std.proofs.lemmas.List.Elements.{Contains-append_left, Contains-append_right}
 use Rattle.fab_syntax.specs.declared.tree.Shape.TheVariants.{Scalar}
 use Rattle.fab_syntax.specs.Plain.{PlainItem, PlainModule, variable, reg, wire}
-use Rattle.fab_meaning.specs.Points.{instance_named, instance_in, module_of, module_at}
+use Rattle.fab_meaning.specs.Points.{instance_in, module_of, module_at}
 use Rattle.fab_meaning.specs.Runs.{clock_name, user_clock_name, join_named, clock_of}
 use Rattle.fab_meaning.proofs.Clocks.{clock_below, clock_at_top}
 use Rattle.fab_drives_laws.specs.fab_model_mode_Mode.{Mode}

@@ -1,5 +1,5 @@
 -- The flip-flops that keep the bits of a text in a chain are closed: they lead to all named points, and read no others.
-use Rattle.std.proofs.Common.{◌≡◌, ℕ, zero, suc, ◌<◌, Bool, true, false, ◌&&◌, ◌||◌, List, [], ◌∷◌, map, refl, sym, ap, ◌∙◌, subst, inl, inr, arith, Some, All, Contains, nat_lt}
+use Rattle.std.proofs.Common.{◌≡◌, ℕ, zero, suc, ◌<◌, Bool, true, ◌&&◌, ◌||◌, List, [], ◌∷◌, map, refl, sym, ap, ◌∙◌, subst, inl, inr, arith, Some, All, nat_lt}
 use Rattle.std.specs.List.{list_any}
 use Rattle.std.specs.Str.{bytes_eq}
 use Rattle.std.specs.Cmp.Lexicographic.{pointwise_decides}
@@ -7,7 +7,7 @@ use Rattle.std.proofs.lemmas.Bool.{and_parts, or_cases, false≢true, cases_lt, 
 use Rattle.std.proofs.lemmas.Slice.Eq.{bytes_eq-Decides}
 use Rattle.std.proofs.lemmas.List.Elements.{All-head, All-tail, All-append, All-map, All-weaker}
 use Rattle.fab_syntax.specs.declared.tree.Port.{Port}
-use Rattle.fab_syntax.specs.Plain.{PlainExpr, PlainModule, variable, conditional}
+use Rattle.fab_syntax.specs.Plain.{PlainModule, variable, conditional}
 use Rattle.fab_syntax.specs.Declarations.{width_in}
 use Rattle.fab_meaning.specs.Points.{Path, Point, point, flop, Drives, module_at}
 use Rattle.fab_meaning.specs.Reads.{mentions, is_declared, same_path}
@@ -29,7 +29,7 @@ use Rattle.fab_drives_laws.specs.fab_fabric_text_defs_Places.{PlacedTile, placed
 use Rattle.fab_drives_laws.specs.fab_fabric_text_defs_Top.{tile_joins, top_module}
 use Rattle.fab_drives_laws.specs.fab_tile_drives_laws_Stands.{TileStands}
 use Rattle.fab_drives_laws.specs.Points.{place_path}
-use Rattle.fab_drives_laws.proofs.fab_tile_drives_laws_Driven.{width_of, declared_at}
+use Rattle.fab_drives_laws.proofs.fab_tile_drives_laws_Driven.{declared_at}
 use Rattle.fab_drives_laws.proofs.fab_tile_drives_laws_Endings.{all_counted}
 use Rattle.fab_drives_laws.proofs.fab_tile_drives_laws_Members.{contains_counted}
 use Rattle.fab_drives_laws.proofs.fab_tile_drives_laws_TileItems.{config_there}

@@ -1,5 +1,5 @@
 -- The flip-flops of CLK in a fabric's text are the registers of its loader, or in a chain those that keep the configuration bits.
-use Rattle.std.proofs.Common.{◌≡◌, ℕ, List, [], ◌∷◌, refl, sym, ap, ◌∙◌, subst, inl, inr, Option, Some, None, All, Contains}
+use Rattle.std.proofs.Common.{◌≡◌, ℕ, List, [], ◌∷◌, refl, sym, ap, ◌∙◌, subst, inl, inr, Option, Some, None, All, Contains, ◌<◌}
 use Rattle.std.specs.Str.{bytes_eq}
 use Rattle.std.proofs.lemmas.Bool.{cases_Bool}
 use Rattle.std.proofs.lemmas.Slice.Eq.{bytes_eq-Decides}
@@ -9,23 +9,27 @@ use Rattle.fab_syntax.specs.Declarations.{is_input_of}
 use Rattle.fab_meaning.specs.Points.{Path, Found, instance_in, module_at}
 use Rattle.fab_meaning.specs.Runs.{clock_name, user_clock_name, join_named, join_of, named_by, clock_of}
 use Rattle.fab_meaning.proofs.Clocks.{clock_at_top}
-use Rattle.fab_drives_laws.specs.fab_model_Tiles.{PlainTile}
+use Rattle.fab_drives_laws.specs.fab_model_mode_Mode_TheVariants as modes
+use Rattle.fab_drives_laws.specs.fab_model_Tiles.{PlainTile, tile_bits}
 use Rattle.fab_drives_laws.specs.fab_model_Grid.{PlainFabric, tile_at}
 use Rattle.fab_drives_laws.specs.fab_fabric_Names.{place_name}
 use Rattle.fab_drives_laws.specs.fab_fabric_Fabric.{IsFabric}
 use Rattle.fab_drives_laws.specs.fab_gen_tile_MatrixModule.{matrix_module}
-use Rattle.fab_drives_laws.specs.fab_gen_loader_Loader.{NextValues, loader_of}
+use Rattle.fab_drives_laws.specs.fab_gen_loader_Loader.{loader_of}
 use Rattle.fab_drives_laws.specs.fab_fabric_text_defs_Top.{top_module}
 use Rattle.fab_drives_laws.specs.Points.{place_path}
 use Rattle.fab_drives_laws.proofs.Apart.{told_apart}
 use Rattle.fab_drives_laws.proofs.Instances.{found_tile, tile_instance_found}
 use Rattle.fab_drives_laws.proofs.Places.{placed_tile}
-use Rattle.fab_text_loads_laws.specs.Points.{loader_path}
-use Rattle.fab_text_loads_laws.proofs.Loader.{HasLoader, register_names}
+use Rattle.fab_drives_laws.proofs.Texts.{HasFabric}
+use Rattle.fab_text_loads_laws.specs.Points.{loader_path, config_path}
+use Rattle.fab_text_loads_laws.proofs.Loader.{register_names}
 use Rattle.fab_drives_laws.specs.fab_gen_tile_ConfigModule.{config_module}
 use Rattle.fab_drives_laws.specs.fab_gen_tile_TileModule.{tile_module}
 use Rattle.fab_drives_laws.specs.fab_prim_Modules.{module_of_kind}
-use Rattle.fab_text_loads_laws.proofs.Parts.{flop_is, NoInstance, NoLatch, NoFlop, ByUserClock, IsTopPart, top_is, IsRegister, loader_is, IsLatchOf, config_is, matrix_is, kind_is, KeepsClock, IsTilePart, tile_is, IsPart, the_top, the_loader, a_tile, a_config, a_matrix, a_bel}
+use Rattle.fab_drives_laws.specs.fab_gen_tile_Names.{latch_name}
+use Rattle.fab_drives_laws.specs.fab_fabric_text_defs_Mode.{text_mode}
+use Rattle.fab_text_loads_laws.proofs.Parts.{flop_is, NoInstance, NoLatch, NoFlop, ByUserClock, IsTopPart, top_is, IsRegister, loader_is, IsLatchOf, config_is, matrix_is, kind_is, KeepsClock, IsTilePart, tile_is, IsPart, the_top, the_loader, a_tile, a_config, a_matrix, a_bel, IsFlopOf}
 
 -- ---- UserCLK stays UserCLK on the way up
 

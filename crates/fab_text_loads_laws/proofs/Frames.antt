@@ -1,5 +1,38 @@
 -- While no word is written, a configured text in frames holds what it holds.
-USES
+use Rattle.std.proofs.Common.{◌≡◌, ℕ, true, List, ap, ◌∙◌, Some, refl, sym, subst, All, Contains, ◌<◌, false, arith}
+use Rattle.std.proofs.lemmas.List.Elements.{All-contains}
+use Rattle.fab_syntax.specs.Plain.{PlainModule}
+use Rattle.fab_meaning.specs.Loading.{IsLoading}
+use Rattle.fab_meaning.specs.Points.{Path, Point, point}
+use Rattle.fab_meaning.specs.Reads.{is_declared}
+use Rattle.fab_meaning.specs.Runs.{clock_name, Ticks, Moment, IsRunOn}
+use Rattle.fab_meaning.specs.Settled.{Assignment, IsSettledOn}
+use Rattle.fab_drives_laws.specs.fab_model_mode_Mode_TheVariants as modes
+use Rattle.fab_drives_laws.specs.fab_fabric_Fabric.{IsFabric}
+use Rattle.fab_drives_laws.specs.fab_fabric_text_defs_Mode.{text_mode}
+use Rattle.fab_drives_laws.specs.fab_gen_loader_Loader.{NextValues, loader_of, state_name, strobe_register_name, machine_at}
+use Rattle.fab_drives_laws.specs.fab_gen_tile_ConfigModule.{config_module}
+use Rattle.fab_drives_laws.specs.fab_gen_tile_Names.{latch_name}
+use Rattle.fab_drives_laws.specs.fab_model_Drive.{PlainBits}
+use Rattle.fab_drives_laws.specs.fab_model_Grid.{PlainFabric, tile_at}
+use Rattle.fab_drives_laws.specs.fab_model_Tiles.{PlainTile}
+use Rattle.fab_drives_laws.proofs.fab_gen_loader_Widths.{state_width}
+use Rattle.fab_drives_laws.proofs.fab_tile_drives_laws_Driven.{width_of, declared_at}
+use Rattle.fab_drives_laws.proofs.fab_tile_drives_laws_Latches.{latch_width}
+use Rattle.fab_loading_laws.specs.Latches.{latch_shows}
+use Rattle.fab_loading_laws.specs.Streams.{TicksKeepMachines}
+use Rattle.fab_text_loads_laws.specs.Loads.{IsConfigured, IsQuiet}
+use Rattle.fab_text_loads_laws.specs.Points.{config_path, loader_path, in_loader}
+use Rattle.fab_text_loads_laws.proofs.Clocks.{IsOfClock, of_loader, of_bit}
+use Rattle.fab_text_loads_laws.proofs.Declared.{bit_below}
+use Rattle.fab_text_loads_laws.proofs.InMode.{not_both}
+use Rattle.fab_text_loads_laws.proofs.Loader.{HasLoader, register_names, strobe_register_width}
+use Rattle.fab_text_loads_laws.proofs.Named.{config_stands, named_are_loading}
+use Rattle.fab_text_loads_laws.proofs.Parts.{IsLatchOf, LoaderIs}
+use Rattle.fab_text_loads_laws.proofs.Runs.{HasLatch, has_latch, latch_loads, latch_now, latch_ticks, rests_in, loader_waits}
+use Rattle.fab_text_loads_laws.proofs.Settled.{latch_place, latch_point}
+use Rattle.fab_text_loads_laws.proofs.Stays.{all_stay, run_stays}
+use Rattle.fab_text_loads_laws.proofs.Ticks.{Stays, registers_stay}
 
 module _ (fabric : PlainFabric) (next : NextValues) (text : List PlainModule) (has : HasLoader fabric next text) (is : IsFabric fabric) (bits : PlainBits) where
   register_same : (held after : Assignment) → ((p : Point) → IsLoading text p → after p ≡ held p) → (name : List ℕ) (bit : ℕ) →

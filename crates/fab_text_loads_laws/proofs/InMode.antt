@@ -1,5 +1,5 @@
 -- What a fabric's text has of its top and of each tile, where its mode is known by another word.
-use Rattle.std.proofs.Common.{◌≡◌, ℕ, ◌<◌, refl, List, [], ◌∷◌, ◌++◌, map, sym, subst, arith, Some, Contains}
+use Rattle.std.proofs.Common.{◌≡◌, ℕ, ◌<◌, refl, List, ◌++◌, map, sym, subst, Some, Contains}
 use Rattle.std.specs.List.{flat_map, enumerate_from}
 use Rattle.std.proofs.lemmas.List.Elements.{Contains-append_left}
 use Rattle.fab_syntax.specs.Plain.{PlainJoin, PlainItem, PlainModule}

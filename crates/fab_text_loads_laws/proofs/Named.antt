@@ -1,47 +1,41 @@
 -- The named points of the text of a fabric in frames are loading points.
-use Rattle.std.proofs.Common.{◌≡◌, ℕ, ◌<◌, true, false, ◌||◌, List, [], ◌∷◌, ◌++◌, reverse, refl, sym, ap, ◌∙◌, subst, inl, inr, arith, Some, All, Contains, slice_index_or}
+use Rattle.std.proofs.Common.{◌≡◌, ℕ, ◌<◌, true, false, ◌||◌, List, [], ◌∷◌, ◌++◌, refl, sym, ◌∙◌, subst, inl, inr, arith, Some, All, Contains, slice_index_or, Bool}
 use Rattle.std.specs.Str.{bytes_eq}
 use Rattle.std.proofs.lemmas.Bool.{or_cases, false≢true}
-use Rattle.std.proofs.lemmas.List.Elements.{All-nil, All-cons, All-head, All-tail, All-append, All-contains, Contains-append_left, Contains-append_right}
-use Rattle.fab_syntax.specs.declared.tree.Shape.TheVariants.{Scalar}
+use Rattle.std.proofs.lemmas.List.Elements.{All-append, Contains-append_left, Contains-append_right}
+use Rattle.fab_syntax.specs.declared.tree.Shape.TheVariants.{Scalar, Vector}
 use Rattle.fab_syntax.specs.declared.tree.Port.{Port}
-use Rattle.fab_syntax.specs.Plain.{PlainExpr, PlainModule, variable, part, plain_exprs, reg, assign}
+use Rattle.fab_syntax.specs.Plain.{PlainModule, variable, part, reg, wire}
 use Rattle.fab_syntax.specs.Declarations.{is_input}
 use Rattle.fab_meaning.specs.Points.{Path, Point, point, hold, module_at}
-use Rattle.fab_meaning.specs.Reads.{mentions, some_mentions, is_declared, expression_reads}
+use Rattle.fab_meaning.specs.Reads.{is_declared, expression_reads}
 use Rattle.fab_meaning.specs.Loading.{Within, by_reads, write_strobe_name, write_data_name}
 use Rattle.fab_meaning.proofs.Modules.{each_all}
-use Rattle.fab_meaning.specs.Ports.{config_name}
+use Rattle.fab_drives_laws.specs.fab_model_mode_Mode_TheVariants as modes
 use Rattle.fab_drives_laws.specs.fab_model_Tiles.{PlainTile, counted, tile_bits}
 use Rattle.fab_drives_laws.specs.fab_model_Grid.{PlainFabric, tile_at}
-use Rattle.fab_drives_laws.specs.fab_fabric_Names.{place_name}
-use Rattle.fab_drives_laws.specs.fab_gen_tile_Names.{tile_module_name, config_module_name, config_instance_name, frame_data_name, frame_strobe_name, bits_name, latch_name, vector, port_join}
-use Rattle.fab_drives_laws.specs.fab_gen_tile_ConfigModule.{bit_latch, all_latches, config_items, config_module}
-use Rattle.fab_drives_laws.specs.fab_gen_tile_TileModule.{config_joins, tile_module}
+use Rattle.fab_drives_laws.specs.fab_gen_tile_Names.{frame_data_name, frame_strobe_name, latch_name, port_join}
+use Rattle.fab_drives_laws.specs.fab_gen_tile_ConfigModule.{bit_latch, config_items, config_module, config_ports}
 use Rattle.fab_drives_laws.specs.fab_gen_loader_Loader.{NextValues, loader_of, loader_module_name, address_port, strobe_port, row_port}
 use Rattle.fab_drives_laws.specs.fab_fabric_text_defs_Names.{loader_instance_name, column_strobe_name}
 use Rattle.fab_meaning.specs.Runs.{clock_name}
-use Rattle.fab_drives_laws.specs.fab_fabric_text_defs_Top.{loader_wires, loader_joins, loader_instance, column_strobes, tile_joins, top_items, top_module}
-use Rattle.fab_parts_sound_laws.proofs.Lists.{all_reverse}
-use Rattle.fab_drives_laws.proofs.fab_tile_drives_laws_BitValues.{inside}
+use Rattle.fab_drives_laws.specs.fab_fabric_text_defs_Top.{loader_wires, loader_joins, loader_instance, column_strobes, top_items, top_module}
 use Rattle.fab_drives_laws.proofs.fab_tile_drives_laws_Driven.{width_of, declared_at}
 use Rattle.fab_drives_laws.proofs.fab_tile_drives_laws_Endings.{all_counted}
-use Rattle.fab_drives_laws.proofs.fab_tile_drives_laws_Latches.{all_there}
 use Rattle.fab_drives_laws.proofs.fab_tile_drives_laws_Members.{contains_later, contains_counted}
-use Rattle.fab_drives_laws.proofs.fab_tile_drives_laws_TileItems.{config_found, config_there}
-use Rattle.fab_drives_laws.proofs.fab_tile_drives_laws_TileNames.{bits_wide}
 use Rattle.fab_drives_laws.specs.Points.{place_path}
-use Rattle.fab_drives_laws.proofs.Instances.{tile_instance_there}
-use Rattle.fab_drives_laws.proofs.Places.{in_grid, placed_tile}
-use Rattle.fab_text_loads_laws.specs.Points.{loader_path, config_path, top_names, tile_names, IsLoadingPoint, in_top, in_loader, in_tile, in_configuration}
+use Rattle.fab_drives_laws.specs.fab_fabric_text_defs_Mode.{text_mode}
+use Rattle.fab_drives_laws.proofs.Places.{in_grid}
+use Rattle.fab_text_loads_laws.specs.Points.{loader_path, config_path, top_names, IsLoadingPoint}
 use Rattle.fab_text_loads_laws.specs.Loads.{NamedAreLoading}
-use Rattle.fab_text_loads_laws.proofs.Drivers.{assigned_by, latched_by, joined_to, joined_from}
-use Rattle.fab_text_loads_laws.proofs.Declared.{NetHolds, bit_below, point_holds}
-use Rattle.fab_text_loads_laws.proofs.Tops.{behind_loader, address_width, strobe_width, row_width}
+use Rattle.fab_text_loads_laws.proofs.Drivers.{assigned_by, latched_by, joined_from}
+use Rattle.fab_text_loads_laws.proofs.Declared.{bit_below}
+use Rattle.fab_text_loads_laws.proofs.Tops.{address_width, strobe_width, row_width}
 use Rattle.fab_text_loads_laws.proofs.Loader.{HasLoader, loader_there, row_port_width, row_is_output}
 use Rattle.fab_text_loads_laws.proofs.Strobes.{strobe_expression}
-use Rattle.fab_text_loads_laws.proofs.TileItems.{config_has_bits, wire_has_bits}
-use Rattle.fab_text_loads_laws.proofs.Within.{AreWithin, read_within, expression_within, only_name, variable_within, copy_within, flops, clock_within, strobe_within, data_within, loader_within, within_is_loading}
+use Rattle.fab_text_loads_laws.proofs.Within.{AreWithin, read_within, expression_within, only_name, copy_within, flops, clock_within, strobe_within, data_within, loader_within, within_is_loading}
+use Rattle.fab_text_loads_laws.proofs.InMode.{config_in, carrying_there}
+use Rattle.fab_text_loads_laws.proofs.Bits.{BringsBits, tile_input_within, config_input_within, all_named_within}
 
 -- ---- items of modules
 

@@ -15,6 +15,7 @@ use Rattle.fab_meaning.specs.Points.{Path, Found, instance_named, instance_in, m
 use Rattle.fab_meaning.specs.Runs.{clock_name, user_clock_name}
 use Rattle.fab_meaning.proofs.Modules.{each_all}
 use Rattle.fab_meaning.specs.Ports.{config_name}
+use Rattle.fab_drives_laws.specs.fab_model_mode_Mode_TheVariants as modes
 use Rattle.fab_drives_laws.specs.fab_prim_Ports.{clock_names, top_inputs, top_outputs}
 use Rattle.fab_drives_laws.specs.fab_prim_Modules.{module_name, module_items, module_of_kind}
 use Rattle.fab_drives_laws.specs.fab_model_tiles_Bel.{Bel}
@@ -22,7 +23,7 @@ use Rattle.fab_drives_laws.specs.fab_model_Tiles.{PlainTile, counted, matrix_nam
 use Rattle.fab_drives_laws.specs.fab_model_Grid.{PlainFabric, tile_at}
 use Rattle.fab_drives_laws.specs.fab_fabric_Names.{place_name}
 use Rattle.fab_drives_laws.specs.fab_gen_tile_Names.{config_module_name, matrix_module_name, tile_module_name, config_instance_name, bits_name, latch_name, pad_name, port_join, same_join}
-use Rattle.fab_drives_laws.specs.fab_gen_tile_ConfigModule.{bit_latch, all_latches, config_items, config_module}
+use Rattle.fab_drives_laws.specs.fab_gen_tile_ConfigModule.{bit_latch, all_latches, config_items, config_module, bit_flop, chain_end, keeping_items}
 use Rattle.fab_drives_laws.specs.fab_gen_tile_MatrixModule.{matrix_module, numbered_outputs}
 use Rattle.fab_drives_laws.specs.fab_gen_tile_TileModule.{bits_join, matrix_output_names, pin_join, pad_join, bel_joins, tile_items, tile_module}
 use Rattle.fab_drives_laws.specs.fab_gen_loader_Loader.{NextValues, address_port, strobe_port, registers, processes, outputs, loader_of, state_name, count_name, strobe_register_name, row_port, address_register_name, row_register_name, loader_module_name}
@@ -33,12 +34,17 @@ use Rattle.fab_parts_sound_laws.proofs.Apart.{differs_from}
 use Rattle.fab_parts_sound_laws.proofs.Names.{Differ}
 use Rattle.fab_drives_laws.proofs.fab_tile_drives_laws_Endings.{all_counted}
 use Rattle.fab_drives_laws.specs.Points.{place_path}
+use Rattle.fab_drives_laws.specs.fab_fabric_Fabric.{IsFabric}
+use Rattle.fab_drives_laws.specs.fab_fabric_text_defs_Texts.{IsFabricText}
+use Rattle.fab_drives_laws.specs.fab_model_mode_Mode.{Mode}
+use Rattle.fab_drives_laws.specs.fab_fabric_text_defs_Mode.{text_mode}
 use Rattle.fab_drives_laws.proofs.Apart.{told_apart}
 use Rattle.fab_drives_laws.proofs.Instances.{all_of_top}
 use Rattle.fab_drives_laws.proofs.Lists.{all_of}
 use Rattle.fab_drives_laws.proofs.Places.{IsThere}
+use Rattle.fab_drives_laws.proofs.Texts.{HasFabric}
 use Rattle.fab_text_loads_laws.specs.Points.{loader_path, config_path}
-use Rattle.fab_text_loads_laws.proofs.Loader.{HasLoader, register_names, row_register}
+use Rattle.fab_text_loads_laws.proofs.Loader.{register_names, row_register, has_loader}
 use Rattle.fab_text_loads_laws.proofs.TileItems.{all_of_items}
 
 -- ---- what the items of a module are

@@ -10,6 +10,7 @@ use Rattle.fab_meaning.specs.Points.{point, hold}
 use Rattle.fab_meaning.specs.Settled.{Assignment, IsSettledOn}
 use Rattle.fab_meaning.specs.Runs.{clock_name, Ticks, Moment, IsRunOn}
 use Rattle.fab_meaning.specs.Loading.{IsLoading}
+use Rattle.fab_drives_laws.specs.fab_model_mode_Mode_TheVariants as modes
 use Rattle.fab_drives_laws.specs.fab_model_Tables.{HasTable}
 use Rattle.fab_drives_laws.specs.fab_model_Tiles.{PlainTile, tile_bits}
 use Rattle.fab_drives_laws.specs.fab_model_Grid.{PlainFabric, tile_at}
@@ -23,19 +24,22 @@ use Rattle.fab_drives_laws.specs.fab_gen_loader_Loader.{NextValues, loader_of, s
 use Rattle.fab_drives_laws.proofs.fab_tile_drives_laws_Driven.{declared_at}
 use Rattle.fab_drives_laws.proofs.fab_tile_drives_laws_Latches.{latch_width}
 use Rattle.fab_drives_laws.specs.Points.{ShowsBits}
+use Rattle.fab_drives_laws.specs.fab_model_mode_Mode.{Mode}
+use Rattle.fab_drives_laws.specs.fab_fabric_text_defs_Mode.{text_mode}
 use Rattle.fab_drives_laws.proofs.Lists.{all_of}
 use Rattle.fab_drives_laws.proofs.Modules.{tile_of_types}
 use Rattle.fab_drives_laws.proofs.Places.{in_grid}
 use Rattle.fab_loading_laws.specs.Latches.{IsWord, Turn, word, pause, other_clock, words_of, after_turn, after_turns, latch_shows, latch_after}
 use Rattle.fab_loading_laws.specs.Streams.{stream_words, StreamsLoad, TicksKeepMachines}
 use Rattle.fab_text_loads_laws.specs.Points.{loader_path, config_path, in_loader, in_configuration}
-use Rattle.fab_text_loads_laws.specs.Loads.{IsTurn, Writes, IsConfigured}
+use Rattle.fab_text_loads_laws.specs.Loads.{IsTurn, Writes, LoaderWaits, LoaderRests, IsConfigured}
 use Rattle.fab_text_loads_laws.proofs.Drivers.{latched_by}
 use Rattle.fab_text_loads_laws.proofs.Loader.{HasLoader}
 use Rattle.fab_text_loads_laws.proofs.Offered.{offered_whole}
 use Rattle.fab_text_loads_laws.proofs.Named.{latch_there, config_stands, named_are_loading}
 use Rattle.fab_text_loads_laws.proofs.Settled.{latch_place, latch_point, latch_is_shown}
 use Rattle.fab_text_loads_laws.proofs.Ticks.{digits_long, held_is_machine, machine_same, word_ticks, quiet_ticks, machine_stays}
+use Rattle.fab_text_loads_laws.proofs.InMode.{modes_agree}
 
 -- ---- the loader rests
 

@@ -11,6 +11,7 @@ use Rattle.fab_meaning.specs.Settled.{Assignment, names_at, IsSettledOn}
 use Rattle.fab_meaning.specs.Runs.{clock_name}
 use Rattle.fab_meaning.specs.Loading.{IsLoading, write_strobe_name, write_data_name}
 use Rattle.fab_meaning.proofs.Declared.{bits_of_name}
+use Rattle.fab_drives_laws.specs.fab_model_mode_Mode_TheVariants as modes
 use Rattle.fab_drives_laws.specs.fab_model_Tiles.{PlainTile, counted, tile_bits}
 use Rattle.fab_drives_laws.specs.fab_model_Grid.{PlainFabric, tile_at}
 use Rattle.fab_drives_laws.specs.fab_fabric_Names.{place_name}
@@ -23,22 +24,24 @@ use Rattle.fab_drives_laws.specs.fab_gen_loader_Loader.{NextValues, outputs, loa
 use Rattle.fab_drives_laws.proofs.fab_gen_loader_Counted.{get_counted}
 use Rattle.fab_drives_laws.proofs.fab_gen_loader_Widths.{address_width as address_register_width, row_width as row_register_width}
 use Rattle.fab_drives_laws.specs.fab_fabric_text_defs_Names.{loader_instance_name, column_strobe_name}
-use Rattle.fab_drives_laws.specs.fab_fabric_text_defs_Top.{loader_joins, tile_joins, top_module}
-use Rattle.fab_drives_laws.specs.fab_tile_drives_laws_Stands.{IsSettledOnDeclared}
+use Rattle.fab_drives_laws.specs.fab_fabric_text_defs_Top.{loader_joins, tile_joins, top_module, config_joins as carrying_joins}
+use Rattle.fab_drives_laws.specs.fab_tile_drives_laws_Stands.{IsSettledOnDeclared, TileStands}
 use Rattle.fab_drives_laws.proofs.fab_tile_drives_laws_Driven.{width_of, declared_at, variable_bit, part_bit, assigned, joined_in, joined_out}
 use Rattle.fab_drives_laws.proofs.fab_tile_drives_laws_Latches.{latch_width}
 use Rattle.fab_drives_laws.proofs.fab_tile_drives_laws_Members.{contains_counted}
 use Rattle.fab_drives_laws.proofs.fab_tile_drives_laws_TileItems.{config_there}
 use Rattle.fab_drives_laws.specs.Points.{place_path}
+use Rattle.fab_drives_laws.specs.fab_model_mode_Mode.{Mode}
 use Rattle.fab_drives_laws.proofs.Instances.{tile_instance_there}
 use Rattle.fab_drives_laws.proofs.Places.{in_grid, placed_tile}
 use Rattle.fab_loading_laws.specs.Latches.{LatchPlace, is_open, latch_shows}
-use Rattle.fab_text_loads_laws.specs.Points.{loader_path, config_path, top_names, IsLoadingPoint, in_top, in_loader, in_tile, in_configuration}
+use Rattle.fab_text_loads_laws.specs.Points.{loader_path, config_path, top_names, IsLoadingPoint, in_top, in_loader, in_tile, in_configuration, tile_names}
 use Rattle.fab_text_loads_laws.proofs.Drivers.{latched_by}
 use Rattle.fab_text_loads_laws.proofs.Tops.{address_width, strobe_width, row_width, column_width}
 use Rattle.fab_text_loads_laws.proofs.Loader.{HasLoader, loader_there, row_port_width, row_is_output, strobe_register_width, output_there, row_output_there, register_names, row_register, IsFlop, registers_are_flops}
 use Rattle.fab_text_loads_laws.proofs.Named.{strobes_there, latch_there, row_joined, config_stands, named_are_loading}
 use Rattle.fab_text_loads_laws.proofs.Strobes.{strobe_expression, strobe_value}
+use Rattle.fab_text_loads_laws.proofs.InMode.{carrying_joined, stands_in, module_in}
 
 -- the place of a configuration latch
 abbrev pub latch_place : (x y : ℕ) → PlainTile → (number : ℕ) → LatchPlace
@@ -222,7 +225,7 @@ module _ (fabric : PlainFabric) (next : NextValues) (text : List PlainModule) (h
             let data_value = part frame_data_name place.bit place.bit in
             on_named (latch_point x y number_of_bit) (hold (config_path x y) gate data_value 0) (
               in_configuration x y tile there refl,
-              declared_at text (config_path x y) (config_module tile) (latch_name number_of_bit) 0 config_here (omega (arith, latch_width modes.Frames tile number_of_bit few)),
+              declared_at text (config_path x y) (config_module modes.Frames tile) (latch_name number_of_bit) 0 config_here (omega (arith, latch_width modes.Frames tile number_of_bit few)),
             )
             (latched_by text (config_path x y) (config_module modes.Frames tile) config_here (latch_name number_of_bit) gate data_value 0 (latch_there tile number_of_bit few))
             ∙ (λ j. cond (gate_shows j) (data_shows j) (held (latch_point x y number_of_bit)))

@@ -1,9 +1,9 @@
 -- The loading points hold at a tick what they hold, where the flip-flops of CLK and the latches do; and so they do through all moments without words.
-use Rattle.std.proofs.Common.{◌≡◌, ℕ, ◌<◌, Bool, true, false, List, [], ◌∷◌, cond, refl, sym, ap, ◌∙◌, subst, inl, inr, arith, Option, Some, None, All, Contains}
+use Rattle.std.proofs.Common.{◌≡◌, ℕ, Bool, true, false, List, [], ◌∷◌, cond, sym, ap, ◌∙◌, subst, inl, inr, Option, Some, None, All, Contains}
 use Rattle.std.specs.Str.{bytes_eq}
 use Rattle.std.proofs.lemmas.Bool.{cases_Bool}
 use Rattle.std.proofs.lemmas.Slice.Eq.{bytes_eq-Decides}
-use Rattle.std.proofs.lemmas.List.Elements.{All-head, All-tail, All-contains}
+use Rattle.std.proofs.lemmas.List.Elements.{All-head, All-tail}
 use Rattle.fab_syntax.specs.Plain.{PlainExpr, PlainItem, PlainModule, wire, reg, assign, latch, clocked, instance}
 use Rattle.fab_syntax.specs.Declarations.{module_named, is_input_of}
 use Rattle.fab_meaning.specs.Value.{value, bit_at}
@@ -12,27 +12,15 @@ use Rattle.fab_meaning.specs.Reads.{is_declared}
 use Rattle.fab_meaning.specs.Settled.{Assignment, names_at, IsSettledOn}
 use Rattle.fab_meaning.specs.Runs.{clock_name, clock_of, is_clock, Ticks, Moment, IsRunOn}
 use Rattle.fab_meaning.specs.Loading.{IsDerived, Within, by_flop, by_stream, by_reads, IsClosed, IsLoading}
-use Rattle.fab_drives_laws.specs.fab_model_Grid.{PlainFabric}
-use Rattle.fab_drives_laws.specs.fab_model_Drive.{PlainBits}
+use Rattle.fab_drives_laws.specs.fab_model_Grid.{PlainFabric, tile_at}
 use Rattle.fab_drives_laws.specs.fab_fabric_Fabric.{IsFabric}
-use Rattle.fab_drives_laws.specs.fab_gen_tile_Names.{latch_name}
-use Rattle.fab_drives_laws.specs.fab_gen_tile_ConfigModule.{config_module}
-use Rattle.fab_drives_laws.specs.fab_gen_loader_Loader.{NextValues, loader_of, state_name, strobe_register_name, machine_at}
-use Rattle.fab_drives_laws.proofs.fab_gen_loader_Widths.{state_width}
-use Rattle.fab_drives_laws.proofs.fab_tile_drives_laws_Driven.{width_of, declared_at}
-use Rattle.fab_drives_laws.proofs.fab_tile_drives_laws_Latches.{latch_width}
-use Rattle.fab_loading_laws.specs.Latches.{latch_shows}
-use Rattle.fab_loading_laws.specs.Streams.{TicksKeepMachines}
-use Rattle.fab_text_loads_laws.specs.Points.{loader_path, config_path, in_loader}
-use Rattle.fab_text_loads_laws.specs.Loads.{IsConfigured, IsQuiet}
-use Rattle.fab_text_loads_laws.proofs.Declared.{bit_below}
-use Rattle.fab_text_loads_laws.proofs.Loader.{HasLoader, strobe_register_width, register_names}
-use Rattle.fab_text_loads_laws.proofs.Named.{config_stands, named_are_loading}
-use Rattle.fab_text_loads_laws.proofs.Settled.{latch_place, latch_point}
-use Rattle.fab_text_loads_laws.proofs.Ticks.{Stays, registers_stay}
-use Rattle.fab_text_loads_laws.proofs.Runs.{HasLatch, has_latch, latch_loads, latch_now, latch_ticks}
-use Rattle.fab_text_loads_laws.proofs.Parts.{part_at, latch_of_tile}
-use Rattle.fab_text_loads_laws.proofs.Clocks.{flop_of_loader}
+use Rattle.fab_drives_laws.specs.fab_model_Tiles.{PlainTile}
+use Rattle.fab_drives_laws.specs.fab_fabric_text_defs_Mode.{text_mode}
+use Rattle.fab_drives_laws.proofs.Texts.{HasFabric}
+use Rattle.fab_text_loads_laws.specs.Points.{config_path}
+use Rattle.fab_text_loads_laws.specs.Loads.{IsQuiet}
+use Rattle.fab_text_loads_laws.proofs.Parts.{part_at, latch_of_tile, IsLatchOf, LoaderIs}
+use Rattle.fab_text_loads_laws.proofs.Clocks.{IsOfClock, flop_of_clock}
 
 -- ---- which item a flip-flop and a latch are
 

@@ -17,6 +17,7 @@ pub use Rattle.fab_legal.proofs.SinkLaw as fab_legal_SinkLaw
 pub use Rattle.fab_text_loads_laws.proofs.Carried as fab_text_loads_laws_Carried
 pub use Rattle.fab_text_loads_laws.proofs.Declared as fab_text_loads_laws_Declared
 pub use Rattle.fab_text_loads_laws.proofs.Drivers as fab_text_loads_laws_Drivers
+pub use Rattle.fab_text_loads_laws.proofs.InMode as fab_text_loads_laws_InMode
 pub use Rattle.fab_text_loads_laws.proofs.Loader as fab_text_loads_laws_Loader
 pub use Rattle.fab_text_loads_laws.proofs.Named as fab_text_loads_laws_Named
 pub use Rattle.fab_text_loads_laws.proofs.Runs as fab_text_loads_laws_Runs

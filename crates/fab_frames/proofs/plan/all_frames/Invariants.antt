@@ -3,7 +3,7 @@ use Rattle.std.specs.List.{flat_map}
 use Rattle.fab_model.specs.Tiles.{counted}
 use Rattle.fab_frames.specs.Stream.{fixed, header, column_parts}
 use Rattle.fab_frames.specs.inner.Taking.{plain_part}
-use Rattle.fab_frames.proofs.plan.parts.Given as goal
+use Rattle.fab_frames.proofs.plan.all_frames.Given as goal
 
 -- the columns so far
 abbrev pub invariant-loop-x : goal.invariant-loop-x
