@@ -226,7 +226,7 @@ def explain_bitstream(case):
 
 def explain_chain(fabric, number, count):
     """A word of a bitstream of a chain, of `count` words."""
-    bits, length = fabric.configuration_bits(), fabric.bitstream_words()
+    bits, length = fabric.chain_bits(), fabric.bitstream_words()
     yield f"the chain of this fabric has {plural(bits, 'configuration bit')}, a stream of it {plural(length, 'word')}, and the file has {count}"
     if number <= length:
         first = 32 * (length - number)
