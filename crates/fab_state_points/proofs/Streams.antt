@@ -11,18 +11,18 @@ use Rattle.fab_state_points.specs.Standing.{AreDataPoints, AreFoundData, HasStre
 use Rattle.fab_state_points.specs.declared.points.DataPoints.{DataPoints}
 use Rattle.fab_state_points.specs.declared.points.DataPoints.TheVariants.{Bit, Word}
 
-pub carries_words : (data : DataPoints) → IsDataShape (data_shape data)
+pub carries_words : (carrier : DataPoints) → IsDataShape (data_shape carrier)
 carries_words (Bit point) = tt
 carries_words (Word first) = refl
 
-pub has_stream : (text : List PlainModule) (data : DataPoints) → IsDeclared text [] clock_name Scalar roles.Input → IsDeclared text [] user_clock_name Scalar roles.Input →
-    IsDeclared text [] write_strobe_name Scalar roles.Input → AreDataPoints text data → HasStream text
-has_stream text data loader user strobe are = record {
+pub has_stream : (text : List PlainModule) (carrier : DataPoints) → IsDeclared text [] clock_name Scalar roles.Input → IsDeclared text [] user_clock_name Scalar roles.Input →
+    IsDeclared text [] write_strobe_name Scalar roles.Input → AreDataPoints text carrier → HasStream text
+has_stream text carrier loader user strobe are = record {
   loader = loader;
   user = user;
   strobe = strobe;
-  shape = data_shape data;
-  is_data = carries_words data;
+  shape = data_shape carrier;
+  is_data = carries_words carrier;
   words = are.declared;
 }
 
