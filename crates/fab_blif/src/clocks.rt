@@ -20,7 +20,7 @@ use std::alloc::Global;
 
 /// What is wrong with a clock.
 #[derive(Clone, Copy, Debug)]
-enum WrongClock {
+pub enum WrongClock {
     /// Nothing drives it, and it is no input.
     Undriven,
     /// A cover or a latch drives it, or something but a latch's control reads it.
@@ -31,9 +31,11 @@ enum WrongClock {
 
 /// A line on which a clock is wrong.
 #[derive(Clone, Copy, Debug)]
-struct ClockFault {
-    line: u32,
-    wrong: WrongClock,
+pub struct ClockFault {
+    /// The line.
+    pub line: u32,
+    /// What is wrong there.
+    pub wrong: WrongClock,
 }
 
 /// What a net that is named as a clock is judged by.

@@ -19,8 +19,10 @@ use std::marker::Model;
 
 /// A net that a line names, by number.
 #[derive(Clone, Copy, Debug)]
-pub(crate) struct Use {
+pub struct Use {
+    /// The line.
     pub line: u32,
+    /// The number of the net.
     pub net: usize,
 }
 

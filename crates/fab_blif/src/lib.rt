@@ -14,6 +14,8 @@ mod reading;
 mod tables;
 mod walk;
 
+pub use clocks::{ClockFault, WrongClock};
+pub use design::Use;
 pub use flattening::flatten;
 pub use laws::{blif_is_refused_once, refused_blif_has_no_netlist};
 pub use reading::{read_blif, read_wide};

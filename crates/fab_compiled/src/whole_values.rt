@@ -28,8 +28,8 @@ pub enum Pairing {
     Agreed,
 }
 
-/// A bit of an equality or a difference by its value as a whole. `None` where both operands are names, parts of names or constants, so that it takes
-/// no longer bit by bit, and where there is no memory.
+/// A bit of an equality or a difference by its value as a whole. `None` where both operands are names, parts of names or constants, or the first bit is
+/// open at once, so that it takes no longer bit by bit; and where there is no memory.
 pub(crate) fn deep_bit(
     tree: &Tree,
     operands: (&Box<Tree>, &Box<Tree>),
@@ -48,6 +48,9 @@ pub(crate) fn deep_bit(
     if is_flat(left) && is_flat(right) {
         return None;
     }
+    if starts_open(left, first, view) {
+        return None;
+    }
     match whole(*Box::allocator(left), tree, first, view) {
         Ok(bits) => Some(bit_of(&bits, bit as usize)),
         Err(Memory) => None,
@@ -62,6 +65,26 @@ fn is_flat(tree: &Tree) -> bool {
         Tree::And(_, _) | Tree::Or(_, _) | Tree::Xor(_, _) => false,
         Tree::Equal(_, _, _) | Tree::Minus(_, _, _) => false,
     }
+}
+
+// Whether the first bit of an expression is open because a point is. Then a look at that bit ends a difference, bit by bit too.
+fn starts_open(tree: &Tree, first: usize, view: &View) -> bool {
+    match tree {
+        Tree::Bits(place, _) => is_open_point(first.saturating_add(*place as usize), view),
+        Tree::Not(left) | Tree::Xor(left, _) | Tree::Minus(_, left, _) => starts_open(
+            left, first, view,
+        ),
+        Tree::Const(_) | Tree::Pick(_, _, _) | Tree::Cat(_, _, _) | Tree::Cond(_, _, _) => false,
+        Tree::And(_, _) | Tree::Or(_, _) | Tree::Equal(_, _, _) => false,
+    }
+}
+
+// Whether nothing is known of a point.
+fn is_open_point(point: usize, view: &View) -> bool {
+    let Some(lead) = view.leads.get(point) else {
+        return false;
+    };
+    matches!(view.terns.get(*lead as usize), Some(Tern::Open))
 }
 
 /// All bits of the value of an expression, the least significant one first, over the points of an instance, of which the first is given.

@@ -31,9 +31,9 @@ use Rattle.fab_drives_laws.proofs.Places.{placed_tile, tile_is_placed, IsThere, 
 
 -- ---- all items of the top
 
--- what holds of wires, of the assigned strobes and of the loader holds of what carries the bits
+-- what holds of wires, of the assigned strobes and in frames of the loader holds of what carries the bits
 all_of_carrying : (mode : Mode) (fabric : PlainFabric) (P : PlainItem → Type 0) → ((name : List ℕ) → P (wire Scalar name)) → ((name : List ℕ) → P (wire (Vector 32) name)) →
-    ((name : List ℕ) → P (wire (Vector 20) name)) → ((x : ℕ) → P (column_strobes x)) → P (loader_instance fabric.rows) → All P (carrying_items mode fabric)
+    ((name : List ℕ) → P (wire (Vector 20) name)) → ((x : ℕ) → P (column_strobes x)) → (mode ≡ modes.Frames → P (loader_instance fabric.rows)) → All P (carrying_items mode fabric)
 all_of_carrying modes.Frames fabric P scalars words strobes assigns loader =
     let assigned = counted fabric.columns column_strobes in
     let strobe_wires = counted fabric.columns (λ x. wire (Vector 20) (column_strobe_name x)) in
@@ -41,7 +41,7 @@ all_of_carrying modes.Frames fabric P scalars words strobes assigns loader =
     (All-cons P (wire (Vector 32) address_port) (wire Scalar strobe_port ∷ counted fabric.rows (λ y. wire (Vector 32) (row_port y))) (words address_port)
     (All-cons P (wire Scalar strobe_port) (counted fabric.rows (λ y. wire (Vector 32) (row_port y))) (scalars strobe_port)
     (all_counted P fabric.rows (λ y. wire (Vector 32) (row_port y)) (λ y few. words (row_port y)))))
-    (All-cons P (loader_instance fabric.rows) (strobe_wires ++ assigned) loader
+    (All-cons P (loader_instance fabric.rows) (strobe_wires ++ assigned) (loader refl)
     (All-append P strobe_wires assigned
     (all_counted P fabric.columns (λ x. wire (Vector 20) (column_strobe_name x)) (λ x few. strobes (column_strobe_name x)))
     (all_counted P fabric.columns column_strobes (λ x few. assigns x))))
@@ -50,7 +50,7 @@ all_of_carrying modes.Chain fabric P scalars words strobes assigns loader =
 
 -- and with each tile's instance of all items
 pub all_of_top : (fabric : PlainFabric) (P : PlainItem → Type 0) → ((name : List ℕ) → P (wire Scalar name)) → ((name : List ℕ) → P (wire (Vector 32) name)) →
-    ((name : List ℕ) → P (wire (Vector 20) name)) → ((x : ℕ) → P (column_strobes x)) → P (loader_instance fabric.rows) →
+    ((name : List ℕ) → P (wire (Vector 20) name)) → ((x : ℕ) → P (column_strobes x)) → (text_mode fabric ≡ modes.Frames → P (loader_instance fabric.rows)) →
     ((placed : PlacedTile) → IsThere fabric placed → P (tile_instance fabric placed)) → All P (top_items fabric)
 all_of_top fabric P scalars words strobes assigns loader tiles =
     let mode = text_mode fabric in
@@ -138,5 +138,5 @@ tile_instance_found fabric is x y tile there =
     let found = found_tile fabric (placed_tile x y tile) in
     instance_found (top_items fabric) (place_name x y) found (tile_instance_there fabric x y tile there)
     (all_of_top fabric (Agrees (place_name x y) found) (λ name. tt) (λ name. tt) (λ name. tt) (λ x. tt)
-    (λ same. absurd (told_apart 0 loader_instance_name (place_name x y) refl same))
+    (λ frames same. absurd (told_apart 0 loader_instance_name (place_name x y) refl same))
     (λ placed placed_there same. ap (found_tile fabric) (only_at_place fabric is x y tile there placed placed_there same)))

@@ -24,6 +24,7 @@ pub use Rattle.fab_tile_drives_laws.proofs.Endings as fab_tile_drives_laws_Endin
 pub use Rattle.fab_tile_drives_laws.proofs.Latches as fab_tile_drives_laws_Latches
 pub use Rattle.fab_tile_drives_laws.proofs.MatrixPorts as fab_tile_drives_laws_MatrixPorts
 pub use Rattle.fab_tile_drives_laws.proofs.Members as fab_tile_drives_laws_Members
+pub use Rattle.fab_tile_drives_laws.proofs.Modes as fab_tile_drives_laws_Modes
 pub use Rattle.fab_tile_drives_laws.proofs.NamedPairs as fab_tile_drives_laws_NamedPairs
 pub use Rattle.fab_tile_drives_laws.proofs.PinPorts as fab_tile_drives_laws_PinPorts
 pub use Rattle.fab_tile_drives_laws.proofs.TileItems as fab_tile_drives_laws_TileItems

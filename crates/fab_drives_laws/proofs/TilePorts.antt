@@ -52,7 +52,7 @@ module _ (P : Port → Type 0) (clock : P (scalar true user_clock_name)) (mode :
     (begins : (row : WireRow) (bit : ℕ) → P (scalar false (begin_name row bit))) (ends : (row : WireRow) (bit : ℕ) → P (scalar true (end_name row bit)))
     (ins : (bel : ℕ) → P (scalar true (pad_name bel top_name))) (outs : (bel : ℕ) → P (scalar false (pad_name bel (codes "I_top"))))
     (enables : (bel : ℕ) → P (scalar false (pad_name bel (codes "T_top")))) where
-  all_tile_ports : (tile : PlainTile) → All P (tile_ports mode tile)
+  pub all_tile_ports : (tile : PlainTile) → All P (tile_ports mode tile)
   all_tile_ports tile =
       let borders = flat_map border_ports tile.rows in
       let pads = bels_ports tile.bels in

@@ -57,7 +57,7 @@ wide_top_ports fabric =
     (all_of (λ (placed : ℕ × Bel). All IsWide (pad_ports p.x p.y placed)) (enumerate_from 0 p.tile.bels) (wide_pads p.x p.y))))))))
 
 wide_top_items : (fabric : PlainFabric) → All IsWideItem (top_items fabric)
-wide_top_items fabric = all_of_top fabric IsWideItem (λ name. omega arith) (λ name. omega arith) (λ name. omega arith) (λ x. tt) tt (λ placed there. tt)
+wide_top_items fabric = all_of_top fabric IsWideItem (λ name. omega arith) (λ name. omega arith) (λ name. omega arith) (λ x. tt) (λ frames. tt) (λ placed there. tt)
 
 -- ---- pads
 

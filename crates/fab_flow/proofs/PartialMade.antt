@@ -1,12 +1,15 @@
 -- What the command `partial` makes, and why what was read is not taken.
-use Rattle.std.proofs.Common.{◌≡◌, ◌<◌, ◌≤◌, ◌⊎◌, ℕ, List, [], ◌∷◌, Option, Some, Bool, true, decimal, refl, sym, ◌∙◌, inl, inr, subst}
+use Rattle.std.proofs.Common.{◌≡◌, ◌<◌, ◌≤◌, ◌⊎◌, ℕ, List, [], ◌∷◌, Option, Some, Bool, true, codes, decimal, refl, sym, ◌∙◌, inl, inr, subst}
 use Rattle.std.specs.Option.{ForSome}
 use Rattle.fab_base.specs.declared.fault.Fault.{Fault}
 use Rattle.fab_base.specs.declared.fault.Fault.TheVariants as faults
+use Rattle.fab_base.specs.declared.problem.Problem.TheVariants as problems
+use Rattle.fab_base.specs.Reading.{fault_at, IsFaultOr}
 use Rattle.fab_desk.specs.Files.{Map}
 use Rattle.fab_files.specs.Files.{Event, HasReadCause, refuses}
 use Rattle.fab_files.specs.Stages.{at_first, behind_it}
 use Rattle.fab_files.proofs.Causes.{cause_weaker}
+use Rattle.fab_model.specs.declared.mode.Mode.TheVariants as modes
 use Rattle.fab_model.specs.Grid.{PlainFabric}
 use Rattle.fab_fabric.specs.Fabric.{AreTiles, IsFabric, wire_count}
 use Rattle.fab_fabric.specs.declared.wire.Site.{Site}
@@ -61,15 +64,16 @@ module _ (fabric : PlainFabric) (is : IsFabric fabric) (tiles : AreTiles fabric)
 -- ---- what is made
 
 pub partial_made : (files : Map) (names : PartialFiles) (fabric : PlainFabric) (implementation : PlainImplementation) (features : List Feature) (bytes : List ℕ) (outputs : List PlainOutput)
-    → SpellsFabric files names.fabric fabric → ReadsImplementation files names.implementation fabric implementation → ReadsFeatures files names.fasm features → names.last < fabric.columns
+    → SpellsFabric files names.fabric fabric → fabric.mode ≡ modes.Frames → ReadsImplementation files names.implementation fabric implementation → ReadsFeatures files names.fasm features → names.last < fabric.columns
     → AreUnused fabric implementation (lies_within names.first names.last) → AreRight (IsRightFeature fabric) features → IsExchange fabric implementation features names.first names.last bytes
     → outputs ≡ output names.out bytes ∷ [] → MakesPartial files names outputs
-partial_made files names fabric implementation features bytes outputs spelled implemented read within unused right made are =
+partial_made files names fabric implementation features bytes outputs spelled frames implemented read within unused right made are =
     record {
       fabric = fabric;
       implementation = implementation;
       features = features;
       spelled = spelled;
+      frames = frames;
       implemented = implemented;
       read = read;
       within = within;
@@ -125,12 +129,20 @@ module _ (told : Option Map) (names : PartialFiles) (reads writes : Type 0) (fau
   pub fabric_cause : HasReadCause told reads (λ files. MeetsFabric files names.fabric) fault → HasPartialCause told names reads writes fault
   fabric_cause cause = cause_of_file told reads (λ files. MeetsFabric files names.fabric) refl (λ rose. rose) (λ files is event x. at_first x) cause
 
-  module _ (fabric : PlainFabric) (spelled : ForSome told (λ files. SpellsFabric files names.fabric fabric)) where
+  -- what is read is one with a chain, or memory was refused
+  pub chain_cause : (fabric : PlainFabric) → ForSome told (λ files. SpellsFabric files names.fabric fabric) → fabric.mode ≡ modes.Chain
+      → IsFaultOr fault (fault_at names.fabric 0 (problems.Unsupported (codes "partial FlipFlopChain"))) → HasPartialCause told names reads writes fault
+  chain_cause fabric spelled chain (inl memory) = subst (HasPartialCause told names reads writes) (sym memory) tt
+  chain_cause fabric spelled chain (inr same) =
+      subst (HasPartialCause told names reads writes) (sym same)
+      (record { possible = refl; met = λ files is. behind_it (spelled files is) (at_first (_, refl, record { chain = chain; is = refl })) })
+
+  module _ (fabric : PlainFabric) (spelled : ForSome told (λ files. SpellsFabric files names.fabric fabric)) (frames : fabric.mode ≡ modes.Frames) where
     -- the file of the implementation is
     pub implementation_cause : (now : Option Map) (rose : Type 0) → now ≡ told → (rose → reads) → HasReadCause now rose (λ files. MeetsImplementation files names.implementation fabric) fault
         → HasPartialCause told names reads writes fault
     implementation_cause now rose same higher cause =
-        cause_of_file now rose (λ files. MeetsImplementation files names.implementation fabric) same higher (λ files is event x. behind_it (spelled files is) (at_first x)) cause
+        cause_of_file now rose (λ files. MeetsImplementation files names.implementation fabric) same higher (λ files is event x. behind_it (spelled files is) (behind_it {value = tt} frames (at_first x))) cause
 
     module _ (implementation : PlainImplementation) (implemented : ForSome told (λ files. ReadsImplementation files names.implementation fabric implementation)) where
       -- the FASM file is
@@ -138,11 +150,12 @@ module _ (told : Option Map) (names : PartialFiles) (reads writes : Type 0) (fau
           → HasPartialCause told names reads writes fault
       fasm_cause now rose same higher cause =
           cause_of_file now rose (λ files. MeetsFeatures files names.fasm) same higher
-          (λ files is event x. behind_it (spelled files is) (behind_it (implemented files is) (at_first x))) cause
+          (λ files is event x. behind_it (spelled files is) (behind_it {value = tt} frames (behind_it (implemented files is) (at_first x)))) cause
 
       module _ (features : List Feature) (read : ForSome told (λ files. ReadsFeatures files names.fasm features)) where
         meets : (files : Map) (given : Fault) → told ≡ Some files → RefusesPartial fabric implementation features names.first names.last given → MeetsPartial files names (refuses given)
-        meets files given is refused = behind_it (spelled files is) (behind_it (implemented files is) (behind_it (read files is) (given, refl, refused)))
+        meets files given is refused =
+            behind_it (spelled files is) (behind_it {value = tt} frames (behind_it (implemented files is) (behind_it (read files is) (given, refl, refused))))
 
         refused_cause : (given : Fault) → RefusesPartial fabric implementation features names.first names.last given → HasPartialCause told names reads writes given
         refused_cause given (too_far far) = record { possible = refl; met = λ files there. meets files (faults.Illegal 14 (decimal names.last)) there (too_far far) }
@@ -154,6 +167,12 @@ module _ (told : Option Map) (names : PartialFiles) (reads writes : Type 0) (fau
         pub content_cause : (fault ≡ faults.Memory) ⊎ RefusesPartial fabric implementation features names.first names.last fault → HasPartialCause told names reads writes fault
         content_cause (inl memory) = subst (HasPartialCause told names reads writes) (sym memory) tt
         content_cause (inr refused) = refused_cause fault refused
+
+-- where a fabric with a chain is refused, the files are as they were
+pub chain_leaves : (makes : Map → List PlainOutput → Type 0) (told after : Option Map) (names : PartialFiles) (fault : Fault) → after ≡ told
+    → IsFaultOr fault (fault_at names.fabric 0 (problems.Unsupported (codes "partial FlipFlopChain"))) → Leaves makes told after fault
+chain_leaves makes told after names fault kept (inl memory) = leaves_of_memory makes told after fault memory kept
+chain_leaves makes told after names fault kept (inr same) = subst (Leaves makes told after) (sym same) kept
 
 module _ (makes : Map → List PlainOutput → Type 0) (told after : Option Map) (fabric : PlainFabric) (implementation : PlainImplementation) (features : List Feature) (first last : ℕ) where
   refused_leaves : (fault : Fault) → after ≡ told → RefusesPartial fabric implementation features first last fault → Leaves makes told after fault

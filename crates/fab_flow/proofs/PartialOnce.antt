@@ -4,8 +4,9 @@ use Rattle.fab_base.specs.declared.fault.Fault.{Fault}
 use Rattle.fab_base.specs.declared.fault.Fault.TheVariants as faults
 use Rattle.fab_desk.specs.Files.{Map}
 use Rattle.fab_files.specs.Files.{refuses}
-use Rattle.fab_files.specs.Stages.{MeetsLast, IsJudged}
+use Rattle.fab_files.specs.Stages.{MeetsBehind, MeetsLast, IsJudged}
 use Rattle.fab_files.proofs.Stages.{turn_is_judged}
+use Rattle.fab_model.specs.declared.mode.Mode.TheVariants as modes
 use Rattle.fab_model.specs.Grid.{PlainFabric}
 use Rattle.fab_fabric.specs.Names.{full_name, name_at}
 use Rattle.fab_fabric.specs.Wires.{wire_index}
@@ -25,12 +26,24 @@ use Rattle.fab_designs.specs.Implementations.{ReadsImplementation, MeetsImplemen
 use Rattle.fab_designs.proofs.Judged.{implementation_is_judged}
 use Rattle.fab_assemble.specs.fab_features_Wrong.{IsRightFeature}
 use Rattle.fab_flow.specs.Bits.{MeetsFeatures, ReadsFeatures, illegal}
-use Rattle.fab_flow.specs.Partial.{IsReadyToExchange, IsUseText, MeetsContent, MeetsPartial, MeetsRunning, PartialFiles, RefusesPartial, in_use, too_far, wrong}
+use Rattle.fab_flow.specs.Partial.{HasFrames, IsReadyToExchange, IsUseText, MeetsContent, MeetsPartial, MeetsRunning, PartialFiles, RefusesChain, RefusesPartial, in_use, too_far, wrong}
 use Rattle.fab_flow.proofs.BitsOnce.{fasm_is_judged, wrong_apart, wrong_once}
 use Rattle.fab_flow.proofs.Once.{fabric_is_judged}
 
 refuses_is : {a b : Fault} → refuses a ≡ refuses b → a ≡ b
 refuses_is same = cc
+
+-- ---- the mode of a fabric
+
+no_chain : (fabric : PlainFabric) → fabric.mode ≡ modes.Frames → fabric.mode ≡ modes.Chain → ⊥
+no_chain fabric frames chain = cc
+
+mode_is_judged : (name : List ℕ) (fabric : PlainFabric) → IsJudged (λ a b. a ≡ b) (HasFrames fabric) (MeetsLast (RefusesChain name fabric))
+mode_is_judged name fabric = record {
+  once = λ first second x y. refl;
+  refused_once = λ first second x y. refuses_is x.1 ∙ x.2.is ∙ sym y.2.is ∙ sym (refuses_is y.1);
+  apart = λ value fault frames x. no_chain fabric frames x.2.chain;
+}
 
 -- ---- what stands in the way
 
@@ -100,11 +113,23 @@ module _ (files : Map) (names : PartialFiles) where
       turn_is_judged (λ a b. a ≡ b) (ReadsImplementation files names.implementation fabric) (MeetsImplementation files names.implementation fabric)
       (λ it. MeetsContent files names fabric it) (implementation_is_judged files names.implementation fabric) (IsFilled fabric) (λ it read. filled_is_judged fabric it)
 
-  partial_is_judged : IsJudged (λ a b. a ≡ b) (λ (value : PlainFabric × (PlainImplementation × (List Feature × Unit {0}))). SpellsFabric files names.fabric value.0 × IsRunning value.0 value.1)
+  -- the fabric has frames
+  abbrev IsInFrames : PlainFabric → Unit {0} × (PlainImplementation × (List Feature × Unit {0})) → Type 0
+  IsInFrames fabric value = HasFrames fabric value.0 × IsRunning fabric value.1
+
+  frames_are_judged : (fabric : PlainFabric) → SpellsFabric files names.fabric fabric
+      → IsJudged (λ a b. a ≡ b) (IsInFrames fabric) (MeetsBehind (HasFrames fabric) (MeetsLast (RefusesChain names.fabric fabric)) (λ _. MeetsRunning files names fabric))
+  frames_are_judged fabric spelled =
+      turn_is_judged (λ a b. a ≡ b) (HasFrames fabric) (MeetsLast (RefusesChain names.fabric fabric)) (λ _. MeetsRunning files names fabric)
+      (mode_is_judged names.fabric fabric) (λ _. IsRunning fabric) (λ _ frames. running_is_judged fabric spelled)
+
+  partial_is_judged : IsJudged (λ a b. a ≡ b)
+      (λ (value : PlainFabric × (Unit {0} × (PlainImplementation × (List Feature × Unit {0})))). SpellsFabric files names.fabric value.0 × IsInFrames value.0 value.1)
       (MeetsPartial files names)
   partial_is_judged =
-      turn_is_judged (λ a b. a ≡ b) (SpellsFabric files names.fabric) (MeetsFabric files names.fabric) (λ fabric. MeetsRunning files names fabric)
-      (fabric_is_judged files names.fabric) IsRunning running_is_judged
+      turn_is_judged (λ a b. a ≡ b) (SpellsFabric files names.fabric) (MeetsFabric files names.fabric)
+      (λ fabric. MeetsBehind (HasFrames fabric) (MeetsLast (RefusesChain names.fabric fabric)) (λ _. MeetsRunning files names fabric))
+      (fabric_is_judged files names.fabric) IsInFrames frames_are_judged
 
   -- what the command comes upon is one refusal
   pub one_refusal : (a b : Fault) → MeetsPartial files names (refuses a) → MeetsPartial files names (refuses b) → a ≡ b
@@ -113,5 +138,5 @@ module _ (files : Map) (names : PartialFiles) where
   -- what is ready is not refused
   pub not_both : (fault : Fault) → IsReadyToExchange files names → MeetsPartial files names (refuses fault) → ⊥
   not_both fault ready =
-      partial_is_judged.apart (ready.fabric, (ready.implementation, (ready.features, tt))) fault
-      (ready.spelled, (ready.implemented, (ready.read, (ready.within, ready.unused, ready.right))))
+      partial_is_judged.apart (ready.fabric, (tt, (ready.implementation, (ready.features, tt)))) fault
+      (ready.spelled, (ready.frames, (ready.implemented, (ready.read, (ready.within, ready.unused, ready.right)))))

@@ -1,12 +1,15 @@
 -- What the command `partial` does to the files, and why it ends otherwise.
-use Rattle.std.specs.Prelude.{◌≡◌, ◌<◌, ◌≤◌, ℕ, Bool, List, [], ◌∷◌, Option, decimal}
+use Rattle.std.specs.Prelude.{◌≡◌, ◌<◌, ◌≤◌, ℕ, Bool, List, [], ◌∷◌, Option, codes, decimal}
 use Rattle.std.specs.List.{flat_map}
 use Rattle.fab_base.specs.declared.fault.Fault.{Fault}
 use Rattle.fab_base.specs.declared.fault.Fault.TheVariants as faults
+use Rattle.fab_base.specs.declared.problem.Problem.TheVariants as problems
+use Rattle.fab_base.specs.Reading.{fault_at}
 use Rattle.fab_desk.specs.Files.{Map}
 use Rattle.fab_files.specs.Files.{Event}
 use Rattle.fab_files.specs.Stages.{MeetsBehind, MeetsLast}
 use Rattle.fab_syntax.specs.Plain.{PlainModule}
+use Rattle.fab_model.specs.declared.mode.Mode.TheVariants as modes
 use Rattle.fab_model.specs.Grid.{PlainFabric}
 use Rattle.fab_fabric.specs.Bits.{AreBitsOf, plain_bits}
 use Rattle.fab_fabric.specs.Names.{site_text}
@@ -60,13 +63,14 @@ pub record IsExchange (fabric : PlainFabric) (implementation : PlainImplementati
   pub exchanges : (text : List PlainModule) (netlist : PlainNetlist) (fixed : List Pad) → IsFabricText fabric text → IsWellMade netlist → HasNoCycle netlist
       → IsLegal fabric (packed netlist) fixed implementation → ExchangesColumns fabric text netlist implementation first last (plain_bits bits)
 
--- The files spell a fabric, an implementation on it, and a list of features. The fabric has the columns, and the implementation does not use them. The
--- fabric has each feature too, in whatever column, and no output has two inputs. The one output is the bitstream of the columns.
+-- The files spell a fabric in frames, an implementation on it, and a list of features. The fabric has the columns, and the implementation does not use
+-- them. The fabric has each feature too, in whatever column, and no output has two inputs. The one output is the bitstream of the columns.
 pub record MakesPartial (files : Map) (names : PartialFiles) (outputs : List PlainOutput) : Type 0 where
   pub fabric : PlainFabric
   pub implementation : PlainImplementation
   pub features : List Feature
   pub spelled : SpellsFabric files names.fabric fabric
+  pub frames : fabric.mode ≡ modes.Frames
   pub implemented : ReadsImplementation files names.implementation fabric implementation
   pub read : ReadsFeatures files names.fasm features
   pub within : names.last < fabric.columns
@@ -98,16 +102,25 @@ MeetsContent files names fabric implementation event =
     MeetsBehind (ReadsFeatures files names.fasm) (MeetsFeatures files names.fasm)
     (λ features. MeetsLast (RefusesPartial fabric implementation features names.first names.last)) event
 
--- What is come upon behind the fabric. A fabric whose configuration is no frames would be refused before this, as soon as it is read; the reader of a
--- fabric refuses it today.
+-- what is come upon behind a fabric in frames
 abbrev pub MeetsRunning : (files : Map) (names : PartialFiles) → PlainFabric → Event → Type 0
 MeetsRunning files names fabric event =
     MeetsBehind (ReadsImplementation files names.implementation fabric) (MeetsImplementation files names.implementation fabric) (λ it. MeetsContent files names fabric it) event
 
--- What the command comes upon: first in the fabric file with all that it names, then in the file of the implementation, then in the FASM file, and then
--- in what these spell.
+-- A fabric is refused as soon as it is read, at line 0 of its file, if its configuration is a chain of flip-flops: a word of a chain moves all bits.
+pub record RefusesChain (name : List ℕ) (fabric : PlainFabric) (fault : Fault) : Type 0 where
+  pub chain : fabric.mode ≡ modes.Chain
+  pub is : fault ≡ fault_at name 0 (problems.Unsupported (codes "partial FlipFlopChain"))
+
+abbrev pub HasFrames : PlainFabric → Unit {0} → Type 0
+HasFrames fabric _ = fabric.mode ≡ modes.Frames
+
+-- What the command comes upon: first in the fabric file with all that it names, then in the fabric itself, then in the file of the implementation, then in
+-- the FASM file, and then in what these spell.
 abbrev pub MeetsPartial : (files : Map) (names : PartialFiles) → Event → Type 0
-MeetsPartial files names event = MeetsBehind (SpellsFabric files names.fabric) (MeetsFabric files names.fabric) (λ fabric. MeetsRunning files names fabric) event
+MeetsPartial files names event =
+    MeetsBehind (SpellsFabric files names.fabric) (MeetsFabric files names.fabric)
+    (λ fabric. MeetsBehind (HasFrames fabric) (MeetsLast (RefusesChain names.fabric fabric)) (λ _. MeetsRunning files names fabric)) event
 
 -- nothing is refused
 pub record IsReadyToExchange (files : Map) (names : PartialFiles) : Type 0 where
@@ -115,6 +128,7 @@ pub record IsReadyToExchange (files : Map) (names : PartialFiles) : Type 0 where
   pub implementation : PlainImplementation
   pub features : List Feature
   pub spelled : SpellsFabric files names.fabric fabric
+  pub frames : fabric.mode ≡ modes.Frames
   pub implemented : ReadsImplementation files names.implementation fabric implementation
   pub read : ReadsFeatures files names.fasm features
   pub within : names.last < fabric.columns

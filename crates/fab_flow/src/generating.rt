@@ -11,7 +11,8 @@ ghost use Rattle.fab_syntax.specs.Spelling.{text_bytes};
 ghost use Rattle.fab_gen_tile.specs.Words.{IsNamed};
 ghost use Rattle.fab_assemble.specs.fab_drives_laws_Drives.{ShowsDrives};
 ghost use Rattle.fab_assemble.specs.fab_text_loads_laws_Loads.{LoadsConfigurations};
-ghost use Rattle.fab_assemble.specs.fab_fabric_text_defs_Texts.{IsFabricText};
+ghost use Rattle.fab_gen_top.specs.fab_fabric_text_defs_Mode.{text_mode};
+ghost use Rattle.fab_assemble.specs.fab_fabric_text_defs_Texts.{loaders_of, IsFabricText};
 ghost use Rattle.fab_flow.specs.Generating.{generated_text, text_length, most_text_bytes, IsTooLong, MakesFabric, HasGenerateCause};
 ghost use Rattle.fab_outputs.specs.Storing.{IsDone, Leaves};
 
@@ -19,17 +20,28 @@ use crate::printing::{PrintedText, printed_text};
 use fab_base::{Fault, Memory, Name, Problem, Quantity};
 use fab_desk::Desk;
 use fab_fabric::Fabric;
-use fab_gen_top::generate;
+use fab_gen_top::{generate, text_mode};
+use fab_model::Mode;
 use fab_outputs::{one_output, store_all};
 use fab_progress::{Progress, Step};
 use fab_read::read_fabric;
 use std::alloc::Global;
 
-/// The most bytes of the text of a fabric without the module of its loader. With that module the text is no longer than a file may
+/// The most bytes of the text of a fabric without the module of a loader. With that module the text is no longer than a file may
 /// be that is read.
 const MOST_TEXT_BYTES: u64 = 67_043_328;
 
-/// The printed text of a fabric. Its last two modules are the loader and the top.
+/// How many loaders stand in the text of a fabric, right in front of its top: one, or none where its configuration is a chain.
+pub(crate) fn loader_count(fabric: &Fabric) -> usize
+    ensures { result ≡ length (loaders_of (text_mode fabric.now) fabric.now.rows) }
+{
+    match text_mode(fabric) {
+        Mode::Frames => 1,
+        Mode::Chain => 0,
+    }
+}
+
+/// The printed text of a fabric.
 fn printed_fabric(alloc: Global, fabric: &Fabric) -> Result<PrintedText, Memory>
     ensures printed { IfOk result (λ text. text.bytes.items ≡ text_bytes (generated_text fabric.now)) }
     ensures is_text { OnOk result (All IsNamed fabric.now.types → IsFabricText fabric.now (generated_text fabric.now)) }
@@ -38,8 +50,9 @@ fn printed_fabric(alloc: Global, fabric: &Fabric) -> Result<PrintedText, Memory>
     ensures length { IfOk result (λ text. text.unloaded ≡ text_length fabric.now) }
 {
     let text = generate(alloc, fabric)?;
-    let loader = text.modules.len() - 2;
-    printed_text(alloc, text, loader)
+    let top = text.modules.len() - 1;
+    let first = top - loader_count(fabric);
+    printed_text(alloc, text, first, top)
 }
 
 /// Refuses the text of a fabric that has too many bytes.
@@ -72,9 +85,9 @@ pub(crate) fn fabric_text(alloc: Global, name: &Name, fabric: &Fabric) -> Result
 }
 
 /// Reads a fabric with all files that its file names, and stores its text under the output's name: the primitives, the modules of
-/// its tiles, the loader and the top.
+/// its tiles, the loader where the configuration is kept in frames, and the top.
 ///
-/// The faults of the fabric's files come as `read_fabric` gives them. A text that has more than 67043328 bytes without its loader is refused behind them,
+/// The faults of the fabric's files come as `read_fabric` gives them. A text that has more than 67043328 bytes without a loader is refused behind them,
 /// by the limit of `text bytes` at line 0 of the fabric file. `WriteFault` names the output. With any fault the files that the desk tells are as before.
 pub fn do_generate<D: Desk, P: Progress>(
     alloc: Global,

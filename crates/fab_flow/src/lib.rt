@@ -8,6 +8,7 @@ mod flowing;
 mod generating;
 mod mapping;
 mod matrix;
+mod modes;
 mod partial;
 mod printing;
 mod resetting;

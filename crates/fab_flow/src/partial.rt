@@ -3,6 +3,7 @@
 ghost use Rattle.std.specs.Prelude.{◌≡◌, ◌<◌, ◌≤◌, ◌⊎◌, List, decimal, IfOk, IfErr, OnOk};
 ghost use Rattle.std.specs.Str.{IsUtf8};
 ghost use Rattle.fab_base.specs.declared.fault.Fault.TheVariants as faults;
+ghost use Rattle.fab_model.specs.declared.mode.Mode.TheVariants as modes;
 ghost use Rattle.fab_fabric.specs.Fabric.{wire_count};
 ghost use Rattle.fab_fabric.specs.declared.wire.Site.{Site};
 ghost use Rattle.fab_fabric.specs.declared.wire.Wire.{Wire};
@@ -17,6 +18,7 @@ ghost use Rattle.fab_flow.specs.Partial.{HasPartialCause, IsExchange, IsUseText,
 ghost use Rattle.fab_outputs.specs.Storing.{IsDone, Leaves};
 
 use crate::bits::{read_features, right_bits};
+use crate::modes::check_frames;
 use fab_base::{Fault, Memory, Name};
 use fab_designs::read_implementation;
 use fab_desk::Desk;
@@ -84,6 +86,7 @@ fn exchange(
     first: u32,
     last: u32,
 ) -> Result<Vec<u8>, Fault>
+    requires frames { fabric.now.mode ≡ modes.Frames }
     requires on_fabric { IsOnFabric fabric.now implementation.now }
     requires order { first ≤ last }
     ensures within { OnOk result (last < fabric.now.columns) }
@@ -103,7 +106,8 @@ fn exchange(
 /// Reads a fabric with all files that its file names, the implementation that runs on it, and a list of features, and stores the bitstream
 /// of the columns from the first to the last under the output's name. What the features set in other columns has no effect.
 ///
-/// The faults of the files come as `read_fabric`, `read_implementation` and `read_fasm` give them, in this order. Behind them comes `Illegal`: rule 14 with
+/// The faults of the files come as `read_fabric`, `read_implementation` and `read_fasm` give them, in this order; right behind the fabric, at line 0 of its
+/// file, comes `Unsupported` where its configuration is a chain of flip-flops. Behind them comes `Illegal`: rule 14 with
 /// the last column, which the fabric lacks; rule 13 with what the implementation uses of the columns, a site or a wire; or rule 10 or 11 with a feature or
 /// an output, as for `do_bits`. `WriteFault` names the output. With any fault the files that the desk tells are as before.
 pub fn do_partial<D: Desk, P: Progress>(
@@ -126,6 +130,7 @@ pub fn do_partial<D: Desk, P: Progress>(
 {
     progress.tell(Step::Reading(fabric));
     let read = read_fabric(alloc, desk, fabric)?;
+    check_frames(alloc, fabric, &read, b"partial FlipFlopChain")?;
     progress.tell(Step::Reading(implementation));
     let running = read_implementation(alloc, desk, implementation, &read)?;
     progress.tell(Step::Reading(fasm));

@@ -15,13 +15,13 @@ ghost use Rattle.fab_flow.specs.Generating.{generated_text, most_text_bytes};
 ghost use Rattle.fab_flow.specs.Serial.{text_with_port, serial_length, RefusesSerial, MakesSerial, HasSerialCause};
 ghost use Rattle.fab_outputs.specs.Storing.{IsDone, Leaves};
 
-use crate::generating::check_length;
+use crate::generating::{check_length, loader_count};
+use crate::modes::check_frames;
 use crate::printing::{PrintedText, printed_text};
-use fab_base::{Fault, Memory, Name, Problem};
+use fab_base::{Fault, Memory, Name};
 use fab_desk::Desk;
 use fab_fabric::Fabric;
 use fab_gen_top::generate;
-use fab_model::Mode;
 use fab_outputs::{one_output, store_all};
 use fab_progress::{Progress, Step};
 use fab_read::read_fabric;
@@ -29,21 +29,7 @@ use fab_serial::serial_text;
 use fab_serial_laws::{fabric_texts_take_ports, serial_texts_load};
 use std::alloc::Global;
 
-/// Refuses a fabric whose configuration is a chain of flip-flops, since no words load it.
-fn check_mode(alloc: Global, name: &Name, fabric: &Fabric) -> Result<(), Fault>
-    ensures frames { OnOk result (fabric.now.mode ≡ modes.Frames) }
-    ensures chain { IfErr result (λ fault. (fault ≡ faults.Memory) ⊎ RefusesSerial name.now fabric.now fault) }
-{
-    match fabric.mode() {
-        Mode::Frames => Ok(()),
-        Mode::Chain => {
-            let construct = Name::of(alloc, b"serial FlipFlopChain")?;
-            Err(Problem::Unsupported(construct).at(alloc, name, 0))
-        }
-    }
-}
-
-/// The printed text of a fabric with a serial port. Behind its loader stand the top, the port and the new top.
+/// The printed text of a fabric with a serial port. Behind its loaders stand the top, the port and the new top.
 fn printed_with_port(alloc: Global, fabric: &Fabric) -> Result<PrintedText, Memory>
     ensures printed { IfOk result (λ text. text.bytes.items ≡ text_bytes (text_with_port fabric.now)) }
     ensures is_text { OnOk result (All IsNamed fabric.now.types → IsFabricText fabric.now (generated_text fabric.now)) }
@@ -56,9 +42,10 @@ fn printed_with_port(alloc: Global, fabric: &Fabric) -> Result<PrintedText, Memo
     fabric_texts_take_ports();
     serial_texts_load();
     let text = generate(alloc, fabric)?;
-    let loader = text.modules.len() - 2;
+    let top = text.modules.len() - 1;
+    let first = top - loader_count(fabric);
     let text = serial_text(alloc, text)?;
-    printed_text(alloc, text, loader)
+    printed_text(alloc, text, first, top)
 }
 
 /// The printed text of a fabric with a serial port, where the fabric is none with a chain and the text is not too long.
@@ -74,7 +61,7 @@ fn text_with_port(alloc: Global, name: &Name, fabric: &Fabric) -> Result<Vec<u8>
     ensures refused { IfErr result (λ fault. (fault ≡ faults.Memory) ⊎ RefusesSerial name.now fabric.now fault) }
 {
     fabric.is_well_made();
-    check_mode(alloc, name, fabric)?;
+    check_frames(alloc, name, fabric, b"serial FlipFlopChain")?;
     let text = printed_with_port(alloc, fabric)?;
     check_length(alloc, name, text.unloaded)?;
     Ok(text.bytes)

@@ -1,10 +1,14 @@
 pub mod Lists
 pub mod Numbers
+pub mod Modes
 pub mod Parts
 pub mod Placed
 pub mod Mapped
+pub mod Chains
 pub mod Rows
+pub mod Standing
 pub mod Words
+pub mod PlacedWords
 pub mod Taken
 pub mod Streams
 pub mod ByteWords

@@ -2,7 +2,7 @@
 use Rattle.std.proofs.Common.{◌≡◌, ℕ, zero, suc, ◌+◌, ◌*◌, ◌<◌, ◌≤◌, List, [], ◌∷◌, ◌++◌, true, false, ◌&&◌, nat_lt, if◌then◌else◌, Option, Some, None, length, get_or, slice_get, take, drop, replicate, refl, sym, ap, ◌∙◌, arith, subst, inl, inr, length-append}
 use Rattle.std.specs.Option.{option_and_then, option_map_or}
 use Rattle.std.proofs.lemmas.Bool.{cases_lt}
-use Rattle.std.proofs.lemmas.List.{length-take-le, length-drop, length-replicate, get_or-take, get_or-drop, get_or-replicate, get_or_past}
+use Rattle.std.proofs.lemmas.List.{length-take-le, length-drop, length-replicate, get_or-take, get_or-drop, get_or-replicate}
 use Rattle.std.proofs.lemmas.Option.{slice_get_within, slice_get_read, get_or_from_slice_get, same_Some}
 use Rattle.fab_model.specs.Tiles.{PlainTile, tile_bits}
 use Rattle.fab_model.specs.Tables.{HasTable}
@@ -11,8 +11,7 @@ use Rattle.fab_fabric.specs.Fabric.{IsFabric, IsPlace}
 use Rattle.fab_fabric.specs.Bits.{bits_at}
 use Rattle.fab_fabric.proofs.Placed.{tile_inside}
 use Rattle.fab_frames.specs.Stream.{placed_bit, bit_placed_at}
-use Rattle.fab_frames.specs.inner.Placing.{IsMap, HaveMaps, IsPlacedRow, AreBelow}
-use Rattle.fab_frames.specs.inner.Taking.{ArePlacedOnce}
+use Rattle.fab_frames.specs.inner.Placing.{IsMap, HaveMaps, IsPlacedRow}
 use Rattle.fab_frames.specs.declared.placing.FrameMap.{FrameMap}
 use Rattle.fab_frames.proofs.Lists.{get_left, get_right}
 use Rattle.fab_frames.proofs.Placed.{placed_below, placed_once, has_place}
@@ -174,23 +173,3 @@ placed_somewhere fabric x y number is few =
       | None ↦ λ stands low. absurd (omega (arith, low))
       | Some tile ↦ λ stands low. has_place tile number (tile_has_table fabric x y tile is stands) low
     ] refl few
-
--- a row has entries for its bits alone
-read_below : (placed : List (Option ℕ)) (bit number : ℕ) → length placed ≡ 32 → get_or placed bit None ≡ Some number → bit < 32
-read_below placed bit number long read =
-    elim (cases_lt bit 32) [
-      | inl small ↦ small
-      | inr past ↦ (let none : None ≡ Some number = sym (get_or_past placed bit None (omega (arith, past, long))) ∙ read in cc)
-    ]
-
--- the bits of a row that are placed, as they are read
-pub row_below : (fabric : PlainFabric) (x y frame : ℕ) (placed : List (Option ℕ)) → IsFabric fabric → IsPlacedRow fabric x y frame placed → AreBelow (bits_at fabric x y) placed
-row_below fabric x y frame placed is row bit number read =
-    let small : bit < 32 = read_below placed bit number row.long read in
-    placed_within fabric x y frame bit number is (sym (row.each bit small) ∙ read)
-
-pub row_once : (fabric : PlainFabric) (x y frame : ℕ) (placed : List (Option ℕ)) → IsPlacedRow fabric x y frame placed → ArePlacedOnce placed
-row_once fabric x y frame placed row first second number read read2 =
-    let small : first < 32 = read_below placed first number row.long read in
-    let small2 : second < 32 = read_below placed second number row.long read2 in
-    (placed_nowhere_else fabric x y frame first frame second number (sym (row.each first small) ∙ read) (sym (row.each second small2) ∙ read2)).1

@@ -1,17 +1,21 @@
 -- The parts of a stream as the code makes them.
-use Rattle.std.proofs.Common.{◌≡◌, ℕ, ◌+◌, ◌<◌, ◌≤◌, List, [], ◌∷◌, ◌++◌, Some, length, map, replicate, slice_get, get_or, take, option_map, refl, sym, ap, ◌∙◌, subst, append_assoc}
+use Rattle.std.proofs.Common.{◌≡◌, ℕ, ◌+◌, ◌/◌, ◌<◌, ◌≤◌, List, [], ◌∷◌, ◌++◌, Some, length, map, reverse, replicate, slice_get, get_or, take, option_map, refl, sym, ap, ◌∙◌, arith, append_assoc}
+use Rattle.std.specs.Int.{div_ceil}
 use Rattle.std.specs.List.{flat_map}
 use Rattle.std.proofs.lemmas.List.{append-nil, map-append, map_more, map_push, replicate_more, take_all, length-map}
 use Rattle.std.proofs.lemmas.Option.{slice_get-map, slice_get-get_or}
+use Rattle.fab_model.specs.declared.mode.Mode.{Mode}
+use Rattle.fab_model.specs.declared.mode.Mode.TheVariants as modes
 use Rattle.fab_model.specs.Drive.{PlainBits}
 use Rattle.fab_model.specs.Tiles.{counted}
 use Rattle.fab_model.specs.Grid.{PlainFabric}
-use Rattle.fab_frames.specs.Stream.{Part, fixed, waiting_word, waiting_words, synchronizing_words, header, column_parts, parts, word_of, stream}
+use Rattle.fab_frames.specs.Positions.{chain}
+use Rattle.fab_frames.specs.Stream.{stream_mode, Part, fixed, waiting_word, waiting_words, synchronizing_words, header, of_chain, column_parts, all_frames, parts, word_of, stream}
 use Rattle.fab_frames.specs.inner.Taking.{plain_part, IsWithin}
 use Rattle.fab_frames.specs.declared.plan.Part.{Part as CodePart}
-use Rattle.fab_frames.specs.declared.plan.Part.TheVariants as code_parts
-use Rattle.fab_frames.proofs.Rows.{part_within}
-use Rattle.fab_frames.proofs.Lists.{counted_more, no_counted, pieces_more, no_pieces}
+use Rattle.fab_frames.proofs.Lists.{counted_more, no_counted, pieces_more, no_pieces, reversed_more}
+use Rattle.fab_frames.proofs.Modes.{frames_parts, chain_parts}
+use Rattle.fab_frames.proofs.Standing.{part_within}
 
 -- one part more
 pub part_put : (parts new : List CodePart) (part : CodePart) (before tail : List Part) → map plain_part parts ≡ before ++ tail → new ≡ parts ++ part ∷ [] →
@@ -79,18 +83,13 @@ header_put empty first second is first_is second_is =
 
 -- the last word behind all columns
 pub all_put : (fabric : PlainFabric) (found new : List CodePart) (part : CodePart) (n : ℕ) → map plain_part found ≡ map fixed header ++ flat_map (column_parts fabric) (counted n (λ x. x)) →
-    n ≡ fabric.columns → new ≡ found ++ part ∷ [] → plain_part part ≡ fixed waiting_word → map plain_part new ≡ parts fabric
-unfolding parts
+    n ≡ fabric.columns → new ≡ found ++ part ∷ [] → plain_part part ≡ fixed waiting_word → map plain_part new ≡ all_frames fabric
 all_put fabric found new part n so_far all new_is part_is =
     part_put found new part (map fixed header) (flat_map (column_parts fabric) (counted n (λ x. x))) so_far new_is
     ∙ ap (λ p. map fixed header ++ (flat_map (column_parts fabric) (counted n (λ x. x)) ++ p ∷ [])) part_is
     ∙ ap (λ k. map fixed header ++ (flat_map (column_parts fabric) (counted k (λ x. x)) ++ fixed waiting_word ∷ [])) all
 
 -- ---- parts of the code's plan
-
--- a row that is there
-pub row_within : (fabric : PlainFabric) (part : CodePart) (x y frame : ℕ) → part ≡ code_parts.Row x y frame → IsWithin fabric (plain_part part) → (x < fabric.columns) × (y < fabric.rows) × (frame < 20)
-row_within fabric part x y frame is within = subst (λ (p : CodePart). IsWithin fabric (plain_part p)) is within
 
 -- the part at a place
 pub part_at : (fabric : PlainFabric) (found : List CodePart) (i : ℕ) (d : CodePart) → map plain_part found ≡ parts fabric → i < length found → slice_get (parts fabric) i ≡ Some (plain_part (get_or found i d))
@@ -121,6 +120,28 @@ parts_length fabric read found read_is is = ap length read_is ∙ sym (length-ma
 pub part_read : (fabric : PlainFabric) (read found : List CodePart) (i : ℕ) (d : CodePart) → read ≡ found → map plain_part found ≡ parts fabric → i < length read →
     slice_get (parts fabric) i ≡ Some (plain_part (get_or read i d))
 part_read fabric read found i d read_is is few = part_at fabric read i d (ap (map plain_part) read_is ∙ is) few
+
+-- ---- both modes
+
+pub all_of_frames : (fabric : PlainFabric) (mode : Mode) (found : List CodePart) → mode ≡ stream_mode fabric → mode ≡ modes.Frames → map plain_part found ≡ all_frames fabric → map plain_part found ≡ parts fabric
+all_of_frames fabric mode found told is found_is = found_is ∙ sym (frames_parts fabric (sym told ∙ is))
+
+pub all_of_chain : (fabric : PlainFabric) (mode : Mode) (found : List CodePart) (positions words : ℕ) → mode ≡ stream_mode fabric → mode ≡ modes.Chain →
+    (stream_mode fabric ≡ modes.Chain → positions ≡ length (chain fabric)) → words ≡ div_ceil positions 32 → map plain_part found ≡ reverse (counted words of_chain) → map plain_part found ≡ parts fabric
+all_of_chain fabric mode found positions words told is many words_is found_is =
+    let chained : stream_mode fabric ≡ modes.Chain = sym told ∙ is in
+    let rounded : words ≡ (positions + 31) / 32 = omega (arith, words_is) in
+    found_is ∙ ap (λ n. reverse (counted n of_chain)) (rounded ∙ ap (λ n. (n + 31) / 32) (many chained)) ∙ sym (chain_parts fabric chained)
+
+-- one word of a chain more, the next one down
+pub chain_word_put : (found new : List CodePart) (part : CodePart) (whole : List Part) (n : ℕ) → map plain_part found ++ reverse (counted (n + 1) of_chain) ≡ whole → new ≡ found ++ part ∷ [] →
+    plain_part part ≡ of_chain n → map plain_part new ++ reverse (counted n of_chain) ≡ whole
+chain_word_put found new part whole n so_far new_is part_is =
+    ap (λ ps. ps ++ reverse (counted n of_chain)) (ap (map plain_part) new_is ∙ map_push plain_part found part) ∙ reversed_more n of_chain (map plain_part found) whole (plain_part part) so_far part_is
+
+pub whole_chain_put : (found : List CodePart) (whole : List Part) (n : ℕ) → n ≡ 0 → map plain_part found ++ reverse (counted n of_chain) ≡ whole → map plain_part found ≡ whole
+whole_chain_put found whole n none so_far =
+    sym (append-nil (map plain_part found)) ∙ ap (λ rest. map plain_part found ++ rest) (sym (ap (λ k. reverse (counted k of_chain)) none ∙ ap reverse (no_counted of_chain))) ∙ so_far
 
 -- ---- words that wake the loader
 

@@ -1,13 +1,12 @@
 -- Where the words of rows stand in a stream.
-use Rattle.std.proofs.Common.{◌≡◌, ℕ, zero, suc, ◌+◌, ◌-◌, ◌*◌, ◌<◌, ◌≤◌, List, [], ◌∷◌, ◌++◌, Some, None, length, map, slice_get, option_map, refl, sym, ap, ◌∙◌, arith, subst, inl, inr}
+use Rattle.std.proofs.Common.{◌≡◌, ℕ, zero, suc, ◌+◌, ◌-◌, ◌*◌, ◌<◌, List, [], ◌∷◌, ◌++◌, Some, None, length, map, slice_get, option_map, refl, sym, ap, ◌∙◌, arith, subst, inl, inr}
 use Rattle.std.specs.List.{flat_map}
 use Rattle.std.proofs.lemmas.Bool.{cases_lt}
-use Rattle.std.proofs.lemmas.Option.{slice_get_within, slice_get-map}
+use Rattle.std.proofs.lemmas.Option.{slice_get_within, slice_get-map, same_Some}
 use Rattle.fab_model.specs.Tiles.{counted}
 use Rattle.fab_model.specs.Grid.{PlainFabric}
-use Rattle.fab_frames.specs.Stream.{Part, fixed, of_row, header, waiting_word, waiting_words, address_word, frame_parts, column_parts, parts}
-use Rattle.fab_frames.specs.inner.Taking.{IsWithin}
-use Rattle.fab_frames.proofs.Lists.{get_left, get_right, length_counted, get_counted, length_pieces, get_piece, piece_found}
+use Rattle.fab_frames.specs.Stream.{Part, fixed, of_row, of_chain, header, waiting_word, waiting_words, address_word, frame_parts, column_parts, all_frames}
+use Rattle.fab_frames.proofs.Lists.{get_left, get_right, length_counted, get_counted, counted_item, length_pieces, get_piece, piece_found}
 
 -- ---- lengths
 
@@ -35,12 +34,8 @@ columns_parts fabric = flat_map (column_parts fabric) (counted fabric.columns (�
 pub row_place : PlainFabric → (x y frame : ℕ) → ℕ
 row_place fabric x y frame = 38 + (x * column_length fabric + (frame * frame_length fabric + suc y))
 
-parts_are : (fabric : PlainFabric) → parts fabric ≡ map fixed header ++ (columns_parts fabric ++ fixed waiting_word ∷ [])
-unfolding parts
-parts_are fabric = refl
-
 -- at this place stands the row
-pub row_at : (fabric : PlainFabric) (x y frame : ℕ) → x < fabric.columns → y < fabric.rows → frame < 20 → slice_get (parts fabric) (row_place fabric x y frame) ≡ Some (of_row x y frame)
+pub row_at : (fabric : PlainFabric) (x y frame : ℕ) → x < fabric.columns → y < fabric.rows → frame < 20 → slice_get (all_frames fabric) (row_place fabric x y frame) ≡ Some (of_row x y frame)
 unfolding row_place
 row_at fabric x y frame few low small =
     let in_frame : suc y < frame_length fabric = omega (arith, low) in
@@ -52,8 +47,7 @@ row_at fabric x y frame few low small =
     let columns : slice_get (columns_parts fabric) (x * column_length fabric + in_column) ≡ Some (of_row x y frame) =
     get_piece (column_parts fabric) (column_length fabric) fabric.columns (λ x. x) x in_column (length_column fabric) few (subst (λ (n : ℕ). in_column < n) (length_column fabric x) below) ∙ column in
     let inside : x * column_length fabric + in_column < length (columns_parts fabric) = slice_get_within (columns_parts fabric) (x * column_length fabric + in_column) (of_row x y frame) columns in
-    ap (λ ps. slice_get ps (38 + (x * column_length fabric + in_column))) (parts_are fabric)
-    ∙ get_right (map fixed header) (columns_parts fabric ++ fixed waiting_word ∷ []) (38 + (x * column_length fabric + in_column)) (x * column_length fabric + in_column)
+    get_right (map fixed header) (columns_parts fabric ++ fixed waiting_word ∷ []) (38 + (x * column_length fabric + in_column)) (x * column_length fabric + in_column)
     (ap (λ n. n + (x * column_length fabric + in_column)) (sym length_header))
     ∙ get_left (columns_parts fabric) (fixed waiting_word ∷ []) (x * column_length fabric + in_column) inside
     ∙ columns
@@ -67,70 +61,53 @@ pub record StandsAt (fabric : PlainFabric) (k x y frame : ℕ) : Type 0 where
   pub small : frame < 20
   pub at : k ≡ row_place fabric x y frame
 
-no_row : (words : List ℕ) (k x y frame : ℕ) → slice_get (map fixed words) k ≡ Some (of_row x y frame) → ⊥
-no_row words k x y frame is =
-    let found : option_map fixed (slice_get words k) ≡ Some (of_row x y frame) = sym (slice_get-map fixed words k) ∙ is in
-    elim (slice_get words k) as (λ o. option_map fixed o ≡ Some (of_row x y frame) → ⊥) [
+-- what a part stands for at its place
+abbrev pub StandsAs : PlainFabric → (k : ℕ) → Part → Type 0
+StandsAs fabric k (fixed word) = Unit {0}
+StandsAs fabric k (of_row x y frame) = StandsAt fabric k x y frame
+StandsAs fabric k (of_chain word) = ⊥
+
+of_fixed : (fabric : PlainFabric) (words : List ℕ) (i k : ℕ) (part : Part) → slice_get (map fixed words) i ≡ Some part → StandsAs fabric k part
+of_fixed fabric words i k part is =
+    let found : option_map fixed (slice_get words i) ≡ Some part = sym (slice_get-map fixed words i) ∙ is in
+    elim (slice_get words i) as (λ o. option_map fixed o ≡ Some part → StandsAs fabric k part) [
       | None ↦ λ e. cc
-      | Some word ↦ λ e. cc
+      | Some word ↦ λ e. subst (StandsAs fabric k) (same_Some (fixed word) part e) tt
     ] found
 
--- the rows of a frame
-in_frame : (fabric : PlainFabric) (i frame2 j x y frame : ℕ) → slice_get (frame_parts fabric i frame2) j ≡ Some (of_row x y frame) → (i ≡ x) × (frame2 ≡ frame) × (j ≡ suc y) × (y < fabric.rows)
-in_frame fabric i frame2 zero x y frame is = absurd (no_row (address_word i frame2 ∷ []) 0 x y frame is)
-in_frame fabric i frame2 (suc j) x y frame is =
-    let low : j < fabric.rows =
-    subst (λ (n : ℕ). j < n) (length_counted fabric.rows (λ y. of_row i y frame2)) (slice_get_within (counted fabric.rows (λ y. of_row i y frame2)) j (of_row x y frame) is) in
-    let same : Some (of_row i j frame2) ≡ Some (of_row x y frame) = sym (get_counted fabric.rows (λ y. of_row i y frame2) j low) ∙ is in
-    let columns : i ≡ x = cc in
-    let frames : frame2 ≡ frame = cc in
-    let rows : j ≡ y = cc in
-    (columns, frames, ap suc rows, omega (arith, low, rows))
-
-in_columns : (fabric : PlainFabric) (k x y frame : ℕ) → slice_get (columns_parts fabric) k ≡ Some (of_row x y frame) →
-    (x < fabric.columns) × (y < fabric.rows) × (frame < 20) × (k ≡ x * column_length fabric + (frame * frame_length fabric + suc y))
-in_columns fabric k x y frame is =
-    let column = piece_found (column_parts fabric) (column_length fabric) fabric.columns (λ x. x) k (of_row x y frame) (length_column fabric) is in
-    let found = piece_found (frame_parts fabric column.i) (frame_length fabric) 20 (λ frame. frame) column.j (of_row x y frame) (length_frame fabric column.i) column.item in
-    let row = in_frame fabric column.i found.i found.j x y frame found.item in
-    let at : k ≡ x * column_length fabric + (frame * frame_length fabric + suc y) =
-    column.at
-    ∙ ap (λ j. column.i * column_length fabric + j) (found.at ∙ ap (λ j. found.i * frame_length fabric + j) row.2)
-    ∙ ap (λ i. i * column_length fabric + (found.i * frame_length fabric + suc y)) row.0
-    ∙ ap (λ i. x * column_length fabric + (i * frame_length fabric + suc y)) row.1 in
-    (subst (λ (n : ℕ). n < fabric.columns) row.0 column.few, row.3, subst (λ (n : ℕ). n < 20) row.1 found.few, at)
-
-stands : (fabric : PlainFabric) (k x y frame : ℕ) → 38 ≤ k → slice_get (columns_parts fabric ++ fixed waiting_word ∷ []) (k - 38) ≡ Some (of_row x y frame) → StandsAt fabric k x y frame
+of_frame : (fabric : PlainFabric) (x frame j k : ℕ) (part : Part) → x < fabric.columns → frame < 20 → k ≡ 38 + (x * column_length fabric + (frame * frame_length fabric + j)) →
+    slice_get (frame_parts fabric x frame) j ≡ Some part → StandsAs fabric k part
 unfolding row_place
-stands fabric k x y frame past later =
-    let all : ℕ = length (columns_parts fabric) in
-    elim (cases_lt (k - 38) all) [
-      | inl less ↦ (
-          let found = in_columns fabric (k - 38) x y frame (sym (get_left (columns_parts fabric) (fixed waiting_word ∷ []) (k - 38) less) ∙ later) in
-          record {
-            column = found.0;
-            row = found.1;
-            small = found.2;
-            at = omega (arith, past, found.3);
-          })
-      | inr end ↦
-          absurd (no_row (waiting_word ∷ []) (k - 38 - all) x y frame (sym (get_right (columns_parts fabric) (fixed waiting_word ∷ []) (k - 38) (k - 38 - all) (omega (arith, end))) ∙ later))
-    ]
+of_frame fabric x frame zero k part few small at is = subst (StandsAs fabric k) (same_Some (fixed (address_word x frame)) part is) tt
+of_frame fabric x frame (suc j) k part few small at is =
+    let found = counted_item fabric.rows (λ y. of_row x y frame) j part is in
+    let made : StandsAt fabric k x j frame = record {
+      column = few;
+      row = found.0;
+      small = small;
+      at = at;
+    } in
+    subst (StandsAs fabric k) found.1 made
 
-pub row_found : (fabric : PlainFabric) (k x y frame : ℕ) → slice_get (parts fabric) k ≡ Some (of_row x y frame) → StandsAt fabric k x y frame
-unfolding row_place
-row_found fabric k x y frame is =
-    let behind : List Part = columns_parts fabric ++ fixed waiting_word ∷ [] in
-    let there : slice_get (map fixed header ++ behind) k ≡ Some (of_row x y frame) = ap (λ ps. slice_get ps k) (sym (parts_are fabric)) ∙ is in
+of_columns : (fabric : PlainFabric) (i k : ℕ) (part : Part) → k ≡ 38 + i → slice_get (columns_parts fabric) i ≡ Some part → StandsAs fabric k part
+of_columns fabric i k part at is =
+    let column = piece_found (column_parts fabric) (column_length fabric) fabric.columns (λ x. x) i part (length_column fabric) is in
+    let found = piece_found (frame_parts fabric column.i) (frame_length fabric) 20 (λ frame. frame) column.j part (length_frame fabric column.i) column.item in
+    let place : i ≡ column.i * column_length fabric + (found.i * frame_length fabric + found.j) = column.at ∙ ap (λ j. column.i * column_length fabric + j) found.at in
+    of_frame fabric column.i found.i found.j k part column.few found.few (at ∙ ap (λ n. 38 + n) place) found.item
+
+pub part_stands : (fabric : PlainFabric) (k : ℕ) (part : Part) → slice_get (all_frames fabric) k ≡ Some part → StandsAs fabric k part
+part_stands fabric k part is =
+    let columns : List Part = columns_parts fabric in
+    let last : List Part = fixed waiting_word ∷ [] in
+    let behind : (i : ℕ) → k ≡ 38 + i → slice_get (columns ++ last) i ≡ Some part → StandsAs fabric k part = λ i at there.
+    elim (cases_lt i (length columns)) [
+      | inl less ↦ of_columns fabric i k part at (sym (get_left columns last i less) ∙ there)
+      | inr end ↦ of_fixed fabric (waiting_word ∷ []) (i - length columns) k part (sym (get_right columns last i (i - length columns) (omega (arith, end))) ∙ there)
+    ] in
     elim (cases_lt k 38) [
-      | inl less ↦ absurd (no_row header k x y frame (sym (get_left (map fixed header) behind k (subst (λ (n : ℕ). k < n) (sym length_header) less)) ∙ there))
+      | inl less ↦ of_fixed fabric header k k part (sym (get_left (map fixed header) (columns ++ last) k (subst (λ (n : ℕ). k < n) (sym length_header) less)) ∙ is)
       | inr past ↦ (
           let at : k ≡ 38 + (k - 38) = omega (arith, past) in
-          let later : slice_get behind (k - 38) ≡ Some (of_row x y frame) = sym (get_right (map fixed header) behind k (k - 38) (at ∙ ap (λ n. n + (k - 38)) (sym length_header))) ∙ there in
-          stands fabric k x y frame past later)
+          behind (k - 38) at (sym (get_right (map fixed header) (columns ++ last) k (k - 38) (at ∙ ap (λ n. n + (k - 38)) (sym length_header))) ∙ is))
     ]
-
--- what stands in a stream is there
-pub part_within : (fabric : PlainFabric) (k : ℕ) (part : Part) → slice_get (parts fabric) k ≡ Some part → IsWithin fabric part
-part_within fabric k (fixed word) is = tt
-part_within fabric k (of_row x y frame) is = let found = row_found fabric k x y frame is in (found.column, found.row, found.small)

@@ -15,12 +15,15 @@ use Rattle.fab_base.specs.declared.words.Reason.TheVariants as reasons
 use Rattle.fab_model.specs.Grid.{PlainFabric}
 use Rattle.fab_model.specs.Drive.{PlainBits}
 use Rattle.fab_fabric.specs.Fabric.{IsFabric}
-use Rattle.fab_fabric.specs.Bits.{plain_bits, place_bits, column_bits, bits_at, AreBitsOf}
-use Rattle.fab_frames.specs.Stream.{Part, fixed, of_row, parts, word_of, stream, bit_placed_at, word_bit, has_spare_bit, row_word, part_problem, problem_of, problem_at, IsFirstWrong}
+use Rattle.fab_fabric.specs.Bits.{plain_bits, place_bits, column_bits, AreBitsOf}
+use Rattle.fab_frames.specs.Positions.{bit_place, bit_in, placed_in_chain}
+use Rattle.fab_frames.specs.Stream.{Part, fixed, of_row, of_chain, parts, word_of, stream, bit_placed_at, placed_word, word_bit, has_spare, part_problem, problem_of, problem_at, IsFirstWrong}
 use Rattle.fab_frames.specs.Refusals.{IsStreamRefusal}
-use Rattle.fab_frames.specs.inner.Taking.{TakesWord}
-use Rattle.fab_frames.proofs.Rows.{row_place, row_at, row_found}
-use Rattle.fab_frames.proofs.Mapped.{placed_nowhere_else, placed_somewhere}
+use Rattle.fab_frames.specs.inner.Taking.{placed_by, TakesBits, TakesWord}
+use Rattle.fab_frames.specs.declared.positions.BitPlace.{BitPlace}
+use Rattle.fab_frames.proofs.Chains.{IsBitOf}
+use Rattle.fab_frames.proofs.PlacedWords.{PlacesBits, places_bits, word_by_places, problem_by_places}
+use Rattle.fab_frames.proofs.Standing.{part_within, placed_once, part_once, each_stands}
 use Rattle.fab_frames.proofs.Words.{bit_there, placed_word_is, bit_of_word, zero_there, placed_word_fine}
 
 -- ---- words of a stream
@@ -39,6 +42,7 @@ same_number n = grind (arith, nat_tests)
 part_fine : (fabric : PlainFabric) (bits : PlainBits) (part : Part) → part_problem fabric part (word_of fabric bits part) ≡ None
 part_fine fabric bits (fixed word) = ap (λ b. if b then None else Some reasons.Stream) (same_number word)
 part_fine fabric bits (of_row x y frame) = ap (λ b. if b then Some reasons.SpareBit else None) (placed_word_fine (bit_placed_at fabric x y frame) (bits x y))
+part_fine fabric bits (of_chain number) = ap (λ b. if b then Some reasons.SpareBit else None) (placed_word_fine (placed_in_chain fabric number) (bit_in bits))
 
 problem_of_part : (fabric : PlainFabric) (bits : PlainBits) (part : Option Part) → problem_of fabric part (option_map (word_of fabric bits) part) ≡ None
 problem_of_part fabric bits None = refl
@@ -50,50 +54,41 @@ stream_fine fabric bits place = ap (problem_of fabric (slice_get (parts fabric) 
 
 -- ---- words that are taken
 
--- the configuration bits that are placed in a row of a frame are the bits of a word
-abbrev pub HasRow : PlainFabric → (bits : List (List (List Bool))) → (x y frame word : ℕ) → Type 0
-HasRow fabric bits x y frame word =
-    (bit number : ℕ) → bit < 32 → bit_placed_at fabric x y frame bit ≡ Some number → plain_bits bits x y number ≡ word_bit word bit
+-- the configuration bits that are placed are the bits of a word
+abbrev pub HasBits : (placed : ℕ → Option BitPlace) → (bits : List (List (List Bool))) → (word : ℕ) → Type 0
+HasBits placed bits word = (bit : ℕ) (at : BitPlace) → bit < 32 → placed bit ≡ Some at → bit_in (plain_bits bits) at ≡ word_bit word bit
 
 -- the first n words are taken
 pub record HaveTaken (fabric : PlainFabric) (words : List ℕ) (n : ℕ) (bits : List (List (List Bool))) : Type 0 where
   pub are_bits : AreBitsOf fabric bits
   pub present : n ≤ length words
   pub fine : (k : ℕ) → k < n → problem_at fabric words k ≡ None
-  pub taken : (k x y frame word : ℕ) → k < n → slice_get (parts fabric) k ≡ Some (of_row x y frame) → slice_get words k ≡ Some word → HasRow fabric bits x y frame word
+  pub taken : (k : ℕ) (part : Part) (word : ℕ) → k < n → slice_get (parts fabric) k ≡ Some part → slice_get words k ≡ Some word → HasBits (placed_by fabric part) bits word
 
--- rows that were taken before stay as they are
-row_stays : (fabric : PlainFabric) (n k x y frame x2 y2 frame2 word word2 : ℕ) (old new : List (List (List Bool))) → k < n → slice_get (parts fabric) n ≡ Some (of_row x y frame) →
-    slice_get (parts fabric) k ≡ Some (of_row x2 y2 frame2) → TakesWord fabric (of_row x y frame) (Some word) old new → HasRow fabric old x2 y2 frame2 word2 → HasRow fabric new x2 y2 frame2 word2
-row_stays fabric n k x y frame x2 y2 frame2 word word2 old new less at at2 takes has bit2 number small2 is2 =
-    let found = row_found fabric n x y frame at in
-    let found2 = row_found fabric k x2 y2 frame2 at2 in
-    let apart : (bit : ℕ) → bit < 32 → x2 ≡ x → y2 ≡ y → bit_placed_at fabric x y frame bit ≡ Some number → ⊥ = λ bit small columns rows is. (
-    let moved : bit_placed_at fabric x2 y2 frame bit ≡ Some number = (λ i. bit_placed_at fabric (columns i) (rows i) frame bit) ∙ is in
-    let frames : frame2 ≡ frame = (placed_nowhere_else fabric x2 y2 frame2 bit2 frame bit number is2 moved).0 in
-    let places : row_place fabric x2 y2 frame2 ≡ row_place fabric x y frame = λ i. row_place fabric (columns i) (rows i) (frames i) in
-    let same : k ≡ n = found2.at ∙ places ∙ sym found.at in
+-- bits that were taken before stay as they are
+bits_stay : (fabric : PlainFabric) (n k : ℕ) (part part2 : Part) (word word2 : ℕ) (old new : List (List (List Bool))) → k < n → slice_get (parts fabric) n ≡ Some part → slice_get (parts fabric) k ≡ Some part2 →
+    TakesBits (placed_by fabric part) word old new → HasBits (placed_by fabric part2) old word2 → HasBits (placed_by fabric part2) new word2
+bits_stay fabric n k part part2 word word2 old new less at at2 takes has bit2 place small2 there2 =
+    let other : (bit : ℕ) → bit < 32 → placed_by fabric part bit ≡ Some place → ⊥ = λ bit small there. (
+    let once = placed_once fabric part part2 bit bit2 place (part_within fabric n part at) (part_within fabric k part2 at2) small small2 there there2 in
+    let same : n ≡ k = part_once fabric n k part bit place at (at2 ∙ ap Some (sym once.0)) there in
     omega (arith, same, less)) in
-    takes.kept x2 y2 number apart ∙ has bit2 number small2 is2
+    takes.kept place other ∙ has bit2 place small2 there2
 
--- the word in the last place, if it is a row
-row_has : (fabric : PlainFabric) (n x y frame word : ℕ) (words : List ℕ) (part : Part) (given : Option ℕ) (old new : List (List (List Bool))) → slice_get (parts fabric) n ≡ Some part → slice_get words n ≡ given →
-    TakesWord fabric part given old new → slice_get (parts fabric) n ≡ Some (of_row x y frame) → slice_get words n ≡ Some word → HasRow fabric new x y frame word
-row_has fabric n x y frame word words part given old new at given_is takes row_is word_is =
-    let parts_same : Some part ≡ Some (of_row x y frame) = sym at ∙ row_is in
-    let part_same : part ≡ of_row x y frame = cc in
-    let given_same : given ≡ Some word = sym given_is ∙ word_is in
-    let takes_row : TakesWord fabric (of_row x y frame) (Some word) old new =
-    subst (λ (p : Part). TakesWord fabric p (Some word) old new) part_same (subst (λ (o : Option ℕ). TakesWord fabric part o old new) given_same takes) in
-    takes_row.taken
+-- whatever the part is
+stays : (fabric : PlainFabric) (n k : ℕ) (part part2 : Part) (given : Option ℕ) (word2 : ℕ) (old new : List (List (List Bool))) → k < n → slice_get (parts fabric) n ≡ Some part →
+    slice_get (parts fabric) k ≡ Some part2 → TakesWord fabric part given old new → HasBits (placed_by fabric part2) old word2 → HasBits (placed_by fabric part2) new word2
+stays fabric n k part part2 None word2 old new less at at2 takes has = absurd takes
+stays fabric n k (fixed expected) part2 (Some word) word2 old new less at at2 takes has = subst (λ (bits : List (List (List Bool))). HasBits (placed_by fabric part2) bits word2) (sym takes) has
+stays fabric n k (of_row x y frame) part2 (Some word) word2 old new less at at2 takes has = bits_stay fabric n k (of_row x y frame) part2 word word2 old new less at at2 takes has
+stays fabric n k (of_chain number) part2 (Some word) word2 old new less at at2 takes has = bits_stay fabric n k (of_chain number) part2 word word2 old new less at at2 takes has
 
--- rows that were taken before stay, whatever the part is
-stays : (fabric : PlainFabric) (n k x2 y2 frame2 word2 : ℕ) (part : Part) (given : Option ℕ) (old new : List (List (List Bool))) → k < n → slice_get (parts fabric) n ≡ Some part →
-    slice_get (parts fabric) k ≡ Some (of_row x2 y2 frame2) → TakesWord fabric part given old new → HasRow fabric old x2 y2 frame2 word2 → HasRow fabric new x2 y2 frame2 word2
-stays fabric n k x2 y2 frame2 word2 part None old new less at at2 takes has = absurd takes
-stays fabric n k x2 y2 frame2 word2 (fixed expected) (Some word) old new less at at2 takes has =
-    subst (λ (bits : List (List (List Bool))). HasRow fabric bits x2 y2 frame2 word2) (sym takes) has
-stays fabric n k x2 y2 frame2 word2 (of_row x y frame) (Some word) old new less at at2 takes has = row_stays fabric n k x y frame x2 y2 frame2 word word2 old new less at at2 takes has
+-- the word in the last place
+last_has : (fabric : PlainFabric) (part : Part) (given : Option ℕ) (word : ℕ) (old new : List (List (List Bool))) → given ≡ Some word → TakesWord fabric part given old new → HasBits (placed_by fabric part) new word
+last_has fabric part None word old new is takes = absurd takes
+last_has fabric (fixed expected) (Some given) word old new is takes = λ bit at small there. cc
+last_has fabric (of_row x y frame) (Some given) word old new is takes = λ bit at small there. takes.taken bit at small there ∙ ap (λ w. word_bit w bit) (same_Some given word is)
+last_has fabric (of_chain number) (Some given) word old new is takes = λ bit at small there. takes.taken bit at small there ∙ ap (λ w. word_bit w bit) (same_Some given word is)
 
 -- a word that is taken is there
 taken_present : (fabric : PlainFabric) (n : ℕ) (words : List ℕ) (part : Part) (given : Option ℕ) (old new : List (List (List Bool))) → slice_get words n ≡ given → TakesWord fabric part given old new → n < length words
@@ -112,43 +107,48 @@ word_taken fabric words n part given old new at given_is no_problem are takes so
             let last : k ≡ n = omega (arith, few, past) in
             ap (problem_at fabric words) last ∙ (λ i. problem_of fabric (at i) (given_is i)) ∙ no_problem)
       ];
-  taken = λ k x y frame word few row_is word_is.
+  taken = λ k part2 word few part_is word_is.
       elim (cases_lt k n) [
-        | inl less ↦ stays fabric n k x y frame word part given old new less at row_is takes (so_far.taken k x y frame word less row_is word_is)
+        | inl less ↦ stays fabric n k part part2 given word old new less at part_is takes (so_far.taken k part2 word less part_is word_is)
         | inr past ↦ (
             let last : k ≡ n = omega (arith, few, past) in
-            row_has fabric n x y frame word words part given old new at given_is takes (ap (slice_get (parts fabric)) (sym last) ∙ row_is) (ap (slice_get words) (sym last) ∙ word_is))
+            let same : part ≡ part2 = same_Some part part2 (sym at ∙ ap (slice_get (parts fabric)) (sym last) ∙ part_is) in
+            let given_same : given ≡ Some word = sym given_is ∙ ap (slice_get words) (sym last) ∙ word_is in
+            subst (λ (p : Part). HasBits (placed_by fabric p) new word) same (last_has fabric part given word old new given_same takes))
       ];
 }
 
 -- ---- all words
 
-spare_free : (fabric : PlainFabric) (x y frame word : ℕ) → part_problem fabric (of_row x y frame) word ≡ None → has_spare_bit fabric x y frame word ≡ false
-spare_free fabric x y frame word fine =
-    elim (has_spare_bit fabric x y frame word) as (λ b. (if b then Some reasons.SpareBit else None) ≡ None → b ≡ false) [
-      | true ↦ λ e. cc
-      | false ↦ λ e. refl
-    ] fine
+spare_free : (spare : Bool) → (if spare then Some reasons.SpareBit else None) ≡ None → spare ≡ false
+spare_free true fine = cc
+spare_free false fine = refl
 
--- the bit at a bit of a row
-row_bit : (fabric : PlainFabric) (bits : List (List (List Bool))) (x y frame word bit : ℕ) → bit < 32 → has_spare_bit fabric x y frame word ≡ false → HasRow fabric bits x y frame word →
-    bit_there (bit_placed_at fabric x y frame) (plain_bits bits x y) bit ≡ word_bit word bit
-row_bit fabric bits x y frame word bit small fine has =
-    elim (bit_placed_at fabric x y frame bit) as (λ o. bit_placed_at fabric x y frame bit ≡ o → option_map_or (plain_bits bits x y) o false ≡ word_bit word bit) [
-      | None ↦ λ is. sym (zero_there (bit_placed_at fabric x y frame) word bit small fine is)
-      | Some number ↦ λ is. has bit number small is
+-- the bit at a bit of a word
+bit_at : (placed : ℕ → Option BitPlace) (bits : List (List (List Bool))) (word bit : ℕ) → bit < 32 → has_spare placed word ≡ false → HasBits placed bits word →
+    bit_there placed (bit_in (plain_bits bits)) bit ≡ word_bit word bit
+bit_at placed bits word bit small fine has =
+    elim (placed bit) as (λ o. placed bit ≡ o → option_map_or (bit_in (plain_bits bits)) o false ≡ word_bit word bit) [
+      | None ↦ λ is. sym (zero_there placed word bit small fine is)
+      | Some at ↦ λ is. has bit at small is
     ] refl
 
--- a word that is fine and has the bits of its row is the word of its part
-word_is : (fabric : PlainFabric) (bits : List (List (List Bool))) (part : Part) (word : ℕ) → word < 2 ^ 32 → part_problem fabric part word ≡ None →
-    ((x y frame : ℕ) → part ≡ of_row x y frame → HasRow fabric bits x y frame word) → word ≡ word_of fabric (plain_bits bits) part
+-- a word that is fine and has the bits that are placed is the word of its part
+placed_is : (fabric : PlainFabric) (bits : List (List (List Bool))) (part : Part) (word : ℕ) → PlacesBits part → word < 2 ^ 32 → part_problem fabric part word ≡ None →
+    HasBits (placed_by fabric part) bits word → word ≡ word_of fabric (plain_bits bits) part
+placed_is fabric bits part word places small fine has =
+    let free : has_spare (placed_by fabric part) word ≡ false = spare_free (has_spare (placed_by fabric part) word) (sym (problem_by_places fabric part word places) ∙ fine) in
+    sym (word_by_places fabric (plain_bits bits) part places ∙ placed_word_is (placed_by fabric part) (bit_in (plain_bits bits)) word small (λ bit low. bit_at (placed_by fabric part) bits word bit low free has))
+
+word_is : (fabric : PlainFabric) (bits : List (List (List Bool))) (part : Part) (word : ℕ) → word < 2 ^ 32 → part_problem fabric part word ≡ None → HasBits (placed_by fabric part) bits word →
+    word ≡ word_of fabric (plain_bits bits) part
 word_is fabric bits (fixed expected) word small fine has =
     elim (nat_eq word expected) as (λ b. nat_eq word expected ≡ b → (if b then None else Some reasons.Stream) ≡ None → word ≡ expected) [
       | true ↦ λ same e. eqb-true word expected same
       | false ↦ λ same e. cc
     ] refl fine
-word_is fabric bits (of_row x y frame) word small fine has =
-    sym (placed_word_is (bit_placed_at fabric x y frame) (plain_bits bits x y) word small (λ bit low. row_bit fabric bits x y frame word bit low (spare_free fabric x y frame word fine) (has x y frame refl)))
+word_is fabric bits (of_row x y frame) word small fine has = placed_is fabric bits (of_row x y frame) word tt small fine has
+word_is fabric bits (of_chain number) word small fine has = placed_is fabric bits (of_chain number) word tt small fine has
 
 some_part : {X : Type 0} (xs : List X) (i : ℕ) → i < length xs → (x : X) × (slice_get xs i ≡ Some x)
 some_part [] i few = absurd (omega (arith, few))
@@ -162,8 +162,7 @@ same_word fabric words n bits k fits few within taken have =
     let word : ℕ = get_or words k 0 in
     let read : slice_get words k ≡ Some word = slice_get-get_or words k 0 few in
     let fine : part_problem fabric part.0 word ≡ None = sym (λ i. problem_of fabric (part.1 i) (read i)) ∙ have.fine k taken in
-    let is : word ≡ word_of fabric (plain_bits bits) part.0 =
-    word_is fabric bits part.0 word fits fine (λ x y frame row. have.taken k x y frame word taken (part.1 ∙ ap Some row) read) in
+    let is : word ≡ word_of fabric (plain_bits bits) part.0 = word_is fabric bits part.0 word fits fine (have.taken k part.0 word taken part.1 read) in
     let there : slice_get (stream fabric (plain_bits bits)) k ≡ Some (word_of fabric (plain_bits bits) part.0) =
     stream_at fabric (plain_bits bits) k ∙ ap (option_map (word_of fabric (plain_bits bits))) part.1 in
     is ∙ sym (get_or_from_slice_get (stream fabric (plain_bits bits)) k (word_of fabric (plain_bits bits) part.0) 0 there)
@@ -208,33 +207,31 @@ refused_at fabric file words n reason fault first told =
 -- ---- laws
 
 -- bits of a fabric with one stream are the same
-same_row_bit : (fabric : PlainFabric) (first second : PlainBits) (x y frame bit number : ℕ) → x < fabric.columns → y < fabric.rows → frame < 20 → bit < 32 → bit_placed_at fabric x y frame bit ≡ Some number →
-    stream fabric first ≡ stream fabric second → first x y number ≡ second x y number
-same_row_bit fabric first second x y frame bit number few low small bits_few is same =
-    let at = row_at fabric x y frame few low small in
-    let here : Some (row_word fabric first x y frame) ≡ Some (row_word fabric second x y frame) =
-    sym (stream_at fabric first (row_place fabric x y frame) ∙ ap (option_map (word_of fabric first)) at)
-    ∙ ap (λ ws. slice_get ws (row_place fabric x y frame)) same
-    ∙ stream_at fabric second (row_place fabric x y frame)
-    ∙ ap (option_map (word_of fabric second)) at in
-    let words : row_word fabric first x y frame ≡ row_word fabric second x y frame = same_Some (row_word fabric first x y frame) (row_word fabric second x y frame) here in
-    let bits : bit_there (bit_placed_at fabric x y frame) (first x y) bit ≡ bit_there (bit_placed_at fabric x y frame) (second x y) bit =
-    sym (bit_of_word (bit_placed_at fabric x y frame) (first x y) bit bits_few)
-    ∙ ap (λ w. word_bit w bit) words
-    ∙ bit_of_word (bit_placed_at fabric x y frame) (second x y) bit bits_few in
-    sym (ap (λ o. option_map_or (first x y) o false) is) ∙ bits ∙ ap (λ o. option_map_or (second x y) o false) is
-
-same_bit : (fabric : PlainFabric) (first second : List (List (List Bool))) (x y number : ℕ) → IsFabric fabric → x < fabric.columns → y < fabric.rows → number < bits_at fabric x y →
-    stream fabric (plain_bits first) ≡ stream fabric (plain_bits second) → plain_bits first x y number ≡ plain_bits second x y number
-same_bit fabric first second x y number is few low below same =
-    let placed = placed_somewhere fabric x y number is below in
-    same_row_bit fabric (plain_bits first) (plain_bits second) x y placed.0 placed.1 number few low placed.2 placed.3 placed.4 same
+same_bit : (fabric : PlainFabric) (first second : PlainBits) (at : BitPlace) → IsFabric fabric → IsBitOf fabric at → stream fabric first ≡ stream fabric second → bit_in first at ≡ bit_in second at
+same_bit fabric first second at is of same =
+    let stands = each_stands fabric at is of in
+    let places = places_bits fabric stands.part stands.bit at stands.there in
+    let placed = placed_by fabric stands.part in
+    let here : Some (word_of fabric first stands.part) ≡ Some (word_of fabric second stands.part) =
+    sym (stream_at fabric first stands.place ∙ ap (option_map (word_of fabric first)) stands.stands)
+    ∙ ap (λ ws. slice_get ws stands.place) same
+    ∙ stream_at fabric second stands.place
+    ∙ ap (option_map (word_of fabric second)) stands.stands in
+    let words : placed_word placed (bit_in first) ≡ placed_word placed (bit_in second) =
+    sym (word_by_places fabric first stands.part places)
+    ∙ same_Some (word_of fabric first stands.part) (word_of fabric second stands.part) here
+    ∙ word_by_places fabric second stands.part places in
+    let bits : bit_there placed (bit_in first) stands.bit ≡ bit_there placed (bit_in second) stands.bit =
+    sym (bit_of_word placed (bit_in first) stands.bit stands.small)
+    ∙ ap (λ w. word_bit w stands.bit) words
+    ∙ bit_of_word placed (bit_in second) stands.bit stands.small in
+    sym (ap (λ o. option_map_or (bit_in first) o false) stands.there) ∙ bits ∙ ap (λ o. option_map_or (bit_in second) o false) stands.there
 
 same_place : (fabric : PlainFabric) (first second : List (List (List Bool))) (x y : ℕ) → IsFabric fabric → AreBitsOf fabric first → AreBitsOf fabric second →
     stream fabric (plain_bits first) ≡ stream fabric (plain_bits second) → x < fabric.columns → y < fabric.rows → place_bits first x y ≡ place_bits second x y
 same_place fabric first second x y is are are2 same few low =
     ext_get_or false (place_bits first x y) (place_bits second x y) (are.tiles x y few low ∙ sym (are2.tiles x y few low)) (λ number below.
-    same_bit fabric first second x y number is few low (omega (arith, below, are.tiles x y few low)) same)
+    same_bit fabric (plain_bits first) (plain_bits second) (bit_place x y number) is (record { column = few; row = low; number = omega (arith, below, are.tiles x y few low) }) same)
 
 same_column : (fabric : PlainFabric) (first second : List (List (List Bool))) (x : ℕ) → IsFabric fabric → AreBitsOf fabric first → AreBitsOf fabric second →
     stream fabric (plain_bits first) ≡ stream fabric (plain_bits second) → x < fabric.columns → column_bits first x ≡ column_bits second x

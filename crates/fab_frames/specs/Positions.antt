@@ -5,13 +5,9 @@ use Rattle.fab_model.specs.Tiles.{tile_bits, counted}
 use Rattle.fab_model.specs.Grid.{PlainFabric}
 use Rattle.fab_model.specs.Drive.{PlainBits}
 use Rattle.fab_fabric.specs.Places.{PlacedTile, placed_tiles}
+use Rattle.fab_frames.specs.declared.positions.BitPlace.{BitPlace}
 
 -- a configuration bit: the place of its tile, and its number there
-pub record BitPlace : Type 0 where
-  pub x : ℕ
-  pub y : ℕ
-  pub bit : ℕ
-
 abbrev pub bit_place : (x y bit : ℕ) → BitPlace
 bit_place x y bit = record { x = x; y = y; bit = bit }
 

@@ -10,7 +10,7 @@ use Rattle.fab_model.specs.declared.mode.Mode.TheVariants as modes
 use Rattle.fab_model.specs.Tiles.{PlainTile, counted}
 use Rattle.fab_model.specs.Grid.{PlainFabric, tile_at}
 use Rattle.fab_model.specs.Drive.{PlainBits}
-use Rattle.fab_frames.specs.Positions.{BitPlace, bit_in, placed_in_chain, chain_words}
+use Rattle.fab_frames.specs.Positions.{bit_in, placed_in_chain, chain_words}
 
 -- The mode in which the words come. No law rests on more than that it is one of both.
 unfoldable pub stream_mode : PlainFabric → Mode

@@ -1,13 +1,20 @@
 //! The words of a stream in their order, before the configuration bits are known.
 
-ghost use Rattle.std.specs.Prelude.{◌≡◌, ◌++◌, ◌<◌, IfOk, OnOk, map};
+ghost use Rattle.std.specs.Prelude.{◌≡◌, ◌++◌, ◌<◌, IfOk, OnOk, length, map, reverse};
+ghost use Rattle.fab_model.specs.declared.mode.Mode.TheVariants as modes;
+ghost use Rattle.fab_model.specs.Tiles.{counted};
 ghost use Rattle.fab_fabric.specs.Fabric.{IsFabric};
-ghost use Rattle.fab_frames.specs.Stream.{fixed, waiting_words, synchronizing_words, address_word, frame_parts, column_parts, parts};
+ghost use Rattle.fab_frames.specs.Positions.{chain};
+ghost use Rattle.fab_frames.specs.Stream.{stream_mode, fixed, waiting_words, synchronizing_words, address_word, frame_parts, column_parts, all_frames, of_chain, parts};
 ghost use Rattle.fab_frames.specs.inner.Taking.{plain_part};
 
 use fab_base::Memory;
 use fab_fabric::Fabric;
+use fab_model::Mode;
 use std::alloc::Global;
+
+/// How many bits a word has: as many as a frame has for each row of the grid.
+pub const WORD_BITS: usize = 32;
 
 // How many frames a column has.
 const FRAMES: u32 = 20;
@@ -28,12 +35,45 @@ pub enum Part {
     Fixed(u32),
     /// It has the configuration bits that are placed in a frame of the tile at a column and a row.
     Row { x: u32, y: u32, frame: u32 },
+    /// It has the configuration bits of a chain from a position on. The word that comes last is counted as 0.
+    Chain(usize),
 }
 
-/// The words of a stream in their order.
-pub fn parts(alloc: Global, fabric: &Fabric) -> Result<Vec<Part>, Memory>
-    requires { IsFabric fabric.now }
+/// The mode in which the words of a fabric's stream come: that of the fabric.
+pub fn stream_mode(fabric: &Fabric) -> Mode
+    ensures told { result ≡ stream_mode fabric.now }
+    ensures mode { result ≡ fabric.now.mode }
+{
+    fabric.mode()
+}
+
+/// The words of a stream in their order. In a chain there are so many positions.
+pub fn parts(alloc: Global, fabric: &Fabric, positions: usize) -> Result<Vec<Part>, Memory>
+    requires is_fabric { IsFabric fabric.now }
+    requires positions { stream_mode fabric.now ≡ modes.Chain → positions ≡ length (chain fabric.now) }
     ensures { IfOk result (λ found. map plain_part found.items ≡ parts fabric.now) }
+{
+    match stream_mode(fabric) {
+        Mode::Frames => all_frames(alloc, fabric),
+        Mode::Chain => whole_chain(alloc, positions.div_ceil(WORD_BITS)),
+    }
+}
+
+// Those of a chain, the last of which is counted as 0.
+fn whole_chain(alloc: Global, words: usize) -> Result<Vec<Part>, Memory>
+    ensures { IfOk result (λ found. map plain_part found.items ≡ reverse (counted words of_chain)) }
+{
+    let mut parts = Vec::new(alloc);
+    for word in (0..words).rev() {
+        parts.push(Part::Chain(word))?;
+    }
+    Ok(parts)
+}
+
+// Those of all frames.
+fn all_frames(alloc: Global, fabric: &Fabric) -> Result<Vec<Part>, Memory>
+    requires { IsFabric fabric.now }
+    ensures { IfOk result (λ found. map plain_part found.items ≡ all_frames fabric.now) }
 {
     let mut parts = Vec::new(alloc);
     put_waiting(&mut parts)?;

@@ -6,14 +6,14 @@ ghost use Rattle.std.specs.Result.{MatchResult};
 ghost use Rattle.fab_base.specs.declared.fault.Fault.TheVariants as faults;
 ghost use Rattle.fab_base.specs.declared.problem.Problem.TheVariants as problems;
 ghost use Rattle.fab_base.specs.Reading.{fault_at, IsFaultOr};
-ghost use Rattle.fab_fabric.specs.Bits.{AreBitsOf, plain_bits, column_bits, place_bits};
+ghost use Rattle.fab_fabric.specs.Bits.{AreBitsOf, plain_bits};
 ghost use Rattle.fab_frames.specs.Stream.{problem_of, word_bit, has_spare, stream};
 ghost use Rattle.fab_frames.specs.Refusals.{IsStreamRefusal};
-ghost use Rattle.fab_frames.specs.inner.Placing.{HaveMaps, placed_in};
-ghost use Rattle.fab_frames.specs.inner.Taking.{plain_part, IsWithin, ArePlacedOnce, HaveBits, TakesRow, TakesWord};
+ghost use Rattle.fab_frames.specs.inner.Placing.{HavePlaces};
+ghost use Rattle.fab_frames.specs.inner.Taking.{plain_part, placed_by, IsWithin, TakesBits, TakesWord};
 
-use crate::placing::{FrameMap, frame_maps, placed_row};
-use crate::plan::{Part, parts};
+use crate::placing::Places;
+use crate::plan::{Part, WORD_BITS, parts};
 use fab_base::{Fault, Name, Problem, Reason};
 use fab_fabric::{Bits, Fabric};
 use std::alloc::Global;
@@ -44,11 +44,11 @@ fn read_words(alloc: Global, fabric: &Fabric, file: &Name, words: &[u32]) -> Res
     ensures stream { IfOk result (λ bits. words.now ≡ stream fabric.now (plain_bits bits)) }
     ensures refused { IfErr result (λ fault. (fault ≡ faults.Memory) ⊎ IsStreamRefusal fabric.now file.now words.now fault) }
 {
-    let maps = frame_maps(alloc, fabric)?;
-    let parts = parts(alloc, fabric)?;
+    let places = Places::of(alloc, fabric)?;
+    let parts = parts(alloc, fabric, places.chain.len())?;
     let mut bits = Bits::new(alloc, fabric)?;
     for (place, part) in parts.iter().enumerate() {
-        if let Err(reason) = take_word(fabric, &maps, *part, word_at(words, place), &mut bits) {
+        if let Err(reason) = take_word(fabric, &places, *part, word_at(words, place), &mut bits) {
             return Err(fault_at(alloc, file, place, reason));
         }
     }
@@ -76,12 +76,12 @@ fn fault_at(alloc: Global, file: &Name, place: usize, reason: Reason) -> Fault
 // Takes the bits of the word in the place of a part. Words that are refused may change bits too.
 fn take_word(
     fabric: &Fabric,
-    maps: &[FrameMap],
+    places: &Places,
     part: Part,
     word: Option<u32>,
     bits: &mut Bits,
 ) -> Result<(), Reason>
-    requires maps { HaveMaps fabric.now maps.now }
+    requires places { HavePlaces fabric.now places.now }
     requires part { IsWithin fabric.now (plain_part part) }
     requires bits { AreBitsOf fabric.now bits.old }
     ensures are_bits { AreBitsOf fabric.now bits.new }
@@ -98,8 +98,8 @@ fn take_word(
                 Err(Reason::Stream)
             }
         }
-        Part::Row { x, y, frame } => {
-            if take_row(placed_row(fabric, maps, x, y, frame), x, y, word, bits) {
+        _ => {
+            if take_bits(fabric, places, part, word, bits) {
                 Ok(())
             } else {
                 Err(Reason::SpareBit)
@@ -108,21 +108,19 @@ fn take_word(
     }
 }
 
-// Takes the bits of the word of a row of a frame, and tells whether each bit that is 1 has a configuration bit.
-fn take_row(placed: &[Option<u32>], x: u32, y: u32, word: u32, bits: &mut Bits) -> bool
-    requires long { length placed.now ≡ 32 }
-    requires once { ArePlacedOnce placed.now }
-    requires have { HaveBits placed.now bits.old x y }
-    ensures spare { result ≡ not (has_spare (placed_in placed.now) word) }
-    ensures taken { OnTrue result (TakesRow (placed_in placed.now) x y word bits.old bits.new) }
-    ensures same_columns { length bits.new ≡ length bits.old }
-    ensures same_rows { (x2 : ℕ) → length (column_bits bits.new x2) ≡ length (column_bits bits.old x2) }
-    ensures same_tiles { (x2 y2 : ℕ) → length (place_bits bits.new x2 y2) ≡ length (place_bits bits.old x2 y2) }
+// Takes the bits of the word of a part at their places, and tells whether each bit that is 1 has a configuration bit.
+fn take_bits(fabric: &Fabric, places: &Places, part: Part, word: u32, bits: &mut Bits) -> bool
+    requires places { HavePlaces fabric.now places.now }
+    requires part { IsWithin fabric.now (plain_part part) }
+    requires bits { AreBitsOf fabric.now bits.old }
+    ensures are_bits { AreBitsOf fabric.now bits.new }
+    ensures spare { result ≡ not (has_spare (placed_by fabric.now (plain_part part)) word) }
+    ensures taken { OnTrue result (TakesBits (placed_by fabric.now (plain_part part)) word bits.old bits.new) }
 {
-    for (bit, placed) in placed.iter().enumerate() {
+    for bit in 0..WORD_BITS {
         let value = word_bit(word, bit);
-        match placed {
-            Some(number) => bits.set(x, y, *number, value),
+        match places.at(fabric, part, bit) {
+            Some(at) => bits.set(at.x, at.y, at.bit, value),
             None => {
                 if value {
                     return false;

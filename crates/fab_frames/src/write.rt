@@ -1,14 +1,15 @@
 //! The configuration bits of a fabric as words.
 
-ghost use Rattle.std.specs.Prelude.{◌≡◌, ◌<◌, false, IfOk, length};
-ghost use Rattle.std.specs.Option.{ForSome, option_map_or};
+ghost use Rattle.std.specs.Prelude.{◌≡◌, ◌<◌, false, IfOk};
+ghost use Rattle.std.specs.Option.{option_map_or};
 ghost use Rattle.fab_fabric.specs.Bits.{AreBitsOf, plain_bits};
+ghost use Rattle.fab_frames.specs.Positions.{bit_in};
 ghost use Rattle.fab_frames.specs.Stream.{word_of, placed_word, stream};
-ghost use Rattle.fab_frames.specs.inner.Placing.{HaveMaps, AreBelow, placed_in, bit_in};
-ghost use Rattle.fab_frames.specs.inner.Taking.{plain_part, IsWithin};
+ghost use Rattle.fab_frames.specs.inner.Placing.{HavePlaces};
+ghost use Rattle.fab_frames.specs.inner.Taking.{plain_part, placed_by, IsWithin};
 
-use crate::placing::{FrameMap, frame_maps, placed_row};
-use crate::plan::{Part, parts};
+use crate::placing::Places;
+use crate::plan::{Part, WORD_BITS, parts};
 use fab_base::Memory;
 use fab_fabric::{Bits, Fabric};
 use std::alloc::Global;
@@ -22,50 +23,52 @@ pub fn frames(alloc: Global, fabric: &Fabric, bits: &Bits) -> Result<Vec<u32>, M
     requires { AreBitsOf fabric.now bits.now }
     ensures { IfOk result (λ words. words.items ≡ stream fabric.now (plain_bits bits.now)) }
 {
-    let maps = frame_maps(alloc, fabric)?;
-    let parts = parts(alloc, fabric)?;
+    let places = Places::of(alloc, fabric)?;
+    let parts = parts(alloc, fabric, places.chain.len())?;
     let mut words = Vec::new(alloc);
     for part in &parts {
-        words.push(word_of(fabric, &maps, bits, *part))?;
+        words.push(word_of(fabric, &places, bits, *part))?;
     }
     Ok(words)
 }
 
 // The word of a part.
-fn word_of(fabric: &Fabric, maps: &[FrameMap], bits: &Bits, part: Part) -> u32
+fn word_of(fabric: &Fabric, places: &Places, bits: &Bits, part: Part) -> u32
     requires bits { AreBitsOf fabric.now bits.now }
-    requires maps { HaveMaps fabric.now maps.now }
+    requires places { HavePlaces fabric.now places.now }
     requires part { IsWithin fabric.now (plain_part part) }
     ensures { result ≡ word_of fabric.now (plain_bits bits.now) (plain_part part) }
 {
     match part {
         Part::Fixed(word) => word,
-        Part::Row { x, y, frame } => {
-            row_word(placed_row(fabric, maps, x, y, frame), bits.tile(x, y))
-        }
+        _ => placed_word(fabric, places, bits, part),
     }
 }
 
-// The word that has these bits of a tile at their places.
-fn row_word(placed: &[Option<u32>], bits: &[bool]) -> u32
-    requires long { length placed.now ≡ 32 }
-    requires below { AreBelow (length bits.now) placed.now }
-    ensures { result ≡ placed_word (placed_in placed.now) (bit_in bits.now) }
+// The word that has the bits of a part at their places.
+fn placed_word(fabric: &Fabric, places: &Places, bits: &Bits, part: Part) -> u32
+    requires bits { AreBitsOf fabric.now bits.now }
+    requires places { HavePlaces fabric.now places.now }
+    requires part { IsWithin fabric.now (plain_part part) }
+    ensures { result ≡ placed_word (placed_by fabric.now (plain_part part)) (bit_in (plain_bits bits.now)) }
 {
     let mut word = 0;
-    for (bit, placed) in placed.iter().enumerate() {
-        word |= u32::from(bit_of(*placed, bits)) << bit;
+    for bit in 0..WORD_BITS {
+        word |= u32::from(bit_of(fabric, places, bits, part, bit)) << bit;
     }
     word
 }
 
-// The bit of a tile that is placed somewhere; 0 where none is.
-fn bit_of(placed: Option<u32>, bits: &[bool]) -> bool
-    requires { ForSome placed (λ number. number < length bits.now) }
-    ensures { result ≡ option_map_or (bit_in bits.now) placed false }
+// The bit that is placed at a bit of the word of a part; 0 where none is.
+fn bit_of(fabric: &Fabric, places: &Places, bits: &Bits, part: Part, bit: usize) -> bool
+    requires bits { AreBitsOf fabric.now bits.now }
+    requires places { HavePlaces fabric.now places.now }
+    requires part { IsWithin fabric.now (plain_part part) }
+    requires bit { bit < 32 }
+    ensures { result ≡ option_map_or (bit_in (plain_bits bits.now)) (placed_by fabric.now (plain_part part) bit) false }
 {
-    match placed {
-        Some(number) => bits[number as usize],
+    match places.at(fabric, part, bit) {
+        Some(at) => bits.get(at.x, at.y, at.bit),
         None => false,
     }
 }

@@ -11,7 +11,7 @@ ghost use Rattle.fab_gen_tile.specs.Names.{frame_data_name, frame_strobe_name, l
 ghost use Rattle.fab_gen_tile.specs.ConfigModule.{frame_ports, chain_ports, config_ports, latch_at, bit_flop, before_bit, chain_end, keeping_items, all_latches, config_items, config_module};
 
 use crate::borders::scalar;
-use crate::names::{latch_name, part, prefixed, variable};
+use crate::names::{latch_name, part, prefixed};
 use fab_base::{Memory, Name};
 use fab_model::{Mode, TileType};
 use fab_prim::conditional;
@@ -36,7 +36,9 @@ pub fn chain_config_module(alloc: Global, tile: &TileType) -> Result<Module, Mem
     config_of(alloc, tile, Mode::Chain)
 }
 
-/// The module of the configuration bits of a tile, kept in this mode.
+/// The module of the configuration bits of a tile, which are kept in this mode, for a generator that has the mode as a value.
+///
+/// Its ports are those of `config_module` or of `chain_config_module`. Want of memory is the only error.
 pub fn config_of(alloc: Global, tile: &TileType, mode: Mode) -> Result<Module, Memory>
     ensures { IfOk result (λ m. plain_module m ≡ config_module mode tile.now) }
 {
@@ -137,7 +139,7 @@ fn push_keeping(
     }
 }
 
-// Adds the assignment of all latches.
+// Adds the assignment of all bits that are kept.
 fn push_all_latches(alloc: Global, items: &mut Vec<Item>, bits: u32) -> Result<(), Memory>
     ensures { OnOk result (map plain_item items.new.items ≡ map plain_item items.old.items ++ assign config_name (all_latches bits) ∷ []) }
 {
@@ -192,18 +194,24 @@ fn push_flops(alloc: Global, items: &mut Vec<Item>, bits: u32) -> Result<(), Mem
 fn bit_flop(alloc: Global, bit: u32) -> Result<Item, Memory>
     ensures { IfOk result (λ item. plain_item item ≡ bit_flop bit) }
 {
-    let next = next_bit(alloc, bit)?;
     let clock = Name::of(alloc, b"CLK")?;
-    Ok(Item::Clocked(clock, latch_name(alloc, bit)?, next))
+    let target = latch_name(alloc, bit)?;
+    Ok(Item::Clocked(clock, target, next_bit(alloc, bit)?))
 }
 
 // What a flip-flop takes.
 fn next_bit(alloc: Global, bit: u32) -> Result<Expr, Memory>
     ensures { IfOk result (λ e. plain_expr e ≡ conditional (variable write_strobe_name) (variable (before_bit bit)) (variable (latch_name bit))) }
 {
-    let (before, kept) = (before_bit(alloc, bit)?, latch_name(alloc, bit)?);
-    let written = variable(alloc, b"WriteStrobe")?;
-    conditional(alloc, written, Expr::Var(before), Expr::Var(kept))
+    let before = before_bit(alloc, bit)?;
+    let kept = latch_name(alloc, bit)?;
+    let written = Name::of(alloc, b"WriteStrobe")?;
+    conditional(
+        alloc,
+        Expr::Var(written),
+        Expr::Var(before),
+        Expr::Var(kept),
+    )
 }
 
 // What stands before a bit in the chain of its tile.
@@ -220,9 +228,9 @@ fn before_bit(alloc: Global, bit: u32) -> Result<Name, Memory>
 pub fn push_chain_end(alloc: Global, items: &mut Vec<Item>, bits: u32) -> Result<(), Memory>
     ensures { OnOk result (map plain_item items.new.items ≡ map plain_item items.old.items ++ chain_end bits ∷ []) }
 {
-    let value = Expr::Var(before_bit(alloc, bits)?);
     let name = Name::of(alloc, b"fab_chain_o")?;
-    items.push(Item::Assign(name, value))?;
+    let last = before_bit(alloc, bits)?;
+    items.push(Item::Assign(name, Expr::Var(last)))?;
     Ok(())
 }
 
@@ -243,7 +251,7 @@ fn latch(alloc: Global, bit: u32, place: (u8, u8)) -> Result<Item, Memory>
     Ok(Item::Latch(latch_name(alloc, bit)?, gate, value))
 }
 
-// All latches, the last of them first.
+// All bits that are kept, the last of them first.
 fn all_latches(alloc: Global, bits: u32) -> Result<Expr, Memory>
     ensures { IfOk result (λ e. plain_expr e ≡ all_latches bits) }
 {
@@ -258,7 +266,7 @@ fn concatenation(parts: Vec<Expr>) -> Expr
     Expr::Cat(parts)
 }
 
-// The latches as expressions, the last of them first.
+// The bits as expressions, the last of them first.
 #[tactic(auto, using(crate::proofs::Counted::counted_none, fab_model::proofs::Inserts::counted_more))]
 fn latches_down(alloc: Global, bits: u32) -> Result<Vec<Expr>, Memory>
     ensures { IfOk result (λ latches. map plain_expr latches.items ≡ reverse (counted bits (λ bit. variable (latch_name bit)))) }

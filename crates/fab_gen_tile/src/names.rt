@@ -25,7 +25,7 @@ pub fn prefixed(alloc: Global, prefix: &[u8], name: &Name) -> Result<Name, Memor
     Ok(Name::from(bytes))
 }
 
-/// The name of the latch of a configuration bit.
+/// The name of the latch of a configuration bit, or of its flip-flop in a chain.
 pub fn latch_name(alloc: Global, bit: u32) -> Result<Name, Memory>
     ensures { IfOk result (λ name. name ≡ latch_name bit) }
 {

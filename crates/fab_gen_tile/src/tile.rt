@@ -42,7 +42,9 @@ pub fn chain_tile_module(alloc: Global, tile: &TileType) -> Result<Module, Memor
     tile_of(alloc, tile, Mode::Chain)
 }
 
-/// The module of a tile whose configuration bits are kept in this mode.
+/// The module of a tile whose configuration bits are kept in this mode, for a generator that has the mode as a value.
+///
+/// Want of memory is the answer as for `tile_module`.
 pub fn tile_of(alloc: Global, tile: &TileType, mode: Mode) -> Result<Module, Memory>
     ensures { IfOk result (λ m. plain_module m ≡ tile_module mode tile.now) }
 {

@@ -1,3 +1,4 @@
 pub mod Steps
 pub mod Found
 pub mod Grid
+pub mod Chain

@@ -1,1 +1,2 @@
 pub mod inner
+pub use Rattle.fab_text_loads_laws.specs.fab_fabric_text_defs_Mode as fab_fabric_text_defs_Mode

@@ -2,6 +2,7 @@
 #![tactic(auto)]
 
 mod joins;
+mod mode;
 mod names;
 mod places;
 mod ports;
@@ -9,5 +10,6 @@ mod text;
 mod top;
 mod wires;
 
+pub use mode::text_mode;
 pub use text::generate;
 pub use top::top_module;

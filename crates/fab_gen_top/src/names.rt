@@ -2,7 +2,7 @@
 
 ghost use Rattle.std.specs.Prelude.{◌≡◌, ◌++◌, IfOk, decimal};
 ghost use Rattle.fab_fabric.specs.Names.{place_name};
-ghost use Rattle.fab_text_loads_laws.specs.fab_fabric_text_defs_Names.{column_strobe_name, begin_wire_name, pad_port_name};
+ghost use Rattle.fab_text_loads_laws.specs.fab_fabric_text_defs_Names.{column_strobe_name, chain_wire_name, begin_wire_name, pad_port_name};
 ghost use Rattle.fab_gen_loader.specs.Loader.{row_port};
 
 use fab_base::{Memory, Name};
@@ -40,6 +40,15 @@ pub fn place_name(alloc: Global, x: u32, y: u32) -> Result<Name, Memory>
     ensures { IfOk result (λ name. name ≡ place_name x y) }
 {
     Ok(Name::from(text_of_place(alloc, x, y)?))
+}
+
+/// The wire behind the bits of the tile at a place in the chain.
+pub fn chain_wire_name(alloc: Global, x: u32, y: u32) -> Result<Name, Memory>
+    ensures { IfOk result (λ name. name ≡ chain_wire_name x y) }
+{
+    let mut bytes = text_of_place(alloc, x, y)?;
+    bytes.extend_from_slice(b"_fab_chain")?;
+    Ok(Name::from(bytes))
 }
 
 /// The wire of a border bit that goes out of a row of the tile at a place.

@@ -5,18 +5,19 @@ ghost use Rattle.std.specs.List.{flat_map, enumerate_from};
 ghost use Rattle.fab_meaning.specs.Ports.{scalar};
 ghost use Rattle.fab_prim.specs.Ports.{top_inputs, top_outputs};
 ghost use Rattle.fab_text_loads_laws.specs.fab_fabric_text_defs_Names.{pad_port_name};
-ghost use Rattle.fab_text_loads_laws.specs.fab_fabric_text_defs_Top.{pad_ports, tile_pads, top_ports};
+ghost use Rattle.fab_text_loads_laws.specs.fab_fabric_text_defs_Top.{data_shape, data_port, pad_ports, tile_pads, top_ports};
 ghost use Rattle.fab_text_loads_laws.specs.fab_fabric_text_defs_Places.{placed_tiles};
 ghost use Rattle.fab_gen_top.specs.inner.Standing.{placed_of, IsPlaceOf};
 
+use crate::mode::text_mode;
 use crate::names::pad_port_name;
 use crate::places::{Place, tile_of};
 use fab_base::{Memory, Name};
 use fab_fabric::Fabric;
-use fab_gen_tile::{push_vector, scalar};
+use fab_gen_tile::scalar;
 use fab_kinds::Kind;
-use fab_model::Bel;
-use fab_syntax::Port;
+use fab_model::{Bel, Mode};
+use fab_syntax::{Port, Shape};
 use std::alloc::Global;
 
 /// The ports, where tiles stand at these places.
@@ -29,9 +30,31 @@ pub fn top_ports(alloc: Global, fabric: &Fabric, places: &[Place]) -> Result<Vec
     ports.push(scalar(true, Name::of(alloc, b"CLK")?))?;
     ports.push(scalar(true, Name::of(alloc, b"UserCLK")?))?;
     ports.push(scalar(true, Name::of(alloc, b"WriteStrobe")?))?;
-    push_vector(alloc, &mut ports, true, 32, b"WriteData")?;
+    ports.push(data_port(alloc, text_mode(fabric))?)?;
     push_pads(alloc, &mut ports, fabric, places)?;
     Ok(ports)
+}
+
+// The port of the words that are written.
+fn data_port(alloc: Global, mode: Mode) -> Result<Port, Memory>
+    ensures { IfOk result (λ port. port ≡ data_port mode) }
+{
+    let name = Name::of(alloc, b"WriteData")?;
+    Ok(Port {
+        input: true,
+        shape: data_shape(mode),
+        name,
+    })
+}
+
+// A loader takes a word at each tick, and a chain a bit.
+fn data_shape(mode: Mode) -> Shape
+    ensures { result ≡ data_shape mode }
+{
+    match mode {
+        Mode::Frames => Shape::Vector(32),
+        Mode::Chain => Shape::Scalar,
+    }
 }
 
 // Adds the ports of all pads.

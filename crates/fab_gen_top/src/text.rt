@@ -7,31 +7,36 @@ ghost use Rattle.fab_syntax.specs.Plain.{plain_module, plain_text};
 ghost use Rattle.fab_prim.specs.Modules.{module_of_kind};
 ghost use Rattle.fab_model.specs.Tiles.{tile_bits};
 ghost use Rattle.fab_fabric.specs.Fabric.{IsFabric, AreTiles};
+ghost use Rattle.fab_gen_loader.specs.Loader.{IsLoader};
+ghost use Rattle.fab_gen_loader.specs.Bounds.{IsSmall};
+ghost use Rattle.fab_gen_loader.specs.Expressions.{loader_module};
 ghost use Rattle.fab_gen_tile.specs.TileModule.{matrix_output_names};
 ghost use Rattle.fab_gen_tile.specs.Words.{IsNamed};
 ghost use Rattle.fab_fabric.specs.Sites.{same_kind};
 ghost use Rattle.fab_text_loads_laws.specs.fab_fabric_text_defs_Text.{standing_types, used_kinds, matrix_modules, config_modules, tile_modules};
+ghost use Rattle.fab_text_loads_laws.specs.fab_fabric_text_defs_Mode.{text_mode};
 ghost use Rattle.fab_drives_laws.specs.Drives.{ShowsDrives};
 ghost use Rattle.fab_text_loads_laws.specs.Loads.{LoadsConfigurations};
-ghost use Rattle.fab_text_loads_laws.specs.fab_fabric_text_defs_Texts.{generated_text, IsFabricText};
+ghost use Rattle.fab_text_loads_laws.specs.fab_fabric_text_defs_Texts.{generated_text, loaders_of, AreLoaders, IsFabricText};
 ghost use Rattle.fab_gen_top.specs.inner.Standing.{type_of, AreStanding};
 
+use crate::mode::text_mode;
 use crate::top::top_module;
 use fab_base::Memory;
 use fab_drives_laws::fabric_texts_show_drives;
 use fab_fabric::Fabric;
 use fab_gen_loader::loader_module;
-use fab_gen_tile::{config_module, tile_matrix_module, tile_module};
+use fab_gen_tile::{config_of, tile_matrix_module, tile_of};
 use fab_kinds::Kind;
-use fab_model::{Bel, TileType};
+use fab_model::{Bel, Mode, TileType};
 use fab_prim::{IoPad, Lut4c, Mux8, Prim};
 use fab_syntax::{Module, Text};
 use fab_text_loads_laws::fabric_texts_load;
 use fab_text_sound_laws::fabric_texts_are_sound;
 use std::alloc::Global;
 
-/// The whole text of a fabric: the primitives that it uses, the modules of its tile types that stand somewhere, the loader and the
-/// top. In this text each wire of the fabric has the value of what drives it under the configuration bits. Where the names in the types' tables
+/// The whole text of a fabric: the primitives that it uses, the modules of its tile types that stand somewhere, the loader where its
+/// configuration is kept in frames, and the top. In this text each wire of the fabric has the value of what drives it under the configuration bits. Where the names in the types' tables
 /// are identifiers that no module here takes for itself, it is sound, and the words of the bitstream of any bits configure it so, whatever it held.
 ///
 /// The time is linear in the wires, ports and pairs. Want of memory is also the answer where numbers of bits or BELs do not fit.
@@ -45,7 +50,7 @@ pub fn generate(alloc: Global, fabric: &Fabric) -> Result<Text, Memory>
     let mut modules = Vec::new(alloc);
     push_primitives(alloc, &mut modules, fabric, &standing)?;
     push_types(alloc, &mut modules, fabric, &standing)?;
-    modules.push(loader_module(alloc, fabric.rows())?)?;
+    push_loaders(alloc, &mut modules, fabric)?;
     modules.push(top_module(alloc, fabric)?)?;
     fabric_texts_show_drives();
     fabric_texts_are_sound();
@@ -172,6 +177,30 @@ fn push_primitive<P: Prim>(
     Ok(())
 }
 
+// Adds the loader, where there is one.
+fn push_loaders(alloc: Global, modules: &mut Vec<Module>, fabric: &Fabric) -> Result<(), Memory>
+    ensures modules { OnOk result (map plain_module modules.new.items
+        ≡ map plain_module modules.old.items ++ loaders_of (text_mode fabric.now) fabric.now.rows) }
+    ensures loaders { OnOk result (AreLoaders fabric.now.rows (text_mode fabric.now) (loaders_of (text_mode fabric.now) fabric.now.rows)) }
+{
+    fabric.is_well_made();
+    match text_mode(fabric) {
+        Mode::Frames => push_loader(alloc, modules, fabric.rows()),
+        Mode::Chain => Ok(()),
+    }
+}
+
+fn push_loader(alloc: Global, modules: &mut Vec<Module>, rows: u32) -> Result<(), Memory>
+    requires some { 1 ≤ rows }
+    requires few { rows ≤ 31 }
+    ensures modules { OnOk result (map plain_module modules.new.items ≡ map plain_module modules.old.items ++ loader_module rows ∷ []) }
+    ensures loader { OnOk result (IsLoader rows (loader_module rows)) }
+    ensures small { OnOk result (IsSmall (loader_module rows)) }
+{
+    modules.push(loader_module(alloc, rows)?)?;
+    Ok(())
+}
+
 // Adds the modules of types of these numbers.
 #[tactic(auto, using(crate::proofs::Steps::seen_more))]
 fn push_types(
@@ -182,20 +211,25 @@ fn push_types(
 ) -> Result<(), Memory>
     requires { All (λ number. number < length fabric.now.types) numbers.now }
     ensures { OnOk result (map plain_module modules.new.items
-        ≡ map plain_module modules.old.items ++ flat_map tile_modules (map (type_of fabric.now) numbers.now)) }
+        ≡ map plain_module modules.old.items ++ flat_map (tile_modules (text_mode fabric.now)) (map (type_of fabric.now) numbers.now)) }
 {
     for number in numbers {
-        push_type(alloc, modules, &fabric.types()[*number])?;
+        push_type(alloc, modules, &fabric.types()[*number], text_mode(fabric))?;
     }
     Ok(())
 }
 
-fn push_type(alloc: Global, modules: &mut Vec<Module>, tile: &TileType) -> Result<(), Memory>
-    ensures { OnOk result (map plain_module modules.new.items ≡ map plain_module modules.old.items ++ tile_modules tile.now) }
+fn push_type(
+    alloc: Global,
+    modules: &mut Vec<Module>,
+    tile: &TileType,
+    mode: Mode,
+) -> Result<(), Memory>
+    ensures { OnOk result (map plain_module modules.new.items ≡ map plain_module modules.old.items ++ tile_modules mode tile.now) }
 {
     push_matrix(alloc, modules, tile)?;
-    push_config(alloc, modules, tile)?;
-    modules.push(tile_module(alloc, tile)?)?;
+    push_config(alloc, modules, tile, mode)?;
+    modules.push(tile_of(alloc, tile, mode)?)?;
     Ok(())
 }
 
@@ -213,13 +247,18 @@ fn push_matrix(alloc: Global, modules: &mut Vec<Module>, tile: &TileType) -> Res
 }
 
 // Adds the configuration, where there are bits.
-fn push_config(alloc: Global, modules: &mut Vec<Module>, tile: &TileType) -> Result<(), Memory>
+fn push_config(
+    alloc: Global,
+    modules: &mut Vec<Module>,
+    tile: &TileType,
+    mode: Mode,
+) -> Result<(), Memory>
     ensures { OnOk result (map plain_module modules.new.items
-        ≡ map plain_module modules.old.items ++ config_modules tile.now (tile_bits tile.now)) }
+        ≡ map plain_module modules.old.items ++ config_modules mode tile.now (tile_bits tile.now)) }
 {
     if tile.bits() == 0 {
         return Ok(());
     }
-    modules.push(config_module(alloc, tile)?)?;
+    modules.push(config_of(alloc, tile, mode)?)?;
     Ok(())
 }

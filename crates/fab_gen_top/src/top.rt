@@ -9,16 +9,14 @@ ghost use Rattle.fab_gen_top.specs.inner.Standing.{placed_of, IsPlaceOf};
 use crate::joins::push_instances;
 use crate::places::{Place, places_of};
 use crate::ports::top_ports;
-use crate::wires::{
-    loader_instance, push_begin_wires, push_loader_wires, push_strobe_wires, push_strobes,
-};
+use crate::wires::{push_begin_wires, push_carrying};
 use fab_base::{Memory, Name};
 use fab_fabric::Fabric;
 use fab_syntax::{Item, Module};
 use std::alloc::Global;
 
-/// The top module of a fabric: the loader of its configuration, the strobes of its columns, and its tiles with the wires between
-/// them. The time is linear in the places, wires and ports.
+/// The top module of a fabric: what carries the configuration bits to its tiles, and the tiles with the wires between them. The bits come
+/// by a loader and the strobes of the columns, or along a chain. The time is linear in the places, wires and ports.
 ///
 /// Want of memory is the only error.
 pub fn top_module(alloc: Global, fabric: &Fabric) -> Result<Module, Memory>
@@ -37,10 +35,7 @@ fn top_items(alloc: Global, fabric: &Fabric, places: &[Place]) -> Result<Vec<Ite
     ensures { IfOk result (λ items. map plain_item items.items ≡ top_items fabric.now) }
 {
     let mut items = Vec::new(alloc);
-    push_loader_wires(alloc, &mut items, fabric.rows())?;
-    items.push(loader_instance(alloc, fabric.rows())?)?;
-    push_strobe_wires(alloc, &mut items, fabric.columns())?;
-    push_strobes(alloc, &mut items, fabric.columns())?;
+    push_carrying(alloc, &mut items, fabric, places)?;
     push_begin_wires(alloc, &mut items, fabric, places)?;
     push_instances(alloc, &mut items, fabric, places)?;
     Ok(items)

@@ -1,4 +1,4 @@
-//! The wires of the top module, its loader, and the strobes of its columns.
+//! What carries the configuration bits to the tiles, and the wires between tiles.
 
 ghost use Rattle.std.specs.Prelude.{◌≡◌, ◌++◌, ◌∷◌, [], All, map, IfOk, OnOk};
 ghost use Rattle.std.specs.List.{flat_map};
@@ -8,26 +8,68 @@ ghost use Rattle.fab_model.specs.Tiles.{counted};
 ghost use Rattle.fab_model.specs.Rows.{is_jump};
 ghost use Rattle.fab_gen_tile.specs.Names.{same_join};
 ghost use Rattle.fab_gen_tile.specs.Borders.{side_border};
-ghost use Rattle.fab_text_loads_laws.specs.fab_fabric_text_defs_Names.{column_strobe_name, begin_wire_name};
+ghost use Rattle.fab_text_loads_laws.specs.fab_fabric_text_defs_Mode.{text_mode};
+ghost use Rattle.fab_text_loads_laws.specs.fab_fabric_text_defs_Names.{column_strobe_name, chain_wire_name, begin_wire_name};
+ghost use Rattle.fab_text_loads_laws.specs.fab_fabric_text_defs_Places.{placed_tiles};
 ghost use Rattle.fab_gen_loader.specs.Loader.{row_port};
-ghost use Rattle.fab_text_loads_laws.specs.fab_fabric_text_defs_Top.{loader_wires, loader_joins, loader_instance, names_column, column_strobes, row_begin_wires, tile_begin_wires};
+ghost use Rattle.fab_text_loads_laws.specs.fab_fabric_text_defs_Top.{loader_wires, loader_joins, loader_instance, names_column, column_strobes, frame_items, carrying_items, row_begin_wires, tile_begin_wires};
 ghost use Rattle.fab_gen_top.specs.inner.Standing.{placed_of, IsPlaceOf};
 
-use crate::names::{begin_wire_name, column_strobe_name, row_name};
+use crate::mode::text_mode;
+use crate::names::{begin_wire_name, chain_wire_name, column_strobe_name, row_name};
 use crate::places::{Place, tile_of};
 use fab_base::{Memory, Name};
 use fab_bits::digits;
 use fab_fabric::Fabric;
 use fab_gen_tile::{part, same_join, side_border};
-use fab_model::{Dir, WireRow};
+use fab_model::{Dir, Mode, WireRow};
 use fab_prim::{conditional, operation, variable};
 use fab_syntax::{Expr, Item, Join, Op, Shape, Word};
 use std::alloc::Global;
 
+/// Adds what carries the configuration bits to the tiles at these places: the loader with its wires and the strobes of the columns, or
+/// the wires of the chain.
+pub fn push_carrying(
+    alloc: Global,
+    items: &mut Vec<Item>,
+    fabric: &Fabric,
+    places: &[Place],
+) -> Result<(), Memory>
+    requires { map (placed_of fabric.now) places.now ≡ placed_tiles fabric.now }
+    ensures { OnOk result (map plain_item items.new.items
+        ≡ map plain_item items.old.items ++ carrying_items (text_mode fabric.now) fabric.now) }
+{
+    match text_mode(fabric) {
+        Mode::Frames => push_frame_items(alloc, items, fabric),
+        Mode::Chain => push_chain_wires(alloc, items, places),
+    }
+}
+
+// Adds the wires of a chain, one behind the bits of each tile.
+fn push_chain_wires(alloc: Global, items: &mut Vec<Item>, places: &[Place]) -> Result<(), Memory>
+    ensures { OnOk result (map plain_item items.new.items
+        ≡ map plain_item items.old.items ++ map (λ place. wire shapes.Scalar (chain_wire_name place.x place.y)) places.now) }
+{
+    for place in places {
+        let name = chain_wire_name(alloc, place.x, place.y)?;
+        items.push(Item::Wire(Shape::Scalar, name))?;
+    }
+    Ok(())
+}
+
+fn push_frame_items(alloc: Global, items: &mut Vec<Item>, fabric: &Fabric) -> Result<(), Memory>
+    ensures { OnOk result (map plain_item items.new.items ≡ map plain_item items.old.items ++ frame_items fabric.now) }
+{
+    push_loader_wires(alloc, items, fabric.rows())?;
+    items.push(loader_instance(alloc, fabric.rows())?)?;
+    push_strobe_wires(alloc, items, fabric.columns())?;
+    push_strobes(alloc, items, fabric.columns())
+}
+
 // ---- the loader
 
-/// Adds the wires of the loader's outputs.
-pub fn push_loader_wires(alloc: Global, items: &mut Vec<Item>, rows: u32) -> Result<(), Memory>
+// Adds the wires of the loader's outputs.
+fn push_loader_wires(alloc: Global, items: &mut Vec<Item>, rows: u32) -> Result<(), Memory>
     ensures { OnOk result (map plain_item items.new.items ≡ map plain_item items.old.items ++ loader_wires rows) }
 {
     items.push(Item::Wire(Shape::Vector(32), Name::of(alloc, b"Address")?))?;
@@ -46,8 +88,8 @@ fn push_row_wires(alloc: Global, items: &mut Vec<Item>, rows: u32) -> Result<(),
     Ok(())
 }
 
-/// The instance of the loader.
-pub fn loader_instance(alloc: Global, rows: u32) -> Result<Item, Memory>
+// The instance of the loader.
+fn loader_instance(alloc: Global, rows: u32) -> Result<Item, Memory>
     ensures { IfOk result (λ item. plain_item item ≡ loader_instance rows) }
 {
     let of = Name::of(alloc, b"ConfigLoader")?;
@@ -82,8 +124,8 @@ fn push_row_joins(alloc: Global, joins: &mut Vec<Join>, rows: u32) -> Result<(),
 
 // ---- strobes
 
-/// Adds the wires of the strobes of each column.
-pub fn push_strobe_wires(alloc: Global, items: &mut Vec<Item>, columns: u32) -> Result<(), Memory>
+// Adds the wires of the strobes of each column.
+fn push_strobe_wires(alloc: Global, items: &mut Vec<Item>, columns: u32) -> Result<(), Memory>
     ensures { OnOk result (map plain_item items.new.items
         ≡ map plain_item items.old.items ++ counted columns (λ x. wire (shapes.Vector 20) (column_strobe_name x))) }
 {
@@ -93,8 +135,8 @@ pub fn push_strobe_wires(alloc: Global, items: &mut Vec<Item>, columns: u32) -> 
     Ok(())
 }
 
-/// Adds the strobes of each column.
-pub fn push_strobes(alloc: Global, items: &mut Vec<Item>, columns: u32) -> Result<(), Memory>
+// Adds the strobes of each column.
+fn push_strobes(alloc: Global, items: &mut Vec<Item>, columns: u32) -> Result<(), Memory>
     ensures { OnOk result (map plain_item items.new.items ≡ map plain_item items.old.items ++ counted columns column_strobes) }
 {
     for x in 0..columns {

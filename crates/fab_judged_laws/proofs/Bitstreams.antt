@@ -1,28 +1,43 @@
 -- Words are the bitstream of some configuration bits of a fabric, or one of them is the first that is refused.
-use Rattle.std.proofs.Common.{◌≡◌, ◌<◌, ◌≤◌, ◌+◌, ◌^◌, ◌⊎◌, ℕ, zero, suc, Bool, false, List, [], ◌∷◌, Option, Some, None, All, length, map, get_or, refl, sym, ap, ◌∙◌, arith, inl, inr}
-use Rattle.std.specs.Prelude.{slice_get, option_map}
-use Rattle.std.specs.Option.{option_and_then, option_map_or}
+use Rattle.std.proofs.Common.{◌≡◌, ◌<◌, ◌≤◌, ◌+◌, ◌^◌, ◌⊎◌, ℕ, zero, suc, Bool, false, List, [], ◌∷◌, Option, Some, None, All, length, get_or, refl, sym, ap, ◌∙◌, arith, inl, inr}
+use Rattle.std.specs.Prelude.{slice_get}
 use Rattle.std.proofs.lemmas.Bool.{cases_lt}
-use Rattle.std.proofs.lemmas.List.{length-map}
-use Rattle.std.proofs.lemmas.Option.{slice_get_past, slice_get-map, slice_get-get_or, get_or_from_slice_get}
+use Rattle.std.proofs.lemmas.Option.{slice_get_past, slice_get-get_or, get_or_from_slice_get}
 use Rattle.fab_base.specs.declared.problem.Problem.TheVariants as problems
 use Rattle.fab_base.specs.declared.words.Reason.{Reason}
 use Rattle.fab_base.specs.declared.words.Reason.TheVariants as reasons
 use Rattle.fab_base.specs.Reading.{fault_at}
-use Rattle.fab_model.specs.Tiles.{PlainTile, counted, tile_bits}
-use Rattle.fab_model.specs.Grid.{PlainFabric, tile_at}
+use Rattle.fab_model.specs.Tiles.{counted}
+use Rattle.fab_model.specs.Grid.{PlainFabric}
 use Rattle.fab_fabric.specs.Fabric.{IsFabric}
-use Rattle.fab_fabric.specs.Bits.{plain_bits, column_bits, place_bits, AreBitsOf}
-use Rattle.fab_frames.specs.Stream.{of_row, parts, stream, placed_bit, word_bit, problem_of, problem_at, IsFirstWrong}
+use Rattle.fab_fabric.specs.Bits.{plain_bits, column_bits, place_bits, bits_at, AreBitsOf}
+use Rattle.fab_frames.specs.declared.positions.BitPlace.{BitPlace}
+use Rattle.fab_frames.specs.Positions.{bit_place, bit_in}
+use Rattle.fab_frames.specs.Stream.{Part, parts, stream, word_bit, problem_of, problem_at, IsFirstWrong}
 use Rattle.fab_frames.specs.Refusals.{IsStreamRefusal}
+use Rattle.fab_frames.specs.inner.Taking.{placed_by}
 use Rattle.fab_frames.proofs.ByteWords.{all_fit}
+use Rattle.fab_frames.proofs.Chains.{IsBitOf}
 use Rattle.fab_frames.proofs.Lists.{length_counted}
-use Rattle.fab_frames.proofs.Mapped.{tile_has_table}
-use Rattle.fab_frames.proofs.Placed.{placed_is}
-use Rattle.fab_frames.proofs.Rows.{row_place, row_found}
-use Rattle.fab_frames.proofs.Streams.{HasRow, HaveTaken, words_are}
+use Rattle.fab_frames.proofs.Standing.{Stands, part_within, placed_is_bit, placed_once, part_once, each_stands}
+use Rattle.fab_frames.proofs.Streams.{HasBits, HaveTaken, words_are}
 use Rattle.fab_judged_laws.specs.Judged.{IsSpelledOrRefused}
 use Rattle.fab_judged_laws.proofs.Counted.{counted_at}
+
+-- ---- whether a configuration bit is one of the fabric
+
+is_bit : (fabric : PlainFabric) (at : BitPlace) → IsBitOf fabric at ⊎ (IsBitOf fabric at → ⊥)
+is_bit fabric at =
+    elim (cases_lt at.x fabric.columns) [
+      | inr far ↦ inr (λ of. omega (arith, far, of.column))
+      | inl column ↦ elim (cases_lt at.y fabric.rows) [
+          | inr low ↦ inr (λ of. omega (arith, low, of.row))
+          | inl row ↦ elim (cases_lt at.bit (bits_at fabric at.x at.y)) [
+              | inr past ↦ inr (λ of. omega (arith, past, of.number))
+              | inl number ↦ inl (record { column = column; row = row; number = number })
+            ]
+        ]
+    ]
 
 module _ (fabric : PlainFabric) (words : List ℕ) where
   -- ---- the first word that is refused, if one is
@@ -79,64 +94,84 @@ module _ (fabric : PlainFabric) (words : List ℕ) where
 
   -- ---- the configuration bits of the words
 
-  -- what the word of a row has at a place of a frame
-  bit_at : (x y : ℕ) (place : ℕ × ℕ) → Bool
-  bit_at x y place = word_bit (get_or words (row_place fabric x y place.0) 0) place.1
+  -- what the words have at the place of a configuration bit
+  abbrev WordBit : (at : BitPlace) → Stands fabric at → Bool
+  WordBit at found = word_bit (get_or words found.place 0) found.bit
 
-  bits_of_tile : (x y : ℕ) → Option PlainTile → List Bool
-  bits_of_tile x y None = []
-  bits_of_tile x y (Some tile) = map (bit_at x y) tile.table
+  -- which place it is told by does not matter
+  one_word_bit : (at : BitPlace) (found other : Stands fabric at) → WordBit at found ≡ WordBit at other
+  one_word_bit at found other =
+      let within = part_within fabric found.place found.part found.stands in
+      let also = part_within fabric other.place other.part other.stands in
+      let once = placed_once fabric found.part other.part found.bit other.bit at within also found.small other.small found.there other.there in
+      let place : found.place ≡ other.place =
+      part_once fabric found.place other.place found.part found.bit at found.stands (other.stands ∙ ap Some (sym once.0)) found.there in
+      λ j. word_bit (get_or words (place j) 0) (once.1 j)
 
-  bits : List (List (List Bool))
-  bits = counted fabric.columns (λ x. counted fabric.rows (λ y. bits_of_tile x y (tile_at fabric x y)))
+  module _ (is : IsFabric fabric) where
+    value_of : (at : BitPlace) → IsBitOf fabric at ⊎ (IsBitOf fabric at → ⊥) → Bool
+    value_of at (inl of) = WordBit at (each_stands fabric at is of)
+    value_of at (inr none) = false
 
-  column_is : (x : ℕ) → x < fabric.columns → column_bits bits x ≡ counted fabric.rows (λ y. bits_of_tile x y (tile_at fabric x y))
-  unfolding bits
-  column_is x few = counted_at fabric.columns (λ x. counted fabric.rows (λ y. bits_of_tile x y (tile_at fabric x y))) x [] few
+    value_is : (at : BitPlace) (found : Stands fabric at) → IsBitOf fabric at → (known : IsBitOf fabric at ⊎ (IsBitOf fabric at → ⊥)) → value_of at known ≡ WordBit at found
+    unfolding value_of
+    value_is at found of (inl here) = one_word_bit at (each_stands fabric at is here) found
+    value_is at found of (inr none) = absurd (none of)
 
-  place_is : (x y : ℕ) → x < fabric.columns → y < fabric.rows → place_bits bits x y ≡ bits_of_tile x y (tile_at fabric x y)
-  place_is x y few low =
-      ap (λ column. get_or column y []) (column_is x few) ∙ counted_at fabric.rows (λ y. bits_of_tile x y (tile_at fabric x y)) y [] low
+    bit_at : (x y number : ℕ) → Bool
+    bit_at x y number = value_of (bit_place x y number) (is_bit fabric (bit_place x y number))
 
-  as_many : IsFabric fabric → (x y : ℕ) (found : Option PlainTile) → tile_at fabric x y ≡ found → length (bits_of_tile x y found) ≡ option_map_or tile_bits found 0
-  unfolding bits_of_tile
-  as_many is x y None stands = refl
-  as_many is x y (Some tile) stands = length-map tile.table (bit_at x y) ∙ (tile_has_table fabric x y tile is stands).as_many
+    bits_of_place : (x y : ℕ) → List Bool
+    bits_of_place x y = counted (bits_at fabric x y) (bit_at x y)
 
-  are_bits : IsFabric fabric → AreBitsOf fabric bits
-  unfolding bits
-  are_bits is = record {
-    columns = length_counted fabric.columns (λ x. counted fabric.rows (λ y. bits_of_tile x y (tile_at fabric x y)));
-    rows = λ x few. ap length (column_is x few) ∙ length_counted fabric.rows (λ y. bits_of_tile x y (tile_at fabric x y));
-    tiles = λ x y few low. ap length (place_is x y few low) ∙ as_many is x y (tile_at fabric x y) refl;
-  }
+    bits : List (List (List Bool))
+    bits = counted fabric.columns (λ x. counted fabric.rows (bits_of_place x))
 
-  -- a bit that is placed has what the word of its row has there
-  placed_has : (x y frame bit number : ℕ) (found : Option PlainTile) → option_and_then (placed_bit frame bit) found ≡ Some number → get_or (bits_of_tile x y found) number false ≡ bit_at x y (frame, bit)
-  unfolding bits_of_tile
-  placed_has x y frame bit number None placed = absurd cc
-  placed_has x y frame bit number (Some tile) placed =
-      let there : slice_get (map (bit_at x y) tile.table) number ≡ Some (bit_at x y (frame, bit)) =
-      slice_get-map (bit_at x y) tile.table number ∙ ap (option_map (bit_at x y)) (placed_is tile frame bit number placed) in
-      get_or_from_slice_get (map (bit_at x y) tile.table) number (bit_at x y (frame, bit)) false there
+    column_is : (x : ℕ) → x < fabric.columns → column_bits bits x ≡ counted fabric.rows (bits_of_place x)
+    unfolding bits
+    column_is x few = counted_at fabric.columns (λ x. counted fabric.rows (bits_of_place x)) x [] few
 
-  row_is : (k x y frame word : ℕ) → slice_get (parts fabric) k ≡ Some (of_row x y frame) → slice_get words k ≡ Some word → HasRow fabric bits x y frame word
-  unfolding bit_at
-  row_is k x y frame word row there bit number small placed =
-      let found = row_found fabric k x y frame row in
-      let read : get_or words (row_place fabric x y frame) 0 ≡ word = ap (λ n. get_or words n 0) (sym found.at) ∙ get_or_from_slice_get words k word 0 there in
-      ap (λ list. get_or list number false) (place_is x y found.column found.row)
-      ∙ placed_has x y frame bit number (tile_at fabric x y) placed
-      ∙ ap (λ w. word_bit w bit) read
+    place_is : (x y : ℕ) → x < fabric.columns → y < fabric.rows → place_bits bits x y ≡ counted (bits_at fabric x y) (bit_at x y)
+    unfolding bits_of_place
+    place_is x y few low = ap (λ column. get_or column y []) (column_is x few) ∙ counted_at fabric.rows (bits_of_place x) y [] low
+
+    are_bits : AreBitsOf fabric bits
+    unfolding bits
+    are_bits = record {
+      columns = length_counted fabric.columns (λ x. counted fabric.rows (bits_of_place x));
+      rows = λ x few. ap length (column_is x few) ∙ length_counted fabric.rows (bits_of_place x);
+      tiles = λ x y few low. ap length (place_is x y few low) ∙ length_counted (bits_at fabric x y) (bit_at x y);
+    }
+
+    -- a bit that is placed has what its word has there
+    placed_has : (at : BitPlace) (found : Stands fabric at) → IsBitOf fabric at → bit_in (plain_bits bits) at ≡ WordBit at found
+    unfolding bit_at
+    placed_has at found of =
+        ap (λ list. get_or list at.bit false) (place_is at.x at.y of.column of.row)
+        ∙ counted_at (bits_at fabric at.x at.y) (bit_at at.x at.y) at.bit false of.number
+        ∙ value_is at found of (is_bit fabric at)
+
+    part_has : (k : ℕ) (part : Part) (word : ℕ) → slice_get (parts fabric) k ≡ Some part → slice_get words k ≡ Some word → HasBits (placed_by fabric part) bits word
+    part_has k part word stands read bit at small there =
+        let found : Stands fabric at = record {
+          place = k;
+          part = part;
+          bit = bit;
+          small = small;
+          stands = stands;
+          there = there;
+        } in
+        placed_has at found (placed_is_bit fabric part bit at is (part_within fabric k part stands) there)
+        ∙ ap (λ w. word_bit w bit) (get_or_from_slice_get words k word 0 read)
 
   -- ---- the words are the stream of these bits
 
-  have_taken : (n : ℕ) → IsFabric fabric → AreFine n → length words < n → HaveTaken fabric words (length (parts fabric)) bits
+  have_taken : (n : ℕ) (is : IsFabric fabric) → AreFine n → length words < n → HaveTaken fabric words (length (parts fabric)) (bits is)
   have_taken n is fine enough = record {
     are_bits = are_bits is;
     present = no_part_behind n fine enough;
     fine = λ k below. fine k (omega (arith, below, enough, no_part_behind n fine enough));
-    taken = λ k x y frame word below row there. row_is k x y frame word row there;
+    taken = λ k part word below stands read. part_has is k part word stands read;
   }
 
   pub words_judged : (file : List ℕ) → IsFabric fabric → All (λ word. word < 2 ^ 32) words
@@ -146,5 +181,5 @@ module _ (fabric : PlainFabric) (words : List ℕ) where
     | inl fine ↦ (
         let enough : length words < suc (length words) = omega arith in
         let taken = have_taken (suc (length words)) is fine enough in
-        inl (bits, (are_bits is, words_are fabric words (length (parts fabric)) bits (all_fit words fit) (omega arith) (no_word_behind (suc (length words)) fine enough) taken)))
+        inl (bits is, (are_bits is, words_are fabric words (length (parts fabric)) (bits is) (all_fit words fit) (omega arith) (no_word_behind (suc (length words)) fine enough) taken)))
   ]

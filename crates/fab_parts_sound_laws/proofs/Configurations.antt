@@ -1,33 +1,36 @@
--- The module of a tile's configuration bits fits.
-use Rattle.std.proofs.Common.{◌≡◌, ◌≢◌, ℕ, ◌+◌, ◌*◌, ◌<◌, ◌≤◌, List, [], ◌∷◌, ◌++◌, map, reverse, get_or, length, refl, sym, ap, ◌∙◌, arith, All, AllPairs, Contains, append-nil, decimal, nat_eq}
+-- The module of a tile's configuration bits fits in both modes.
+use Rattle.std.proofs.Common.{◌≡◌, ◌≢◌, ℕ, ◌+◌, ◌*◌, ◌<◌, ◌≤◌, false, List, [], ◌∷◌, ◌++◌, map, reverse, get_or, length, refl, sym, ap, ◌∙◌, arith, All, AllPairs, Contains, append-nil, decimal, nat_eq}
 use Rattle.std.specs.List.{flat_map}
 use Rattle.std.proofs.lemmas.Bool.Decides.{Decides-eqb}
 use Rattle.std.proofs.lemmas.Fmt.{decimal_injective}
-use Rattle.std.proofs.lemmas.List.{length-map, get_or-map, length-reverse}
+use Rattle.std.proofs.lemmas.List.{length-map, get_or-map, length-reverse, map-append}
 use Rattle.std.proofs.lemmas.List.Concat.{flat_map-append}
-use Rattle.std.proofs.lemmas.List.Elements.{All-nil, All-cons, All-append, All-contains, All-map, All-head, All-tail, Contains-append_left, Contains-append_right}
+use Rattle.std.proofs.lemmas.List.Elements.{All-nil, All-cons, All-append, All-contains, All-map, All-head, All-tail, All-weaker, Contains-append_left, Contains-append_right}
 use Rattle.std.proofs.lemmas.List.Folds.{Any-from_list_any}
-use Rattle.std.proofs.lemmas.List.Kept.{AllPairs-cons}
 use Rattle.std.proofs.lemmas.Map.Made.{IsDistinct-from_AllPairs}
 use Rattle.std.proofs.lemmas.Map.Steps.{length-le_from_distinct_below}
 use Rattle.fab_syntax.specs.declared.tree.Shape.TheVariants.{Scalar}
+use Rattle.fab_syntax.specs.declared.tree.Port.{Port}
 use Rattle.fab_syntax.specs.Plain.{PlainExpr, PlainItem, PlainModule, variable, plain_exprs, reg, assign}
-use Rattle.fab_syntax.specs.Declarations.{width_if_any}
 use Rattle.fab_syntax.specs.Sound.{width_of, width_of_name, parts_width, ServesAsClock}
-use Rattle.fab_tile_drives_laws.proofs.fab_meaning_Modules.{Each, each_all}
 use Rattle.fab_tile_drives_laws.specs.fab_meaning_Ports.{config_name}
+use Rattle.fab_tile_drives_laws.specs.fab_meaning_Runs.{clock_name}
+use Rattle.fab_tile_drives_laws.specs.fab_model_mode_Mode.{Mode}
+use Rattle.fab_tile_drives_laws.specs.fab_model_mode_Mode_TheVariants as modes
 use Rattle.fab_tile_drives_laws.specs.fab_model_Tiles.{PlainTile, counted, tile_bits}
 use Rattle.fab_tile_drives_laws.specs.fab_model_Tables.{HasTable}
-use Rattle.fab_tile_drives_laws.specs.fab_gen_tile_Names.{latch_name, frame_data_name, frame_strobe_name}
-use Rattle.fab_tile_drives_laws.specs.fab_gen_tile_ConfigModule.{bit_latch, all_latches, config_module}
+use Rattle.fab_tile_drives_laws.specs.fab_gen_tile_Names.{latch_name, vector}
+use Rattle.fab_tile_drives_laws.specs.fab_gen_tile_ConfigModule.{config_ports, keeping_items, all_latches, config_module}
+use Rattle.fab_tile_drives_laws.proofs.Latches.{latch_width, all_width}
 use Rattle.fab_parts_sound_laws.specs.Fits.{FitsIn}
-use Rattle.fab_parts_sound_laws.proofs.Lists.{all_counted, all_reverse, pairs_none, pairs_append, pairs_counted, contains_first, contains_later, contains_counted, length-counted, none_each, one_each}
-use Rattle.fab_parts_sound_laws.proofs.Names.{Differ, told_apart, AreApart, IsNoneOf, IsNet, OwnKnown}
-use Rattle.fab_parts_sound_laws.proofs.Counts.{item_drives, driven_names, item_holds, held_names, IsPortAmong, IsItemAmong}
+use Rattle.fab_parts_sound_laws.proofs.Lists.{all_counted, all_reverse, pairs_append, pairs_counted, contains_counted, length-counted, none_each}
+use Rattle.fab_parts_sound_laws.proofs.Names.{Differ, AreApart, IsNet, OwnKnown}
+use Rattle.fab_parts_sound_laws.proofs.Counts.{item_drives, driven_names, item_holds, held_names, IsItemAmong}
 use Rattle.fab_parts_sound_laws.proofs.Expressions.{Holds, parts_hold}
 use Rattle.fab_parts_sound_laws.proofs.Clocks.{ClocksBy, serves}
 use Rattle.fab_parts_sound_laws.proofs.Flat.{IsSized, ItemFits}
-use Rattle.fab_parts_sound_laws.proofs.FlatNames.{UsesOnly, counted_nets, register_shape, IsFlat, flat_module_fits}
+use Rattle.fab_parts_sound_laws.proofs.FlatNames.{UsesOnly, counted_nets, IsFlat, flat_module_fits}
+use Rattle.fab_parts_sound_laws.proofs.ConfigItems.{port_names, output_names, ports_apart, outputs_apart, ports_differ, outputs_differ, config_port, ports_among, kept_fits, kept_uses, kept_drives, kept_holds, kept_clocks}
 
 -- ---- there are no more bits than places
 
@@ -71,7 +74,7 @@ latches_differ i j before few same =
     let equal : i ≡ j = decimal_injective i j (omega arith) (omega arith) digits in
     omega arith
 
-module _ (tile : PlainTile) (table : HasTable tile) where
+module _ (mode : Mode) (tile : PlainTile) (table : HasTable tile) where
   abbrev bits : ℕ
   bits = tile_bits tile
 
@@ -81,11 +84,14 @@ module _ (tile : PlainTile) (table : HasTable tile) where
   abbrev registers : List PlainItem
   registers = counted bits (λ bit. reg Scalar (latch_name bit))
 
+  abbrev kept : List PlainItem
+  kept = keeping_items mode tile
+
   abbrev rest : List PlainItem
-  rest = counted bits (bit_latch tile) ++ assign config_name (all_latches bits) ∷ []
+  rest = kept ++ assign config_name (all_latches bits) ∷ []
 
   abbrev names : List (List ℕ)
-  names = frame_data_name ∷ frame_strobe_name ∷ config_name ∷ latches
+  names = port_names mode ++ latches
 
   few : bits ≤ 640
   few = omega (arith, few_places tile.table table.in_frames table.apart, table.as_many)
@@ -95,20 +101,14 @@ module _ (tile : PlainTile) (table : HasTable tile) where
 
   names_apart : AreApart names
   names_apart =
-      AllPairs-cons Differ frame_data_name (frame_strobe_name ∷ config_name ∷ latches)
-      (All-cons (Differ frame_data_name) frame_strobe_name (config_name ∷ latches) (told_apart _ _ refl)
-      (All-cons (Differ frame_data_name) config_name latches (told_apart _ _ refl) (all_counted (Differ frame_data_name) bits latch_name (λ i within. told_apart _ _ refl))))
-      (AllPairs-cons Differ frame_strobe_name (config_name ∷ latches)
-      (All-cons (Differ frame_strobe_name) config_name latches (told_apart _ _ refl) (all_counted (Differ frame_strobe_name) bits latch_name (λ i within. told_apart _ _ refl)))
-      (AllPairs-cons Differ config_name latches (all_counted (Differ config_name) bits latch_name (λ i within. told_apart _ _ refl)) latches_apart))
+      pairs_append Differ (port_names mode) latches (ports_apart mode) latches_apart
+      (All-weaker (λ name. (bit : ℕ) → name ≢ latch_name bit) (λ name. All (Differ name) latches)
+      (λ name differs. all_counted (Differ name) bits latch_name (λ bit within. differs bit)) (port_names mode) (ports_differ mode))
 
   -- ---- widths
 
   abbrev m : PlainModule
-  m = config_module tile
-
-  latch_wide : (bit : ℕ) → bit < bits → width_of_name m (latch_name bit) ≡ 1
-  latch_wide bit within = ap width_if_any (register_shape Scalar latch_name rest bits bit within)
+  m = config_module mode tile
 
   wide_parts : (es : List PlainExpr) → All (λ e. width_of m e ≡ 1) es → parts_width (width_of_name m) (plain_exprs es) ≡ length es
   wide_parts [] all = refl
@@ -119,50 +119,34 @@ module _ (tile : PlainTile) (table : HasTable tile) where
 
   all_wide : width_of m (all_latches bits) ≡ bits
   all_wide =
-      wide_parts (reverse shown) (all_reverse (λ e. width_of m e ≡ 1) shown (all_counted (λ e. width_of m e ≡ 1) bits (λ bit. variable (latch_name bit)) latch_wide))
+      wide_parts (reverse shown) (all_reverse (λ e. width_of m e ≡ 1) shown (all_counted (λ e. width_of m e ≡ 1) bits (λ bit. variable (latch_name bit)) (latch_width mode tile)))
       ∙ length-reverse shown
       ∙ length-counted bits (λ bit. variable (latch_name bit))
 
   -- ---- items
 
-  latch_fits : (bit : ℕ) → bit < bits → ItemFits m (bit_latch tile bit)
-  latch_fits bit within =
-      let place = table.in_frames bit (0, 0) (omega (arith, table.as_many)) in
-      let wide = latch_wide bit within in
-      (((omega arith, place.0), tt), ((omega arith, place.1), tt), omega arith, omega (arith, wide))
-
   assign_fits : ItemFits m (assign config_name (all_latches bits))
   assign_fits = (
     ((tt, tt), parts_hold (IsSized m) (reverse shown) (all_reverse (Holds (IsSized m)) shown (all_counted (Holds (IsSized m)) bits (λ bit. variable (latch_name bit)) (λ bit within. (tt, tt))))),
-    sym all_wide,
+    all_width mode tile ∙ sym all_wide,
   )
 
   rest_fits : All (ItemFits m) rest
   rest_fits =
-      All-append (ItemFits m) (counted bits (bit_latch tile)) (assign config_name (all_latches bits) ∷ []) (all_counted (ItemFits m) bits (bit_latch tile) latch_fits)
+      All-append (ItemFits m) kept (assign config_name (all_latches bits) ∷ []) (kept_fits tile mode table)
       (All-cons (ItemFits m) (assign config_name (all_latches bits)) [] assign_fits (All-nil (ItemFits m)))
 
   -- ---- uses
 
   latch_among : (bit : ℕ) → bit < bits → Contains names (latch_name bit)
-  latch_among bit within =
-      contains_later frame_data_name (frame_strobe_name ∷ config_name ∷ latches) (latch_name bit)
-      (contains_later frame_strobe_name (config_name ∷ latches) (latch_name bit)
-      (contains_later config_name latches (latch_name bit) (contains_counted bits latch_name bit within)))
-
-  data_among : Contains names frame_data_name
-  data_among = (0, omega arith, refl)
-
-  strobe_among : Contains names frame_strobe_name
-  strobe_among = (1, omega arith, refl)
+  latch_among bit within = Contains-append_right (port_names mode) latches (latch_name bit) (contains_counted bits latch_name bit within)
 
   config_among : Contains names config_name
-  config_among = (2, omega arith, refl)
+  config_among = Contains-append_left (port_names mode) latches config_name (config_port mode)
 
   rest_uses : All (UsesOnly names) rest
   rest_uses =
-      All-append (UsesOnly names) (counted bits (bit_latch tile)) (assign config_name (all_latches bits) ∷ [])
-      (all_counted (UsesOnly names) bits (bit_latch tile) (λ bit within. (latch_among bit within, strobe_among, data_among)))
+      All-append (UsesOnly names) kept (assign config_name (all_latches bits) ∷ []) (kept_uses tile mode)
       (All-cons (UsesOnly names) (assign config_name (all_latches bits)) []
       (config_among, (tt, parts_hold (OwnKnown names) (reverse shown) (all_reverse (Holds (OwnKnown names)) shown (all_counted (Holds (OwnKnown names)) bits (λ bit. variable (latch_name bit)) latch_among))))
       (All-nil (UsesOnly names)))
@@ -170,46 +154,32 @@ module _ (tile : PlainTile) (table : HasTable tile) where
   -- ---- drivers
 
   abbrev driven : List (List ℕ)
-  driven = latches ++ config_name ∷ []
+  driven = latches ++ output_names mode
 
   drives : (text : List PlainModule) → driven_names text m.items ≡ driven
   drives text =
       flat_map-append (item_drives text) registers rest
       ∙ (λ j. none_each (item_drives text) bits (λ bit. reg Scalar (latch_name bit)) (λ bit. refl) j ++ flat_map (item_drives text) rest)
-      ∙ flat_map-append (item_drives text) (counted bits (bit_latch tile)) (assign config_name (all_latches bits) ∷ [])
-      ∙ (λ j. one_each (item_drives text) bits (bit_latch tile) latch_name (λ bit. refl) j ++ config_name ∷ [])
+      ∙ flat_map-append (item_drives text) kept (assign config_name (all_latches bits) ∷ [])
+      ∙ kept_drives tile mode text
 
   holds : held_names m.items ≡ latches
   holds =
       flat_map-append item_holds registers rest
       ∙ (λ j. none_each item_holds bits (λ bit. reg Scalar (latch_name bit)) (λ bit. refl) j ++ flat_map item_holds rest)
-      ∙ flat_map-append item_holds (counted bits (bit_latch tile)) (assign config_name (all_latches bits) ∷ [])
-      ∙ (λ j. one_each item_holds bits (bit_latch tile) latch_name (λ bit. refl) j ++ [])
-      ∙ append-nil latches
+      ∙ flat_map-append item_holds kept (assign config_name (all_latches bits) ∷ [])
+      ∙ append-nil (flat_map item_holds kept)
+      ∙ kept_holds tile mode
 
   driven_apart : AreApart driven
   driven_apart =
-      pairs_append Differ latches (config_name ∷ []) latches_apart (AllPairs-cons Differ config_name [] (All-nil (Differ config_name)) (pairs_none Differ))
-      (all_counted (λ name. All (Differ name) (config_name ∷ [])) bits latch_name (λ bit within. All-cons (Differ (latch_name bit)) config_name [] (told_apart _ _ refl) (All-nil (Differ (latch_name bit)))))
-
-  ports_among : Each (λ port. IsPortAmong driven latches port.input port.name) m.ports
-  ports_among = (
-    none_driven frame_data_name (λ bit. told_apart _ _ refl) (told_apart _ _ refl),
-    (
-      none_driven frame_strobe_name (λ bit. told_apart _ _ refl) (told_apart _ _ refl),
-      ((Contains-append_right latches (config_name ∷ []) config_name (contains_first config_name []), all_counted (λ other. other ≢ config_name) bits latch_name (λ bit within. told_apart _ _ refl)), tt),
-    ),
-  )
-    where
-      none_driven : (name : List ℕ) → ((bit : ℕ) → latch_name bit ≢ name) → config_name ≢ name → IsNoneOf driven name
-      none_driven name no_latch no_config =
-          All-append (λ other. other ≢ name) latches (config_name ∷ []) (all_counted (λ other. other ≢ name) bits latch_name (λ bit within. no_latch bit))
-          (All-cons (λ other. other ≢ name) config_name [] no_config (All-nil (λ other. other ≢ name)))
+      pairs_append Differ latches (output_names mode) latches_apart (outputs_apart mode)
+      (all_counted (λ name. All (Differ name) (output_names mode)) bits latch_name (λ bit within. outputs_differ mode bit))
 
   nets_among : All (IsItemAmong driven latches) registers
   nets_among =
       all_counted (IsItemAmong driven latches) bits (λ bit. reg Scalar (latch_name bit))
-      (λ bit within. (Contains-append_left latches (config_name ∷ []) (latch_name bit) (contains_counted bits latch_name bit within), contains_counted bits latch_name bit within))
+      (λ bit within. (Contains-append_left latches (output_names mode) (latch_name bit) (contains_counted bits latch_name bit within), contains_counted bits latch_name bit within))
 
   -- ---- together
 
@@ -217,7 +187,7 @@ module _ (tile : PlainTile) (table : HasTable tile) where
   flat text = record {
     in_order = refl;
     declare = all_counted IsNet bits (λ bit. reg Scalar (latch_name bit)) (λ bit within. tt);
-    declared = ap (λ own. frame_data_name ∷ frame_strobe_name ∷ config_name ∷ own) (counted_nets Scalar bits latch_name);
+    declared = λ j. map-append (λ (port : Port). port.name) (config_ports mode) (vector false bits config_name ∷ []) j ++ counted_nets Scalar bits latch_name j;
     names_apart = names_apart;
     used = rest_uses;
     fit = rest_fits;
@@ -225,19 +195,19 @@ module _ (tile : PlainTile) (table : HasTable tile) where
     holds = holds;
     driven_apart = driven_apart;
     held_apart = latches_apart;
-    ports_among = each_all (λ port. IsPortAmong driven latches port.input port.name) m.ports ports_among;
+    ports_among = ports_among bits mode;
     nets_among = nets_among;
   }
 
   pub config_fits : (text before : List PlainModule) → FitsIn text before m
   config_fits text before = flat_module_fits text before m registers rest names driven latches (flat text)
 
--- it has no clocks
-pub config_clocks : (text : List PlainModule) (tile : PlainTile) (port : List ℕ) → ServesAsClock text (config_module tile) port → ⊥
-config_clocks text tile port =
-    let NoClock : PlainItem → Type 0 = ClocksBy (λ clock. ⊥) in
+-- CLK is its clock in a chain, and in frames it has none
+pub config_clocks : (mode : Mode) (text : List PlainModule) (tile : PlainTile) (port : List ℕ) → ServesAsClock text (config_module mode tile) port → (mode ≡ modes.Chain) × (port ≡ clock_name)
+config_clocks mode text tile port =
+    let ByClock : PlainItem → Type 0 = ClocksBy (λ clock. (mode ≡ modes.Chain) × (clock ≡ clock_name)) in
     let bits = tile_bits tile in
-    serves (λ clock. ⊥) text (config_module tile) port
-    (All-append NoClock (counted bits (λ bit. reg Scalar (latch_name bit))) _ (all_counted NoClock bits (λ bit. reg Scalar (latch_name bit)) (λ bit within. tt))
-    (All-append NoClock (counted bits (bit_latch tile)) (assign config_name (all_latches bits) ∷ []) (all_counted NoClock bits (bit_latch tile) (λ bit within. tt))
-    (All-cons NoClock (assign config_name (all_latches bits)) [] tt (All-nil NoClock))))
+    serves (λ clock. (mode ≡ modes.Chain) × (clock ≡ clock_name)) text (config_module mode tile) port
+    (All-append ByClock (counted bits (λ bit. reg Scalar (latch_name bit))) _ (all_counted ByClock bits (λ bit. reg Scalar (latch_name bit)) (λ bit within. tt))
+    (All-append ByClock (keeping_items mode tile) (assign config_name (all_latches bits) ∷ []) (kept_clocks tile mode)
+    (All-cons ByClock (assign config_name (all_latches bits)) [] tt (All-nil ByClock))))

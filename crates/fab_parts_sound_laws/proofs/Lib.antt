@@ -7,6 +7,7 @@ pub mod Clocks
 pub mod Flat
 pub mod Primitives
 pub mod FlatNames
+pub mod ConfigItems
 pub mod Configurations
 pub mod Sized
 pub mod Apart

@@ -11,6 +11,7 @@ use Rattle.fab_syntax.specs.Declarations.{module_named}
 use Rattle.fab_meaning.specs.Points.{Path, point, module_at}
 use Rattle.fab_meaning.specs.Settled.{Assignment}
 use Rattle.fab_meaning.proofs.Modules.{each_all}
+use Rattle.fab_model.specs.declared.mode.Mode.{Mode}
 use Rattle.fab_model.specs.declared.tiles.Bel.{Bel}
 use Rattle.fab_model.specs.Tiles.{PlainTile, bel_pin, wire_name, bits_before}
 use Rattle.fab_model.specs.Wires.{pin_of, pin_count, IsWire}
@@ -51,7 +52,7 @@ outside_joined place low bel port there =
     (Contains-append_right tops (outputs ++ to_outside) join
     (Contains-append_right outputs to_outside join (contains_map (pad_join place) (top_outputs bel.kind) port there)))))
 
-module _ (text : List PlainModule) (path : Path) (tile : PlainTile) (stands : TileStands text path tile) (inputs held : Assignment) (t : Terns)
+module _ (mode : Mode) (text : List PlainModule) (path : Path) (tile : PlainTile) (stands : TileStands mode text path tile) (inputs held : Assignment) (t : Terns)
     (bel : ℕ) (found : Bel) (there : slice_get tile.bels bel ≡ Some found) where
   abbrev kind_module : PlainModule
   kind_module = module_of_kind found.kind
@@ -67,7 +68,7 @@ module _ (text : List PlainModule) (path : Path) (tile : PlainTile) (stands : Ti
       All-contains (λ (b : Bel). module_named text (module_name b.kind) ≡ Some (module_of_kind b.kind)) tile.bels found stands.kinds_are (contains_at tile.bels bel found there)
 
   pub bel_stands : module_at text here ≡ Some kind_module
-  bel_stands = inside text path tile (bel_instance_name bel) _ kind_module stands.tile_is (bel_found tile bel found there) of_kind
+  bel_stands = inside mode text path tile (bel_instance_name bel) _ kind_module stands.tile_is (bel_found mode tile bel found there) of_kind
 
   -- ---- pins
 
@@ -83,9 +84,9 @@ module _ (text : List PlainModule) (path : Path) (tile : PlainTile) (stands : Ti
     -- an input port shows the wire of the pin
     pub input_shown : Contains (input_names found.kind) name → Shown text inputs held t (point here name 0) (shows (wire_point path tile (pin_of bel pin)))
     input_shown among =
-        let wide : 0 < _ = name_wide tile (name_of tile (pin_of bel pin)) (name_there tile (pin_of bel pin) pin_exists) in
+        let wide : 0 < _ = name_wide mode tile (name_of tile (pin_of bel pin)) (name_there tile (pin_of bel pin) pin_exists) in
         subst (λ n. Shown text inputs held t (point here name 0) (shows (point path n 0))) (sym pin_named)
-        (shown_in text inputs held t path (tile_module tile) stands.tile_is kind_module (module_name found.kind) (bel_instance_name bel) joins of_kind (bel_there tile bel found there)
+        (shown_in text inputs held t path (tile_module mode tile) stands.tile_is kind_module (module_name found.kind) (bel_instance_name bel) joins of_kind (bel_there mode tile bel found there)
         name (found.prefix ++ name) (input_joined bel (bits_before tile.bels bel) found name among) (first_input (input_names found.kind) _ name among)
         (rw pin_named at wide))
 
@@ -93,7 +94,7 @@ module _ (text : List PlainModule) (path : Path) (tile : PlainTile) (stands : Ti
     pub output_shown : Contains (output_names found.kind) name → Shown text inputs held t (wire_point path tile (pin_of bel pin)) (shows (point here name 0))
     output_shown among =
         subst (λ n. Shown text inputs held t (point path n 0) (shows (point here name 0))) (sym pin_named)
-        (shown_out text inputs held t path (tile_module tile) stands.tile_is kind_module (module_name found.kind) (bel_instance_name bel) joins of_kind (bel_there tile bel found there)
+        (shown_out text inputs held t path (tile_module mode tile) stands.tile_is kind_module (module_name found.kind) (bel_instance_name bel) joins of_kind (bel_there mode tile bel found there)
         name (found.prefix ++ name) (output_joined bel (bits_before tile.bels bel) found name among)
         (All-contains (IsNoInput found.kind) (output_names found.kind) name (outputs_are_outputs found.kind) among))
 
@@ -101,11 +102,11 @@ module _ (text : List PlainModule) (path : Path) (tile : PlainTile) (stands : Ti
 
   pub from_outside_shown : (port : List ℕ) → Contains (top_inputs found.kind) port → Shown text inputs held t (point here port 0) (shows (point path (pad_name bel port) 0))
   from_outside_shown port among =
-      shown_in text inputs held t path (tile_module tile) stands.tile_is kind_module (module_name found.kind) (bel_instance_name bel) joins of_kind (bel_there tile bel found there)
-      port (pad_name bel port) (top_joined bel (bits_before tile.bels bel) found port among) (top_input found.kind port among) (top_wide tile bel found port there among)
+      shown_in text inputs held t path (tile_module mode tile) stands.tile_is kind_module (module_name found.kind) (bel_instance_name bel) joins of_kind (bel_there mode tile bel found there)
+      port (pad_name bel port) (top_joined bel (bits_before tile.bels bel) found port among) (top_input found.kind port among) (top_wide mode tile bel found port there among)
 
   pub to_outside_shown : (port : List ℕ) → Contains (top_outputs found.kind) port → Shown text inputs held t (point path (pad_name bel port) 0) (shows (point here port 0))
   to_outside_shown port among =
-      shown_out text inputs held t path (tile_module tile) stands.tile_is kind_module (module_name found.kind) (bel_instance_name bel) joins of_kind (bel_there tile bel found there)
+      shown_out text inputs held t path (tile_module mode tile) stands.tile_is kind_module (module_name found.kind) (bel_instance_name bel) joins of_kind (bel_there mode tile bel found there)
       port (pad_name bel port) (outside_joined bel (bits_before tile.bels bel) found port among)
       (All-contains (IsNoInput found.kind) (top_outputs found.kind) port (top_outputs_are_outputs found.kind) among)

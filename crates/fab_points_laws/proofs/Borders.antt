@@ -4,6 +4,7 @@ use Rattle.std.proofs.lemmas.List.Elements.{All-contains}
 use Rattle.fab_syntax.specs.Plain.{PlainExpr, variable, constant, assign, PlainModule}
 use Rattle.fab_meaning.specs.Points.{Path, point, bit_of}
 use Rattle.fab_meaning.specs.Settled.{Assignment}
+use Rattle.fab_model.specs.declared.mode.Mode.{Mode}
 use Rattle.fab_model.specs.declared.tiles.WireRow.{WireRow}
 use Rattle.fab_model.specs.Rows.{is_jump, is_named, border_bits, source_bits, dest_bits, bit_name, IsWireRow}
 use Rattle.fab_model.specs.Tiles.{PlainTile, IsTile}
@@ -15,6 +16,7 @@ use Rattle.fab_fabric.specs.Names.{place_name}
 use Rattle.fab_use_defs.specs.fab_gen_tile_Names.{tile_module_name, begin_name, end_name}
 use Rattle.fab_use_defs.specs.fab_gen_tile_Borders.{side_border, fixed_bit, dest_value}
 use Rattle.fab_use_defs.specs.fab_gen_tile_TileModule.{tile_module}
+use Rattle.fab_use_defs.specs.fab_fabric_text_defs_Mode.{text_mode}
 use Rattle.fab_use_defs.specs.fab_fabric_text_defs_Names.{begin_wire_name}
 use Rattle.fab_use_defs.specs.fab_fabric_text_defs_Top.{end_value, tile_joins, top_module}
 use Rattle.fab_use_defs.specs.fab_tile_drives_laws_Stands.{TileStands, name_of, wire_point}
@@ -38,24 +40,24 @@ use Rattle.fab_ternary_laws.specs.Shown.{Terns, tern_names}
 use Rattle.fab_points_laws.specs.Shown.{tern_source, Shown}
 use Rattle.fab_points_laws.proofs.Shown.{variable_tern, shown_assigned, shown_out}
 
-module _ (text : List PlainModule) (path : Path) (tile : PlainTile) (is_tile : IsTile tile) (stands : TileStands text path tile) (inputs held : Assignment) (t : Terns)
+module _ (mode : Mode) (text : List PlainModule) (path : Path) (tile : PlainTile) (is_tile : IsTile tile) (stands : TileStands mode text path tile) (inputs held : Assignment) (t : Terns)
     (row bit : ℕ) (found : WireRow) (there : slice_get tile.rows row ≡ Some found) where
   row_is : IsWireRow found
   row_is = All-contains IsWireRow tile.rows found is_tile.rows (contains_at tile.rows row found there)
 
   abbrev m : PlainModule
-  m = tile_module tile
+  m = tile_module mode tile
 
   -- what a wire shows to an expression
   wire_tern : (wire : PlainWire) → IsWire tile wire → tern_at (tern_value (tern_names text t path) (variable (name_of tile wire))) 0 ≡ t (wire_point path tile wire)
-  wire_tern wire exists = variable_tern text t path m stands.tile_is (name_of tile wire) 0 (name_wide tile (name_of tile wire) (name_there tile wire exists))
+  wire_tern wire exists = variable_tern text t path m stands.tile_is (name_of tile wire) 0 (name_wide mode tile (name_of tile wire) (name_there tile wire exists))
 
   dest_assigned : (e : PlainExpr) (s : Source) → bit < dest_bits found → dest_value found bit ≡ e →
       tern_at (tern_value (tern_names text t path) e) 0 ≡ tern_source inputs held t (wire_point path tile (dest_of row bit)) s →
       Shown text inputs held t (wire_point path tile (dest_of row bit)) s
   dest_assigned e s few is value =
       let item : Contains m.items (assign (bit_name found.dest bit) (dest_value found bit)) =
-      assign_there tile row found (assign (bit_name found.dest bit) (dest_value found bit)) there (dest_there found bit few) in
+      assign_there mode tile row found (assign (bit_name found.dest bit) (dest_value found bit)) there (dest_there found bit few) in
       shown_assigned text inputs held t path m stands.tile_is (name_of tile (dest_of row bit)) e 0 s
       (subst (λ n. Contains m.items (assign n e)) (sym (dest_name tile row bit found there)) (subst (λ e. Contains m.items (assign (bit_name found.dest bit) e)) is item)) value
 
@@ -79,15 +81,15 @@ module _ (text : List PlainModule) (path : Path) (tile : PlainTile) (is_tile : I
       Shown text inputs held t (wire_point path tile (dest_of row bit)) (shows (point path (end_name found bit) 0))
   end_bit_shown few other =
       dest_assigned (variable (end_name found bit)) (shows (point path (end_name found bit) 0)) few (rw other refl)
-      (variable_tern text t path m stands.tile_is (end_name found bit) 0 (end_wide tile row bit found there other (dest_within found row_is other bit few)))
+      (variable_tern text t path m stands.tile_is (end_name found bit) 0 (end_wide mode tile row bit found there other (dest_within found row_is other bit few)))
 
   pub passing_shown : is_jump found.dir ≡ false → is_named found.source ≡ true → bit < passing_bits found →
       Shown text inputs held t (point path (begin_name found bit) 0) (shows (point path (end_name found (bit + found.count)) 0))
   passing_shown other named passes =
       let from = end_name found (bit + found.count) in
       shown_assigned text inputs held t path m stands.tile_is (begin_name found bit) (variable from) 0 (shows (point path from 0))
-      (assign_there tile row found (assign (begin_name found bit) (variable from)) there (passing_there found row_is other bit named passes))
-      (variable_tern text t path m stands.tile_is from 0 (end_wide tile row (bit + found.count) found there other (passing_within found row_is other bit passes)))
+      (assign_there mode tile row found (assign (begin_name found bit) (variable from)) there (passing_there found row_is other bit named passes))
+      (variable_tern text t path m stands.tile_is from 0 (end_wide mode tile row (bit + found.count) found there other (passing_within found row_is other bit passes)))
 
   pub beginning_shown : (output : ℕ) → is_jump found.dir ≡ false → is_named found.source ≡ true → bit < border_bits found → bit ≡ passing_bits found + output →
       Shown text inputs held t (point path (begin_name found bit) 0) (shows (wire_point path tile (source_of row output)))
@@ -95,7 +97,7 @@ module _ (text : List PlainModule) (path : Path) (tile : PlainTile) (is_tile : I
       let past : passing_bits found ≤ bit = omega arith in
       let number : bit - passing_bits found ≡ output = omega arith in
       let item : Contains m.items (assign (begin_name found bit) (variable (bit_name found.source (bit - passing_bits found)))) =
-      assign_there tile row found (assign (begin_name found bit) (variable (bit_name found.source (bit - passing_bits found)))) there (beginning_there found row_is other bit named past few) in
+      assign_there mode tile row found (assign (begin_name found bit) (variable (bit_name found.source (bit - passing_bits found)))) there (beginning_there found row_is other bit named past few) in
       let exists : output < source_bits found = subst (λ n. n < source_bits found) number (beginning_within found row_is other bit named past few) in
       shown_assigned text inputs held t path m stands.tile_is (begin_name found bit) (variable (name_of tile (source_of row output))) 0 (shows (wire_point path tile (source_of row output)))
       (subst (λ n. Contains m.items (assign (begin_name found bit) (variable n))) (ap (bit_name found.source) number ∙ sym (source_name tile row output found there)) item)
@@ -118,9 +120,9 @@ module _ (fabric : PlainFabric) (text : List PlainModule) (has : HasFabric fabri
       let e : end_value (previous_row fabric here) bit ≡ variable name = ap (λ o. end_value o bit) is in
       record {
         driver = bit_of [] (end_value (previous_row fabric here) bit) 0;
-        drives = joined_to text [] (top_module fabric) has.top_is (tile_module tile) (tile_module_name tile) (place_name x y) (tile_joins fabric placed)
+        drives = joined_to text [] (top_module fabric) has.top_is (tile_module (text_mode fabric) tile) (tile_module_name tile) (place_name x y) (tile_joins fabric placed)
             (has.module_is x y tile stands.tile_is) (tile_instance_there fabric x y tile stands.tile_is) (end_name here.row bit) (end_value (previous_row fabric here) bit) 0
-            (end_is_joined fabric placed number here.row bit stands.row_is no_jump few) (end_is_input tile number here.row bit stands.row_is no_jump few);
+            (end_is_joined fabric placed number here.row bit stands.row_is no_jump few) (end_is_input (text_mode fabric) tile number here.row bit stands.row_is no_jump few);
         is = ap (λ e. tern_at (tern_value (tern_names text t []) e) 0) e
             ∙ variable_tern text t [] (top_module fabric) has.top_is name 0
             (begin_wire_has_bits fabric previous.place.x previous.place.y previous.tile previous.place.row previous.row bit before.tile_is before.row_is before_no_jump few_there);
@@ -135,6 +137,6 @@ module _ (fabric : PlainFabric) (text : List PlainModule) (has : HasFabric fabri
       let tile = here.tile in
       let number = here.place.row in
       let placed = placed_tile x y tile in
-      shown_out text inputs held t [] (top_module fabric) has.top_is (tile_module tile) (tile_module_name tile) (place_name x y) (tile_joins fabric placed)
+      shown_out text inputs held t [] (top_module fabric) has.top_is (tile_module (text_mode fabric) tile) (tile_module_name tile) (place_name x y) (tile_joins fabric placed)
       (has.module_is x y tile stands.tile_is) (tile_instance_there fabric x y tile stands.tile_is) (begin_name here.row bit) (begin_wire_name x y here.row bit)
-      (begin_is_joined fabric placed number here.row bit stands.row_is no_jump few) (begin_is_output tile number here.row bit stands.row_is no_jump few)
+      (begin_is_joined fabric placed number here.row bit stands.row_is no_jump few) (begin_is_output (text_mode fabric) tile number here.row bit stands.row_is no_jump few)

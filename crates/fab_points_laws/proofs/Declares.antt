@@ -14,6 +14,8 @@ use Rattle.fab_meaning.specs.Reads.{is_declared}
 use Rattle.fab_meaning.specs.Runs.{user_clock_name, clock_name}
 use Rattle.fab_meaning.proofs.Modules.{each_all}
 use Rattle.fab_meaning.specs.Ports.{scalar}
+use Rattle.fab_model.specs.declared.mode.Mode.{Mode}
+use Rattle.fab_model.specs.declared.mode.Mode.TheVariants as modes
 use Rattle.fab_model.specs.declared.tiles.WireRow.{WireRow}
 use Rattle.fab_model.specs.declared.tiles.Bel.{Bel}
 use Rattle.fab_model.specs.Tiles.{PlainTile, wire_name, is_matrix_output, IsTile}
@@ -29,19 +31,21 @@ use Rattle.fab_use_defs.specs.fab_implementation_OnFabric.{kind_at}
 use Rattle.fab_use_defs.specs.fab_legal_Legal.{IsLegal}
 use Rattle.fab_prim.specs.Ports.{top_name, top_inputs, top_outputs}
 use Rattle.fab_prim.specs.Modules.{flip_flop_name, module_of_kind}
-use Rattle.fab_use_defs.specs.fab_gen_tile_Names.{begin_name, end_name, pad_name, vector, matrix_instance_name}
+use Rattle.fab_use_defs.specs.fab_gen_tile_Names.{begin_name, end_name, pad_name, matrix_instance_name}
 use Rattle.fab_use_defs.specs.fab_gen_tile_Borders.{border_ports}
-use Rattle.fab_use_defs.specs.fab_gen_tile_ConfigModule.{frame_ports}
+use Rattle.fab_use_defs.specs.fab_gen_tile_ConfigModule.{chain_ports, config_ports, frame_ports}
 use Rattle.fab_use_defs.specs.fab_gen_tile_TileModule.{is_on_side, pad_ports, bels_ports, tile_ports, tile_items, tile_module, matrix_input_names, matrix_output_names}
 use Rattle.fab_use_defs.specs.fab_gen_tile_MatrixModule.{matrix_module, numbered_outputs}
-use Rattle.fab_meaning.specs.Loading.{write_strobe_name, write_data_name}
+use Rattle.fab_meaning.specs.Loading.{write_strobe_name}
+use Rattle.fab_use_defs.specs.fab_fabric_text_defs_Mode.{text_mode}
 use Rattle.fab_use_defs.specs.fab_fabric_text_defs_Names.{pad_port_name, begin_wire_name}
 use Rattle.fab_use_defs.specs.fab_fabric_text_defs_Places.{PlacedTile, placed_tiles}
 use Rattle.fab_use_defs.specs.fab_fabric_text_defs_Top as top
-use Rattle.fab_use_defs.specs.fab_fabric_text_defs_Top.{tile_pads, top_ports, top_items, top_module}
+use Rattle.fab_use_defs.specs.fab_fabric_text_defs_Top.{data_port, tile_pads, top_ports, top_items, top_module}
 use Rattle.fab_use_defs.specs.fab_tile_drives_laws_Stands.{matrix_path, bel_path, name_of, wire_point}
 use Rattle.fab_use_defs.proofs.fab_tile_drives_laws_Endings.{all_flat_map}
 use Rattle.fab_use_defs.proofs.fab_tile_drives_laws_Members.{contains_at, contains_map}
+use Rattle.fab_use_defs.proofs.fab_tile_drives_laws_Modes.{each_mode}
 use Rattle.fab_use_defs.proofs.fab_tile_drives_laws_Widths.{IsWide, wide_port}
 use Rattle.fab_use_defs.proofs.fab_tile_drives_laws_TileNames.{name_wide, end_wide, begin_wide, top_wide}
 use Rattle.fab_use_defs.proofs.fab_tile_drives_laws_TileItems.{matrix_found}
@@ -71,22 +75,27 @@ use Rattle.fab_points_laws.proofs.Places.{tree_wire, index_wire, outputs_there, 
 
 -- ---- ports are wide
 
-wide_tile : (tile : PlainTile) → All IsWide (tile_ports tile)
-wide_tile tile =
+wide_config : (mode : Mode) → All IsWide (config_ports mode)
+wide_config =
+    each_mode IsWide (each_all IsWide frame_ports (omega arith, (omega arith, tt))) (each_all IsWide chain_ports (omega arith, (omega arith, (omega arith, (omega arith, tt)))))
+
+wide_tile : (mode : Mode) (tile : PlainTile) → All IsWide (tile_ports mode tile)
+wide_tile mode tile =
     let P : Port → Type 0 = IsWide in
     let borders = flat_map border_ports tile.rows in
     let pads = bels_ports tile.bels in
-    All-cons P (scalar true user_clock_name) (frame_ports ++ (borders ++ pads)) (omega arith)
-    (All-append P frame_ports (borders ++ pads) (each_all P frame_ports (omega arith, (omega arith, tt)))
+    All-cons P (scalar true user_clock_name) (config_ports mode ++ (borders ++ pads)) (omega arith)
+    (All-append P (config_ports mode) (borders ++ pads) (wide_config mode)
     (All-append P borders pads
     (all_flat_map P border_ports tile.rows (all_of (λ (row : WireRow). All P (border_ports row)) tile.rows (all_border_ports P (λ row bit. omega arith) (λ row bit. omega arith))))
     (all_flat_map P (λ (placed : ℕ × Bel). pad_ports placed.0 placed.1.kind) (enumerate_from 0 tile.bels)
     (all_of (λ (placed : ℕ × Bel). All P (pad_ports placed.0 placed.1.kind)) (enumerate_from 0 tile.bels)
     (λ placed. all_pad_ports P (λ bel. omega arith) (λ bel. omega arith) (λ bel. omega arith) placed.0 placed.1.kind)))))
 
-outside_wide : (tile : PlainTile) (number : ℕ) (bel : Bel) (port : List ℕ) → slice_get tile.bels number ≡ Some bel → Contains (top_outputs bel.kind) port → 0 < width_of (tile_module tile) (pad_name number port)
-outside_wide tile number bel port stands is_pad =
-    wide_port (tile_ports tile) (tile_items tile) (scalar false (pad_name number port)) (wide_tile tile) (outside_port tile number bel stands port is_pad)
+outside_wide : (mode : Mode) (tile : PlainTile) (number : ℕ) (bel : Bel) (port : List ℕ) → slice_get tile.bels number ≡ Some bel → Contains (top_outputs bel.kind) port →
+    0 < width_of (tile_module mode tile) (pad_name number port)
+outside_wide mode tile number bel port stands is_pad =
+    wide_port (tile_ports mode tile) (tile_items mode tile) (scalar false (pad_name number port)) (wide_tile mode tile) (outside_port mode tile number bel stands port is_pad)
 
 wide_pads : (x y : ℕ) (placed : ℕ × Bel) → All IsWide (top.pad_ports x y placed)
 wide_pads x y placed =
@@ -97,11 +106,15 @@ wide_pads x y placed =
     (All-map IsWide in_port (top_inputs kind) (all_of (λ (port : List ℕ). IsWide (in_port port)) (top_inputs kind) (λ port. omega arith)))
     (All-map IsWide out_port (top_outputs kind) (all_of (λ (port : List ℕ). IsWide (out_port port)) (top_outputs kind) (λ port. omega arith)))
 
+wide_data : (mode : Mode) → IsWide (data_port mode)
+wide_data modes.Frames = omega arith
+wide_data modes.Chain = omega arith
+
 wide_top : (fabric : PlainFabric) → All IsWide (top_ports fabric)
 wide_top fabric =
     let pads = flat_map tile_pads (placed_tiles fabric) in
-    let front : List Port = scalar true clock_name ∷ scalar true user_clock_name ∷ scalar true write_strobe_name ∷ vector true 32 write_data_name ∷ [] in
-    All-append IsWide front pads (each_all IsWide front (omega arith, (omega arith, (omega arith, (omega arith, tt)))))
+    let front : List Port = scalar true clock_name ∷ scalar true user_clock_name ∷ scalar true write_strobe_name ∷ data_port (text_mode fabric) ∷ [] in
+    All-append IsWide front pads (each_all IsWide front (omega arith, (omega arith, (omega arith, (wide_data (text_mode fabric), tt)))))
     (all_flat_map IsWide tile_pads (placed_tiles fabric)
     (all_of (λ (p : PlacedTile). All IsWide (tile_pads p)) (placed_tiles fabric) (λ p.
     all_flat_map IsWide (top.pad_ports p.x p.y) (enumerate_from 0 p.tile.bels)
@@ -112,7 +125,7 @@ leaving_wide : (fabric : PlainFabric) (x y : ℕ) (tile : PlainTile) (number : �
 leaving_wide fabric x y tile number bel port there stands is_pad =
     let one = scalar false (pad_port_name x y number port) in
     let placed : ℕ × Bel = (number, bel) in
-    let front : List Port = scalar true clock_name ∷ scalar true user_clock_name ∷ scalar true write_strobe_name ∷ vector true 32 write_data_name ∷ [] in
+    let front : List Port = scalar true clock_name ∷ scalar true user_clock_name ∷ scalar true write_strobe_name ∷ data_port (text_mode fabric) ∷ [] in
     let in_port = λ (name : List ℕ). scalar true (pad_port_name x y number name) in
     let out_port = λ (name : List ℕ). scalar false (pad_port_name x y number name) in
     wide_port (top_ports fabric) (top_items fabric) one (wide_top fabric)
@@ -141,14 +154,14 @@ module _ (fabric : PlainFabric) (text : List PlainModule) (packed : PlainPacked)
 
   wire_declared : (x y : ℕ) (tile : PlainTile) (plain : PlainWire) → tile_at fabric x y ≡ Some tile → IsWire tile plain → Is (wire_point (place_path x y) tile plain)
   wire_declared x y tile plain there exists =
-      declared_at text (place_path x y) (tile_module tile) (name_of tile plain) 0 (has.stands x y tile there).tile_is (name_wide tile (name_of tile plain) (name_there tile plain exists))
+      declared_at text (place_path x y) (tile_module (text_mode fabric) tile) (name_of tile plain) 0 (has.stands x y tile there).tile_is (name_wide (text_mode fabric) tile (name_of tile plain) (name_there tile plain exists))
 
   port_declared : (x y : ℕ) (tile : PlainTile) (plain : PlainWire) → tile_at fabric x y ≡ Some tile → IsWire tile plain → 0 < length (matrix_output_names tile) →
       Is (point (matrix_path (place_path x y)) (name_of tile plain) 0)
   port_declared x y tile plain there exists some =
       let stands = has.stands x y tile there in
       let inner = matrix_module tile in
-      let here : module_at text (matrix_path (place_path x y)) ≡ Some inner = inside text (place_path x y) tile matrix_instance_name _ inner stands.tile_is (matrix_found tile some) (stands.matrix_is some) in
+      let here : module_at text (matrix_path (place_path x y)) ≡ Some inner = inside (text_mode fabric) text (place_path x y) tile matrix_instance_name _ inner stands.tile_is (matrix_found (text_mode fabric) tile some) (stands.matrix_is some) in
       let place = wire_number tile plain in
       let at = at_number tile plain place (wire_at_number tile plain exists) in
       let name_is : name_of tile plain ≡ wire_name at.found = ap (λ found. option_map_or wire_name found []) at.is in
@@ -166,14 +179,14 @@ module _ (fabric : PlainFabric) (text : List PlainModule) (packed : PlainPacked)
   end_declared : (at : PlacedRow) (n : ℕ) → IsTreeWay fabric implementation at n → Is (end_port at n)
   end_declared at n way =
       let c = way_comes fabric rows_are implementation at n way in
-      declared_at text (row_path at) (tile_module at.tile) (end_name at.row n) 0 (has.stands at.place.x at.place.y at.tile c.placed.tile_is).tile_is
-      (end_wide at.tile at.place.row n at.row c.placed.row_is c.no_jump c.few)
+      declared_at text (row_path at) (tile_module (text_mode fabric) at.tile) (end_name at.row n) 0 (has.stands at.place.x at.place.y at.tile c.placed.tile_is).tile_is
+      (end_wide (text_mode fabric) at.tile at.place.row n at.row c.placed.row_is c.no_jump c.few)
 
   begin_declared : (at previous : PlacedRow) (n : ℕ) → IsTreeWay fabric implementation at n → previous_row fabric at ≡ Some previous → Is (begin_port previous n)
   begin_declared at previous n way is =
       let b = row_before fabric rows_are at previous n (way_comes fabric rows_are implementation at n way) is in
-      declared_at text (row_path previous) (tile_module previous.tile) (begin_name previous.row n) 0 (has.stands previous.place.x previous.place.y previous.tile b.placed.tile_is).tile_is
-      (begin_wide previous.tile previous.place.row n previous.row b.placed.row_is b.no_jump b.few_source)
+      declared_at text (row_path previous) (tile_module (text_mode fabric) previous.tile) (begin_name previous.row n) 0 (has.stands previous.place.x previous.place.y previous.tile b.placed.tile_is).tile_is
+      (begin_wide (text_mode fabric) previous.tile previous.place.row n previous.row b.placed.row_is b.no_jump b.few_source)
 
   across_declared : (at previous : PlacedRow) (n : ℕ) → IsTreeWay fabric implementation at n → previous_row fabric at ≡ Some previous → Is (begin_wire previous n)
   across_declared at previous n way is =
@@ -191,7 +204,7 @@ module _ (fabric : PlainFabric) (text : List PlainModule) (packed : PlainPacked)
       bel_declared : (name : List ℕ) → 0 < width_of (module_of_kind kind) name → Is (bel_point site name)
       bel_declared name wide =
           declared_at text (bel_path (site_path site) site.bel) (module_of_kind kind) name 0
-          (bel_stands text (site_path site) tile (has.stands site.x site.y tile there) nothing nothing unsaid site.bel bel.found bel.there ∙ ap (λ kind. Some (module_of_kind kind)) bel.kind_is) wide
+          (bel_stands (text_mode fabric) text (site_path site) tile (has.stands site.x site.y tile there) nothing nothing unsaid site.bel bel.found bel.there ∙ ap (λ kind. Some (module_of_kind kind)) bel.kind_is) wide
 
       pin_declared : (pin : ℕ) → pin < length (pin_names kind) → Is (pin_point tile site pin)
       pin_declared pin few =
@@ -206,14 +219,14 @@ module _ (fabric : PlainFabric) (text : List PlainModule) (packed : PlainPacked)
       entering : Contains (top_inputs kind) top_name → Is (port_point site top_name) × Is (top_point site top_name)
       entering is_pad =
           let among : Contains (top_inputs bel.found.kind) top_name = subst (λ k. Contains (top_inputs k) top_name) (sym bel.kind_is) is_pad in (
-            declared_at text (site_path site) (tile_module tile) (pad_name site.bel top_name) 0 (has.stands site.x site.y tile there).tile_is (top_wide tile site.bel bel.found top_name bel.there among),
+            declared_at text (site_path site) (tile_module (text_mode fabric) tile) (pad_name site.bel top_name) 0 (has.stands site.x site.y tile there).tile_is (top_wide (text_mode fabric) tile site.bel bel.found top_name bel.there among),
             declared_at text [] (top_module fabric) (pad_port_name site.x site.y site.bel top_name) 0 has.top_is (pad_port_has_bits fabric site.x site.y tile site.bel bel.found there bel.there among),
           )
 
       leaving : (port : List ℕ) → Contains (top_outputs kind) port → Is (port_point site port) × Is (top_point site port)
       leaving port is_pad =
           let among : Contains (top_outputs bel.found.kind) port = subst (λ k. Contains (top_outputs k) port) (sym bel.kind_is) is_pad in (
-            declared_at text (site_path site) (tile_module tile) (pad_name site.bel port) 0 (has.stands site.x site.y tile there).tile_is (outside_wide tile site.bel bel.found port bel.there among),
+            declared_at text (site_path site) (tile_module (text_mode fabric) tile) (pad_name site.bel port) 0 (has.stands site.x site.y tile there).tile_is (outside_wide (text_mode fabric) tile site.bel bel.found port bel.there among),
             declared_at text [] (top_module fabric) (pad_port_name site.x site.y site.bel port) 0 has.top_is (leaving_wide fabric site.x site.y tile site.bel bel.found port there bel.there among),
           )
 

@@ -7,6 +7,7 @@ use Rattle.fab_systems_laws.specs.Ternary.{known}
 use Rattle.fab_syntax.specs.Plain.{PlainModule}
 use Rattle.fab_meaning.specs.Points.{Point, point, module_at}
 use Rattle.fab_meaning.specs.Settled.{Assignment}
+use Rattle.fab_model.specs.declared.mode.Mode.{Mode}
 use Rattle.fab_model.specs.Rows.{is_jump}
 use Rattle.fab_model.specs.Tiles.{PlainTile, IsTile}
 use Rattle.fab_model.specs.Wires.{dest_of}
@@ -32,6 +33,7 @@ use Rattle.fab_use_defs.specs.fab_drives_laws_Points.{place_path, row_path}
 use Rattle.fab_use_defs.proofs.fab_drives_laws_Modules.{tile_of_types}
 use Rattle.fab_use_defs.proofs.fab_drives_laws_Texts.{HasFabric}
 use Rattle.fab_use_defs.proofs.fab_text_loads_laws_Carried.{carried}
+use Rattle.fab_use_defs.specs.fab_fabric_text_defs_Mode.{text_mode}
 use Rattle.fab_use_defs.specs.fab_fabric_text_defs_Texts.{IsFabricText}
 use Rattle.fab_use_defs.specs.Sites.{site_path, bel_point, port_point, top_point, pin_point}
 use Rattle.fab_use_defs.specs.Design.{IsTreeWire, IsBound}
@@ -54,6 +56,9 @@ use Rattle.fab_points_laws.proofs.Ways.{row_before, way_comes}
 module _ (fabric : PlainFabric) (text : List PlainModule) (packed : PlainPacked) (fixed : List Pad) (implementation : PlainImplementation) (bits : PlainBits)
     (inputs held : Assignment) (t : Terns) (is : IsFabric fabric) (are : AreTiles fabric) (has : HasFabric fabric text) (made : IsWellMadePacked packed)
     (legal : IsLegal fabric packed fixed implementation) (configures : Configures fabric packed implementation bits) (knows : KnowsBits fabric bits t) where
+  abbrev mode : Mode
+  mode = text_mode fabric
+
   abbrev Shows : Point → Source → Type 0
   Shows p s = Shown text inputs held t p s
 
@@ -71,7 +76,7 @@ module _ (fabric : PlainFabric) (text : List PlainModule) (packed : PlainPacked)
       let found = placed_there fabric x y row tile here tree.tile_is placed_is in
       let other : is_jump found.0.dir ≡ false = ap (λ (h : PlacedRow). is_jump h.row.dir) (sym found.2) ∙ no_jump in
       subst (λ h. Shows (wire_point (place_path x y) tile (dest_of row bit)) (sources.shows (end_port h bit))) (sym found.2)
-      (end_bit_shown text (place_path x y) tile (tile_is x y tile tree.tile_is) (has.stands x y tile tree.tile_is) inputs held t row bit found.0 found.1
+      (end_bit_shown mode text (place_path x y) tile (tile_is x y tile tree.tile_is) (has.stands x y tile tree.tile_is) inputs held t row bit found.0 found.1
       (dest_few tile row bit found.0 (tree_wire fabric implementation x y tile (dest_of row bit) tree) found.1) other)
 
   -- ---- cells
@@ -85,7 +90,7 @@ module _ (fabric : PlainFabric) (text : List PlainModule) (packed : PlainPacked)
 
     lut_stands : module_at text (bel_path (site_path site) site.bel) ≡ Some (module_of_kind kinds.Lut4c)
     lut_stands =
-        bel_stands text (site_path site) tile (has.stands site.x site.y tile there) inputs held t site.bel lut.found lut.there
+        bel_stands mode text (site_path site) tile (has.stands site.x site.y tile there) inputs held t site.bel lut.found lut.there
         ∙ ap (λ kind. Some (module_of_kind kind)) lut.kind_is
 
     lut_bit : (bit : ℕ) → bit < 19 → t (point (bel_path (site_path site) site.bel) config_name bit) ≡ known (cell_bit (is_some packed.reset) cell bit)
@@ -119,13 +124,13 @@ module _ (fabric : PlainFabric) (text : List PlainModule) (packed : PlainPacked)
     pin_is : (pin : ℕ) (name : List ℕ) → slice_get (input_names kinds.Lut4c) pin ≡ Some name → Shows (bel_point site name) (sources.shows (pin_point tile site pin))
     pin_is pin name at =
         let at_kind : slice_get (input_names lut.found.kind) pin ≡ Some name = subst (λ kind. slice_get (input_names kind) pin ≡ Some name) (sym lut.kind_is) at in
-        input_shown text (site_path site) tile (has.stands site.x site.y tile there) inputs held t site.bel lut.found lut.there pin name
+        input_shown mode text (site_path site) tile (has.stands site.x site.y tile there) inputs held t site.bel lut.found lut.there pin name
         (get_front (input_names lut.found.kind) (output_names lut.found.kind) pin name at_kind)
         (contains_at (input_names lut.found.kind) pin name at_kind)
 
     wire_is : Shows (pin_point tile site 7) (sources.shows (bel_point site (codes "O")))
     wire_is =
-        output_shown text (site_path site) tile (has.stands site.x site.y tile there) inputs held t site.bel lut.found lut.there 7 (codes "O")
+        output_shown mode text (site_path site) tile (has.stands site.x site.y tile there) inputs held t site.bel lut.found lut.there 7 (codes "O")
         (subst (λ kind. slice_get (pin_names kind) 7 ≡ Some (codes "O")) (sym lut.kind_is) refl)
         (subst (λ kind. Contains (output_names kind) (codes "O")) (sym lut.kind_is) (0, omega arith, refl))
 
@@ -144,19 +149,19 @@ module _ (fabric : PlainFabric) (text : List PlainModule) (packed : PlainPacked)
       pad_input : (pin : ℕ) (name : List ℕ) → slice_get (input_names kinds.Io) pin ≡ Some name → Shows (bel_point site name) (sources.shows (pin_point tile site pin))
       pad_input pin name at =
           let at_kind : slice_get (input_names pad.found.kind) pin ≡ Some name = subst (λ kind. slice_get (input_names kind) pin ≡ Some name) (sym pad.kind_is) at in
-          input_shown text (site_path site) tile (has.stands site.x site.y tile there) inputs held t site.bel pad.found pad.there pin name
+          input_shown mode text (site_path site) tile (has.stands site.x site.y tile there) inputs held t site.bel pad.found pad.there pin name
           (get_front (input_names pad.found.kind) (output_names pad.found.kind) pin name at_kind)
           (contains_at (input_names pad.found.kind) pin name at_kind)
 
       pad_wire : Shows (pin_point tile site 2) (sources.shows (bel_point site (codes "O")))
       pad_wire =
-          output_shown text (site_path site) tile (has.stands site.x site.y tile there) inputs held t site.bel pad.found pad.there 2 (codes "O")
+          output_shown mode text (site_path site) tile (has.stands site.x site.y tile there) inputs held t site.bel pad.found pad.there 2 (codes "O")
           (subst (λ kind. slice_get (pin_names kind) 2 ≡ Some (codes "O")) (sym pad.kind_is) refl)
           (subst (λ kind. Contains (output_names kind) (codes "O")) (sym pad.kind_is) (0, omega arith, refl))
 
       pad_stands : module_at text (bel_path (site_path site) site.bel) ≡ Some (module_of_kind kinds.Io)
       pad_stands =
-          bel_stands text (site_path site) tile (has.stands site.x site.y tile there) inputs held t site.bel pad.found pad.there
+          bel_stands mode text (site_path site) tile (has.stands site.x site.y tile there) inputs held t site.bel pad.found pad.there
           ∙ ap (λ kind. Some (module_of_kind kind)) pad.kind_is
 
       comes_in : Contains (top_inputs pad.found.kind) top_name
@@ -172,10 +177,10 @@ module _ (fabric : PlainFabric) (text : List PlainModule) (packed : PlainPacked)
       tile_comes = comes_shown fabric text is are has inputs held t site.x site.y tile site.bel pad.found there pad.there comes_in
 
       bel_comes : Shows (bel_point site top_name) (sources.shows (port_point site top_name))
-      bel_comes = from_outside_shown text (site_path site) tile (has.stands site.x site.y tile there) inputs held t site.bel pad.found pad.there top_name comes_in
+      bel_comes = from_outside_shown mode text (site_path site) tile (has.stands site.x site.y tile there) inputs held t site.bel pad.found pad.there top_name comes_in
 
       tile_leaves : (port : List ℕ) → Contains (top_outputs kinds.Io) port → Shows (port_point site port) (sources.shows (bel_point site port))
-      tile_leaves port among = to_outside_shown text (site_path site) tile (has.stands site.x site.y tile there) inputs held t site.bel pad.found pad.there port (goes_out port among)
+      tile_leaves port among = to_outside_shown mode text (site_path site) tile (has.stands site.x site.y tile there) inputs held t site.bel pad.found pad.there port (goes_out port among)
 
       top_leaves : (port : List ℕ) → Contains (top_outputs kinds.Io) port → Shows (top_point site port) (sources.shows (port_point site port))
       top_leaves port among = leaves_shown fabric text is are has inputs held t site.x site.y tile site.bel pad.found there pad.there port (goes_out port among)
@@ -193,20 +198,20 @@ module _ (fabric : PlainFabric) (text : List PlainModule) (packed : PlainPacked)
 
   pub source_shown : (p : Point) (s : Source) → HasSource fabric packed implementation p s → Shows p s
   source_shown p s (sources.of_output {x} {y} {tile} {plain} tree output) =
-      output_wire_shown text (place_path x y) tile (tile_is x y tile tree.tile_is) (has.stands x y tile tree.tile_is) inputs held t plain
+      output_wire_shown mode text (place_path x y) tile (tile_is x y tile tree.tile_is) (has.stands x y tile tree.tile_is) inputs held t plain
       (tree_wire fabric implementation x y tile plain tree) output
   source_shown p s (sources.of_edge {tree} {edge} {x} {y} {tile} {output} {input} listed among there to output_is from) =
-      output_port_shown text (place_path x y) tile (tile_is x y tile there) (has.stands x y tile there) inputs held t output
+      output_port_shown mode text (place_path x y) tile (tile_is x y tile there) (has.stands x y tile there) inputs held t output
       (index_wire fabric edge.1.0 x y output tile to there) output_is (bits x y) (knows x y tile there) input
       (configures.edges tree edge x y tile output input listed among there to output_is from)
   source_shown p s (sources.of_input {x} {y} {tile} {plain} tree no_output some) =
-      input_port_shown text (place_path x y) tile (tile_is x y tile tree.tile_is) (has.stands x y tile tree.tile_is) inputs held t plain
+      input_port_shown mode text (place_path x y) tile (tile_is x y tile tree.tile_is) (has.stands x y tile tree.tile_is) inputs held t plain
       (tree_wire fabric implementation x y tile plain tree) no_output some
   source_shown p s (sources.constant_bit {x} {y} {row} {bit} {tile} {found} tree there jump bare) =
-      constant_shown text (place_path x y) tile (tile_is x y tile tree.tile_is) (has.stands x y tile tree.tile_is) inputs held t row bit found there
+      constant_shown mode text (place_path x y) tile (tile_is x y tile tree.tile_is) (has.stands x y tile tree.tile_is) inputs held t row bit found there
       (dest_few tile row bit found (tree_wire fabric implementation x y tile (dest_of row bit) tree) there) jump bare
   source_shown p s (sources.jump_bit {x} {y} {row} {bit} {tile} {found} tree there jump named) =
-      jump_shown text (place_path x y) tile (tile_is x y tile tree.tile_is) (has.stands x y tile tree.tile_is) inputs held t row bit found there
+      jump_shown mode text (place_path x y) tile (tile_is x y tile tree.tile_is) (has.stands x y tile tree.tile_is) inputs held t row bit found there
       (dest_few tile row bit found (tree_wire fabric implementation x y tile (dest_of row bit) tree) there) jump named
   source_shown p s (sources.end_bit {x} {y} {row} {bit} {tile} {here} tree placed_is no_jump) = end_bit_is x y row bit tile here tree placed_is no_jump
   source_shown p s (sources.into {at} {previous} {at_bit} way previous_is) =
@@ -218,11 +223,11 @@ module _ (fabric : PlainFabric) (text : List PlainModule) (packed : PlainPacked)
       across_shown fabric text has rows_are inputs held t previous at_bit b.placed b.no_jump b.few_source
   source_shown p s (sources.passing_on {at} {previous} {at_bit} way previous_is passes) =
       let b = row_before fabric rows_are at previous at_bit (way_comes fabric rows_are implementation at at_bit way) previous_is in
-      passing_shown text (row_path previous) previous.tile (tile_is previous.place.x previous.place.y previous.tile b.placed.tile_is)
+      passing_shown mode text (row_path previous) previous.tile (tile_is previous.place.x previous.place.y previous.tile b.placed.tile_is)
       (has.stands previous.place.x previous.place.y previous.tile b.placed.tile_is) inputs held t previous.place.row at_bit previous.row b.placed.row_is b.no_jump b.named passes
   source_shown p s (sources.beginning {at} {previous} {at_bit} m way previous_is number) =
       let b = row_before fabric rows_are at previous at_bit (way_comes fabric rows_are implementation at at_bit way) previous_is in
-      beginning_shown text (row_path previous) previous.tile (tile_is previous.place.x previous.place.y previous.tile b.placed.tile_is)
+      beginning_shown mode text (row_path previous) previous.tile (tile_is previous.place.x previous.place.y previous.tile b.placed.tile_is)
       (has.stands previous.place.x previous.place.y previous.tile b.placed.tile_is) inputs held t previous.place.row at_bit previous.row b.placed.row_is m b.no_jump b.named b.few number
   source_shown p s (sources.cell_wire {cell_number} {site} {cell} {tile} bound tree) = wire_is cell_number site cell bound tile tree.tile_is
   source_shown p s (sources.cell_input {cell_number} {site} {cell} {tile} {name} pin bound there few at) = pin_is cell_number site cell bound tile there pin name at

@@ -31,6 +31,7 @@ use Rattle.fab_points_laws.proofs.ReadPoints.{pad_sourced, reads_covered, reads_
 use Rattle.fab_points_laws.proofs.Declares.{source_declared}
 use Rattle.fab_points_laws.proofs.Rows.{design_rows}
 use Rattle.fab_points_laws.proofs.Configuration.{configuration_point_loads}
+use Rattle.fab_use_defs.specs.fab_fabric_text_defs_Mode.{text_mode}
 use Rattle.fab_points_laws.proofs.Bels.{bel_stands}
 use Rattle.fab_points_laws.proofs.Places.{site_tile, site_bel, line_kind}
 use Rattle.fab_points_laws.proofs.Registers.{lut_clock, user_tick, loader_tick}
@@ -116,7 +117,7 @@ registers_tick fabric text packed fixed implementation held now after is are is_
     let at = site_tile fabric site kinds.Lut4c kind_is in
     let bel = site_bel fabric site kinds.Lut4c at.0 kind_is at.1 in
     let path = bel_path (site_path site) site.bel in
-    let stands = bel_stands text (site_path site) at.0 (has.stands site.x site.y at.0 at.1) now now (λ q. known (now q)) site.bel bel.found bel.there
+    let stands = bel_stands (text_mode fabric) text (site_path site) at.0 (has.stands site.x site.y at.0 at.1) now now (λ q. known (now q)) site.bel bel.found bel.there
     ∙ ap (λ kind. Some (module_of_kind kind)) bel.kind_is in
     let clocked = lut_clock fabric text is has site.x site.y at.0 site.bel bel.found at.1 bel.there bel.kind_is stands in
     let Has = IsDesignPoint fabric text packed implementation in

@@ -21,6 +21,7 @@ use Rattle.fab_matrix.specs.Names.{Name}
 use Rattle.fab_meaning.specs.Ports.{config_name}
 use Rattle.fab_matrix.specs.Matrix.{field, selection, output_value}
 use Rattle.fab_matrix.proofs.Fields.{field_within}
+use Rattle.fab_model.specs.declared.mode.Mode.{Mode}
 use Rattle.fab_model.specs.Tiles.{PlainTile, TileWire, tile_wires, wire_name, matrix_names, is_matrix_output, numbered_pairs, IsPair, IsTile, wire_passes, bel_bits, output_field}
 use Rattle.fab_model.specs.Wires.{PlainWire, IsWire, IsMatrixOutput, plain_wires, wire_number}
 use Rattle.fab_model.specs.Drive as drive
@@ -186,7 +187,7 @@ through_option : {X Y : Type 0} (o : Option X) (f : X → Option Y) (y : Y) → 
 through_option None f y is = cc
 through_option (Some x) f y is = (x, refl, is)
 
-module _ (text : List PlainModule) (path : Path) (tile : PlainTile) (is_tile : IsTile tile) (stands : TileStands text path tile) (inputs held : Assignment) (t : Terns) where
+module _ (mode : Mode) (text : List PlainModule) (path : Path) (tile : PlainTile) (is_tile : IsTile tile) (stands : TileStands mode text path tile) (inputs held : Assignment) (t : Terns) where
   abbrev inner : PlainModule
   inner = matrix_module tile
 
@@ -194,7 +195,7 @@ module _ (text : List PlainModule) (path : Path) (tile : PlainTile) (is_tile : I
   here = matrix_path path
 
   of_module : 0 < length (matrix_output_names tile) → module_at text here ≡ Some inner
-  of_module some = inside text path tile matrix_instance_name _ inner stands.tile_is (matrix_found tile some) (stands.matrix_is some)
+  of_module some = inside mode text path tile matrix_instance_name _ inner stands.tile_is (matrix_found mode tile some) (stands.matrix_is some)
 
   abbrev bit_joins : List PlainJoin
   bit_joins = bits_join (bel_bits tile) (select_bits nat_eq (numbered_pairs tile))
@@ -223,10 +224,10 @@ module _ (text : List PlainModule) (path : Path) (tile : PlainTile) (is_tile : I
           | inr is_none ↦ rw is_none refl
         ] in
         let there : Contains (matrix_input_names tile) name = subst (Contains (matrix_input_names tile)) (sym name_is) (side_there false tile place at.found at.there side) in
-        shown_in text inputs held t path (tile_module tile) stands.tile_is inner (matrix_module_name tile) matrix_instance_name (matrix_joins tile)
-        (stands.matrix_is some) (matrix_there tile some) name name
+        shown_in text inputs held t path (tile_module mode tile) stands.tile_is inner (matrix_module_name tile) matrix_instance_name (matrix_joins tile)
+        (stands.matrix_is some) (matrix_there mode tile some) name name
         (Contains-append_left (map same_join (matrix_input_names tile)) (bit_joins ++ output_joins) (same_join name) (contains_map same_join (matrix_input_names tile) name there))
-        (first_input (matrix_input_names tile) _ name there) (name_wide tile name (name_there tile wire exists))
+        (first_input (matrix_input_names tile) _ name there) (name_wide mode tile name (name_there tile wire exists))
 
     module _ (output : IsMatrixOutput tile wire) where
       is_output : is_matrix_output at.found ≡ true
@@ -248,8 +249,8 @@ module _ (text : List PlainModule) (path : Path) (tile : PlainTile) (is_tile : I
           let wire_low : EndsLow (wire_name at.found) =
           All-contains (λ w. EndsLow (wire_name w)) (tile_wires tile) at.found (low_wires tile) (contains_at (tile_wires tile) place at.found at.there) in
           let low : EndsLow name = subst EndsLow (sym name_is) wire_low in
-          shown_out text inputs held t path (tile_module tile) stands.tile_is inner (matrix_module_name tile) matrix_instance_name (matrix_joins tile)
-          (stands.matrix_is some) (matrix_there tile some) name name
+          shown_out text inputs held t path (tile_module mode tile) stands.tile_is inner (matrix_module_name tile) matrix_instance_name (matrix_joins tile)
+          (stands.matrix_is some) (matrix_there mode tile some) name name
           (Contains-append_right (map same_join (matrix_input_names tile)) (bit_joins ++ output_joins) (same_join name)
           (Contains-append_right bit_joins output_joins (same_join name) (contains_map same_join (matrix_output_names tile) name named_output)))
           (output_is_output tile name low apart)

@@ -19,6 +19,7 @@ use Rattle.fab_meaning.specs.Ports.{config_name}
 use Rattle.fab_prim.specs.Modules as modules
 use Rattle.fab_prim.specs.Modules.{flip_flop_name, flip_flop, module_of_kind}
 use Rattle.fab_prim.proofs.Instance.{seen}
+use Rattle.fab_use_defs.specs.fab_fabric_text_defs_Mode.{text_mode}
 use Rattle.fab_use_defs.specs.fab_gen_tile_Names.{bel_instance_name}
 use Rattle.fab_use_defs.specs.fab_gen_tile_TileModule.{bel_joins, tile_module}
 use Rattle.fab_use_defs.specs.fab_fabric_text_defs_Top.{top_module}
@@ -46,8 +47,8 @@ pub lut_clock : (fabric : PlainFabric) (text : List PlainModule) → IsFabric fa
 lut_clock fabric text is has x y tile bel found there at kind_is stands =
     let low = bits_before tile.bels bel in
     clock_below text (place_path x y) (bel_instance_name bel) user_clock_name (module_of_kind kinds.Lut4c) _ user_clock_name stands refl
-    (ap (λ m. instance_in m (bel_instance_name bel)) (has.stands x y tile there).tile_is ∙ bel_found tile bel found at) (lut_joins bel low found kind_is)
-    ∙ clock_below text [] (place_name x y) user_clock_name (tile_module tile) (found_tile fabric (placed_tile x y tile)) user_clock_name (has.stands x y tile there).tile_is refl
+    (ap (λ m. instance_in m (bel_instance_name bel)) (has.stands x y tile there).tile_is ∙ bel_found (text_mode fabric) tile bel found at) (lut_joins bel low found kind_is)
+    ∙ clock_below text [] (place_name x y) user_clock_name (tile_module (text_mode fabric) tile) (found_tile fabric (placed_tile x y tile)) user_clock_name (has.stands x y tile there).tile_is refl
     (ap (λ m. instance_in m (place_name x y)) has.top_is ∙ tile_instance_found fabric is x y tile there) refl
     ∙ clock_at_top text (top_module fabric) user_clock_name has.top_is refl
 

@@ -78,7 +78,7 @@ DesignSettlesBySources =
     IsSettledOn (IsDesignPoint fabric text packed implementation) text inputs held now
     ↔ ((p : Point) (s : Source) → IsOfDesign fabric packed implementation p → HasSource fabric packed implementation p s → now p ≡ source_value inputs held now p s)
 
--- The same where the latches show such bits, whatever the loader does.
+-- The same where the registers of the configuration show such bits, whatever brings them there.
 abbrev pub DesignSettlesByShownSources : Type 0
 DesignSettlesByShownSources =
     (fabric : PlainFabric) (text : List PlainModule) (packed : PlainPacked) (fixed : List Pad) (implementation : PlainImplementation) (bits : PlainBits) (inputs held now : Assignment) →
@@ -149,7 +149,7 @@ RankedDesignSettlesOnce =
 abbrev pub WillShow : PlainFabric → List PlainModule → PlainBits → (inputs held : Assignment) → Type 0
 WillShow fabric text bits inputs held = (now : Assignment) → IsSettledOn (IsLoading text) text inputs held now → ShowsBits fabric bits now
 
--- The same where the latches show such bits, whatever the loader does.
+-- The same where the registers of the configuration show such bits, whatever brings them there.
 abbrev pub ShownDesignSettlesOnce : Type 0
 ShownDesignSettlesOnce =
     (fabric : PlainFabric) (text : List PlainModule) (packed : PlainPacked) (fixed : List Pad) (implementation : PlainImplementation) (bits : PlainBits) (inputs held : Assignment)

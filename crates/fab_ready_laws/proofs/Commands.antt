@@ -1,6 +1,6 @@
 -- Each command is ready, or it has a first refusal: the commands that read no netlist.
 use Rattle.std.proofs.Common.{◌≡◌, ◌<◌, ◌≤◌, ◌⊎◌, ℕ, Bool, true, false, List, All, Option, Some, None, Result, Ok, Err, refl, subst, inl, inr}
-use Rattle.std.specs.Prelude.{decimal, length, nat_lt, if◌then◌else◌}
+use Rattle.std.specs.Prelude.{codes, decimal, length, nat_lt, if◌then◌else◌}
 use Rattle.std.specs.Str.{is_utf8}
 use Rattle.std.specs.Str.Lines.{lines}
 use Rattle.std.proofs.lemmas.Bool.{cases_lt}
@@ -12,7 +12,11 @@ use Rattle.fab_base.specs.declared.words.Quantity.TheVariants as quantities
 use Rattle.fab_base.specs.Reading.{fault_at}
 use Rattle.fab_desk.specs.Files.{Map}
 use Rattle.fab_files.specs.Files.{given, needed, handed_out}
+use Rattle.fab_files.specs.Stages.{MeetsLast}
+use Rattle.fab_model.specs.declared.mode.Mode.TheVariants as modes
 use Rattle.fab_model.specs.Grid.{PlainFabric}
+use Rattle.fab_model.specs.declared.mode.Mode.{Mode}
+use Rattle.fab_model.specs.declared.mode.Mode.TheVariants as modes
 use Rattle.fab_fabric.specs.Fabric.{AreTiles, IsFabric}
 use Rattle.fab_lines.specs.Counts.{last_line}
 use Rattle.fab_texts.specs.Rows.{rows_of}
@@ -27,9 +31,10 @@ use Rattle.fab_read.specs.Fabrics.{SpellsFabric, MeetsFabric}
 use Rattle.fab_designs.specs.Implementations.{SpellsImplementation, RefusesImplementation, ReadsImplementation, MeetsImplementation}
 use Rattle.fab_spelled_fabrics_laws.specs.Laws.{SpelledFabricsAreFabrics, SpelledFabricsHaveTiles}
 use Rattle.fab_flow.specs.Generating.{text_length, most_text_bytes, IsTooLong, MeetsGenerate, IsReadyToGenerate}
+use Rattle.fab_flow.specs.Serial.{serial_length, RefusesSerial, chain, long, MeetsSerial, IsReadyForSerial}
 use Rattle.fab_flow.specs.Bits.{BitsFiles, ReadsFeatures, MeetsFeatures, RefusesBits, illegal, MeetsBits, IsReadyForBits}
 use Rattle.fab_flow.specs.BitFeatures.{FeaturesFiles, SpellsBits, RefusesBitstream, cut, wrong, MeetsBitstream, MeetsBitFeatures, IsReadyForFeatures}
-use Rattle.fab_flow.specs.Partial.{PartialFiles, RefusesPartial, too_far, in_use, MeetsContent, MeetsRunning, MeetsPartial, IsReadyToExchange}
+use Rattle.fab_flow.specs.Partial.{PartialFiles, HasFrames, RefusesChain, RefusesPartial, too_far, in_use, MeetsContent, MeetsRunning, MeetsPartial, IsReadyToExchange}
 use Rattle.fab_flow.specs.Partial.{wrong as wrong_feature}
 use Rattle.fab_judged_laws.specs.Judged.{HoldBytes, IsSpelledOrRefused, IsReadyOrRefused}
 use Rattle.fab_judged_laws.proofs.Bitstreams.{words_judged}
@@ -92,6 +97,27 @@ module _ (files : Map) where
         | inr long ↦ inr long
       ]))
 
+  -- ---- serial
+
+  by_mode : (mode : Mode) → (mode ≡ modes.Frames) ⊎ (mode ≡ modes.Chain)
+  by_mode modes.Frames = inl refl
+  by_mode modes.Chain = inr refl
+
+  serial_content : (name : List ℕ) (fabric : PlainFabric) → SpellsFabric files name fabric →
+      IsReadyForSerial files name ⊎ ((fault : Fault) × RefusesSerial name fabric fault)
+  serial_content name fabric spelled = elim (by_mode fabric.mode) [
+    | inr is ↦ inr (fault_at name 0 (problems.Unsupported (codes "serial FlipFlopChain")), chain is)
+    | inl is ↦
+        elim (cases_lt most_text_bytes (serial_length fabric)) [
+          | inr short ↦ inl (record { fabric = fabric; spelled = spelled; frames = is; short = short })
+          | inl much ↦ inr (fault_at name 0 (problems.Limit quantities.TextBytes (serial_length fabric) most_text_bytes), long is much)
+        ]
+  ]
+
+  pub serial_judged : (name : List ℕ) → IsReadyOrRefused (IsReadyForSerial files name) (MeetsSerial files name)
+  serial_judged name = in_turn (SpellsFabric files name) (MeetsFabric files name) _ (fabric_judged files name)
+      (λ fabric spelled. at_last (RefusesSerial name fabric) (serial_content name fabric spelled))
+
   -- ---- bits
 
   pub bits_judged : (names : BitsFiles) → IsReadyOrRefused (IsReadyForBits files names) (MeetsBits files names)
@@ -124,7 +150,7 @@ module _ (files : Map) where
 
   -- ---- partial
 
-  module _ (names : PartialFiles) (fabric : PlainFabric) (it : PlainImplementation) (features : List Feature) (spelled : SpellsFabric files names.fabric fabric)
+  module _ (names : PartialFiles) (fabric : PlainFabric) (it : PlainImplementation) (features : List Feature) (spelled : SpellsFabric files names.fabric fabric) (frames : fabric.mode ≡ modes.Frames)
       (implemented : ReadsImplementation files names.implementation fabric it) (read : ReadsFeatures files names.fasm features) (tiles : AreTiles fabric) where
     abbrev ContentIsJudged : Type 0
     ContentIsJudged = IsReadyToExchange files names ⊎ ((fault : Fault) × RefusesPartial fabric it features names.first names.last fault)
@@ -140,6 +166,7 @@ module _ (files : Map) where
               implementation = it;
               features = features;
               spelled = spelled;
+              frames = frames;
               implemented = implemented;
               read = read;
               within = within;
@@ -155,10 +182,17 @@ module _ (files : Map) where
       | inr far ↦ inr (faults.Illegal 14 (decimal names.last), too_far far)
     ]
 
+  frames_judged : (name : List ℕ) (fabric : PlainFabric) → IsReadyOrRefused ((value : Unit {0}) × HasFrames fabric value) (MeetsLast (RefusesChain name fabric))
+  frames_judged name fabric = at_last (RefusesChain name fabric) (elim (by_mode fabric.mode) [
+    | inl is ↦ inl (tt, is)
+    | inr is ↦ inr (fault_at name 0 (problems.Unsupported (codes "partial FlipFlopChain")), record { chain = is; is = refl })
+  ])
+
   pub partial_judged : SpelledFabricsHaveTiles → (names : PartialFiles) → IsReadyOrRefused (IsReadyToExchange files names) (MeetsPartial files names)
-  partial_judged have names = in_turn (SpellsFabric files names.fabric) (MeetsFabric files names.fabric) (MeetsRunning files names) (fabric_judged files names.fabric) (λ fabric spelled.
+  partial_judged have names = in_turn (SpellsFabric files names.fabric) (MeetsFabric files names.fabric) _ (fabric_judged files names.fabric) (λ fabric spelled.
+      in_turn (HasFrames fabric) (MeetsLast (RefusesChain names.fabric fabric)) (λ _. MeetsRunning files names fabric) (frames_judged names.fabric fabric) (λ _ frames.
       in_turn (ReadsImplementation files names.implementation fabric) (MeetsImplementation files names.implementation fabric) (MeetsContent files names fabric)
       (implementation_judged fabric names.implementation) (λ it implemented.
       in_turn (ReadsFeatures files names.fasm) (MeetsFeatures files names.fasm) _ (features_file_judged names.fasm) (λ features read.
       at_last (RefusesPartial fabric it features names.first names.last)
-      (content_judged names fabric it features spelled implemented read (have files names.fabric fabric spelled)))))
+      (content_judged names fabric it features spelled frames implemented read (have files names.fabric fabric spelled))))))

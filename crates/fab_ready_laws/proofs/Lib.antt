@@ -12,3 +12,10 @@ pub mod Placements
 pub mod NetRules
 pub mod Legality
 pub mod Designs
+pub mod Graphs
+pub mod Leasts
+pub mod Cycles
+pub mod Models
+pub mod Drivers
+pub mod Blifs
+pub mod Jobs

@@ -1,8 +1,8 @@
 -- What drives a point, by the item that stands in a module.
 use Rattle.std.proofs.Common.{◌≡◌, ℕ, true, false, List, ◌∷◌, refl, sym, ap, ◌∙◌, subst, inr, Some, Contains}
-use Rattle.fab_syntax.specs.Plain.{PlainExpr, variable, PlainJoin, assign, latch, instance, PlainModule}
+use Rattle.fab_syntax.specs.Plain.{PlainExpr, variable, PlainJoin, assign, latch, clocked, instance, PlainModule}
 use Rattle.fab_syntax.specs.Declarations.{module_named, is_input, is_input_of}
-use Rattle.fab_meaning.specs.Points.{Path, point, bit_of, hold, copy, JoinDrives, Drives, module_at}
+use Rattle.fab_meaning.specs.Points.{Path, point, bit_of, hold, flop, copy, JoinDrives, Drives, module_at}
 use Rattle.fab_drives_laws.specs.fab_gen_tile_Names.{port_join}
 
 module _ (text : List PlainModule) (path : Path) (m : PlainModule) (stands : module_at text path ≡ Some m) where
@@ -12,6 +12,10 @@ module _ (text : List PlainModule) (path : Path) (m : PlainModule) (stands : mod
   pub latched_by : (name : List ℕ) (gate e : PlainExpr) (bit : ℕ) → Contains m.items (latch name gate e) → Drives text (point path name bit) (hold path gate e bit)
   latched_by name gate e bit there =
       inr (record { path = path; module_here = m; item = latch name gate e; stands = stands; holds = there; drives = (refl, refl) })
+
+  pub clocked_by : (clock name : List ℕ) (next : PlainExpr) (bit : ℕ) → Contains m.items (clocked clock name next) → Drives text (point path name bit) (flop path clock next bit)
+  clocked_by clock name next bit there =
+      inr (record { path = path; module_here = m; item = clocked clock name next; stands = stands; holds = there; drives = (refl, refl) })
 
   module _ (inner : PlainModule) (module_name i : List ℕ) (joins : List PlainJoin) (named : module_named text module_name ≡ Some inner)
       (there : Contains m.items (instance module_name i joins)) where

@@ -1,18 +1,27 @@
 pub mod Drivers
 pub mod Declared
+pub mod InMode
 pub mod Tops
 pub mod Loader
 pub mod Offered
 pub mod TileItems
 pub mod Within
+pub mod Bits
 pub mod Strobes
 pub mod Parts
 pub mod Clocks
+pub mod Stays
 pub mod Named
 pub mod Settled
 pub mod Ticks
 pub mod Runs
-pub mod Stays
+pub mod Frames
+pub mod ChainItems
+pub mod ChainLists
+pub mod ChainOrder
+pub mod ChainWithin
+pub mod ChainValues
+pub mod ChainRuns
 pub mod Written
 pub mod Carried
 pub mod Together
@@ -34,6 +43,7 @@ pub use Rattle.fab_drives_laws.proofs.fab_tile_drives_laws_Endings as fab_tile_d
 pub use Rattle.fab_drives_laws.proofs.fab_tile_drives_laws_Latches as fab_tile_drives_laws_Latches
 pub use Rattle.fab_drives_laws.proofs.fab_tile_drives_laws_MatrixPorts as fab_tile_drives_laws_MatrixPorts
 pub use Rattle.fab_drives_laws.proofs.fab_tile_drives_laws_Members as fab_tile_drives_laws_Members
+pub use Rattle.fab_drives_laws.proofs.fab_tile_drives_laws_Modes as fab_tile_drives_laws_Modes
 pub use Rattle.fab_drives_laws.proofs.fab_tile_drives_laws_NamedPairs as fab_tile_drives_laws_NamedPairs
 pub use Rattle.fab_drives_laws.proofs.fab_tile_drives_laws_PinPorts as fab_tile_drives_laws_PinPorts
 pub use Rattle.fab_drives_laws.proofs.fab_tile_drives_laws_TileItems as fab_tile_drives_laws_TileItems

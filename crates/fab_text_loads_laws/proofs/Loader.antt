@@ -1,4 +1,4 @@
--- The loader in a fabric's text: where it stands, how wide its names are, and what drives its registers.
+-- The loader in the text of a fabric in frames: where it stands, how wide its names are, and what drives its registers.
 use Rattle.std.proofs.Common.{◌≡◌, ◌≢◌, ℕ, zero, suc, ◌<◌, true, false, List, [], ◌∷◌, ◌++◌, map, refl, sym, ap, ◌∙◌, subst, inl, inr, arith, Some, All, Contains}
 use Rattle.std.specs.Str.{bytes_eq}
 use Rattle.std.specs.List.{flat_map}
@@ -9,7 +9,7 @@ use Rattle.fab_kinds.specs.declared.kind.Kind.{Kind}
 use Rattle.fab_syntax.specs.declared.tree.Shape.{Shape}
 use Rattle.fab_syntax.specs.declared.tree.Shape.TheVariants.{Scalar, Vector}
 use Rattle.fab_syntax.specs.declared.tree.Port.{Port}
-use Rattle.fab_syntax.specs.Plain.{PlainExpr, PlainItem, PlainModule, variable, assign}
+use Rattle.fab_syntax.specs.Plain.{PlainExpr, PlainItem, PlainModule, variable, wire, assign}
 use Rattle.fab_syntax.specs.Declarations.{module_named, declared_shape, width_if_any, is_input}
 use Rattle.fab_meaning.specs.Points.{point, flop, Drives, Found, instance_named, instance_in, module_of, module_at}
 use Rattle.fab_meaning.specs.Runs.{clock_name, clock_of}
@@ -19,16 +19,18 @@ use Rattle.fab_meaning.proofs.Dependence.{same_name}
 use Rattle.fab_meaning.proofs.Modules.{each_all}
 use Rattle.fab_drives_laws.specs.fab_prim_Modules.{module_of_kind}
 use Rattle.fab_drives_laws.specs.fab_model_Tiles.{PlainTile, counted}
+use Rattle.fab_drives_laws.specs.fab_model_mode_Mode.{Mode}
 use Rattle.fab_drives_laws.specs.fab_model_mode_Mode_TheVariants as modes
 use Rattle.fab_drives_laws.specs.fab_model_Grid.{PlainFabric}
 use Rattle.fab_drives_laws.specs.fab_fabric_Names.{place_name}
 use Rattle.fab_drives_laws.specs.fab_fabric_Fabric.{IsFabric}
 use Rattle.fab_drives_laws.specs.fab_gen_tile_Names.{config_module_name, matrix_module_name, tile_module_name}
 use Rattle.fab_drives_laws.specs.fab_gen_loader_Loader.{NextValues, port, address_port, strobe_port, row_port, loader_ports, registers, processes, outputs, loader_of, state_name, count_name, strobe_register_name, TakesNext, StepsAsTheMachine, address_register_name, row_register_name, loader_module_name}
-use Rattle.fab_drives_laws.specs.fab_fabric_text_defs_Names.{top_module_name, loader_instance_name}
-use Rattle.fab_drives_laws.specs.fab_fabric_text_defs_Top.{loader_wires, loader_joins, loader_instance, top_items, top_module}
+use Rattle.fab_drives_laws.specs.fab_fabric_text_defs_Names.{top_module_name, loader_instance_name, column_strobe_name}
+use Rattle.fab_drives_laws.specs.fab_fabric_text_defs_Mode.{text_mode}
+use Rattle.fab_drives_laws.specs.fab_fabric_text_defs_Top.{loader_wires, loader_joins, loader_instance, column_strobes, top_items, top_module}
 use Rattle.fab_drives_laws.specs.fab_fabric_text_defs_Text.{used_kinds, standing_types, tile_modules, fabric_text}
-use Rattle.fab_drives_laws.specs.fab_fabric_text_defs_Texts.{AreLoaders, one, IsFabricText}
+use Rattle.fab_drives_laws.specs.fab_fabric_text_defs_Texts.{AreLoaders, one, none, IsFabricText}
 use Rattle.fab_drives_laws.proofs.fab_tile_drives_laws_Driven.{width_of}
 use Rattle.fab_drives_laws.proofs.fab_tile_drives_laws_Endings.{all_counted, all_flat_map}
 use Rattle.fab_drives_laws.proofs.fab_tile_drives_laws_Members.{contains_first, contains_counted}
@@ -39,11 +41,12 @@ use Rattle.fab_drives_laws.proofs.Modules.{Only, all_of_tile, no_loader_kind, to
 use Rattle.fab_drives_laws.proofs.Instances.{Agrees, all_of_top, instance_found}
 use Rattle.fab_drives_laws.proofs.Texts.{HasFabric, text_has_fabric}
 use Rattle.fab_text_loads_laws.specs.Points.{loader_path}
-use Rattle.fab_text_loads_laws.proofs.Tops.{behind_loader}
+use Rattle.fab_text_loads_laws.proofs.InMode.{not_both, carrying_there}
 
 -- ---- the text has it
 
 pub record HasLoader (fabric : PlainFabric) (next : NextValues) (text : List PlainModule) : Type 0 where
+  pub frames : text_mode fabric ≡ modes.Frames
   pub tiles : HasFabric fabric text
   pub named : module_named text loader_module_name ≡ Some (loader_of fabric.rows next)
   pub stands : module_at text loader_path ≡ Some (loader_of fabric.rows next)
@@ -52,26 +55,29 @@ pub record HasLoader (fabric : PlainFabric) (next : NextValues) (text : List Pla
 abbrev pub found_loader : PlainFabric → Found
 found_loader fabric = record { module_name = loader_module_name; joins = loader_joins fabric.rows }
 
-pub loader_there : (fabric : PlainFabric) → Contains (top_items fabric) (loader_instance fabric.rows)
-loader_there fabric =
-    Contains-append_right (loader_wires fabric.rows) (loader_instance fabric.rows ∷ behind_loader fabric) (loader_instance fabric.rows)
-    (contains_first (loader_instance fabric.rows) (behind_loader fabric))
+pub loader_there : (fabric : PlainFabric) → text_mode fabric ≡ modes.Frames → Contains (top_items fabric) (loader_instance fabric.rows)
+loader_there fabric frames =
+    let behind = counted fabric.columns (λ x. wire (Vector 20) (column_strobe_name x)) ++ counted fabric.columns column_strobes in
+    carrying_there fabric modes.Frames frames (loader_instance fabric.rows)
+    (Contains-append_right (loader_wires fabric.rows) (loader_instance fabric.rows ∷ behind) (loader_instance fabric.rows) (contains_first (loader_instance fabric.rows) behind))
 
-pub loader_found : (fabric : PlainFabric) → instance_named (top_items fabric) loader_instance_name ≡ Some (found_loader fabric)
-loader_found fabric =
-    instance_found (top_items fabric) loader_instance_name (found_loader fabric) (loader_there fabric)
+pub loader_found : (fabric : PlainFabric) → text_mode fabric ≡ modes.Frames → instance_named (top_items fabric) loader_instance_name ≡ Some (found_loader fabric)
+loader_found fabric frames =
+    instance_found (top_items fabric) loader_instance_name (found_loader fabric) (loader_there fabric frames)
     (all_of_top fabric (Agrees loader_instance_name (found_loader fabric)) (λ name. tt) (λ name. tt) (λ name. tt) (λ x. tt)
-    (λ same. refl)
+    (λ is same. refl)
     (λ placed there same. absurd (told_apart 0 (place_name placed.x placed.y) loader_instance_name refl same)))
 
 -- no other module of the text has its name
 loader_alone : (fabric : PlainFabric) (loader : PlainModule) → loader.name ≡ loader_module_name → All (Only loader.name loader) (fabric_text fabric (loader ∷ []))
 loader_alone fabric loader is =
     let P = Only loader.name loader in
-    All-append P (map module_of_kind (used_kinds fabric)) (flat_map tile_modules (standing_types fabric) ++ loader ∷ top_module fabric ∷ [])
+    let mode = text_mode fabric in
+    All-append P (map module_of_kind (used_kinds fabric)) (flat_map (tile_modules mode) (standing_types fabric) ++ loader ∷ top_module fabric ∷ [])
     (All-map P module_of_kind (used_kinds fabric) (all_of (λ (kind : Kind). P (module_of_kind kind)) (used_kinds fabric) (λ kind same. absurd (no_loader_kind kind (sym is ∙ sym same)))))
-    (All-append P (flat_map tile_modules (standing_types fabric)) (loader ∷ top_module fabric ∷ [])
-    (all_flat_map P tile_modules (standing_types fabric) (all_of (λ (tile : PlainTile). All P (tile_modules tile)) (standing_types fabric) (λ tile. all_of_tile P tile
+    (All-append P (flat_map (tile_modules mode) (standing_types fabric)) (loader ∷ top_module fabric ∷ [])
+    (all_flat_map P (tile_modules mode) (standing_types fabric)
+    (all_of (λ (tile : PlainTile). All P (tile_modules mode tile)) (standing_types fabric) (λ tile. all_of_tile mode P tile
     (λ same. absurd (told_apart 0 (matrix_module_name tile) loader_module_name refl (same ∙ is)))
     (λ same. absurd (told_apart 0 (config_module_name tile) loader_module_name refl (same ∙ is)))
     (λ same. absurd (told_apart 0 (tile_module_name tile) loader_module_name refl (same ∙ is))))))
@@ -82,39 +88,60 @@ loader_named : (fabric : PlainFabric) (loader : PlainModule) → loader.name ≡
 loader_named fabric loader is =
     let rest = loader ∷ top_module fabric ∷ [] in
     only_one_found (λ (other : PlainModule). bytes_eq other.name loader.name) (fabric_text fabric (loader ∷ [])) loader
-    (Contains-append_right (map module_of_kind (used_kinds fabric)) (flat_map tile_modules (standing_types fabric) ++ rest) loader
-    (Contains-append_right (flat_map tile_modules (standing_types fabric)) rest loader (contains_first loader (top_module fabric ∷ []))))
+    (Contains-append_right (map module_of_kind (used_kinds fabric)) (flat_map (tile_modules (text_mode fabric)) (standing_types fabric) ++ rest) loader
+    (Contains-append_right (flat_map (tile_modules (text_mode fabric)) (standing_types fabric)) rest loader (contains_first loader (top_module fabric ∷ []))))
     ((bytes_eq-Decides loader.name loader.name).1 refl)
     (All-weaker (Only loader.name loader) (λ (other : PlainModule). bytes_eq other.name loader.name ≡ true → other ≡ loader)
     (λ other alone same. alone ((bytes_eq-Decides other.name loader.name).0 same)) (fabric_text fabric (loader ∷ [])) (loader_alone fabric loader is))
 
-pub text_has_loader : (fabric : PlainFabric) (next : NextValues) → IsFabric fabric → StepsAsTheMachine fabric.rows (loader_of fabric.rows next) →
+text_has_loader : (fabric : PlainFabric) (next : NextValues) → IsFabric fabric → text_mode fabric ≡ modes.Frames → StepsAsTheMachine fabric.rows (loader_of fabric.rows next) →
     HasLoader fabric next (fabric_text fabric (loader_of fabric.rows next ∷ []))
-text_has_loader fabric next is steps =
+text_has_loader fabric next is frames steps =
     let loader = loader_of fabric.rows next in
     let text = fabric_text fabric (loader ∷ []) in
     let named : module_named text loader_module_name ≡ Some loader = loader_named fabric loader refl in
     record {
+      frames = frames;
       tiles = text_has_fabric fabric (loader ∷ []) is (All-cons (λ (m : PlainModule). m.name ≡ loader_module_name) loader [] refl (All-nil (λ m. m.name ≡ loader_module_name)));
       named = named;
       stands =
           ap (λ m. module_of text (instance_in m loader_instance_name)) (top_is_last fabric (loader ∷ []))
-          ∙ ap (module_of text) (loader_found fabric)
+          ∙ ap (module_of text) (loader_found fabric frames)
           ∙ named;
       steps = steps;
     }
 
--- the loader of frames
-loader_of_frames : (fabric : PlainFabric) → IsFabric fabric → {loaders : List PlainModule} → AreLoaders fabric.rows modes.Frames loaders →
-    (next : NextValues) × HasLoader fabric next (fabric_text fabric loaders)
-loader_of_frames fabric is (one {loader} is_loader small) =
+-- ---- or there is a chain
+
+pub record HasChain (fabric : PlainFabric) (text : List PlainModule) : Type 0 where
+  pub chain : text_mode fabric ≡ modes.Chain
+  pub tiles : HasFabric fabric text
+
+-- what carries the bits of a text
+pub data Carrier (fabric : PlainFabric) (text : List PlainModule) : Type 0 where
+  by_frames : (next : NextValues) → HasLoader fabric next text → Carrier fabric text
+  by_chain : HasChain fabric text → Carrier fabric text
+
+carrier_of : (fabric : PlainFabric) → IsFabric fabric → {mode : Mode} → text_mode fabric ≡ mode → {loaders : List PlainModule} → AreLoaders fabric.rows mode loaders →
+    Carrier fabric (fabric_text fabric loaders)
+carrier_of fabric is frames (one {loader} is_loader small) =
     let next = is_loader.next in
     let steps : StepsAsTheMachine fabric.rows (loader_of fabric.rows next) = subst (StepsAsTheMachine fabric.rows) is_loader.is is_loader.steps in
-    (next, subst (λ (m : PlainModule). HasLoader fabric next (fabric_text fabric (m ∷ []))) (sym is_loader.is) (text_has_loader fabric next is steps))
+    by_frames next
+    (subst (λ (m : PlainModule). HasLoader fabric next (fabric_text fabric (m ∷ []))) (sym is_loader.is) (text_has_loader fabric next is frames steps))
+carrier_of fabric is chain none = by_chain (record { chain = chain; tiles = text_has_fabric fabric [] is (All-nil (λ m. m.name ≡ loader_module_name)) })
 
-pub has_loader : (fabric : PlainFabric) (text : List PlainModule) → IsFabric fabric → IsFabricText fabric text → (next : NextValues) × HasLoader fabric next text
-has_loader fabric text is is_text =
-    subst (λ text. (next : NextValues) × HasLoader fabric next text) (sym is_text.is) (loader_of_frames fabric is is_text.are)
+pub carrier : (fabric : PlainFabric) (text : List PlainModule) → IsFabric fabric → IsFabricText fabric text → Carrier fabric text
+carrier fabric text is is_text = subst (Carrier fabric) (sym is_text.is) (carrier_of fabric is refl is_text.are)
+
+-- a text in frames has a loader
+pub has_loader : (fabric : PlainFabric) (text : List PlainModule) → IsFabric fabric → IsFabricText fabric text → text_mode fabric ≡ modes.Frames →
+    (next : NextValues) × HasLoader fabric next text
+has_loader fabric text is is_text frames =
+    elim (carrier fabric text is is_text) [
+      | by_frames next has ↦ (next, has)
+      | by_chain has ↦ absurd (not_both (text_mode fabric) frames has.chain)
+    ]
 
 -- ---- its names
 
@@ -214,5 +241,5 @@ module _ (fabric : PlainFabric) (next : NextValues) (text : List PlainModule) (h
   pub loader_clock : clock_of text loader_path clock_name ≡ Some clock_name
   loader_clock =
       clock_below text [] loader_instance_name clock_name (loader_of fabric.rows next) (found_loader fabric) clock_name has.stands refl
-      (ap (λ m. instance_in m loader_instance_name) has.tiles.top_is ∙ loader_found fabric) refl
+      (ap (λ m. instance_in m loader_instance_name) has.tiles.top_is ∙ loader_found fabric has.frames) refl
       ∙ clock_at_top text (top_module fabric) clock_name has.tiles.top_is refl

@@ -15,6 +15,7 @@ use Rattle.fab_meaning.specs.Points.{Path, Found, instance_named, instance_in, m
 use Rattle.fab_meaning.specs.Runs.{clock_name, user_clock_name}
 use Rattle.fab_meaning.proofs.Modules.{each_all}
 use Rattle.fab_meaning.specs.Ports.{config_name}
+use Rattle.fab_drives_laws.specs.fab_model_mode_Mode_TheVariants as modes
 use Rattle.fab_drives_laws.specs.fab_prim_Ports.{clock_names, top_inputs, top_outputs}
 use Rattle.fab_drives_laws.specs.fab_prim_Modules.{module_name, module_items, module_of_kind}
 use Rattle.fab_drives_laws.specs.fab_model_tiles_Bel.{Bel}
@@ -22,7 +23,7 @@ use Rattle.fab_drives_laws.specs.fab_model_Tiles.{PlainTile, counted, matrix_nam
 use Rattle.fab_drives_laws.specs.fab_model_Grid.{PlainFabric, tile_at}
 use Rattle.fab_drives_laws.specs.fab_fabric_Names.{place_name}
 use Rattle.fab_drives_laws.specs.fab_gen_tile_Names.{config_module_name, matrix_module_name, tile_module_name, config_instance_name, bits_name, latch_name, pad_name, port_join, same_join}
-use Rattle.fab_drives_laws.specs.fab_gen_tile_ConfigModule.{bit_latch, all_latches, config_items, config_module}
+use Rattle.fab_drives_laws.specs.fab_gen_tile_ConfigModule.{bit_latch, all_latches, config_items, config_module, bit_flop, chain_end, keeping_items}
 use Rattle.fab_drives_laws.specs.fab_gen_tile_MatrixModule.{matrix_module, numbered_outputs}
 use Rattle.fab_drives_laws.specs.fab_gen_tile_TileModule.{bits_join, matrix_output_names, pin_join, pad_join, bel_joins, tile_items, tile_module}
 use Rattle.fab_drives_laws.specs.fab_gen_loader_Loader.{NextValues, address_port, strobe_port, registers, processes, outputs, loader_of, state_name, count_name, strobe_register_name, row_port, address_register_name, row_register_name, loader_module_name}
@@ -33,12 +34,17 @@ use Rattle.fab_parts_sound_laws.proofs.Apart.{differs_from}
 use Rattle.fab_parts_sound_laws.proofs.Names.{Differ}
 use Rattle.fab_drives_laws.proofs.fab_tile_drives_laws_Endings.{all_counted}
 use Rattle.fab_drives_laws.specs.Points.{place_path}
+use Rattle.fab_drives_laws.specs.fab_fabric_Fabric.{IsFabric}
+use Rattle.fab_drives_laws.specs.fab_fabric_text_defs_Texts.{IsFabricText}
+use Rattle.fab_drives_laws.specs.fab_model_mode_Mode.{Mode}
+use Rattle.fab_drives_laws.specs.fab_fabric_text_defs_Mode.{text_mode}
 use Rattle.fab_drives_laws.proofs.Apart.{told_apart}
 use Rattle.fab_drives_laws.proofs.Instances.{all_of_top}
 use Rattle.fab_drives_laws.proofs.Lists.{all_of}
 use Rattle.fab_drives_laws.proofs.Places.{IsThere}
+use Rattle.fab_drives_laws.proofs.Texts.{HasFabric}
 use Rattle.fab_text_loads_laws.specs.Points.{loader_path, config_path}
-use Rattle.fab_text_loads_laws.proofs.Loader.{HasLoader, register_names, row_register}
+use Rattle.fab_text_loads_laws.proofs.Loader.{register_names, row_register, has_loader}
 use Rattle.fab_text_loads_laws.proofs.TileItems.{all_of_items}
 
 -- ---- what the items of a module are
@@ -102,14 +108,15 @@ module _ (Instance : (module_name i : List ℕ) → List PlainJoin → Type 0) (
 
 -- ---- the top
 
+-- a loader, in frames, or a tile
 abbrev pub IsTopPart : PlainFabric → (module_name i : List ℕ) → List PlainJoin → Type 0
 IsTopPart fabric module_name i joins =
-    ((module_name ≡ loader_module_name) × (i ≡ loader_instance_name))
+    ((text_mode fabric ≡ modes.Frames) × (module_name ≡ loader_module_name) × (i ≡ loader_instance_name))
     ⊎ ((placed : PlacedTile) × IsThere fabric placed × (module_name ≡ tile_module_name placed.tile) × (i ≡ place_name placed.x placed.y))
 
 pub top_is : (fabric : PlainFabric) → All (ItemIs (IsTopPart fabric) NoLatch NoFlop) (top_items fabric)
 top_is fabric =
-    all_of_top fabric (ItemIs (IsTopPart fabric) NoLatch NoFlop) (λ name. tt) (λ name. tt) (λ name. tt) (λ x. tt) (inl (refl, refl))
+    all_of_top fabric (ItemIs (IsTopPart fabric) NoLatch NoFlop) (λ name. tt) (λ name. tt) (λ name. tt) (λ x. tt) (λ frames. inl (frames, refl, refl))
     (λ placed there. inr (placed, there, refl, refl))
 
 -- ---- the loader
@@ -137,18 +144,30 @@ loader_is rows next =
 
 -- ---- a configuration
 
-abbrev pub IsLatchOf : PlainTile → List ℕ → Type 0
-IsLatchOf tile target = (number : ℕ) × (number < tile_bits tile) × (target ≡ latch_name number)
+-- in frames latches keep its bits,
+abbrev pub IsLatchOf : Mode → PlainTile → List ℕ → Type 0
+IsLatchOf mode tile target = (mode ≡ modes.Frames) × ((number : ℕ) × (number < tile_bits tile) × (target ≡ latch_name number))
 
-pub config_is : (tile : PlainTile) → All (ItemIs NoInstance (IsLatchOf tile) NoFlop) (config_items tile)
-config_is tile =
-    let P = ItemIs NoInstance (IsLatchOf tile) NoFlop in
+-- and in a chain flip-flops
+abbrev pub IsFlopOf : Mode → PlainTile → (clock target : List ℕ) → Type 0
+IsFlopOf mode tile clock target = (mode ≡ modes.Chain) × ((number : ℕ) × (number < tile_bits tile) × (target ≡ latch_name number))
+
+keeping_is : (mode : Mode) (tile : PlainTile) → All (ItemIs NoInstance (IsLatchOf mode tile) (IsFlopOf mode tile)) (keeping_items mode tile)
+keeping_is modes.Frames tile =
+    all_counted (ItemIs NoInstance (IsLatchOf modes.Frames tile) (IsFlopOf modes.Frames tile)) (tile_bits tile) (bit_latch tile) (λ bit few. (refl, (bit, few, refl)))
+keeping_is modes.Chain tile =
+    let P = ItemIs NoInstance (IsLatchOf modes.Chain tile) (IsFlopOf modes.Chain tile) in
+    All-append P (counted (tile_bits tile) bit_flop) (chain_end (tile_bits tile) ∷ [])
+    (all_counted P (tile_bits tile) bit_flop (λ bit few. (refl, (bit, few, refl))))
+    (All-cons P (chain_end (tile_bits tile)) [] tt (All-nil P))
+
+pub config_is : (mode : Mode) (tile : PlainTile) → All (ItemIs NoInstance (IsLatchOf mode tile) (IsFlopOf mode tile)) (config_items mode tile)
+config_is mode tile =
+    let P = ItemIs NoInstance (IsLatchOf mode tile) (IsFlopOf mode tile) in
     let last = assign config_name (all_latches (tile_bits tile)) in
-    All-append P (counted (tile_bits tile) (λ bit. reg Scalar (latch_name bit))) (counted (tile_bits tile) (bit_latch tile) ++ last ∷ [])
+    All-append P (counted (tile_bits tile) (λ bit. reg Scalar (latch_name bit))) (keeping_items mode tile ++ last ∷ [])
     (all_counted P (tile_bits tile) (λ bit. reg Scalar (latch_name bit)) (λ bit few. tt))
-    (All-append P (counted (tile_bits tile) (bit_latch tile)) (last ∷ [])
-    (all_counted P (tile_bits tile) (bit_latch tile) (λ bit few. (bit, few, refl)))
-    (All-cons P last [] tt (All-nil P)))
+    (All-append P (keeping_items mode tile) (last ∷ []) (keeping_is mode tile) (All-cons P last [] tt (All-nil P)))
 
 -- ---- switch matrices and BELs
 
@@ -222,32 +241,42 @@ pub data IsTilePart (tile : PlainTile) (name_of_module i : List ℕ) (joins : Li
   a_switch_matrix : 0 < length (matrix_output_names tile) → name_of_module ≡ matrix_module_name tile → IsTilePart tile name_of_module i joins
   a_site : (bel : Bel) → Contains tile.bels bel → name_of_module ≡ module_name bel.kind → All KeepsClock joins → IsTilePart tile name_of_module i joins
 
-pub tile_is : (tile : PlainTile) → All (ItemIs (IsTilePart tile) NoLatch NoFlop) (tile_items tile)
-tile_is tile =
+pub tile_is : (mode : Mode) (tile : PlainTile) → All (ItemIs (IsTilePart tile) NoLatch NoFlop) (tile_items mode tile)
+tile_is mode tile =
     let P = ItemIs (IsTilePart tile) NoLatch NoFlop in
-    all_of_items tile P (λ target e. tt) (all_of (λ name. P (wire Scalar name)) (matrix_names tile) (λ name. tt)) (λ some. tt) (λ some. a_configuration some refl refl)
+    all_of_items mode tile P (λ target e. tt) (all_of (λ name. P (wire Scalar name)) (matrix_names tile) (λ name. tt)) (λ some. tt) (λ some. a_configuration some refl refl)
     (λ some. a_switch_matrix some refl)
     (λ place low bel listed. a_site bel listed refl (bel_keeps place low bel))
 
 -- ---- which module stands at a path
 
-pub data IsPart (fabric : PlainFabric) (next : NextValues) (path : Path) (m : PlainModule) : Type 0 where
-  the_top : path ≡ [] → m ≡ top_module fabric → IsPart fabric next path m
-  the_loader : path ≡ loader_path → m ≡ loader_of fabric.rows next → IsPart fabric next path m
-  a_tile : (x y : ℕ) (tile : PlainTile) → tile_at fabric x y ≡ Some tile → path ≡ place_path x y → m ≡ tile_module tile → IsPart fabric next path m
-  a_config : (x y : ℕ) (tile : PlainTile) → tile_at fabric x y ≡ Some tile → path ≡ config_path x y → m ≡ config_module tile → IsPart fabric next path m
-  a_matrix : (tile : PlainTile) → m ≡ matrix_module tile → IsPart fabric next path m
+pub data IsPart (fabric : PlainFabric) (path : Path) (m : PlainModule) : Type 0 where
+  the_top : path ≡ [] → m ≡ top_module fabric → IsPart fabric path m
+  the_loader : (next : NextValues) → text_mode fabric ≡ modes.Frames → path ≡ loader_path → m ≡ loader_of fabric.rows next → IsPart fabric path m
+  a_tile : (x y : ℕ) (tile : PlainTile) → tile_at fabric x y ≡ Some tile → path ≡ place_path x y → m ≡ tile_module (text_mode fabric) tile → IsPart fabric path m
+  a_config : (x y : ℕ) (tile : PlainTile) → tile_at fabric x y ≡ Some tile → path ≡ config_path x y → m ≡ config_module (text_mode fabric) tile → IsPart fabric path m
+  a_matrix : (tile : PlainTile) → m ≡ matrix_module tile → IsPart fabric path m
   a_bel : (x y : ℕ) (tile : PlainTile) (i : List ℕ) (found : Found) (kind : Kind) → tile_at fabric x y ≡ Some tile → path ≡ i ∷ place_path x y →
-      instance_named (tile_items tile) i ≡ Some found → All KeepsClock found.joins → m ≡ module_of_kind kind → IsPart fabric next path m
+      instance_named (tile_items (text_mode fabric) tile) i ≡ Some found → All KeepsClock found.joins → m ≡ module_of_kind kind → IsPart fabric path m
 
 -- the instance behind a module that is found
 found_behind : (text : List PlainModule) (found : Option Found) (m : PlainModule) → module_of text found ≡ Some m → (f : Found) × (found ≡ Some f) × (module_named text f.module_name ≡ Some m)
 found_behind text None m is = absurd cc
 found_behind text (Some f) m is = (f, refl, is)
 
-module _ (fabric : PlainFabric) (next : NextValues) (text : List PlainModule) (has : HasLoader fabric next text) where
+-- the loader of a text in frames
+abbrev pub LoaderIs : PlainFabric → List PlainModule → Type 0
+LoaderIs fabric text = text_mode fabric ≡ modes.Frames → (next : NextValues) × (module_named text loader_module_name ≡ Some (loader_of fabric.rows next))
+
+pub loader_is_named : (fabric : PlainFabric) (text : List PlainModule) → IsFabric fabric → IsFabricText fabric text → LoaderIs fabric text
+loader_is_named fabric text is is_text frames = let found = has_loader fabric text is is_text frames in (found.0, found.1.named)
+
+module _ (fabric : PlainFabric) (text : List PlainModule) (has : HasFabric fabric text) (loader : LoaderIs fabric text) where
+  abbrev mode : Mode
+  mode = text_mode fabric
+
   abbrev Part : Path → PlainModule → Type 0
-  Part path m = IsPart fabric next path m
+  Part path m = IsPart fabric path m
 
   -- two modules found by one name
   one_module : (name other : List ℕ) (m inner : PlainModule) → name ≡ other → module_named text name ≡ Some m → module_named text other ≡ Some inner → m ≡ inner
@@ -257,18 +286,20 @@ module _ (fabric : PlainFabric) (next : NextValues) (text : List PlainModule) (h
   below_top : (i : List ℕ) (m : PlainModule) (found : Found) → instance_named (top_items fabric) i ≡ Some found → module_named text found.module_name ≡ Some m → Part (i ∷ []) m
   below_top i m found at named =
       elim (named_is (IsTopPart fabric) NoLatch NoFlop (top_items fabric) i found (top_is fabric) at) [
-        | inl loader ↦ the_loader (ap (λ name. name ∷ []) loader.1) (one_module found.module_name loader_module_name m (loader_of fabric.rows next) loader.0 named has.named)
+        | inl one ↦ (
+            let made = loader one.0 in
+            the_loader made.0 one.0 (ap (λ name. name ∷ []) one.2) (one_module found.module_name loader_module_name m (loader_of fabric.rows made.0) one.1 named made.1))
         | inr tile ↦ a_tile tile.0.x tile.0.y tile.0.tile tile.1 (ap (λ name. name ∷ []) tile.3)
-            (one_module found.module_name (tile_module_name tile.0.tile) m (tile_module tile.0.tile) tile.2 named (has.tiles.module_is tile.0.x tile.0.y tile.0.tile tile.1))
+            (one_module found.module_name (tile_module_name tile.0.tile) m (tile_module mode tile.0.tile) tile.2 named (has.module_is tile.0.x tile.0.y tile.0.tile tile.1))
       ]
 
-  below_tile : (x y : ℕ) (tile : PlainTile) → tile_at fabric x y ≡ Some tile → (i : List ℕ) (m : PlainModule) (found : Found) → instance_named (tile_items tile) i ≡ Some found →
+  below_tile : (x y : ℕ) (tile : PlainTile) → tile_at fabric x y ≡ Some tile → (i : List ℕ) (m : PlainModule) (found : Found) → instance_named (tile_items mode tile) i ≡ Some found →
       module_named text found.module_name ≡ Some m → Part (i ∷ place_path x y) m
   below_tile x y tile there i m found at named =
-      let stands = has.tiles.stands x y tile there in
-      elim (named_is (IsTilePart tile) NoLatch NoFlop (tile_items tile) i found (tile_is tile) at) [
+      let stands = has.stands x y tile there in
+      elim (named_is (IsTilePart tile) NoLatch NoFlop (tile_items mode tile) i found (tile_is mode tile) at) [
         | a_configuration some name is ↦ a_config x y tile there (ap (λ name. name ∷ place_path x y) is)
-            (one_module found.module_name (config_module_name tile) m (config_module tile) name named (stands.config_is some))
+            (one_module found.module_name (config_module_name tile) m (config_module mode tile) name named (stands.config_is some))
         | a_switch_matrix some name ↦ a_matrix tile (one_module found.module_name (matrix_module_name tile) m (matrix_module tile) name named (stands.matrix_is some))
         | a_site bel listed name keeps ↦ a_bel x y tile i found bel.kind there refl at keeps
             (one_module found.module_name (module_name bel.kind) m (module_of_kind bel.kind) name named
@@ -279,19 +310,19 @@ module _ (fabric : PlainFabric) (next : NextValues) (text : List PlainModule) (h
       module_named text found.module_name ≡ Some m → Part (i ∷ path) m
   below path i outer m found (the_top at is) there named =
       subst (λ path. Part (i ∷ path) m) (sym at) (below_top i m found (subst (λ (o : PlainModule). instance_named o.items i ≡ Some found) is there) named)
-  below path i outer m found (the_loader at is) there named =
+  below path i outer m found (the_loader next frames at is) there named =
       absurd (instance_is NoInstance NoLatch (IsRegister fabric.rows) outer (loader_of fabric.rows next) (loader_is fabric.rows next) is i found there)
   below path i outer m found (a_tile x y tile stands at is) there named =
       subst (λ path. Part (i ∷ path) m) (sym at) (below_tile x y tile stands i m found (subst (λ (o : PlainModule). instance_named o.items i ≡ Some found) is there) named)
   below path i outer m found (a_config x y tile stands at is) there named =
-      absurd (instance_is NoInstance (IsLatchOf tile) NoFlop outer (config_module tile) (config_is tile) is i found there)
+      absurd (instance_is NoInstance (IsLatchOf mode tile) (IsFlopOf mode tile) outer (config_module mode tile) (config_is mode tile) is i found there)
   below path i outer m found (a_matrix tile is) there named = absurd (instance_is NoInstance NoLatch NoFlop outer (matrix_module tile) (matrix_is tile) is i found there)
   below path i outer m found (a_bel x y tile j joined_here kind stands at found_here keeps is) there named =
       absurd (instance_is NoInstance NoLatch ByUserClock outer (module_of_kind kind) (kind_is kind) is i found there)
 
   -- each module of the text that stands somewhere is such a part
   pub part_at : (path : Path) (m : PlainModule) → module_at text path ≡ Some m → Part path m
-  part_at [] m is = let same : Some m ≡ Some (top_module fabric) = sym is ∙ has.tiles.top_is in the_top refl cc
+  part_at [] m is = let same : Some m ≡ Some (top_module fabric) = sym is ∙ has.top_is in the_top refl cc
   part_at (i ∷ path) m is =
       elim (module_at text path) as (λ here. module_at text path ≡ here → module_of text (instance_in here i) ≡ Some m → Part (i ∷ path) m) [
         | None ↦ λ at found. absurd cc
@@ -300,18 +331,19 @@ module _ (fabric : PlainFabric) (next : NextValues) (text : List PlainModule) (h
             below path i outer m behind.0 (part_at path outer at) behind.1 behind.2)
       ] refl is
 
-  -- ---- flip-flops and latches
+-- ---- latches
 
-  -- a latch of the text is that of a configuration bit
-  pub latch_of_tile : (path : Path) (m : PlainModule) (target : List ℕ) (gate e : PlainExpr) → Part path m → Contains m.items (latch target gate e) →
-      (x : ℕ) × (y : ℕ) × (tile : PlainTile) × (number : ℕ) × (tile_at fabric x y ≡ Some tile) × (number < tile_bits tile) × (path ≡ config_path x y) × (target ≡ latch_name number)
-  latch_of_tile path m target gate e (the_top at is) there = absurd (latch_is (IsTopPart fabric) NoLatch NoFlop m (top_module fabric) (top_is fabric) is target gate e there)
-  latch_of_tile path m target gate e (the_loader at is) there =
-      absurd (latch_is NoInstance NoLatch (IsRegister fabric.rows) m (loader_of fabric.rows next) (loader_is fabric.rows next) is target gate e there)
-  latch_of_tile path m target gate e (a_tile x y tile stands at is) there = absurd (latch_is (IsTilePart tile) NoLatch NoFlop m (tile_module tile) (tile_is tile) is target gate e there)
-  latch_of_tile path m target gate e (a_config x y tile stands at is) there =
-      let found = latch_is NoInstance (IsLatchOf tile) NoFlop m (config_module tile) (config_is tile) is target gate e there in
-      (x, y, tile, found.0, stands, found.1, at, found.2)
-  latch_of_tile path m target gate e (a_matrix tile is) there = absurd (latch_is NoInstance NoLatch NoFlop m (matrix_module tile) (matrix_is tile) is target gate e there)
-  latch_of_tile path m target gate e (a_bel x y tile i found kind stands at found_here keeps is) there =
-      absurd (latch_is NoInstance NoLatch ByUserClock m (module_of_kind kind) (kind_is kind) is target gate e there)
+-- a latch of a text is that of a configuration bit, in frames
+pub latch_of_tile : (fabric : PlainFabric) (path : Path) (m : PlainModule) (target : List ℕ) (gate e : PlainExpr) → IsPart fabric path m → Contains m.items (latch target gate e) →
+    (x : ℕ) × (y : ℕ) × (tile : PlainTile) × (tile_at fabric x y ≡ Some tile) × (path ≡ config_path x y) × IsLatchOf (text_mode fabric) tile target
+latch_of_tile fabric path m target gate e (the_top at is) there = absurd (latch_is (IsTopPart fabric) NoLatch NoFlop m (top_module fabric) (top_is fabric) is target gate e there)
+latch_of_tile fabric path m target gate e (the_loader next frames at is) there =
+    absurd (latch_is NoInstance NoLatch (IsRegister fabric.rows) m (loader_of fabric.rows next) (loader_is fabric.rows next) is target gate e there)
+latch_of_tile fabric path m target gate e (a_tile x y tile stands at is) there =
+    absurd (latch_is (IsTilePart tile) NoLatch NoFlop m (tile_module (text_mode fabric) tile) (tile_is (text_mode fabric) tile) is target gate e there)
+latch_of_tile fabric path m target gate e (a_config x y tile stands at is) there =
+    let mode = text_mode fabric in
+    (x, y, tile, stands, at, latch_is NoInstance (IsLatchOf mode tile) (IsFlopOf mode tile) m (config_module mode tile) (config_is mode tile) is target gate e there)
+latch_of_tile fabric path m target gate e (a_matrix tile is) there = absurd (latch_is NoInstance NoLatch NoFlop m (matrix_module tile) (matrix_is tile) is target gate e there)
+latch_of_tile fabric path m target gate e (a_bel x y tile i found kind stands at found_here keeps is) there =
+    absurd (latch_is NoInstance NoLatch ByUserClock m (module_of_kind kind) (kind_is kind) is target gate e there)

@@ -1,9 +1,9 @@
--- While no word is written, a configured text holds what it holds.
-use Rattle.std.proofs.Common.{◌≡◌, ℕ, ◌<◌, Bool, true, false, List, [], ◌∷◌, cond, refl, sym, ap, ◌∙◌, subst, inl, inr, arith, Option, Some, None, All, Contains}
+-- The loading points hold at a tick what they hold, where the flip-flops of CLK and the latches do; and so they do through all moments without words.
+use Rattle.std.proofs.Common.{◌≡◌, ℕ, Bool, true, false, List, [], ◌∷◌, cond, sym, ap, ◌∙◌, subst, inl, inr, Option, Some, None, All, Contains}
 use Rattle.std.specs.Str.{bytes_eq}
 use Rattle.std.proofs.lemmas.Bool.{cases_Bool}
 use Rattle.std.proofs.lemmas.Slice.Eq.{bytes_eq-Decides}
-use Rattle.std.proofs.lemmas.List.Elements.{All-head, All-tail, All-contains}
+use Rattle.std.proofs.lemmas.List.Elements.{All-head, All-tail}
 use Rattle.fab_syntax.specs.Plain.{PlainExpr, PlainItem, PlainModule, wire, reg, assign, latch, clocked, instance}
 use Rattle.fab_syntax.specs.Declarations.{module_named, is_input_of}
 use Rattle.fab_meaning.specs.Value.{value, bit_at}
@@ -12,27 +12,15 @@ use Rattle.fab_meaning.specs.Reads.{is_declared}
 use Rattle.fab_meaning.specs.Settled.{Assignment, names_at, IsSettledOn}
 use Rattle.fab_meaning.specs.Runs.{clock_name, clock_of, is_clock, Ticks, Moment, IsRunOn}
 use Rattle.fab_meaning.specs.Loading.{IsDerived, Within, by_flop, by_stream, by_reads, IsClosed, IsLoading}
-use Rattle.fab_drives_laws.specs.fab_model_Grid.{PlainFabric}
-use Rattle.fab_drives_laws.specs.fab_model_Drive.{PlainBits}
+use Rattle.fab_drives_laws.specs.fab_model_Grid.{PlainFabric, tile_at}
 use Rattle.fab_drives_laws.specs.fab_fabric_Fabric.{IsFabric}
-use Rattle.fab_drives_laws.specs.fab_gen_tile_Names.{latch_name}
-use Rattle.fab_drives_laws.specs.fab_gen_tile_ConfigModule.{config_module}
-use Rattle.fab_drives_laws.specs.fab_gen_loader_Loader.{NextValues, loader_of, state_name, strobe_register_name, machine_at}
-use Rattle.fab_drives_laws.proofs.fab_gen_loader_Widths.{state_width}
-use Rattle.fab_drives_laws.proofs.fab_tile_drives_laws_Driven.{width_of, declared_at}
-use Rattle.fab_drives_laws.proofs.fab_tile_drives_laws_Latches.{latch_width}
-use Rattle.fab_loading_laws.specs.Latches.{latch_shows}
-use Rattle.fab_loading_laws.specs.Streams.{TicksKeepMachines}
-use Rattle.fab_text_loads_laws.specs.Points.{loader_path, config_path, in_loader}
-use Rattle.fab_text_loads_laws.specs.Loads.{IsConfigured, IsQuiet}
-use Rattle.fab_text_loads_laws.proofs.Declared.{bit_below}
-use Rattle.fab_text_loads_laws.proofs.Loader.{HasLoader, strobe_register_width, register_names}
-use Rattle.fab_text_loads_laws.proofs.Named.{config_stands, named_are_loading}
-use Rattle.fab_text_loads_laws.proofs.Settled.{latch_place, latch_point}
-use Rattle.fab_text_loads_laws.proofs.Ticks.{Stays, registers_stay}
-use Rattle.fab_text_loads_laws.proofs.Runs.{HasLatch, has_latch, latch_loads, latch_now, latch_ticks}
-use Rattle.fab_text_loads_laws.proofs.Parts.{part_at, latch_of_tile}
-use Rattle.fab_text_loads_laws.proofs.Clocks.{flop_of_loader}
+use Rattle.fab_drives_laws.specs.fab_model_Tiles.{PlainTile}
+use Rattle.fab_drives_laws.specs.fab_fabric_text_defs_Mode.{text_mode}
+use Rattle.fab_drives_laws.proofs.Texts.{HasFabric}
+use Rattle.fab_text_loads_laws.specs.Points.{config_path}
+use Rattle.fab_text_loads_laws.specs.Loads.{IsQuiet}
+use Rattle.fab_text_loads_laws.proofs.Parts.{part_at, latch_of_tile, IsLatchOf, LoaderIs}
+use Rattle.fab_text_loads_laws.proofs.Clocks.{IsOfClock, flop_of_clock}
 
 -- ---- which item a flip-flop and a latch are
 
@@ -129,27 +117,6 @@ pub latch_item : (text : List PlainModule) (p : Point) (path : Path) (gate data_
 latch_item text p path gate data_value bit (inl driven) = absurd (subst IsHoldDriver driven.is tt)
 latch_item text p path gate data_value bit (inr driven) = latch_of_item text p driven.path driven.module_here driven.stands driven.item path gate data_value bit driven.holds driven.drives
 
--- ---- what holds the same
-
-module _ (fabric : PlainFabric) (next : NextValues) (text : List PlainModule) (has : HasLoader fabric next text) (is : IsFabric fabric) (bits : PlainBits) where
-  register_same : (held after : Assignment) → ((p : Point) → IsLoading text p → after p ≡ held p) → (name : List ℕ) (bit : ℕ) →
-      bit < width_of (loader_of fabric.rows next) name → after (point loader_path name bit) ≡ held (point loader_path name bit)
-  register_same held after same name bit few =
-      same (point loader_path name bit)
-      (named_are_loading fabric next text has (point loader_path name bit) (in_loader refl) (declared_at text loader_path (loader_of fabric.rows next) name bit has.stands few))
-
-  -- is configured as well
-  pub still_configured : (held after : Assignment) → IsConfigured fabric bits held → ((p : Point) → IsLoading text p → after p ≡ held p) → IsConfigured fabric bits after
-  still_configured held after configured same = record {
-    rests = record {
-      state = λ bit few. register_same held after same state_name bit (omega (arith, few, state_width fabric.rows next)) ∙ configured.rests.state bit few;
-      strobe = register_same held after same strobe_register_name 0 (omega (arith, strobe_register_width fabric.rows next)) ∙ configured.rests.strobe;
-    };
-    bits_held = λ x y tile there number few.
-        same (latch_point x y number) (latch_loads fabric next text has is x y number (has_latch fabric next text has is x y tile number there few))
-        ∙ configured.bits_held x y tile there number few;
-  }
-
 -- ---- a tick
 
 -- a point that is within is declared
@@ -158,66 +125,43 @@ within_declared text flops p (by_flop declared is) = declared
 within_declared text flops p (by_stream stream) = stream.declared
 within_declared text flops p (by_reads d declared drives derived reads) = declared
 
-module _ (fabric : PlainFabric) (next : NextValues) (text : List PlainModule) (has : HasLoader fabric next text) (is : IsFabric fabric) (keeps : TicksKeepMachines) (bits : PlainBits) where
-  module _ (moment : Moment) (held now after : Assignment) (configured : IsConfigured fabric bits held) (quiet : IsQuiet moment)
-      (settled : IsSettledOn (IsLoading text) text moment.inputs held now) (ticks : Ticks (IsLoading text) text moment.clock held now after) where
-    -- a register of the loader at a tick of CLK
-    register_stays : (name : List ℕ) (bit : ℕ) → moment.clock ≡ clock_name → Contains (register_names fabric.rows) name → is_declared text (point loader_path name bit) ≡ true →
-        after (point loader_path name bit) ≡ held (point loader_path name bit)
-    register_stays name bit clock listed declared =
-        let loader = loader_of fabric.rows next in
-        let ticks_here : Ticks (IsLoading text) text clock_name held now after = subst (λ clock. Ticks (IsLoading text) text clock held now after) clock ticks in
-        All-contains (Stays fabric next text has is keeps moment.inputs held now after settled ticks_here (quiet clock) configured.rests.strobe) (register_names fabric.rows) name
-        (registers_stay fabric next text has is keeps moment.inputs held now after settled ticks_here (quiet clock) configured.rests.strobe) listed bit
-        (bit_below text loader_path loader name bit has.stands declared)
-
-    flop_stays : (p : Point) (path : Path) (clock : List ℕ) (e : PlainExpr) (bit : ℕ) → is_declared text p ≡ true → IsLoading text p → Drives text p (flop path clock e bit) →
-        clock_of text path clock ≡ Some clock_name → after p ≡ held p
-    flop_stays p path clock e bit declared loading drives clocks =
-        let kept_is : after p ≡ cond (bytes_eq clock_name moment.clock) (bit_at (value (names_at text now path) e) bit) (held p) =
-        ticks p (flop path clock e bit) loading drives
-        ∙ ap (λ found. cond (is_clock moment.clock found) (bit_at (value (names_at text now path) e) bit) (held p)) clocks in
-        elim (cases_Bool (bytes_eq clock_name moment.clock)) [
+module _ (fabric : PlainFabric) (text : List PlainModule) (has : HasFabric fabric text) (loader : LoaderIs fabric text) (is : IsFabric fabric) where
+  module _ (clock : List ℕ) (held now after : Assignment) (ticks : Ticks (IsLoading text) text clock held now after)
+      (flop_keeps : clock ≡ clock_name → (path : Path) (target : List ℕ) (bit : ℕ) → IsOfClock fabric path target → is_declared text (point path target bit) ≡ true →
+          after (point path target bit) ≡ held (point path target bit))
+      (latch_keeps : (x y : ℕ) (tile : PlainTile) (target : List ℕ) (bit : ℕ) → tile_at fabric x y ≡ Some tile → IsLatchOf (text_mode fabric) tile target →
+          is_declared text (point (config_path x y) target bit) ≡ true → after (point (config_path x y) target bit) ≡ held (point (config_path x y) target bit)) where
+    flop_stays : (p : Point) (path : Path) (name : List ℕ) (e : PlainExpr) (bit : ℕ) → is_declared text p ≡ true → IsLoading text p → Drives text p (flop path name e bit) →
+        clock_of text path name ≡ Some clock_name → after p ≡ held p
+    flop_stays p path name e bit declared loading drives clocks =
+        let taken = bit_at (value (names_at text now path) e) bit in
+        let kept_is : after p ≡ cond (bytes_eq clock_name clock) taken (held p) =
+        ticks p (flop path name e bit) loading drives
+        ∙ ap (λ found. cond (is_clock clock found) taken (held p)) clocks in
+        elim (cases_Bool (bytes_eq clock_name clock)) [
           | inl ticked ↦ (
-              let item = flop_item text p path clock e bit drives in
-              let found = flop_of_loader fabric next text has is path item.here clock item.target item.e (part_at fabric next text has path item.here item.stands) item.there clocks in
-              let same : p ≡ point loader_path item.target p.bit = item.at ∙ ap (λ path. point path item.target p.bit) found.0 in
-              ap after same
-              ∙ register_stays item.target p.bit (sym ((bytes_eq-Decides clock_name moment.clock).0 ticked)) found.1 (subst (λ q. is_declared text q ≡ true) same declared)
-              ∙ ap held (sym same))
-          | inr idle ↦ kept_is ∙ ap (λ b. cond b (bit_at (value (names_at text now path) e) bit) (held p)) idle
+              let item = flop_item text p path name e bit drives in
+              let found = flop_of_clock fabric text has is path item.here name item.target item.e (part_at fabric text has loader path item.here item.stands) item.there clocks in
+              ap after item.at
+              ∙ flop_keeps (sym ((bytes_eq-Decides clock_name clock).0 ticked)) path item.target p.bit found (subst (λ q. is_declared text q ≡ true) item.at declared)
+              ∙ ap held (sym item.at))
+          | inr idle ↦ kept_is ∙ ap (λ b. cond b taken (held p)) idle
         ]
-
-    -- the strobe is 0, so that a latch shows what it holds
-    closed_latch : (x y number : ℕ) → HasLatch fabric x y number → after (latch_point x y number) ≡ held (latch_point x y number)
-    closed_latch x y number found =
-        let place = latch_place x y found.tile number in
-        let machine = machine_at held loader_path fabric.rows in
-        latch_ticks fabric next text has is x y number found moment.clock held now after ticks
-        ∙ latch_now fabric next text has is x y number found moment.inputs held now settled
-        ∙ ap (λ strobe. latch_shows (record machine { strobe = strobe }) place (held (latch_point x y number))) configured.rests.strobe
 
     latch_stays : (p : Point) (path : Path) (gate e : PlainExpr) (bit : ℕ) → is_declared text p ≡ true → Drives text p (hold path gate e bit) → after p ≡ held p
     latch_stays p path gate e bit declared drives =
         let item = latch_item text p path gate e bit drives in
-        let found = latch_of_tile fabric next text has path item.here item.target item.gate item.e (part_at fabric next text has path item.here item.stands) item.there in
-        let x = found.0 in
-        let y = found.1 in
-        let tile = found.2 in
-        let number = found.3 in
-        let few = found.5 in
-        let named : p ≡ point (config_path x y) (latch_name number) p.bit = item.at ∙ (λ j. point (found.6 j) (found.7 j) p.bit) in
-        let below = bit_below text (config_path x y) (config_module tile) (latch_name number) p.bit (config_stands fabric next text has x y tile found.4 (omega (arith, few)))
-        (subst (λ q. is_declared text q ≡ true) named declared) in
-        let first : p.bit ≡ 0 = omega (arith, below, latch_width tile number few) in
-        let same : p ≡ latch_point x y number = named ∙ ap (λ bit. point (config_path x y) (latch_name number) bit) first in
-        ap after same ∙ closed_latch x y number (has_latch fabric next text has is x y tile number found.4 few) ∙ ap held (sym same)
+        let found = latch_of_tile fabric path item.here item.target item.gate item.e (part_at fabric text has loader path item.here item.stands) item.there in
+        let same : p ≡ point (config_path found.0 found.1) item.target p.bit = item.at ∙ ap (λ path. point path item.target p.bit) found.4 in
+        ap after same
+        ∙ latch_keeps found.0 found.1 found.2 item.target p.bit found.3 found.5 (subst (λ q. is_declared text q ≡ true) same declared)
+        ∙ ap held (sym same)
 
     derived_stays : (p : Point) (d : Driver) → is_declared text p ≡ true → IsLoading text p → Drives text p d → IsDerived d → after p ≡ held p
     derived_stays p outside declared loading drives derived = absurd derived
     derived_stays p (copy other) declared loading drives derived = ticks p (copy other) loading drives
     derived_stays p (bit_of path e bit) declared loading drives derived = ticks p (bit_of path e bit) loading drives
-    derived_stays p (flop path clock e bit) declared loading drives derived = absurd derived
+    derived_stays p (flop path name e bit) declared loading drives derived = absurd derived
     derived_stays p (hold path gate e bit) declared loading drives derived = latch_stays p path gate e bit declared drives
 
     within_stays : (flops : Point → Bool) → IsClosed text flops → (p : Point) → Within text flops p → IsLoading text p → after p ≡ held p
@@ -227,15 +171,19 @@ module _ (fabric : PlainFabric) (next : NextValues) (text : List PlainModule) (h
     within_stays flops closed p (by_stream stream) loading = ticks p outside loading (inl stream.input)
     within_stays flops closed p (by_reads d declared drives derived reads) loading = derived_stays p d declared loading drives derived
 
-    one_stays : (p : Point) → IsLoading text p → after p ≡ held p
-    one_stays p loading = within_stays loading.0 loading.1 p loading.2 loading
+    pub all_stay : (p : Point) → IsLoading text p → after p ≡ held p
+    all_stay p loading = within_stays loading.0 loading.1 p loading.2 loading
 
-  -- ---- a run
+-- ---- a run
 
-  pub configuration_stays : (moments : List Moment) (held after : Assignment) → IsConfigured fabric bits held → All IsQuiet moments → IsRunOn (IsLoading text) text moments held after →
+module _ (text : List PlainModule) (Configured : Assignment → Type 0)
+    (goes : (held after : Assignment) → Configured held → ((p : Point) → IsLoading text p → after p ≡ held p) → Configured after)
+    (one_stays : (moment : Moment) (held now after : Assignment) → Configured held → IsQuiet moment → IsSettledOn (IsLoading text) text moment.inputs held now →
+        Ticks (IsLoading text) text moment.clock held now after → (p : Point) → IsLoading text p → after p ≡ held p) where
+  pub run_stays : (moments : List Moment) (held after : Assignment) → Configured held → All IsQuiet moments → IsRunOn (IsLoading text) text moments held after →
       (p : Point) → IsLoading text p → after p ≡ held p
-  configuration_stays [] held after configured quiet run p loading = run p loading
-  configuration_stays (moment ∷ moments) held after configured quiet (now, between, settled, low, ticks, rest) p loading =
+  run_stays [] held after configured quiet run p loading = run p loading
+  run_stays (moment ∷ moments) held after configured quiet (now, between, settled, low, ticks, rest) p loading =
       let stay = one_stays moment held now between configured (All-head IsQuiet moment moments quiet) settled ticks in
-      configuration_stays moments between after (still_configured fabric next text has is bits held between configured stay) (All-tail IsQuiet moment moments quiet) rest p loading
+      run_stays moments between after (goes held between configured stay) (All-tail IsQuiet moment moments quiet) rest p loading
       ∙ stay p loading

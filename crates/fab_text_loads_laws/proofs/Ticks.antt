@@ -8,6 +8,7 @@ use Rattle.fab_bits.specs.Bits.{number, digits, first_bits}
 use Rattle.fab_bits.proofs.Numbers.{length_first_bits, first_bits_same, get_first_bits}
 use Rattle.fab_loading_laws.proofs.fab_frames_Numbers.{digits_number, number_digits, number_below}
 use Rattle.fab_syntax.specs.Plain.{PlainModule}
+use Rattle.fab_syntax.specs.Declarations.{width}
 use Rattle.fab_meaning.specs.Value.{value, bit_at}
 use Rattle.fab_meaning.specs.Points.{point, flop}
 use Rattle.fab_meaning.specs.Settled.{Assignment, names_at, IsSettledOn}
@@ -18,6 +19,8 @@ use Rattle.fab_drives_laws.specs.fab_model_Grid.{PlainFabric}
 use Rattle.fab_drives_laws.specs.fab_fabric_Fabric.{IsFabric}
 use Rattle.fab_drives_laws.specs.fab_gen_loader_Machine.{Machine, Word, tick}
 use Rattle.fab_drives_laws.specs.fab_gen_loader_Loader.{NextValues, loader_of, state_name, count_name, strobe_register_name, bits_at, machine_at, machine_next, RegisterTakes, TakesNext, address_register_name, row_register_name}
+use Rattle.fab_drives_laws.specs.fab_model_mode_Mode.{Mode}
+use Rattle.fab_drives_laws.specs.fab_fabric_text_defs_Top.{data_shape}
 use Rattle.fab_drives_laws.proofs.fab_gen_loader_Counted.{length-counted, get_counted}
 use Rattle.fab_drives_laws.proofs.fab_gen_loader_Widths.{state_width, count_width, address_width, row_width}
 use Rattle.fab_drives_laws.proofs.fab_tile_drives_laws_Driven.{width_of, declared_at}
@@ -148,7 +151,8 @@ module _ (fabric : PlainFabric) (next : NextValues) (text : List PlainModule) (h
       input_shows fabric next text has is inputs held now settled write_strobe_name 0 (1, omega arith, refl) (1, omega arith, refl) refl refl (omega arith) (omega arith) ∙ writes.strobe in
       let bits : bits_at now loader_path write_data_name 32 ≡ word =
       first_bits_same 32 (λ bit. now (point loader_path write_data_name bit)) (λ bit. bit_at word bit)
-      (λ bit few. input_shows fabric next text has is inputs held now settled write_data_name bit (2, omega arith, refl) (2, omega arith, refl) refl refl few few
+      (λ bit few. input_shows fabric next text has is inputs held now settled write_data_name bit (2, omega arith, refl) (2, omega arith, refl) refl refl few
+      (subst (λ (m : Mode). bit < width (data_shape m)) (sym has.frames) few)
       ∙ writes.bits bit (omega (arith, few, long)))
       ∙ ap (λ n. first_bits n (λ bit. bit_at word bit)) (sym long)
       ∙ bits_again word in

@@ -13,10 +13,14 @@ use Rattle.fab_loading_laws.specs.Streams.{stream_words, StreamsLoad, TicksKeepM
 use Rattle.fab_load_runs_laws.specs.Runs.{HasClocks, RunsExist}
 use Rattle.fab_text_loads_laws.specs.Loads.{RunsOnce, LoadsConfigurations}
 use Rattle.fab_drives_laws.specs.fab_fabric_text_defs_Texts.{IsFabricText}
-use Rattle.fab_text_loads_laws.proofs.Loader.{HasLoader, has_loader}
+use Rattle.fab_drives_laws.proofs.Texts.{HasFabric}
+use Rattle.fab_loading_laws.specs.Chain.{TilesAreOneChain, ChainLoads}
+use Rattle.fab_text_loads_laws.proofs.ChainRuns.{chain_configures, chain_goes, chain_shows, chain_rests}
+use Rattle.fab_text_loads_laws.proofs.ChainWithin.{chain_named_are_loading}
+use Rattle.fab_text_loads_laws.proofs.Frames.{still_configured, configuration_stays}
+use Rattle.fab_text_loads_laws.proofs.Loader.{HasLoader, HasChain, by_frames, by_chain, carrier}
 use Rattle.fab_text_loads_laws.proofs.Named.{named_are_loading}
 use Rattle.fab_text_loads_laws.proofs.Runs.{writing_configures, configured_shows}
-use Rattle.fab_text_loads_laws.proofs.Stays.{still_configured, configuration_stays}
 use Rattle.fab_text_loads_laws.proofs.Written.{words_written}
 
 -- moments are like themselves
@@ -34,20 +38,42 @@ module _ (agree : LoadingRunsAgree) (stay : LoadingPointsStay) (exist : RunsExis
     idle = λ moments inputs later held after now last. stay text moments inputs later held after now last;
   }
 
-  module _ (keeps : TicksKeepMachines) (load : StreamsLoad) where
-    text_loads : (fabric : PlainFabric) (next : NextValues) (text : List PlainModule) → IsFabric fabric → HasLoader fabric next text → IsSound text → LoadsConfigurations fabric text
-    text_loads fabric next text is has sound = record {
-      named = named_are_loading fabric next text has;
-      runs = runs_once text sound
-          (record { loader_clock = ap (λ m. is_input_of m clock_name) has.tiles.top_is; user_clock = ap (λ m. is_input_of m user_clock_name) has.tiles.top_is });
-      loads = λ bits. record {
-        writable = words_written text (stream_words fabric bits);
-        configures = writing_configures fabric next text has is keeps load bits;
-        stays = configuration_stays fabric next text has is keeps bits;
-        goes = still_configured fabric next text has is bits;
-        shows = configured_shows fabric next text has is bits;
-      };
-    }
+  text_runs_once : (fabric : PlainFabric) (text : List PlainModule) → HasFabric fabric text → IsSound text → RunsOnce text
+  text_runs_once fabric text has sound =
+      runs_once text sound (record { loader_clock = ap (λ m. is_input_of m clock_name) has.top_is; user_clock = ap (λ m. is_input_of m user_clock_name) has.top_is })
 
-    pub fabric_loads : (fabric : PlainFabric) (text : List PlainModule) → IsFabric fabric → IsFabricText fabric text → LoadsConfigurations fabric text
-    fabric_loads fabric text is is_text = let found = has_loader fabric text is is_text in text_loads fabric found.0 text is found.1 is_text.sound
+  frames_load : TicksKeepMachines → StreamsLoad → (fabric : PlainFabric) (next : NextValues) (text : List PlainModule) → IsFabric fabric → HasLoader fabric next text → IsSound text →
+      LoadsConfigurations fabric text
+  frames_load keeps load fabric next text is has sound = record {
+    named = named_are_loading fabric next text has;
+    runs = text_runs_once fabric text has.tiles sound;
+    loads = λ bits. record {
+      writable = words_written text (stream_words fabric bits);
+      configures = writing_configures fabric next text has is keeps load bits;
+      stays = configuration_stays fabric next text has is keeps bits;
+      goes = still_configured fabric next text has is bits;
+      shows = configured_shows fabric next text has is bits;
+    };
+  }
+
+  chain_loads : TilesAreOneChain → ChainLoads → (fabric : PlainFabric) (text : List PlainModule) → IsFabric fabric → HasChain fabric text → IsSound text →
+      LoadsConfigurations fabric text
+  chain_loads one_chain load fabric text is has sound = record {
+    named = chain_named_are_loading fabric text has is;
+    runs = text_runs_once fabric text has.tiles sound;
+    loads = λ bits. record {
+      writable = words_written text (stream_words fabric bits);
+      configures = chain_configures fabric text has is one_chain load bits;
+      stays = chain_rests fabric text has is bits;
+      goes = chain_goes fabric text has is bits;
+      shows = chain_shows fabric text has is bits;
+    };
+  }
+
+  pub fabric_loads : TicksKeepMachines → StreamsLoad → TilesAreOneChain → ChainLoads → (fabric : PlainFabric) (text : List PlainModule) → IsFabric fabric →
+      IsFabricText fabric text → LoadsConfigurations fabric text
+  fabric_loads keeps load one_chain load_chain fabric text is is_text =
+      elim (carrier fabric text is is_text) [
+        | by_frames next has ↦ frames_load keeps load fabric next text is has is_text.sound
+        | by_chain has ↦ chain_loads one_chain load_chain fabric text is has is_text.sound
+      ]

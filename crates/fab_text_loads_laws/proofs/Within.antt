@@ -1,4 +1,4 @@
--- The registers of the loader are closed: they lead to all points of the loader, and read no others.
+-- What flip-flops lead to. In frames those are the registers of the loader: they lead to all its points, and read no others.
 use Rattle.std.proofs.Common.{◌≡◌, ℕ, Bool, true, false, ◌&&◌, List, [], ◌∷◌, ◌++◌, refl, sym, ap, ◌∙◌, subst, inl, inr, ◌⊎◌, arith, Some, All, Contains}
 use Rattle.std.specs.List.{list_any}
 use Rattle.std.specs.Str.{bytes_eq}
@@ -24,6 +24,7 @@ use Rattle.fab_drives_laws.specs.fab_fabric_text_defs_Names.{loader_instance_nam
 use Rattle.fab_drives_laws.specs.fab_fabric_text_defs_Top.{loader_joins, top_module}
 use Rattle.fab_drives_laws.proofs.fab_tile_drives_laws_Endings.{all_counted}
 use Rattle.fab_drives_laws.proofs.Modules.{any_there}
+use Rattle.fab_drives_laws.proofs.Texts.{HasFabric}
 use Rattle.fab_text_loads_laws.specs.Points.{loader_path}
 use Rattle.fab_text_loads_laws.proofs.Drivers.{assigned_by, joined_to}
 use Rattle.fab_text_loads_laws.proofs.Declared.{NetHolds, point_holds}
@@ -65,7 +66,25 @@ module _ (text : List PlainModule) (flops : Point → Bool) where
   pub copy_within : (p other : Point) → is_declared text p ≡ true → Drives text p (copy other) → Within text flops other → Within text flops p
   copy_within p other declared drives is = by_reads (copy other) declared drives tt (λ q read. subst (Within text flops) (same_point_is other q read) is)
 
--- ---- the registers
+  -- ---- what comes from the top
+
+  module _ (fabric : PlainFabric) (has : HasFabric fabric text) where
+    stream_within : (name : List ℕ) → (name ≡ clock_name) ⊎ ((name ≡ write_strobe_name) ⊎ (name ≡ write_data_name)) → is_input (top_module fabric).ports name ≡ true →
+        AreWithin [] name
+    stream_within name named input bit declared =
+        let is : is_input_of (module_at text []) name ≡ true = ap (λ m. is_input_of m name) has.top_is ∙ input in
+        by_stream (record { input = record { top = refl; input = is; is = refl }; declared = declared; named = named })
+
+    pub clock_within : AreWithin [] clock_name
+    clock_within = stream_within clock_name (inl refl) refl
+
+    pub strobe_within : AreWithin [] write_strobe_name
+    strobe_within = stream_within write_strobe_name (inr (inl refl)) refl
+
+    pub data_within : AreWithin [] write_data_name
+    data_within = stream_within write_data_name (inr (inr refl)) refl
+
+-- ---- the registers of a loader
 
 module _ (fabric : PlainFabric) (next : NextValues) (text : List PlainModule) (has : HasLoader fabric next text) where
   abbrev rows : ℕ
@@ -77,30 +96,14 @@ module _ (fabric : PlainFabric) (next : NextValues) (text : List PlainModule) (h
   abbrev loader : PlainModule
   loader = loader_of rows next
 
-  -- ---- what comes from the top
-
-  pub stream_within : (name : List ℕ) → (name ≡ clock_name) ⊎ ((name ≡ write_strobe_name) ⊎ (name ≡ write_data_name)) → is_input (top_module fabric).ports name ≡ true →
-      AreWithin text flops [] name
-  stream_within name named input bit declared =
-      let is : is_input_of (module_at text []) name ≡ true = ap (λ m. is_input_of m name) has.tiles.top_is ∙ input in
-      by_stream (record { input = record { top = refl; input = is; is = refl }; declared = declared; named = named })
-
-  pub clock_within : AreWithin text flops [] clock_name
-  clock_within = stream_within clock_name (inl refl) refl
-
-  pub strobe_within : AreWithin text flops [] write_strobe_name
-  strobe_within = stream_within write_strobe_name (inr (inl refl)) refl
-
-  pub data_within : AreWithin text flops [] write_data_name
-  data_within = stream_within write_data_name (inr (inr refl)) refl
-
   -- ---- the loader
 
   input_within : (name : List ℕ) (place : Contains (loader_joins rows) (record { port = name; to = Some (variable name) })) → is_input loader.ports name ≡ true →
       AreWithin text flops [] name → AreWithin text flops loader_path name
   input_within name among input is bit declared =
       variable_within text flops (point loader_path name bit) [] name bit declared
-      (joined_to text [] (top_module fabric) has.tiles.top_is loader loader_module_name loader_instance_name (loader_joins rows) has.named (loader_there fabric) name (variable name) bit among input)
+      (joined_to text [] (top_module fabric) has.tiles.top_is loader loader_module_name loader_instance_name (loader_joins rows) has.named (loader_there fabric has.frames) name (variable name)
+      bit among input)
       is
 
   register_within : (name : List ℕ) → Contains (register_names rows) name → AreWithin text flops loader_path name
@@ -125,11 +128,11 @@ module _ (fabric : PlainFabric) (next : NextValues) (text : List PlainModule) (h
       ∷ port false (Vector 32) address_port ∷ port false Scalar strobe_port ∷ [] in
       All-append P fixed (counted rows (λ row. port false (Vector 32) (row_port row)))
       (each_all P fixed (
-        input_within clock_name (0, omega arith, refl) refl clock_within,
+        input_within clock_name (0, omega arith, refl) refl (clock_within text flops fabric has.tiles),
         (
-          input_within write_strobe_name (1, omega arith, refl) refl strobe_within,
+          input_within write_strobe_name (1, omega arith, refl) refl (strobe_within text flops fabric has.tiles),
           (
-            input_within write_data_name (2, omega arith, refl) refl data_within,
+            input_within write_data_name (2, omega arith, refl) refl (data_within text flops fabric has.tiles),
             (
               output_within address_port address_register_name (0, omega arith, refl) (2, omega arith, refl),
               (output_within strobe_port strobe_register_name (1, omega arith, refl) (3, omega arith, refl), tt),

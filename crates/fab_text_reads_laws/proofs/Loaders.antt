@@ -1,14 +1,17 @@
--- The loader that the generator writes is printable.
-use Rattle.std.proofs.Common.{ℕ, ◌-◌, ◌++◌, refl, codes, lit<, lit≤, false, All}
-use Rattle.std.proofs.lemmas.List.Elements.{All-append}
+-- The loaders that the generator writes are printable.
+use Rattle.std.proofs.Common.{ℕ, ◌-◌, [], ◌++◌, refl, codes, lit<, lit≤, false, All}
+use Rattle.std.proofs.lemmas.List.Elements.{All-append, All-cons, All-nil}
 use Rattle.fab_syntax.specs.declared.tree.Port.{Port}
 use Rattle.fab_syntax.specs.declared.tree.Shape.TheVariants.{Vector}
 use Rattle.fab_syntax.specs.Plain.{PlainItem, variable, reg, assign, clocked}
+use Rattle.fab_model.specs.declared.mode.Mode.{Mode}
+use Rattle.fab_model.specs.declared.mode.Mode.TheVariants as modes
 use Rattle.fab_model.specs.Tiles.{counted}
 use Rattle.fab_meaning.specs.Runs.{clock_name}
 use Rattle.fab_meaning.specs.Loading.{write_data_name}
 use Rattle.fab_gen_loader.specs.Loader.{address_port, count_name, loader_ports, outputs, port, processes, registers, row_port, state_name, strobe_port, strobe_register_name, address_register_name, row_register_name}
 use Rattle.fab_gen_loader.specs.Expressions.{both, loader_module, next_address, next_count, next_row, next_state, next_strobe, next_values, rows_left, takes_in}
+use Rattle.fab_drives_laws.specs.fab_fabric_text_defs_Texts.{loaders_of}
 use Rattle.fab_grammar_defs.specs.Printable.{IsItem, IsModule, IsPrintable}
 use Rattle.fab_tile_drives_laws.proofs.Endings.{all_counted}
 use Rattle.fab_tokens.specs.Tokens.{IsIdentifier, keyword_of}
@@ -101,3 +104,8 @@ loader_printable rows = (
       (All-append IsItem (registers rows) (processes rows (next_values rows) ++ outputs rows) (registers_all rows)
       (All-append IsItem (processes rows (next_values rows)) (outputs rows) (processes_all rows) (outputs_all rows))),
 )
+
+-- those of each mode
+pub loaders_printable : (mode : Mode) (rows : ℕ) → All IsModule (loaders_of mode rows)
+loaders_printable modes.Frames rows = All-cons IsModule (loader_module rows) [] (loader_printable rows) (All-nil IsModule)
+loaders_printable modes.Chain rows = All-nil IsModule

@@ -13,11 +13,14 @@ use Rattle.fab_kinds.specs.Pins.{input_names, output_names, pin_names, bit_count
 use Rattle.fab_meaning.specs.Runs.{user_clock_name}
 use Rattle.fab_meaning.proofs.Modules.{each_all}
 use Rattle.fab_syntax.specs.declared.tree.Shape.TheVariants.{Scalar}
+use Rattle.fab_syntax.specs.declared.tree.Port.{Port}
 use Rattle.fab_syntax.specs.Plain.{constant, variable, wire}
 use Rattle.fab_select.specs.Selection.{select_bits}
 use Rattle.fab_meaning.specs.Ports.{config_name, scalar}
 use Rattle.fab_prim.specs.Ports.{clock_names, top_inputs, top_outputs}
 use Rattle.fab_prim.specs.Modules.{module_name}
+use Rattle.fab_model.specs.declared.mode.Mode.{Mode}
+use Rattle.fab_model.specs.declared.mode.Mode.TheVariants as modes
 use Rattle.fab_model.specs.declared.tiles.WireRow.{WireRow}
 use Rattle.fab_model.specs.declared.tiles.Bel.{Bel}
 use Rattle.fab_model.specs.Rows.{dest_bits, side_bits, is_jump, is_named, bit_name}
@@ -25,7 +28,8 @@ use Rattle.fab_model.specs.Tiles.{PlainTile, IsTile, bel_bits, counted, matrix_n
 use Rattle.fab_gen_tile.specs.Words.{IsFreeName}
 use Rattle.fab_gen_tile.specs.Names.{bits_name, config_instance_name, frame_data_name, frame_strobe_name, begin_name, end_name, port_join, matrix_instance_name, pad_name, same_join}
 use Rattle.fab_gen_tile.specs.Borders.{begin_assigns, beginning_assign, border, border_ports, dest_assign, fixed_bit, passing_assign, row_assigns, side_border}
-use Rattle.fab_gen_tile.specs.TileModule.{bel_instance, bel_instances, bel_joins, bels_ports, bits_join, bits_wire, config_instances, config_joins, matrix_instances, matrix_joins, matrix_input_names, matrix_output_names, side_names, pad_join, pad_ports, pin_join, tile_items, tile_module, tile_ports}
+use Rattle.fab_gen_tile.specs.ConfigModule.{chain_end, config_ports}
+use Rattle.fab_gen_tile.specs.TileModule.{bel_instance, bel_instances, bel_joins, bels_ports, bits_join, bits_wire, config_instances, config_joins, no_config, matrix_instances, matrix_joins, matrix_input_names, matrix_output_names, side_names, pad_join, pad_ports, pin_join, tile_items, tile_module, tile_ports}
 use Rattle.fab_tile_drives_laws.proofs.Endings.{all_counted, all_flat_map}
 use Rattle.fab_tile_drives_laws.proofs.PinPorts.{bits_within}
 use Rattle.fab_tiles_sound_laws.proofs.Standing.{each_placed}
@@ -38,7 +42,7 @@ use Rattle.fab_text_reads_laws.proofs.Each.{IsPort, IsJoin, ports_of, joins_of, 
 use Rattle.fab_text_reads_laws.proofs.Words.{marked, any_first, begins}
 use Rattle.fab_text_reads_laws.proofs.Tested.{name_of}
 use Rattle.fab_text_reads_laws.proofs.TileWords.{bel_named, bit_identifier, border_named, matrix_named, module_named, pad_named, IsPin, pin_identifier, pins}
-use Rattle.fab_text_reads_laws.proofs.TileTexts.{config_is, side_identifiers}
+use Rattle.fab_text_reads_laws.proofs.TileTexts.{bit_ports_printable, chain_end_item, config_is, side_identifiers}
 
 pub variable_printable : (name : List ℕ) → IsIdentifier name → IsPrintable (variable name)
 variable_printable name named = (named, lit≤ tt)
@@ -228,7 +232,7 @@ made_is tile written front bytes first some = (module_named front tile.name byte
 
 -- ---- the module
 
-module _ (tile : PlainTile) (is : IsTile tile) (few_bels : length tile.bels ≤ 26) (written : IsWritten tile) where
+module _ (mode : Mode) (tile : PlainTile) (is : IsTile tile) (few_bels : length tile.bels ≤ 26) (written : IsWritten tile) where
   bels_printable : All IsItem (bel_instances tile.bels)
   bels_printable =
       All-map IsItem (λ (placed : ℕ × Bel). bel_instance placed.0 (bits_before tile.bels placed.0) placed.1) (enumerate_from 0 tile.bels)
@@ -250,21 +254,16 @@ module _ (tile : PlainTile) (is : IsTile tile) (few_bels : length tile.bels ≤ 
       let there = slice_get_within tile.bels place bel found in
       pads_printable place bel.kind (omega (arith, there, few_bels))))
 
-  ports_printable : All IsPort (tile_ports tile)
+  ports_printable : All IsPort (tile_ports mode tile)
   ports_printable =
       let rest = flat_map border_ports tile.rows ++ bels_ports tile.bels in
-      all_ports (tile_ports tile) (
+      all_ports (tile_ports mode tile) (
         (tt, clock_is),
-        (
-          ((lit< tt, lit≤ tt), data_is),
-          (
-            ((lit< tt, lit≤ tt), strobe_is),
-            ports_of rest
-                (All-append IsPort (flat_map border_ports tile.rows) (bels_ports tile.bels)
-                (all_flat_map IsPort border_ports tile.rows (λ k d few. borders_printable (get_or tile.rows k d) (written.named.sources k d few) (written.named.dests k d few)))
-                pads_of_bels),
-          ),
-        ),
+        ports_of (config_ports mode ++ rest)
+            (All-append IsPort (config_ports mode) rest (bit_ports_printable mode)
+            (All-append IsPort (flat_map border_ports tile.rows) (bels_ports tile.bels)
+            (all_flat_map IsPort border_ports tile.rows (λ k d few. borders_printable (get_or tile.rows k d) (written.named.sources k d few) (written.named.dests k d few)))
+            pads_of_bels)),
       )
 
   wires_printable : All IsItem (map (wire Scalar) (matrix_names tile))
@@ -277,15 +276,24 @@ module _ (tile : PlainTile) (is : IsTile tile) (few_bels : length tile.bels ≤ 
   rows_printable : All IsItem (flat_map row_assigns tile.rows)
   rows_printable = all_flat_map IsItem row_assigns tile.rows (λ k d few. assigns_printable (get_or tile.rows k d) (written.named.sources k d few) (written.named.dests k d few))
 
-  config_joined : All IsJoin config_joins
-  config_joined = all_joins config_joins (same_is frame_data_name data_is, (same_is frame_strobe_name strobe_is, (join_is config_name bits_name config_is bits_is, tt)))
+  config_joined : All IsJoin (config_joins mode)
+  config_joined =
+      let same = λ (port : Port). same_join port.name in
+      let whole = port_join config_name (variable bits_name) in
+      All-append IsJoin (map same (config_ports mode)) (whole ∷ [])
+      (All-map IsJoin same (config_ports mode) (All-weaker IsPort (λ port. IsJoin (same port)) (λ port is. same_is port.name is.1) (config_ports mode) (bit_ports_printable mode)))
+      (All-cons IsJoin whole [] (join_is config_name bits_name config_is bits_is) (All-nil IsJoin))
 
-  configured : (bits : ℕ) → All IsItem (config_instances tile bits)
+  unconfigured : (mode : Mode) → All IsItem (no_config mode)
+  unconfigured modes.Frames = All-nil IsItem
+  unconfigured modes.Chain = All-cons IsItem (chain_end 0) [] (chain_end_item 0) (All-nil IsItem)
+
+  configured : (bits : ℕ) → All IsItem (config_instances mode tile bits)
   unfolding keyword_of
-  configured zero = All-nil IsItem
+  configured zero = unconfigured mode
   configured (suc n) =
       let name = made_is tile written (codes "config_") refl refl refl in
-      all_items (config_instances tile (suc n)) ((name.0, name.1, name_of config_instance_name refl, joins_of config_joins config_joined), tt)
+      all_items (config_instances mode tile (suc n)) ((name.0, name.1, name_of config_instance_name refl, joins_of (config_joins mode) config_joined), tt)
 
   sides_joined : (output : Bool) → All IsJoin (map same_join (side_names output (tile_wires tile)))
   sides_joined output =
@@ -306,14 +314,14 @@ module _ (tile : PlainTile) (is : IsTile tile) (few_bels : length tile.bels ≤ 
       let name = made_is tile written (codes "matrix_") refl refl refl in
       all_items (matrix_instances tile (output ∷ outputs)) ((name.0, name.1, name_of matrix_instance_name refl, joins_of (matrix_joins tile) matrix_joined), tt)
 
-  pub tile_printable : IsModule (tile_module tile)
+  pub tile_printable : IsModule (tile_module mode tile)
   tile_printable = (
     (made_is tile written (codes "tile_") refl refl refl).0,
-    ports_of (tile_ports tile) ports_printable,
-    items_of (tile_items tile)
+    ports_of (tile_ports mode tile) ports_printable,
+    items_of (tile_items mode tile)
         (All-append IsItem (map (wire Scalar) (matrix_names tile)) _ wires_printable
         (All-append IsItem (bits_wire (tile_bits tile)) _ (bits_wired (tile_bits tile) written.few_bits)
         (All-append IsItem (flat_map row_assigns tile.rows) _ rows_printable
-        (All-append IsItem (config_instances tile (tile_bits tile)) _ (configured (tile_bits tile))
+        (All-append IsItem (config_instances mode tile (tile_bits tile)) _ (configured (tile_bits tile))
         (All-append IsItem (matrix_instances tile (matrix_output_names tile)) (bel_instances tile.bels) (switched (matrix_output_names tile)) bels_printable))))),
   )

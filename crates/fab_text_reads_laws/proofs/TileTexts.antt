@@ -1,5 +1,5 @@
 -- The modules of a tile are printable.
-use Rattle.std.proofs.Common.{◌≡◌, ◌⊎◌, ℕ, zero, suc, ◌+◌, ◌^◌, ◌<◌, ◌≤◌, Bool, true, false, not, List, [], ◌∷◌, map, filter, length, slice_get, reverse, refl, sym, ap, subst, ◌∙◌, inl, inr, arith, lit<, lit≤, codes, Option, Some, None, All, slice_index_or, nat_eq, leb}
+use Rattle.std.proofs.Common.{◌≡◌, ◌⊎◌, ℕ, zero, suc, ◌+◌, ◌^◌, ◌<◌, ◌≤◌, Bool, true, false, not, List, [], ◌∷◌, ◌++◌, map, filter, length, slice_get, reverse, refl, sym, ap, subst, ◌∙◌, inl, inr, arith, lit<, lit≤, codes, Option, Some, None, All, slice_index_or, nat_eq, leb}
 use Rattle.std.proofs.lemmas.Bool.{cases_Bool, cases_lt}
 use Rattle.std.proofs.lemmas.Bool.Decides.{nat_tests, Decides-eqb}
 use Rattle.std.proofs.lemmas.List.{length-map, length-reverse}
@@ -13,14 +13,18 @@ use Rattle.fab_select.specs.Selection.{inputs_of, field_low, field_width, select
 use Rattle.fab_syntax.specs.declared.tree.Shape.TheVariants.{Scalar, Vector}
 use Rattle.fab_syntax.specs.declared.tree.Op.TheVariants.{Equal}
 use Rattle.fab_syntax.specs.Plain.{PlainExpr, PlainItem, constant, variable, operation, concatenation, plain_exprs, assign, reg}
+use Rattle.fab_meaning.specs.Runs.{clock_name}
+use Rattle.fab_meaning.specs.Loading.{write_strobe_name}
 use Rattle.fab_meaning.specs.Ports.{config_name, config_port, scalar}
 use Rattle.fab_matrix.specs.Matrix.{chain, field, output_value, selection}
 use Rattle.fab_matrix.proofs.Fields.{field_within}
+use Rattle.fab_model.specs.declared.mode.Mode.{Mode}
+use Rattle.fab_model.specs.declared.mode.Mode.TheVariants as modes
 use Rattle.fab_model.specs.Tables.{HasTable}
 use Rattle.fab_model.specs.Tiles.{PlainTile, TileWire, IsPair, IsTile, counted, is_matrix_output, matrix_names, numbered_pairs, tile_bits, tile_wires, wire_name, wire_passes}
 use Rattle.fab_gen_tile.specs.TileModule.{is_on_side, matrix_input_names, side_names}
-use Rattle.fab_gen_tile.specs.Names.{frame_data_name, frame_strobe_name, latch_name}
-use Rattle.fab_gen_tile.specs.ConfigModule.{all_latches, bit_latch, config_module}
+use Rattle.fab_gen_tile.specs.Names.{frame_data_name, frame_strobe_name, chain_in_name, chain_out_name, latch_name, vector}
+use Rattle.fab_gen_tile.specs.ConfigModule.{all_latches, before_bit, bit_flop, bit_latch, chain_end, chain_ports, config_module, config_ports, frame_ports, keeping_items}
 use Rattle.fab_gen_tile.specs.MatrixModule.{matrix_module, named_pairs, numbered_outputs}
 use Rattle.fab_gen_loader.proofs.Counted.{length-counted}
 use Rattle.fab_tile_drives_laws.proofs.Endings.{all_counted}
@@ -31,7 +35,7 @@ use Rattle.fab_tiles_sound_laws.proofs.fab_parts_sound_laws_TileMatrices.{output
 use Rattle.fab_tokens.specs.Tokens.{IsIdentifier, keyword_of}
 use Rattle.fab_grammar_defs.specs.Printable.{AreWritten, HasPart, IsItem, IsModule, IsPrintable, nested, nested_parts, IsWritten as IsSpelled}
 use Rattle.fab_text_reads_laws.specs.Laws.{IsWritten}
-use Rattle.fab_text_reads_laws.proofs.Each.{IsPort, ports_of, items_of}
+use Rattle.fab_text_reads_laws.proofs.Each.{IsPort, ports_of, items_of, all_ports}
 use Rattle.fab_text_reads_laws.proofs.Tested.{name_of}
 use Rattle.fab_text_reads_laws.proofs.TileWords.{matrix_named, module_named, numbered_name, wires_named}
 
@@ -152,9 +156,9 @@ module _ (tile : PlainTile) (is : IsTile tile) (written : IsWritten tile) where
           let inside = field_within nat_eq Decides-eqb output (named_pairs tile) (omega (arith, two)) in
           omega (arith, inside, bits_few)
 
-  config_ports : (bits : ℕ) → bits ≤ 640 → All IsPort (config_port bits)
-  config_ports zero few = All-nil IsPort
-  config_ports (suc n) few = All-cons IsPort (record { input = true; shape = Vector (suc n); name = config_name }) [] ((omega arith, omega (arith, few)), config_identifier) (All-nil IsPort)
+  matrix_config_port : (bits : ℕ) → bits ≤ 640 → All IsPort (config_port bits)
+  matrix_config_port zero few = All-nil IsPort
+  matrix_config_port (suc n) few = All-cons IsPort (record { input = true; shape = Vector (suc n); name = config_name }) [] ((omega arith, omega (arith, few)), config_identifier) (All-nil IsPort)
 
   pub matrix_printable : IsModule (matrix_module tile)
   matrix_printable =
@@ -163,7 +167,7 @@ module _ (tile : PlainTile) (is : IsTile tile) (written : IsWritten tile) where
       let outputs = All-map IsPort (λ (output : ℕ × List ℕ). scalar false output.1) (numbered_outputs tile)
       (All-weaker (λ (output : ℕ × List ℕ). IsIdentifier output.1) (λ (output : ℕ × List ℕ). IsPort (scalar false output.1)) (λ output named. (tt, named)) (numbered_outputs tile) outputs_identifiers) in (
         module_named (codes "matrix_") tile.name refl refl refl written.name,
-        ports_of _ (All-append IsPort (map (scalar true) (matrix_input_names tile)) _ inputs (All-append IsPort (config_port (select_bits nat_eq (named_pairs tile))) _ (config_ports (select_bits nat_eq (named_pairs tile)) bits_few) outputs)),
+        ports_of _ (All-append IsPort (map (scalar true) (matrix_input_names tile)) _ inputs (All-append IsPort (config_port (select_bits nat_eq (named_pairs tile))) _ (matrix_config_port (select_bits nat_eq (named_pairs tile)) bits_few) outputs)),
         items_of _ (All-map IsItem value (numbered_outputs tile)
             (All-weaker (λ (output : ℕ × List ℕ). IsIdentifier output.1) (λ (output : ℕ × List ℕ). IsItem (value output)) (λ output named. (named, output_printable output.0)) (numbered_outputs tile) outputs_identifiers)),
       )
@@ -175,6 +179,37 @@ config_is = config_identifier
 
 latch_is : (bit : ℕ) → IsIdentifier (latch_name bit)
 latch_is bit = numbered_name (codes "q") bit refl refl
+
+-- ---- the ports by which its bits come
+
+pub chain_in_is : IsIdentifier chain_in_name
+unfolding keyword_of
+chain_in_is = name_of chain_in_name refl
+
+pub chain_out_is : IsIdentifier chain_out_name
+unfolding keyword_of
+chain_out_is = name_of chain_out_name refl
+
+pub bit_ports_printable : (mode : Mode) → All IsPort (config_ports mode)
+unfolding keyword_of
+bit_ports_printable modes.Frames = all_ports frame_ports (((lit< tt, lit≤ tt), name_of frame_data_name refl), (((lit< tt, lit≤ tt), name_of frame_strobe_name refl), tt))
+bit_ports_printable modes.Chain =
+    all_ports chain_ports ((tt, name_of clock_name refl), ((tt, name_of write_strobe_name refl), ((tt, chain_in_is), ((tt, chain_out_is), tt))))
+
+-- ---- a chain
+
+before_is : (bit : ℕ) → IsIdentifier (before_bit bit)
+before_is zero = chain_in_is
+before_is (suc bit) = latch_is bit
+
+flop_item : (bit : ℕ) → IsItem (bit_flop bit)
+unfolding keyword_of
+flop_item bit = (name_of clock_name refl, latch_is bit, ((name_of write_strobe_name refl, before_is bit, latch_is bit), lit≤ tt))
+
+pub chain_end_item : (bits : ℕ) → IsItem (chain_end bits)
+chain_end_item bits = (chain_out_is, (before_is bits, lit≤ tt))
+
+-- ---- all bits together
 
 -- an expression without brackets
 abbrev IsPlainSpelled : PlainExpr → Type 0
@@ -218,15 +253,21 @@ module _ (tile : PlainTile) (table : HasTable tile) (written : IsWritten tile) (
       concatenation_printable (reverse names) (omega (arith, long, some))
       (all_reverse IsPlainSpelled names (all_counted IsPlainSpelled (tile_bits tile) (λ bit. variable (latch_name bit)) (λ bit few. (latch_is bit, refl))))
 
-  pub config_printable : IsModule (config_module tile)
-  unfolding keyword_of
-  config_printable =
-      let few = written.few_bits in (
+  keeping_printable : (mode : Mode) → All IsItem (keeping_items mode tile)
+  keeping_printable modes.Frames = all_counted IsItem (tile_bits tile) (bit_latch tile) latch_item
+  keeping_printable modes.Chain =
+      All-append IsItem (counted (tile_bits tile) bit_flop) (chain_end (tile_bits tile) ∷ []) (all_counted IsItem (tile_bits tile) bit_flop (λ bit below. flop_item bit))
+      (All-cons IsItem (chain_end (tile_bits tile)) [] (chain_end_item (tile_bits tile)) (All-nil IsItem))
+
+  pub config_printable : (mode : Mode) → IsModule (config_module mode tile)
+  config_printable mode =
+      let few = written.few_bits in
+      let whole = vector false (tile_bits tile) config_name in (
         module_named (codes "config_") tile.name refl refl refl written.name,
-        (((lit< tt, lit≤ tt), name_of frame_data_name refl), (((lit< tt, lit≤ tt), name_of frame_strobe_name refl), (((some, omega (arith, few)), config_identifier), tt))),
+        ports_of _ (All-append IsPort (config_ports mode) (whole ∷ []) (bit_ports_printable mode)
+            (All-cons IsPort whole [] ((some, omega (arith, few)), config_identifier) (All-nil IsPort))),
         items_of _ (All-append IsItem (counted (tile_bits tile) (λ bit. reg Scalar (latch_name bit))) _
             (all_counted IsItem (tile_bits tile) (λ bit. reg Scalar (latch_name bit)) (λ bit below. (tt, latch_is bit)))
-            (All-append IsItem (counted (tile_bits tile) (bit_latch tile)) _
-            (all_counted IsItem (tile_bits tile) (bit_latch tile) latch_item)
+            (All-append IsItem (keeping_items mode tile) _ (keeping_printable mode)
             (All-cons IsItem _ [] (config_identifier, latches) (All-nil IsItem)))),
       )

@@ -1,5 +1,5 @@
 -- The top module of a fabric is printable.
-use Rattle.std.proofs.Common.{◌≡◌, ℕ, ◌+◌, ◌-◌, ◌<◌, ◌≤◌, Bool, true, false, List, [], ◌∷◌, ◌++◌, map, length, get_or, slice_get, refl, sym, ap, subst, arith, lit<, lit≤, codes, Option, Some, None, All, Contains, cond, nat_eq, append-nil}
+use Rattle.std.proofs.Common.{◌≡◌, ℕ, ◌+◌, ◌-◌, ◌<◌, ◌≤◌, Bool, true, false, ◌&&◌, List, [], ◌∷◌, ◌++◌, map, length, get_or, slice_get, refl, sym, ap, subst, arith, lit<, lit≤, codes, Option, Some, None, All, Contains, cond, nat_eq, append-nil}
 use Rattle.std.specs.Fmt.{decimal}
 use Rattle.std.specs.List.{flat_map, enumerate_from, list_all}
 use Rattle.std.specs.Option.{ForSome, option_and_then}
@@ -12,6 +12,8 @@ use Rattle.fab_syntax.specs.declared.tree.Shape.TheVariants.{Scalar, Vector}
 use Rattle.fab_syntax.specs.Plain.{PlainItem, PlainJoin, variable, wire}
 use Rattle.fab_meaning.specs.Ports.{scalar}
 use Rattle.fab_prim.specs.Ports.{top_inputs, top_outputs}
+use Rattle.fab_model.specs.declared.mode.Mode.{Mode}
+use Rattle.fab_model.specs.declared.mode.Mode.TheVariants as modes
 use Rattle.fab_model.specs.declared.tiles.WireRow.{WireRow}
 use Rattle.fab_model.specs.declared.tiles.Bel.{Bel}
 use Rattle.fab_model.specs.Rows.{border_bits, is_jump}
@@ -22,13 +24,15 @@ use Rattle.fab_model.specs.Cascade.{PlacedRow, fitting, nth_row, opposite, partn
 use Rattle.fab_fabric.specs.Fabric.{IsFabric}
 use Rattle.fab_fabric.specs.Names.{place_name}
 use Rattle.fab_gen_tile.specs.Words.{IsFreeName}
-use Rattle.fab_gen_tile.specs.Names.{begin_name, border_name, end_name, frame_data_name, frame_strobe_name, port_join, letter, pad_name, same_join}
+use Rattle.fab_gen_tile.specs.Names.{begin_name, border_name, end_name, frame_data_name, frame_strobe_name, chain_in_name, chain_out_name, port_join, letter, pad_name, same_join}
 use Rattle.fab_gen_tile.specs.Borders.{side_border}
 use Rattle.fab_meaning.specs.Loading.{write_data_name, write_strobe_name}
 use Rattle.fab_gen_loader.specs.Loader.{loader_module_name, address_port, row_port, strobe_port}
-use Rattle.fab_drives_laws.specs.fab_fabric_text_defs_Names.{begin_wire_name, column_strobe_name, loader_instance_name, pad_port_name, top_module_name}
+use Rattle.fab_drives_laws.specs.fab_fabric_text_defs_Names.{begin_wire_name, chain_wire_name, column_strobe_name, loader_instance_name, pad_port_name, top_module_name}
 use Rattle.fab_drives_laws.specs.fab_fabric_text_defs_Places.{PlacedTile, placed_tiles}
-use Rattle.fab_drives_laws.specs.fab_fabric_text_defs_Top.{column_strobes, end_value, loader_instance, loader_joins, loader_wires, numbered_row, pad_joins, pad_ports, row_begin_wires, row_joins, tile_begin_wires, tile_instance, tile_joins, tile_pads, top_items, top_module}
+use Rattle.fab_drives_laws.specs.fab_fabric_text_defs_Mode.{text_mode}
+use Rattle.fab_drives_laws.specs.fab_fabric_text_defs_Chain.{chain_from, chain_source}
+use Rattle.fab_drives_laws.specs.fab_fabric_text_defs_Top.{carrying_items, chain_wire, column_strobes, config_joins, data_port, end_value, loader_instance, loader_joins, loader_wires, numbered_row, pad_joins, pad_ports, row_begin_wires, row_joins, tile_begin_wires, tile_instance, tile_joins, tile_pads, top_items, top_module}
 use Rattle.fab_drives_laws.proofs.Modules.{tile_of_types}
 use Rattle.fab_drives_laws.proofs.Places.{IsThere, all_placed}
 use Rattle.fab_tile_drives_laws.proofs.Endings.{all_counted, all_flat_map}
@@ -44,6 +48,7 @@ use Rattle.fab_text_reads_laws.proofs.Each.{IsPort, IsJoin, ports_of, joins_of, 
 use Rattle.fab_text_reads_laws.proofs.Words.{all_both, both_true, decimal_bytes, marked_before}
 use Rattle.fab_text_reads_laws.proofs.Tested.{name_of}
 use Rattle.fab_text_reads_laws.proofs.TileWords.{border_bytes, letter_byte, numbered_name, pad_named}
+use Rattle.fab_text_reads_laws.proofs.TileTexts.{chain_in_is, chain_out_is}
 use Rattle.fab_text_reads_laws.proofs.TileModules.{begin_is, end_is, either, join_is, made_is, same_is, variable_printable, clock_is, data_is, strobe_is}
 
 -- ---- names
@@ -64,6 +69,16 @@ pad_is x y bel port few bytes =
 
 wire_is : (x y : ℕ) (row : WireRow) (bit : ℕ) → ForSome row.source IsFreeName → IsIdentifier (begin_wire_name x y row bit)
 wire_is x y row bit free = at_place x y (codes "_" ++ border_name row.source bit) (all_both is_word_byte (codes "_") (border_name row.source bit) refl (border_bytes row.source bit free))
+
+chain_wire_is : (x y : ℕ) → IsIdentifier (chain_wire_name x y)
+chain_wire_is x y = at_place x y (codes "_fab_chain") refl
+
+-- what comes to a tile by a chain
+source_is : (before : List ℕ) (all : List PlacedTile) (x y : ℕ) → IsIdentifier before → IsIdentifier (chain_from before all x y)
+source_is before [] x y is = is
+source_is before (placed ∷ more) x y is =
+    either IsIdentifier (nat_eq placed.x x && nat_eq placed.y y) before (chain_from (chain_wire_name placed.x placed.y) more x y) is
+    (source_is (chain_wire_name placed.x placed.y) more x y (chain_wire_is placed.x placed.y))
 
 row_is : (y : ℕ) → IsIdentifier (row_port y)
 row_is y = numbered_name (codes "Row") y refl refl
@@ -92,6 +107,10 @@ unfolding keyword_of
 strobe_name_is = name_of strobe_port refl
 
 -- ---- ports
+
+words_printable : (mode : Mode) → IsPort (data_port mode)
+words_printable modes.Frames = ((lit< tt, lit≤ tt), write_data_is)
+words_printable modes.Chain = (tt, write_data_is)
 
 pads_of : (x y place : ℕ) → place < 26 → (kind : Kind) → All IsPort (map (λ port. scalar true (pad_port_name x y place port)) (top_inputs kind) ++ map (λ port. scalar false (pad_port_name x y place port)) (top_outputs kind))
 pads_of x y place few Lut4c = All-nil IsPort
@@ -148,6 +167,19 @@ strobes_is x =
     let long = length-digits 5 x in
     let zeros = length-digits 20 0 in
     (column_is x, (((strobe_name_is, ((address_is, lit≤ tt, lit≤ tt), (omega (arith, long), omega (arith, long)))), (address_is, lit≤ tt, lit≤ tt), (omega (arith, zeros), omega (arith, zeros))), lit≤ tt))
+
+-- ---- what carries the bits
+
+carried_printable : (mode : Mode) (fabric : PlainFabric) → All IsItem (carrying_items mode fabric)
+carried_printable modes.Frames fabric =
+    let strobe_wire = λ (x : ℕ). wire (Vector 20) (column_strobe_name x) in
+    All-append IsItem (loader_wires fabric.rows) _ (wires_of_loader fabric.rows)
+    (All-cons IsItem (loader_instance fabric.rows) _ (loader_is fabric.rows)
+    (All-append IsItem (counted fabric.columns strobe_wire) _ (all_counted IsItem fabric.columns strobe_wire (λ x few. ((lit< tt, lit≤ tt), column_is x)))
+    (all_counted IsItem fabric.columns column_strobes (λ x few. strobes_is x))))
+carried_printable modes.Chain fabric =
+    All-map IsItem chain_wire (placed_tiles fabric)
+    (λ k d few. let placed = get_or (placed_tiles fabric) k d in (tt, chain_wire_is placed.x placed.y))
 
 -- ---- the row next door
 
@@ -236,25 +268,39 @@ module _ (fabric : PlainFabric) (is : IsFabric fabric) (written : All IsWritten 
       all_joins (map (pad_join x y place) (top_inputs Io) ++ map (pad_join x y place) (top_outputs Io))
       (pad_joined x y place (codes "O_top") few refl, (pad_joined x y place (codes "I_top") few refl, (pad_joined x y place (codes "T_top") few refl, tt)))
 
+  bits_joined : (mode : Mode) (placed : PlacedTile) → All IsJoin (config_joins mode fabric placed)
+  bits_joined modes.Frames placed =
+      all_joins (config_joins modes.Frames fabric placed)
+      (join_is frame_data_name (row_port placed.y) data_is (row_is placed.y), (join_is frame_strobe_name (column_strobe_name placed.x) strobe_is (column_is placed.x), tt))
+  bits_joined modes.Chain placed =
+      let x = placed.x in
+      let y = placed.y in
+      all_joins (config_joins modes.Chain fabric placed) (
+        same_is clock_name loader_clock_is,
+        (
+          same_is write_strobe_name write_is,
+          (
+            join_is chain_in_name (chain_source fabric x y) chain_in_is (source_is write_data_name (placed_tiles fabric) x y write_data_is),
+            (join_is chain_out_name (chain_wire_name x y) chain_out_is (chain_wire_is x y), tt),
+          ),
+        ),
+      )
+
   joins_of_tile : (placed : PlacedTile) → Fits placed → All IsJoin (tile_joins fabric placed)
   joins_of_tile placed fits =
+      let mode = text_mode fabric in
       let rest = flat_map (row_joins fabric placed) (enumerate_from 0 placed.tile.rows) ++ flat_map (pad_joins placed.x placed.y) (enumerate_from 0 placed.tile.bels) in
       all_joins (tile_joins fabric placed) (
         same_is user_clock_name clock_is,
-        (
-          join_is frame_data_name (row_port placed.y) data_is (row_is placed.y),
-          (
-            join_is frame_strobe_name (column_strobe_name placed.x) strobe_is (column_is placed.x),
-            joins_of rest
-                (All-append IsJoin (flat_map (row_joins fabric placed) (enumerate_from 0 placed.tile.rows)) (flat_map (pad_joins placed.x placed.y) (enumerate_from 0 placed.tile.bels))
-                (all_flat_map IsJoin (row_joins fabric placed) (enumerate_from 0 placed.tile.rows) (each_placed (λ (numbered : ℕ × WireRow). All IsJoin (row_joins fabric placed numbered)) placed.tile.rows (row_joined placed fits)))
-                (all_flat_map IsJoin (pad_joins placed.x placed.y) (enumerate_from 0 placed.tile.bels)
-                (each_placed (λ (numbered : ℕ × Bel). All IsJoin (pad_joins placed.x placed.y numbered)) placed.tile.bels (λ place bel found.
-                let there = slice_get_within placed.tile.bels place bel found in
-                let few = fits.few_bels in
-                pads_by placed.x placed.y place (omega (arith, there, few)) bel.kind)))),
-          ),
-        ),
+        joins_of (config_joins mode fabric placed ++ rest)
+            (All-append IsJoin (config_joins mode fabric placed) rest (bits_joined mode placed)
+            (All-append IsJoin (flat_map (row_joins fabric placed) (enumerate_from 0 placed.tile.rows)) (flat_map (pad_joins placed.x placed.y) (enumerate_from 0 placed.tile.bels))
+            (all_flat_map IsJoin (row_joins fabric placed) (enumerate_from 0 placed.tile.rows) (each_placed (λ (numbered : ℕ × WireRow). All IsJoin (row_joins fabric placed numbered)) placed.tile.rows (row_joined placed fits)))
+            (all_flat_map IsJoin (pad_joins placed.x placed.y) (enumerate_from 0 placed.tile.bels)
+            (each_placed (λ (numbered : ℕ × Bel). All IsJoin (pad_joins placed.x placed.y numbered)) placed.tile.bels (λ place bel found.
+            let there = slice_get_within placed.tile.bels place bel found in
+            let few = fits.few_bels in
+            pads_by placed.x placed.y place (omega (arith, there, few)) bel.kind))))),
       )
 
   tile_is : (placed : PlacedTile) → Fits placed → IsItem (tile_instance fabric placed)
@@ -273,7 +319,7 @@ module _ (fabric : PlainFabric) (is : IsFabric fabric) (written : All IsWritten 
         (
           (tt, write_is),
           (
-            ((lit< tt, lit≤ tt), write_data_is),
+            words_printable (text_mode fabric),
             ports_of (flat_map tile_pads (placed_tiles fabric))
                 (all_flat_map IsPort tile_pads (placed_tiles fabric) (λ k d few. pads_printable (get_or (placed_tiles fabric) k d) (all_fit k d few))),
           ),
@@ -281,10 +327,7 @@ module _ (fabric : PlainFabric) (is : IsFabric fabric) (written : All IsWritten 
       ),
     ),
     items_of (top_items fabric)
-        (All-append IsItem (loader_wires fabric.rows) _ (wires_of_loader fabric.rows)
-        (All-cons IsItem (loader_instance fabric.rows) _ (loader_is fabric.rows)
-        (All-append IsItem (counted fabric.columns (λ x. wire (Vector 20) (column_strobe_name x))) _ (all_counted IsItem fabric.columns (λ x. wire (Vector 20) (column_strobe_name x)) (λ x few. ((lit< tt, lit≤ tt), column_is x)))
-        (All-append IsItem (counted fabric.columns column_strobes) _ (all_counted IsItem fabric.columns column_strobes (λ x few. strobes_is x))
+        (All-append IsItem (carrying_items (text_mode fabric) fabric) _ (carried_printable (text_mode fabric) fabric)
         (All-append IsItem (flat_map tile_begin_wires (placed_tiles fabric)) _ (all_flat_map IsItem tile_begin_wires (placed_tiles fabric) (λ k d few. begins_of (get_or (placed_tiles fabric) k d) (all_fit k d few)))
-        (All-map IsItem (tile_instance fabric) (placed_tiles fabric) (All-weaker Fits (λ placed. IsItem (tile_instance fabric placed)) tile_is (placed_tiles fabric) all_fit))))))),
+        (All-map IsItem (tile_instance fabric) (placed_tiles fabric) (All-weaker Fits (λ placed. IsItem (tile_instance fabric placed)) tile_is (placed_tiles fabric) all_fit)))),
   )

@@ -70,6 +70,28 @@ no_border side bit front few same =
     let digit : digit_value 116 < 10 = digits.0 in
     omega (arith, digit)
 
+-- ---- a wire of a chain
+
+chain_no_line : HasNoLine (codes "chain")
+chain_no_line [] ys same = let letters = ap (λ name. get_or name 0 0) same in omega (arith, letters)
+chain_no_line (a ∷ []) ys same = let letters = ap (λ name. get_or name 1 0) same in omega (arith, letters)
+chain_no_line (a ∷ b ∷ []) ys same = let letters = ap (λ name. get_or name 2 0) same in omega (arith, letters)
+chain_no_line (a ∷ b ∷ c ∷ []) ys same = let letters = ap (λ name. get_or name 3 0) same in omega (arith, letters)
+chain_no_line (a ∷ b ∷ c ∷ d ∷ []) ys same = let letters = ap (λ name. get_or name 4 0) same in omega (arith, letters)
+chain_no_line (a ∷ b ∷ c ∷ d ∷ e ∷ xs) ys same =
+    let lengths = ap length same in
+    let rest = length-append xs (95 ∷ ys) in
+    omega (arith, lengths, rest)
+
+-- its name ends in no number
+pub no_chain_border : (side : Option (List ℕ)) (bit : ℕ) → bit < 2 ^ 64 → border_name side bit ≢ codes "fab_chain"
+no_chain_border side bit few same =
+    let whole : side_text side ++ 95 ∷ decimal bit ≡ codes "fab" ++ 95 ∷ codes "chain" = sym (border_is side bit) ∙ same in
+    let numbers = (same_ends (side_text side) (codes "fab") (decimal bit) (codes "chain") (digits_no_line (decimal bit) (digits_of bit few)) chain_no_line whole).1 in
+    let digits : AllDigits 10 (codes "chain") = subst (AllDigits 10) numbers (digits_of bit few) in
+    let digit : digit_value 99 < 10 = digits.0 in
+    omega (arith, digit)
+
 -- ---- a place before `_`
 
 -- a name of a tile in the top

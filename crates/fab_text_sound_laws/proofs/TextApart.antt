@@ -10,6 +10,8 @@ use Rattle.fab_kinds.specs.declared.kind.Kind.TheVariants as kinds
 use Rattle.fab_syntax.specs.Plain.{PlainModule}
 use Rattle.fab_syntax.specs.Declarations.{module_named}
 use Rattle.fab_prim.specs.Modules.{module_name, module_of_kind}
+use Rattle.fab_model.specs.declared.mode.Mode.{Mode}
+use Rattle.fab_model.specs.declared.mode.Mode.TheVariants as modes
 use Rattle.fab_model.specs.Tiles.{PlainTile, tile_bits}
 use Rattle.fab_model.specs.Grid.{PlainFabric}
 use Rattle.fab_fabric.specs.Fabric.{IsFabric}
@@ -20,9 +22,10 @@ use Rattle.fab_drives_laws.specs.fab_gen_tile_MatrixModule.{matrix_module}
 use Rattle.fab_drives_laws.specs.fab_gen_loader_Expressions.{loader_module}
 use Rattle.fab_drives_laws.specs.fab_gen_loader_Loader.{loader_module_name}
 use Rattle.fab_drives_laws.specs.fab_fabric_text_defs_Names.{top_module_name}
+use Rattle.fab_drives_laws.specs.fab_fabric_text_defs_Mode.{text_mode}
 use Rattle.fab_drives_laws.specs.fab_fabric_text_defs_Top.{top_module}
 use Rattle.fab_drives_laws.specs.fab_fabric_text_defs_Text.{stands, standing_types, is_used, used_kinds, matrix_modules, config_modules, tile_modules}
-use Rattle.fab_drives_laws.specs.fab_fabric_text_defs_Texts.{generated_text}
+use Rattle.fab_drives_laws.specs.fab_fabric_text_defs_Texts.{loaders_of, generated_text}
 use Rattle.fab_drives_laws.proofs.Apart.{told_apart, one_of_name}
 use Rattle.fab_drives_laws.proofs.Lists.{all_of, only_one_found}
 use Rattle.fab_drives_laws.proofs.Modules.{kind_apart, no_loader_kind}
@@ -80,39 +83,39 @@ pub all_matrices : (P : PlainModule → Type 0) (tile : PlainTile) (outputs : Li
 all_matrices P tile [] is = All-nil P
 all_matrices P tile (output ∷ outputs) is = All-cons P (matrix_module tile) [] is (All-nil P)
 
-pub all_configs : (P : PlainModule → Type 0) (tile : PlainTile) (bits : ℕ) → P (config_module tile) → All P (config_modules tile bits)
-all_configs P tile zero is = All-nil P
-all_configs P tile (suc n) is = All-cons P (config_module tile) [] is (All-nil P)
+pub all_configs : (mode : Mode) (P : PlainModule → Type 0) (tile : PlainTile) (bits : ℕ) → P (config_module mode tile) → All P (config_modules mode tile bits)
+all_configs mode P tile zero is = All-nil P
+all_configs mode P tile (suc n) is = All-cons P (config_module mode tile) [] is (All-nil P)
 
 matrices_apart : (tile : PlainTile) (outputs : List (List ℕ)) → AllPairs NamesDiffer (matrix_modules tile outputs)
 matrices_apart tile [] = pairs_none NamesDiffer
 matrices_apart tile (output ∷ outputs) = one_alone NamesDiffer (matrix_module tile)
 
-configs_apart : (tile : PlainTile) (bits : ℕ) → AllPairs NamesDiffer (config_modules tile bits)
-configs_apart tile zero = pairs_none NamesDiffer
-configs_apart tile (suc n) = one_alone NamesDiffer (config_module tile)
+configs_apart : (mode : Mode) (tile : PlainTile) (bits : ℕ) → AllPairs NamesDiffer (config_modules mode tile bits)
+configs_apart mode tile zero = pairs_none NamesDiffer
+configs_apart mode tile (suc n) = one_alone NamesDiffer (config_module mode tile)
 
-all_of_one : (tile : PlainTile) → All (Owned tile) (tile_modules tile)
-all_of_one tile =
-    All-append (Owned tile) (matrix_modules tile (matrix_output_names tile)) (config_modules tile (tile_bits tile) ++ tile_module tile ∷ [])
+all_of_one : (mode : Mode) (tile : PlainTile) → All (Owned tile) (tile_modules mode tile)
+all_of_one mode tile =
+    All-append (Owned tile) (matrix_modules tile (matrix_output_names tile)) (config_modules mode tile (tile_bits tile) ++ tile_module mode tile ∷ [])
     (all_matrices (Owned tile) tile (matrix_output_names tile) of_matrix)
-    (All-append (Owned tile) (config_modules tile (tile_bits tile)) (tile_module tile ∷ []) (all_configs (Owned tile) tile (tile_bits tile) of_config)
-    (All-cons (Owned tile) (tile_module tile) [] of_whole (All-nil (Owned tile))))
+    (All-append (Owned tile) (config_modules mode tile (tile_bits tile)) (tile_module mode tile ∷ []) (all_configs mode (Owned tile) tile (tile_bits tile) of_config)
+    (All-cons (Owned tile) (tile_module mode tile) [] of_whole (All-nil (Owned tile))))
 
-parts_apart : (tile : PlainTile) → AllPairs NamesDiffer (tile_modules tile)
-parts_apart tile =
+parts_apart : (mode : Mode) (tile : PlainTile) → AllPairs NamesDiffer (tile_modules mode tile)
+parts_apart mode tile =
     let matrices = matrix_modules tile (matrix_output_names tile) in
-    let configs = config_modules tile (tile_bits tile) in
-    let whole = tile_module tile in
+    let configs = config_modules mode tile (tile_bits tile) in
+    let whole = tile_module mode tile in
     let matrix = matrix_module tile in
-    let config = config_module tile in
+    let config = config_module mode tile in
     pairs_append NamesDiffer matrices (configs ++ whole ∷ []) (matrices_apart tile (matrix_output_names tile))
-    (pairs_append NamesDiffer configs (whole ∷ []) (configs_apart tile (tile_bits tile)) (one_alone NamesDiffer whole)
-    (all_configs (λ m. All (NamesDiffer m) (whole ∷ [])) tile (tile_bits tile)
+    (pairs_append NamesDiffer configs (whole ∷ []) (configs_apart mode tile (tile_bits tile)) (one_alone NamesDiffer whole)
+    (all_configs mode (λ m. All (NamesDiffer m) (whole ∷ [])) tile (tile_bits tile)
     (All-cons (NamesDiffer config) whole [] (told_apart 0 (config_module_name tile) (tile_module_name tile) refl) (All-nil (NamesDiffer config)))))
     (all_matrices (λ m. All (NamesDiffer m) (configs ++ whole ∷ [])) tile (matrix_output_names tile)
     (All-append (NamesDiffer matrix) configs (whole ∷ [])
-    (all_configs (NamesDiffer matrix) tile (tile_bits tile) (told_apart 0 (matrix_module_name tile) (config_module_name tile) refl))
+    (all_configs mode (NamesDiffer matrix) tile (tile_bits tile) (told_apart 0 (matrix_module_name tile) (config_module_name tile) refl))
     (All-cons (NamesDiffer matrix) whole [] (told_apart 0 (matrix_module_name tile) (tile_module_name tile) refl) (All-nil (NamesDiffer matrix)))))
 
 -- ---- the kinds
@@ -145,29 +148,42 @@ record IsOfSome (m : PlainModule) : Type 0 where
   tile : PlainTile
   own : IsOfTile tile m.name
 
+-- what holds of the loader holds of the loaders of each mode
+pub all_loaders : (mode : Mode) (rows : ℕ) (P : PlainModule → Type 0) → P (loader_module rows) → All P (loaders_of mode rows)
+all_loaders modes.Frames rows P is = All-cons P (loader_module rows) [] is (All-nil P)
+all_loaders modes.Chain rows P is = All-nil P
+
+loaders_apart : (mode : Mode) (rows : ℕ) → AllPairs NamesDiffer (loaders_of mode rows)
+loaders_apart modes.Frames rows = one_alone NamesDiffer (loader_module rows)
+loaders_apart modes.Chain rows = pairs_none NamesDiffer
+
 pub text_apart : (fabric : PlainFabric) → IsFabric fabric → AllPairs NamesDiffer (generated_text fabric)
 text_apart fabric is =
-    let loader = loader_module fabric.rows in
+    let mode = text_mode fabric in
+    let loaders = loaders_of mode fabric.rows in
     let top = top_module fabric in
     let kinds_text = map module_of_kind (used_kinds fabric) in
-    let tiles_text = flat_map tile_modules (standing_types fabric) in
+    let tiles_text = flat_map (tile_modules mode) (standing_types fabric) in
     let of_tiles : All IsOfSome tiles_text =
-    all_flat_map IsOfSome tile_modules (standing_types fabric) (all_of (λ (tile : PlainTile). All IsOfSome (tile_modules tile)) (standing_types fabric) (λ tile.
-    All-weaker (Owned tile) IsOfSome (λ m own. record { tile = tile; own = own }) (tile_modules tile) (all_of_one tile))) in
-    pairs_append NamesDiffer kinds_text (tiles_text ++ loader ∷ top ∷ [])
+    all_flat_map IsOfSome (tile_modules mode) (standing_types fabric) (all_of (λ (tile : PlainTile). All IsOfSome (tile_modules mode tile)) (standing_types fabric) (λ tile.
+    All-weaker (Owned tile) IsOfSome (λ m own. record { tile = tile; own = own }) (tile_modules mode tile) (all_of_one mode tile))) in
+    pairs_append NamesDiffer kinds_text (tiles_text ++ (loaders ++ top ∷ []))
     (pairs_map NamesDiffer module_of_kind (used_kinds fabric) (pairs_kept KindsDiffer (is_used fabric) (kinds.Lut4c ∷ kinds.Io ∷ kinds.Mux8 ∷ []) kinds_apart))
-    (pairs_append NamesDiffer tiles_text (loader ∷ top ∷ [])
-    (pairs_flat NamesDiffer tile_modules (standing_types fabric)
-    (all_of (λ (tile : PlainTile). AllPairs NamesDiffer (tile_modules tile)) (standing_types fabric) parts_apart)
-    (pairs_weaker (λ (tile : PlainTile). Unit {0}) TypesDiffer (λ a b. Between NamesDiffer (tile_modules a) (tile_modules b)) (standing_types fabric)
-    (λ a b of_a of_b differ. between (Owned a) (Owned b) NamesDiffer (tile_modules a) (tile_modules b) (λ m n own_m own_n. tiles_differ a b differ m.name n.name own_m own_n) (all_of_one a) (all_of_one b))
+    (pairs_append NamesDiffer tiles_text (loaders ++ top ∷ [])
+    (pairs_flat NamesDiffer (tile_modules mode) (standing_types fabric)
+    (all_of (λ (tile : PlainTile). AllPairs NamesDiffer (tile_modules mode tile)) (standing_types fabric) (parts_apart mode))
+    (pairs_weaker (λ (tile : PlainTile). Unit {0}) TypesDiffer (λ a b. Between NamesDiffer (tile_modules mode a) (tile_modules mode b)) (standing_types fabric)
+    (λ a b of_a of_b differ. between (Owned a) (Owned b) NamesDiffer (tile_modules mode a) (tile_modules mode b) (λ m n own_m own_n. tiles_differ a b differ m.name n.name own_m own_n) (all_of_one mode a) (all_of_one mode b))
     (all_of (λ (tile : PlainTile). Unit {0}) (standing_types fabric) (λ tile. tt)) (standing_apart fabric is)))
-    (AllPairs-cons NamesDiffer loader (top ∷ []) (All-cons (NamesDiffer loader) top [] (told_apart 0 loader_module_name top_module_name refl) (All-nil (NamesDiffer loader))) (one_alone NamesDiffer top))
-    (All-weaker IsOfSome (λ m. All (NamesDiffer m) (loader ∷ top ∷ []))
-    (λ m of. All-cons (NamesDiffer m) loader (top ∷ []) (no_loader of.tile m.name of.own) (All-cons (NamesDiffer m) top [] (no_top of.tile m.name of.own) (All-nil (NamesDiffer m)))) tiles_text of_tiles))
-    (All-map (λ m. All (NamesDiffer m) (tiles_text ++ loader ∷ top ∷ [])) module_of_kind (used_kinds fabric)
-    (all_of (λ kind. All (NamesDiffer (module_of_kind kind)) (tiles_text ++ loader ∷ top ∷ [])) (used_kinds fabric) (λ kind.
-    All-append (NamesDiffer (module_of_kind kind)) tiles_text (loader ∷ top ∷ [])
+    (pairs_append NamesDiffer loaders (top ∷ []) (loaders_apart mode fabric.rows) (one_alone NamesDiffer top)
+    (all_loaders mode fabric.rows (λ m. All (NamesDiffer m) (top ∷ []))
+    (All-cons (NamesDiffer (loader_module fabric.rows)) top [] (told_apart 0 loader_module_name top_module_name refl) (All-nil (NamesDiffer (loader_module fabric.rows))))))
+    (All-weaker IsOfSome (λ m. All (NamesDiffer m) (loaders ++ top ∷ []))
+    (λ m of. All-append (NamesDiffer m) loaders (top ∷ []) (all_loaders mode fabric.rows (NamesDiffer m) (no_loader of.tile m.name of.own))
+    (All-cons (NamesDiffer m) top [] (no_top of.tile m.name of.own) (All-nil (NamesDiffer m)))) tiles_text of_tiles))
+    (All-map (λ m. All (NamesDiffer m) (tiles_text ++ (loaders ++ top ∷ []))) module_of_kind (used_kinds fabric)
+    (all_of (λ kind. All (NamesDiffer (module_of_kind kind)) (tiles_text ++ (loaders ++ top ∷ []))) (used_kinds fabric) (λ kind.
+    All-append (NamesDiffer (module_of_kind kind)) tiles_text (loaders ++ top ∷ [])
     (All-weaker IsOfSome (NamesDiffer (module_of_kind kind)) (λ m of. kind_apart kind m.name (high_letter of.tile m.name of.own)) tiles_text of_tiles)
-    (All-cons (NamesDiffer (module_of_kind kind)) loader (top ∷ []) (λ same. no_loader_kind kind (sym same))
+    (All-append (NamesDiffer (module_of_kind kind)) loaders (top ∷ []) (all_loaders mode fabric.rows (NamesDiffer (module_of_kind kind)) (λ same. no_loader_kind kind (sym same)))
     (All-cons (NamesDiffer (module_of_kind kind)) top [] (kind_apart kind top_module_name (omega arith)) (All-nil (NamesDiffer (module_of_kind kind))))))))

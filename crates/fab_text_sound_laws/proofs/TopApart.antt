@@ -20,7 +20,7 @@ use Rattle.fab_model.specs.Grid.{PlainFabric}
 use Rattle.fab_fabric.specs.Names.{place_name}
 use Rattle.fab_drives_laws.specs.fab_gen_tile_Names.{border_name, letter}
 use Rattle.fab_drives_laws.specs.fab_gen_tile_Borders.{side_border}
-use Rattle.fab_drives_laws.specs.fab_fabric_text_defs_Names.{pad_port_name, begin_wire_name}
+use Rattle.fab_drives_laws.specs.fab_fabric_text_defs_Names.{pad_port_name, chain_wire_name, begin_wire_name}
 use Rattle.fab_drives_laws.specs.fab_fabric_text_defs_Places.{PlacedTile}
 use Rattle.fab_drives_laws.specs.fab_fabric_text_defs_Top.{pad_ports, tile_pads, row_begin_wires, tile_begin_wires}
 use Rattle.fab_drives_laws.proofs.Apart.{told_apart}
@@ -28,7 +28,7 @@ use Rattle.fab_drives_laws.proofs.Lists.{all_of}
 use Rattle.fab_tiles_sound_laws.proofs.fab_parts_sound_laws_Lists.{all_counted, all_flat_map, pairs_none}
 use Rattle.fab_tiles_sound_laws.proofs.fab_parts_sound_laws_Names.{Differ}
 use Rattle.fab_text_sound_laws.proofs.Pairs.{Between, pairs_weaker, between, one_each_way, one_alone, pairs_flat, numbers_apart}
-use Rattle.fab_text_sound_laws.proofs.Ends.{named_at, same_named, no_place, no_border}
+use Rattle.fab_text_sound_laws.proofs.Ends.{named_at, same_named, no_place, no_border, no_chain_border}
 use Rattle.fab_text_sound_laws.proofs.Sides.{RowsApart, HasFewBits, rows_apart, few_bits, sides_between, bits_apart}
 use Rattle.fab_text_sound_laws.proofs.Standing.{IsStanding}
 
@@ -55,7 +55,7 @@ head name = get_or name 0 0
 pub one_name : (P : List ℕ → Type 0) (name : List ℕ) → P name → All P (name ∷ [])
 one_name P name holds = All-cons P name [] holds (All-nil P)
 
--- ---- three sorts of names of a tile
+-- ---- four sorts of names of a tile
 
 pub record IsBeginAt (x y : ℕ) (name : List ℕ) : Type 0 where
   pub side : Option (List ℕ)
@@ -85,6 +85,13 @@ pub record IsPad (name : List ℕ) : Type 0 where
   pub few_y : y < 32
   pub at : IsTilePad x y name
 
+pub record IsChainWire (name : List ℕ) : Type 0 where
+  pub x : ℕ
+  pub y : ℕ
+  pub few_x : x < 32
+  pub few_y : y < 32
+  pub is : name ≡ named_at x y (codes "fab_chain")
+
 pub record IsPlaceName (name : List ℕ) : Type 0 where
   pub x : ℕ
   pub y : ℕ
@@ -103,11 +110,17 @@ begin_of_tile x y name at = record { rest = border_name at.side at.bit; is = at.
 pub pad_of_tile : (x y : ℕ) (name : List ℕ) → IsTilePad x y name → IsOfTile x y name
 pad_of_tile x y name pad = record { rest = (letter pad.bel ∷ 95 ∷ pad.at.middle ∷ []) ++ 95 ∷ codes "top"; is = pad.at.is }
 
+pub chain_of_tile : (x y : ℕ) → IsOfTile x y (chain_wire_name x y)
+chain_of_tile x y = record { rest = codes "fab_chain"; is = refl }
+
 pub begin_head : (name : List ℕ) → IsBegin name → head name ≡ 88
 begin_head name is = ap head is.at.is
 
 pub pad_head : (name : List ℕ) → IsPad name → head name ≡ 88
 pad_head name is = ap head is.at.at.is
+
+pub chain_head : (name : List ℕ) → IsChainWire name → head name ≡ 88
+chain_head name is = ap head is.is
 
 pub place_head : (name : List ℕ) → IsPlaceName name → head name ≡ 88
 place_head name is = ap head is.is
@@ -133,6 +146,22 @@ begin_no_place a b begin place same =
 pub pad_no_place : (a b : List ℕ) → IsPad a → IsPlaceName b → a ≢ b
 pad_no_place a b pad place same =
     no_place place.x place.y pad.x pad.y ((letter pad.at.bel ∷ 95 ∷ pad.at.at.middle ∷ []) ++ 95 ∷ codes "top") place.few_x place.few_y pad.few_x pad.few_y (sym place.is ∙ sym same ∙ pad.at.at.is)
+
+pub chain_no_begin : (a b : List ℕ) → IsChainWire a → IsBegin b → a ≢ b
+chain_no_begin a b chain begin same =
+    let parts = same_named begin.x begin.y chain.x chain.y (border_name begin.at.side begin.at.bit) (codes "fab_chain") begin.few_x begin.few_y chain.few_x chain.few_y (sym begin.at.is ∙ sym same ∙ chain.is) in
+    no_chain_border begin.at.side begin.at.bit begin.at.few parts.2
+
+pub chain_no_place : (a b : List ℕ) → IsChainWire a → IsPlaceName b → a ≢ b
+chain_no_place a b chain place same =
+    no_place place.x place.y chain.x chain.y (codes "fab_chain") place.few_x place.few_y chain.few_x chain.few_y (sym place.is ∙ sym same ∙ chain.is)
+
+-- behind the place a pad has one letter and `_`
+pub pad_no_chain : (a b : List ℕ) → IsPad a → IsChainWire b → a ≢ b
+pad_no_chain a b pad chain same =
+    let rest = (letter pad.at.bel ∷ 95 ∷ pad.at.at.middle ∷ []) ++ 95 ∷ codes "top" in
+    let parts = same_named pad.x pad.y chain.x chain.y rest (codes "fab_chain") pad.few_x pad.few_y chain.few_x chain.few_y (sym pad.at.at.is ∙ same ∙ chain.is) in
+    told_apart 1 rest (codes "fab_chain") refl parts.2
 
 -- ---- the begin wires of a tile
 

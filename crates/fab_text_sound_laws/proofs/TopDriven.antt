@@ -1,9 +1,9 @@
 -- Each wire and each output of the top is driven once, and its inputs never.
-use Rattle.std.proofs.Common.{◌≡◌, ◌≢◌, ℕ, ◌+◌, ◌<◌, Bool, true, false, List, [], ◌∷◌, ◌++◌, map, refl, sym, ap, ◌∙◌, inl, inr, arith, Some, All, Contains, append-nil}
+use Rattle.std.proofs.Common.{◌≡◌, ◌≢◌, ℕ, ◌+◌, ◌<◌, Bool, true, false, List, [], ◌∷◌, ◌++◌, map, refl, sym, ap, ◌∙◌, subst, inl, inr, arith, Some, All, Contains, append-nil}
 use Rattle.std.specs.List.{flat_map, enumerate_from, AllZip}
 use Rattle.std.proofs.lemmas.Bool.{cases_Bool}
 use Rattle.std.proofs.lemmas.List.Concat.{flat_map-append}
-use Rattle.std.proofs.lemmas.List.Elements.{All-nil, All-cons, All-head, All-tail, All-weaker, All-contains, All-contains_itself}
+use Rattle.std.proofs.lemmas.List.Elements.{All-nil, All-cons, All-head, All-tail, All-weaker, All-map, All-contains, All-contains_itself}
 use Rattle.std.proofs.lemmas.List.Kept.{AllPairs-cons}
 use Rattle.fab_kinds.specs.declared.kind.Kind.TheVariants as kinds
 use Rattle.fab_kinds.specs.declared.kind.Kind.{Kind}
@@ -15,6 +15,8 @@ use Rattle.fab_syntax.specs.Sound.{DirectionFits, PortIsDriven, ItemIsDriven}
 use Rattle.fab_meaning.specs.Runs.{clock_name}
 use Rattle.fab_meaning.specs.Loading as loading
 use Rattle.fab_meaning.specs.Ports.{scalar}
+use Rattle.fab_model.specs.declared.mode.Mode.{Mode}
+use Rattle.fab_model.specs.declared.mode.Mode.TheVariants as modes
 use Rattle.fab_model.specs.declared.tiles.WireRow.{WireRow}
 use Rattle.fab_model.specs.declared.tiles.Bel.{Bel}
 use Rattle.fab_model.specs.Rows.{is_jump}
@@ -25,6 +27,7 @@ use Rattle.fab_fabric.specs.Fabric.{IsFabric, AreTiles}
 use Rattle.fab_drives_laws.specs.fab_gen_tile_Names.{begin_name, end_name, port_join, same_join}
 use Rattle.fab_drives_laws.specs.fab_gen_tile_Words.{IsNamed}
 use Rattle.fab_drives_laws.specs.fab_gen_tile_Borders.{side_border, border_ports}
+use Rattle.fab_drives_laws.specs.fab_gen_tile_ConfigModule.{config_ports}
 use Rattle.fab_drives_laws.specs.fab_gen_tile_TileModule.{tile_ports, tile_module, bels_ports}
 use Rattle.fab_drives_laws.specs.fab_gen_tile_TileModule as tiles
 use Rattle.fab_drives_laws.specs.fab_gen_loader_Loader.{loader_module_name, loader_ports, address_port, strobe_port, row_port}
@@ -32,7 +35,9 @@ use Rattle.fab_drives_laws.specs.fab_gen_loader_Loader as loaders
 use Rattle.fab_drives_laws.specs.fab_gen_loader_Expressions.{loader_module}
 use Rattle.fab_drives_laws.specs.fab_fabric_text_defs_Names.{column_strobe_name, begin_wire_name}
 use Rattle.fab_drives_laws.specs.fab_fabric_text_defs_Places.{PlacedTile, placed_tiles}
-use Rattle.fab_drives_laws.specs.fab_fabric_text_defs_Top.{pad_ports, tile_pads, top_ports, loader_wires, loader_joins, loader_instance, column_strobes, row_begin_wires, tile_begin_wires, end_value, numbered_row, row_joins, pad_joins, tile_joins, tile_instance, top_items, top_module}
+use Rattle.fab_drives_laws.specs.fab_fabric_text_defs_Mode.{text_mode}
+use Rattle.fab_drives_laws.specs.fab_fabric_text_defs_Texts.{loaders_of}
+use Rattle.fab_drives_laws.specs.fab_fabric_text_defs_Top.{pad_ports, tile_pads, top_ports, loader_wires, loader_joins, loader_instance, column_strobes, chain_wire, carrying_items, row_begin_wires, tile_begin_wires, end_value, numbered_row, row_joins, pad_joins, config_joins, tile_joins, tile_instance, top_items, top_module}
 use Rattle.fab_drives_laws.proofs.Apart.{told_apart}
 use Rattle.fab_drives_laws.proofs.Lists.{all_of}
 use Rattle.fab_drives_laws.proofs.Modules.{tile_of_types}
@@ -81,20 +86,28 @@ loader_ports_apart rows few =
     (AllPairs-cons PortsDiffer out others (each out (λ y. told_apart 0 strobe_port (row_port y) refl))
     (pairs_counted PortsDiffer rows (λ row. loaders.port false (Vector 32) (row_port row)) (λ i j before within. rows_differ i j before (omega arith))))))))
 
-pub tile_ports_apart : (tile : PlainTile) → IsTile tile → IsNamed tile → AreApart (map port_name (tile_ports tile))
-tile_ports_apart tile is named = pairs_left Differ (map port_name (tile_ports tile)) (net_names (declarations tile)) (nets_apart tile is named)
+pub tile_ports_apart : (mode : Mode) (tile : PlainTile) → IsTile tile → IsNamed tile → AreApart (map port_name (tile_ports mode tile))
+tile_ports_apart mode tile is named = pairs_left Differ (map port_name (tile_ports mode tile)) (net_names (declarations tile)) (nets_apart mode tile is named)
 
-pub loader_found : (fabric : PlainFabric) (modules : List PlainModule) → HasTopModules modules fabric → module_named modules loader_module_name ≡ Some (loader_module fabric.rows)
-loader_found fabric modules has = All-head (λ loader. module_named modules loader.name ≡ Some loader) (loader_module fabric.rows) [] has.loaders_are
+pub loader_found : (fabric : PlainFabric) (modules : List PlainModule) → text_mode fabric ≡ modes.Frames → HasTopModules modules fabric →
+    module_named modules loader_module_name ≡ Some (loader_module fabric.rows)
+loader_found fabric modules frames has =
+    let IsFound = λ (loader : PlainModule). module_named modules loader.name ≡ Some loader in
+    All-head IsFound (loader_module fabric.rows) [] (subst (λ mode. All IsFound (loaders_of mode fabric.rows)) frames has.loaders_are)
+
+-- what a tile passes on of what carries the bits: in a chain the wire behind it
+abbrev passed_on : Mode → PlacedTile → List PlainItem
+passed_on modes.Frames p = []
+passed_on modes.Chain p = chain_wire p ∷ []
 
 module _ (fabric : PlainFabric) where
   -- ---- what the loader drives
 
-  loader_drives : fabric.rows < 32 → joined_names (Some (loader_module fabric.rows)) (loader_joins fabric.rows) ≡ net_names (loader_wires fabric.rows)
-  loader_drives few =
+  loader_drives : text_mode fabric ≡ modes.Frames → fabric.rows < 32 → joined_names (Some (loader_module fabric.rows)) (loader_joins fabric.rows) ≡ net_names (loader_wires fabric.rows)
+  loader_drives frames few =
       let ports = loader_ports fabric.rows in
       outs_are (loader_module fabric.rows) (loader_joins fabric.rows) ports
-      (matched_weaker (Joining fabric) SameName (λ join port right. right.0) (loader_joins fabric.rows) ports (loader_matched fabric))
+      (matched_weaker (Joining fabric) SameName (λ join port right. right.0) (loader_joins fabric.rows) ports (loader_matched fabric frames))
       (directions ports (loader_ports_apart fabric.rows few))
       ∙ ap (λ rest. address_port ∷ strobe_port ∷ rest)
       (outs_counted fabric.rows (λ y. same_join (row_port y)) (λ row. loaders.port false (Vector 32) (row_port row)) row_port (λ y. refl)
@@ -167,16 +180,32 @@ module _ (fabric : PlainFabric) where
         ∙ (λ j. bel_drives first.0 first.1.kind first.1.prefix j ++ bels_drive placed j)
         ∙ sym (out_append (pad_ports p.x p.y first) (flat_map (pad_ports p.x p.y) placed))
 
-    tile_drives : AreTiles fabric → IsStanding fabric p → IsNamed p.tile → joined_names (Some (tile_module p.tile)) (tile_joins fabric p) ≡ net_names (tile_begin_wires p) ++ out_names (tile_pads p)
+    same_config : (mode : Mode) → AllZip SameName (config_joins mode fabric p) (config_ports mode)
+    same_config modes.Frames = (refl, (refl, tt))
+    same_config modes.Chain = (refl, (refl, (refl, (refl, tt))))
+
+    config_drives : (mode : Mode) → outs (config_joins mode fabric p) (config_ports mode) ≡ net_names (passed_on mode p)
+    config_drives modes.Frames = refl
+    config_drives modes.Chain = refl
+
+    tile_drives : AreTiles fabric → IsStanding fabric p → IsNamed p.tile →
+        joined_names (Some (tile_module (text_mode fabric) p.tile)) (tile_joins fabric p)
+        ≡ net_names (passed_on (text_mode fabric) p) ++ (net_names (tile_begin_wires p) ++ out_names (tile_pads p))
     tile_drives are stands named =
+        let mode = text_mode fabric in
         let rows = flat_map (row_joins fabric p) (enumerate_from 0 p.tile.rows) in
-        outs_are (tile_module p.tile) (tile_joins fabric p) (tile_ports p.tile)
-        (matched_weaker (Joining fabric) SameName (λ join port right. right.0) (tile_joins fabric p) (tile_ports p.tile) (tile_matched fabric are p stands))
-        (directions (tile_ports p.tile) (tile_ports_apart p.tile stands.is_tile named))
-        ∙ outs_append rows (flat_map (pad_joins p.x p.y) (enumerate_from 0 p.tile.bels)) (flat_map border_ports p.tile.rows) (bels_ports p.tile.bels)
+        let pads = flat_map (pad_joins p.x p.y) (enumerate_from 0 p.tile.bels) in
+        let borders = flat_map border_ports p.tile.rows in
+        let behind : outs (rows ++ pads) (borders ++ bels_ports p.tile.bels) ≡ net_names (tile_begin_wires p) ++ out_names (tile_pads p) =
+        outs_append rows pads borders (bels_ports p.tile.bels)
         (matched_numbered SameName (row_joins fabric p) border_ports 0 p.tile.rows
         (all_of (λ (numbered : ℕ × WireRow). AllZip SameName (row_joins fabric p numbered) (border_ports numbered.1)) (enumerate_from 0 p.tile.rows) (λ numbered. same_row numbered.0 numbered.1)))
-        ∙ (λ j. rows_drive 0 p.tile.rows j ++ bels_drive (enumerate_from 0 p.tile.bels) j)
+        ∙ (λ j. rows_drive 0 p.tile.rows j ++ bels_drive (enumerate_from 0 p.tile.bels) j) in
+        outs_are (tile_module mode p.tile) (tile_joins fabric p) (tile_ports mode p.tile)
+        (matched_weaker (Joining fabric) SameName (λ join port right. right.0) (tile_joins fabric p) (tile_ports mode p.tile) (tile_matched fabric are p stands))
+        (directions (tile_ports mode p.tile) (tile_ports_apart mode p.tile stands.is_tile named))
+        ∙ outs_append (config_joins mode fabric p) (rows ++ pads) (config_ports mode) (borders ++ bels_ports p.tile.bels) (same_config mode)
+        ∙ (λ j. config_drives mode j ++ behind j)
 
   -- ---- all that is driven
 
@@ -214,22 +243,37 @@ module _ (fabric : PlainFabric) where
       both_outputs : (xs ys : List Port) → outputs (xs ++ ys) ≡ outputs xs + outputs ys
       both_outputs xs ys = ap (λ names. times names name) (out_append xs ys) ∙ times_both (out_names xs) (out_names ys) name
 
-      tile_times : (p : PlacedTile) → IsStanding fabric p → times (item_drives text (tile_instance fabric p)) name ≡ declared (tile_begin_wires p) + outputs (tile_pads p)
+      abbrev mode : Mode
+      mode = text_mode fabric
+
+      tile_times : (p : PlacedTile) → IsStanding fabric p →
+          times (item_drives text (tile_instance fabric p)) name ≡ declared (passed_on mode p) + (declared (tile_begin_wires p) + outputs (tile_pads p))
       tile_times p stands =
           ap (λ of. times (joined_names of (tile_joins fabric p)) name) (has.tiles_are p.x p.y p.tile stands.there)
           ∙ ap (λ names. times names name) (tile_drives p are stands (named_tile p stands))
-          ∙ times_both (net_names (tile_begin_wires p)) (out_names (tile_pads p)) name
+          ∙ times_both (net_names (passed_on mode p)) (net_names (tile_begin_wires p) ++ out_names (tile_pads p)) name
+          ∙ ap (λ n. declared (passed_on mode p) + n) (times_both (net_names (tile_begin_wires p)) (out_names (tile_pads p)) name)
 
       tiles_times : (placed : List PlacedTile) → All (IsStanding fabric) placed →
-          driven (map (tile_instance fabric) placed) ≡ declared (flat_map tile_begin_wires placed) + outputs (flat_map tile_pads placed)
+          driven (map (tile_instance fabric) placed)
+          ≡ declared (flat_map (passed_on mode) placed) + (declared (flat_map tile_begin_wires placed) + outputs (flat_map tile_pads placed))
       tiles_times [] stand = refl
       tiles_times (p ∷ placed) stand =
           let here = tile_times p (All-head (IsStanding fabric) p placed stand) in
           let later = tiles_times placed (All-tail (IsStanding fabric) p placed stand) in
           let split = times_both (item_drives text (tile_instance fabric p)) (drives (map (tile_instance fabric) placed)) name in
+          let passed = both_declared (passed_on mode p) (flat_map (passed_on mode) placed) in
           let wires = both_declared (tile_begin_wires p) (flat_map tile_begin_wires placed) in
           let ports = both_outputs (tile_pads p) (flat_map tile_pads placed) in
-          omega (arith, here, later, split, wires, ports)
+          omega (arith, here, later, split, passed, wires, ports)
+
+      none_passed : (placed : List PlacedTile) → declared (flat_map (passed_on modes.Frames) placed) ≡ 0
+      none_passed [] = refl
+      none_passed (p ∷ placed) = none_passed placed
+
+      all_passed : (placed : List PlacedTile) → flat_map (passed_on modes.Chain) placed ≡ map chain_wire placed
+      all_passed [] = refl
+      all_passed (p ∷ placed) = ap (λ rest. chain_wire p ∷ rest) (all_passed placed)
 
       no_instance_nets : (placed : List PlacedTile) → declared (map (tile_instance fabric) placed) ≡ 0
       no_instance_nets [] = refl
@@ -283,47 +327,62 @@ module _ (fabric : PlainFabric) where
           (no_drives begins (all_flat_map DrivesNone tile_begin_wires placed (all_of (λ (p : PlacedTile). All DrivesNone (tile_begin_wires p)) placed (λ p.
           all_flat_map DrivesNone (row_begin_wires p.x p.y) p.tile.rows (all_of (λ (row : WireRow). All DrivesNone (row_begin_wires p.x p.y row)) p.tile.rows (row_begins_none p.x p.y))))))
 
-      loader_times : driven (loader_instance fabric.rows ∷ []) ≡ declared loader_part
-      loader_times =
-          ap (λ of. times (joined_names of (loader_joins fabric.rows) ++ []) name) (loader_found fabric text has)
-          ∙ ap (λ names. times names name) (append-nil (joined_names (Some (loader_module fabric.rows)) (loader_joins fabric.rows)) ∙ loader_drives few_rows)
+      loader_times : text_mode fabric ≡ modes.Frames → driven (loader_instance fabric.rows ∷ []) ≡ declared loader_part
+      loader_times frames =
+          ap (λ of. times (joined_names of (loader_joins fabric.rows) ++ []) name) (loader_found fabric text frames has)
+          ∙ ap (λ names. times names name) (append-nil (joined_names (Some (loader_module fabric.rows)) (loader_joins fabric.rows)) ∙ loader_drives frames few_rows)
 
       assigned_times : driven assigned ≡ declared strobe_wires
       assigned_times =
           ap (λ names. times names name)
           (one_each (item_drives text) fabric.columns column_strobes column_strobe_name (λ x. refl) ∙ sym (counted_wires (Vector 20) fabric.columns column_strobe_name))
 
-      -- as often as it is an output or a wire
-      pub top_times : driven (top_items fabric) ≡ outputs (top_ports fabric) + declared (top_items fabric)
-      top_times =
+      -- what carries the bits and what the tiles pass on drive its wires
+      carried_times : (mode : Mode) → text_mode fabric ≡ mode → driven (carrying_items mode fabric) + declared (flat_map (passed_on mode) placed) ≡ declared (carrying_items mode fabric)
+      carried_times modes.Frames frames =
           let no_assigned : declared assigned ≡ 0 = no_wire assigned name (all_counted (AllNames (Differ name)) fabric.columns column_strobes (λ x few. All-nil (Differ name))) in
           let one = loader_instance fabric.rows ∷ [] in
-          let drives_of_all = both_driven loader_part (one ++ (strobe_wires ++ (assigned ++ (begins ++ instances)))) in
-          let drives_of_rest = both_driven one (strobe_wires ++ (assigned ++ (begins ++ instances))) in
-          let drives_of_strobes = both_driven strobe_wires (assigned ++ (begins ++ instances)) in
-          let drives_of_assigns = both_driven assigned (begins ++ instances) in
-          let drives_of_tiles = both_driven begins instances in
-          let nets_of_all = both_declared loader_part (one ++ (strobe_wires ++ (assigned ++ (begins ++ instances)))) in
-          let nets_of_strobes = both_declared strobe_wires (assigned ++ (begins ++ instances)) in
-          let nets_of_assigns = both_declared assigned (begins ++ instances) in
-          let nets_of_tiles = both_declared begins instances in
+          let drives_of_all = both_driven loader_part (one ++ (strobe_wires ++ assigned)) in
+          let drives_of_rest = both_driven one (strobe_wires ++ assigned) in
+          let drives_of_strobes = both_driven strobe_wires assigned in
+          let nets_of_all = both_declared loader_part (one ++ (strobe_wires ++ assigned)) in
+          let nets_of_strobes = both_declared strobe_wires assigned in
           omega (
             arith,
             no_assigned,
             drives_of_all,
             drives_of_rest,
             drives_of_strobes,
-            drives_of_assigns,
-            drives_of_tiles,
             nets_of_all,
             nets_of_strobes,
-            nets_of_assigns,
-            nets_of_tiles,
             no_loader_drives,
             no_strobe_drives,
-            no_begin_drives,
-            loader_times,
+            loader_times frames,
             assigned_times,
+            none_passed placed,
+          )
+      carried_times modes.Chain chain =
+          let none : driven (map chain_wire placed) ≡ 0 =
+          ap (λ names. times names name) (no_drives (map chain_wire placed) (All-map DrivesNone chain_wire placed (all_of (λ (p : PlacedTile). DrivesNone (chain_wire p)) placed (λ p. refl)))) in
+          let passed = ap declared (all_passed placed) in
+          omega (arith, none, passed)
+
+      -- as often as it is an output or a wire
+      pub top_times : driven (top_items fabric) ≡ outputs (top_ports fabric) + declared (top_items fabric)
+      top_times =
+          let carried = carrying_items mode fabric in
+          let drives_of_all = both_driven carried (begins ++ instances) in
+          let drives_of_tiles = both_driven begins instances in
+          let nets_of_all = both_declared carried (begins ++ instances) in
+          let nets_of_tiles = both_declared begins instances in
+          omega (
+            arith,
+            drives_of_all,
+            drives_of_tiles,
+            nets_of_all,
+            nets_of_tiles,
+            carried_times mode refl,
+            no_begin_drives,
             tiles_times placed (all_standing fabric is are),
             no_instance_nets placed,
           )
@@ -349,7 +408,7 @@ module _ (fabric : PlainFabric) where
     top = top_module fabric
 
     plain_items : All IsPlainItem (top_items fabric)
-    plain_items = all_of_items fabric is are IsPlainItem (λ shape name. tt) (λ x few. tt) tt (λ p stands. tt)
+    plain_items = all_of_items fabric is are IsPlainItem (λ shape name. tt) (λ frames x few. tt) (λ frames. tt) (λ p stands. tt)
 
     item_is_driven : (item : PlainItem) → Contains (top_items fabric) item → ItemIsDriven text top item
     item_is_driven (wire shape name) there =

@@ -1,5 +1,5 @@
 -- The names of the top fit, and each of its nets has its shape.
-use Rattle.std.proofs.Common.{◌≡◌, ◌≢◌, ℕ, ◌<◌, Bool, true, false, List, [], ◌∷◌, ◌++◌, map, refl, ap, ◌∙◌, inl, inr, arith, Option, Some, None, All, AllPairs, Contains}
+use Rattle.std.proofs.Common.{◌≡◌, ◌≢◌, ℕ, ◌<◌, Bool, true, false, List, [], ◌∷◌, ◌++◌, map, refl, sym, ap, ◌∙◌, subst, inl, inr, append_assoc, arith, Option, Some, None, All, AllPairs, Contains}
 use Rattle.std.specs.List.{flat_map}
 use Rattle.std.specs.Str.{bytes_eq}
 use Rattle.std.proofs.lemmas.List.Elements.{All-nil, All-cons, All-append, All-head, All-tail, All-weaker, All-contains, All-contains_itself, Contains-append_left, Contains-append_right, All-map}
@@ -13,6 +13,8 @@ use Rattle.fab_syntax.specs.Plain.{PlainExpr, PlainItem, constant, variable, par
 use Rattle.fab_syntax.specs.Declarations.{item_shape, declared_shape}
 use Rattle.fab_syntax.specs.Sound.{use_of, uses, item_mentions, refusals, mentions_in}
 use Rattle.fab_meaning.proofs.Declared.{bytes_apart}
+use Rattle.fab_model.specs.declared.mode.Mode.{Mode}
+use Rattle.fab_model.specs.declared.mode.Mode.TheVariants as modes
 use Rattle.fab_model.specs.declared.tiles.WireRow.{WireRow}
 use Rattle.fab_model.specs.Rows.{is_jump}
 use Rattle.fab_model.specs.Tiles.{counted}
@@ -20,7 +22,7 @@ use Rattle.fab_model.specs.Grid.{PlainFabric}
 use Rattle.fab_fabric.specs.Names.{place_name}
 use Rattle.fab_fabric.specs.Fabric.{IsFabric, AreTiles}
 use Rattle.fab_meaning.specs.Ports.{scalar}
-use Rattle.fab_drives_laws.specs.fab_gen_tile_Names.{vector, same_join, tile_module_name}
+use Rattle.fab_drives_laws.specs.fab_gen_tile_Names.{same_join, tile_module_name}
 use Rattle.fab_drives_laws.specs.fab_gen_tile_Borders.{side_border}
 use Rattle.fab_drives_laws.specs.fab_gen_tile_TileModule.{tile_ports}
 use Rattle.fab_meaning.specs.Loading.{write_strobe_name, write_data_name}
@@ -28,7 +30,8 @@ use Rattle.fab_drives_laws.specs.fab_gen_loader_Loader.{loader_module_name, addr
 use Rattle.fab_drives_laws.specs.fab_fabric_text_defs_Names.{loader_instance_name, column_strobe_name, begin_wire_name}
 use Rattle.fab_meaning.specs.Runs.{clock_name}
 use Rattle.fab_drives_laws.specs.fab_fabric_text_defs_Places.{PlacedTile, placed_tiles}
-use Rattle.fab_drives_laws.specs.fab_fabric_text_defs_Top.{top_ports, loader_wires, loader_joins, loader_instance, names_column, column_strobes, row_begin_wires, tile_begin_wires, tile_joins, tile_instance, top_items, top_module}
+use Rattle.fab_drives_laws.specs.fab_fabric_text_defs_Mode.{text_mode}
+use Rattle.fab_drives_laws.specs.fab_fabric_text_defs_Top.{data_port, top_ports, loader_wires, loader_joins, loader_instance, names_column, column_strobes, chain_wire, carrying_items, row_begin_wires, tile_begin_wires, tile_joins, tile_instance, top_items, top_module}
 use Rattle.fab_drives_laws.proofs.Lists.{none_there, first_or_later, all_of, all_if}
 use Rattle.fab_tiles_sound_laws.proofs.fab_parts_sound_laws_Declared.{port_names}
 use Rattle.fab_tiles_sound_laws.proofs.fab_parts_sound_laws_Lists.{all_counted, all_flat_map, pairs_none, pairs_append, pairs_head, pairs_tail, contains_first, contains_later, contains_map, contains_counted}
@@ -177,11 +180,16 @@ module _ (fabric : PlainFabric) (is : IsFabric fabric) (are : AreTiles fabric) w
   abbrev at_strobes : List (List ℕ)
   at_strobes = net_names strobe_part ++ at_loader
 
-  abbrev at_begins : List (List ℕ)
-  at_begins = net_names assigned ++ at_strobes
+  abbrev chain_wires : List PlainItem
+  chain_wires = map chain_wire (placed_tiles fabric)
 
-  abbrev at_tiles : List (List ℕ)
-  at_tiles = net_names begins ++ at_begins
+  -- behind what carries the bits
+  abbrev at_begins : Mode → List (List ℕ)
+  at_begins modes.Frames = net_names assigned ++ at_strobes
+  at_begins modes.Chain = net_names chain_wires ++ port_names ports
+
+  abbrev at_tiles : Mode → List (List ℕ)
+  at_tiles mode = net_names begins ++ at_begins mode
 
   -- ---- the loader
 
@@ -207,7 +215,7 @@ module _ (fabric : PlainFabric) (is : IsFabric fabric) (are : AreTiles fabric) w
       (port_at_loader (scalar true clock_name) (0, omega arith, refl))
       (All-cons (Joins at_loader) (same_join write_strobe_name) (same_join write_data_name ∷ same_join address_port ∷ same_join strobe_port ∷ rows)
       (port_at_loader (scalar true write_strobe_name) (2, omega arith, refl))
-      (All-cons (Joins at_loader) (same_join write_data_name) (same_join address_port ∷ same_join strobe_port ∷ rows) (port_at_loader (vector true 32 write_data_name) (3, omega arith, refl))
+      (All-cons (Joins at_loader) (same_join write_data_name) (same_join address_port ∷ same_join strobe_port ∷ rows) (port_at_loader (data_port (text_mode fabric)) (3, omega arith, refl))
       (All-cons (Joins at_loader) (same_join address_port) (same_join strobe_port ∷ rows) address_there
       (All-cons (Joins at_loader) (same_join strobe_port) rows strobe_there
       (all_counted (Joins at_loader) fabric.rows (λ y. same_join (row_port y)) (λ y few.
@@ -234,67 +242,99 @@ module _ (fabric : PlainFabric) (is : IsFabric fabric) (are : AreTiles fabric) w
       let known : Holds (OwnKnown at_strobes) value = (tt, (tt, strobe, (tt, address, tt)), address, tt) in
       All-cons (IsKnown at_strobes) (use_of (column_strobe_name x)) (uses value) target (uses_known at_strobes value (every (OwnKnown at_strobes) value known))
 
+  -- ---- what carries the bits
+
+  carried_wires : (mode : Mode) → All (IsKnownWire (at_tiles mode)) (carrying_items mode fabric)
+  carried_wires modes.Frames =
+      let known = at_tiles modes.Frames in
+      let at_assigned = at_begins modes.Frames in
+      All-append (IsKnownWire known) loader_part (strobe_part ++ assigned)
+      (known_wires known loader_part
+      (within_behind (net_names loader_part) at_assigned (net_names begins) (within_behind (net_names loader_part) at_strobes (net_names assigned)
+      (within_behind (net_names loader_part) at_loader (net_names strobe_part) (within_here (net_names loader_part) (port_names ports))))))
+      (All-append (IsKnownWire known) strobe_part assigned
+      (known_wires known strobe_part
+      (within_behind (net_names strobe_part) at_assigned (net_names begins) (within_behind (net_names strobe_part) at_strobes (net_names assigned) (within_here (net_names strobe_part) at_loader))))
+      (known_wires known assigned (within_behind (net_names assigned) at_assigned (net_names begins) (within_here (net_names assigned) at_strobes))))
+  carried_wires modes.Chain =
+      known_wires (at_tiles modes.Chain) chain_wires
+      (within_behind (net_names chain_wires) (at_begins modes.Chain) (net_names begins) (within_here (net_names chain_wires) (port_names ports)))
+
+  carried_port : (mode : Mode) (port : Port) → Contains ports port → Contains (at_begins mode) port.name
+  carried_port modes.Frames port there =
+      Contains-append_right (net_names assigned) at_strobes port.name (Contains-append_right (net_names strobe_part) at_loader port.name (port_at_loader port there))
+  carried_port modes.Chain port there = Contains-append_right (net_names chain_wires) (port_names ports) port.name (contains_map (λ (p : Port). p.name) ports port there)
+
+  abbrev IsOrdered : (known : List (List ℕ)) → List PlainItem → Type 0
+  IsOrdered known rest = InOrder known (flat_map item_mentions rest)
+
+  -- it stands before all that uses it
+  carried_first : (mode : Mode) (rest : List PlainItem) → IsOrdered (at_begins mode) rest → IsOrdered (port_names ports) (carrying_items mode fabric ++ rest)
+  carried_first modes.Frames rest ordered =
+      let whole : (loader_part ++ (strobe_part ++ assigned)) ++ rest ≡ loader_part ++ (strobe_part ++ (assigned ++ rest)) =
+      append_assoc loader_part (strobe_part ++ assigned) rest ∙ ap (λ items. loader_part ++ items) (append_assoc strobe_part assigned rest) in
+      subst (IsOrdered (port_names ports)) (sym whole)
+      (segment (port_names ports) loader_part (strobe_part ++ (assigned ++ rest))
+      (All-cons (UsesKnown (port_names ports)) (wire (Vector 32) address_port) (wire Scalar strobe_port ∷ row_wires) tt
+      (All-cons (UsesKnown (port_names ports)) (wire Scalar strobe_port) row_wires tt
+      (all_counted (UsesKnown (port_names ports)) fabric.rows (λ y. wire (Vector 32) (row_port y)) (λ y few. tt))))
+      (segment at_loader strobe_part (assigned ++ rest) loader_uses
+      (segment at_strobes assigned rest (all_counted (UsesKnown at_strobes) fabric.columns column_strobes strobe_uses) ordered)))
+  carried_first modes.Chain rest ordered =
+      segment (port_names ports) chain_wires rest
+      (All-map (UsesKnown (port_names ports)) chain_wire (placed_tiles fabric) (all_of (λ p. UsesKnown (port_names ports) (chain_wire p)) (placed_tiles fabric) (λ p. tt))) ordered
+
   -- ---- tiles
 
-  all_wires : All (IsKnownWire at_tiles) items
+  abbrev mode : Mode
+  mode = text_mode fabric
+
+  all_wires : All (IsKnownWire (at_tiles mode)) items
   all_wires =
-      All-append (IsKnownWire at_tiles) loader_part (strobe_part ++ (assigned ++ (begins ++ instances)))
-      (known_wires at_tiles loader_part
-      (within_behind (net_names loader_part) at_begins (net_names begins) (within_behind (net_names loader_part) at_strobes (net_names assigned)
-      (within_behind (net_names loader_part) at_loader (net_names strobe_part) (within_here (net_names loader_part) (port_names ports))))))
-      (All-append (IsKnownWire at_tiles) strobe_part (assigned ++ (begins ++ instances))
-      (known_wires at_tiles strobe_part
-      (within_behind (net_names strobe_part) at_begins (net_names begins) (within_behind (net_names strobe_part) at_strobes (net_names assigned) (within_here (net_names strobe_part) at_loader))))
-      (All-append (IsKnownWire at_tiles) assigned (begins ++ instances)
-      (known_wires at_tiles assigned (within_behind (net_names assigned) at_begins (net_names begins) (within_here (net_names assigned) at_strobes)))
-      (All-append (IsKnownWire at_tiles) begins instances
-      (known_wires at_tiles begins (within_here (net_names begins) at_begins))
-      (All-map (IsKnownWire at_tiles) (tile_instance fabric) (placed_tiles fabric) (all_of (λ p. IsKnownWire at_tiles (tile_instance fabric p)) (placed_tiles fabric) (λ p. tt))))))
+      All-append (IsKnownWire (at_tiles mode)) (carrying_items mode fabric) (begins ++ instances) (carried_wires mode)
+      (All-append (IsKnownWire (at_tiles mode)) begins instances
+      (known_wires (at_tiles mode) begins (within_here (net_names begins) (at_begins mode)))
+      (All-map (IsKnownWire (at_tiles mode)) (tile_instance fabric) (placed_tiles fabric) (all_of (λ p. IsKnownWire (at_tiles mode) (tile_instance fabric p)) (placed_tiles fabric) (λ p. tt))))
 
-  net_known : (shape : Shape) (name : List ℕ) → IsTopNet fabric shape name → Contains at_tiles name
+  net_known : (shape : Shape) (name : List ℕ) → IsTopNet fabric shape name → Contains (at_tiles mode) name
   net_known shape name (port_net input there) =
-      Contains-append_right (net_names begins) at_begins name
-      (Contains-append_right (net_names assigned) at_strobes name
-      (Contains-append_right (net_names strobe_part) at_loader name (port_at_loader (record { input = input; shape = shape; name = name }) there)))
-  net_known shape name (wire_net there) = All-contains (IsKnownWire at_tiles) items (wire shape name) all_wires there
+      Contains-append_right (net_names begins) (at_begins mode) name (carried_port mode (record { input = input; shape = shape; name = name }) there)
+  net_known shape name (wire_net there) = All-contains (IsKnownWire (at_tiles mode)) items (wire shape name) all_wires there
 
-  right_known : (input : Bool) (shape : Shape) (to : Option PlainExpr) → IsJoinedRight fabric input shape to → IsJoinedTo at_tiles to
+  right_known : (input : Bool) (shape : Shape) (to : Option PlainExpr) → IsJoinedRight fabric input shape to → IsJoinedTo (at_tiles mode) to
   right_known input shape None right = absurd right
   right_known input shape (Some (variable name)) right = net_known shape name right
   right_known input shape (Some (constant bits)) right = tt
   right_known input shape (Some _) right = absurd right
 
-  tile_uses : (p : PlacedTile) → IsStanding fabric p → UsesKnown at_tiles (tile_instance fabric p)
+  tile_uses : (p : PlacedTile) → IsStanding fabric p → UsesKnown (at_tiles mode) (tile_instance fabric p)
   tile_uses p stands =
-      instance_uses at_tiles (tile_module_name p.tile) (place_name p.x p.y) (tile_joins fabric p)
-      (matched_all (Joining fabric) (Joins at_tiles) (λ join port right. right_known port.input port.shape join.to right.1) (tile_joins fabric p) (tile_ports p.tile) (tile_matched fabric are p stands))
+      instance_uses (at_tiles mode) (tile_module_name p.tile) (place_name p.x p.y) (tile_joins fabric p)
+      (matched_all (Joining fabric) (Joins (at_tiles mode)) (λ join port right. right_known port.input port.shape join.to right.1) (tile_joins fabric p) (tile_ports mode p.tile)
+      (tile_matched fabric are p stands))
 
-  row_begins_use : (x y : ℕ) (row : WireRow) → All (UsesKnown at_begins) (row_begin_wires x y row)
-  row_begins_use x y row =
-      all_if (UsesKnown at_begins) (is_jump row.dir) [] (counted (side_border row row.source) (λ bit. wire Scalar (begin_wire_name x y row bit))) (All-nil (UsesKnown at_begins))
-      (all_counted (UsesKnown at_begins) (side_border row row.source) (λ bit. wire Scalar (begin_wire_name x y row bit)) (λ bit few. tt))
+  module _ (known : List (List ℕ)) where
+    row_begins_use : (x y : ℕ) (row : WireRow) → All (UsesKnown known) (row_begin_wires x y row)
+    row_begins_use x y row =
+        all_if (UsesKnown known) (is_jump row.dir) [] (counted (side_border row row.source) (λ bit. wire Scalar (begin_wire_name x y row bit))) (All-nil (UsesKnown known))
+        (all_counted (UsesKnown known) (side_border row row.source) (λ bit. wire Scalar (begin_wire_name x y row bit)) (λ bit few. tt))
 
-  begins_use : All (UsesKnown at_begins) begins
-  begins_use =
-      all_flat_map (UsesKnown at_begins) tile_begin_wires (placed_tiles fabric)
-      (all_of (λ p. All (UsesKnown at_begins) (tile_begin_wires p)) (placed_tiles fabric) (λ p.
-      all_flat_map (UsesKnown at_begins) (row_begin_wires p.x p.y) p.tile.rows
-      (all_of (λ row. All (UsesKnown at_begins) (row_begin_wires p.x p.y row)) p.tile.rows (row_begins_use p.x p.y))))
+    begins_use : All (UsesKnown known) begins
+    begins_use =
+        all_flat_map (UsesKnown known) tile_begin_wires (placed_tiles fabric)
+        (all_of (λ p. All (UsesKnown known) (tile_begin_wires p)) (placed_tiles fabric) (λ p.
+        all_flat_map (UsesKnown known) (row_begin_wires p.x p.y) p.tile.rows
+        (all_of (λ row. All (UsesKnown known) (row_begin_wires p.x p.y row)) p.tile.rows (row_begins_use p.x p.y))))
 
   -- ---- together
 
   in_order : InOrder (port_names ports) (flat_map item_mentions items)
   in_order =
-      segment (port_names ports) loader_part (strobe_part ++ (assigned ++ (begins ++ instances)))
-      (All-cons (UsesKnown (port_names ports)) (wire (Vector 32) address_port) (wire Scalar strobe_port ∷ row_wires) tt
-      (All-cons (UsesKnown (port_names ports)) (wire Scalar strobe_port) row_wires tt
-      (all_counted (UsesKnown (port_names ports)) fabric.rows (λ y. wire (Vector 32) (row_port y)) (λ y few. tt))))
-      (segment at_loader strobe_part (assigned ++ (begins ++ instances)) loader_uses
-      (segment at_strobes assigned (begins ++ instances) (all_counted (UsesKnown at_strobes) fabric.columns column_strobes strobe_uses)
-      (segment at_begins begins instances begins_use
-      (last_segment at_tiles instances
-      (All-map (UsesKnown at_tiles) (tile_instance fabric) (placed_tiles fabric)
-      (All-weaker (IsStanding fabric) (λ p. UsesKnown at_tiles (tile_instance fabric p)) tile_uses (placed_tiles fabric) (all_standing fabric is are)))))))
+      carried_first mode (begins ++ instances)
+      (segment (at_begins mode) begins instances (begins_use (at_begins mode))
+      (last_segment (at_tiles mode) instances
+      (All-map (UsesKnown (at_tiles mode)) (tile_instance fabric) (placed_tiles fabric)
+      (All-weaker (IsStanding fabric) (λ p. UsesKnown (at_tiles mode) (tile_instance fabric p)) tile_uses (placed_tiles fabric) (all_standing fabric is are)))))
 
   pub top_names_fit : refusals [] (mentions_in (top_module fabric)) ≡ []
   top_names_fit = names_in_order (top_module fabric) declared_apart in_order

@@ -1,5 +1,5 @@
 -- To which nets of the top the ports of the loader and of the tiles are joined.
-use Rattle.std.proofs.Common.{◌≡◌, ℕ, ◌<◌, Bool, true, false, List, [], ◌∷◌, ◌++◌, map, length, slice_get, refl, ap, ◌∙◌, inl, inr, arith, Option, Some, None, Contains}
+use Rattle.std.proofs.Common.{◌≡◌, ℕ, ◌<◌, Bool, true, false, List, [], ◌∷◌, ◌++◌, map, length, slice_get, refl, sym, ap, ◌∙◌, subst, inl, inr, arith, Option, Some, None, Contains}
 use Rattle.std.specs.List.{AllZip, flat_map, enumerate_from}
 use Rattle.std.proofs.lemmas.Bool.{cases_Bool}
 use Rattle.std.proofs.lemmas.List.Elements.{All-weaker, All-contains_itself, Contains-append_left, Contains-append_right}
@@ -10,28 +10,34 @@ use Rattle.fab_syntax.specs.Plain.{PlainExpr, PlainJoin, PlainItem, constant, va
 use Rattle.fab_meaning.specs.Runs.{user_clock_name, clock_name}
 use Rattle.fab_meaning.specs.Ports.{scalar}
 use Rattle.fab_prim.specs.Ports.{top_inputs, top_outputs}
+use Rattle.fab_model.specs.declared.mode.Mode.{Mode}
+use Rattle.fab_model.specs.declared.mode.Mode.TheVariants as modes
 use Rattle.fab_model.specs.declared.tiles.WireRow.{WireRow}
 use Rattle.fab_model.specs.declared.tiles.Bel.{Bel}
 use Rattle.fab_model.specs.Rows.{is_jump, border_bits, IsWireRow}
-use Rattle.fab_model.specs.Tiles.{counted, IsTile}
-use Rattle.fab_model.specs.Grid.{PlainFabric, AllRows, AreRows}
+use Rattle.fab_model.specs.Tiles.{PlainTile, counted, IsTile}
+use Rattle.fab_model.specs.Grid.{PlainFabric, tile_at, AllRows, AreRows}
 use Rattle.fab_model.specs.Joins.{goes, comes}
 use Rattle.fab_model.specs.Cascade.{PlacedRow, previous_row, opposite}
 use Rattle.fab_model.proofs.Crossings.{partner_is, goes_from, standing_is_wire_row}
 use Rattle.fab_fabric.specs.Fabric.{AreTiles}
-use Rattle.fab_drives_laws.specs.fab_gen_tile_Names.{begin_name, end_name, pad_name, vector, port_join, same_join}
+use Rattle.fab_drives_laws.specs.fab_gen_tile_Names.{begin_name, end_name, pad_name, port_join, same_join}
 use Rattle.fab_drives_laws.specs.fab_gen_tile_Borders.{side_border, border_ports}
+use Rattle.fab_drives_laws.specs.fab_gen_tile_ConfigModule.{config_ports}
 use Rattle.fab_drives_laws.specs.fab_gen_tile_TileModule.{bels_ports, tile_ports}
 use Rattle.fab_drives_laws.specs.fab_gen_tile_TileModule as tiles
 use Rattle.fab_drives_laws.specs.fab_gen_loader_Loader.{loader_ports, row_port, address_port, strobe_port}
 use Rattle.fab_drives_laws.specs.fab_gen_loader_Loader as loaders
 use Rattle.fab_meaning.specs.Loading.{write_strobe_name, write_data_name}
-use Rattle.fab_drives_laws.specs.fab_fabric_text_defs_Names.{column_strobe_name, begin_wire_name, pad_port_name}
+use Rattle.fab_drives_laws.specs.fab_fabric_text_defs_Names.{column_strobe_name, chain_wire_name, begin_wire_name, pad_port_name}
 use Rattle.fab_drives_laws.specs.fab_fabric_text_defs_Places.{PlacedTile, placed_tiles}
-use Rattle.fab_drives_laws.specs.fab_fabric_text_defs_Top.{pad_ports, tile_pads, top_ports, loader_wires, loader_joins, loader_instance, column_strobes, tile_begin_wires, tile_instance, top_items, end_value, numbered_row, row_joins, pad_joins, tile_joins}
+use Rattle.fab_drives_laws.specs.fab_fabric_text_defs_Mode.{text_mode}
+use Rattle.fab_drives_laws.specs.fab_fabric_text_defs_Chain.{chain_source}
+use Rattle.fab_drives_laws.specs.fab_fabric_text_defs_Top.{pad_ports, tile_pads, data_shape, data_port, top_ports, loader_wires, loader_joins, loader_instance, column_strobes, chain_wire, carrying_items, tile_begin_wires, tile_instance, top_items, end_value, numbered_row, row_joins, pad_joins, config_joins, tile_joins}
 use Rattle.fab_drives_laws.proofs.fab_tile_drives_laws_BorderBits.{source_within}
 use Rattle.fab_drives_laws.proofs.Lists.{contains_flat}
-use Rattle.fab_drives_laws.proofs.Places.{tile_is_placed}
+use Rattle.fab_drives_laws.proofs.Chains.{carried_along}
+use Rattle.fab_drives_laws.proofs.Places.{placed_tile, tile_is_placed}
 use Rattle.fab_drives_laws.proofs.TopNames.{begin_wire}
 use Rattle.fab_tiles_sound_laws.proofs.fab_parts_sound_laws_Lists.{contains_first, contains_later, contains_map, contains_counted}
 use Rattle.fab_tiles_sound_laws.proofs.Joins.{zip_append, zip_map}
@@ -56,10 +62,8 @@ abbrev pub Joining : PlainFabric → PlainJoin → Port → Type 0
 Joining fabric join port = (join.port ≡ port.name) × IsJoinedRight fabric port.input port.shape join.to
 
 module _ (fabric : PlainFabric) where
-  abbrev behind : List PlainItem
-  behind =
-      counted fabric.columns (λ x. wire (Vector 20) (column_strobe_name x))
-      ++ (counted fabric.columns column_strobes ++ (flat_map tile_begin_wires (placed_tiles fabric) ++ map (tile_instance fabric) (placed_tiles fabric)))
+  abbrev behind_loader : List PlainItem
+  behind_loader = counted fabric.columns (λ x. wire (Vector 20) (column_strobe_name x)) ++ counted fabric.columns column_strobes
 
   abbrev rows : List PlainItem
   rows = counted fabric.rows (λ y. wire (Vector 32) (row_port y))
@@ -73,53 +77,80 @@ module _ (fabric : PlainFabric) where
   write_strobe_net : IsTopNet fabric Scalar write_strobe_name
   write_strobe_net = port_net true (2, omega arith, refl)
 
-  write_data_net : IsTopNet fabric (Vector 32) write_data_name
+  write_data_net : IsTopNet fabric (data_shape (text_mode fabric)) write_data_name
   write_data_net = port_net true (3, omega arith, refl)
 
-  loader_net : (shape : Shape) (name : List ℕ) → Contains (loader_wires fabric.rows) (wire shape name) → IsTopNet fabric shape name
-  loader_net shape name there = wire_net (Contains-append_left (loader_wires fabric.rows) (loader_instance fabric.rows ∷ behind) (wire shape name) there)
-
-  pub address_net : IsTopNet fabric (Vector 32) address_port
-  address_net = loader_net (Vector 32) address_port (contains_first (wire (Vector 32) address_port) (wire Scalar strobe_port ∷ rows))
-
-  pub strobe_net : IsTopNet fabric Scalar strobe_port
-  strobe_net = loader_net Scalar strobe_port (contains_later (wire (Vector 32) address_port) (wire Scalar strobe_port ∷ rows) (wire Scalar strobe_port) (contains_first (wire Scalar strobe_port) rows))
-
-  pub row_net : (y : ℕ) → y < fabric.rows → IsTopNet fabric (Vector 32) (row_port y)
-  row_net y few =
-      loader_net (Vector 32) (row_port y)
-      (contains_later (wire (Vector 32) address_port) (wire Scalar strobe_port ∷ rows) (wire (Vector 32) (row_port y))
-      (contains_later (wire Scalar strobe_port) rows (wire (Vector 32) (row_port y)) (contains_counted fabric.rows (λ y. wire (Vector 32) (row_port y)) y few)))
-
-  pub column_net : (x : ℕ) → x < fabric.columns → IsTopNet fabric (Vector 20) (column_strobe_name x)
-  column_net x few =
-      let item = wire (Vector 20) (column_strobe_name x) in
-      let wires = counted fabric.columns (λ x. wire (Vector 20) (column_strobe_name x)) in
+  -- a wire among what carries the bits
+  carried_net : (mode : Mode) → text_mode fabric ≡ mode → (shape : Shape) (name : List ℕ) → Contains (carrying_items mode fabric) (wire shape name) → IsTopNet fabric shape name
+  carried_net mode is shape name there =
       wire_net
-      (Contains-append_right (loader_wires fabric.rows) (loader_instance fabric.rows ∷ behind) item
-      (contains_later (loader_instance fabric.rows) behind item
-      (Contains-append_left wires (counted fabric.columns column_strobes ++ (flat_map tile_begin_wires (placed_tiles fabric) ++ map (tile_instance fabric) (placed_tiles fabric))) item
-      (contains_counted fabric.columns (λ x. wire (Vector 20) (column_strobe_name x)) x few))))
+      (Contains-append_left (carrying_items (text_mode fabric) fabric) (flat_map tile_begin_wires (placed_tiles fabric) ++ map (tile_instance fabric) (placed_tiles fabric)) (wire shape name)
+      (subst (λ mode. Contains (carrying_items mode fabric) (wire shape name)) (sym is) there))
 
-  -- ---- the loader
+  -- ---- in frames
 
-  pub loader_matched : AllZip (Joining fabric) (loader_joins fabric.rows) (loader_ports fabric.rows)
-  loader_matched = (
-    (refl, loader_clock_net),
-    (
-      (refl, write_strobe_net),
+  module _ (frames : text_mode fabric ≡ modes.Frames) where
+    loader_net : (shape : Shape) (name : List ℕ) → Contains (loader_wires fabric.rows) (wire shape name) → IsTopNet fabric shape name
+    loader_net shape name there =
+        carried_net modes.Frames frames shape name (Contains-append_left (loader_wires fabric.rows) (loader_instance fabric.rows ∷ behind_loader) (wire shape name) there)
+
+    pub address_net : IsTopNet fabric (Vector 32) address_port
+    address_net = loader_net (Vector 32) address_port (contains_first (wire (Vector 32) address_port) (wire Scalar strobe_port ∷ rows))
+
+    pub strobe_net : IsTopNet fabric Scalar strobe_port
+    strobe_net = loader_net Scalar strobe_port (contains_later (wire (Vector 32) address_port) (wire Scalar strobe_port ∷ rows) (wire Scalar strobe_port) (contains_first (wire Scalar strobe_port) rows))
+
+    pub row_net : (y : ℕ) → y < fabric.rows → IsTopNet fabric (Vector 32) (row_port y)
+    row_net y few =
+        loader_net (Vector 32) (row_port y)
+        (contains_later (wire (Vector 32) address_port) (wire Scalar strobe_port ∷ rows) (wire (Vector 32) (row_port y))
+        (contains_later (wire Scalar strobe_port) rows (wire (Vector 32) (row_port y)) (contains_counted fabric.rows (λ y. wire (Vector 32) (row_port y)) y few)))
+
+    pub column_net : (x : ℕ) → x < fabric.columns → IsTopNet fabric (Vector 20) (column_strobe_name x)
+    column_net x few =
+        let item = wire (Vector 20) (column_strobe_name x) in
+        let wires = counted fabric.columns (λ x. wire (Vector 20) (column_strobe_name x)) in
+        carried_net modes.Frames frames (Vector 20) (column_strobe_name x)
+        (Contains-append_right (loader_wires fabric.rows) (loader_instance fabric.rows ∷ behind_loader) item
+        (contains_later (loader_instance fabric.rows) behind_loader item
+        (Contains-append_left wires (counted fabric.columns column_strobes) item
+        (contains_counted fabric.columns (λ x. wire (Vector 20) (column_strobe_name x)) x few))))
+
+    -- words come whole
+    word_net : IsTopNet fabric (Vector 32) write_data_name
+    word_net = subst (λ mode. IsTopNet fabric (data_shape mode) write_data_name) frames write_data_net
+
+    pub loader_matched : AllZip (Joining fabric) (loader_joins fabric.rows) (loader_ports fabric.rows)
+    loader_matched = (
+      (refl, loader_clock_net),
       (
-        (refl, write_data_net),
+        (refl, write_strobe_net),
         (
-          (refl, address_net),
+          (refl, word_net),
           (
-            (refl, strobe_net),
-            matched_counted (Joining fabric) fabric.rows (λ y. same_join (row_port y)) (λ y. loaders.port false (Vector 32) (row_port y)) (λ y few. (refl, row_net y few)),
+            (refl, address_net),
+            (
+              (refl, strobe_net),
+              matched_counted (Joining fabric) fabric.rows (λ y. same_join (row_port y)) (λ y. loaders.port false (Vector 32) (row_port y)) (λ y few. (refl, row_net y few)),
+            ),
           ),
         ),
       ),
-    ),
-  )
+    )
+
+  -- ---- in a chain
+
+  module _ (chain : text_mode fabric ≡ modes.Chain) where
+    chain_net : (x y : ℕ) (tile : PlainTile) → tile_at fabric x y ≡ Some tile → IsTopNet fabric Scalar (chain_wire_name x y)
+    chain_net x y tile there =
+        carried_net modes.Chain chain Scalar (chain_wire_name x y) (contains_map chain_wire (placed_tiles fabric) (placed_tile x y tile) (tile_is_placed fabric x y tile there))
+
+    -- words come bit by bit
+    bit_net : IsTopNet fabric Scalar write_data_name
+    bit_net = subst (λ mode. IsTopNet fabric (data_shape mode) write_data_name) chain write_data_net
+
+    source_net : (x y : ℕ) (tile : PlainTile) → tile_at fabric x y ≡ Some tile → IsTopNet fabric Scalar (chain_source fabric x y)
+    source_net x y tile there = (carried_along fabric (IsTopNet fabric Scalar) bit_net (λ x y tile there comes. chain_net x y tile there) x y tile there).0
 
   module _ (are : AreTiles fabric) (p : PlacedTile) (stands : IsStanding fabric p) where
     are_rows : AreRows fabric
@@ -163,7 +194,7 @@ module _ (fabric : PlainFabric) where
 
     pad_net : (placed : ℕ × Bel) (port : Port) → Contains (enumerate_from 0 p.tile.bels) placed → Contains (pad_ports p.x p.y placed) port → Contains (top_ports fabric) port
     pad_net placed port there among =
-        let front = scalar true clock_name ∷ scalar true user_clock_name ∷ scalar true write_strobe_name ∷ vector true 32 write_data_name ∷ [] in
+        let front = scalar true clock_name ∷ scalar true user_clock_name ∷ scalar true write_strobe_name ∷ data_port (text_mode fabric) ∷ [] in
         Contains-append_right front (flat_map tile_pads (placed_tiles fabric)) port
         (contains_flat tile_pads (placed_tiles fabric) p port (tile_is_placed fabric p.x p.y p.tile stands.there)
         (contains_flat (pad_ports p.x p.y) (enumerate_from 0 p.tile.bels) placed port there among))
@@ -195,22 +226,27 @@ module _ (fabric : PlainFabric) where
 
     -- ---- all joins of a tile
 
-    pub tile_matched : AllZip (Joining fabric) (tile_joins fabric p) (tile_ports p.tile)
+    config_matched : (mode : Mode) → text_mode fabric ≡ mode → AllZip (Joining fabric) (config_joins mode fabric p) (config_ports mode)
+    config_matched modes.Frames frames = ((refl, row_net frames p.y stands.few_rows), ((refl, column_net frames p.x stands.few_columns), tt))
+    config_matched modes.Chain chain = (
+      (refl, loader_clock_net),
+      ((refl, write_strobe_net), ((refl, source_net chain p.x p.y p.tile stands.there), ((refl, chain_net chain p.x p.y p.tile stands.there), tt))),
+    )
+
+    pub tile_matched : AllZip (Joining fabric) (tile_joins fabric p) (tile_ports (text_mode fabric) p.tile)
     tile_matched =
+        let mode = text_mode fabric in
         let row_join_lists = flat_map (row_joins fabric p) (enumerate_from 0 p.tile.rows) in
-        let pad_join_lists = flat_map (pad_joins p.x p.y) (enumerate_from 0 p.tile.bels) in (
+        let pad_join_lists = flat_map (pad_joins p.x p.y) (enumerate_from 0 p.tile.bels) in
+        let borders = flat_map border_ports p.tile.rows in
+        let pads = bels_ports p.tile.bels in (
           (refl, clock_net),
-          (
-            (refl, row_net p.y stands.few_rows),
-            (
-              (refl, column_net p.x stands.few_columns),
-              zip_append (Joining fabric) row_join_lists pad_join_lists (flat_map border_ports p.tile.rows) (bels_ports p.tile.bels)
-                  (matched_numbered (Joining fabric) (row_joins fabric p) border_ports 0 p.tile.rows
-                  (All-weaker (λ (numbered : ℕ × WireRow). slice_get p.tile.rows numbered.0 ≡ Some numbered.1) (λ numbered. AllZip (Joining fabric) (row_joins fabric p numbered) (border_ports numbered.1))
-                  (λ numbered found. row_matched numbered.0 numbered.1 found) (enumerate_from 0 p.tile.rows) (numbers_find p.tile.rows)))
-                  (matched_flat (Joining fabric) (pad_joins p.x p.y) (λ placed. tiles.pad_ports placed.0 placed.1.kind) (enumerate_from 0 p.tile.bels)
-                  (All-weaker (Contains (enumerate_from 0 p.tile.bels)) (λ placed. AllZip (Joining fabric) (pad_joins p.x p.y placed) (tiles.pad_ports placed.0 placed.1.kind))
-                  bel_matched (enumerate_from 0 p.tile.bels) (All-contains_itself (enumerate_from 0 p.tile.bels)))),
-            ),
-          ),
+          zip_append (Joining fabric) (config_joins mode fabric p) (row_join_lists ++ pad_join_lists) (config_ports mode) (borders ++ pads) (config_matched mode refl)
+              (zip_append (Joining fabric) row_join_lists pad_join_lists borders pads
+              (matched_numbered (Joining fabric) (row_joins fabric p) border_ports 0 p.tile.rows
+              (All-weaker (λ (numbered : ℕ × WireRow). slice_get p.tile.rows numbered.0 ≡ Some numbered.1) (λ numbered. AllZip (Joining fabric) (row_joins fabric p numbered) (border_ports numbered.1))
+              (λ numbered found. row_matched numbered.0 numbered.1 found) (enumerate_from 0 p.tile.rows) (numbers_find p.tile.rows)))
+              (matched_flat (Joining fabric) (pad_joins p.x p.y) (λ placed. tiles.pad_ports placed.0 placed.1.kind) (enumerate_from 0 p.tile.bels)
+              (All-weaker (Contains (enumerate_from 0 p.tile.bels)) (λ placed. AllZip (Joining fabric) (pad_joins p.x p.y placed) (tiles.pad_ports placed.0 placed.1.kind))
+              bel_matched (enumerate_from 0 p.tile.bels) (All-contains_itself (enumerate_from 0 p.tile.bels))))),
         )

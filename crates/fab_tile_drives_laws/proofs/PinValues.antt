@@ -142,4 +142,4 @@ module _ (tile : PlainTile) (bel : ℕ) (found : Bel) (there : slice_get tile.be
 
 pub pins_show : (mode : Mode) (text : List PlainModule) (path : Path) (tile : PlainTile) → TileStands mode text path tile → ShowsPins text path tile
 pins_show mode text path tile stands bits inputs held now bel pin found shows there past few settled =
-    pin_shows tile bel found there text path stands bits pin past few inputs held now shows settled
+    pin_shows tile bel found there mode text path stands bits pin past few inputs held now shows settled

@@ -13,8 +13,8 @@ use Rattle.fab_tile_drives_laws.proofs.OutputValues.{outputs_show}
 pub tile_works : (mode : Mode) (text : List PlainModule) (path : Path) (tile : PlainTile) → IsTile tile → TileStands mode text path tile → TileWorks text path tile
 tile_works mode text path tile is_tile stands = record {
   matrix_outputs = outputs_show mode text path tile is_tile stands;
-  jumps = jumps_show text path tile is_tile stands;
-  ends = ends_show text path tile is_tile stands;
-  begins = begins_show text path tile is_tile stands;
+  jumps = jumps_show mode text path tile is_tile stands;
+  ends = ends_show mode text path tile is_tile stands;
+  begins = begins_show mode text path tile is_tile stands;
   pins = pins_show mode text path tile stands;
 }

@@ -8,15 +8,21 @@ use Rattle.fab_syntax.specs.declared.tree.Shape.{Shape}
 use Rattle.fab_syntax.specs.declared.tree.Shape.TheVariants.{Scalar}
 use Rattle.fab_syntax.specs.declared.tree.Port.{Port}
 use Rattle.fab_syntax.specs.Plain.{PlainExpr, PlainItem, wire, reg, assign, latch, clocked, instance}
-use Rattle.fab_meaning.specs.Runs.{user_clock_name}
+use Rattle.fab_meaning.specs.Runs.{clock_name, user_clock_name}
+use Rattle.fab_meaning.specs.Loading.{write_strobe_name}
+use Rattle.fab_meaning.proofs.Modules.{each_all}
+use Rattle.fab_model.specs.declared.mode.Mode.{Mode}
+use Rattle.fab_model.specs.declared.mode.Mode.TheVariants as modes
 use Rattle.fab_model.specs.declared.tiles.WireRow.{WireRow}
 use Rattle.fab_model.specs.declared.tiles.Bel.{Bel}
 use Rattle.fab_model.specs.Rows.{is_jump, dest_bits}
 use Rattle.fab_model.specs.Tiles.{PlainTile, counted, row_wires, bel_wires, wire_name, matrix_names, tile_bits, IsTile, bits_before}
 use Rattle.fab_parts_sound_laws.specs.fab_gen_tile_Words.{IsNamed}
-use Rattle.fab_parts_sound_laws.specs.fab_gen_tile_Names.{frame_data_name, frame_strobe_name, bits_name, config_instance_name, matrix_instance_name}
+use Rattle.fab_parts_sound_laws.specs.fab_gen_tile_Names.{frame_data_name, frame_strobe_name, chain_in_name, chain_out_name, bits_name, config_instance_name, matrix_instance_name}
 use Rattle.fab_parts_sound_laws.specs.fab_gen_tile_Borders.{border, passing_assign, beginning_assign, begin_assigns, dest_assign, row_assigns, border_ports}
-use Rattle.fab_parts_sound_laws.specs.fab_gen_tile_TileModule.{bels_ports, tile_ports, bits_wire, config_instances, matrix_output_names, matrix_instances, bel_instance, bel_instances, tile_items}
+use Rattle.fab_parts_sound_laws.specs.fab_gen_tile_ConfigModule.{config_ports}
+use Rattle.fab_parts_sound_laws.specs.fab_gen_tile_TileModule.{bels_ports, tile_ports, bits_wire, no_config, config_instances, matrix_output_names, matrix_instances, bel_instance, bel_instances, tile_items}
+use Rattle.fab_parts_sound_laws.proofs.Apart.{apart_if}
 use Rattle.fab_parts_sound_laws.proofs.Names.{Differ, AreApart, IsNet, nets, net_names, instance_names}
 use Rattle.fab_parts_sound_laws.proofs.Lists.{all_counted, all_flat_map, pairs_none, pairs_left}
 use Rattle.fab_tiles_sound_laws.proofs.Ranks.{rank, StandAbove, none_above, group_above, single_above}
@@ -29,14 +35,14 @@ use Rattle.fab_tiles_sound_laws.proofs.Places.{pairs_map, pads_apart, pad_ranks,
 abbrev pub declarations : PlainTile → List PlainItem
 declarations tile = map (wire Scalar) (matrix_names tile) ++ bits_wire (tile_bits tile)
 
-abbrev pub instances : PlainTile → List PlainItem
-instances tile = config_instances tile (tile_bits tile) ++ (matrix_instances tile (matrix_output_names tile) ++ bel_instances tile.bels)
+abbrev pub instances : Mode → PlainTile → List PlainItem
+instances mode tile = config_instances mode tile (tile_bits tile) ++ (matrix_instances tile (matrix_output_names tile) ++ bel_instances tile.bels)
 
-abbrev pub later_items : PlainTile → List PlainItem
-later_items tile = flat_map row_assigns tile.rows ++ instances tile
+abbrev pub later_items : Mode → PlainTile → List PlainItem
+later_items mode tile = flat_map row_assigns tile.rows ++ instances mode tile
 
-pub items_split : (tile : PlainTile) → tile_items tile ≡ declarations tile ++ later_items tile
-items_split tile = sym (append_assoc (map (wire Scalar) (matrix_names tile)) (bits_wire (tile_bits tile)) (later_items tile))
+pub items_split : (mode : Mode) (tile : PlainTile) → tile_items mode tile ≡ declarations tile ++ later_items mode tile
+items_split mode tile = sym (append_assoc (map (wire Scalar) (matrix_names tile)) (bits_wire (tile_bits tile)) (later_items mode tile))
 
 -- What holds of each wire holds of all that is declared,
 module _ (P : PlainItem → Type 0) (each : (shape : Shape) (name : List ℕ) → P (wire shape name)) where
@@ -67,14 +73,19 @@ module _ (P : PlainItem → Type 0) (each : (target : List ℕ) (e : PlainExpr) 
   each_assign : (rows : List WireRow) → All P (flat_map row_assigns rows)
   each_assign rows = all_flat_map P row_assigns rows (λ k d few. row_assigned (get_or rows k d))
 
-  pub each_later : (tile : PlainTile) → All P (instances tile) → All P (later_items tile)
-  each_later tile of_instances = All-append P (flat_map row_assigns tile.rows) (instances tile) (each_assign tile.rows) of_instances
+  -- of what stands in place of a configuration,
+  pub each_unconfigured : (mode : Mode) → All P (no_config mode)
+  each_unconfigured modes.Frames = All-nil P
+  each_unconfigured modes.Chain = All-cons P _ [] (each _ _) (All-nil P)
+
+  pub each_later : (mode : Mode) (tile : PlainTile) → All P (instances mode tile) → All P (later_items mode tile)
+  each_later mode tile of_instances = All-append P (flat_map row_assigns tile.rows) (instances mode tile) (each_assign tile.rows) of_instances
 
 -- and together with the instances these are all items.
-pub each_of_tile : (P : PlainItem → Type 0) (tile : PlainTile) → ((shape : Shape) (name : List ℕ) → P (wire shape name)) → ((target : List ℕ) (e : PlainExpr) → P (assign target e)) →
-    All P (instances tile) → All P (tile_items tile)
-each_of_tile P tile of_wire of_assign of_instances =
-    subst (All P) (sym (items_split tile)) (All-append P (declarations tile) (later_items tile) (each_declaration P of_wire tile) (each_later P of_assign tile of_instances))
+pub each_of_tile : (P : PlainItem → Type 0) (mode : Mode) (tile : PlainTile) → ((shape : Shape) (name : List ℕ) → P (wire shape name)) → ((target : List ℕ) (e : PlainExpr) → P (assign target e)) →
+    All P (instances mode tile) → All P (tile_items mode tile)
+each_of_tile P mode tile of_wire of_assign of_instances =
+    subst (All P) (sym (items_split mode tile)) (All-append P (declarations tile) (later_items mode tile) (each_declaration P of_wire tile) (each_later P of_assign mode tile of_instances))
 
 pub they_declare : (tile : PlainTile) → All IsNet (declarations tile)
 they_declare tile = each_declaration IsNet (λ shape name. tt) tile
@@ -123,10 +134,14 @@ config_names : (bits : ℕ) → List (List ℕ)
 config_names zero = []
 config_names (suc bits) = config_instance_name ∷ []
 
-config_named : (tile : PlainTile) (bits : ℕ) → instance_names (config_instances tile bits) ≡ config_names bits
+none_configured : (mode : Mode) → instance_names (no_config mode) ≡ []
+none_configured modes.Frames = refl
+none_configured modes.Chain = refl
+
+config_named : (mode : Mode) (tile : PlainTile) (bits : ℕ) → instance_names (config_instances mode tile bits) ≡ config_names bits
 unfolding config_names
-config_named tile zero = refl
-config_named tile (suc bits) = refl
+config_named mode tile zero = none_configured mode
+config_named mode tile (suc bits) = refl
 
 matrix_instance_names : (outputs : List (List ℕ)) → List (List ℕ)
 matrix_instance_names [] = []
@@ -145,12 +160,12 @@ bels_named low first (bel ∷ bels) = ap (λ rest. bel_names first (bel ∷ []) 
 abbrev named_instances : PlainTile → List (List ℕ)
 named_instances tile = config_names (tile_bits tile) ++ (matrix_instance_names (matrix_output_names tile) ++ bel_names 0 tile.bels)
 
-instances_named : (tile : PlainTile) → instance_names (later_items tile) ≡ named_instances tile
-instances_named tile =
-    instances_append (flat_map row_assigns tile.rows) (instances tile)
-    ∙ ap (λ front. front ++ instance_names (instances tile)) (none_named (flat_map row_assigns tile.rows) (each_assign IsAssign (λ target e. tt) tile.rows))
-    ∙ instances_append (config_instances tile (tile_bits tile)) _
-    ∙ (λ j. config_named tile (tile_bits tile) j ++ (instances_append (matrix_instances tile (matrix_output_names tile)) (bel_instances tile.bels)
+instances_named : (mode : Mode) (tile : PlainTile) → instance_names (later_items mode tile) ≡ named_instances tile
+instances_named mode tile =
+    instances_append (flat_map row_assigns tile.rows) (instances mode tile)
+    ∙ ap (λ front. front ++ instance_names (instances mode tile)) (none_named (flat_map row_assigns tile.rows) (each_assign IsAssign (λ target e. tt) tile.rows))
+    ∙ instances_append (config_instances mode tile (tile_bits tile)) _
+    ∙ (λ j. config_named mode tile (tile_bits tile) j ++ (instances_append (matrix_instances tile (matrix_output_names tile)) (bel_instances tile.bels)
     ∙ (λ k. matrix_named tile (matrix_output_names tile) k ++ bels_named (bits_before tile.bels) 0 tile.bels k)) j)
 
 -- ---- the groups, one behind another
@@ -158,45 +173,61 @@ instances_named tile =
 abbrev name_of_port : Port → List ℕ
 name_of_port port = port.name
 
-abbrev groups : PlainTile → List (List ℕ)
-groups tile =
-    user_clock_name ∷ frame_data_name ∷ frame_strobe_name
-    ∷ (map name_of_port (flat_map border_ports tile.rows) ++ (map name_of_port (bels_ports tile.bels) ++ (matrix_names tile ++ (bits_names (tile_bits tile) ++ named_instances tile))))
+abbrev groups : Mode → PlainTile → List (List ℕ)
+groups mode tile =
+    user_clock_name ∷ (map name_of_port (config_ports mode)
+    ++ (map name_of_port (flat_map border_ports tile.rows) ++ (map name_of_port (bels_ports tile.bels) ++ (matrix_names tile ++ (bits_names (tile_bits tile) ++ named_instances tile)))))
 
-grouped : (tile : PlainTile) → nets (tile_ports tile) (declarations tile) ++ instance_names (later_items tile) ≡ groups tile
-grouped tile =
+grouped : (mode : Mode) (tile : PlainTile) → nets (tile_ports mode tile) (declarations tile) ++ instance_names (later_items mode tile) ≡ groups mode tile
+grouped mode tile =
+    let c = map name_of_port (config_ports mode) in
     let b = map name_of_port (flat_map border_ports tile.rows) in
     let d = map name_of_port (bels_ports tile.bels) in
     let m = matrix_names tile in
     let w = bits_names (tile_bits tile) in
-    let ports = map-append name_of_port (flat_map border_ports tile.rows) (bels_ports tile.bels) in
-    (λ j. user_clock_name ∷ frame_data_name ∷ frame_strobe_name ∷ ((ports j ++ declared_names tile j) ++ instances_named tile j))
-    ∙ ap (λ rest. user_clock_name ∷ frame_data_name ∷ frame_strobe_name ∷ rest)
-    (append_assoc (b ++ d) (m ++ w) (named_instances tile)
-    ∙ append_assoc b d ((m ++ w) ++ named_instances tile)
-    ∙ ap (λ rest. b ++ (d ++ rest)) (append_assoc m w (named_instances tile)))
+    let ports : map name_of_port (config_ports mode ++ (flat_map border_ports tile.rows ++ bels_ports tile.bels)) ≡ c ++ (b ++ d) =
+    map-append name_of_port (config_ports mode) (flat_map border_ports tile.rows ++ bels_ports tile.bels)
+    ∙ ap (λ rest. c ++ rest) (map-append name_of_port (flat_map border_ports tile.rows) (bels_ports tile.bels)) in
+    (λ j. user_clock_name ∷ ((ports j ++ declared_names tile j) ++ instances_named mode tile j))
+    ∙ ap (λ rest. user_clock_name ∷ rest)
+    (append_assoc (c ++ (b ++ d)) (m ++ w) (named_instances tile)
+    ∙ append_assoc c (b ++ d) ((m ++ w) ++ named_instances tile)
+    ∙ ap (λ rest. c ++ rest)
+    (append_assoc b d ((m ++ w) ++ named_instances tile)
+    ∙ ap (λ rest. b ++ (d ++ rest)) (append_assoc m w (named_instances tile))))
 
-one_apart : (name : List ℕ) → AreApart (name ∷ [])
-one_apart name i j d before within = absurd (omega arith)
+-- the clocks of a tile, and the ports by which its bits come
+carried_above : (mode : Mode) (names : List (List ℕ)) → StandAbove 4 names → StandAbove 0 (user_clock_name ∷ (map name_of_port (config_ports mode) ++ names))
+carried_above modes.Frames names later =
+    single_above 0 1 user_clock_name _ (omega arith) refl
+    (single_above 1 2 frame_data_name _ (omega arith) refl
+    (single_above 2 3 frame_strobe_name _ (omega arith) refl
+    (group_above 3 4 [] names (omega arith) (All-nil (λ name. rank name ≡ 4)) (pairs_none Differ) later)))
+carried_above modes.Chain names later =
+    let clocks = user_clock_name ∷ clock_name ∷ [] in
+    let chain = chain_in_name ∷ chain_out_name ∷ [] in
+    group_above 0 1 clocks _ (omega arith) (each_all (λ name. rank name ≡ 1) clocks (refl, (refl, tt))) (apart_if clocks refl)
+    (single_above 1 3 write_strobe_name _ (omega arith) refl
+    (group_above 3 4 chain names (omega arith) (each_all (λ name. rank name ≡ 4) chain (refl, (refl, tt))) (apart_if chain refl) later))
 
-config_above : (low bits : ℕ) (names : List (List ℕ)) → low < 8 → StandAbove 8 names → StandAbove low (config_names bits ++ names)
+config_above : (low bits : ℕ) (names : List (List ℕ)) → low < 9 → StandAbove 9 names → StandAbove low (config_names bits ++ names)
 unfolding config_names
-config_above low zero names less later = group_above low 8 [] names less (All-nil (λ name. rank name ≡ 8)) (pairs_none Differ) later
-config_above low (suc bits) names less later = single_above low 8 config_instance_name names less refl later
+config_above low zero names less later = group_above low 9 [] names less (All-nil (λ name. rank name ≡ 9)) (pairs_none Differ) later
+config_above low (suc bits) names less later = single_above low 9 config_instance_name names less refl later
 
-matrix_above : (low : ℕ) (outputs names : List (List ℕ)) → low < 9 → StandAbove 9 names → StandAbove low (matrix_instance_names outputs ++ names)
+matrix_above : (low : ℕ) (outputs names : List (List ℕ)) → low < 10 → StandAbove 10 names → StandAbove low (matrix_instance_names outputs ++ names)
 unfolding matrix_instance_names
-matrix_above low [] names less later = group_above low 9 [] names less (All-nil (λ name. rank name ≡ 9)) (pairs_none Differ) later
-matrix_above low (output ∷ outputs) names less later = single_above low 9 matrix_instance_name names less refl later
+matrix_above low [] names less later = group_above low 10 [] names less (All-nil (λ name. rank name ≡ 10)) (pairs_none Differ) later
+matrix_above low (output ∷ outputs) names less later = single_above low 10 matrix_instance_name names less refl later
 
-bits_above : (low bits : ℕ) (names : List (List ℕ)) → low < 7 → StandAbove 7 names → StandAbove low (bits_names bits ++ names)
-bits_above low zero names less later = group_above low 7 [] names less (All-nil (λ name. rank name ≡ 7)) (pairs_none Differ) later
-bits_above low (suc bits) names less later = single_above low 7 bits_name names less refl later
+bits_above : (low bits : ℕ) (names : List (List ℕ)) → low < 8 → StandAbove 8 names → StandAbove low (bits_names bits ++ names)
+bits_above low zero names less later = group_above low 8 [] names less (All-nil (λ name. rank name ≡ 8)) (pairs_none Differ) later
+bits_above low (suc bits) names less later = single_above low 8 bits_name names less refl later
 
-bels_above : (low : ℕ) (bels : List Bel) → low < 10 → StandAbove low (bel_names 0 bels)
-bels_above low bels less = subst (StandAbove low) (append-nil (bel_names 0 bels)) (group_above low 10 (bel_names 0 bels) [] less (bel_ranks bels) (bels_apart_from 0 bels) (none_above 10))
+bels_above : (low : ℕ) (bels : List Bel) → low < 11 → StandAbove low (bel_names 0 bels)
+bels_above low bels less = subst (StandAbove low) (append-nil (bel_names 0 bels)) (group_above low 11 (bel_names 0 bels) [] less (bel_ranks bels) (bels_apart_from 0 bels) (none_above 11))
 
-module _ (tile : PlainTile) (is : IsTile tile) (named : IsNamed tile) where
+module _ (mode : Mode) (tile : PlainTile) (is : IsTile tile) (named : IsNamed tile) where
   rows_apart : AreApart (names_of (flat_map row_wires tile.rows))
   rows_apart =
       pairs_left Differ (names_of (flat_map row_wires tile.rows)) (names_of (flat_map bel_wires tile.bels))
@@ -207,25 +238,23 @@ module _ (tile : PlainTile) (is : IsTile tile) (named : IsNamed tile) where
       let all : length (matrix_names tile) ≤ 4096 = is.few in
       omega (arith, length-append (flat_map row_wires tile.rows) (flat_map bel_wires tile.bels), length-map (flat_map row_wires tile.rows ++ flat_map bel_wires tile.bels) wire_name)
 
-  all_above : StandAbove 0 (groups tile)
+  all_above : StandAbove 0 (groups mode tile)
   all_above =
-      single_above 0 1 user_clock_name _ (omega arith) refl
-      (single_above 1 2 frame_data_name _ (omega arith) refl
-      (single_above 2 3 frame_strobe_name _ (omega arith) refl
-      (group_above 3 4 (map name_of_port (flat_map border_ports tile.rows)) _ (omega arith)
-      (All-map (λ name. rank name ≡ 4) name_of_port (flat_map border_ports tile.rows) (border_ranks tile.rows))
+      carried_above mode _
+      (group_above 4 5 (map name_of_port (flat_map border_ports tile.rows)) _ (omega arith)
+      (All-map (λ name. rank name ≡ 5) name_of_port (flat_map border_ports tile.rows) (border_ranks tile.rows))
       (pairs_map Differ name_of_port (flat_map border_ports tile.rows) (borders_apart tile.rows is.rows rows_apart few_wires))
-      (group_above 4 5 (map name_of_port (bels_ports tile.bels)) _ (omega arith)
-      (All-map (λ name. rank name ≡ 5) name_of_port (bels_ports tile.bels) (pad_ranks tile.bels))
+      (group_above 5 6 (map name_of_port (bels_ports tile.bels)) _ (omega arith)
+      (All-map (λ name. rank name ≡ 6) name_of_port (bels_ports tile.bels) (pad_ranks tile.bels))
       (pairs_map Differ name_of_port (bels_ports tile.bels) (pads_apart tile.bels))
-      (group_above 5 6 (matrix_names tile) _ (omega arith) (plain_names tile named) is.apart
-      (bits_above 6 (tile_bits tile) _ (omega arith)
-      (config_above 7 (tile_bits tile) _ (omega arith)
-      (matrix_above 8 (matrix_output_names tile) _ (omega arith) (bels_above 9 tile.bels (omega arith))))))))))
+      (group_above 6 7 (matrix_names tile) _ (omega arith) (plain_names tile named) is.apart
+      (bits_above 7 (tile_bits tile) _ (omega arith)
+      (config_above 8 (tile_bits tile) _ (omega arith)
+      (matrix_above 9 (matrix_output_names tile) _ (omega arith) (bels_above 10 tile.bels (omega arith))))))))
 
   -- no two nets or instances have one name
-  pub all_apart : AreApart (nets (tile_ports tile) (declarations tile) ++ instance_names (later_items tile))
-  all_apart = subst AreApart (sym (grouped tile)) all_above.apart
+  pub all_apart : AreApart (nets (tile_ports mode tile) (declarations tile) ++ instance_names (later_items mode tile))
+  all_apart = subst AreApart (sym (grouped mode tile)) all_above.apart
 
-  pub nets_apart : AreApart (nets (tile_ports tile) (declarations tile))
-  nets_apart = pairs_left Differ (nets (tile_ports tile) (declarations tile)) (instance_names (later_items tile)) all_apart
+  pub nets_apart : AreApart (nets (tile_ports mode tile) (declarations tile))
+  nets_apart = pairs_left Differ (nets (tile_ports mode tile) (declarations tile)) (instance_names (later_items mode tile)) all_apart

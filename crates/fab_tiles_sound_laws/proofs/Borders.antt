@@ -214,7 +214,7 @@ borders_apart (row ∷ rows) are apart few =
 -- ---- ranks
 
 abbrev pub IsBorderRank : Port → Type 0
-IsBorderRank port = rank port.name ≡ 4
+IsBorderRank port = rank port.name ≡ 5
 
 rank_of_row : (row : WireRow) → All IsBorderRank (border_ports row)
 rank_of_row row =

@@ -12,14 +12,17 @@ use Rattle.fab_syntax.specs.declared.tree.Port.{Port}
 use Rattle.fab_syntax.specs.Plain.{PlainJoin, PlainItem, PlainModule, wire}
 use Rattle.fab_syntax.specs.Declarations.{module_named, is_input, is_input_of}
 use Rattle.fab_meaning.specs.Ports.{config_port, scalar}
+use Rattle.fab_model.specs.declared.mode.Mode.{Mode}
+use Rattle.fab_model.specs.declared.mode.Mode.TheVariants as modes
 use Rattle.fab_model.specs.declared.tiles.Bel.{Bel}
 use Rattle.fab_model.specs.Tiles.{PlainTile, row_wires, bel_wires, counted, wire_name, matrix_names, numbered_pairs, bel_bits, tile_bits, IsTile, bits_before}
 use Rattle.fab_prim.specs.Ports.{top_outputs}
 use Rattle.fab_prim.specs.Modules.{module_name, module_of_kind}
-use Rattle.fab_parts_sound_laws.specs.fab_gen_tile_Names.{pad_name, same_join}
+use Rattle.fab_parts_sound_laws.specs.fab_gen_tile_Names.{bits_name, pad_name, same_join}
+use Rattle.fab_parts_sound_laws.specs.fab_gen_tile_ConfigModule.{config_ports, config_module}
 use Rattle.fab_parts_sound_laws.specs.fab_gen_tile_Borders.{border_ports, row_assigns}
 use Rattle.fab_parts_sound_laws.specs.fab_gen_tile_MatrixModule.{named_pairs, matrix_module}
-use Rattle.fab_parts_sound_laws.specs.fab_gen_tile_TileModule.{pad_ports, bels_ports, tile_ports, bits_wire, config_joins, config_instances, bits_join, matrix_input_names, matrix_output_names, matrix_joins, matrix_instances, bel_joins, bel_instance, bel_instances, tile_items}
+use Rattle.fab_parts_sound_laws.specs.fab_gen_tile_TileModule.{pad_ports, bels_ports, tile_ports, bits_wire, config_joins, no_config, config_instances, bits_join, matrix_input_names, matrix_output_names, matrix_joins, matrix_instances, bel_joins, bel_instance, bel_instances, tile_items}
 use Rattle.fab_parts_sound_laws.proofs.Counts.{joined_names}
 use Rattle.fab_parts_sound_laws.proofs.Names.{net_names}
 use Rattle.fab_parts_sound_laws.proofs.Lists.{all_right}
@@ -102,6 +105,15 @@ bits_drive_none : (text : List PlainModule) (bits : ℕ) → drives text (bits_w
 bits_drive_none text zero = refl
 bits_drive_none text (suc bits) = refl
 
+-- a configuration drives the outputs by which its bits come and go, and its bits; without bits an assignment drives those outputs
+config_joined : (mode : Mode) (tile : PlainTile) → joined_names (Some (config_module mode tile)) (config_joins mode) ++ [] ≡ out_names (config_ports mode) ++ bits_name ∷ []
+config_joined modes.Frames tile = refl
+config_joined modes.Chain tile = refl
+
+unconfigured_drives : (mode : Mode) (text : List PlainModule) → drives text (no_config mode) ≡ out_names (config_ports mode) ++ []
+unconfigured_drives modes.Frames text = refl
+unconfigured_drives modes.Chain text = refl
+
 module _ (tile : PlainTile) (is : IsTile tile) where
   abbrev Directed : Port → Type 0
   Directed port = is_input (matrix_module tile).ports port.name ≡ port.input
@@ -138,12 +150,12 @@ module _ (tile : PlainTile) (is : IsTile tile) where
       map_same [] = refl
       map_same (name ∷ names) = ap (λ rest. name ∷ rest) (map_same names)
 
-  module _ (text : List PlainModule) (has : HasModules text tile) where
-    config_drives : (bits : ℕ) → tile_bits tile ≡ bits → drives text (config_instances tile bits) ≡ bits_names bits
-    config_drives zero are = refl
+  module _ (mode : Mode) (text : List PlainModule) (has : HasModules mode text tile) where
+    config_drives : (bits : ℕ) → tile_bits tile ≡ bits → drives text (config_instances mode tile bits) ≡ out_names (config_ports mode) ++ bits_names bits
+    config_drives zero are = unconfigured_drives mode text
     config_drives (suc bits) are =
         let some : 0 < tile_bits tile = (let all : tile_bits tile ≡ suc bits = are in omega arith) in
-        ap (λ of. joined_names of config_joins ++ []) (has.config_is some)
+        ap (λ of. joined_names of (config_joins mode) ++ []) (has.config_is some) ∙ config_joined mode tile
 
     matrix_instance_drives : (outputs : List (List ℕ)) → matrix_output_names tile ≡ outputs → drives text (matrix_instances tile outputs) ≡ outputs
     matrix_instance_drives [] are = refl
@@ -156,14 +168,14 @@ module _ (tile : PlainTile) (is : IsTile tile) where
 
     module _ (name : List ℕ) where
       -- together: a name is driven as often as it is an output or a net of the tile
-      pub drives_declared : count text name (drives text (tile_items tile)) ≡ count text name (out_names (tile_ports tile)) + count text name (net_names (declarations tile))
+      pub drives_declared : count text name (drives text (tile_items mode tile)) ≡ count text name (out_names (tile_ports mode tile)) + count text name (net_names (declarations tile))
       drives_declared =
           let wires = map (wire Scalar) (matrix_names tile) in
           let rows = flat_map row_assigns tile.rows in
-          let config = config_instances tile (tile_bits tile) in
+          let config = config_instances mode tile (tile_bits tile) in
           let matrix = matrix_instances tile (matrix_output_names tile) in
           let bels = bel_instances tile.bels in
-          let first : count text name (drives text (tile_items tile)) ≡ count text name (drives text wires) + count text name (drives text (bits_wire (tile_bits tile) ++ (rows ++ (config ++ (matrix ++ bels))))) =
+          let first : count text name (drives text (tile_items mode tile)) ≡ count text name (drives text wires) + count text name (drives text (bits_wire (tile_bits tile) ++ (rows ++ (config ++ (matrix ++ bels))))) =
           counts text name _ (drives text wires) (drives text (bits_wire (tile_bits tile) ++ (rows ++ (config ++ (matrix ++ bels))))) (drives_both text wires (bits_wire (tile_bits tile) ++ (rows ++ (config ++ (matrix ++ bels))))) in
           let second : count text name (drives text (bits_wire (tile_bits tile) ++ (rows ++ (config ++ (matrix ++ bels))))) ≡ count text name (drives text (bits_wire (tile_bits tile))) + count text name (drives text (rows ++ (config ++ (matrix ++ bels)))) =
           counts text name _ (drives text (bits_wire (tile_bits tile))) (drives text (rows ++ (config ++ (matrix ++ bels)))) (drives_both text (bits_wire (tile_bits tile)) (rows ++ (config ++ (matrix ++ bels)))) in
@@ -175,7 +187,8 @@ module _ (tile : PlainTile) (is : IsTile tile) where
           counts text name _ (drives text matrix) (drives text bels) (drives_both text matrix bels) in
           let of_wires : count text name (drives text wires) ≡ 0 = ap (count text name) (wires_drive_none text (matrix_names tile)) in
           let of_bits : count text name (drives text (bits_wire (tile_bits tile))) ≡ 0 = ap (count text name) (bits_drive_none text (tile_bits tile)) in
-          let of_config : count text name (drives text config) ≡ count text name (bits_names (tile_bits tile)) = ap (count text name) (config_drives (tile_bits tile) refl) in
+          let of_config : count text name (drives text config) ≡ count text name (out_names (config_ports mode)) + count text name (bits_names (tile_bits tile)) =
+          counts text name _ (out_names (config_ports mode)) (bits_names (tile_bits tile)) (config_drives (tile_bits tile) refl) in
           let of_matrix : count text name (drives text matrix) ≡ count text name (matrix_output_names tile) = ap (count text name) (matrix_instance_drives (matrix_output_names tile) refl) in
           let outputs : count text name (matrix_output_names tile) ≡ count text name (outputs_of (flat_map row_wires tile.rows)) + count text name (outputs_of (flat_map bel_wires tile.bels)) =
           counts text name _ (outputs_of (flat_map row_wires tile.rows)) (outputs_of (flat_map bel_wires tile.bels)) (outputs_append (flat_map row_wires tile.rows) (flat_map bel_wires tile.bels)) in
@@ -183,6 +196,8 @@ module _ (tile : PlainTile) (is : IsTile tile) where
           counts text name _ (map wire_name (flat_map row_wires tile.rows)) (map wire_name (flat_map bel_wires tile.bels)) (map-append wire_name (flat_map row_wires tile.rows) (flat_map bel_wires tile.bels)) in
           let declared : count text name (net_names (declarations tile)) ≡ count text name (matrix_names tile) + count text name (bits_names (tile_bits tile)) =
           counts text name _ (matrix_names tile) (bits_names (tile_bits tile)) (declared_names tile) in
-          let ports : count text name (out_names (tile_ports tile)) ≡ count text name (out_names (flat_map border_ports tile.rows)) + count text name (out_names (bels_ports tile.bels)) =
+          let ports : count text name (out_names (tile_ports mode tile)) ≡ count text name (out_names (config_ports mode)) + count text name (out_names (flat_map border_ports tile.rows ++ bels_ports tile.bels)) =
+          counts text name _ (out_names (config_ports mode)) (out_names (flat_map border_ports tile.rows ++ bels_ports tile.bels)) (out_append (config_ports mode) (flat_map border_ports tile.rows ++ bels_ports tile.bels)) in
+          let later_ports : count text name (out_names (flat_map border_ports tile.rows ++ bels_ports tile.bels)) ≡ count text name (out_names (flat_map border_ports tile.rows)) + count text name (out_names (bels_ports tile.bels)) =
           counts text name _ (out_names (flat_map border_ports tile.rows)) (out_names (bels_ports tile.bels)) (out_append (flat_map border_ports tile.rows) (bels_ports tile.bels)) in
           omega (arith, rows_count text name tile.rows is.rows, bels_count text name (bits_before tile.bels) 0 tile.bels has.kinds_are)

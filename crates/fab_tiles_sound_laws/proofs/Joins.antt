@@ -1,5 +1,5 @@
 -- Joins in the order of the ports of the module below: the instance fits, and drives what its outputs are joined to.
-use Rattle.std.proofs.Common.{◌≡◌, ◌≢◌, ℕ, zero, suc, ◌+◌, ◌<◌, true, false, List, [], ◌∷◌, ◌++◌, map, get_or, length, refl, sym, ap, ◌∙◌, subst, arith, Option, Some, All, Contains, IsSomeAnd, append_assoc, if◌then◌else◌}
+use Rattle.std.proofs.Common.{◌≡◌, ◌≢◌, ℕ, zero, suc, ◌+◌, ◌<◌, Bool, true, false, List, [], ◌∷◌, ◌++◌, map, get_or, length, refl, sym, ap, ◌∙◌, subst, arith, Option, Some, All, Contains, IsSomeAnd, append_assoc, if◌then◌else◌}
 use Rattle.std.specs.List.{AllZip}
 use Rattle.std.specs.Str.{bytes_eq}
 use Rattle.std.proofs.lemmas.List.Elements.{All-nil, All-cons, All-head, All-tail, All-weaker, All-contains, All-contains_itself}
@@ -7,7 +7,7 @@ use Rattle.std.proofs.lemmas.Slice.Eq.{bytes_eq-Decides}
 use Rattle.fab_syntax.specs.declared.tree.Port.{Port}
 use Rattle.fab_syntax.specs.Plain.{PlainJoin, PlainModule, variable}
 use Rattle.fab_syntax.specs.Declarations.{width, is_input, is_input_of, one_if_same, times_joined}
-use Rattle.fab_syntax.specs.Sound.{FitsPort, JoinFits, IsJoinedOnce, port_named}
+use Rattle.fab_syntax.specs.Sound.{width_of_name, FitsPort, JoinFits, IsJoinedOnce, port_named}
 use Rattle.fab_meaning.proofs.Declared.{bytes_apart}
 use Rattle.fab_parts_sound_laws.specs.fab_gen_tile_Names.{port_join}
 use Rattle.fab_parts_sound_laws.proofs.Counts.{driven_name, joined_names, times, times_once}
@@ -29,6 +29,11 @@ zip_append R (x ∷ xs) more (y ∷ ys) others zip later = (zip.0, zip_append R 
 pub zip_map : {X Y Z : Type 0} (R : X → Y → Type 0) (f : Z → X) (g : Z → Y) (zs : List Z) → All (λ z. R (f z) (g z)) zs → AllZip R (map f zs) (map g zs)
 zip_map R f g [] all = tt
 zip_map {X} {Y} {Z} R f g (z ∷ zs) all = (All-head (λ (z : Z). R (f z) (g z)) z zs all, zip_map R f g zs (All-tail (λ (z : Z). R (f z) (g z)) z zs all))
+
+-- made from the elements that they stand beside
+pub zip_made : {X Y : Type 0} (R : X → Y → Type 0) (f : Y → X) (ys : List Y) → All (λ y. R (f y) y) ys → AllZip R (map f ys) ys
+zip_made R f [] all = tt
+zip_made {X} {Y} R f (y ∷ ys) all = (All-head (λ (y : Y). R (f y) y) y ys all, zip_made R f ys (All-tail (λ (y : Y). R (f y) y) y ys all))
 
 zip_each : {X Y : Type 0} (R : X → Y → Type 0) (xs : List X) (ys : List Y) → AllZip R xs ys → All (λ x. (y : Y) × Contains ys y × R x y) xs
 zip_each R [] ys zip = All-nil _
@@ -67,6 +72,11 @@ directions ports apart = All-weaker (Contains ports) (λ (port : Port). is_input
 -- a join is to this port, and fits it
 abbrev pub JoinsPort : PlainModule → PlainJoin → Port → Type 0
 JoinsPort m join port = (join.port ≡ port.name) × FitsPort m port.input (width port.shape) join.to
+
+-- a name fits a port that is as wide, whatever its direction
+pub name_fits : (m : PlainModule) (input : Bool) (wide : ℕ) (name : List ℕ) → width_of_name m name ≡ wide → FitsPort m input wide (Some (variable name))
+name_fits m true wide name is = is
+name_fits m false wide name is = is
 
 joined_as_named : (m : PlainModule) (joins : List PlainJoin) (ports : List Port) (name : List ℕ) → AllZip (JoinsPort m) joins ports → times_joined joins name ≡ times (port_names ports) name
 joined_as_named m [] [] name zip = refl

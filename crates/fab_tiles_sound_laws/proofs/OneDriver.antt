@@ -6,9 +6,10 @@ use Rattle.std.proofs.lemmas.List.Elements.{All-nil, All-cons, All-head, All-tai
 use Rattle.std.proofs.lemmas.Slice.Eq.{bytes_eq-Decides}
 use Rattle.fab_syntax.specs.declared.tree.Shape.TheVariants.{Scalar, Vector}
 use Rattle.fab_syntax.specs.declared.tree.Port.{Port}
-use Rattle.fab_syntax.specs.Plain.{PlainItem, PlainModule, wire, reg, assign, latch, clocked, instance}
+use Rattle.fab_syntax.specs.Plain.{PlainExpr, PlainItem, PlainModule, wire, reg, assign, latch, clocked, instance}
 use Rattle.fab_syntax.specs.Declarations.{times_driven, times_held}
 use Rattle.fab_syntax.specs.Sound.{IsAssignedOnce, DirectionFits, PortIsDriven, ItemIsDriven}
+use Rattle.fab_model.specs.declared.mode.Mode.{Mode}
 use Rattle.fab_model.specs.declared.tiles.Bel.{Bel}
 use Rattle.fab_model.specs.Tiles.{PlainTile, matrix_names, tile_bits, IsTile, bits_before}
 use Rattle.fab_parts_sound_laws.specs.fab_gen_tile_Words.{IsNamed}
@@ -19,7 +20,7 @@ use Rattle.fab_parts_sound_laws.proofs.Counts.{times, times_once, driven_times}
 use Rattle.fab_parts_sound_laws.proofs.Names.{nets, net_names}
 use Rattle.fab_parts_sound_laws.proofs.Lists.{contains_first, contains_later, contains_map}
 use Rattle.fab_tiles_sound_laws.specs.Has.{HasModules}
-use Rattle.fab_tiles_sound_laws.proofs.Apart.{declarations, later_items, instances, items_split, bits_names, declared_names, nets_apart, each_later, each_of_tile}
+use Rattle.fab_tiles_sound_laws.proofs.Apart.{declarations, later_items, instances, items_split, bits_names, declared_names, nets_apart, each_unconfigured, each_later, each_of_tile}
 use Rattle.fab_tiles_sound_laws.proofs.Joins.{port_name}
 use Rattle.fab_tiles_sound_laws.proofs.Drives.{times_both, out_names}
 use Rattle.fab_tiles_sound_laws.proofs.Drivers.{drives_declared}
@@ -92,70 +93,71 @@ never_held (latch target gate e ∷ items) name all = absurd (All-head HoldsNone
 never_held (clocked clock target e ∷ items) name all = absurd (All-head HoldsNone (clocked clock target e) items all)
 never_held (instance module_name i joins ∷ items) name all = never_held items name (All-tail HoldsNone (instance module_name i joins) items all)
 
--- what holds of all instances holds of those of a tile
-pub each_instance : (P : PlainItem → Type 0) (tile : PlainTile) → ((module_name i : List ℕ) (joins : _) → P (instance module_name i joins)) → All P (instances tile)
-each_instance P tile each =
-    All-append P (config_instances tile (tile_bits tile)) _ (of_config (tile_bits tile))
+-- what holds of all instances and assignments holds of what a tile has as instances, or in their place
+pub each_instance : (P : PlainItem → Type 0) (mode : Mode) (tile : PlainTile) → ((target : List ℕ) (e : PlainExpr) → P (assign target e)) →
+    ((module_name i : List ℕ) (joins : _) → P (instance module_name i joins)) → All P (instances mode tile)
+each_instance P mode tile of_assign each =
+    All-append P (config_instances mode tile (tile_bits tile)) _ (of_config (tile_bits tile))
     (All-append P (matrix_instances tile (matrix_output_names tile)) (bel_instances tile.bels) (of_matrix (matrix_output_names tile))
     (All-map P (λ (placed : ℕ × Bel). bel_instance placed.0 (bits_before tile.bels placed.0) placed.1) (enumerate_from 0 tile.bels) (λ k d few. each _ _ _)))
   where
-    of_config : (bits : ℕ) → All P (config_instances tile bits)
-    of_config zero = All-nil P
+    of_config : (bits : ℕ) → All P (config_instances mode tile bits)
+    of_config zero = each_unconfigured P of_assign mode
     of_config (suc bits) = All-cons P _ [] (each _ _ _) (All-nil P)
 
     of_matrix : (outputs : List (List ℕ)) → All P (matrix_instances tile outputs)
     of_matrix [] = All-nil P
     of_matrix (output ∷ outputs) = All-cons P _ [] (each _ _ _) (All-nil P)
 
-tile_holds : (tile : PlainTile) (name : List ℕ) → times_held (tile_items tile) name ≡ 0
-tile_holds tile name = never_held (tile_items tile) name (each_of_tile HoldsNone tile (λ shape name. tt) (λ target e. tt) (each_instance HoldsNone tile (λ module_name i joins. tt)))
+tile_holds : (mode : Mode) (tile : PlainTile) (name : List ℕ) → times_held (tile_items mode tile) name ≡ 0
+tile_holds mode tile name = never_held (tile_items mode tile) name (each_of_tile HoldsNone mode tile (λ shape name. tt) (λ target e. tt) (each_instance HoldsNone mode tile (λ target e. tt) (λ module_name i joins. tt)))
 
 -- ---- the rule
 
-module _ (tile : PlainTile) (is : IsTile tile) (named : IsNamed tile) (text : List PlainModule) (has : HasModules text tile) where
+module _ (mode : Mode) (tile : PlainTile) (is : IsTile tile) (named : IsNamed tile) (text : List PlainModule) (has : HasModules mode text tile) where
   -- a net is declared once
-  once : (name : List ℕ) → Contains (nets (tile_ports tile) (declarations tile)) name →
-      times (in_names (tile_ports tile)) name + times (out_names (tile_ports tile)) name + times (net_names (declarations tile)) name ≡ 1
+  once : (name : List ℕ) → Contains (nets (tile_ports mode tile) (declarations tile)) name →
+      times (in_names (tile_ports mode tile)) name + times (out_names (tile_ports mode tile)) name + times (net_names (declarations tile)) name ≡ 1
   once name there =
-      let all : times (nets (tile_ports tile) (declarations tile)) name ≡ 1 = times_once (nets (tile_ports tile) (declarations tile)) name (nets_apart tile is named) there in
-      let both : times (nets (tile_ports tile) (declarations tile)) name ≡ times (map port_name (tile_ports tile)) name + times (net_names (declarations tile)) name =
-      times_both (map port_name (tile_ports tile)) (net_names (declarations tile)) name in
-      omega (arith, in_and_out (tile_ports tile) name)
+      let all : times (nets (tile_ports mode tile) (declarations tile)) name ≡ 1 = times_once (nets (tile_ports mode tile) (declarations tile)) name (nets_apart mode tile is named) there in
+      let both : times (nets (tile_ports mode tile) (declarations tile)) name ≡ times (map port_name (tile_ports mode tile)) name + times (net_names (declarations tile)) name =
+      times_both (map port_name (tile_ports mode tile)) (net_names (declarations tile)) name in
+      omega (arith, in_and_out (tile_ports mode tile) name)
 
-  driven : (name : List ℕ) → times_driven text (tile_items tile) name ≡ times (out_names (tile_ports tile)) name + times (net_names (declarations tile)) name
-  driven name = driven_times text (tile_items tile) name ∙ drives_declared tile is text has name
+  driven : (name : List ℕ) → times_driven text (tile_items mode tile) name ≡ times (out_names (tile_ports mode tile)) name + times (net_names (declarations tile)) name
+  driven name = driven_times text (tile_items mode tile) name ∙ drives_declared tile is mode text has name
 
-  port_is_net : (port : Port) → Contains (tile_ports tile) port → Contains (nets (tile_ports tile) (declarations tile)) port.name
+  port_is_net : (port : Port) → Contains (tile_ports mode tile) port → Contains (nets (tile_ports mode tile) (declarations tile)) port.name
   port_is_net port there =
-      Contains-append_left (map port_name (tile_ports tile)) (net_names (declarations tile)) port.name (contains_map port_name (tile_ports tile) port there)
+      Contains-append_left (map port_name (tile_ports mode tile)) (net_names (declarations tile)) port.name (contains_map port_name (tile_ports mode tile) port there)
 
-  port_driven : (port : Port) → Contains (tile_ports tile) port → PortIsDriven text (tile_module tile) port
+  port_driven : (port : Port) → Contains (tile_ports mode tile) port → PortIsDriven text (tile_module mode tile) port
   port_driven port there =
       let one = once port.name (port_is_net port there) in
       let drivers = driven port.name in
       elim (cases_Bool port.input) [
         | inl t ↦ (
-            let some : 1 ≤ times (in_names (tile_ports tile)) port.name = at_least_once (in_names (tile_ports tile)) port.name (input_at (tile_ports tile) port there.0 t there.1 there.2) in
-            let none : times_driven text (tile_items tile) port.name ≡ 0 = omega (arith, one, drivers) in
-            subst (λ input. DirectionFits text (tile_module tile) input port.name) (sym t) none)
+            let some : 1 ≤ times (in_names (tile_ports mode tile)) port.name = at_least_once (in_names (tile_ports mode tile)) port.name (input_at (tile_ports mode tile) port there.0 t there.1 there.2) in
+            let none : times_driven text (tile_items mode tile) port.name ≡ 0 = omega (arith, one, drivers) in
+            subst (λ input. DirectionFits text (tile_module mode tile) input port.name) (sym t) none)
         | inr f ↦ (
-            let some : 1 ≤ times (out_names (tile_ports tile)) port.name = at_least_once (out_names (tile_ports tile)) port.name (output_at (tile_ports tile) port there.0 f there.1 there.2) in
-            let single : times_driven text (tile_items tile) port.name ≡ 1 = omega (arith, one, drivers) in
-            subst (λ input. DirectionFits text (tile_module tile) input port.name) (sym f) (single, tile_holds tile port.name))
+            let some : 1 ≤ times (out_names (tile_ports mode tile)) port.name = at_least_once (out_names (tile_ports mode tile)) port.name (output_at (tile_ports mode tile) port there.0 f there.1 there.2) in
+            let single : times_driven text (tile_items mode tile) port.name ≡ 1 = omega (arith, one, drivers) in
+            subst (λ input. DirectionFits text (tile_module mode tile) input port.name) (sym f) (single, tile_holds mode tile port.name))
       ]
 
-  pub ports_driven : All (PortIsDriven text (tile_module tile)) (tile_ports tile)
-  ports_driven = All-weaker (Contains (tile_ports tile)) (PortIsDriven text (tile_module tile)) port_driven (tile_ports tile) (All-contains_itself (tile_ports tile))
+  pub ports_driven : All (PortIsDriven text (tile_module mode tile)) (tile_ports mode tile)
+  ports_driven = All-weaker (Contains (tile_ports mode tile)) (PortIsDriven text (tile_module mode tile)) port_driven (tile_ports mode tile) (All-contains_itself (tile_ports mode tile))
 
-  net_driven : (name : List ℕ) → Contains (net_names (declarations tile)) name → IsAssignedOnce text (tile_module tile) name
+  net_driven : (name : List ℕ) → Contains (net_names (declarations tile)) name → IsAssignedOnce text (tile_module mode tile) name
   net_driven name there =
-      let one = once name (Contains-append_right (map port_name (tile_ports tile)) (net_names (declarations tile)) name there) in
+      let one = once name (Contains-append_right (map port_name (tile_ports mode tile)) (net_names (declarations tile)) name there) in
       let drivers = driven name in
       let some : 1 ≤ times (net_names (declarations tile)) name = at_least_once (net_names (declarations tile)) name there in
-      (omega (arith, one, drivers), tile_holds tile name)
+      (omega (arith, one, drivers), tile_holds mode tile name)
 
   abbrev IsDriven : PlainItem → Type 0
-  IsDriven item = ItemIsDriven text (tile_module tile) item
+  IsDriven item = ItemIsDriven text (tile_module mode tile) item
 
   wires_driven : All IsDriven (map (wire Scalar) (matrix_names tile))
   wires_driven =
@@ -174,9 +176,9 @@ module _ (tile : PlainTile) (is : IsTile tile) (named : IsNamed tile) (text : Li
       (subst (λ n. Contains (bits_names n) bits_name) (sym are) (contains_first bits_name [])))))
       (All-nil IsDriven)
 
-  pub items_driven : All IsDriven (tile_items tile)
+  pub items_driven : All IsDriven (tile_items mode tile)
   items_driven =
-      subst (All IsDriven) (sym (items_split tile))
-      (All-append IsDriven (declarations tile) (later_items tile)
+      subst (All IsDriven) (sym (items_split mode tile))
+      (All-append IsDriven (declarations tile) (later_items mode tile)
       (All-append IsDriven (map (wire Scalar) (matrix_names tile)) (bits_wire (tile_bits tile)) wires_driven (bits_driven (tile_bits tile) refl))
-      (each_later IsDriven (λ target e. tt) tile (each_instance IsDriven tile (λ module_name i joins. tt))))
+      (each_later IsDriven (λ target e. tt) mode tile (each_instance IsDriven mode tile (λ target e. tt) (λ module_name i joins. tt))))

@@ -100,7 +100,7 @@ pub pads_apart : (bels : List Bel) → AllPairs PortsDiffer (bels_ports bels)
 pads_apart bels = pads_apart_from 0 bels
 
 abbrev pub IsPadRank : Port → Type 0
-IsPadRank port = rank port.name ≡ 5
+IsPadRank port = rank port.name ≡ 6
 
 rank_of_pad : (place : ℕ) (kind : Kind) → All IsPadRank (pad_ports place kind)
 rank_of_pad place Lut4c = All-nil IsPadRank
@@ -144,5 +144,5 @@ bels_apart_from first (bel ∷ bels) =
     (All-weaker (IsNameFrom (first + 1)) (Differ (bel_instance_name first)) (λ name from. other_place first name from) (bel_names (first + 1) bels) (names_from (first + 1) bels))
     (bels_apart_from (first + 1) bels)
 
-pub bel_ranks : (bels : List Bel) → All (λ name. rank name ≡ 10) (bel_names 0 bels)
-bel_ranks bels = All-map (λ name. rank name ≡ 10) (λ (placed : ℕ × Bel). bel_instance_name placed.0) (enumerate_from 0 bels) (λ k d few. refl)
+pub bel_ranks : (bels : List Bel) → All (λ name. rank name ≡ 11) (bel_names 0 bels)
+bel_ranks bels = All-map (λ name. rank name ≡ 11) (λ (placed : ℕ × Bel). bel_instance_name placed.0) (enumerate_from 0 bels) (λ k d few. refl)

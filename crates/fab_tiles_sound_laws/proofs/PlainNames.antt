@@ -19,7 +19,7 @@ use Rattle.fab_tiles_sound_laws.proofs.Digits.{first_byte, first_digit, last_dig
 use Rattle.fab_tiles_sound_laws.proofs.Ranks.{is_made, plain_rank, rank, free_joined, plain_is, low_plain}
 
 abbrev pub IsPlain : List ℕ → Type 0
-IsPlain name = rank name ≡ 6
+IsPlain name = rank name ≡ 7
 
 abbrev IsPlainWire : TileWire → Type 0
 IsPlainWire wire = IsPlain (wire_name wire)
@@ -54,7 +54,7 @@ plain_row row source dest =
 
 -- what a pin's name begins and ends with, whatever stands before it
 abbrev IsPin : List ℕ → Type 0
-IsPin pin = (first_byte pin < 95) × ((before : ℕ) → plain_rank (last_byte pin before) ≡ 6)
+IsPin pin = (first_byte pin < 95) × ((before : ℕ) → plain_rank (last_byte pin before) ≡ 7)
 
 pins : (kind : Kind) → Each IsPin (pin_names kind)
 pins Lut4c = search rules

@@ -5,6 +5,8 @@ use Rattle.fab_kinds.specs.declared.kind.Kind.{Kind}
 use Rattle.fab_kinds.specs.declared.kind.Kind.TheVariants.{Lut4c, Io, Mux8}
 use Rattle.fab_select.specs.Selection.{select_bits}
 use Rattle.fab_meaning.specs.Ports.{config_port, scalar}
+use Rattle.fab_model.specs.declared.mode.Mode.{Mode}
+use Rattle.fab_model.specs.declared.mode.Mode.TheVariants as modes
 use Rattle.fab_model.specs.Tiles.{PlainTile, IsTile}
 use Rattle.fab_prim.specs.Ports.{module_ports}
 use Rattle.fab_parts_sound_laws.specs.fab_gen_tile_ConfigModule.{config_module}
@@ -17,8 +19,9 @@ use Rattle.fab_parts_sound_laws.proofs.Names.{AreApart}
 use Rattle.fab_parts_sound_laws.proofs.TileMatrices.{outputs_named, matrix_apart}
 use Rattle.fab_tiles_sound_laws.proofs.Joins.{port_name}
 
-pub config_ports_apart : (tile : PlainTile) → AreApart (port_names (config_module tile).ports)
-config_ports_apart tile = apart_if (port_names (config_module tile).ports) refl
+pub config_ports_apart : (mode : Mode) (tile : PlainTile) → AreApart (port_names (config_module mode tile).ports)
+config_ports_apart modes.Frames tile = apart_if (port_names (config_module modes.Frames tile).ports) refl
+config_ports_apart modes.Chain tile = apart_if (port_names (config_module modes.Chain tile).ports) refl
 
 none_same : (kind : Kind) → any_same (port_names (module_ports kind)) ≡ false
 none_same Lut4c = refl

@@ -11,24 +11,25 @@ use Rattle.fab_tiles_sound_laws.proofs.Digits.{first_byte, byte_apart}
 abbrev pub is_made : List ℕ → Bool
 is_made name = starts_with nat_eq name (codes "fab_")
 
--- a border bit, a port of a pad, the configuration bits, the configuration, the matrix, a BEL: by what follows `fab_`
+-- what comes or goes by a chain, a border bit, a port of a pad, the configuration bits, the configuration, the matrix, a BEL: by what
+-- follows `fab_`
 abbrev pub made_rank : (fifth sixth : ℕ) → ℕ
 made_rank fifth sixth =
-    if nat_eq fifth 111 then 4
-    else if nat_eq fifth 105 then 4
-    else if nat_eq fifth 112 then 5
-    else if nat_eq fifth 99 then 8
-    else if nat_eq fifth 109 then 9
-    else if nat_eq sixth 105 then 7
-    else 10
+    if nat_eq fifth 111 then 5
+    else if nat_eq fifth 105 then 5
+    else if nat_eq fifth 112 then 6
+    else if nat_eq fifth 99 then (if nat_eq sixth 104 then 4 else 9)
+    else if nat_eq fifth 109 then 10
+    else if nat_eq sixth 105 then 8
+    else 11
 
--- the clock, the frame data, the frame strobe, a matrix name: by the last byte
+-- a clock, the frame data, a strobe, a matrix name: by the last byte
 abbrev pub plain_rank : (last : ℕ) → ℕ
 plain_rank last =
     if nat_eq last 75 then 1
     else if nat_eq last 97 then 2
     else if nat_eq last 101 then 3
-    else 6
+    else 7
 
 abbrev pub rank : List ℕ → ℕ
 rank name = if is_made name then made_rank (get_or name 4 0) (get_or name 5 0) else plain_rank (last_byte name 0)
@@ -90,10 +91,10 @@ free_joined (a ∷ b ∷ c ∷ []) (t ∷ tail) free low =
     rw other (ap (λ x. nat_eq 102 a && (nat_eq 97 b && x)) (and_false (nat_eq 98 c)) ∙ ap (λ x. nat_eq 102 a && x) (and_false (nat_eq 97 b)) ∙ and_false (nat_eq 102 a))
 free_joined (a ∷ b ∷ c ∷ d ∷ front) tail free low = free
 
-pub plain_is : (name : List ℕ) → is_made name ≡ false → plain_rank (last_byte name 0) ≡ 6 → rank name ≡ 6
+pub plain_is : (name : List ℕ) → is_made name ≡ false → plain_rank (last_byte name 0) ≡ 7 → rank name ≡ 7
 plain_is name free plain = rw free plain
 
-pub low_plain : (last : ℕ) → last < 58 → plain_rank last ≡ 6
+pub low_plain : (last : ℕ) → last < 58 → plain_rank last ≡ 7
 low_plain last low =
     let k : nat_eq last 75 ≡ false = byte_apart last 75 (λ same. (let equal : last ≡ 75 = same in omega arith)) in
     let a : nat_eq last 97 ≡ false = byte_apart last 97 (λ same. (let equal : last ≡ 97 = same in omega arith)) in

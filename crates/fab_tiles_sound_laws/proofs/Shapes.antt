@@ -10,6 +10,7 @@ use Rattle.fab_syntax.specs.declared.tree.Port.{Port}
 use Rattle.fab_syntax.specs.Plain.{PlainItem, wire, reg, assign, latch, clocked, instance}
 use Rattle.fab_syntax.specs.Declarations.{item_shape, declared_shape}
 use Rattle.fab_meaning.proofs.Declared.{bytes_apart}
+use Rattle.fab_model.specs.declared.mode.Mode.{Mode}
 use Rattle.fab_model.specs.Tiles.{PlainTile, matrix_names, tile_bits, IsTile}
 use Rattle.fab_parts_sound_laws.specs.fab_gen_tile_Words.{IsNamed}
 use Rattle.fab_parts_sound_laws.specs.fab_gen_tile_Names.{bits_name}
@@ -97,26 +98,26 @@ ports_apart (port ∷ ports) others name apart there (suc k) d few =
 
 -- ---- the nets of a tile
 
-abbrev pub shape_of : PlainTile → List ℕ → Option Shape
-shape_of tile name = declared_shape (tile_ports tile) (declarations tile) name
+abbrev pub shape_of : Mode → PlainTile → List ℕ → Option Shape
+shape_of mode tile name = declared_shape (tile_ports mode tile) (declarations tile) name
 
 -- as its module has it
-pub whole_shape : (tile : PlainTile) (name : List ℕ) (shape : Shape) → shape_of tile name ≡ Some shape → declared_shape (tile_ports tile) (tile_items tile) name ≡ Some shape
-whole_shape tile name shape e =
-    ap (λ items. declared_shape (tile_ports tile) items name) (items_split tile) ∙ kept (tile_ports tile) (declarations tile) (later_items tile) name shape e
+pub whole_shape : (mode : Mode) (tile : PlainTile) (name : List ℕ) (shape : Shape) → shape_of mode tile name ≡ Some shape → declared_shape (tile_ports mode tile) (tile_items mode tile) name ≡ Some shape
+whole_shape mode tile name shape e =
+    ap (λ items. declared_shape (tile_ports mode tile) items name) (items_split mode tile) ∙ kept (tile_ports mode tile) (declarations tile) (later_items mode tile) name shape e
 
-module _ (tile : PlainTile) (is : IsTile tile) (named : IsNamed tile) where
-  split_apart : AreApart (port_names (tile_ports tile) ++ (matrix_names tile ++ bits_names (tile_bits tile)))
-  split_apart = subst (λ names. AreApart (port_names (tile_ports tile) ++ names)) (declared_names tile) (nets_apart tile is named)
+module _ (mode : Mode) (tile : PlainTile) (is : IsTile tile) (named : IsNamed tile) where
+  split_apart : AreApart (port_names (tile_ports mode tile) ++ (matrix_names tile ++ bits_names (tile_bits tile)))
+  split_apart = subst (λ names. AreApart (port_names (tile_ports mode tile) ++ names)) (declared_names tile) (nets_apart mode tile is named)
 
-  pub port_shape : (port : Port) → Contains (tile_ports tile) port → shape_of tile port.name ≡ Some port.shape
+  pub port_shape : (port : Port) → Contains (tile_ports mode tile) port → shape_of mode tile port.name ≡ Some port.shape
   port_shape port there =
-      port_declared port (tile_ports tile) (declarations tile) (pairs_left Differ (port_names (tile_ports tile)) (net_names (declarations tile)) (nets_apart tile is named)) there
+      port_declared port (tile_ports mode tile) (declarations tile) (pairs_left Differ (port_names (tile_ports mode tile)) (net_names (declarations tile)) (nets_apart mode tile is named)) there
 
-  pub matrix_shape : (name : List ℕ) → Contains (matrix_names tile) name → shape_of tile name ≡ Some Scalar
+  pub matrix_shape : (name : List ℕ) → Contains (matrix_names tile) name → shape_of mode tile name ≡ Some Scalar
   matrix_shape name there =
-      passed (tile_ports tile) (declarations tile) name
-      (ports_apart (tile_ports tile) (matrix_names tile ++ bits_names (tile_bits tile)) name split_apart
+      passed (tile_ports mode tile) (declarations tile) name
+      (ports_apart (tile_ports mode tile) (matrix_names tile ++ bits_names (tile_bits tile)) name split_apart
       (Contains-append_left (matrix_names tile) (bits_names (tile_bits tile)) name there))
       ∙ scalar_wire (matrix_names tile) (bits_wire (tile_bits tile)) name there
 
@@ -128,14 +129,14 @@ module _ (tile : PlainTile) (is : IsTile tile) (named : IsNamed tile) where
   wire_there zero some = absurd (omega arith)
   wire_there (suc bits) some = refl
 
-  pub bits_shape : 0 < tile_bits tile → shape_of tile bits_name ≡ Some (Vector (tile_bits tile))
+  pub bits_shape : 0 < tile_bits tile → shape_of mode tile bits_name ≡ Some (Vector (tile_bits tile))
   bits_shape some =
       let there = bits_there (tile_bits tile) some in
       let across : All (λ x. All (Differ x) (bits_names (tile_bits tile))) (matrix_names tile) =
       pairs_across Differ (matrix_names tile) (bits_names (tile_bits tile))
-      (pairs_right Differ (port_names (tile_ports tile)) (matrix_names tile ++ bits_names (tile_bits tile)) split_apart) in
-      passed (tile_ports tile) (declarations tile) bits_name
-      (ports_apart (tile_ports tile) (matrix_names tile ++ bits_names (tile_bits tile)) bits_name split_apart
+      (pairs_right Differ (port_names (tile_ports mode tile)) (matrix_names tile ++ bits_names (tile_bits tile)) split_apart) in
+      passed (tile_ports mode tile) (declarations tile) bits_name
+      (ports_apart (tile_ports mode tile) (matrix_names tile ++ bits_names (tile_bits tile)) bits_name split_apart
       (Contains-append_right (matrix_names tile) (bits_names (tile_bits tile)) bits_name there))
       ∙ passed_wires (matrix_names tile) (bits_wire (tile_bits tile)) bits_name
       (All-weaker (λ x. All (Differ x) (bits_names (tile_bits tile))) (λ other. other ≢ bits_name)

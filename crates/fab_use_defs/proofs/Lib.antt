@@ -17,6 +17,7 @@ pub use Rattle.fab_legal.proofs.SinkLaw as fab_legal_SinkLaw
 pub use Rattle.fab_text_loads_laws.proofs.Carried as fab_text_loads_laws_Carried
 pub use Rattle.fab_text_loads_laws.proofs.Declared as fab_text_loads_laws_Declared
 pub use Rattle.fab_text_loads_laws.proofs.Drivers as fab_text_loads_laws_Drivers
+pub use Rattle.fab_text_loads_laws.proofs.InMode as fab_text_loads_laws_InMode
 pub use Rattle.fab_text_loads_laws.proofs.Loader as fab_text_loads_laws_Loader
 pub use Rattle.fab_text_loads_laws.proofs.Named as fab_text_loads_laws_Named
 pub use Rattle.fab_text_loads_laws.proofs.Runs as fab_text_loads_laws_Runs
@@ -29,6 +30,7 @@ pub use Rattle.fab_text_loads_laws.proofs.fab_tile_drives_laws_Endings as fab_ti
 pub use Rattle.fab_text_loads_laws.proofs.fab_tile_drives_laws_Latches as fab_tile_drives_laws_Latches
 pub use Rattle.fab_text_loads_laws.proofs.fab_tile_drives_laws_MatrixPorts as fab_tile_drives_laws_MatrixPorts
 pub use Rattle.fab_text_loads_laws.proofs.fab_tile_drives_laws_Members as fab_tile_drives_laws_Members
+pub use Rattle.fab_text_loads_laws.proofs.fab_tile_drives_laws_Modes as fab_tile_drives_laws_Modes
 pub use Rattle.fab_text_loads_laws.proofs.fab_tile_drives_laws_NamedPairs as fab_tile_drives_laws_NamedPairs
 pub use Rattle.fab_text_loads_laws.proofs.fab_tile_drives_laws_PinPorts as fab_tile_drives_laws_PinPorts
 pub use Rattle.fab_text_loads_laws.proofs.fab_tile_drives_laws_TileItems as fab_tile_drives_laws_TileItems

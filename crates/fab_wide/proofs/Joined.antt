@@ -7,7 +7,7 @@ use Rattle.std.proofs.lemmas.List.{get_or-take, get_or-drop, length-drop, length
 use Rattle.std.proofs.lemmas.Nat.{div-mul-add, mod-mul-add, pow-add}
 use Rattle.std.proofs.Math.Nat.{mul_assoc, mul_left_comm, pow-le-pow_right}
 use Rattle.fab_bits.specs.Bits.{number, first_bits}
-use Rattle.fab_bits.proofs.Numbers.{drop_first_bits, first_bits_same, take_first_bits}
+use Rattle.fab_bits.proofs.Numbers.{drop_first_bits, take_first_bits}
 use Rattle.fab_wide.specs.Split.{low_half, high_half}
 use Rattle.fab_wide.specs.inner.Words.{number_of_words, AreWords}
 use Rattle.fab_wide.proofs.Halves.{number_small}
@@ -18,15 +18,6 @@ use Rattle.fab_wide.proofs.Halves.{number_small}
 abbrev pub words_by : (count : ℕ) → (ℕ → Bool) → List ℕ
 words_by zero f = []
 words_by (suc count) f = number (first_bits 16 f) ∷ words_by count (λ place. f (16 + place))
-
--- one word more
-pub words_more : (count : ℕ) (f : ℕ → Bool) → words_by (suc count) f ≡ words_by count f ++ number (first_bits 16 (λ low. f (16 * count + low))) ∷ []
-words_more zero f = refl
-words_more (suc count) f =
-    let same : number (first_bits 16 (λ low. f (16 + (16 * count + low)))) ≡ number (first_bits 16 (λ low. f (16 * suc count + low))) =
-    ap number (first_bits_same 16 (λ low. f (16 + (16 * count + low))) (λ low. f (16 * suc count + low)) (λ low small. ap f (omega arith))) in
-    ap (λ words. number (first_bits 16 f) ∷ words) (words_more count (λ place. f (16 + place)))
-    ∙ ap (λ word. number (first_bits 16 f) ∷ (words_by count (λ place. f (16 + place)) ++ word ∷ [])) same
 
 number_joined : (xs ys : List Bool) → number (xs ++ ys) ≡ number xs + 2 ^ length xs * number ys
 number_joined [] ys = omega arith
@@ -62,7 +53,7 @@ pub few_words : (inputs : ℕ) → inputs ≤ 16 → 2 ^ (inputs - 4) ≤ 4096
 few_words inputs few = pow-le-pow_right {n = 2} (omega arith) {i = inputs - 4} {j = 12} (omega (arith, few))
 
 -- a table over so many inputs has 16 bits for each word
-table_bits : (inputs : ℕ) → 16 * 2 ^ (inputs - 4) ≡ 2 ^ max 4 inputs
+pub table_bits : (inputs : ℕ) → 16 * 2 ^ (inputs - 4) ≡ 2 ^ max 4 inputs
 table_bits inputs =
     let whole : max 4 inputs ≡ 4 + (inputs - 4) = omega arith in
     sym (ap (λ k. 2 ^ k) whole ∙ pow-add 2 4 (inputs - 4))

@@ -7,5 +7,6 @@ pub mod Heights
 pub mod Stays
 pub mod Made
 pub mod Joined
+pub mod Marked
 pub mod Steps
 pub mod Whole

@@ -3,6 +3,7 @@
 
 ghost use Rattle.fab_wide.specs.Laws.{SplitKeepsNarrow, SplitKeepsOrder, SplitKeepsRuns, SplitShowsRuns};
 
+mod marks;
 mod narrowing;
 mod netlists;
 mod words;

@@ -2,7 +2,7 @@
 
 ghost use Rattle.std.specs.Prelude.{◌≡◌, ◌+◌, ◌≤◌, IfOk, OnOk, length, map};
 ghost use Rattle.std.specs.List.{All};
-ghost use Rattle.fab_netlist.specs.Wide.{tabled_cover};
+ghost use Rattle.fab_netlist.specs.Wide.{IsFineRow, tabled_cover};
 ghost use Rattle.fab_netlist.specs.WellMade.{most_nets};
 ghost use Rattle.fab_wide.specs.Split.{all_parts, all_taken, cover_with, taken, taken_by};
 ghost use Rattle.fab_wide.specs.inner.Narrowing.{narrowed, pushed, two_taken};
@@ -101,6 +101,7 @@ fn narrow(
 /// Puts the covers that stand for a cover.
 fn narrow_cover(alloc: Global, cover: &WideCover, made: &mut Narrowing) -> Result<(), Memory>
     requires few { length cover.now.inputs ≤ 16 }
+    requires rows { All (IsFineRow (length cover.now.inputs)) cover.now.rows }
     requires room { taken_by (tabled_cover cover.now) + made.old.fresh ≤ most_nets }
     ensures { OnOk result (made.new ≡ narrowed cover.now.line cover.now.inputs (length cover.now.inputs) (tabled_cover cover.now).table cover.now.output made.old) }
 {
@@ -115,6 +116,7 @@ pub(crate) fn narrow_all(
     fresh: u32,
 ) -> Result<Vec<Cover>, Memory>
     requires few { All (λ cover. length cover.inputs ≤ 16) covers.now }
+    requires rows { All (λ cover. All (IsFineRow (length cover.inputs)) cover.rows) covers.now }
     requires room { all_taken (map tabled_cover covers.now) + fresh ≤ most_nets }
     ensures { IfOk result (λ parts. parts.items ≡ all_parts (map tabled_cover covers.now) fresh) }
 {

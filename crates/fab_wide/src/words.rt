@@ -1,11 +1,13 @@
 //! Tables of covers as words of 16 bits, and how many nets their split takes.
 
-ghost use Rattle.std.specs.Prelude.{◌≡◌, ◌+◌, ◌*◌, ◌-◌, ◌^◌, ◌≤◌, IfOk, OnOk, length, nat_eq};
+ghost use Rattle.std.specs.Prelude.{◌≡◌, ◌+◌, ◌*◌, ◌-◌, ◌^◌, ◌≤◌, IfOk, length, nat_eq};
 ghost use Rattle.std.specs.Cmp.Lexicographic.{pointwise};
-ghost use Rattle.fab_netlist.specs.Wide.{tabled_cover};
+ghost use Rattle.std.specs.List.{All};
+ghost use Rattle.fab_netlist.specs.Wide.{IsFineRow, tabled_cover};
 ghost use Rattle.fab_wide.specs.Split.{taken, taken_by};
-ghost use Rattle.fab_wide.specs.inner.Words.{AreWords, number_of_words};
+ghost use Rattle.fab_wide.specs.inner.Words.{AreWords, covered_words, number_of_words};
 
+use crate::marks::{mark_row, turn_over};
 use fab_base::Memory;
 use fab_netlist::WideCover;
 use std::alloc::Global;
@@ -18,16 +20,30 @@ fn word_count(inputs: usize) -> usize
     1_usize << inputs.saturating_sub(4)
 }
 
+/// The words of the table that has 1 where a row of the cover matches.
+fn covered_words(alloc: Global, cover: &WideCover) -> Result<Vec<u16>, Memory>
+    requires few { length cover.now.inputs ≤ 16 }
+    requires rows { All (IsFineRow (length cover.now.inputs)) cover.now.rows }
+    ensures { IfOk result (λ words. words.items ≡ covered_words cover.now.rows 0 (2 ^ (length cover.now.inputs - 4))) }
+{
+    let count = word_count(cover.inputs.len());
+    let mut words = vec![in alloc; 0; count]?;
+    for row in &cover.rows {
+        mark_row(&mut words, *row);
+    }
+    Ok(words)
+}
+
 /// The table of a cover. Bit i of word w is the value of the output where the first four inputs spell i, and those from the fifth on w.
 pub(crate) fn words_of(alloc: Global, cover: &WideCover) -> Result<Vec<u16>, Memory>
-    requires { length cover.now.inputs ≤ 16 }
+    requires few { length cover.now.inputs ≤ 16 }
+    requires rows { All (IsFineRow (length cover.now.inputs)) cover.now.rows }
     ensures words { IfOk result (λ words. AreWords (length cover.now.inputs) words.items) }
     ensures table { IfOk result (λ words. number_of_words words.items ≡ (tabled_cover cover.now).table) }
 {
-    let count = word_count(cover.inputs.len());
-    let mut words = Vec::with_capacity(alloc, count)?;
-    for place in 0..count {
-        words.push(cover.word(place as u32))?;
+    let mut words = covered_words(alloc, cover)?;
+    if !cover.on {
+        turn_over(&mut words);
     }
     Ok(words)
 }
@@ -59,7 +75,8 @@ fn taken(inputs: usize, words: &[u16]) -> u32
 
 /// How many new nets the split of a cover takes.
 pub(crate) fn taken_by(alloc: Global, cover: &WideCover) -> Result<u32, Memory>
-    requires { length cover.now.inputs ≤ 16 }
+    requires few { length cover.now.inputs ≤ 16 }
+    requires rows { All (IsFineRow (length cover.now.inputs)) cover.now.rows }
     ensures value { IfOk result (λ nets. nets ≡ taken_by (tabled_cover cover.now)) }
     ensures small { IfOk result (λ nets. nets ≤ 8192) }
 {

@@ -1,10 +1,18 @@
--- What is kept of the tables of tile types, so that no word takes a search.
-use Rattle.std.specs.Prelude.{◌≡◌, ◌<◌, ◌+◌, ◌*◌, ℕ, Bool, false, List, Option, Some, None, length, slice_get, slice_index_or}
-use Rattle.fab_model.specs.Tiles.{PlainTile}
+-- What is kept of a fabric, so that no word takes a search.
+use Rattle.std.specs.Prelude.{◌≡◌, ◌<◌, ◌+◌, ◌*◌, ℕ, List, Option, Some, None, length, slice_get, slice_index_or}
+use Rattle.std.specs.List.{flat_map}
+use Rattle.fab_model.specs.declared.mode.Mode.TheVariants as modes
+use Rattle.fab_model.specs.Tiles.{PlainTile, counted}
 use Rattle.fab_model.specs.Grid.{PlainFabric}
+use Rattle.fab_fabric.specs.Bits.{bits_at}
 use Rattle.fab_fabric.specs.Fabric.{IsFabric}
-use Rattle.fab_frames.specs.Stream.{placed_bit, bit_placed_at}
+use Rattle.fab_frames.specs.Positions.{bit_place, chain}
+use Rattle.fab_frames.specs.Stream.{stream_mode, placed_bit, bit_placed_at}
+use Rattle.fab_frames.specs.declared.positions.BitPlace.{BitPlace}
 use Rattle.fab_frames.specs.declared.placing.FrameMap.{FrameMap}
+use Rattle.fab_frames.specs.declared.placing.Places.{Places}
+
+-- ---- frames
 
 -- frame by frame the configuration bit that is placed at each bit
 pub record IsMap (tile : PlainTile) (placed : List (Option ℕ)) : Type 0 where
@@ -26,10 +34,19 @@ pub record IsPlacedRow (fabric : PlainFabric) (x y frame : ℕ) (placed : List (
   pub long : length placed ≡ 32
   pub each : (bit : ℕ) → bit < 32 → placed_in placed bit ≡ bit_placed_at fabric x y frame bit
 
--- the configuration bits that are placed are some of the first n
-abbrev pub AreBelow : (n : ℕ) → (placed : List (Option ℕ)) → Type 0
-AreBelow n placed = (bit number : ℕ) → placed_in placed bit ≡ Some number → number < n
+-- ---- a chain, as the code goes along it
 
--- the bits of a tile by number
-abbrev pub bit_in : (bits : List Bool) → (number : ℕ) → Bool
-bit_in bits number = slice_index_or bits number false
+-- the configuration bits of a place; an empty place has none
+abbrev pub place_chain : PlainFabric → (x y : ℕ) → List BitPlace
+place_chain fabric x y = counted (bits_at fabric x y) (bit_place x y)
+
+-- those of a column
+abbrev pub column_chain : PlainFabric → (x : ℕ) → List BitPlace
+column_chain fabric x = flat_map (place_chain fabric x) (counted fabric.rows (λ y. y))
+
+-- ---- both
+
+-- the maps of the tile types, and the positions where there is a chain
+pub record HavePlaces (fabric : PlainFabric) (places : Places) : Type 0 where
+  pub maps : HaveMaps fabric places.maps.items
+  pub positions : stream_mode fabric ≡ modes.Chain → places.chain.items ≡ chain fabric

@@ -1,4 +1,4 @@
-use Rattle.fab_tiles_sound_laws.proofs.ClockUse.{tile_clocks}
+use Rattle.fab_tiles_sound_laws.proofs.ClockUse.{tile_clock}
 use Rattle.fab_tiles_sound_laws.proofs.Fitting.{tile_fits}
 use Rattle.fab_tiles_sound_laws.proofs.tiles_fit.Goals as goal
 
@@ -6,4 +6,4 @@ pub returns-clause-fits : goal.returns-clause-fits
 returns-clause-fits c = tile_fits
 
 pub returns-clause-clocks : goal.returns-clause-clocks
-returns-clause-clocks c = λ text tile port has. tile_clocks text tile has port
+returns-clause-clocks c = λ mode text tile port has. tile_clock mode text tile has port

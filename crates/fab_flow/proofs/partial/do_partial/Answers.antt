@@ -4,7 +4,7 @@ use Rattle.fab_outputs.specs.Storing.{plain_output}
 use Rattle.fab_outputs.proofs.Ending.{cause_of_store, leaves_of_store, done_of_store}
 use Rattle.fab_flow.specs.Partial.{IsReadyToExchange, MakesPartial, MeetsPartial, PartialFiles, partial_files, partial_refusals}
 use Rattle.fab_flow.proofs.BitsMade.{features_behind}
-use Rattle.fab_flow.proofs.PartialMade.{content_cause, content_leaves, fabric_cause, fasm_cause, implementation_behind, implementation_cause, partial_made}
+use Rattle.fab_flow.proofs.PartialMade.{chain_cause, chain_leaves, content_cause, content_leaves, fabric_cause, fasm_cause, implementation_behind, implementation_cause, partial_made}
 use Rattle.fab_flow.proofs.partial.do_partial.Goals as goal
 
 -- ---- a file is refused
@@ -15,6 +15,22 @@ returns-in_err-read-clause-cause g c =
     let names : PartialFiles = partial_files c.args.fabric.now c.args.implementation.now c.args.fasm.now c.args.first c.args.last c.args.out.now in
     rw (residual.1, residual.2) (fabric_cause (g.D.Desk.told c.args.desk.now) names _ _ c.in_err-read.field-0.0 c.in_err-read.ensures.cause)
 
+pub returns-in_err-check_frames-clause-cause : goal.returns-in_err-check_frames-clause-cause
+returns-in_err-check_frames-clause-cause g c =
+    let residual = err_from_is_err_and c.from_residual-in_err-check_frames.result c.from_residual-in_err-check_frames.ensures.1 in
+    let names : PartialFiles = partial_files c.args.fabric.now c.args.implementation.now c.args.fasm.now c.args.first c.args.last c.args.out.now in
+    rw (residual.1, residual.2)
+    (chain_cause (g.D.Desk.told c.args.desk.now) names _ _ c.in_err-check_frames.field-0.0 c.in_ok-read.read (λ files is. c.in_ok-read.ensures.spelled files is)
+    c.in_err-check_frames.ensures.chain c.in_err-check_frames.ensures.refused)
+
+pub returns-in_err-check_frames-clause-leaves : goal.returns-in_err-check_frames-clause-leaves
+returns-in_err-check_frames-clause-leaves g c =
+    let residual = err_from_is_err_and c.from_residual-in_err-check_frames.result c.from_residual-in_err-check_frames.ensures.1 in
+    let names : PartialFiles = partial_files c.args.fabric.now c.args.implementation.now c.args.fasm.now c.args.first c.args.last c.args.out.now in
+    rw (residual.1, residual.2)
+    (chain_leaves (λ files. MakesPartial files names) (g.D.Desk.told c.args.desk.now) _ names c.in_err-check_frames.field-0.0 c.in_ok-read.ensures.told
+    c.in_err-check_frames.ensures.refused)
+
 pub returns-in_err-running-clause-cause : goal.returns-in_err-running-clause-cause
 returns-in_err-running-clause-cause g c =
     let residual = err_from_is_err_and c.from_residual-in_err-running.result c.from_residual-in_err-running.ensures.1 in
@@ -23,7 +39,7 @@ returns-in_err-running-clause-cause g c =
     let before = c.in_ok-read.ensures.reads in
     rw (residual.1, residual.2)
     (implementation_cause (g.D.Desk.told c.args.desk.now) names (reads c.args.desk.now < reads c.read_implementation.new.desk) _ c.in_err-running.field-0.0 c.in_ok-read.read
-    (λ files is. c.in_ok-read.ensures.spelled files is) (g.D.Desk.told c.read_fabric.new.desk) (reads c.read_fabric.new.desk < reads c.read_implementation.new.desk)
+    (λ files is. c.in_ok-read.ensures.spelled files is) c.in_ok-check_frames.ensures (g.D.Desk.told c.read_fabric.new.desk) (reads c.read_fabric.new.desk < reads c.read_implementation.new.desk)
     c.in_ok-read.ensures.told (λ rose. omega (arith, rose, before)) c.in_err-running.ensures.cause)
 
 pub returns-in_err-features-clause-cause : goal.returns-in_err-features-clause-cause
@@ -39,7 +55,7 @@ returns-in_err-features-clause-cause g c =
     (λ files is. c.in_ok-running.ensures.spelled files is) in
     rw (residual.1, residual.2)
     (fasm_cause told names (reads c.args.desk.now < reads c.read_features.new.desk) _ c.in_err-features.field-0.0 c.in_ok-read.read (λ files is. c.in_ok-read.ensures.spelled files is)
-    c.in_ok-running.running implemented (g.D.Desk.told c.read_implementation.new.desk) (reads c.read_implementation.new.desk < reads c.read_features.new.desk)
+    c.in_ok-check_frames.ensures c.in_ok-running.running implemented (g.D.Desk.told c.read_implementation.new.desk) (reads c.read_implementation.new.desk < reads c.read_features.new.desk)
     same (λ rose. omega (arith, rose, before, later)) c.in_err-features.ensures.cause)
 
 -- ---- what was read is
@@ -55,7 +71,8 @@ returns-in_err-bytes-clause-cause g c =
     let features = features_behind told (g.D.Desk.told c.read_implementation.new.desk) c.args.fasm.now c.deref.result.now c.in_ok-features.features.items same c.deref.ensures.value
     (λ files is. c.in_ok-features.ensures.spelled files is) in
     rw (residual.1, residual.2)
-    (content_cause told names _ _ c.in_err-bytes.field-0.0 c.in_ok-read.read (λ files is. c.in_ok-read.ensures.spelled files is) c.in_ok-running.running implemented c.deref.result.now features
+    (content_cause told names _ _ c.in_err-bytes.field-0.0 c.in_ok-read.read (λ files is. c.in_ok-read.ensures.spelled files is) c.in_ok-check_frames.ensures c.in_ok-running.running implemented
+    c.deref.result.now features
     c.in_err-bytes.ensures.refused)
 
 pub returns-in_err-bytes-clause-leaves : goal.returns-in_err-bytes-clause-leaves
@@ -82,7 +99,7 @@ returns-clause-done g c =
     let of = c.in_ok-bytes.ensures in
     on_ok_weaker c.store_all.result (λ stored. done_of_store (λ files. MakesPartial files names) told outputs (g.D.Desk.told c.read_features.new.desk) (g.D.Desk.told c.store_all.new.desk)
     (λ files is. partial_made files names c.in_ok-read.read c.in_ok-running.running c.deref.result.now c.in_ok-bytes.bytes.items outputs (c.in_ok-read.ensures.spelled files is)
-    (implemented files is) (features files is) of.within of.unused of.right of.made (ap (map plain_output) c.deref-2.ensures.value ∙ c.in_ok-outputs.ensures.are))
+    c.in_ok-check_frames.ensures (implemented files is) (features files is) of.within of.unused of.right of.made (ap (map plain_output) c.deref-2.ensures.value ∙ c.in_ok-outputs.ensures.are))
     (c.in_ok-features.ensures.told ∙ same) stored) c.store_all.ensures.done
 
 pub returns-clause-leaves : goal.returns-clause-leaves
@@ -99,7 +116,7 @@ returns-clause-leaves g c =
     IfErr-weaker c.store_all.result _ _
     (λ fault stopped. leaves_of_store (λ files. MakesPartial files names) told outputs (g.D.Desk.told c.read_features.new.desk) (g.D.Desk.told c.store_all.new.desk) _ fault
     (λ files is. partial_made files names c.in_ok-read.read c.in_ok-running.running c.deref.result.now c.in_ok-bytes.bytes.items outputs (c.in_ok-read.ensures.spelled files is)
-    (implemented files is) (features files is) of.within of.unused of.right of.made (ap (map plain_output) c.deref-2.ensures.value ∙ c.in_ok-outputs.ensures.are))
+    c.in_ok-check_frames.ensures (implemented files is) (features files is) of.within of.unused of.right of.made (ap (map plain_output) c.deref-2.ensures.value ∙ c.in_ok-outputs.ensures.are))
     (c.in_ok-features.ensures.told ∙ same) stopped) c.store_all.ensures.stopped
 
 pub returns-clause-cause : goal.returns-clause-cause
@@ -122,6 +139,7 @@ returns-clause-cause g c =
       implementation = c.in_ok-running.running;
       features = c.deref.result.now;
       spelled = c.in_ok-read.ensures.spelled files is;
+      frames = c.in_ok-check_frames.ensures;
       implemented = implemented files is;
       read = features files is;
       within = of.within;

@@ -1,4 +1,5 @@
-use Rattle.std.proofs.Common.{◌≡◌, ◌+◌, ◌-◌, ◌∙◌, length, subst, ap, arith, List}
+use Rattle.std.proofs.Common.{◌≡◌, ◌+◌, ◌-◌, ◌∙◌, ℕ, length, subst, ap, arith, List}
+use Rattle.std.specs.List.{remove_range}
 use Rattle.std.proofs.lemmas.List.{length-map}
 use Rattle.std.proofs.lemmas.Result.{IfOk-weaker}
 use Rattle.fab_syntax.specs.Plain.{PlainModule, plain_module, plain_text}
@@ -10,27 +11,34 @@ use Rattle.fab_serial.specs.Module.{serial_text}
 use Rattle.fab_serial_laws.specs.Loads.{LoadsSerially}
 use Rattle.fab_flow.specs.Generating.{generated_text}
 use Rattle.fab_flow.specs.Serial.{text_with_port}
-use Rattle.fab_flow.proofs.Lengths.{place_of_loader}
-use Rattle.fab_flow.proofs.PortLengths.{place_with_port, loader_with_port}
+use Rattle.fab_flow.proofs.Lengths.{text_long}
+use Rattle.fab_flow.proofs.PortLengths.{port_text_long, port_without_loaders}
 use Rattle.fab_flow.proofs.serial.printed_with_port.Goals as goal
 
-pub overflow_sub-loader : goal.overflow_sub-loader
-overflow_sub-loader c =
+pub overflow_sub-top : goal.overflow_sub-top
+overflow_sub-top c =
     let text = c.in_ok-text.text in
-    let place = place_of_loader c.args.fabric.now (plain_text text) c.in_ok-text.ensures.text in
+    let all = text_long c.args.fabric.now (plain_text text) c.in_ok-text.ensures.text in
     let long = length-map text.modules.items plain_module in
-    omega (arith, place, long, c.len-loader.ensures, text.modules.ok.0)
+    omega (arith, all, long, c.len-top.ensures, text.modules.ok.0)
 
-pub printed_text-requires : goal.printed_text-requires
-printed_text-requires c =
+pub overflow_sub-first : goal.overflow_sub-first
+overflow_sub-first c =
+    let text = c.in_ok-text.text in
+    let all = text_long c.args.fabric.now (plain_text text) c.in_ok-text.ensures.text in
+    let long = length-map text.modules.items plain_module in
+    omega (arith, all, long, c.len-top.ensures, text.modules.ok.0, c.loader_count-first.ensures)
+
+pub printed_text-requires-clause-within : goal.printed_text-requires-clause-within
+printed_text-requires-clause-within c =
     let text = c.in_ok-text.text in
     let whole = c.in_ok-text-2.text in
     let fabric = c.args.fabric.now in
-    let place = place_of_loader fabric (plain_text text) c.in_ok-text.ensures.text in
+    let all = text_long fabric (plain_text text) c.in_ok-text.ensures.text in
     let long = length-map text.modules.items plain_module in
     let whole_is : plain_text whole ≡ text_with_port fabric = c.in_ok-text-2.ensures.is ∙ ap serial_text c.in_ok-text.ensures.text in
-    let longer = place_with_port fabric (plain_text whole) whole_is in
-    omega (arith, place, long, longer, c.len-loader.ensures, text.modules.ok.0)
+    let longer = port_text_long fabric (plain_text whole) whole_is in
+    omega (arith, all, long, longer, c.len-top.ensures, text.modules.ok.0)
 
 pub returns-clause-printed : goal.returns-clause-printed
 returns-clause-printed c =
@@ -73,10 +81,13 @@ returns-clause-length c =
     let text = c.in_ok-text.text in
     let whole = c.in_ok-text-2.text in
     let fabric = c.args.fabric.now in
-    let place = place_of_loader fabric (plain_text text) c.in_ok-text.ensures.text in
+    let top : ℕ = c.len-top.result - 1 in
+    let first = text_long fabric (plain_text text) c.in_ok-text.ensures.text in
     let all = ap length c.in_ok-text.ensures.text in
     let long = length-map text.modules.items plain_module in
-    let at : (c.len-loader.result - 2) + 2 ≡ length (generated_text fabric) = omega (arith, place, all, long, c.len-loader.ensures, text.modules.ok.0) in
+    let at : top + 1 ≡ length (generated_text fabric) = omega (arith, first, all, long, c.len-top.ensures, text.modules.ok.0) in
     let whole_is : plain_text whole ≡ text_with_port fabric = c.in_ok-text-2.ensures.is ∙ ap serial_text c.in_ok-text.ensures.text in
-    let without = loader_with_port fabric (plain_text whole) (c.len-loader.result - 2) whole_is at in
-    IfOk-weaker c.printed_text.result _ _ (λ printed is. is ∙ ap (λ (ms : List PlainModule). length (text_bytes ms)) without) c.printed_text.ensures.unloaded
+    let unloaded : ℕ → ℕ = λ loaders. length (text_bytes (remove_range (plain_text whole) (top - loaders) top)) in
+    let without = port_without_loaders fabric (plain_text whole) top whole_is at in
+    IfOk-weaker c.printed_text.result _ _
+    (λ printed is. is ∙ ap unloaded c.loader_count-first.ensures ∙ ap (λ (ms : List PlainModule). length (text_bytes ms)) without) c.printed_text.ensures.unloaded

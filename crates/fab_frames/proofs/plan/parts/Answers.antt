@@ -1,18 +1,12 @@
-use Rattle.std.proofs.Common.{◌≡◌, refl, arith}
-use Rattle.fab_frames.specs.Stream.{column_parts}
-use Rattle.fab_frames.proofs.Parts.{header_put, no_piece_behind, piece_put, all_put}
+use Rattle.std.proofs.lemmas.Result.{IfOk-weaker}
+use Rattle.fab_frames.proofs.Parts.{all_of_frames, all_of_chain}
 use Rattle.fab_frames.proofs.plan.parts.Goals as goal
 
-pub loop-x-init : goal.loop-x-init
-loop-x-init c =
-    let header = header_put c.new-parts.result.items c.put_waiting.new.parts.items c.put_synchronizing.new.parts.items c.new-parts.ensures.items c.in_ok-put_waiting.ensures c.in_ok-put_synchronizing.ensures in
-    no_piece_behind c.put_synchronizing.new.parts.items _ (column_parts c.args.fabric.now) header
+pub returns-in-Frames : goal.returns-in-Frames
+returns-in-Frames c =
+    IfOk-weaker c.all_frames.result _ _ (λ found. all_of_frames c.args.fabric.now c.stream_mode.result found.items c.stream_mode.ensures.told c.in-Frames.is) c.all_frames.ensures
 
-pub loop-x-preserved : goal.loop-x-preserved
-loop-x-preserved c =
-    piece_put c.loop-x.parts.items c.put_column.new.parts.items _ (column_parts c.args.fabric.now) c.loop-x.x c.loop-x.invariant c.in_ok-put_column.ensures
-
-pub returns : goal.returns
-returns c =
-    let all : c.loop-x.x ≡ c.args.fabric.now.columns = omega (arith, c.loop-x-test.false, c.loop-x.auto.x-end, c.columns-x-end.ensures) in
-    all_put c.args.fabric.now c.loop-x.parts.items c.push.new.self.items _ c.loop-x.x c.loop-x.invariant all c.in_ok-push.ensures.items refl
+pub returns-in-Chain : goal.returns-in-Chain
+returns-in-Chain c =
+    IfOk-weaker c.whole_chain.result _ _ (λ found. all_of_chain c.args.fabric.now c.stream_mode.result found.items c.args.positions c.div_ceil.result
+    c.stream_mode.ensures.told c.in-Chain.is c.requires.positions c.div_ceil.ensures) c.whole_chain.ensures

@@ -1,22 +1,18 @@
-use Rattle.fab_frames.proofs.Mapped.{row_once}
-use Rattle.fab_frames.proofs.Parts.{row_within}
-use Rattle.fab_frames.proofs.Taken.{row_bits, row_fine, row_spare}
+use Rattle.fab_frames.specs.inner.Taking.{plain_part}
+use Rattle.fab_frames.proofs.PlacedWords.{no_fixed_part, fine_word, spare_word, takes_word}
 use Rattle.fab_frames.proofs.read.take_word.Goals as goal
 
-pub take_row-requires-clause-once : goal.take_row-requires-clause-once
-take_row-requires-clause-once c = row_once c.args.fabric.now c.in-Row.x c.in-Row.y c.in-Row.frame c.placed_row.result.now c.placed_row.ensures
+pub returns-then-take_bits-clause-fine : goal.returns-then-take_bits-clause-fine
+returns-then-take_bits-clause-fine c =
+    fine_word c.args.fabric.now (plain_part c.args.part) c.args.word c.in_ok-word.word c.take_bits.result (no_fixed_part c.args.part c.in_default.not-Fixed)
+    c.in_ok-word.ensures.ok_part c.take_bits.ensures.spare c.if-take_bits.true
 
-pub take_row-requires-clause-have : goal.take_row-requires-clause-have
-take_row-requires-clause-have c =
-    let within = row_within c.args.fabric.now c.args.part c.in-Row.x c.in-Row.y c.in-Row.frame c.in-Row.is c.requires.part in
-    row_bits c.args.fabric.now c.in-Row.x c.in-Row.y c.in-Row.frame c.placed_row.result.now c.args.bits.now c.requires.maps.is_fabric within.0 within.1 c.requires.bits c.placed_row.ensures
+pub returns-then-take_bits-clause-taken : goal.returns-then-take_bits-clause-taken
+returns-then-take_bits-clause-taken c =
+    takes_word c.args.fabric.now (plain_part c.args.part) c.args.word c.in_ok-word.word c.args.bits.now c.take_bits.new.bits (no_fixed_part c.args.part c.in_default.not-Fixed)
+    c.in_ok-word.ensures.ok_part c.if-take_bits.ensures.taken
 
-pub returns-then-take_row-clause-fine : goal.returns-then-take_row-clause-fine
-returns-then-take_row-clause-fine c =
-    row_fine c.args.fabric.now c.args.part c.args.word c.in-Row.x c.in-Row.y c.in-Row.frame c.in_ok-word.word c.placed_row.result.now c.take_row.result
-    c.in-Row.is c.in_ok-word.ensures.ok_part c.placed_row.ensures c.take_row.ensures.spare c.if-take_row.true
-
-pub returns-else-take_row-clause-refused : goal.returns-else-take_row-clause-refused
-returns-else-take_row-clause-refused c =
-    row_spare c.args.fabric.now c.args.part c.args.word c.in-Row.x c.in-Row.y c.in-Row.frame c.in_ok-word.word c.placed_row.result.now c.take_row.result
-    c.in-Row.is c.in_ok-word.ensures.ok_part c.placed_row.ensures c.take_row.ensures.spare c.if-take_row.false
+pub returns-else-take_bits-clause-refused : goal.returns-else-take_bits-clause-refused
+returns-else-take_bits-clause-refused c =
+    spare_word c.args.fabric.now (plain_part c.args.part) c.args.word c.in_ok-word.word c.take_bits.result (no_fixed_part c.args.part c.in_default.not-Fixed)
+    c.in_ok-word.ensures.ok_part c.take_bits.ensures.spare c.if-take_bits.false

@@ -9,5 +9,5 @@ returns-clause-small c =
       c.taken.ensures.small,
       ap length c.deref.ensures.value,
       c.in_ok-words.ensures.words.many,
-      few_words (length c.args.cover.now.inputs) c.requires,
+      few_words (length c.args.cover.now.inputs) c.requires.few,
     )

@@ -1,0 +1,6 @@
+use Rattle.fab_ready_laws.proofs.Blifs.{netlists_judged}
+use Rattle.fab_ready_laws.proofs.Designs.{flow_judged}
+use Rattle.fab_ready_laws.proofs.flow_is_ready_or_refused.Goals as goal
+
+pub returns : goal.returns
+returns c = λ files names. flow_judged files (netlists_judged files) names
