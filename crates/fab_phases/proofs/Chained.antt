@@ -123,9 +123,11 @@ module _ (network : Network) (asked : Asked) (loads : List Bool) (loading : Load
   bits_step base is_asked solvable inputs (bit ∷ bits) old new kept is =
       let offered = fed source bit old in
       let next = ticked source flops offered in
-      let kept_offered = offered_kept network base asked source (bit ∷ []) old offered inputs (fed_offers source bit old) kept in
-      (next, step_on base old bit is_asked kept_offered (solvable offered),
-        bits_step base is_asked solvable inputs bits next new (ticked_kept_on base offered kept_offered) is)
+      let kept_offered = offered_kept network base asked source (bit ∷ []) old offered inputs (fed_offers source bit old) kept in (
+        next,
+        step_on base old bit is_asked kept_offered (solvable offered),
+        bits_step base is_asked solvable inputs bits next new (ticked_kept_on base offered kept_offered) is,
+      )
 
 -- the pieces of words are their bits
 pieces_are : (words : List ℕ) → all_bits words ≡ map (λ bit. bit ∷ []) (bits_of words)
@@ -162,7 +164,7 @@ still_comes flops words place old now flop rises at some so_far =
           let here = point_here flops k f at_k in
           let held : kept_tern now (point_at flops k) ≡ old (point_at flops k) =
           so_far.others (point_at flops k) (λ j g at_j past e.
-            let same : j ≡ k = one_place flops rises j k g f at_j at_k (e ∙ here) in absurd (omega (arith, past, same))) in
+          let same : j ≡ k = one_place flops rises j k g f at_j at_k (e ∙ here) in absurd (omega (arith, past, same))) in
           rw many held
     ]
 
@@ -198,7 +200,7 @@ place_behind flops source words old rises apart place flop at =
           let inside : place < 32 * length words = omega (arith, l) in
           let index : 32 * length words - 1 - place ≡ length (bits_of words) - 1 - place = omega (arith, long) in
           rw few (ap known (sym (bit_comes words place inside)) ∙ ap (λ k. known (get_or (bits_of words) k false)) index
-            ∙ sym (behind_few source flops rises apart (bits_of words) old place flop at (omega (arith, long, inside))))
+          ∙ sym (behind_few source flops rises apart (bits_of words) old place flop at (omega (arith, long, inside))))
       | inr g ↦
           let many : nat_lt (place / 32) (length words) ≡ false = le-ltb (length words) (place / 32) g in
           let within : place < length flops = slice_get_within flops place flop at in
@@ -208,7 +210,7 @@ place_behind flops source words old rises apart place flop at =
           let at_k : slice_get flops k ≡ Some f = slice_get-get_or flops k flop (omega (arith, within)) in
           let index : place - length (bits_of words) ≡ k = omega (arith, long) in
           rw many (ap old (point_here flops k f at_k)
-            ∙ sym (behind_many source flops rises apart (bits_of words) old place flop f at (omega (arith, long, past)) (ap (slice_get flops) index ∙ at_k)))
+          ∙ sym (behind_many source flops rises apart (bits_of words) old place flop f at (omega (arith, long, past)) (ap (slice_get flops) index ∙ at_k)))
     ]
 
 not_first : (flop : LoadedFlop) (flops : List LoadedFlop) (point : ℕ) → (flop.point ≡ point → ⊥) → (HasOne flops (λ f. f.point ≡ point) → ⊥) →
