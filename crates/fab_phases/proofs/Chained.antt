@@ -28,7 +28,7 @@ use Rattle.fab_phases.specs.Words.{AreLoadSteps, IsLeft, IsLoadingAt, IsLoadStep
 use Rattle.fab_phases.specs.inner.Chain.{behind, bit_for, bits_of, comes_to, fed, IsInChainBefore, IsMoved, ticked}
 use Rattle.fab_phases.specs.declared.loading.LoadedFlop.{LoadedFlop}
 use Rattle.fab_phases.specs.declared.loading.Loading.{Loading}
-use Rattle.fab_phases.proofs.Chain.{before_has, behind_few, behind_many, behind_other, behind_source, bit_comes, bits_long, one_place, point_here, ticked_keeps, ticked_takes}
+use Rattle.fab_phases.proofs.Shifting.{before_has, behind_few, behind_many, behind_other, behind_source, bit_comes, bits_long, one_place, point_here, ticked_keeps, ticked_takes}
 use Rattle.fab_phases.proofs.Stepping.{all_bits, offered_kept, tick_of}
 
 -- ---- one step

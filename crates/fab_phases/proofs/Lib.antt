@@ -6,6 +6,6 @@ pub mod Ticking
 pub mod Offering
 pub mod Telling
 pub mod Stepping
-pub mod Chain
+pub mod Shifting
 pub mod Chained
 pub mod Running
