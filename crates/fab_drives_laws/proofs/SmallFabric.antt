@@ -18,7 +18,7 @@ use Rattle.fab_fabric_text_defs.specs.Text.{fabric_text}
 use Rattle.fab_tile_drives_laws.specs.Stands.{wire_point}
 use Rattle.fab_drives_laws.specs.Points.{place_path}
 use Rattle.fab_drives_laws.specs.Drives.{drive_value}
-use Rattle.fab_drives_laws.specs.Examples.{small_grid, small_fabric, ShowsCrossing, declared_names, small_top_names}
+use Rattle.fab_drives_laws.specs.Examples.{small_grid, small_fabric, small_chain, ShowsCrossing, declared_names, small_top_names, small_chain_names, small_sources}
 use Rattle.fab_drives_laws.proofs.Fabrics.{fabric_shows_drives}
 
 -- ---- it is a fabric
@@ -101,14 +101,30 @@ pad_names x y bel =
 abbrev begin_names : (x y name number : List ℕ) → List ℕ
 begin_names x y name number = (codes "X" ++ x ++ codes "Y" ++ y) ++ (codes "_" ++ (name ++ (codes "_" ++ number)))
 
+abbrev chain_name : (x y : List ℕ) → List ℕ
+chain_name x y = (codes "X" ++ x ++ codes "Y" ++ y) ++ codes "_fab_chain"
+
 -- where the digits of numbers are these
-abbrev names_with : (zero_text one_text : List ℕ) → List (List ℕ)
-names_with o i =
-    (codes "CLK" ∷ codes "UserCLK" ∷ codes "WriteStrobe" ∷ codes "WriteData" ∷ [])
-    ++ (pad_names o o (codes "A") ++ (pad_names o o (codes "B") ++ (pad_names o i (codes "A") ++ (pad_names o i (codes "B")
-    ++ (codes "Address" ∷ codes "Strobe" ∷ (codes "Row" ++ o) ∷ (codes "Row" ++ i) ∷ (codes "fab_strobe_" ++ o) ∷ (codes "fab_strobe_" ++ i)
-    ∷ begin_names o o (codes "E1BEG") o ∷ begin_names o o (codes "E1BEG") i ∷ begin_names o i (codes "E1BEG") o ∷ begin_names o i (codes "E1BEG") i
-    ∷ begin_names i o (codes "W1BEG") o ∷ begin_names i i (codes "W1BEG") o ∷ [])))))
+module _ (o i : List ℕ) where
+  abbrev port_names : List (List ℕ)
+  port_names =
+      (codes "CLK" ∷ codes "UserCLK" ∷ codes "WriteStrobe" ∷ codes "WriteData" ∷ [])
+      ++ (pad_names o o (codes "A") ++ (pad_names o o (codes "B") ++ (pad_names o i (codes "A") ++ pad_names o i (codes "B"))))
+
+  abbrev wire_names : List (List ℕ)
+  wire_names =
+      begin_names o o (codes "E1BEG") o ∷ begin_names o o (codes "E1BEG") i ∷ begin_names o i (codes "E1BEG") o ∷ begin_names o i (codes "E1BEG") i
+      ∷ begin_names i o (codes "W1BEG") o ∷ begin_names i i (codes "W1BEG") o ∷ []
+
+  abbrev names_with : List (List ℕ)
+  names_with =
+      port_names ++ (codes "Address" ∷ codes "Strobe" ∷ (codes "Row" ++ o) ∷ (codes "Row" ++ i) ∷ (codes "fab_strobe_" ++ o) ∷ (codes "fab_strobe_" ++ i) ∷ wire_names)
+
+  abbrev chain_names_with : List (List ℕ)
+  chain_names_with = port_names ++ (chain_name o o ∷ chain_name o i ∷ chain_name i o ∷ chain_name i i ∷ wire_names)
+
+  abbrev sources_with : List (List ℕ)
+  sources_with = codes "WriteData" ∷ chain_name o o ∷ chain_name o i ∷ chain_name i o ∷ []
 
 pub small_names_are : declared_names (top_module small_fabric) ≡ small_top_names
 unfolding counted text_mode
@@ -116,3 +132,16 @@ small_names_are = λ j. names_with (zero_is j) (one_is j)
 
 pub small_names_differ : AllPairs (λ first second. first ≢ second) small_top_names
 small_names_differ = names_differ small_top_names refl
+
+-- ---- with a chain
+
+pub small_chain_names_are : declared_names (top_module small_chain) ≡ small_chain_names
+unfolding counted text_mode
+small_chain_names_are = λ j. chain_names_with (zero_is j) (one_is j)
+
+pub small_chain_names_differ : AllPairs (λ first second. first ≢ second) small_chain_names
+small_chain_names_differ = names_differ small_chain_names refl
+
+pub small_sources_are : small_sources ≡ codes "WriteData" ∷ codes "X0Y0_fab_chain" ∷ codes "X0Y1_fab_chain" ∷ codes "X1Y0_fab_chain" ∷ []
+unfolding counted
+small_sources_are = λ j. sources_with (zero_is j) (one_is j)

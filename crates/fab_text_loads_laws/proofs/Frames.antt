@@ -1,5 +1,6 @@
 -- While no word is written, a configured text in frames holds what it holds.
 use Rattle.std.proofs.Common.{◌≡◌, ℕ, true, List, ap, ◌∙◌, Some, refl, sym, subst, All, Contains, ◌<◌, false, arith}
+use Rattle.std.proofs.lemmas.List.Elements.{All-contains}
 use Rattle.fab_syntax.specs.Plain.{PlainModule}
 use Rattle.fab_meaning.specs.Loading.{IsLoading}
 use Rattle.fab_meaning.specs.Points.{Path, Point, point}

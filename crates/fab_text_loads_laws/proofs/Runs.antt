@@ -32,7 +32,7 @@ use Rattle.fab_drives_laws.proofs.Places.{in_grid}
 use Rattle.fab_loading_laws.specs.Latches.{IsWord, Turn, word, pause, other_clock, words_of, after_turn, after_turns, latch_shows, latch_after}
 use Rattle.fab_loading_laws.specs.Streams.{stream_words, StreamsLoad, TicksKeepMachines}
 use Rattle.fab_text_loads_laws.specs.Points.{loader_path, config_path, in_loader, in_configuration}
-use Rattle.fab_text_loads_laws.specs.Loads.{IsTurn, Writes, IsConfigured, LoaderRests}
+use Rattle.fab_text_loads_laws.specs.Loads.{IsTurn, Writes, LoaderWaits, LoaderRests, IsConfigured}
 use Rattle.fab_text_loads_laws.proofs.Drivers.{latched_by}
 use Rattle.fab_text_loads_laws.proofs.Loader.{HasLoader}
 use Rattle.fab_text_loads_laws.proofs.Offered.{offered_whole}

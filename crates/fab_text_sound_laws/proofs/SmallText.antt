@@ -7,10 +7,12 @@ use Rattle.fab_syntax.specs.Sound.{IsSound}
 use Rattle.fab_meaning.proofs.Modules.{each_all}
 use Rattle.fab_model.specs.declared.tiles.WireRow.{WireRow}
 use Rattle.fab_model.specs.declared.tiles.Bel.{Bel}
+use Rattle.fab_model.specs.declared.mode.Mode.TheVariants as modes
+use Rattle.fab_fabric.proofs.Kept.{is_fabric_in}
 use Rattle.fab_fabric.specs.Examples.{pads, lut, pad_rows, pad_bels, lut_rows, lut_bels}
 use Rattle.fab_drives_laws.specs.fab_gen_tile_Words.{IsFreeName, IsNamed}
 use Rattle.fab_drives_laws.specs.fab_fabric_text_defs_Texts.{generated_text}
-use Rattle.fab_drives_laws.specs.Examples.{small_fabric}
+use Rattle.fab_drives_laws.specs.Examples.{small_fabric, small_chain}
 use Rattle.fab_drives_laws.proofs.SmallFabric.{small_is_fabric, small_is_of_tiles}
 use Rattle.fab_text_sound_laws.proofs.TextFits.{text_is_sound}
 
@@ -50,3 +52,6 @@ small_is_named = All-cons IsNamed pads (lut ∷ []) pads_named (All-cons IsNamed
 
 pub small_text_is_sound : IsSound (generated_text small_fabric)
 small_text_is_sound = text_is_sound small_fabric small_is_fabric small_is_of_tiles small_is_named
+
+pub small_chain_text_is_sound : IsSound (generated_text small_chain)
+small_chain_text_is_sound = text_is_sound small_chain (is_fabric_in modes.Chain small_fabric small_is_fabric) small_is_of_tiles small_is_named

@@ -9,7 +9,7 @@ ghost use Rattle.fab_fabric.specs.Fabric.{AreTiles, IsFabric};
 ghost use Rattle.fab_drives_laws.specs.fab_gen_tile_Words.{IsNamed};
 ghost use Rattle.fab_drives_laws.specs.fab_fabric_text_defs_Texts.{generated_text};
 ghost use Rattle.fab_drives_laws.specs.fab_fabric_text_defs_Top.{top_module};
-ghost use Rattle.fab_drives_laws.specs.Examples.{small_fabric};
+ghost use Rattle.fab_drives_laws.specs.Examples.{small_chain, small_fabric};
 ghost use Rattle.fab_tiles_sound_laws.specs.fab_parts_sound_laws_Fits.{FitsIn};
 ghost use Rattle.fab_text_sound_laws.specs.HasTop.{HasTopClocks, HasTopModules};
 
@@ -26,8 +26,9 @@ pub fn fabric_texts_are_sound()
         IsSound (generated_text fabric) }
 {}
 
-/// A small fabric keeps all that the law asks for, and so its text is sound.
+/// A small fabric keeps all that the law asks for, and so its text is sound, in frames and with a chain.
 pub fn small_fabric_text_is_sound()
     ensures named { All IsNamed small_fabric.types }
     ensures sound { IsSound (generated_text small_fabric) }
+    ensures chain { IsSound (generated_text small_chain) }
 {}

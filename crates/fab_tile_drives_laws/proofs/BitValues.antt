@@ -1,4 +1,4 @@
--- The configuration bits come from the latches to the instances that use them.
+-- The configuration bits come from what keeps them to the instances that use them.
 use Rattle.std.proofs.Common.{◌≡◌, ℕ, zero, suc, ◌+◌, ◌<◌, ◌≤◌, Bool, true, List, [], ◌∷◌, refl, ap, ◌∙◌, arith, Some, Contains}
 use Rattle.fab_gen_tile.specs.fab_syntax.specs.Plain.{PlainJoin, PlainModule, variable, part, instance}
 use Rattle.fab_gen_tile.specs.fab_syntax.specs.Declarations.{module_named, is_input}
