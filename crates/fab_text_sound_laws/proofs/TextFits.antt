@@ -175,14 +175,14 @@ module _ (fabric : PlainFabric) (is : IsFabric fabric) (are : AreTiles fabric) (
   abbrev HasKinds : List PlainModule → Type 0
   HasKinds before = All (Contains before) kinds_text
 
-  tiles_fit_from : (before : List PlainModule) (tiles : List PlainTile) → HasKinds before → AllPairs NamesDiffer (before ++ flat_map (tile_modules mode) mode tiles) → All IsReady tiles →
-      AllFit text before (flat_map (tile_modules mode) mode tiles)
+  tiles_fit_from : (before : List PlainModule) (tiles : List PlainTile) → HasKinds before → AllPairs NamesDiffer (before ++ flat_map (tile_modules mode) tiles) → All IsReady tiles →
+      AllFit text before (flat_map (tile_modules mode) tiles)
   tiles_fit_from before [] has names_apart ready = tt
   tiles_fit_from before (tile ∷ tiles) has names_apart ready =
       let here = All-head IsReady tile tiles ready in
       let own_matrices = matrix_modules tile (matrix_output_names tile) in
       let own_configs = config_modules mode tile (tile_bits tile) in
-      let rest = flat_map (tile_modules mode) mode tiles in
+      let rest = flat_map (tile_modules mode) tiles in
       let front = (before ++ own_matrices) ++ own_configs in
       let in_order : before ++ ((own_matrices ++ (own_configs ++ tile_module mode tile ∷ [])) ++ rest) ≡ front ++ tile_module mode tile ∷ rest =
       ap (λ names. before ++ names) (append_assoc own_matrices (own_configs ++ tile_module mode tile ∷ []) rest ∙ ap (λ names. own_matrices ++ names) (append_assoc own_configs (tile_module mode tile ∷ []) rest))
