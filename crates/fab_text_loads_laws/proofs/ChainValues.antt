@@ -249,8 +249,8 @@ module _ (fabric : PlainFabric) (text : List PlainModule) (has : HasChain fabric
 
       -- ---- what the tile lets out
 
-      pub lets_out : now (point [] (chain_wire_name x y) 0) ≡ chain_out (now (point [] (chain_source fabric x y) 0))
-      (tile_values (held_bits held) (placed_tile x y tile))
+      pub lets_out : now (point [] (chain_wire_name x y) 0)
+          ≡ chain_out (now (point [] (chain_source fabric x y) 0)) (tile_values (held_bits held) (placed_tile x y tile))
       lets_out =
           let source = now (point [] (chain_source fabric x y) 0) in
           elim (cases_lt 0 (tile_bits tile)) [
