@@ -35,7 +35,7 @@ made_new text state network points loads values machine of once stands are value
   are = are;
   loading =
       subst (λ (n : Network). IsLoadingAt n machine.loading loads (first_data machine.points.stream.carrier) (data_width machine.points.stream.carrier) machine.demand machine.given.items)
-          (sym made.network_is)
+      (sym made.network_is)
       (subst (λ (p : StatePoints). IsLoadingAt network machine.loading loads (first_data p.stream.carrier) (data_width p.stream.carrier) machine.demand machine.given.items)
       (sym made.points_are) made.loading);
   first =

@@ -98,6 +98,11 @@ fn given_of(alloc: Global, count: usize, stream: Stream) -> Result<Vec<Tern>, Me
 {
     let mut given = vec![in alloc; Tern::No; count]?;
     given[stream.strobe as usize] = Tern::Yes;
-    fill(stream.carrier.first(), stream.carrier.width(), Tern::Open, &mut given);
+    fill(
+        stream.carrier.first(),
+        stream.carrier.width(),
+        Tern::Open,
+        &mut given,
+    );
     Ok(given)
 }

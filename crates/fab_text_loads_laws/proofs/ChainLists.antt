@@ -7,9 +7,9 @@ use Rattle.fab_drives_laws.specs.fab_model_Tiles.{counted, tile_bits}
 use Rattle.fab_drives_laws.specs.fab_model_Grid.{PlainFabric}
 use Rattle.fab_drives_laws.specs.fab_model_Drive.{PlainBits}
 use Rattle.fab_drives_laws.specs.fab_fabric_text_defs_Places.{PlacedTile, placed_tiles}
-use Rattle.fab_drives_laws.proofs.Lists.{all_of}
 use Rattle.fab_loading_laws.specs.Chain.{shifted, chain_out, chain_bits}
 use Rattle.fab_loading_laws.specs.fab_frames_Positions.{bit_in, bit_place, tile_chain}
+use Rattle.fab_drives_laws.proofs.Lists.{all_of}
 
 -- ---- counted bits
 

@@ -23,13 +23,13 @@ load_words-requires-clause-loading c = (
 pub returns-in-Bit-clause-steps : goal.returns-in-Bit-clause-steps
 returns-in-Bit-clause-steps c loads at =
     subst (λ (carrier : DataPoints). AreLoadSteps c.args.network.now loads (first_data carrier) (offered_at (data_width carrier) (map word_bits c.args.words.now))
-        (kept_tern c.args.given.now) (kept_tern c.load_bits.new.given)) (sym c.in-Bit.is)
+    (kept_tern c.args.given.now) (kept_tern c.load_bits.new.given)) (sym c.in-Bit.is)
     (c.load_bits.ensures.steps loads
     (subst (λ (carrier : DataPoints). IsLoadingAt c.args.network.now c.args.loading.now loads (first_data carrier) (data_width carrier) c.args.demand.now c.args.given.now) c.in-Bit.is at))
 
 pub returns-in-Word-clause-steps : goal.returns-in-Word-clause-steps
 returns-in-Word-clause-steps c loads at =
     subst (λ (carrier : DataPoints). AreLoadSteps c.args.network.now loads (first_data carrier) (offered_at (data_width carrier) (map word_bits c.args.words.now))
-        (kept_tern c.args.given.now) (kept_tern c.load_words.new.given)) (sym c.in-Word.is)
+    (kept_tern c.args.given.now) (kept_tern c.load_words.new.given)) (sym c.in-Word.is)
     (c.load_words.ensures.steps loads
     (subst (λ (carrier : DataPoints). IsLoadingAt c.args.network.now c.args.loading.now loads (first_data carrier) (data_width carrier) c.args.demand.now c.args.given.now) c.in-Word.is at))
