@@ -64,6 +64,7 @@ class Fabric(fabric.Fabric):
         reader = FabricReader(path, reads_matrices=False)
         reader.read()
         self.grid, self.tiles, self.files = reader.fabric.grid, reader.begun, reader.files
+        self.is_chain = reader.fabric.is_chain
 
     def tile_at(self, place):
         """The tile at a place `XxYy`, or None; and why there is none."""
@@ -76,6 +77,12 @@ class Fabric(fabric.Fabric):
             return None, f"{place} is outside of the grid of {size}"
         tile = self.at(x, y)
         return tile, "" if tile else f"at {place} stands {self.grid[y][x] or 'NULL'}, which is no tile"
+
+    def chain_bits(self):
+        """How many configuration bits a chain of this fabric has. This reads all switch matrices."""
+        for tile in self.tiles.values():
+            pairs_of(tile)
+        return self.configuration_bits()
 
     def named_by(self, path):
         """The file and the line of the row that names a file, or None."""

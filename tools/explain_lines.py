@@ -145,7 +145,7 @@ def top_names(words):
     names = {"in": f"the input {place}_{letter}_O_top of the top", "out": f"the output {place}_{letter}_I_top of the top",
              "ff": f"the register q of fab_bel_{letter} in the instance {place} of the top"}
     if words[0] in names:
-        yield f"the text lacks {names[words[0]]}, or one of the inputs CLK, UserCLK, WriteStrobe and WriteData[31:0]"
+        yield f"the text lacks {names[words[0]]}, or one of the inputs CLK, UserCLK, WriteStrobe and WriteData, of 32 bits or one"
 
 
 def explain_stimulus(case):
@@ -209,6 +209,9 @@ def explain_bitstream(case):
         return
     if not case.fabric or not case.fabric.grid:
         return
+    if case.fabric.is_chain:
+        yield from explain_chain(case.fabric, case.line, size // 4)
+        return
     columns, rows = case.fabric.columns, case.fabric.rows
     length, at = case.fabric.bitstream_words(), case.line - 39
     grid = f"{plural(columns, 'column')} and {plural(rows, 'row')}"
@@ -219,3 +222,14 @@ def explain_bitstream(case):
         frame, row = divmod(at, rows + 1)
         where = f"frame {frame % 20} of column {frame // 20}"
         yield f"word {case.line} is the address of {where}" if row == 0 else f"word {case.line} is for row {row - 1} in {where}"
+
+
+def explain_chain(fabric, number, count):
+    """A word of a bitstream of a chain, of `count` words."""
+    bits, length = fabric.chain_bits(), fabric.bitstream_words()
+    yield f"the chain of this fabric has {plural(bits, 'configuration bit')}, a stream of it {plural(length, 'word')}, and the file has {count}"
+    if number <= length:
+        first = 32 * (length - number)
+        yield f"word {number} has the positions {first} to {min(first + 31, bits - 1)}"
+    if number == 1 and bits % 32:
+        yield f"its bits from {bits % 32} on are behind the last position, and are 0"

@@ -127,10 +127,11 @@ class Tile:
 
 
 class Fabric:
-    """A grid of tile types. `grid` has the name of a tile type, or None, for each place, row by row from the top."""
+    """A grid of tile types. `grid` has the name of a tile type, or None, for each place, row by row from the top. is_chain: whether the
+    configuration is a chain of flip-flops, and not frames of latches."""
 
     def __init__(self, path):
-        self.path, self.grid, self.tiles = path, [], {}
+        self.path, self.grid, self.tiles, self.is_chain = path, [], {}, False
 
     @property
     def columns(self):
@@ -206,6 +207,12 @@ class Fabric:
                 return x, y, f"{partner.destination}{bit}"
             bit, row = bit - partner.count, partner
 
+    def configuration_bits(self):
+        """How many configuration bits the tiles of the grid have: the positions of a chain."""
+        return sum(tile.configuration_bits() for _, _, tile in self.places())
+
     def bitstream_words(self):
         """How many words of 32 bits a bitstream has."""
+        if self.is_chain:
+            return (self.configuration_bits() + FRAME_BITS - 1) // FRAME_BITS
         return 39 + FRAMES * self.columns * (self.rows + 1)

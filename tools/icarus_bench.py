@@ -59,6 +59,22 @@ def limits_of(options, text, designs):
     return limits
 
 
+def data_register(text):
+    """The register of the bench that is joined to WriteData."""
+    return "reg WriteData = 0;" if text.is_chain else "reg [31:0] WriteData = 0;"
+
+
+def word_writing(text, word, before="", tick="#1 CLK = 1; #1 CLK = 0;"):
+    """Statements that write a word: at one tick of CLK, or in a chain at one for each of its bits, from bit 31 down. before: what comes
+    before each of these ticks. tick: the statements of one."""
+    if text.is_chain:
+        yield "for (place = 31; place >= 0; place = place - 1) begin"
+        yield f"  {before} WriteStrobe = 1; WriteData = {word}[place]; {tick} WriteStrobe = 0;"
+        yield "end"
+    else:
+        yield f"{before} WriteStrobe = 1; WriteData = {word}; {tick} WriteStrobe = 0;"
+
+
 def head(text, limits):
     """The first lines: clocks, pads and the fabric."""
     pads = [f".{name}({name})" for name in ["CLK", "UserCLK", "WriteStrobe", "WriteData"]]
@@ -66,11 +82,11 @@ def head(text, limits):
         pads += [f".{pad}_O_top(pads[{at}])", f".{pad}_I_top(shown[{at}])", f".{pad}_T_top(off[{at}])"]
     yield "module bench;"
     yield "  reg CLK = 0, UserCLK = 0, WriteStrobe = 0, both = 0;"
-    yield "  reg [31:0] WriteData = 0;"
+    yield f"  {data_register(text)}"
     yield f"  reg [{len(text.pads) - 1}:0] pads = 0;"
     yield f"  wire [{len(text.pads) - 1}:0] shown, off;"
     yield f"  reg [9:0] limits [0:{len(limits) - 1}];"
-    yield "  integer wrong = 0, seed = 1, at;"
+    yield "  integer wrong = 0, seed = 1, at, place;"
     yield f"  eFPGA fabric ({', '.join(pads)});"
     yield "  initial begin"
     yield from (f"    limits[{at}] = {limit};" for at, limit in enumerate(limits))
@@ -109,15 +125,14 @@ def holding(name, wires, digit, fabric="fabric"):
     yield "  end endtask"
 
 
-def writing(name, count, before="if ($dist_uniform(seed, 0, 1)) idle;"):
-    """A task that writes the words of NAME.hex. before: what comes before each word."""
-    yield f"  reg [31:0] {name} [0:{count - 1}];"
+def writing(text, name, count, before="if ($dist_uniform(seed, 0, 1)) idle;"):
+    """A task that writes the words of NAME.hex. before: what comes before each word, or before each bit of it in a chain."""
+    yield f"  reg [31:0] {name} [0:{max(count, 1) - 1}];"
     yield f"  integer at_{name};"
     yield f'  initial $readmemh("{name}.hex", {name});'
     yield f"  task write_{name}; begin"
     yield f"    for (at_{name} = 0; at_{name} < {count}; at_{name} = at_{name} + 1) begin"
-    yield f"      {before}"
-    yield f"      WriteStrobe = 1; WriteData = {name}[at_{name}]; #1 CLK = 1; #1 CLK = 0; WriteStrobe = 0;"
+    yield from (f"      {line}" for line in word_writing(text, f"{name}[at_{name}]", before))
     yield "    end"
     yield "  end endtask"
 

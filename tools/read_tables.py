@@ -23,6 +23,8 @@ UNSUPPORTED = {
     "Supertile": "fab has no supertiles: leave the row away, and the tiles that it names out of the grid",
     "GEN_IO": "fab has no pins that tiles make for themselves: use the BEL IO_1_bidirectional_frame_config_pass",
 }
+# What keeps the configuration bits, by the word of a parameter row: a chain of flip-flops, or frames of latches.
+MODES = {"frame_based": False, "FlipFlopChain": True}
 MAX_COLUMNS, MAX_ROWS, MAX_TILES, MAX_BELS, MAX_SPAN = 32, 31, 64, 26, 31
 MAX_NAMES, MAX_INPUTS, MAX_BITS, MAX_WIRES = 4096, 256, FRAMES * FRAME_BITS, 1 << 20
 
@@ -236,10 +238,10 @@ class FabricReader:
         wanted = {"FrameBitsPerRow": str(FRAME_BITS), "MaxFramesPerCol": str(FRAMES)}
         if value is None:
             self.faults.malformed(path, line, "row", f"a parameter has a key and a value, and this row has {len(cells)} cells")
-        elif key == "ConfigBitMode" and value == "FlipFlopChain":
-            self.faults.add(path, line, "unsupported", value, "fab configures by frames: ConfigBitMode is frame_based")
-        elif key == "ConfigBitMode" and value != "frame_based":
-            self.faults.malformed(path, line, "row", f"ConfigBitMode is frame_based, and not `{value}`")
+        elif key == "ConfigBitMode" and value not in MODES:
+            self.faults.malformed(path, line, "row", f"ConfigBitMode is {' or '.join(MODES)}, and not `{value}`")
+        elif key == "ConfigBitMode":
+            self.fabric.is_chain = MODES[value]
         elif value != wanted.get(key, value):
             self.faults.add(path, line, "unsupported", key, f"{key} is {wanted[key]}")
 

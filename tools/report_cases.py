@@ -10,6 +10,7 @@ from command_rows import fixtures
 Case = collections.namedtuple("Case", "words files report wanted")
 
 FABRIC = fixtures("duo.csv", "io.list", "log.list")
+CHAIN = fixtures("duo_chain.csv", "io.list", "log.list")
 DESIGN = dict(FABRIC, **fixtures("inv.blif", "inv.pcf", "inv.impl", "inv.fasm", "inv.bit"))
 CLOCKED = dict(FABRIC, **fixtures("tog.blif"))
 RUN = fixtures("duo.v", "inv.state", "inv.bit")
@@ -165,6 +166,12 @@ def features():
     other = DESIGN["inv.bit"][:160] + b"\xff\xff\xff\xff" + DESIGN["inv.bit"][164:]
     yield Case("features duo.csv inv.bit o", dict(DESIGN, **{"inv.bit": other}), "malformed inv.bit:41 stream",
                ("word 41 | ffffffff", "word 41 is the address of frame 1 of column 0"))
+    for words, report, wanted in (
+        ("80015556", "malformed inv.bit:1 spare bit", ("has 23 configuration bits", "its bits from 23 on are behind the last position")),
+        ("0001555600000000", "malformed inv.bit:2 stream", ("a stream of it 1 word, and the file has 2",)),
+        ("", "malformed inv.bit:1 stream", ("word 1 has the positions 0 to 22",)),
+    ):
+        yield Case("features duo_chain.csv inv.bit o", dict(CHAIN, **{"inv.bit": bytes.fromhex(words)}), report, wanted)
 
 
 def simulations():

@@ -316,7 +316,7 @@ is_fabric_text() {
   case $first in
     'module LUT4c_frame_config (' | 'module IO_1_bidirectional_frame_config_pass (' | 'module MUX8LUT_frame_config (') return 0 ;;
   esac
-  [ ! -s "$1" ] || { grep -q '^module ConfigLoader ($' "$1" && grep -q '^module eFPGA ($' "$1"; }
+  [ ! -s "$1" ] || { grep -q -e '^module ConfigLoader ($' -e '^  input fab_chain_i,$' "$1" && grep -q '^module eFPGA ($' "$1"; }
 }
 
 # judge_loss OUTPUT INPUT..: storing it may not destroy what the caller wrote

@@ -18,17 +18,20 @@ def is_replaced_by_fab(path):
         return True
     with open(path, errors="replace") as file:
         lines = file.read().split("\n")
-    return lines == [""] or lines[0] in HEADS or {"module ConfigLoader (", "module eFPGA ("} <= set(lines)
+    loads = {"module ConfigLoader (", "  input fab_chain_i,"} & set(lines)
+    return lines == [""] or lines[0] in HEADS or bool(loads) and "module eFPGA (" in lines
 
 
 class Text:
-    """The registers, wires and pads of a fabric's text, by their names from the top."""
+    """The registers, wires and pads of a fabric's text, by their names from the top. is_chain: whether the top takes its words bit by
+    bit, by a chain of flip-flops, and not whole."""
 
     def __init__(self, path):
         with open(path) as file:
             modules = dict(re.findall(r"^module (\w+) \((.*?)^endmodule", file.read(), re.M | re.S))
         top = modules["eFPGA"]
-        self.registers = registers("fab_loader", modules["ConfigLoader"])
+        self.is_chain = re.search(r"^  input WriteData\b", top, re.M) is not None
+        self.registers = [] if self.is_chain else registers("fab_loader", modules["ConfigLoader"])
         self.wires = []
         for module, place in re.findall(r"^  (tile_\w+) (X\d+Y\d+) \(", top, re.M):
             tile = modules[module]

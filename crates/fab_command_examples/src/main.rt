@@ -28,6 +28,7 @@ fn main(rt: HostRuntime) -> Result<(), Stop> {
         "wide.cases",
         "bits.cases",
         "partial.cases",
+        "chain.cases",
         "faults.cases",
         "cuts.cases",
         "refused.cases",

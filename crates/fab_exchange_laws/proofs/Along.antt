@@ -26,7 +26,7 @@ use Rattle.fab_loading_laws.specs.Streams.{TicksKeepMachines}
 use Rattle.fab_loading_laws.proofs.Runs.{after_words}
 use Rattle.fab_text_loads_laws.specs.fab_drives_laws_Points.{ShowsBits}
 use Rattle.fab_text_loads_laws.specs.Points.{loader_path, in_loader}
-use Rattle.fab_text_loads_laws.specs.Loads.{IsTurn, IsConfigured}
+use Rattle.fab_text_loads_laws.specs.Loads.{IsTurn, LoaderWaits, LoaderRests, IsConfigured}
 use Rattle.fab_text_loads_laws.proofs.fab_drives_laws_Modules.{tile_of_types}
 use Rattle.fab_text_loads_laws.proofs.fab_drives_laws_Places.{in_grid}
 use Rattle.fab_text_loads_laws.proofs.fab_tile_drives_laws_Driven.{declared_at}
@@ -245,10 +245,11 @@ module _ (w : Writing) where
   -- behind a bitstream that was loaded whole words may begin,
   pub configured_holds : (held : Assignment) → IsConfigured w.fabric w.bits held → HoldsBeside w.fabric w.first w.last w.bits held
   configured_holds held configured =
+      let waits : LoaderWaits held = subst (λ mode. LoaderRests mode held) w.has.frames configured.rests in
       let state : (machine_of held).state ≡ 0 =
-      ap number (first_bits_same 2 (λ bit. held (point loader_path state_name bit)) (λ bit. false) (λ bit few. configured.rests.state bit few)) in
+      ap number (first_bits_same 2 (λ bit. held (point loader_path state_name bit)) (λ bit. false) (λ bit few. waits.state bit few)) in
       record {
-        loader = rests w.fabric.rows w.first w.last (machine_of held) (λ e. omega (arith, e, state)) configured.rests.strobe;
+        loader = rests w.fabric.rows w.first w.last (machine_of held) (λ e. omega (arith, e, state)) waits.strobe;
         latches = λ x y tile there outside. configured.bits_held x y tile there;
       }
 
@@ -262,17 +263,19 @@ module _ (w : Writing) where
   -- ---- at last
 
   pub ends_configured : (held : Assignment) → Along held [] → IsConfigured w.fabric (exchanged (lies_within w.first w.last) w.bits w.others) held
-  ends_configured held along = record {
-    rests = record { state = zero_bits 2 (λ bit. held (point loader_path state_name bit)) along.ends.state; strobe = along.ends.strobe };
-    bits_held = λ x y tile there number few.
-        let latch = latch_of x y tile number there few in
-        elim (cases_Bool (lies_within w.first w.last x)) [
-          | inl inside ↦ rw inside (
-              ap (λ strobe. latch_shows (record (machine_of held) { strobe = strobe }) (latch_place x y latch.tile number) (held (latch_point x y number))) (sym along.ends.strobe)
-              ∙ along.inner x y number latch inside)
-          | inr outside ↦ rw outside (along.outer x y number latch outside)
-        ];
-  }
+  ends_configured held along =
+      let waits : LoaderWaits held = record { state = zero_bits 2 (λ bit. held (point loader_path state_name bit)) along.ends.state; strobe = along.ends.strobe } in
+      record {
+        rests = subst (λ mode. LoaderRests mode held) (sym w.has.frames) waits;
+        bits_held = λ x y tile there number few.
+            let latch = latch_of x y tile number there few in
+            elim (cases_Bool (lies_within w.first w.last x)) [
+              | inl inside ↦ rw inside (
+                  ap (λ strobe. latch_shows (record (machine_of held) { strobe = strobe }) (latch_place x y latch.tile number) (held (latch_point x y number))) (sym along.ends.strobe)
+                  ∙ along.inner x y number latch inside)
+              | inr outside ↦ rw outside (along.outer x y number latch outside)
+            ];
+      }
 
   -- what the loading points hold decides it
   pub same_along : (held after : Assignment) (rest : List Word) → ((p : Point) → IsLoading w.text p → after p ≡ held p) → Along held rest → Along after rest

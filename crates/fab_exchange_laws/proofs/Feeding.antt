@@ -155,7 +155,7 @@ module _ (e : Exchange) where
       let front = map moment_of (all_instants e fed.cycles) in
       let back = map moment_of fed.part in
       let split = split_turns turns front back (subst (AllZip IsTurn turns) (map-append moment_of (all_instants e fed.cycles) fed.part) feeds.writes.each) in
-      let written : words_of turns ≡ taken = feeds.writes.written ∙ offered_whole e.s.fabric e.s.text (writing e).has.tiles taken in
+      let written : words_of turns ≡ taken = feeds.writes.written ∙ offered_whole e.s.fabric e.s.text (writing e).has.tiles e.frames taken in
       let all : partial_words e.s.fabric e.others e.first e.last ≡ words_of split.first ++ (words_of split.second ++ rest) = sym same ∙ ap (λ ws. ws ++ rest) (sym written) ∙ words_split turns front back split rest in
       let cycles = cycles_run fed.cycles split.first (words_of split.second ++ rest) start feeds.cycles split.of_front (subst (Along (writing e) start) all way) in
       let part = instants_run fed.given fed.part split.second rest cycles.next (of_parts fed.given fed.part feeds.part) feeds.low split.of_back cycles.way in

@@ -5,6 +5,7 @@ use Rattle.fab_meaning.specs.Points.{Point}
 use Rattle.fab_meaning.specs.Settled.{Assignment, IsSettledOn}
 use Rattle.fab_meaning.specs.Runs.{user_clock_name, Ticks}
 use Rattle.fab_meaning.specs.Loading.{IsLoading}
+use Rattle.fab_model.specs.declared.mode.Mode.TheVariants as modes
 use Rattle.fab_model.specs.Drive.{PlainBits}
 use Rattle.fab_netlist.specs.Plain.{bit_at}
 use Rattle.fab_netlist.specs.Meaning.{Meets, next_held}
@@ -13,6 +14,7 @@ use Rattle.fab_gen_loader.specs.Machine.{Word}
 use Rattle.fab_loading_laws.specs.Latches.{Turn, words_of}
 use Rattle.fab_loading_laws.specs.Streams.{TicksKeepMachines}
 use Rattle.fab_text_loads_laws.specs.fab_drives_laws_Points.{ShowsBits}
+use Rattle.fab_text_loads_laws.specs.fab_fabric_text_defs_Mode.{text_mode}
 use Rattle.fab_text_loads_laws.specs.Loads.{IsTurn}
 use Rattle.fab_text_loads_laws.proofs.Loader.{has_loader}
 use Rattle.fab_partial.specs.Columns.{lies_within, exchanged}
@@ -35,10 +37,11 @@ pub record ShownLaws : Type 0 where
   pub once : ShownDesignSettlesOnce
   pub keeps : TicksKeepMachines
 
--- A design, and columns that get other bits. It reads none of their bits, so its own stay such whatever these are.
+-- A design on a fabric in frames, and columns that get other bits. It reads none of their bits, so its own stay such whatever these are.
 pub record Exchange : Type 0 where
   pub s : Setting
   pub laws : ShownLaws
+  pub frames : text_mode s.fabric ≡ modes.Frames
   pub first : ℕ
   pub last : ℕ
   pub others : PlainBits
@@ -47,7 +50,7 @@ pub record Exchange : Type 0 where
 module _ (e : Exchange) where
   abbrev pub writing : Writing
   writing =
-      let loader = has_loader e.s.fabric e.s.text e.s.is e.s.is_text in
+      let loader = has_loader e.s.fabric e.s.text e.s.is e.s.is_text e.frames in
       record {
         fabric = e.s.fabric;
         text = e.s.text;

@@ -3,12 +3,15 @@ use Rattle.std.proofs.Common.{◌≡◌, Bool, List, [], ◌∷◌, ◌++◌, ma
 use Rattle.std.specs.List.{All, AllZip}
 use Rattle.std.proofs.lemmas.List.{map-append, append-nil}
 use Rattle.fab_meaning.specs.Settled.{Assignment}
+use Rattle.fab_model.specs.declared.mode.Mode.TheVariants as modes
 use Rattle.fab_model.specs.Drive.{PlainBits}
 use Rattle.fab_netlist.specs.Packing.{packed}
 use Rattle.fab_netlist.proofs.Wired.{wired}
 use Rattle.fab_gen_loader.specs.Machine.{Word}
 use Rattle.fab_loading_laws.specs.Latches.{words_of}
+use Rattle.fab_text_loads_laws.specs.fab_fabric_text_defs_Mode.{text_mode}
 use Rattle.fab_text_loads_laws.specs.Loads.{IsTurn, IsConfigured}
+use Rattle.fab_text_loads_laws.proofs.InMode.{modes_agree}
 use Rattle.fab_text_loads_laws.proofs.Loader.{has_loader}
 use Rattle.fab_text_loads_laws.proofs.Offered.{offered_whole}
 use Rattle.fab_partial.specs.Columns.{lies_within, exchanged}
@@ -54,7 +57,7 @@ module _ (e : Exchange) (start : Assignment) (holds_beside : HoldsBeside e.s.fab
       let front = map moment_of (all_instants e run.cycles) in
       let back = map moment_of run.part in
       let split = split_turns turns front back (subst (AllZip IsTurn turns) (map-append moment_of (all_instants e run.cycles) run.part) is_run.writes.each) in
-      let written : words_of turns ≡ taken = is_run.writes.written ∙ offered_whole e.s.fabric e.s.text (writing e).has.tiles taken in
+      let written : words_of turns ≡ taken = is_run.writes.written ∙ offered_whole e.s.fabric e.s.text (writing e).has.tiles e.frames taken in
       let all : all_words ≡ words_of split.first ++ (words_of split.second ++ rest) = sym same ∙ ap (λ ws. ws ++ rest) (sym written) ∙ words_split turns front back split rest in
       let nows = (e.s.laws.one_run e.s.netlist (wired e.s.made) e.s.acyclic latches (vectors e run.cycles)).0 in
       let cycles = cycles_show e run.cycles split.first (words_of split.second ++ rest) start is_run.between latches nows.0 is_run.cycles split.of_front nows.1
@@ -111,7 +114,7 @@ module _ (s : Setting) where
       ticks_configured s given instants between held fed are_instants behind.1.configured
 
 pub columns_exchange : Laws → ShownLaws → UnusedColumnsExchange
-columns_exchange laws shown_laws fabric text netlist fixed implementation first last others is are is_text made acyclic legal unused =
+columns_exchange laws shown_laws fabric text netlist fixed implementation first last others mode is are is_text made acyclic legal unused =
     let setting : (bits : PlainBits) → Configures fabric (packed netlist) implementation bits → Setting =
     λ bits configures. record {
       laws = laws;
@@ -129,7 +132,8 @@ columns_exchange laws shown_laws fabric text netlist fixed implementation first 
       legal = legal;
       configures = configures;
     } in
-    let loader = has_loader fabric text is is_text in
+    let frames : text_mode fabric ≡ modes.Frames = modes_agree fabric ∙ mode in
+    let loader = has_loader fabric text is is_text frames in
     record {
       loaded = λ bits moments held after start writes run same.
           laws.goes fabric text bits after start is is_text (((laws.loads fabric text is is_text).loads bits).configures moments held after writes run) same;
@@ -152,6 +156,7 @@ columns_exchange laws shown_laws fabric text netlist fixed implementation first 
           runs_through (record {
             s = setting bits configures;
             laws = shown_laws;
+            frames = frames;
             first = first;
             last = last;
             others = others;

@@ -6,6 +6,7 @@ use Rattle.fab_meaning.specs.Points.{Point, point}
 use Rattle.fab_meaning.specs.Settled.{Assignment}
 use Rattle.fab_meaning.specs.Runs.{clock_name, Moment, IsRunOn}
 use Rattle.fab_meaning.specs.Loading.{IsLoading}
+use Rattle.fab_model.specs.declared.mode.Mode.TheVariants as modes
 use Rattle.fab_model.specs.Tiles.{PlainTile}
 use Rattle.fab_model.specs.Grid.{PlainFabric, tile_at}
 use Rattle.fab_model.specs.Drive.{PlainBits}
@@ -19,6 +20,7 @@ use Rattle.fab_netlist.specs.Packing.{packed}
 use Rattle.fab_implementation.specs.Plain.{Pad, PlainImplementation}
 use Rattle.fab_gen_loader.specs.Machine.{Machine, Word}
 use Rattle.fab_gen_loader.specs.Loader.{machine_at}
+use Rattle.fab_frames.specs.Stream.{stream_mode}
 use Rattle.fab_loading_laws.specs.Streams.{stream_words}
 use Rattle.fab_text_loads_laws.specs.Points.{loader_path}
 use Rattle.fab_text_loads_laws.specs.fab_drives_laws_Points.{place_path}
@@ -129,13 +131,14 @@ UnusedBitsMayChange =
     AreTiles fabric → IsLegal fabric packed fixed implementation → AreUnused fabric implementation there → Configures fabric packed implementation bits →
     Configures fabric packed implementation (exchanged there bits others)
 
--- In each text of a fabric, columns that a legal implementation does not use are exchanged while its design runs.
+-- In each text of a fabric in frames, columns that a legal implementation does not use are exchanged while its design runs. A chain has no words of
+-- columns: each of its words moves all bits.
 abbrev pub UnusedColumnsExchange : Type 0
 UnusedColumnsExchange =
     (fabric : PlainFabric) (text : List PlainModule) (netlist : PlainNetlist) (fixed : List Pad) (implementation : PlainImplementation)
-    (first last : ℕ) (others : PlainBits) → IsFabric fabric → AreTiles fabric → IsFabricText fabric text → IsWellMade netlist → HasNoCycle netlist →
-    IsLegal fabric (packed netlist) fixed implementation → AreUnused fabric implementation (lies_within first last) →
-    ExchangesColumns fabric text netlist implementation first last others
+    (first last : ℕ) (others : PlainBits) → stream_mode fabric ≡ modes.Frames → IsFabric fabric → AreTiles fabric → IsFabricText fabric text →
+    IsWellMade netlist → HasNoCycle netlist → IsLegal fabric (packed netlist) fixed implementation →
+    AreUnused fabric implementation (lies_within first last) → ExchangesColumns fabric text netlist implementation first last others
 
 -- A second design that uses none of the other columns runs from what the words of these columns leave, if the new bits are its own.
 abbrev pub ArrivedDesignsRun : Type 0

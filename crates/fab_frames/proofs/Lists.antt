@@ -132,13 +132,13 @@ get_in_piece g (suc n) i j y few is =
     let front = flat_map g (counted n (λ i. i)) in
     ap (λ xs. slice_get xs (before_piece g i + j)) (next_piece_is g n)
     ∙ elim (cases_lt i n) [
-        | inl less ↦ (
-            let there = get_in_piece g n i j y less is in
-            get_left front (g n) (before_piece g i + j) (slice_get_within front (before_piece g i + j) y there) ∙ there)
-        | inr past ↦ (
-            let last : i ≡ n = omega (arith, few, past) in
-            get_right front (g n) (before_piece g i + j) j (ap (λ k. before_piece g k + j) last) ∙ ap (λ k. slice_get (g k) j) (sym last) ∙ is)
-      ]
+      | inl less ↦ (
+          let there = get_in_piece g n i j y less is in
+          get_left front (g n) (before_piece g i + j) (slice_get_within front (before_piece g i + j) y there) ∙ there)
+      | inr past ↦ (
+          let last : i ≡ n = omega (arith, few, past) in
+          get_right front (g n) (before_piece g i + j) j (ap (λ k. before_piece g k + j) last) ∙ ap (λ k. slice_get (g k) j) (sym last) ∙ is)
+    ]
 
 -- the piece of an item, and where it stands in it
 pub record IsOfPiece {Y : Type 0} (g : ℕ → List Y) (n k : ℕ) (y : Y) : Type 0 where
@@ -165,12 +165,12 @@ of_piece g (suc n) k y is =
     elim (cases_lt k (length front)) [
       | inl less ↦ of_earlier_piece g n k y (of_piece g n k y (sym (get_left front (g n) k less) ∙ there))
       | inr past ↦ record {
-          i = n;
-          j = k - length front;
-          few = omega arith;
-          item = sym (get_right front (g n) k (k - length front) (omega (arith, past))) ∙ there;
-          at = omega (arith, past);
-        }
+        i = n;
+        j = k - length front;
+        few = omega arith;
+        item = sym (get_right front (g n) k (k - length front) (omega (arith, past))) ∙ there;
+        at = omega (arith, past);
+      }
     ]
 
 -- ---- pieces that all have one length

@@ -1,5 +1,5 @@
 -- The words of a stream by its mode.
-use Rattle.std.proofs.Common.{◌≡◌, sym, ap}
+use Rattle.std.proofs.Common.{◌≡◌, ap}
 use Rattle.fab_model.specs.declared.mode.Mode.{Mode}
 use Rattle.fab_model.specs.declared.mode.Mode.TheVariants as modes
 use Rattle.fab_model.specs.Grid.{PlainFabric}

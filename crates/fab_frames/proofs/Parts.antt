@@ -13,7 +13,6 @@ use Rattle.fab_frames.specs.Positions.{chain}
 use Rattle.fab_frames.specs.Stream.{stream_mode, Part, fixed, waiting_word, waiting_words, synchronizing_words, header, of_chain, column_parts, all_frames, parts, word_of, stream}
 use Rattle.fab_frames.specs.inner.Taking.{plain_part, IsWithin}
 use Rattle.fab_frames.specs.declared.plan.Part.{Part as CodePart}
-use Rattle.fab_frames.specs.declared.plan.Part.TheVariants as code_parts
 use Rattle.fab_frames.proofs.Lists.{counted_more, no_counted, pieces_more, no_pieces, reversed_more}
 use Rattle.fab_frames.proofs.Modes.{frames_parts, chain_parts}
 use Rattle.fab_frames.proofs.Standing.{part_within}

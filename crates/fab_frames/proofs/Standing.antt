@@ -6,7 +6,7 @@ use Rattle.fab_fabric.specs.Bits.{AreBitsOf, HasBit}
 use Rattle.fab_fabric.specs.Fabric.{IsFabric}
 use Rattle.std.proofs.lemmas.Option.{slice_get_within, same_Some}
 use Rattle.fab_frames.specs.Positions.{bit_place, chain, chain_words}
-use Rattle.fab_frames.specs.Stream.{stream_mode, Part, fixed, of_row, of_chain, bit_placed_at, all_frames, whole_chain, parts}
+use Rattle.fab_frames.specs.Stream.{stream_mode, Part, fixed, of_row, of_chain, bit_placed_at, whole_chain, parts}
 use Rattle.fab_frames.specs.inner.Taking.{IsWithin, placed_by}
 use Rattle.fab_frames.specs.declared.positions.BitPlace.{BitPlace}
 use Rattle.fab_frames.proofs.Lists.{get_reversed, reversed_item}

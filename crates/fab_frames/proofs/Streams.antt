@@ -15,7 +15,7 @@ use Rattle.fab_base.specs.declared.words.Reason.TheVariants as reasons
 use Rattle.fab_model.specs.Grid.{PlainFabric}
 use Rattle.fab_model.specs.Drive.{PlainBits}
 use Rattle.fab_fabric.specs.Fabric.{IsFabric}
-use Rattle.fab_fabric.specs.Bits.{plain_bits, place_bits, column_bits, bits_at, AreBitsOf}
+use Rattle.fab_fabric.specs.Bits.{plain_bits, place_bits, column_bits, AreBitsOf}
 use Rattle.fab_frames.specs.Positions.{bit_place, bit_in, placed_in_chain}
 use Rattle.fab_frames.specs.Stream.{Part, fixed, of_row, of_chain, parts, word_of, stream, bit_placed_at, placed_word, word_bit, has_spare, part_problem, problem_of, problem_at, IsFirstWrong}
 use Rattle.fab_frames.specs.Refusals.{IsStreamRefusal}

@@ -39,9 +39,10 @@ pub enum Part {
     Chain(usize),
 }
 
-/// The mode in which the words of a fabric's stream come.
+/// The mode in which the words of a fabric's stream come: that of the fabric.
 pub fn stream_mode(fabric: &Fabric) -> Mode
-    ensures { result ≡ stream_mode fabric.now }
+    ensures told { result ≡ stream_mode fabric.now }
+    ensures mode { result ≡ fabric.now.mode }
 {
     fabric.mode()
 }

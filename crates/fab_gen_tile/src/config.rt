@@ -206,7 +206,12 @@ fn next_bit(alloc: Global, bit: u32) -> Result<Expr, Memory>
     let before = before_bit(alloc, bit)?;
     let kept = latch_name(alloc, bit)?;
     let written = Name::of(alloc, b"WriteStrobe")?;
-    conditional(alloc, Expr::Var(written), Expr::Var(before), Expr::Var(kept))
+    conditional(
+        alloc,
+        Expr::Var(written),
+        Expr::Var(before),
+        Expr::Var(kept),
+    )
 }
 
 // What stands before a bit in the chain of its tile.

@@ -6,5 +6,6 @@ pub mod Frames
 pub mod Columns
 pub mod Loads
 pub mod Turns
+pub mod Chain
 pub use Rattle.fab_frames.proofs.Numbers as fab_frames_Numbers
 pub use Rattle.fab_frames.proofs.Placed as fab_frames_Placed

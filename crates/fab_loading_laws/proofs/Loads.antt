@@ -4,12 +4,14 @@ use Rattle.std.specs.List.{flat_map}
 use Rattle.std.specs.Option.{option_map_or}
 use Rattle.std.proofs.lemmas.List.{map-append}
 use Rattle.fab_bits.specs.Bits.{digits}
+use Rattle.fab_gen_loader.specs.fab_model.specs.declared.mode.Mode.TheVariants as modes
 use Rattle.fab_gen_loader.specs.fab_model.specs.Tiles.{counted}
 use Rattle.fab_gen_loader.specs.fab_model.specs.Grid.{PlainFabric}
 use Rattle.fab_gen_loader.specs.fab_model.specs.Drive.{PlainBits}
 use Rattle.fab_frames.specs.fab_fabric.specs.Fabric.{IsFabric}
 use Rattle.fab_gen_loader.specs.Machine.{Machine, Word, tick}
-use Rattle.fab_frames.specs.Stream.{Part, fixed, waiting_word, header, column_parts, word_of, parts, stream, bit_placed_at, word_bit}
+use Rattle.fab_frames.specs.Stream.{stream_mode, Part, fixed, waiting_word, header, column_parts, word_of, stream, bit_placed_at, word_bit}
+use Rattle.fab_frames.proofs.Modes.{frames_parts}
 use Rattle.fab_frames.proofs.Words.{bit_of_word}
 use Rattle.fab_loading_laws.specs.Latches.{LatchPlace, IsMachine, latch_shows}
 use Rattle.fab_loading_laws.specs.Streams.{stream_words, IsLatchPlace}
@@ -40,10 +42,11 @@ all_columns fabric = flat_map (column_parts fabric) (counted fabric.columns (λ 
 abbrev column_words : PlainFabric → PlainBits → List Word
 column_words fabric bits = map (part_word fabric bits) (all_columns fabric)
 
-words_are : (fabric : PlainFabric) (bits : PlainBits) → stream_words fabric bits ≡ header_words ++ (column_words fabric bits ++ last_word ∷ [])
-unfolding stream parts
-words_are fabric bits =
-    words_of_parts fabric bits (map fixed header ++ (all_columns fabric ++ fixed waiting_word ∷ []))
+words_are : (fabric : PlainFabric) (bits : PlainBits) → stream_mode fabric ≡ modes.Frames → stream_words fabric bits ≡ header_words ++ (column_words fabric bits ++ last_word ∷ [])
+unfolding stream
+words_are fabric bits mode =
+    ap (λ parts. map (digits 32) (map (word_of fabric bits) parts)) (frames_parts fabric mode)
+    ∙ words_of_parts fabric bits (map fixed header ++ (all_columns fabric ++ fixed waiting_word ∷ []))
     ∙ map-append (part_word fabric bits) (map fixed header) (all_columns fabric ++ fixed waiting_word ∷ [])
     ∙ ap₂ (λ front back. front ++ back) (fixed_words fabric bits header) (map-append (part_word fabric bits) (all_columns fabric) (fixed waiting_word ∷ []))
 
@@ -69,7 +72,7 @@ pub record IsLoadedByWords (fabric : PlainFabric) (bits : PlainBits) (machine : 
 abbrev first_place : LatchPlace
 first_place = record { x = 0; y = 0; frame = 0; bit = 0 }
 
-module _ (fabric : PlainFabric) (bits : PlainBits) (machine : Machine) (is_fabric : IsFabric fabric) (is : IsMachine fabric.rows machine) where
+module _ (fabric : PlainFabric) (bits : PlainBits) (machine : Machine) (mode : stream_mode fabric ≡ modes.Frames) (is_fabric : IsFabric fabric) (is : IsMachine fabric.rows machine) where
   abbrev woken : Machine
   woken = after_words fabric.rows machine header_words
 
@@ -91,7 +94,7 @@ module _ (fabric : PlainFabric) (bits : PlainBits) (machine : Machine) (is_fabri
 
   after_all : after_words fabric.rows machine (stream_words fabric bits) ≡ record filled { state = 0; strobe = false }
   after_all =
-      ap (after_words fabric.rows machine) (words_are fabric bits)
+      ap (after_words fabric.rows machine) (words_are fabric bits mode)
       ∙ after_both fabric.rows machine header_words (column_words fabric bits ++ last_word ∷ [])
       ∙ after_both fabric.rows woken (column_words fabric bits) (last_word ∷ [])
       ∙ after_last
@@ -100,7 +103,7 @@ module _ (fabric : PlainFabric) (bits : PlainBits) (machine : Machine) (is_fabri
       ≡ latch_shows filled place (latch_after_words fabric.rows woken place (latch_after_words fabric.rows machine place held header_words) (column_words fabric bits))
   latch_after_all place held =
       let before = latch_after_words fabric.rows machine place held header_words in
-      ap (latch_after_words fabric.rows machine place held) (words_are fabric bits)
+      ap (latch_after_words fabric.rows machine place held) (words_are fabric bits mode)
       ∙ latch_after_both fabric.rows machine place held header_words (column_words fabric bits ++ last_word ∷ [])
       ∙ latch_after_both fabric.rows woken place before (column_words fabric bits) (last_word ∷ [])
 

@@ -1,10 +1,12 @@
 -- Turns without words, between words, change nothing of what the words leave.
 use Rattle.std.proofs.Common.{◌≡◌, ℕ, Bool, true, false, List, [], ◌∷◌, refl, sym, ap, ◌∙◌, inl, inr}
 use Rattle.std.proofs.lemmas.Bool.{cases_Bool, false≢true}
+use Rattle.fab_gen_loader.specs.fab_model.specs.declared.mode.Mode.TheVariants as modes
 use Rattle.fab_gen_loader.specs.fab_model.specs.Grid.{PlainFabric}
 use Rattle.fab_gen_loader.specs.fab_model.specs.Drive.{PlainBits}
 use Rattle.fab_frames.specs.fab_fabric.specs.Fabric.{IsFabric}
 use Rattle.fab_gen_loader.specs.Machine.{Machine, Word, take_word, tick}
+use Rattle.fab_frames.specs.Stream.{stream_mode}
 use Rattle.fab_loading_laws.specs.Latches.{IsMachine, LatchPlace, Turn, word, pause, other_clock, words_of, after_turns, is_open, latch_shows, latch_after}
 use Rattle.fab_loading_laws.specs.Streams.{stream_words, IsLoaded}
 use Rattle.fab_loading_laws.proofs.Runs.{after_words, latch_after_words}
@@ -69,13 +71,13 @@ module _ (rows : ℕ) where
       shows_like_after place machine other (latch_shows machine place held) other_held turns
       (record { like = like.like; shows = shows_again machine place held ∙ like.shows })
 
-module _ (fabric : PlainFabric) (bits : PlainBits) (machine : Machine) (turns : List Turn) (is_fabric : IsFabric fabric) (is : IsMachine fabric.rows machine)
+module _ (fabric : PlainFabric) (bits : PlainBits) (machine : Machine) (turns : List Turn) (mode : stream_mode fabric ≡ modes.Frames) (is_fabric : IsFabric fabric) (is : IsMachine fabric.rows machine)
     (words : words_of turns ≡ stream_words fabric bits) where
   abbrev rows : ℕ
   rows = fabric.rows
 
   by_words : IsLoadedByWords fabric bits machine
-  by_words = loaded_by_words fabric bits machine is_fabric is
+  by_words = loaded_by_words fabric bits machine mode is_fabric is
 
   abbrev last : Machine
   last = after_turns rows machine turns

@@ -8,11 +8,13 @@ use Rattle.std.proofs.lemmas.Bool.Decides.{leb_tells}
 use Rattle.std.proofs.lemmas.List.{map-append, append-nil, append_assoc, append_cancel_right, length-append, length-map}
 use Rattle.std.proofs.lemmas.List.Folds.{drop_split}
 use Rattle.std.proofs.lemmas.Grind.{flat_map-append}
+use Rattle.fab_implementation.specs.fab_model.specs.declared.mode.Mode.TheVariants as modes
 use Rattle.fab_implementation.specs.fab_model.specs.Tiles.{counted}
 use Rattle.fab_implementation.specs.fab_model.specs.Grid.{PlainFabric}
 use Rattle.fab_implementation.specs.fab_model.specs.Drive.{PlainBits}
-use Rattle.fab_frames.specs.Stream.{Part, fixed, of_row, header, waiting_word, waiting_words, frame_parts, column_parts, word_of, parts, stream}
+use Rattle.fab_frames.specs.Stream.{stream_mode, Part, fixed, of_row, header, waiting_word, waiting_words, frame_parts, column_parts, word_of, stream}
 use Rattle.fab_frames.proofs.Lists.{length_counted, length_pieces}
+use Rattle.fab_frames.proofs.Modes.{frames_parts}
 use Rattle.fab_partial.specs.Columns.{chosen_parts, partial_parts, partial_stream}
 
 -- ---- lists
@@ -58,7 +60,7 @@ le_leb a b le = elim (leb_tells a b) [ inl holds ↦ holds.0 | inr fails ↦ abs
 
 -- ---- columns
 
-module _ (fabric : PlainFabric) (bits : PlainBits) (first last : ℕ) (order : first ≤ last) (within : last < fabric.columns) where
+module _ (fabric : PlainFabric) (bits : PlainBits) (first last : ℕ) (mode : stream_mode fabric ≡ modes.Frames) (order : first ≤ last) (within : last < fabric.columns) where
   abbrev count : ℕ
   count = suc last - first
 
@@ -134,13 +136,14 @@ module _ (fabric : PlainFabric) (bits : PlainBits) (first last : ℕ) (order : f
       ∙ ap (λ rest. heading ++ rest) (map-append (word_of fabric bits) (flat_map (column_parts fabric) middle) (fixed waiting_word ∷ []))
 
   stream_is : stream fabric bits ≡ (heading ++ passed) ++ (kept ++ ending)
-  unfolding stream parts
+  unfolding stream
   stream_is =
       let a = flat_map (column_parts fabric) front in
       let b = flat_map (column_parts fabric) middle in
       let c = flat_map (column_parts fabric) back in
       let d = fixed waiting_word ∷ [] in
-      ap (λ found. words_of (map fixed header ++ (found ++ d))) (split (column_parts fabric))
+      ap words_of (frames_parts fabric mode)
+      ∙ ap (λ found. words_of (map fixed header ++ (found ++ d))) (split (column_parts fabric))
       ∙ ap (λ found. words_of (map fixed header ++ found)) (append_assoc a (b ++ c) d ∙ ap (λ rest. a ++ rest) (append_assoc b c d))
       ∙ map-append (word_of fabric bits) (map fixed header) (a ++ (b ++ (c ++ d)))
       ∙ ap (λ rest. heading ++ rest) (map-append (word_of fabric bits) a (b ++ (c ++ d)) ∙ ap (λ rest. passed ++ rest) (map-append (word_of fabric bits) b (c ++ d)))

@@ -1,4 +1,4 @@
--- The bitstream of some columns of a fabric, and what configuration bits a fabric has behind it.
+-- The bitstream of some columns of a fabric in frames, and what configuration bits a fabric has behind it.
 use Rattle.std.specs.Prelude.{ℕ, Bool, ◌&&◌, List, [], ◌∷◌, ◌++◌, map, nat_le, if◌then◌else◌}
 use Rattle.std.specs.List.{flat_map}
 use Rattle.fab_implementation.specs.fab_model.specs.Tiles.{counted}

@@ -1,8 +1,9 @@
 //! The bitstream of some columns.
 
 ghost use Rattle.std.specs.Prelude.{◌≡◌, ◌<◌, ◌≤◌, ◌++◌, [], ◌∷◌, IfOk, length, slice_range};
+ghost use Rattle.fab_implementation.specs.fab_model.specs.declared.mode.Mode.TheVariants as modes;
 ghost use Rattle.fab_implementation.specs.fab_fabric.specs.Bits.{AreBitsOf, plain_bits};
-ghost use Rattle.fab_frames.specs.Stream.{waiting_word};
+ghost use Rattle.fab_frames.specs.Stream.{stream_mode, waiting_word};
 ghost use Rattle.fab_partial.specs.Columns.{partial_stream};
 
 use fab_base::Memory;
@@ -20,7 +21,7 @@ const FRAMES: usize = 20;
 const WAITING_WORD: u32 = 0x0010_0000;
 
 /// The words, of 32 bits each, that load configuration bits into the columns from the first to the last and leave all others as they are.
-/// They are the stream of the whole fabric without the frames of the other columns.
+/// They are the stream of the whole fabric without the frames of the other columns. A chain has no frames, and moves on as a whole.
 ///
 /// # Errors
 ///
@@ -32,6 +33,7 @@ pub fn partial(
     first: u32,
     last: u32,
 ) -> Result<Vec<u32>, Memory>
+    requires frames { stream_mode fabric.now ≡ modes.Frames }
     requires bits { AreBitsOf fabric.now bits.now }
     requires order { first ≤ last }
     requires within { last < fabric.now.columns }

@@ -23,9 +23,9 @@ use Rattle.fab_network.specs.Solved.{asked_by, IsLeast, Solves}
 use Rattle.fab_demand.specs.Asked.{Asked, IsPossible}
 use Rattle.fab_demand.specs.Demand.{IsAsked, IsKept, IsKeptBy}
 use Rattle.fab_phases.specs.Lists.{Each, HasOne}
-use Rattle.fab_phases.specs.Loading.{AreLoading, IsChain, Rises, before_at, point_at}
+use Rattle.fab_phases.specs.Loading.{AreLoading, IsChain, IsInChain, Rises, Takes, before_at, point_at}
 use Rattle.fab_phases.specs.Words.{AreLoadSteps, IsLeft, IsLoadingAt, IsLoadStep, IsOffered, word_bits}
-use Rattle.fab_phases.specs.inner.Chain.{behind, bit_for, bits_of, comes_to, fed, IsMoved, ticked}
+use Rattle.fab_phases.specs.inner.Chain.{behind, bit_for, bits_of, comes_to, fed, IsInChainBefore, IsMoved, ticked}
 use Rattle.fab_phases.specs.declared.loading.LoadedFlop.{LoadedFlop}
 use Rattle.fab_phases.specs.declared.loading.Loading.{Loading}
 use Rattle.fab_phases.proofs.Chain.{before_has, behind_few, behind_many, behind_other, behind_source, bit_comes, bits_long, one_place, point_here, ticked_keeps, ticked_takes}
@@ -123,25 +123,17 @@ module _ (network : Network) (asked : Asked) (loads : List Bool) (loading : Load
   bits_step base is_asked solvable inputs (bit ∷ bits) old new kept is =
       let offered = fed source bit old in
       let next = ticked source flops offered in
-      let kept_offered = offered_kept network base asked source (bit ∷ []) old offered inputs (fed_offers source bit old) kept in
-      (next, step_on base old bit is_asked kept_offered (solvable offered),
-        bits_step base is_asked solvable inputs bits next new (ticked_kept_on base offered kept_offered) is)
+      let kept_offered = offered_kept network base asked source (bit ∷ []) old offered inputs (fed_offers source bit old) kept in (
+        next,
+        step_on base old bit is_asked kept_offered (solvable offered),
+        bits_step base is_asked solvable inputs bits next new (ticked_kept_on base offered kept_offered) is,
+      )
 
 -- the pieces of words are their bits
 pieces_are : (words : List ℕ) → all_bits words ≡ map (λ bit. bit ∷ []) (bits_of words)
 pieces_are [] = refl
 pieces_are (word ∷ words) =
     ap (λ more. single_bits (word_bits word) ++ more) (pieces_are words) ∙ sym (map-append (λ (bit : Bool). bit ∷ []) (reverse (word_bits word)) (bits_of words))
-
-pub words_step : (network : Network) (loading : Loading) (loads : List Bool) (source : ℕ) (demand : Asked) (words : List ℕ) (old new : List Tern) →
-    ((given : PointTerns) → (t : PointTerns) × IsLeast network.trees.items network.drives.items given t) → loading.chain ≡ Some source →
-    IsLoadingAt network loading loads source 1 demand old → IsMoved loading.flops.items source words (kept_tern old) (kept_tern new) →
-    AreLoadSteps network loads source (all_bits words) (kept_tern old) (kept_tern new)
-words_step network loading loads source demand words old new solvable is at moved =
-    let is_chain : ℕ → Type 0 = λ input. IsChain network at.asked input loading.flops.items loading.runs.items in
-    let chain : is_chain source = subst (λ (input : Option ℕ). ForSome input is_chain) is at.gathered.chain in
-    subst (λ pieces. AreLoadSteps network loads source pieces (kept_tern old) (kept_tern new)) (sym (pieces_are words))
-    (bits_step network at.asked loads loading source at.gathered chain at.base at.is_asked solvable at.inputs (bits_of words) (kept_tern old) (kept_tern new) at.kept moved)
 
 -- ---- what the code does
 
@@ -172,7 +164,7 @@ still_comes flops words place old now flop rises at some so_far =
           let here = point_here flops k f at_k in
           let held : kept_tern now (point_at flops k) ≡ old (point_at flops k) =
           so_far.others (point_at flops k) (λ j g at_j past e.
-            let same : j ≡ k = one_place flops rises j k g f at_j at_k (e ∙ here) in absurd (omega (arith, past, same))) in
+          let same : j ≡ k = one_place flops rises j k g f at_j at_k (e ∙ here) in absurd (omega (arith, past, same))) in
           rw many held
     ]
 
@@ -208,7 +200,7 @@ place_behind flops source words old rises apart place flop at =
           let inside : place < 32 * length words = omega (arith, l) in
           let index : 32 * length words - 1 - place ≡ length (bits_of words) - 1 - place = omega (arith, long) in
           rw few (ap known (sym (bit_comes words place inside)) ∙ ap (λ k. known (get_or (bits_of words) k false)) index
-            ∙ sym (behind_few source flops rises apart (bits_of words) old place flop at (omega (arith, long, inside))))
+          ∙ sym (behind_few source flops rises apart (bits_of words) old place flop at (omega (arith, long, inside))))
       | inr g ↦
           let many : nat_lt (place / 32) (length words) ≡ false = le-ltb (length words) (place / 32) g in
           let within : place < length flops = slice_get_within flops place flop at in
@@ -218,7 +210,7 @@ place_behind flops source words old rises apart place flop at =
           let at_k : slice_get flops k ≡ Some f = slice_get-get_or flops k flop (omega (arith, within)) in
           let index : place - length (bits_of words) ≡ k = omega (arith, long) in
           rw many (ap old (point_here flops k f at_k)
-            ∙ sym (behind_many source flops rises apart (bits_of words) old place flop f at (omega (arith, long, past)) (ap (slice_get flops) index ∙ at_k)))
+          ∙ sym (behind_many source flops rises apart (bits_of words) old place flop f at (omega (arith, long, past)) (ap (slice_get flops) index ∙ at_k)))
     ]
 
 not_first : (flop : LoadedFlop) (flops : List LoadedFlop) (point : ℕ) → (flop.point ≡ point → ⊥) → (HasOne flops (λ f. f.point ≡ point) → ⊥) →
@@ -258,3 +250,73 @@ moved_all flops source words old now left rises apart within some value so_far p
             so_far.others point (λ k f at past e. none (k, f, at, e)) ∙ sym (behind_other source flops rises apart bits old point none other)
       ]
     ]
+
+-- ---- how a chain is seen
+
+pub chain_more : (network : Network) (asked : Asked) (source : ℕ) (flops : List LoadedFlop) (place : ℕ) (flop : LoadedFlop) → slice_get flops place ≡ Some flop →
+    Takes network asked flop.next (before_at source flops place) → (0 < place → before_at source flops place < flop.point) →
+    IsInChainBefore network asked source flops place → IsInChainBefore network asked source flops (place + 1)
+chain_more network asked source flops place flop at takes rises so_far = record {
+  takes = λ k f few at_k.
+      elim (cases_eq k place) [
+        | inl e ↦
+            let both : Some f ≡ Some flop = sym at_k ∙ ap (slice_get flops) e ∙ at in
+            let same : f ≡ flop = cc in
+            subst (λ n. Takes network asked f.next (before_at source flops n)) (sym e)
+            (subst (λ (g : LoadedFlop). Takes network asked g.next (before_at source flops place)) (sym same) takes)
+        | inr apart ↦ so_far.takes k f (omega (arith, few, apart)) at_k
+      ];
+  rises = λ k f next few at_k at_next.
+      elim (cases_eq (suc k) place) [
+        | inl e ↦
+            let both : Some next ≡ Some flop = sym at_next ∙ ap (slice_get flops) e ∙ at in
+            let same : next ≡ flop = cc in
+            let before : before_at source flops place ≡ f.point = ap (before_at source flops) (sym e) ∙ point_here flops k f at_k in
+            let less : before_at source flops place < flop.point = rises (omega (arith, e)) in
+            subst (λ (g : LoadedFlop). f.point < g.point) (sym same) (subst (λ n. n < flop.point) before less)
+        | inr apart ↦ so_far.rises k f next (omega (arith, few, apart)) at_k at_next
+      ];
+}
+
+pub chain_none : (network : Network) (asked : Asked) (source : ℕ) (flops : List LoadedFlop) → IsInChainBefore network asked source flops 0
+chain_none network asked source flops = record {
+  takes = λ k f few. absurd (omega (arith, few));
+  rises = λ k f next few. absurd (omega (arith, few));
+}
+
+pub chain_all : (network : Network) (asked : Asked) (source : ℕ) (flops : List LoadedFlop) (count : ℕ) → length flops ≤ count → IsInChainBefore network asked source flops count →
+    IsInChain network asked source flops
+chain_all network asked source flops count all so_far = record {
+  takes = λ k f at. let less : k < length flops = slice_get_within flops k f at in so_far.takes k f (omega (arith, less, all)) at;
+  rises = λ k f next at at_next.
+      let less : suc k < length flops = slice_get_within flops (suc k) next at_next in so_far.rises k f next (omega (arith, less, all)) at at_next;
+}
+
+-- a chain stands apart from its input, within what is given
+pub chain_apart : (network : Network) (asked : Asked) (loads : List Bool) (loading : Loading) (source : ℕ) → AreLoading network asked loads loading →
+    IsChain network asked source loading.flops.items loading.runs.items → Each loading.flops.items (λ flop. flop.point ≢ source)
+chain_apart network asked loads loading source are chain k flop at same =
+    let both : Some (Flop Loader flop.next) ≡ Some Given = sym (are.flops k flop at).is ∙ ap (slice_get network.drives.items) same ∙ chain.input in
+    absurd (cc)
+
+pub chain_within : (network : Network) (asked : Asked) (loads : List Bool) (loading : Loading) (count : ℕ) → AreLoading network asked loads loading →
+    length network.drives.items ≡ count → Each loading.flops.items (λ flop. flop.point < count)
+chain_within network asked loads loading count are long k flop at =
+    let less : flop.point < length network.drives.items = slice_get_within network.drives.items flop.point (Flop Loader flop.next) (are.flops k flop at).is in
+    omega (arith, less, long)
+
+-- the chain of a loading that has one
+pub chain_of : (network : Network) (asked : Asked) (loads : List Bool) (loading : Loading) (source : ℕ) → loading.chain ≡ Some source → AreLoading network asked loads loading →
+    IsChain network asked source loading.flops.items loading.runs.items
+chain_of network asked loads loading source is are =
+    let is_chain : ℕ → Type 0 = λ input. IsChain network asked input loading.flops.items loading.runs.items in
+    subst (λ (input : Option ℕ). ForSome input is_chain) is are.chain
+
+pub words_step : (network : Network) (loading : Loading) (loads : List Bool) (source : ℕ) (demand : Asked) (words : List ℕ) (old new : List Tern) →
+    ((given : PointTerns) → (t : PointTerns) × IsLeast network.trees.items network.drives.items given t) → loading.chain ≡ Some source →
+    IsLoadingAt network loading loads source 1 demand old → IsMoved loading.flops.items source words (kept_tern old) (kept_tern new) →
+    AreLoadSteps network loads source (all_bits words) (kept_tern old) (kept_tern new)
+words_step network loading loads source demand words old new solvable is at moved =
+    let chain = chain_of network at.asked loads loading source is at.gathered in
+    subst (λ pieces. AreLoadSteps network loads source pieces (kept_tern old) (kept_tern new)) (sym (pieces_are words))
+    (bits_step network at.asked loads loading source at.gathered chain at.base at.is_asked solvable at.inputs (bits_of words) (kept_tern old) (kept_tern new) at.kept moved)

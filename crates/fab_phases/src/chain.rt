@@ -1,13 +1,13 @@
 //! Flip-flops that stand in a chain behind an input: how that is seen, and what they hold behind many ticks.
 
-ghost use Rattle.std.specs.Prelude.{◌≡◌, ◌≢◌, ◌<◌, length, slice_get, IsTrue, Some};
+ghost use Rattle.std.specs.Prelude.{◌≡◌, ◌≢◌, ◌<◌, ◌≤◌, length, slice_get, IsTrue, Some};
 ghost use Rattle.std.specs.Option.{ForSome};
 ghost use Rattle.fab_ternary.specs.Terns.{plain_tern};
 ghost use Rattle.fab_network.specs.declared.network.Drive.TheVariants.{Given};
 ghost use Rattle.fab_network.specs.Network.{AreFit};
 ghost use Rattle.fab_network.specs.Passes.{kept_tern};
 ghost use Rattle.fab_phases.specs.Lists.{Each};
-ghost use Rattle.fab_phases.specs.Loading.{IsChain, IsInChain, Rises, Takes};
+ghost use Rattle.fab_phases.specs.Loading.{before_at, IsChain, IsInChain, Rises, Takes};
 ghost use Rattle.fab_phases.specs.inner.Chain.{comes_to, IsMoved};
 ghost use Rattle.fab_phases.specs.inner.Ticks.{AreFitFlops, IsFit};
 
@@ -54,15 +54,33 @@ fn is_chain(network: &Network, demand: &Demand, source: u32, flops: &[LoadedFlop
     ensures { IsTrue result → IsInChain network.now demand.now source flops.now }
 {
     for (place, flop) in flops.iter().enumerate() {
-        let before = if place == 0 { source } else { flops[place - 1].point };
-        if taken_from(network, demand, flop.next) != Some(before) {
+        let before = before_of(source, flops, place);
+        if !is_taken_from(network, demand, flop.next, before) {
             return false;
         }
-        if place > 0 && flop.point <= before {
+        if !is_above(place, before, flop.point) {
             return false;
         }
     }
     true
+}
+
+// The point before a place: that of the flip-flop before it, and before the first one the input.
+fn before_of(source: u32, flops: &[LoadedFlop], place: usize) -> u32
+    requires { place ≤ length flops.now }
+    ensures { result ≡ before_at source flops.now place }
+{
+    if place == 0 {
+        return source;
+    }
+    flops[place - 1].point
+}
+
+// Whether a flip-flop behind the first place has a higher number than the one before it.
+fn is_above(place: usize, before: u32, point: u32) -> bool
+    ensures { IsTrue result → 0 < place → before < point }
+{
+    place == 0 || before < point
 }
 
 // The point that has what a flip-flop takes, if one has.
@@ -70,11 +88,25 @@ fn taken_from(network: &Network, demand: &Demand, next: Source) -> Option<u32>
     requires fit { AreFit network.now.trees.items network.now.drives.items }
     requires points { length network.now.drives.items ≡ length demand.now.leads }
     requires next { IsFit network.now next }
-    ensures { ForSome result (λ before. Takes network.now demand.now next before) }
 {
-    match lead_of_source(&network.trees, next, &demand.view(), demand.marks()) {
+    let view = demand.view();
+    match lead_of_source(&network.trees, next, &view, demand.marks()) {
         Lead::Point(point) => Some(point),
         Lead::Known(_) | Lead::Own | Lead::Unmarked(_) => None,
+    }
+}
+
+// Whether what a flip-flop takes is what a point has.
+fn is_taken_from(network: &Network, demand: &Demand, next: Source, before: u32) -> bool
+    requires fit { AreFit network.now.trees.items network.now.drives.items }
+    requires points { length network.now.drives.items ≡ length demand.now.leads }
+    requires next { IsFit network.now next }
+    ensures { IsTrue result → Takes network.now demand.now next before }
+{
+    let view = demand.view();
+    match lead_of_source(&network.trees, next, &view, demand.marks()) {
+        Lead::Point(point) => point == before,
+        Lead::Known(_) | Lead::Own | Lead::Unmarked(_) => false,
     }
 }
 
@@ -91,7 +123,8 @@ pub fn move_chain(flops: &[LoadedFlop], source: u32, words: &[u32], given: &mut 
     let Some(last) = words.last() else { return };
     for moved in 0..flops.len() {
         let place = flops.len() - 1 - moved;
-        given[flops[place].point as usize] = comes_to(flops, words, given, place);
+        let left = comes_to(flops, words, given, place);
+        given[flops[place].point as usize] = left;
     }
     given[source as usize] = Tern::known(last % 2 == 1);
 }

@@ -183,11 +183,10 @@ module _ (files : Map) where
     ]
 
   frames_judged : (name : List ℕ) (fabric : PlainFabric) → IsReadyOrRefused ((value : Unit {0}) × HasFrames fabric value) (MeetsLast (RefusesChain name fabric))
-  frames_judged name fabric =
-      elim fabric.mode as (λ mode. fabric.mode ≡ mode → IsReadyOrRefused ((value : Unit {0}) × HasFrames fabric value) (MeetsLast (RefusesChain name fabric))) [
-        | modes.Frames ↦ λ is. inl (tt, is)
-        | modes.Chain ↦ λ is. at_last (RefusesChain name fabric) (inr (_, record { chain = is; is = refl }))
-      ] refl
+  frames_judged name fabric = at_last (RefusesChain name fabric) (elim (by_mode fabric.mode) [
+    | inl is ↦ inl (tt, is)
+    | inr is ↦ inr (fault_at name 0 (problems.Unsupported (codes "partial FlipFlopChain")), record { chain = is; is = refl })
+  ])
 
   pub partial_judged : SpelledFabricsHaveTiles → (names : PartialFiles) → IsReadyOrRefused (IsReadyToExchange files names) (MeetsPartial files names)
   partial_judged have names = in_turn (SpellsFabric files names.fabric) (MeetsFabric files names.fabric) _ (fabric_judged files names.fabric) (λ fabric spelled.

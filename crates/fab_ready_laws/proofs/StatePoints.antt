@@ -28,7 +28,7 @@ use Rattle.fab_prim.specs.Modules.{flip_flop_name}
 use Rattle.fab_state.specs.Plain.{PlainState}
 use Rattle.fab_state_points.specs.Finding.{IsDeclared, IsClocked}
 use Rattle.fab_state_points.specs.Entries.{entries_of, shown_name, HasEntry, reason_of}
-use Rattle.fab_state_points.specs.Standing.{HasStream, IsFirstAbsent, IsRefusedState}
+use Rattle.fab_state_points.specs.Standing.{HasStream, IsDataShape, IsFirstAbsent, IsRefusedState}
 use Rattle.fab_state_points.specs.declared.entry.Entry.{Entry}
 use Rattle.fab_state_points.specs.declared.entry.Entry.TheVariants as entries
 use Rattle.fab_use_defs.specs.Sites.{bel_point, top_point}
@@ -105,11 +105,37 @@ module _ (one : PointsOfSoundTextsHaveOneDriver) (text : List PlainModule) (soun
 
   -- ---- the inputs that carry words, and a line of a state
 
+  -- neither of one bit nor of 32
+  no_carrier : (IsDeclared text [] write_data_name Scalar roles.Input → ⊥) → (IsDeclared text [] write_data_name (Vector 32) roles.Input → ⊥) →
+      (shape : Shape) → IsDataShape shape → IsDeclared text [] write_data_name shape roles.Input → ⊥
+  no_carrier no_bit no_word Scalar carries has = no_bit has
+  no_carrier no_bit no_word (Vector n) carries has =
+      no_word (subst (λ (width : ℕ). IsDeclared text [] write_data_name (Vector width) roles.Input) carries has)
+
+  abbrev HasCarrier : Type 0
+  HasCarrier = (shape : Shape) × IsDataShape shape × IsDeclared text [] write_data_name shape roles.Input
+
+  carrier_decided : IsDecided HasCarrier
+  carrier_decided = elim (declared_decided [] write_data_name Scalar roles.Input) [
+    | inl bit ↦ inl (Scalar, tt, bit)
+    | inr no_bit ↦ elim (declared_decided [] write_data_name (Vector 32) roles.Input) [
+      | inl word ↦ inl (Vector 32, refl, word)
+      | inr no_word ↦ inr (λ has. no_carrier no_bit no_word has.0 has.1 has.2)
+    ]
+  ]
+
   stream_decided : IsDecided (HasStream text)
   stream_decided = elim (both (both (declared_decided [] clock_name Scalar roles.Input) (declared_decided [] user_clock_name Scalar roles.Input))
-      (both (declared_decided [] write_strobe_name Scalar roles.Input) (declared_decided [] write_data_name (Vector 32) roles.Input))) [
-        | inl has ↦ inl (record { loader = has.0.0; user = has.0.1; strobe = has.1.0; words = has.1.1 })
-        | inr never ↦ inr (λ has. never ((has.loader, has.user), (has.strobe, has.words)))
+      (both (declared_decided [] write_strobe_name Scalar roles.Input) carrier_decided)) [
+        | inl has ↦ inl (record {
+          loader = has.0.0;
+          user = has.0.1;
+          strobe = has.1.0;
+          shape = has.1.1.0;
+          is_data = has.1.1.1;
+          words = has.1.1.2;
+        })
+        | inr never ↦ inr (λ has. never ((has.loader, has.user), (has.strobe, (has.shape, has.is_data, has.words))))
       ]
 
   entry_decided : (entry : Entry) → IsDecided (HasEntry text entry)

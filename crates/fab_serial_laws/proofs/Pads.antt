@@ -18,14 +18,14 @@ use Rattle.fab_drives_laws.specs.fab_model_tiles_Bel.{Bel}
 use Rattle.fab_drives_laws.specs.fab_model_Tiles.{PlainTile}
 use Rattle.fab_drives_laws.specs.fab_model_Grid.{PlainFabric, tile_at}
 use Rattle.fab_drives_laws.specs.fab_fabric_Fabric.{IsFabric}
-use Rattle.fab_drives_laws.specs.fab_gen_tile_Names.{vector}
 use Rattle.fab_drives_laws.specs.fab_fabric_text_defs_Names.{pad_port_name}
+use Rattle.fab_drives_laws.specs.fab_fabric_text_defs_Mode.{text_mode}
 use Rattle.fab_drives_laws.specs.fab_fabric_text_defs_Places.{placed_tiles}
-use Rattle.fab_drives_laws.specs.fab_fabric_text_defs_Top.{pad_ports, tile_pads, top_ports, top_module}
+use Rattle.fab_drives_laws.specs.fab_fabric_text_defs_Top.{pad_ports, tile_pads, data_port, top_ports, top_module}
 use Rattle.fab_drives_laws.specs.fab_fabric_text_defs_Texts.{IsFabricText}
 use Rattle.fab_drives_laws.proofs.Lists.{contains_flat, contains_numbered}
 use Rattle.fab_drives_laws.proofs.Places.{placed_tile, tile_is_placed}
-use Rattle.fab_text_loads_laws.proofs.Loader.{has_loader}
+use Rattle.fab_text_loads_laws.proofs.Carried.{carried}
 use Rattle.fab_nested_laws.specs.Nested.{within, IsShown}
 use Rattle.fab_serial.specs.Module.{fabric_instance_name, is_pad, same_join, serial_top, CanHaveSerialPort}
 use Rattle.fab_serial.proofs.fab_parts_sound_laws_Declared.{port_direction}
@@ -97,12 +97,12 @@ module _ (fabric : PlainFabric) (x y : ℕ) (tile : PlainTile) (number : ℕ) (b
   among_ports : (one : Port) → Contains (ins ++ outs) one → Contains can.top.ports one
   among_ports one listed =
       let of_fabric : Contains (top_ports fabric) one =
-      Contains-append_right (scalar true clock_name ∷ scalar true user_clock_name ∷ scalar true write_strobe_name ∷ vector true 32 write_data_name ∷ [])
+      Contains-append_right (scalar true clock_name ∷ scalar true user_clock_name ∷ scalar true write_strobe_name ∷ data_port (text_mode fabric) ∷ [])
       (flat_map tile_pads (placed_tiles fabric)) one
       (contains_flat tile_pads (placed_tiles fabric) (placed_tile x y tile) one (tile_is_placed fabric x y tile there)
       (contains_flat (pad_ports x y) (enumerate_from 0 tile.bels) (number, bel) one (contains_numbered tile.bels number bel stands) listed)) in
       let top_is : top_module fabric ≡ can.top =
-      (let both : Some (top_module fabric) ≡ Some can.top = sym (has_loader fabric text is is_text).1.tiles.top_is ∙ can.top_is in cc) in
+      (let both : Some (top_module fabric) ≡ Some can.top = sym (carried fabric text is is_text).tiles.top_is ∙ can.top_is in cc) in
       subst (λ m. Contains m.ports one) top_is of_fabric
 
   pub pad_in : Contains (top_inputs bel.kind) port → Contains can.top.ports (scalar true (pad_port_name x y number port))

@@ -1,4 +1,4 @@
--- The text of a fabric can have a serial port: the names are free, its top has the inputs, and WriteStrobe serves as no clock.
+-- The text of a fabric in frames can have a serial port: the names are free, its top has the inputs, and WriteStrobe serves as no clock.
 use Rattle.std.proofs.Common.{◌≡◌, ◌≢◌, ℕ, true, false, List, [], ◌∷◌, ◌++◌, map, Option, Some, None, All, refl, sym, ap, ◌∙◌, subst, arith}
 use Rattle.std.specs.List.{flat_map, enumerate_from}
 use Rattle.std.specs.Str.{bytes_eq}
@@ -20,17 +20,19 @@ use Rattle.fab_drives_laws.specs.fab_model_tiles_WireRow.{WireRow}
 use Rattle.fab_model.specs.Cascade.{PlacedRow, previous_row}
 use Rattle.fab_drives_laws.specs.fab_model_Rows.{is_jump}
 use Rattle.fab_drives_laws.specs.fab_model_Tiles.{PlainTile, counted}
+use Rattle.fab_drives_laws.specs.fab_model_mode_Mode.{Mode}
 use Rattle.fab_drives_laws.specs.fab_model_mode_Mode_TheVariants as modes
 use Rattle.fab_drives_laws.specs.fab_model_Grid.{PlainFabric}
 use Rattle.fab_drives_laws.specs.fab_fabric_Fabric.{IsFabric}
 use Rattle.fab_drives_laws.specs.fab_gen_tile_Borders.{side_border}
-use Rattle.fab_drives_laws.specs.fab_gen_tile_Names.{config_module_name, matrix_module_name, tile_module_name, begin_name, end_name, pad_name, vector, port_join, same_join, frame_data_name, frame_strobe_name}
+use Rattle.fab_drives_laws.specs.fab_gen_tile_Names.{config_module_name, matrix_module_name, tile_module_name, begin_name, end_name, pad_name, port_join, same_join, frame_data_name, frame_strobe_name}
 use Rattle.fab_drives_laws.specs.fab_gen_loader_Loader.{NextValues, loader_module_name, address_port, strobe_port, row_port, state_name, count_name, address_register_name, strobe_register_name, row_register_name, registers, processes, outputs, loader_of}
 use Rattle.fab_drives_laws.specs.fab_fabric_text_defs_Names.{top_module_name, pad_port_name, column_strobe_name, begin_wire_name}
+use Rattle.fab_drives_laws.specs.fab_fabric_text_defs_Mode.{text_mode}
 use Rattle.fab_drives_laws.specs.fab_fabric_text_defs_Places.{PlacedTile, placed_tiles}
-use Rattle.fab_drives_laws.specs.fab_fabric_text_defs_Top.{pad_ports, tile_pads, top_ports, loader_joins, end_value, numbered_row, row_joins, pad_joins, tile_joins, top_items, top_module}
+use Rattle.fab_drives_laws.specs.fab_fabric_text_defs_Top.{pad_ports, tile_pads, data_shape, data_port, top_ports, loader_joins, end_value, numbered_row, row_joins, pad_joins, config_joins, tile_joins, top_items, top_module}
 use Rattle.fab_drives_laws.specs.fab_fabric_text_defs_Text.{used_kinds, standing_types, tile_modules, fabric_text}
-use Rattle.fab_drives_laws.specs.fab_fabric_text_defs_Texts.{AreLoaders, one, IsFabricText}
+use Rattle.fab_drives_laws.specs.fab_fabric_text_defs_Texts.{AreLoaders, one, none, IsFabricText}
 use Rattle.fab_drives_laws.proofs.fab_tile_drives_laws_Endings.{all_counted, all_flat_map}
 use Rattle.fab_drives_laws.proofs.Lists.{all_of, all_if}
 use Rattle.fab_drives_laws.proofs.Apart.{told_apart}
@@ -56,28 +58,32 @@ module _ (name : List ℕ) (no_kind : (kind : Kind) → module_name kind ≢ nam
   abbrev Differs : PlainModule → Type 0
   Differs m = m.name ≢ name
 
-  modules_differ : (fabric : PlainFabric) (loader : PlainModule) → loader.name ≡ loader_module_name → All Differs (fabric_text fabric (loader ∷ []))
-  modules_differ fabric loader is =
+  loaders_differ : {rows : ℕ} {mode : Mode} {loaders : List PlainModule} → AreLoaders rows mode loaders → All Differs loaders
+  loaders_differ (one {loader} is_loader small) = All-cons Differs loader [] (λ same. no_loader (sym (ap (λ (m : PlainModule). m.name) is_loader.is) ∙ same)) (All-nil Differs)
+  loaders_differ none = All-nil Differs
+
+  no_module : (fabric : PlainFabric) {loaders : List PlainModule} → AreLoaders fabric.rows (text_mode fabric) loaders → module_named (fabric_text fabric loaders) name ≡ None
+  no_module fabric {loaders} are =
+      let mode = text_mode fabric in
       let kinds_text = map module_of_kind (used_kinds fabric) in
-      let tiles_text = flat_map tile_modules (standing_types fabric) in
-      All-append Differs kinds_text (tiles_text ++ (loader ∷ top_module fabric ∷ []))
+      let tiles_text = flat_map (tile_modules mode) (standing_types fabric) in
+      let last = top_module fabric ∷ [] in
+      none_named (fabric_text fabric loaders) name
+      (All-append Differs kinds_text (tiles_text ++ (loaders ++ last))
       (All-map Differs module_of_kind (used_kinds fabric) (all_of (λ (kind : Kind). Differs (module_of_kind kind)) (used_kinds fabric) no_kind))
-      (All-append Differs tiles_text (loader ∷ top_module fabric ∷ [])
-      (all_flat_map Differs tile_modules (standing_types fabric)
-      (all_of (λ (tile : PlainTile). All Differs (tile_modules tile)) (standing_types fabric) (λ tile. all_of_tile Differs tile (no_matrix tile) (no_config tile) (no_tile tile))))
-      (All-cons Differs loader (top_module fabric ∷ []) (λ same. no_loader (sym is ∙ same)) (All-cons Differs (top_module fabric) [] no_top (All-nil Differs))))
+      (All-append Differs tiles_text (loaders ++ last)
+      (all_flat_map Differs (tile_modules mode) (standing_types fabric)
+      (all_of (λ (tile : PlainTile). All Differs (tile_modules mode tile)) (standing_types fabric) (λ tile.
+      all_of_tile mode Differs tile (no_matrix tile) (no_config tile) (no_tile tile))))
+      (All-append Differs loaders last (loaders_differ are) (All-cons Differs (top_module fabric) [] no_top (All-nil Differs)))))
 
-  no_module : (fabric : PlainFabric) {loaders : List PlainModule} → AreLoaders fabric.rows modes.Frames loaders → module_named (fabric_text fabric loaders) name ≡ None
-  no_module fabric (one {loader} is_loader small) =
-      none_named (fabric_text fabric (loader ∷ [])) name (modules_differ fabric loader (ap (λ (m : PlainModule). m.name) is_loader.is))
-
-no_port_module : (fabric : PlainFabric) {loaders : List PlainModule} → AreLoaders fabric.rows modes.Frames loaders → module_named (fabric_text fabric loaders) serial_module_name ≡ None
+no_port_module : (fabric : PlainFabric) {loaders : List PlainModule} → AreLoaders fabric.rows (text_mode fabric) loaders → module_named (fabric_text fabric loaders) serial_module_name ≡ None
 no_port_module fabric are =
     no_module serial_module_name (λ kind. kind_apart kind serial_module_name (omega arith)) (λ tile. told_apart 0 (matrix_module_name tile) serial_module_name refl)
     (λ tile. told_apart 0 (config_module_name tile) serial_module_name refl) (λ tile. told_apart 0 (tile_module_name tile) serial_module_name refl)
     (told_apart 0 loader_module_name serial_module_name refl) (told_apart 0 top_module_name serial_module_name refl) fabric are
 
-no_top_module : (fabric : PlainFabric) {loaders : List PlainModule} → AreLoaders fabric.rows modes.Frames loaders → module_named (fabric_text fabric loaders) serial_top_name ≡ None
+no_top_module : (fabric : PlainFabric) {loaders : List PlainModule} → AreLoaders fabric.rows (text_mode fabric) loaders → module_named (fabric_text fabric loaders) serial_top_name ≡ None
 no_top_module fabric are =
     no_module serial_top_name (λ kind. kind_apart kind serial_top_name (omega arith)) (λ tile. told_apart 0 (matrix_module_name tile) serial_top_name refl)
     (λ tile. told_apart 0 (config_module_name tile) serial_top_name refl) (λ tile. told_apart 0 (tile_module_name tile) serial_top_name refl)
@@ -109,10 +115,10 @@ named_free name a b c d = (names_differ name serial_strobe_name a, names_differ 
 ports_free : (fabric : PlainFabric) → All FreePort (top_ports fabric)
 ports_free fabric =
     let pads = flat_map tile_pads (placed_tiles fabric) in
-    All-cons FreePort (scalar true clock_name) (scalar true user_clock_name ∷ scalar true write_strobe_name ∷ vector true 32 write_data_name ∷ pads) (named_free clock_name refl refl refl refl)
-    (All-cons FreePort (scalar true user_clock_name) (scalar true write_strobe_name ∷ vector true 32 write_data_name ∷ pads) (named_free user_clock_name refl refl refl refl)
-    (All-cons FreePort (scalar true write_strobe_name) (vector true 32 write_data_name ∷ pads) (named_free write_strobe_name refl refl refl refl)
-    (All-cons FreePort (vector true 32 write_data_name) pads (named_free write_data_name refl refl refl refl)
+    All-cons FreePort (scalar true clock_name) (scalar true user_clock_name ∷ scalar true write_strobe_name ∷ data_port (text_mode fabric) ∷ pads) (named_free clock_name refl refl refl refl)
+    (All-cons FreePort (scalar true user_clock_name) (scalar true write_strobe_name ∷ data_port (text_mode fabric) ∷ pads) (named_free user_clock_name refl refl refl refl)
+    (All-cons FreePort (scalar true write_strobe_name) (data_port (text_mode fabric) ∷ pads) (named_free write_strobe_name refl refl refl refl)
+    (All-cons FreePort (data_port (text_mode fabric)) pads (named_free write_data_name refl refl refl refl)
     (all_flat_map FreePort tile_pads (placed_tiles fabric)
     (all_of (λ (p : PlacedTile). All FreePort (tile_pads p)) (placed_tiles fabric) (λ p.
     all_flat_map FreePort (pad_ports p.x p.y) (enumerate_from 0 p.tile.bels)
@@ -178,21 +184,28 @@ module _ (fabric : PlainFabric) (placed : PlacedTile) where
       (All-map Leads to_pad (top_inputs bel.1.kind) (all_of (λ (port : List ℕ). Leads (to_pad port)) (top_inputs bel.1.kind) each))
       (All-map Leads to_pad (top_outputs bel.1.kind) (all_of (λ (port : List ℕ). Leads (to_pad port)) (top_outputs bel.1.kind) each))
 
-  tile_joins_lead : All Leads (tile_joins fabric placed)
-  tile_joins_lead =
+  -- the joins of frames
+  frames_lead : All Leads (config_joins modes.Frames fabric placed)
+  frames_lead =
+      let of = tile_module_name placed.tile in
+      All-cons Leads (port_join frame_data_name (variable (row_port placed.y))) (port_join frame_strobe_name (variable (column_strobe_name placed.x)) ∷ [])
+      (other_join of frame_data_name (row_port placed.y) (told_apart 0 (row_port placed.y) write_strobe_name refl))
+      (All-cons Leads (port_join frame_strobe_name (variable (column_strobe_name placed.x))) []
+      (other_join of frame_strobe_name (column_strobe_name placed.x) (told_apart 0 (column_strobe_name placed.x) write_strobe_name refl)) (All-nil Leads))
+
+  tile_joins_lead : text_mode fabric ≡ modes.Frames → All Leads (tile_joins fabric placed)
+  tile_joins_lead frames =
       let rows = enumerate_from 0 placed.tile.rows in
       let bels = enumerate_from 0 placed.tile.bels in
       let rest = flat_map (row_joins fabric placed) rows ++ flat_map (pad_joins placed.x placed.y) bels in
       let of = tile_module_name placed.tile in
-      All-cons Leads (same_join user_clock_name) (port_join frame_data_name (variable (row_port placed.y)) ∷ port_join frame_strobe_name (variable (column_strobe_name placed.x)) ∷ rest)
+      let brought = config_joins (text_mode fabric) fabric placed in
+      All-cons Leads (same_join user_clock_name) (brought ++ rest)
       (other_join of user_clock_name user_clock_name (told_apart 0 user_clock_name write_strobe_name refl))
-      (All-cons Leads (port_join frame_data_name (variable (row_port placed.y))) (port_join frame_strobe_name (variable (column_strobe_name placed.x)) ∷ rest)
-      (other_join of frame_data_name (row_port placed.y) (told_apart 0 (row_port placed.y) write_strobe_name refl))
-      (All-cons Leads (port_join frame_strobe_name (variable (column_strobe_name placed.x))) rest
-      (other_join of frame_strobe_name (column_strobe_name placed.x) (told_apart 0 (column_strobe_name placed.x) write_strobe_name refl))
+      (All-append Leads brought rest (subst (λ (mode : Mode). All Leads (config_joins mode fabric placed)) (sym frames) frames_lead)
       (All-append Leads (flat_map (row_joins fabric placed) rows) (flat_map (pad_joins placed.x placed.y) bels)
       (all_flat_map Leads (row_joins fabric placed) rows (all_of (λ (numbered : ℕ × WireRow). All Leads (row_joins fabric placed numbered)) rows row_leads))
-      (all_flat_map Leads (pad_joins placed.x placed.y) bels (all_of (λ (bel : ℕ × Bel). All Leads (pad_joins placed.x placed.y bel)) bels pad_leads)))))
+      (all_flat_map Leads (pad_joins placed.x placed.y) bels (all_of (λ (bel : ℕ × Bel). All Leads (pad_joins placed.x placed.y bel)) bels pad_leads))))
 
 top_has_no_clock : (fabric : PlainFabric) → All NoClock (top_items fabric)
 top_has_no_clock fabric =
@@ -230,20 +243,20 @@ loader_clocks rows next =
     (All-cons ByClock (assign strobe_port (variable strobe_register_name)) (row_outputs rows) tt
     (all_counted ByClock rows (λ row. assign (row_port row) (variable (row_register_name row))) (λ row few. tt)))))
 
-strobe_no_clock : (fabric : PlainFabric) (next : NextValues) (text : List PlainModule) → module_named text loader_module_name ≡ Some (loader_of fabric.rows next) →
+strobe_no_clock : (fabric : PlainFabric) (next : NextValues) (text : List PlainModule) → text_mode fabric ≡ modes.Frames → module_named text loader_module_name ≡ Some (loader_of fabric.rows next) →
     ServesAsClock text (top_module fabric) write_strobe_name → ⊥
-strobe_no_clock fabric next text named (ticks target value listed) = All-contains NoClock (top_items fabric) (clocked write_strobe_name target value) (top_has_no_clock fabric) listed
-strobe_no_clock fabric next text named (leads of i joins join below listed among to found later) =
-    let led = All-contains (LeadsToLoader of) joins join (All-contains NoClock (top_items fabric) (instance of i joins) (top_has_no_clock fabric) listed) among to in
+strobe_no_clock fabric next text frames named (ticks target value listed) = All-contains NoClock (top_items fabric) (clocked write_strobe_name target value) (top_has_no_clock fabric frames) listed
+strobe_no_clock fabric next text frames named (leads of i joins join below listed among to found later) =
+    let led = All-contains (LeadsToLoader of) joins join (All-contains NoClock (top_items fabric) (instance of i joins) (top_has_no_clock fabric frames) listed) among to in
     let is : loader_of fabric.rows next ≡ below =
     (let both : Some (loader_of fabric.rows next) ≡ Some below = sym named ∙ (ap (module_named text) (sym led.0) ∙ found) in cc) in
     led.1 (serves (λ name. name ≡ clock_name) text (loader_of fabric.rows next) join.port (loader_clocks fabric.rows next) (subst (λ m. ServesAsClock text m join.port) (sym is) later))
 
 -- ---- together
 
-pub takes_port : (fabric : PlainFabric) (text : List PlainModule) → IsFabric fabric → IsFabricText fabric text → CanHaveSerialPort text
-takes_port fabric text is is_text =
-    let found = has_loader fabric text is is_text in
+pub takes_port : (fabric : PlainFabric) (text : List PlainModule) → text_mode fabric ≡ modes.Frames → IsFabric fabric → IsFabricText fabric text → CanHaveSerialPort text
+takes_port fabric text frames is is_text =
+    let found = has_loader fabric text is is_text frames in
     record {
       sound = is_text.sound;
       no_port = ap (λ modules. module_named modules serial_module_name) is_text.is ∙ no_port_module fabric is_text.are;
@@ -254,7 +267,7 @@ takes_port fabric text is is_text =
       clock = (refl, refl);
       user_clock = (refl, refl);
       strobe = (refl, refl);
-      no_clock = strobe_no_clock fabric found.0 text found.1.named;
-      word = (refl, refl);
+      no_clock = strobe_no_clock fabric found.0 text frames found.1.named;
+      word = (refl, ap (λ (mode : Mode). Some (data_shape mode)) frames);
       free = ports_free fabric;
     }

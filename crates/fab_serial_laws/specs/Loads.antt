@@ -4,10 +4,12 @@ use Rattle.fab_syntax.specs.Plain.{PlainModule}
 use Rattle.fab_meaning.specs.Points.{Point, point}
 use Rattle.fab_meaning.specs.Settled.{Assignment, IsSettledOn}
 use Rattle.fab_meaning.specs.Runs.{clock_name, Moment, IsRunOn}
+use Rattle.fab_drives_laws.specs.fab_model_mode_Mode_TheVariants as modes
 use Rattle.fab_drives_laws.specs.fab_model_Grid.{PlainFabric}
 use Rattle.fab_drives_laws.specs.fab_model_Drive.{PlainBits}
 use Rattle.fab_text_loads_laws.specs.fab_drives_laws_Points.{ShowsBits}
 use Rattle.fab_text_loads_laws.specs.fab_fabric_Fabric.{IsFabric}
+use Rattle.fab_text_loads_laws.specs.fab_fabric_text_defs_Mode.{text_mode}
 use Rattle.fab_text_loads_laws.specs.fab_fabric_text_defs_Texts.{IsFabricText}
 use Rattle.fab_text_loads_laws.specs.fab_load_runs_laws_Runs.{IsClockLow}
 use Rattle.fab_text_loads_laws.specs.Loads.{IsConfigured}
@@ -59,10 +61,13 @@ pub record LoadsSerially (fabric : PlainFabric) (text : List PlainModule) : Type
   pub shows : (bits : PlainBits) (inputs held now : Assignment) → IsConfiguredBehind fabric bits held → IsSettledOn (IsSerialLoading text) text inputs held now →
       ShowsBits fabric bits (within fabric_instance_name now)
 
--- The text of each fabric can have a serial port.
+-- The text of each fabric in frames can have a serial port. That of a chain takes words bit by bit as it is.
 abbrev pub FabricTextsTakePorts : Type 0
-FabricTextsTakePorts = (fabric : PlainFabric) (text : List PlainModule) → IsFabric fabric → IsFabricText fabric text → CanHaveSerialPort text
+FabricTextsTakePorts =
+    (fabric : PlainFabric) (text : List PlainModule) → text_mode fabric ≡ modes.Frames → IsFabric fabric → IsFabricText fabric text → CanHaveSerialPort text
 
 -- Behind one, its bitstreams can be loaded bit by bit.
 abbrev pub SerialTextsLoad : Type 0
-SerialTextsLoad = (fabric : PlainFabric) (text : List PlainModule) → IsFabric fabric → IsFabricText fabric text → LoadsSerially fabric (serial_text text)
+SerialTextsLoad =
+    (fabric : PlainFabric) (text : List PlainModule) → text_mode fabric ≡ modes.Frames → IsFabric fabric → IsFabricText fabric text →
+    LoadsSerially fabric (serial_text text)

@@ -8,12 +8,12 @@ use fab_meaning::laws::{led_points_stay, led_runs_agree};
 use fab_nested_laws::nested_texts;
 use fab_text_loads_laws::fabric_texts_load;
 
-/// The text of a fabric meets what a serial port asks of a text.
+/// The text of a fabric in frames meets what a serial port asks of a text.
 pub fn fabric_texts_take_ports()
     ensures { FabricTextsTakePorts }
 {}
 
-/// Behind a serial port the text of a fabric has exactly one run of serial loading, from whatever it holds, and the words of a bitstream
+/// Behind a serial port the text of a fabric in frames has exactly one run of serial loading, from whatever it holds, and the words of a bitstream
 /// that are sent bit by bit leave its bits in the fabric, where they stay.
 pub fn serial_texts_load()
     ensures { SerialTextsLoad }

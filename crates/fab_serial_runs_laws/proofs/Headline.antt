@@ -39,8 +39,8 @@ module _ (nested : NestedTexts) (fabric : PlainFabric) (text : List PlainModule)
   }
 
 pub run_serially : FabricTextsTakePorts → SerialTextsLoad → NestedTexts → DesignsRunSerially
-run_serially take load nested fabric text read netlist fixed implementation words is is_text legal design =
-    let can = take fabric text is is_text in
-    let loads : LoadsSerially fabric (whole text can) = subst (LoadsSerially fabric) (whole_is text can) (load fabric text is is_text) in
+run_serially take load nested fabric text read netlist fixed implementation words frames is is_text legal design =
+    let can = take fabric text frames is is_text in
+    let loads : LoadsSerially fabric (whole text can) = subst (LoadsSerially fabric) (whole_is text can) (load fabric text frames is is_text) in
     subst (λ serial. RunsDesignSerially fabric text serial read netlist implementation words) (sym (whole_is text can))
     (runs_whole nested fabric text read netlist fixed implementation is is_text can legal words loads design)

@@ -5,6 +5,7 @@ use Rattle.fab_syntax.specs.Plain.{PlainModule}
 use Rattle.fab_meaning.specs.Points.{Point, point}
 use Rattle.fab_meaning.specs.Settled.{Assignment}
 use Rattle.fab_meaning.specs.Runs.{clock_name, user_clock_name, Moment, IsRunOn}
+use Rattle.fab_model.specs.declared.mode.Mode.TheVariants as modes
 use Rattle.fab_model.specs.Grid.{PlainFabric}
 use Rattle.fab_fabric.specs.Fabric.{IsFabric}
 use Rattle.fab_fabric.specs.declared.wire.Site.{Site}
@@ -19,6 +20,7 @@ use Rattle.fab_points_laws.specs.fab_use_defs_Design.{IsPadPoint}
 use Rattle.fab_points_laws.specs.fab_use_defs_Headline.{DesignPoints, IsGivenReset, RunsDesign}
 use Rattle.fab_points_laws.specs.fab_use_defs_Registers.{HoldsLatches, design_state, HoldsState, IsInitial}
 use Rattle.fab_points_laws.specs.fab_use_defs_Sites.{top_point}
+use Rattle.fab_serial_laws.specs.fab_fabric_text_defs_Mode.{text_mode}
 use Rattle.fab_serial_laws.specs.fab_prim_Ports.{top_name}
 use Rattle.fab_serial_laws.specs.fab_load_runs_laws_Runs.{IsClockLow}
 use Rattle.fab_serial_laws.specs.fab_nested_laws_Nested.{inside, within}
@@ -84,10 +86,10 @@ pub record RunsDesignSerially (fabric : PlainFabric) (text serial : List PlainMo
   pub begins : (held : Assignment) (latches : List Bool) → HoldsState (design_state (packed netlist) implementation) (within fabric_instance_name held) →
       HoldsLatches netlist implementation (within fabric_instance_name held) latches → IsInitial read latches
 
--- The headline through the port: where words run a design in the text of a fabric, they run it behind a serial port when they are sent bit by bit.
+-- The headline through the port: where words run a design in the text of a fabric in frames, they run it behind a serial port when they are sent bit by bit.
 abbrev pub DesignsRunSerially : Type 0
 DesignsRunSerially =
     (fabric : PlainFabric) (text : List PlainModule) (read netlist : PlainNetlist) (fixed : List Pad) (implementation : PlainImplementation) (words : List ℕ) →
-    IsFabric fabric → IsFabricText fabric text → IsLegal fabric (packed netlist) fixed implementation →
+    text_mode fabric ≡ modes.Frames → IsFabric fabric → IsFabricText fabric text → IsLegal fabric (packed netlist) fixed implementation →
     RunsDesign fabric text read netlist implementation words (design_state (packed netlist) implementation) →
     RunsDesignSerially fabric text (serial_text text) read netlist implementation words

@@ -85,7 +85,7 @@ all_no count number less =
     ap tern_or_unknown there.1 ∙ ap plain_tern (get_replicate count number No there.0 there.1).1
 
 pub given_first : (count : ℕ) (stream : Stream) (given : List Tern) → stream.strobe < count →
-    AreFilled (first_data stream.data) (data_width stream.data) unknown (kept_tern (slice_set (replicate count No) stream.strobe Yes)) (kept_tern given) →
+    AreFilled (first_data stream.carrier) (data_width stream.carrier) unknown (kept_tern (slice_set (replicate count No) stream.strobe Yes)) (kept_tern given) →
     IsGivenFirst count stream (kept_tern given)
 given_first count stream given less opened =
     let strobe = stream.strobe in
@@ -93,7 +93,7 @@ given_first count stream given less opened =
     let inside : strobe < length (replicate count No) = omega arith in
     record {
       strobe_is = λ outside. opened.others strobe outside ∙ kept_same (replicate count No) strobe Yes inside;
-      data = opened.filled;
+      carrier = opened.filled;
       others = λ number bound apart outside. opened.others number outside ∙ kept_other (replicate count No) strobe Yes number apart ∙ all_no count number bound;
     }
 
@@ -103,13 +103,13 @@ pub made_loading : GivenIsKept → (network : Network) (loading : Loading) (load
     IsAsked network Loader (kept_tern given) demand → AreLoading network demand loads loading →
     ((bit : ℕ) → bit < width → slice_get network.drives.items (first + bit) ≡ Some Given) → ((bit : ℕ) → bit < width → kept_tern given (first + bit) ≡ unknown) →
     IsLoadingAt network loading loads first width demand given
-made_loading kept network loading loads first width demand given is_asked are inputs data = record {
+made_loading kept network loading loads first width demand given is_asked are inputs carrier = record {
   base = kept_tern given;
   asked = demand;
   is_asked = is_asked;
   differs = differs_none demand;
   gathered = are;
-  inputs = λ bit less. (inputs bit less, data bit less);
+  inputs = λ bit less. (inputs bit less, carrier bit less);
   kept = kept network Loader (kept_tern given) demand.terns demand.leads;
 }
 
@@ -144,11 +144,11 @@ given_at text network number p are is drives =
 
 pub data_given : (text : List PlainModule) (network : Network) (state : PlainState) (points : StatePoints) →
     AreDrives text network.trees.items network.drives.items →
-    StandsAt text state points → (bit : ℕ) → bit < data_width points.stream.data → slice_get network.drives.items (first_data points.stream.data + bit) ≡ Some Given
+    StandsAt text state points → (bit : ℕ) → bit < data_width points.stream.carrier → slice_get network.drives.items (first_data points.stream.carrier + bit) ≡ Some Given
 data_given text network state points are stands bit less =
-    let data = points.stream.data in
-    given_at text network (first_data data + bit) (point [] write_data_name bit) are (stands.stream.words.bits bit less)
-    (outside_at text write_data_name (data_shape data) bit stands.stream.words.declared)
+    let carrier = points.stream.carrier in
+    given_at text network (first_data carrier + bit) (point [] write_data_name bit) are (stands.stream.words.bits bit less)
+    (outside_at text write_data_name (data_shape carrier) bit stands.stream.words.declared)
 
 pub strobe_within : (text : List PlainModule) (state : PlainState) (points : StatePoints) → StandsAt text state points →
     points.stream.strobe < length (text_points text)
@@ -201,12 +201,12 @@ written n old new is long = take-append-le n new (drop (length new) old) (omega 
 
 pub first_written : (count : ℕ) (stream : Stream) (len : ℕ) (all before new : List Tern) → stream.strobe < count → len ≡ length all → all ≡ replicate count No →
     before ≡ slice_set all stream.strobe Yes → length new ≡ length before →
-    AreFilled (first_data stream.data) (data_width stream.data) unknown (kept_tern before) (kept_tern new) →
+    AreFilled (first_data stream.carrier) (data_width stream.carrier) unknown (kept_tern before) (kept_tern new) →
     IsGivenFirst count stream (kept_tern (take len (new ++ drop (length new) (slice_set all stream.strobe Yes))))
 first_written count stream len all before new less len_is all_is before_is long opened =
     let strobe = stream.strobe in
-    let first = first_data stream.data in
-    let width = data_width stream.data in
+    let first = first_data stream.carrier in
+    let width = data_width stream.carrier in
     let old = slice_set all strobe Yes in
     let old_long : length old ≡ length all = length-set all strobe Yes in
     let new_long : length new ≡ length old = long ∙ ap length before_is in

@@ -154,16 +154,16 @@ no_data_by first width number none =
       ]
     ]
 
-pub data_wide : (data : DataPoints) → 0 < data_width data
+pub data_wide : (carrier : DataPoints) → 0 < data_width carrier
 data_wide (Bit point) = omega arith
 data_wide (Word first) = omega arith
 
 -- what a text is offered for words is what its WriteData takes at its width
 pub pieces_of_words : (text : List PlainModule) (stream : Stream) → IsStreamAt text stream → (words : List ℕ) →
-    offered text (map (digits 32) words) ≡ offered_at (data_width stream.data) (map word_bits words)
+    offered text (map (digits 32) words) ≡ offered_at (data_width stream.carrier) (map word_bits words)
 unfolding word_bits
 pieces_of_words text stream at words =
-    ap (λ wide. offered_at wide (map (digits 32) words)) (input_width text write_data_name (data_shape stream.data) at.words.declared)
+    ap (λ wide. offered_at wide (map (digits 32) words)) (input_width text write_data_name (data_shape stream.carrier) at.words.declared)
 
 -- pieces that are as wide as the input that takes them
 abbrev AreWide : (width : ℕ) → List (List Bool) → Type 0
@@ -181,7 +181,7 @@ all_bits_wide : (words : List (List Bool)) → AreWide 1 (flat_map single_bits w
 all_bits_wide [] = tt
 all_bits_wide (word ∷ words) = bits_wide (reverse word) (flat_map single_bits words) (all_bits_wide words)
 
-pub pieces_wide : (data : DataPoints) (words : List ℕ) → AreWide (data_width data) (offered_at (data_width data) (map word_bits words))
+pub pieces_wide : (carrier : DataPoints) (words : List ℕ) → AreWide (data_width carrier) (offered_at (data_width carrier) (map word_bits words))
 pieces_wide (Bit point) words = all_bits_wide (map word_bits words)
 pieces_wide (Word first) words = words_wide words
 
@@ -191,7 +191,7 @@ pub record IsHolding (text : List PlainModule) (network : Network) (stream : Str
       given number ≡ known (base p)
   pub others : (number : ℕ) (p : Point) (d : Driver) → IsPoint text number p → Drives text p d → IsStored d → (IsLoading text p → ⊥) → given number ≡ no
   pub strobe : given stream.strobe ≡ yes
-  pub low : (number : ℕ) → slice_get network.drives.items number ≡ Some Given → number ≢ stream.strobe → IsNoData stream.data number → given number ≡ no
+  pub low : (number : ℕ) → slice_get network.drives.items number ≡ Some Given → number ≢ stream.strobe → IsNoData stream.carrier number → given number ≡ no
 
 module _ (text : List PlainModule) (network : Network) (of : IsNetworkOf text network) (stream : Stream) (has : HasStream text) (at : IsStreamAt text stream)
   where
@@ -203,25 +203,25 @@ module _ (text : List PlainModule) (network : Network) (of : IsNetworkOf text ne
     pub strobe_within : stream.strobe < length (points text)
     strobe_within = slice_get_within (points text) stream.strobe (point [] write_strobe_name 0) strobe_point
 
-    pub data_within : first_data stream.data + data_width stream.data ≤ length (points text)
+    pub data_within : first_data stream.carrier + data_width stream.carrier ≤ length (points text)
     data_within =
-        let some = data_wide stream.data in
-        let end = data_width stream.data - 1 in
-        let last = slice_get_within (points text) (first_data stream.data + end) (point [] write_data_name end) (at.words.bits end (omega (arith, some))) in
+        let some = data_wide stream.carrier in
+        let end = data_width stream.carrier - 1 in
+        let last = slice_get_within (points text) (first_data stream.carrier + end) (point [] write_data_name end) (at.words.bits end (omega (arith, some))) in
         omega (arith, some, last)
 
     pub strobe_drive : slice_get network.drives.items stream.strobe ≡ Some Given
     strobe_drive = outside_drive text network of stream.strobe (point [] write_strobe_name 0) strobe_point (input_drives text write_strobe_name Scalar 0 has.strobe)
 
-    pub data_drive : (bit : ℕ) → bit < data_width stream.data → slice_get network.drives.items (first_data stream.data + bit) ≡ Some Given
+    pub data_drive : (bit : ℕ) → bit < data_width stream.carrier → slice_get network.drives.items (first_data stream.carrier + bit) ≡ Some Given
     data_drive bit less =
-        outside_drive text network of (first_data stream.data + bit) (point [] write_data_name bit) (at.words.bits bit less)
-        (input_drives text write_data_name (data_shape stream.data) bit at.words.declared)
+        outside_drive text network of (first_data stream.carrier + bit) (point [] write_data_name bit) (at.words.bits bit less)
+        (input_drives text write_data_name (data_shape stream.carrier) bit at.words.declared)
 
     -- a point of another name is none of WriteData, and one that is stored neither
-    pub no_data : (number : ℕ) (p : Point) → IsPoint text number p → p.name ≢ write_data_name → IsNoData stream.data number
+    pub no_data : (number : ℕ) (p : Point) → IsPoint text number p → p.name ≢ write_data_name → IsNoData stream.carrier number
     no_data number p is differs =
-        no_data_by (first_data stream.data) (data_width stream.data) number (λ bit less same.
+        no_data_by (first_data stream.carrier) (data_width stream.carrier) number (λ bit less same.
         let here : IsPoint text number (point [] write_data_name bit) = subst (λ (n : ℕ). IsPoint text n (point [] write_data_name bit)) (sym same) (at.words.bits bit less) in
         differs (ap (λ (q : Point). q.name) (one_point text number p (point [] write_data_name bit) is here)))
 
@@ -230,13 +230,13 @@ module _ (text : List PlainModule) (network : Network) (of : IsNetworkOf text ne
         let here : IsPoint text number (point [] write_strobe_name 0) = subst (λ (n : ℕ). IsPoint text n (point [] write_strobe_name 0)) (sym same) strobe_point in
         differs (ap (λ (q : Point). q.name) (one_point text number p (point [] write_strobe_name 0) is here))
 
-    pub strobe_no_data : IsNoData stream.data stream.strobe
+    pub strobe_no_data : IsNoData stream.carrier stream.strobe
     strobe_no_data = no_data stream.strobe (point [] write_strobe_name 0) strobe_point (told_apart 5 write_strobe_name write_data_name refl)
 
     module _ (number : ℕ) (p : Point) (d : Driver) (is : IsPoint text number p) (driven : Drives text p d) (holds : IsStored d) where
-      pub stored_no_data : IsNoData stream.data number
+      pub stored_no_data : IsNoData stream.carrier number
       stored_no_data =
-          no_data_by (first_data stream.data) (data_width stream.data) number (λ bit less same.
+          no_data_by (first_data stream.carrier) (data_width stream.carrier) number (λ bit less same.
           held_not_given text network of number p d is driven holds (ap (slice_get network.drives.items) same ∙ data_drive bit less))
 
       pub stored_not_strobe : number ≢ stream.strobe
@@ -262,15 +262,15 @@ module _ (text : List PlainModule) (network : Network) (of : IsNetworkOf text ne
     module _ (one : PointsOfSoundTextsHaveOneDriver) (numbers : NumbersHaveTerns) (terns : PointsHaveTerns) (solutions : SolutionsByNumber)
         (left : LeftByNumber)
         (is_known : LoadingIsKnown) (is_kept : LoadingIsKept) (loads : List Bool) (are : AreLoads text loads) where
-      module _ (piece : List Bool) (wide : length piece ≡ data_width stream.data) (old new : PointTerns) (base now next : Assignment) (moment : Moment) (holding : IsHolding text network stream base old)
-          (step : IsLoadStep network loads (first_data stream.data) piece old new) (offers : OffersWord piece moment.inputs)
+      module _ (piece : List Bool) (wide : length piece ≡ data_width stream.carrier) (old new : PointTerns) (base now next : Assignment) (moment : Moment) (holding : IsHolding text network stream base old)
+          (step : IsLoadStep network loads (first_data stream.carrier) piece old new) (offers : OffersWord piece moment.inputs)
           (clocked : moment.clock ≡ clock_name)
           (settled : IsSettledOn (IsLoading text) text moment.inputs base now) (low : AreClocksLow now)
           (ticks : Ticks (IsLoading text) text moment.clock base now next) where
         -- what is no point of WriteData is offered what it had
-        same_offered : (number : ℕ) → IsNoData stream.data number → step.offered number ≡ old number
-        same_offered number outside =
-            step.is_offered.others number (elim outside [ inl before ↦ inl before | inr behind ↦ inr (omega (arith, behind, wide)) ])
+        same_offered : (number : ℕ) → IsNoData stream.carrier number → step.offered number ≡ old number
+        same_offered number apart =
+            step.is_offered.others number (elim apart [ inl before ↦ inl before | inr behind ↦ inr (omega (arith, behind, wide)) ])
 
         -- inputs, and what is held, as the text has them
         inputs : (t : Terns) × AreByNumber text t step.offered
@@ -348,9 +348,9 @@ module _ (text : List PlainModule) (network : Network) (of : IsNetworkOf text ne
 
         data_known : (p : Point) → IsStream text p → p.name ≡ write_data_name → inputs.0 p ≡ known (moment.inputs p)
         data_known p is named =
-            let bit = input_bit text write_data_name (data_shape stream.data) at.words.declared p is.input.top named is.declared in
+            let bit = input_bit text write_data_name (data_shape stream.carrier) at.words.declared p is.input.top named is.declared in
             let here : inputs.0 (point [] write_data_name p.bit) ≡ known (moment.inputs (point [] write_data_name p.bit)) =
-            sym (inputs.1 (first_data stream.data + p.bit) (point [] write_data_name p.bit) (at.words.bits p.bit bit.1))
+            sym (inputs.1 (first_data stream.carrier + p.bit) (point [] write_data_name p.bit) (at.words.bits p.bit bit.1))
             ∙ step.is_offered.bits p.bit (let less = bit.1 in omega (arith, less, wide)) ∙ ap known (sym (offers.bits p.bit)) in
             subst (λ (q : Point). inputs.0 q ≡ known (moment.inputs q)) bit.0 here
 
@@ -419,7 +419,7 @@ module _ (text : List PlainModule) (network : Network) (of : IsNetworkOf text ne
             step.others stream.strobe (not_marked stream.strobe (point [] write_strobe_name 0) strobe_point (input_drives text write_strobe_name Scalar 0 has.strobe))
             ∙ same_offered stream.strobe strobe_no_data ∙ holding.strobe
 
-        new_low : (number : ℕ) → slice_get network.drives.items number ≡ Some Given → number ≢ stream.strobe → IsNoData stream.data number → new number ≡ no
+        new_low : (number : ℕ) → slice_get network.drives.items number ≡ Some Given → number ≢ stream.strobe → IsNoData stream.carrier number → new number ≡ no
         new_low number e apart not =
             let p = point_of text network of number Given e in
             let driver = one text of.sound p.0 (number_declared text of.sound number p.0 p.1) in
@@ -431,8 +431,8 @@ module _ (text : List PlainModule) (network : Network) (of : IsNetworkOf text ne
 
       -- ---- all pieces
 
-      pub holds_last : (pieces : List (List Bool)) → AreWide (data_width stream.data) pieces → (moments : List Moment) (old new : PointTerns) (base after : Assignment) →
-          IsHolding text network stream base old → AreLoadSteps network loads (first_data stream.data) pieces old new → OfferWords pieces moments →
+      pub holds_last : (pieces : List (List Bool)) → AreWide (data_width stream.carrier) pieces → (moments : List Moment) (old new : PointTerns) (base after : Assignment) →
+          IsHolding text network stream base old → AreLoadSteps network loads (first_data stream.carrier) pieces old new → OfferWords pieces moments →
           IsRunOn (IsLoading text) text moments base after → IsHolding text network stream after new
       holds_last [] wide [] old new base after holding same offers run = record {
         loading = λ number p d is driven holds loading. same number ∙ holding.loading number p d is driven holds loading ∙ ap known (sym (run p loading));

@@ -34,9 +34,9 @@ made_new text state network points loads values machine of once stands are value
   loads = loads;
   are = are;
   loading =
-      subst (λ (n : Network). IsLoadingAt n machine.loading loads (first_data machine.points.stream.data) (data_width machine.points.stream.data) machine.demand machine.given.items)
-          (sym made.network_is)
-      (subst (λ (p : StatePoints). IsLoadingAt network machine.loading loads (first_data p.stream.data) (data_width p.stream.data) machine.demand machine.given.items)
+      subst (λ (n : Network). IsLoadingAt n machine.loading loads (first_data machine.points.stream.carrier) (data_width machine.points.stream.carrier) machine.demand machine.given.items)
+      (sym made.network_is)
+      (subst (λ (p : StatePoints). IsLoadingAt network machine.loading loads (first_data p.stream.carrier) (data_width p.stream.carrier) machine.demand machine.given.items)
       (sym made.points_are) made.loading);
   first =
       subst (λ (n : ℕ). IsGivenFirst n machine.points.stream (kept_tern machine.given.items)) of.long

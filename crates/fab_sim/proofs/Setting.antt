@@ -14,7 +14,7 @@ use Rattle.fab_sim.specs.inner.Starting.{AreFilled, IsSetOut, IsUnnamed}
 
 pub all_set : (at : StatePoints) (values : List Bool) (old cleared opened new : List Tern) (ins ffs : List ℕ) → ins ≡ at.ins.items → ffs ≡ at.ffs.items →
     at.stream.strobe < length old →
-    AreFilled (first_data at.stream.data) (data_width at.stream.data) no (kept_tern (slice_set old at.stream.strobe No)) (kept_tern cleared) →
+    AreFilled (first_data at.stream.carrier) (data_width at.stream.carrier) no (kept_tern (slice_set old at.stream.strobe No)) (kept_tern cleared) →
     Each ins (λ number. kept_tern opened number ≡ unknown) → ((number : ℕ) → (IsIn ins number → ⊥) → kept_tern opened number ≡ kept_tern cleared number) →
     IsFed ffs values (kept_tern opened) (kept_tern new) → IsSetOut at values (kept_tern old) (kept_tern new)
 all_set at values old cleared opened new ins ffs ins_are ffs_are within is_cleared are_open others is_fed =
@@ -28,7 +28,7 @@ all_set at values old cleared opened new ins ffs ins_are ffs_are within is_clear
           is_fed.others number (λ named. apart (subst (λ (ns : List ℕ). IsIn ns number) ffs_are named))
           ∙ are_open place number (ap (λ (ns : List ℕ). slice_get ns place) ins_are ∙ e);
       strobe = λ unnamed apart. unnamed_same at.stream.strobe unnamed ∙ is_cleared.others at.stream.strobe apart ∙ kept_same old at.stream.strobe No within;
-      data = λ bit less unnamed. unnamed_same (first_data at.stream.data + bit) unnamed ∙ is_cleared.filled bit less;
+      carrier = λ bit less unnamed. unnamed_same (first_data at.stream.carrier + bit) unnamed ∙ is_cleared.filled bit less;
       others = λ number unnamed apart outside.
           unnamed_same number unnamed ∙ is_cleared.others number outside ∙ kept_other old at.stream.strobe No number apart;
     }

@@ -100,8 +100,8 @@ module _ (text : List PlainModule) (state : PlainState) (machine : Machine) (new
         ffs = λ named. ff_not_given text machine.network new.of.network state
             machine.points new.of.stands number named e;
       } in
-      elim (data_or_not (first_data machine.points.stream.data) (data_width machine.points.stream.data) number) [
-        | inl bit ↦ subst (λ (n : ℕ). IsUnnamed machine.points n → given n ≡ no) bit.2 (set.data bit.0 bit.1) unnamed
+      elim (data_or_not (first_data machine.points.stream.carrier) (data_width machine.points.stream.carrier) number) [
+        | inl bit ↦ subst (λ (n : ℕ). IsUnnamed machine.points n → given n ≡ no) bit.2 (set.carrier bit.0 bit.1) unnamed
         | inr no_data ↦ elim (same_or_not number machine.points.stream.strobe) [
           | inl strobe ↦ subst (λ (n : ℕ). IsUnnamed machine.points n → given n ≡ no) (sym strobe)
               (λ apart. set.strobe apart (strobe_no_data text machine.network new.of.network machine.points.stream new.of.stands.has new.of.stands.stream))

@@ -36,7 +36,7 @@ pub record IsNew (text : List PlainModule) (state : PlainState) (machine : Machi
   pub of : IsMachineOf text state machine
   pub loads : List Bool
   pub are : AreLoads text loads
-  pub loading : IsLoadingAt machine.network machine.loading loads (first_data machine.points.stream.data) (data_width machine.points.stream.data) machine.demand
+  pub loading : IsLoadingAt machine.network machine.loading loads (first_data machine.points.stream.carrier) (data_width machine.points.stream.carrier) machine.demand
       machine.given.items
   pub first : IsGivenFirst (length (points text)) machine.points.stream (kept_tern machine.given.items)
 

@@ -41,10 +41,10 @@ pub record AreLoadingPoints (text : List PlainModule) (loads : List Bool) : Type
 
 -- none of the points of WriteData
 abbrev pub IsNoData : DataPoints → (number : ℕ) → Type 0
-IsNoData data number = (number < first_data data) ⊎ (first_data data + data_width data ≤ number)
+IsNoData carrier number = (number < first_data carrier) ⊎ (first_data carrier + data_width carrier ≤ number)
 
 -- What is given at first: WriteStrobe is 1, WriteData is open, and all else is 0.
 pub record IsGivenFirst (count : ℕ) (stream : Stream) (given : PointTerns) : Type 0 where
-  pub strobe_is : IsNoData stream.data stream.strobe → given stream.strobe ≡ yes
-  pub data : (bit : ℕ) → bit < data_width stream.data → given (first_data stream.data + bit) ≡ unknown
-  pub others : (number : ℕ) → number < count → number ≢ stream.strobe → IsNoData stream.data number → given number ≡ no
+  pub strobe_is : IsNoData stream.carrier stream.strobe → given stream.strobe ≡ yes
+  pub carrier : (bit : ℕ) → bit < data_width stream.carrier → given (first_data stream.carrier + bit) ≡ unknown
+  pub others : (number : ℕ) → number < count → number ≢ stream.strobe → IsNoData stream.carrier number → given number ≡ no

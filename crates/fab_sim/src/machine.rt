@@ -98,7 +98,7 @@ impl Machine {
         load_stream(
             &self.network,
             &self.loading,
-            self.points.stream.data,
+            self.points.stream.carrier,
             words,
             &mut self.demand,
             &mut self.given,

@@ -67,7 +67,7 @@ pub fn machine_of(
     requires fit { AreFit network.trees.items network.drives.items }
     requires registers { length registers.now ≡ count }
     requires strobe { points.stream.strobe < count }
-    requires data { (bit : ℕ) → bit < data_width points.stream.data → slice_get network.drives.items (first_data points.stream.data + bit) ≡ Some Given }
+    requires carrier { (bit : ℕ) → bit < data_width points.stream.carrier → slice_get network.drives.items (first_data points.stream.carrier + bit) ≡ Some Given }
     ensures made { IfOk result (IsMadeOf network points registers.now) }
     ensures values { IfOk result (λ machine. machine.values ≡ values) }
     ensures loads { IfOk result (λ machine. machine.loads ≡ loads) }
@@ -92,12 +92,17 @@ pub fn machine_of(
 // What is given at first: WriteStrobe is 1, WriteData is open, and all else is 0.
 fn given_of(alloc: Global, count: usize, stream: Stream) -> Result<Vec<Tern>, Memory>
     requires strobe { stream.strobe < count }
-    requires data { first_data stream.data + data_width stream.data ≤ count }
+    requires carrier { first_data stream.carrier + data_width stream.carrier ≤ count }
     ensures long { IfOk result (λ given. length given.items ≡ count) }
     ensures first { IfOk result (λ given. IsGivenFirst count stream (kept_tern given.items)) }
 {
     let mut given = vec![in alloc; Tern::No; count]?;
     given[stream.strobe as usize] = Tern::Yes;
-    fill(stream.data.first(), stream.data.width(), Tern::Open, &mut given);
+    fill(
+        stream.carrier.first(),
+        stream.carrier.width(),
+        Tern::Open,
+        &mut given,
+    );
     Ok(given)
 }

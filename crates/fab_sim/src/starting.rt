@@ -22,7 +22,7 @@ use fab_ternary::Tern;
 pub fn load_stream(
     network: &Network,
     loading: &Loading,
-    data: DataPoints,
+    carrier: DataPoints,
     words: &[u32],
     demand: &mut Demand,
     given: &mut [Tern],
@@ -31,12 +31,12 @@ pub fn load_stream(
     requires solvable { IsSolvable network.now }
     requires points { length network.now.drives.items ≡ length demand.old.leads }
     requires given { length given.old ≡ length demand.old.leads }
-    requires loading { (loads : List Bool) × IsLoadingAt network.now loading.now loads (first_data data) (data_width data) demand.old given.old }
+    requires loading { (loads : List Bool) × IsLoadingAt network.now loading.now loads (first_data carrier) (data_width carrier) demand.old given.old }
     ensures points { length demand.new.leads ≡ length demand.old.leads }
-    ensures steps { (loads : List Bool) → IsLoadingAt network.now loading.now loads (first_data data) (data_width data) demand.old given.old →
-        AreLoadSteps network.now loads (first_data data) (offered_at (data_width data) (map word_bits words.now)) (kept_tern given.old) (kept_tern given.new) }
+    ensures steps { (loads : List Bool) → IsLoadingAt network.now loading.now loads (first_data carrier) (data_width carrier) demand.old given.old →
+        AreLoadSteps network.now loads (first_data carrier) (offered_at (data_width carrier) (map word_bits words.now)) (kept_tern given.old) (kept_tern given.new) }
 {
-    match data {
+    match carrier {
         DataPoints::Bit(point) => load_bits(network, loading, point, words, demand, given),
         DataPoints::Word(first) => load_words(network, loading, first, words, demand, given),
     }
@@ -45,16 +45,16 @@ pub fn load_stream(
 /// Sets the flip-flops of the state, and opens the inputs that it names. Inputs that carry words are 0 from now on.
 pub fn set_out(points: &StatePoints, values: &[bool], given: &mut [Tern])
     requires strobe { points.now.stream.strobe < length given.old }
-    requires data { first_data points.now.stream.data + data_width points.now.stream.data ≤ length given.old }
+    requires carrier { first_data points.now.stream.carrier + data_width points.now.stream.carrier ≤ length given.old }
     requires ins { AreNumbers (length given.old) points.now.ins.items }
     requires ffs { AreNumbers (length given.old) points.now.ffs.items }
     requires once { AreOnce points.now.ffs.items }
     requires values { length values.now ≡ length points.now.ffs.items }
     ensures { IsSetOut points.now values.now (kept_tern given.old) (kept_tern given.new) }
 {
-    let data = points.stream.data;
+    let carrier = points.stream.carrier;
     given[points.stream.strobe as usize] = Tern::No;
-    fill(data.first(), data.width(), Tern::No, given);
+    fill(carrier.first(), carrier.width(), Tern::No, given);
     open(&points.ins, given);
     feed(&points.ffs, values, given);
 }

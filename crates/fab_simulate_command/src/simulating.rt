@@ -143,9 +143,9 @@ fn outputs_of<D: Desk, P: Progress>(
 ///
 /// The faults of each file come before the next one is asked for; `Missing`, `TooLong` and `ReadFault` name it. The text is refused as `read` and
 /// `elaborate` do, and the words as `to_words`; whose words they are is not looked at. The state is refused as `read_state` does, and then with `no port`
-/// or `no register` at the first line whose port or flip-flop the text does not have; a text without `CLK`, `UserCLK`, `WriteStrobe` or the 32 bits of
-/// `WriteData` is refused with `no port` at the first line that holds a word. The stimulus is refused as `read_stimulus` does. `WriteFault` names the
-/// trace. With any fault the files that the desk tells are as before.
+/// or `no register` at the first line whose port or flip-flop the text does not have; a text without `CLK`, `UserCLK`, `WriteStrobe` or a `WriteData`
+/// of one bit or of 32 is refused with `no port` at the first line that holds a word. The stimulus is refused as `read_stimulus` does. `WriteFault`
+/// names the trace. With any fault the files that the desk tells are as before.
 pub fn do_simulate<D: Desk, P: Progress>(
     alloc: Global,
     desk: &mut D,

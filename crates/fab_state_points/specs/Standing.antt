@@ -42,26 +42,26 @@ data_shape (Bit point) = Scalar
 data_shape (Word first) = Vector 32
 
 abbrev pub data_width : DataPoints → ℕ
-data_width data = width (data_shape data)
+data_width carrier = width (data_shape carrier)
 
 abbrev pub first_data : DataPoints → ℕ
 first_data (Bit point) = point
 first_data (Word first) = first
 
 -- the points of WriteData
-pub record AreDataPoints (text : List PlainModule) (data : DataPoints) : Type 0 where
-  pub declared : IsDeclared text [] write_data_name (data_shape data) roles.Input
-  pub bits : AreBits text [] write_data_name (data_shape data) (first_data data)
+pub record AreDataPoints (text : List PlainModule) (carrier : DataPoints) : Type 0 where
+  pub declared : IsDeclared text [] write_data_name (data_shape carrier) roles.Input
+  pub bits : AreBits text [] write_data_name (data_shape carrier) (first_data carrier)
 
 -- the same, or that WriteData can carry no words
 abbrev pub AreFoundData : List PlainModule → Option DataPoints → Type 0
 AreFoundData text None = (shape : Shape) → IsDataShape shape → ¬ IsDeclared text [] write_data_name shape roles.Input
-AreFoundData text (Some data) = AreDataPoints text data
+AreFoundData text (Some carrier) = AreDataPoints text carrier
 
 -- the points of the inputs that carry words
 pub record IsStreamAt (text : List PlainModule) (stream : Stream) : Type 0 where
   pub strobe : AreBits text [] write_strobe_name Scalar stream.strobe
-  pub words : AreDataPoints text stream.data
+  pub words : AreDataPoints text stream.carrier
 
 -- the same, or that the top lacks one of these inputs
 abbrev pub IsFoundStream : List PlainModule → Option Stream → Type 0

@@ -54,7 +54,8 @@ impl DataPoints {
 pub struct Stream {
     /// The point of `WriteStrobe`.
     pub strobe: u32,
-    pub data: DataPoints,
+    /// The points of `WriteData`.
+    pub carrier: DataPoints,
 }
 
 /// The points of the lines of a state, each in the place of its line.
@@ -76,8 +77,8 @@ fn stream_of(equations: &Equations) -> Option<Stream>
     top_input(equations, b"CLK", Shape::Scalar)?;
     top_input(equations, b"UserCLK", Shape::Scalar)?;
     let strobe = top_input(equations, b"WriteStrobe", Shape::Scalar)?;
-    let data = data_points(equations)?;
-    Some(Stream { strobe, data })
+    let carrier = data_points(equations)?;
+    Some(Stream { strobe, carrier })
 }
 
 // The points of `WriteData`, if it has one bit or 32.

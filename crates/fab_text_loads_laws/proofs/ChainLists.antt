@@ -1,5 +1,5 @@
 -- The bits of tiles as lists: what each moves on by a tick, what goes out behind it, and the whole chain.
-use Rattle.std.proofs.Common.{◌≡◌, ℕ, zero, suc, ◌+◌, ◌<◌, Bool, List, [], ◌∷◌, ◌++◌, length, map, refl, ap, ap₂, ◌∙◌, arith, All}
+use Rattle.std.proofs.Common.{◌≡◌, ℕ, zero, suc, ◌<◌, Bool, List, [], ◌∷◌, ◌++◌, length, map, refl, ap, ap₂, ◌∙◌, arith, All}
 use Rattle.std.specs.List.{flat_map}
 use Rattle.std.proofs.lemmas.List.{map-append}
 use Rattle.std.proofs.lemmas.List.Elements.{All-nil, All-cons, All-head, All-tail}
@@ -7,9 +7,9 @@ use Rattle.fab_drives_laws.specs.fab_model_Tiles.{counted, tile_bits}
 use Rattle.fab_drives_laws.specs.fab_model_Grid.{PlainFabric}
 use Rattle.fab_drives_laws.specs.fab_model_Drive.{PlainBits}
 use Rattle.fab_drives_laws.specs.fab_fabric_text_defs_Places.{PlacedTile, placed_tiles}
-use Rattle.fab_drives_laws.proofs.Lists.{all_of}
 use Rattle.fab_loading_laws.specs.Chain.{shifted, chain_out, chain_bits}
 use Rattle.fab_loading_laws.specs.fab_frames_Positions.{bit_in, bit_place, tile_chain}
+use Rattle.fab_drives_laws.proofs.Lists.{all_of}
 
 -- ---- counted bits
 
@@ -35,19 +35,16 @@ abbrev pub behind : Bool → (ℕ → Bool) → ℕ → Bool
 behind comes f zero = comes
 behind comes f (suc i) = f i
 
+first_in_front : (f : ℕ → Bool) (i : ℕ) → f i ≡ behind (f 0) (λ i. f (suc i)) i
+first_in_front f zero = refl
+first_in_front f (suc i) = refl
+
 -- each bit moves on by one
 pub shifted_counted : (n : ℕ) (f : ℕ → Bool) (comes : Bool) → counted n (behind comes f) ≡ shifted (counted n f) comes
 unfolding counted
 shifted_counted zero f comes = refl
-shifted_counted (suc zero) f comes = refl
-shifted_counted (suc (suc n)) f comes =
-    let first : behind (f 0) (λ i. f (suc i)) 0 ≡ f 0 = refl in
-    ap (λ rest. comes ∷ rest)
-    (counted_same (suc n) f (behind (f 0) (λ i. f (suc i))) (λ i few. front i) ∙ shifted_counted (suc n) (λ i. f (suc i)) (f 0))
-  where
-    front : (i : ℕ) → f i ≡ behind (f 0) (λ i. f (suc i)) i
-    front zero = refl
-    front (suc i) = refl
+shifted_counted (suc n) f comes =
+    ap (λ rest. comes ∷ rest) (counted_same n f (behind (f 0) (λ i. f (suc i))) (λ i few. first_in_front f i) ∙ shifted_counted n (λ i. f (suc i)) (f 0))
 
 -- the last one goes out
 pub out_of_counted : (n : ℕ) (f : ℕ → Bool) (comes : Bool) → chain_out comes (counted (suc n) f) ≡ f n

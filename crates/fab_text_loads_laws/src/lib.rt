@@ -9,10 +9,10 @@ ghost use Rattle.fab_text_loads_laws.specs.Loads.{LoadsConfigurations};
 ghost use Rattle.fab_drives_laws.specs.fab_fabric_text_defs_Texts.{IsFabricText};
 
 use fab_load_runs_laws::loading_runs_exist;
-use fab_loading_laws::{streams_load, ticks_keep_machines};
+use fab_loading_laws::{chains_load, streams_load, ticks_keep_machines, tiles_are_one_chain};
 use fab_meaning::laws::{loading_points_stay, loading_runs_agree};
 
-/// In the text of a fabric, with any loader that steps by the table, the words of the bitstream of any bits load these bits.
+/// In the text of a fabric, in frames with any loader that steps by the table, or in a chain, the words of the bitstream of any bits load these bits.
 pub fn fabric_texts_load()
     ensures { (fabric : PlainFabric) (text : List PlainModule) → IsFabric fabric → IsFabricText fabric text → LoadsConfigurations fabric text }
 {
@@ -21,4 +21,6 @@ pub fn fabric_texts_load()
     loading_runs_exist();
     ticks_keep_machines();
     streams_load();
+    tiles_are_one_chain();
+    chains_load();
 }

@@ -1,4 +1,4 @@
--- The module of a tile's configuration bits shows its latches in their order.
+-- The module of a tile's configuration bits shows them in their order.
 use Rattle.std.proofs.Common.{◌≡◌, ℕ, zero, suc, ◌<◌, Bool, true, false, List, [], ◌∷◌, ◌++◌, reverse, refl, sym, ap, ◌∙◌, inl, inr, arith, Some, Contains, append-nil, append_assoc}
 use Rattle.std.specs.Str.{bytes_eq}
 use Rattle.std.proofs.lemmas.Bool.{cases_Bool}
@@ -43,7 +43,7 @@ latch_width mode tile bit few = register_behind mode (tile_bits tile) bit (confi
 pub all_width : (mode : Mode) (tile : PlainTile) → width_of (config_module mode tile) config_name ≡ tile_bits tile
 all_width mode tile = bits_port mode (tile_bits tile) (config_items mode tile)
 
--- ---- the value of all latches
+-- ---- the value of all bits
 
 parts_append : (names : List ℕ → List Bool) (xs ys : List PlainExpr) →
     concatenated names (plain_exprs (xs ++ ys)) ≡ concatenated names (plain_exprs ys) ++ concatenated names (plain_exprs xs)
@@ -76,7 +76,7 @@ module _ (mode : Mode) (text : List PlainModule) (now : Assignment) (path : Path
       (reversed_parts (names_at text now path) (tile_bits tile) (λ bit. variable (latch_name bit)) (λ bit. now (point path (latch_name bit) 0)) latch_seen)
       ∙ get_first_bits (tile_bits tile) (λ bit. now (point path (latch_name bit) 0)) bit false few
 
--- the assign of all latches
+-- the assign of all bits
 pub all_there : (mode : Mode) (tile : PlainTile) → Contains (config_module mode tile).items (assign config_name (all_latches (tile_bits tile)))
 all_there mode tile =
     let item = assign config_name (all_latches (tile_bits tile)) in

@@ -23,11 +23,11 @@ use Rattle.fab_tile_drives_laws.specs.Stands.{matrix_path, bel_path, name_of, wi
 
 -- ---- configuration
 
--- the latches of the tile show these configuration bits
+-- the latches or flip-flops of the tile show these configuration bits
 abbrev pub ShowsTileBits : Path → PlainTile → (ℕ → Bool) → Assignment → Type 0
 ShowsTileBits path tile bits now = (bit : ℕ) → bit < tile_bits tile → now (point (config_instance_name ∷ path) (latch_name bit) 0) ≡ bits bit
 
--- the points by which the bits of a tile come from its latches to where they are used
+-- the points by which the bits of a tile come from what keeps them to where they are used
 pub data IsBitsPoint (path : Path) (p : Point) : Type 0 where
   in_configuration : p.path ≡ config_instance_name ∷ path → IsBitsPoint path p
   in_tile : p.path ≡ path → p.name ≡ bits_name → IsBitsPoint path p

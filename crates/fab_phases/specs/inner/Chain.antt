@@ -1,9 +1,11 @@
 -- What bits that come one a tick leave in a chain of flip-flops, by numbers.
-use Rattle.std.specs.Prelude.{◌≡◌, ℕ, ◌-◌, ◌*◌, ◌/◌, ◌%◌, ◌^◌, Bool, List, [], ◌∷◌, length, reverse, nat_eq, nat_lt, get_or, if◌then◌else◌}
+use Rattle.std.specs.Prelude.{◌≡◌, ℕ, suc, ◌-◌, ◌*◌, ◌/◌, ◌%◌, ◌^◌, ◌<◌, Bool, List, [], ◌∷◌, length, reverse, nat_eq, nat_lt, get_or, slice_get, Some, if◌then◌else◌}
 use Rattle.std.specs.List.{flat_map}
 use Rattle.fab_systems_laws.specs.Ternary.{known, Tern as PlainTern}
 use Rattle.fab_compiled.specs.Leading.{PointTerns}
-use Rattle.fab_phases.specs.Loading.{point_at}
+use Rattle.fab_network.specs.declared.network.Network.{Network}
+use Rattle.fab_demand.specs.Asked.{Asked}
+use Rattle.fab_phases.specs.Loading.{Takes, before_at, point_at}
 use Rattle.fab_phases.specs.Words.{word_bits}
 use Rattle.fab_phases.specs.declared.loading.LoadedFlop.{LoadedFlop}
 
@@ -40,3 +42,8 @@ comes_to flops words held place =
 -- All bits of words have gone in.
 abbrev pub IsMoved : List LoadedFlop → (source : ℕ) → (words : List ℕ) → (old new : PointTerns) → Type 0
 IsMoved flops source words old new = (point : ℕ) → new point ≡ behind source flops (bits_of words) old point
+
+-- so many of the first flip-flops stand in a chain
+pub record IsInChainBefore (network : Network) (asked : Asked) (source : ℕ) (flops : List LoadedFlop) (count : ℕ) : Type 0 where
+  pub takes : (place : ℕ) (flop : LoadedFlop) → place < count → slice_get flops place ≡ Some flop → Takes network asked flop.next (before_at source flops place)
+  pub rises : (place : ℕ) (flop next : LoadedFlop) → suc place < count → slice_get flops place ≡ Some flop → slice_get flops (suc place) ≡ Some next → flop.point < next.point

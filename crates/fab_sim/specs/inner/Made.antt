@@ -15,4 +15,4 @@ pub record IsMadeOf (network : Network) (state_points : StatePoints) (loads : Li
   pub given : length machine.given.items ≡ length network.drives.items
   pub demand : length machine.demand.leads ≡ length network.drives.items
   pub first : IsGivenFirst (length network.drives.items) state_points.stream (kept_tern machine.given.items)
-  pub loading : IsLoadingAt network machine.loading loads (first_data state_points.stream.data) (data_width state_points.stream.data) machine.demand machine.given.items
+  pub loading : IsLoadingAt network machine.loading loads (first_data state_points.stream.carrier) (data_width state_points.stream.carrier) machine.demand machine.given.items

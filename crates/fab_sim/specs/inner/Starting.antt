@@ -23,7 +23,7 @@ pub record IsSetOut (points : StatePoints) (values : List Bool) (old new : Point
   pub registers : (place number : ℕ) (value : Bool) → slice_get points.ffs.items place ≡ Some number → slice_get values place ≡ Some value →
       new number ≡ known value
   pub opened : Each points.ins.items (λ number. (IsIn points.ffs.items number → ⊥) → new number ≡ unknown)
-  pub strobe : IsUnnamed points points.stream.strobe → IsNoData points.stream.data points.stream.strobe → new points.stream.strobe ≡ no
-  pub data : (bit : ℕ) → bit < data_width points.stream.data → IsUnnamed points (first_data points.stream.data + bit) →
-      new (first_data points.stream.data + bit) ≡ no
-  pub others : (number : ℕ) → IsUnnamed points number → number ≢ points.stream.strobe → IsNoData points.stream.data number → new number ≡ old number
+  pub strobe : IsUnnamed points points.stream.strobe → IsNoData points.stream.carrier points.stream.strobe → new points.stream.strobe ≡ no
+  pub carrier : (bit : ℕ) → bit < data_width points.stream.carrier → IsUnnamed points (first_data points.stream.carrier + bit) →
+      new (first_data points.stream.carrier + bit) ≡ no
+  pub others : (number : ℕ) → IsUnnamed points number → number ≢ points.stream.strobe → IsNoData points.stream.carrier number → new number ≡ old number

@@ -1,4 +1,4 @@
-use Rattle.std.proofs.Common.{◌≡◌, ◌+◌, ◌-◌, ◌^◌, ◌≤◌, ◌∷◌, [], Vec, Global, length, sym, ap, ap₂, ◌∙◌, subst, arith}
+use Rattle.std.proofs.Common.{◌≡◌, ◌+◌, ◌-◌, ◌*◌, ◌^◌, ◌≤◌, ◌∷◌, [], Vec, Global, length, sym, ap, ap₂, ◌∙◌, subst, arith}
 use Rattle.fab_systems_laws.specs.Ternary.{Tern as PlainTern}
 use Rattle.fab_solutions_laws.specs.fab_ternary_laws_Operators.{entry}
 use Rattle.fab_solutions_laws.specs.fab_ternary_laws_Shown.{first_terns}

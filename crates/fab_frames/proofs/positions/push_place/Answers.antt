@@ -1,6 +1,3 @@
-use Rattle.std.proofs.Common.{◌≡◌, ◌+◌, ◌++◌, ◌∙◌, ap, arith}
-use Rattle.fab_model.specs.Tiles.{counted}
-use Rattle.fab_fabric.specs.Bits.{bits_at}
 use Rattle.fab_frames.specs.Positions.{bit_place}
 use Rattle.fab_frames.proofs.Lists.{none_behind, one_behind}
 use Rattle.fab_frames.proofs.positions.push_place.Goals as goal

@@ -11,12 +11,12 @@ use Rattle.fab_sim.proofs.Building.{made_loading}
 use Rattle.fab_sim.proofs.Loaded.{data_wide}
 use Rattle.fab_sim.proofs.making.machine_of.Goals as goal
 
-pub given_of-requires-clause-data : goal.given_of-requires-clause-data
-given_of-requires-clause-data c =
-    let data = c.args.points.stream.data in
-    let some = data_wide data in
-    let end = data_width data - 1 in
-    let last = slice_get_within c.args.network.drives.items (first_data data + end) Given (c.requires.data end (omega (arith, some))) in
+pub given_of-requires-clause-carrier : goal.given_of-requires-clause-carrier
+given_of-requires-clause-carrier c =
+    let carrier = c.args.points.stream.carrier in
+    let some = data_wide carrier in
+    let end = data_width carrier - 1 in
+    let last = slice_get_within c.args.network.drives.items (first_data carrier + end) Given (c.requires.carrier end (omega (arith, some))) in
     omega (arith, some, last)
 
 pub loading_of-requires-clause-asked : goal.loading_of-requires-clause-asked
@@ -38,7 +38,7 @@ returns-clause-made c =
       given = given.long ∙ sym c.requires.long;
       demand = loading.more.long ∙ demand.long ∙ sym c.requires.long;
       first = subst (λ (n : ℕ). IsGivenFirst n stream (kept_tern c.in_ok-given.given.items)) (sym c.requires.long) given.first;
-      loading = made_loading c.given_is_kept.ensures network c.in_ok-loading.loading c.args.registers.now (first_data stream.data) (data_width stream.data) c.loading_of.new.demand
+      loading = made_loading c.given_is_kept.ensures network c.in_ok-loading.loading c.args.registers.now (first_data stream.carrier) (data_width stream.carrier) c.loading_of.new.demand
           c.in_ok-given.given.items asked
-          loading.loading c.requires.data given.first.data;
+          loading.loading c.requires.carrier given.first.carrier;
     }

@@ -29,8 +29,8 @@ set_out-requires-clause-strobe c =
     let long = c.deref_mut-2.ensures.len ∙ sym c.deref_mut.ensures.len ∙ ap length c.deref_mut.ensures.value ∙ of.given in
     omega (arith, within, long)
 
-pub set_out-requires-clause-data : goal.set_out-requires-clause-data
-set_out-requires-clause-data c =
+pub set_out-requires-clause-carrier : goal.set_out-requires-clause-carrier
+set_out-requires-clause-carrier c =
     let m = c.args.self.now in
     let of = c.requires.2.of in
     let within = data_within c.requires.0 m.network of.network m.points.stream of.stands.has of.stands.stream in
@@ -63,11 +63,11 @@ pub returns-clause-runs : goal.returns-clause-runs
 returns-clause-runs c text state new loaded is_loaded =
     let m = c.args.self.now in
     let of = new.of in
-    let data = m.points.stream.data in
-    let pieces = offered_at (data_width data) (map word_bits c.args.words.now) in
+    let carrier = m.points.stream.carrier in
+    let pieces = offered_at (data_width carrier) (map word_bits c.args.words.now) in
     -- what loading leaves
-    let loading = subst (IsLoadingAt m.network m.loading new.loads (first_data data) (data_width data) m.demand) (sym c.deref_mut.ensures.value) new.loading in
-    let steps = subst (λ (xs : List Tern). AreLoadSteps m.network new.loads (first_data data) pieces (kept_tern xs) (kept_tern c.load_stream.new.given))
+    let loading = subst (IsLoadingAt m.network m.loading new.loads (first_data carrier) (data_width carrier) m.demand) (sym c.deref_mut.ensures.value) new.loading in
+    let steps = subst (λ (xs : List Tern). AreLoadSteps m.network new.loads (first_data carrier) pieces (kept_tern xs) (kept_tern c.load_stream.new.given))
     c.deref_mut.ensures.value
     (c.load_stream.ensures.steps new.loads loading) in
     let offers = subst (λ (offered : List (List Bool)). OfferWords offered is_loaded.loads.moments) (pieces_of_words text m.points.stream of.stands.stream c.args.words.now)
@@ -76,7 +76,7 @@ returns-clause-runs c text state new loaded is_loaded =
     let holding = holds_last text m.network of.network m.points.stream of.stands.has of.stands.stream c.points_of_sound_texts_have_one_driver.ensures
     c.numbered_exists.ensures.numbers c.numbered_exists.ensures.points c.numbered_solutions.ensures.solve c.numbered_kept.ensures
     c.loading_is_known.ensures.known
-    c.loading_is_known.ensures.kept new.loads new.are pieces (pieces_wide data c.args.words.now) is_loaded.loads.moments (kept_tern m.given.items) (kept_tern c.load_stream.new.given) zeros
+    c.loading_is_known.ensures.kept new.loads new.are pieces (pieces_wide carrier c.args.words.now) is_loaded.loads.moments (kept_tern m.given.items) (kept_tern c.load_stream.new.given) zeros
     is_loaded.after begins
     steps offers is_loaded.loads.run in
     -- what is set then
@@ -121,11 +121,11 @@ pub returns-clause-fresh : goal.returns-clause-fresh
 returns-clause-fresh c text state new loaded is_loaded =
     let m = c.args.self.now in
     let of = new.of in
-    let data = m.points.stream.data in
-    let pieces = offered_at (data_width data) (map word_bits c.args.words.now) in
+    let carrier = m.points.stream.carrier in
+    let pieces = offered_at (data_width carrier) (map word_bits c.args.words.now) in
     -- what loading leaves
-    let loading = subst (IsLoadingAt m.network m.loading new.loads (first_data data) (data_width data) m.demand) (sym c.deref_mut.ensures.value) new.loading in
-    let steps = subst (λ (xs : List Tern). AreLoadSteps m.network new.loads (first_data data) pieces (kept_tern xs) (kept_tern c.load_stream.new.given))
+    let loading = subst (IsLoadingAt m.network m.loading new.loads (first_data carrier) (data_width carrier) m.demand) (sym c.deref_mut.ensures.value) new.loading in
+    let steps = subst (λ (xs : List Tern). AreLoadSteps m.network new.loads (first_data carrier) pieces (kept_tern xs) (kept_tern c.load_stream.new.given))
     c.deref_mut.ensures.value
     (c.load_stream.ensures.steps new.loads loading) in
     let offers = subst (λ (offered : List (List Bool)). OfferWords offered is_loaded.loads.moments) (pieces_of_words text m.points.stream of.stands.stream c.args.words.now)
@@ -134,7 +134,7 @@ returns-clause-fresh c text state new loaded is_loaded =
     let holding = holds_last text m.network of.network m.points.stream of.stands.has of.stands.stream c.points_of_sound_texts_have_one_driver.ensures
     c.numbered_exists.ensures.numbers c.numbered_exists.ensures.points c.numbered_solutions.ensures.solve c.numbered_kept.ensures
     c.loading_is_known.ensures.known
-    c.loading_is_known.ensures.kept new.loads new.are pieces (pieces_wide data c.args.words.now) is_loaded.loads.moments (kept_tern m.given.items) (kept_tern c.load_stream.new.given) zeros
+    c.loading_is_known.ensures.kept new.loads new.are pieces (pieces_wide carrier c.args.words.now) is_loaded.loads.moments (kept_tern m.given.items) (kept_tern c.load_stream.new.given) zeros
     is_loaded.after begins
     steps offers is_loaded.loads.run in
     -- what is set then

@@ -15,8 +15,8 @@ machine_of-requires-clause-strobe c =
     let less = strobe_within (plain_text c.args.equations.now) c.args.state.now c.in_ok-points.points points.stands in
     omega (arith, less, c.points-count.ensures)
 
-pub machine_of-requires-clause-data : goal.machine_of-requires-clause-data
-machine_of-requires-clause-data c bit less =
+pub machine_of-requires-clause-carrier : goal.machine_of-requires-clause-carrier
+machine_of-requires-clause-carrier c bit less =
     let points = c.in_ok-points.ensures in
     let network = c.in_ok-network.ensures in
     data_given (plain_text c.args.equations.now) c.in_ok-network.network c.args.state.now c.in_ok-points.points network.drives points.stands bit less
