@@ -116,8 +116,8 @@ module _ (mode : Mode) (tile : PlainTile) (number : ℕ) (bel : Bel) (stands : s
       nat_eq (get_or clock_name 4 0) (get_or name 4 0) ≡ false → nat_eq (get_or write_strobe_name 4 0) (get_or name 4 0) ≡ false →
       nat_eq (get_or chain_in_name 4 0) (get_or name 4 0) ≡ false →
       All (λ other. other ≢ name) (frame_data_name ∷ frame_strobe_name ∷ clock_name ∷ write_strobe_name ∷ chain_in_name ∷ [])
-  told_all name data strobe clock write comes =
-      each_all (λ other. other ≢ name) (frame_data_name ∷ frame_strobe_name ∷ clock_name ∷ write_strobe_name ∷ chain_in_name ∷ []) (told_apart 4 frame_data_name name data,
+  told_all name frame strobe clock write comes =
+      each_all (λ other. other ≢ name) (frame_data_name ∷ frame_strobe_name ∷ clock_name ∷ write_strobe_name ∷ chain_in_name ∷ []) (told_apart 4 frame_data_name name frame,
         (told_apart 4 frame_strobe_name name strobe, (told_apart 4 clock_name name clock, (told_apart 4 write_strobe_name name write, (told_apart 4 chain_in_name name comes, tt)))))
 
   -- pads are told apart from what comes in by the first letter of the port, and from other ports before
