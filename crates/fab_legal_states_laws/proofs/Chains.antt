@@ -1,5 +1,5 @@
 -- A chain has no more bits than tiles can have places for them.
-use Rattle.std.proofs.Common.{◌≡◌, ◌≢◌, ℕ, ◌+◌, ◌*◌, ◌<◌, ◌≤◌, List, [], ◌∷◌, map, get_or, length, refl, sym, ap, arith, All, AllPairs, Option, Some, None, nat_eq}
+use Rattle.std.proofs.Common.{◌≡◌, ◌≢◌, ℕ, ◌+◌, ◌*◌, ◌<◌, ◌≤◌, List, [], ◌∷◌, map, get_or, length, arith, All, AllPairs, Option, Some, None, nat_eq}
 use Rattle.std.specs.List.{cons_option, filter_map, flat_map}
 use Rattle.std.proofs.lemmas.Bool.Decides.{Decides-eqb}
 use Rattle.std.proofs.lemmas.List.{length-map, get_or-map}
@@ -13,7 +13,7 @@ use Rattle.fab_model.specs.Tables.{HasTable}
 use Rattle.fab_model.specs.Tiles.{PlainTile, counted, tile_bits}
 use Rattle.fab_model.specs.Grid.{PlainFabric}
 use Rattle.fab_fabric.specs.Fabric.{IsFabric}
-use Rattle.fab_fabric.specs.Places.{PlacedTile, column_tiles, placed_at, placed_tiles}
+use Rattle.fab_fabric.specs.Places.{column_tiles, placed_at, placed_tiles}
 use Rattle.fab_frames.proofs.Lists.{length_counted}
 use Rattle.fab_frames.specs.Positions.{bit_place, chain, tile_chain}
 use Rattle.fab_points_laws.proofs.fab_drives_laws_Modules.{tile_of_types}
