@@ -8,7 +8,6 @@ use Rattle.fab_bits.specs.Bits.{digits}
 use Rattle.fab_syntax.specs.Plain.{PlainModule}
 use Rattle.fab_syntax.specs.declared.tree.Shape.TheVariants.{Scalar}
 use Rattle.fab_systems_laws.specs.Ternary.{Tern, no, yes, known}
-use Rattle.fab_meaning.specs.Value.{bit_at}
 use Rattle.fab_meaning.specs.Points.{Point, point, Driver, outside, copy, bit_of, flop, hold, Drives, IsStored}
 use Rattle.fab_meaning.specs.Settled.{Assignment, IsSettledOn}
 use Rattle.fab_meaning.specs.Reads.{is_declared}
