@@ -1,5 +1,5 @@
 -- What holds of the words that are written, and goes from the wire before a tile to the wire behind it, holds of all wires of a chain.
-use Rattle.std.proofs.Common.{◌≡◌, ℕ, Bool, true, false, ◌&&◌, List, [], ◌∷◌, ◌++◌, refl, sym, ap, ◌∙◌, subst, inl, inr, Some, All, nat_eq, append_assoc, eq-eqb}
+use Rattle.std.proofs.Common.{◌≡◌, ℕ, true, ◌&&◌, List, [], ◌∷◌, ◌++◌, refl, sym, ◌∙◌, subst, inl, inr, Some, All, nat_eq, append_assoc, eq-eqb}
 use Rattle.std.proofs.lemmas.Bool.{cases_Bool}
 use Rattle.std.proofs.lemmas.List.Elements.{All-nil, All-cons, All-append, All-head, All-tail, All-weaker, All-contains}
 use Rattle.fab_fabric_text_defs.specs.fab_meaning_Loading.{write_data_name}

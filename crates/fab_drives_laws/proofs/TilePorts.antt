@@ -142,9 +142,13 @@ begin_is_output mode tile number row bit stands no_jump few =
     (each_mode (IsInput name false)
     (All-from_recursion (IsInput name false) frame_ports
     ((λ same. absurd (told_apart 4 frame_data_name name refl same)), ((λ same. absurd (told_apart 4 frame_strobe_name name refl same)), tt)))
-    (All-from_recursion (IsInput name false) chain_ports
-    ((λ same. absurd (told_apart 4 clock_name name refl same)), ((λ same. absurd (told_apart 4 write_strobe_name name refl same)),
-    ((λ same. absurd (told_apart 4 chain_in_name name refl same)), ((λ same. refl), tt))))) mode)
+    (All-from_recursion (IsInput name false) chain_ports (
+      (λ same. absurd (told_apart 4 clock_name name refl same)),
+      (
+        (λ same. absurd (told_apart 4 write_strobe_name name refl same)),
+        ((λ same. absurd (told_apart 4 chain_in_name name refl same)), ((λ same. refl), tt)),
+      ),
+    )) mode)
     (λ other n same. refl) (λ other n same. absurd (told_apart 4 (end_name other n) name refl same))
     (λ bel same. absurd (told_apart 4 (pad_name bel top_name) name refl same)) (λ bel same. refl) (λ bel same. refl) tile)
 

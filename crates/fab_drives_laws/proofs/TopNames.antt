@@ -13,7 +13,7 @@ use Rattle.fab_fabric_text_defs.specs.fab_model_mode_Mode_TheVariants as modes
 use Rattle.fab_fabric_text_defs.specs.fab_model_tiles_WireRow.{WireRow}
 use Rattle.fab_fabric_text_defs.specs.fab_model_tiles_Bel.{Bel}
 use Rattle.fab_fabric_text_defs.specs.fab_model_Rows.{is_jump}
-use Rattle.fab_fabric_text_defs.specs.fab_model_Tiles.{PlainTile, counted}
+use Rattle.fab_fabric_text_defs.specs.fab_model_Tiles.{PlainTile}
 use Rattle.fab_fabric_text_defs.specs.fab_model_Grid.{PlainFabric, tile_at}
 use Rattle.fab_fabric_text_defs.specs.fab_gen_tile_Borders.{side_border}
 use Rattle.fab_fabric_text_defs.specs.fab_meaning_Loading.{write_strobe_name}

@@ -29,8 +29,9 @@ use fab_serial::serial_text;
 use fab_serial_laws::{fabric_texts_take_ports, serial_texts_load};
 use std::alloc::Global;
 
-/// The printed text of a fabric with a serial port. Behind its loaders stand the top, the port and the new top.
+/// The printed text of a fabric in frames with a serial port. Behind its loaders stand the top, the port and the new top.
 fn printed_with_port(alloc: Global, fabric: &Fabric) -> Result<PrintedText, Memory>
+    requires { fabric.now.mode ≡ modes.Frames }
     ensures printed { IfOk result (λ text. text.bytes.items ≡ text_bytes (text_with_port fabric.now)) }
     ensures is_text { OnOk result (All IsNamed fabric.now.types → IsFabricText fabric.now (generated_text fabric.now)) }
     ensures sound { OnOk result (All IsNamed fabric.now.types → IsSound (text_with_port fabric.now)) }

@@ -1,14 +1,15 @@
 -- Steps of loops over rows, BELs and names.
 use Rattle.std.proofs.Common.{◌≡◌, ◌==◌, ℕ, zero, suc, ◌+◌, ◌-◌, ◌<◌, ◌≤◌, true, false, nat_eq, sum_by, List, [], ◌∷◌, ◌++◌, length, map, take, get_or, refl, sym, ap, ◌∙◌, arith, append_assoc, slice_get, slice_range, Some}
 use Rattle.std.specs.List.{flat_map, enumerate_from}
-use Rattle.std.proofs.lemmas.List.{take_more, append-nil, map-append, length-take-le}
+use Rattle.std.proofs.lemmas.List.{take_more, append-nil, map-append, map_push, length-take-le}
 use Rattle.std.proofs.lemmas.List.Concat.{flat_map-cons}
 use Rattle.std.proofs.lemmas.Grind.{flat_map-append}
 use Rattle.std.proofs.lemmas.Option.{slice_get_within, get_or_from_slice_get}
 use Rattle.std.proofs.lemmas.List.Sums.{sum_by-append}
 use Rattle.fab_kinds.specs.Pins.{bit_count}
 use Rattle.fab_model.specs.declared.tiles.Bel.{Bel}
-use Rattle.fab_syntax.specs.Plain.{PlainJoin, part, instance}
+use Rattle.fab_syntax.specs.declared.tree.Join.{Join}
+use Rattle.fab_syntax.specs.Plain.{PlainJoin, plain_join, part, instance}
 use Rattle.fab_select.specs.Selection.{select_bits}
 use Rattle.fab_model.specs.Tiles.{PlainTile, bel_bits, tile_bits, numbered_pairs, bits_before}
 use Rattle.fab_matrix.specs.fab_meaning.specs.Ports.{config_name}
@@ -94,3 +95,9 @@ joins_made tile low bits inputs with_bits outputs are_inputs is_low is_bits are_
     (λ j. are_bits j ++ are_outputs j)
     ∙ (λ j. (are_inputs j ++ bits_join (is_low j) (selects j)) ++ map same_join (matrix_output_names tile))
     ∙ append_assoc (map same_join (matrix_input_names tile)) (bits_join (bel_bits tile) (select_bits nat_eq (numbered_pairs tile))) (map same_join (matrix_output_names tile))
+
+-- one join more, behind others
+pub join_more : (joins : List Join) (join : Join) (front more : List PlainJoin) (is : PlainJoin) → map plain_join joins ≡ front ++ more → plain_join join ≡ is →
+    map plain_join (joins ++ join ∷ []) ≡ front ++ (more ++ is ∷ [])
+join_more joins join front more is so_far same =
+    map_push plain_join joins join ∙ (λ j. so_far j ++ same j ∷ []) ∙ append_assoc front more (is ∷ [])

@@ -2,3 +2,4 @@ pub mod Steps
 pub mod Found
 pub mod Grid
 pub mod Chain
+pub mod Modes

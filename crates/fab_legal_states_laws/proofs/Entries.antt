@@ -65,7 +65,7 @@ module _ (fabric : PlainFabric) (text : List PlainModule) (packed : PlainPacked)
       let tile = site_tile fabric site kinds.Lut4c kind_is in
       let bel = site_bel fabric site kinds.Lut4c tile.0 kind_is tile.1 in
       let stands = (has_fabric fabric text is is_text).stands site.x site.y tile.0 tile.1 in
-      bel_stands text (site_path site) tile.0 stands (λ q. false) (λ q. false) (λ q. no) site.bel bel.found bel.there
+      bel_stands _ text (site_path site) tile.0 stands (λ q. false) (λ q. false) (λ q. no) site.bel bel.found bel.there
       ∙ ap (λ (kind : Kind). Some (module_of_kind kind)) bel.kind_is
 
   holding : (site : Site) → kind_at fabric site ≡ Some kinds.Lut4c → HasEntry text (entries.Register site)

@@ -37,7 +37,7 @@ module _ (s : Setting) (p : Point) (r : IsRegister s p) where
       let kind_is = cell_kind s.fabric (packed s.netlist) s.fixed s.implementation s.legal r.number r.site r.cell r.bound in
       let tile = site_tile s.fabric r.site kinds.Lut4c kind_is in
       let bel = site_bel s.fabric r.site kinds.Lut4c tile.0 kind_is tile.1 in
-      let stands = bel_stands s.text (site_path r.site) tile.0 (has.stands r.site.x r.site.y tile.0 tile.1) (λ q. false) (λ q. false) (λ q. no) r.site.bel
+      let stands = bel_stands _ s.text (site_path r.site) tile.0 (has.stands r.site.x r.site.y tile.0 tile.1) (λ q. false) (λ q. false) (λ q. no) r.site.bel
       bel.found bel.there
       ∙ ap (λ kind. Some (module_of_kind kind)) bel.kind_is in
       (stands, lut_clock s.fabric s.text s.is has r.site.x r.site.y tile.0 r.site.bel bel.found tile.1 bel.there bel.kind_is stands)

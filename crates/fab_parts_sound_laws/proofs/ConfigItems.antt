@@ -1,11 +1,11 @@
 -- The ports of a configuration's module and what keeps its bits, mode by mode.
-use Rattle.std.proofs.Common.{◌≡◌, ◌≢◌, ℕ, zero, suc, ◌<◌, ◌≤◌, Bool, true, false, List, [], ◌∷◌, ◌++◌, map, refl, sym, ◌∙◌, arith, All, Contains, append-nil, append_assoc}
+use Rattle.std.proofs.Common.{◌≡◌, ◌≢◌, ℕ, zero, suc, ◌<◌, ◌≤◌, false, List, [], ◌∷◌, ◌++◌, map, refl, sym, ◌∙◌, arith, All, Contains, append-nil, append_assoc}
 use Rattle.std.specs.List.{flat_map, list_any}
 use Rattle.std.specs.Str.{bytes_eq}
 use Rattle.std.proofs.lemmas.List.Concat.{flat_map-append}
 use Rattle.std.proofs.lemmas.List.Elements.{All-nil, All-cons, All-append, Contains-append_left, Contains-append_right}
 use Rattle.fab_syntax.specs.declared.tree.Port.{Port}
-use Rattle.fab_syntax.specs.Plain.{PlainItem, PlainModule, variable, assign}
+use Rattle.fab_syntax.specs.Plain.{PlainItem, PlainModule}
 use Rattle.fab_syntax.specs.Sound.{width_of_name}
 use Rattle.fab_tile_drives_laws.proofs.fab_meaning_Modules.{each_all}
 use Rattle.fab_tile_drives_laws.specs.fab_meaning_Ports.{config_name}
@@ -16,7 +16,7 @@ use Rattle.fab_tile_drives_laws.specs.fab_model_mode_Mode_TheVariants as modes
 use Rattle.fab_tile_drives_laws.specs.fab_model_Tiles.{PlainTile, counted, tile_bits}
 use Rattle.fab_tile_drives_laws.specs.fab_model_Tables.{HasTable}
 use Rattle.fab_tile_drives_laws.specs.fab_gen_tile_Names.{latch_name, frame_data_name, frame_strobe_name, chain_in_name, chain_out_name, vector}
-use Rattle.fab_tile_drives_laws.specs.fab_gen_tile_ConfigModule.{frame_ports, chain_ports, config_ports, bit_latch, before_bit, bit_flop, chain_end, keeping_items, all_latches, config_module}
+use Rattle.fab_tile_drives_laws.specs.fab_gen_tile_ConfigModule.{frame_ports, chain_ports, config_ports, bit_latch, before_bit, bit_flop, chain_end, keeping_items, config_module}
 use Rattle.fab_tile_drives_laws.proofs.Latches.{latch_width}
 use Rattle.fab_parts_sound_laws.proofs.Lists.{all_counted, contains_first, contains_counted, one_each}
 use Rattle.fab_parts_sound_laws.proofs.Apart.{apart_if, differs_from, none_is}

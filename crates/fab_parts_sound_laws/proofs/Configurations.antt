@@ -1,5 +1,5 @@
 -- The module of a tile's configuration bits fits in both modes.
-use Rattle.std.proofs.Common.{◌≡◌, ◌≢◌, ℕ, ◌+◌, ◌*◌, ◌<◌, ◌≤◌, false, List, [], ◌∷◌, ◌++◌, map, reverse, get_or, length, refl, sym, ap, ◌∙◌, arith, All, AllPairs, Contains, append-nil, decimal, nat_eq}
+use Rattle.std.proofs.Common.{◌≡◌, ◌≢◌, ℕ, ◌+◌, ◌*◌, ◌<◌, ◌≤◌, false, List, [], ◌∷◌, ◌++◌, map, reverse, get_or, length, refl, sym, ◌∙◌, arith, All, AllPairs, Contains, append-nil, decimal, nat_eq}
 use Rattle.std.specs.List.{flat_map}
 use Rattle.std.proofs.lemmas.Bool.Decides.{Decides-eqb}
 use Rattle.std.proofs.lemmas.Fmt.{decimal_injective}

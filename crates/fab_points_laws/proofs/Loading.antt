@@ -29,7 +29,7 @@ use Rattle.fab_use_defs.proofs.fab_tile_drives_laws_Modes.{bits_joined, bits_out
 use Rattle.fab_use_defs.proofs.fab_tile_drives_laws_TileNames.{tile_width, bits_wide}
 use Rattle.fab_use_defs.proofs.fab_tile_drives_laws_TileItems.{config_there, matrix_found, matrix_there, bel_found, bel_there}
 use Rattle.fab_use_defs.proofs.fab_tile_drives_laws_Driven.{width_of, declared_at, part_bit}
-use Rattle.fab_use_defs.proofs.fab_tile_drives_laws_Latches.{all_there, latches_seen}
+use Rattle.fab_use_defs.proofs.fab_tile_drives_laws_Latches.{all_width, all_there, latches_seen}
 use Rattle.fab_use_defs.proofs.fab_tile_drives_laws_BitValues.{inside}
 use Rattle.fab_use_defs.proofs.fab_tile_drives_laws_MatrixPorts.{bits_input, bits_width}
 use Rattle.fab_use_defs.proofs.fab_tile_drives_laws_NamedPairs.{bits_same}
@@ -76,8 +76,10 @@ module _ (fabric : PlainFabric) (text : List PlainModule) (carries : Carries fab
     wire_within bit declared =
         let below : bit < width_of (tile_module mode tile) bits_name = bit_below text path (tile_module mode tile) bits_name bit stands.tile_is declared in
         let wide : tile_width mode tile bits_name ≡ tile_bits tile = bits_wide mode tile some in
+        let inner_wide = all_width mode tile in
         let inner : is_declared text (point (config_path x y) config_name bit) ≡ true =
-        declared_at text (config_path x y) (config_module mode tile) config_name bit (config_in fabric mode refl text carries.tiles x y tile there some) (omega (arith, below, wide)) in
+        declared_at text (config_path x y) (config_module mode tile) config_name bit (config_in fabric mode refl text carries.tiles x y tile there some)
+        (omega (arith, below, wide, inner_wide)) in
         copy_within text carries.flops (point path bits_name bit) (point (config_path x y) config_name bit) declared
         (joined_from text path (tile_module mode tile) stands.tile_is (config_module mode tile) (config_module_name tile) config_instance_name (config_joins mode)
         (stands.config_is some) (config_there mode tile some) config_name bits_name bit (bits_joined mode) (bits_output mode (tile_bits tile)))
@@ -111,8 +113,10 @@ module _ (fabric : PlainFabric) (text : List PlainModule) (carries : Carries fab
       port_value : (bit : ℕ) → bit < tile_bits tile → now (point (config_path x y) config_name bit) ≡ bits bit
       port_value bit few =
           let inner = config_in fabric mode refl text carries.tiles x y tile there some in
+          let inner_wide = all_width mode tile in
           settled (point (config_path x y) config_name bit) (bit_of (config_path x y) (all_latches (tile_bits tile)) bit)
-          (loads (config_path x y) config_name bit config_bits_within (declared_at text (config_path x y) (config_module mode tile) config_name bit inner few))
+          (loads (config_path x y) config_name bit config_bits_within
+          (declared_at text (config_path x y) (config_module mode tile) config_name bit inner (omega (arith, few, inner_wide))))
           (assigned_by text (config_path x y) (config_module mode tile) inner config_name (all_latches (tile_bits tile)) bit (all_there mode tile))
           ∙ latches_seen mode text now (config_path x y) tile inner bit few
           ∙ shows bit few

@@ -1,17 +1,18 @@
 -- What stands behind all rows of a fabric file.
-use Rattle.std.proofs.Common.{◌≡◌, ◌<◌, ℕ, List, Option, Some, None, sym, ◌∙◌, subst}
+use Rattle.std.proofs.Common.{◌≡◌, ◌<◌, ◌≤◌, ℕ, List, Option, Some, None, sym, ◌∙◌, subst}
 use Rattle.fab_base.specs.Reading.{fault_at}
 use Rattle.fab_base.specs.declared.words.Reason.TheVariants as reasons
 use Rattle.fab_base.specs.declared.words.Quantity.TheVariants as quantities
 use Rattle.fab_base.specs.declared.problem.Problem.TheVariants as problems
 use Rattle.fab_desk.specs.Files.{Map}
 use Rattle.fab_model.specs.Tiles.{PlainTile}
-use Rattle.fab_fabric.specs.Fabric.{fabric_of, wire_count}
+use Rattle.fab_model.specs.Grid.{PlainFabric}
+use Rattle.fab_fabric.specs.Fabric.{fabric_of, in_mode, wire_count}
 use Rattle.fab_lines.specs.Counts.{last_line}
 use Rattle.fab_files.specs.Files.{refuses}
 use Rattle.fab_blocks.specs.Reading.{PlainReading, PlainGridLine, start}
 use Rattle.fab_read.specs.inner.Following.{ReadsFileTo}
-use Rattle.fab_read.specs.Fabrics.{top, strange_line, column_count, places, grid_fabric, most_wires, ReadsParts, MeetsFabric, no_grid, no_tile, many_wires}
+use Rattle.fab_read.specs.Fabrics.{top, strange_line, column_count, places, grid_fabric, most_wires, ReadsParts, SpellsFabric, MeetsFabric, no_grid, no_tile, many_wires}
 
 module _ (files : Map) (name : List ℕ) (reading : PlainReading) (last : ℕ) (read : ReadsFileTo files (top name) start reading last) where
   pub grid_absent : reading.grid ≡ None → MeetsFabric files name (refuses (fault_at name last (problems.Malformed reasons.Grid)))
@@ -32,3 +33,18 @@ module _ (files : Map) (name : List ℕ) (reading : PlainReading) (last : ℕ) (
         let here : refuses (fault_at name (last_line read.0) (problems.Limit quantities.Wires (wire_count (grid_fabric types lines)) most_wires)) ≡ refuses (fault_at name last (problems.Limit quantities.Wires wires most_wires)) =
         λ j. refuses (fault_at name (sym read.2 j) (problems.Limit quantities.Wires (sym count j) most_wires)) in
         subst (MeetsFabric files name) here met
+
+    -- the fabric is in the mode that the rows told
+    pub spells : (columns : ℕ) (grid : List (Option ℕ)) (wires : ℕ) (fabric : PlainFabric) → strange_line types lines ≡ None → columns ≡ column_count lines → grid ≡ places types lines
+        → wires ≡ wire_count (fabric_of types columns grid) → wires ≤ most_wires → fabric ≡ in_mode reading.configuration (fabric_of types columns grid) → SpellsFabric files name fabric
+    unfolding parts
+    spells columns grid wires fabric named columns_are grid_are wires_are few is =
+        let count : wires ≡ wire_count (grid_fabric types lines) = wires_are ∙ (λ j. wire_count (fabric_of types (columns_are j) (grid_are j))) in
+        record {
+          bytes = read.0;
+          types = types;
+          lines = lines;
+          parts = parts named;
+          few_wires = subst (λ (n : ℕ). n ≤ most_wires) count few;
+          is = is ∙ (λ j. in_mode reading.configuration (fabric_of types (columns_are j) (grid_are j)));
+        }

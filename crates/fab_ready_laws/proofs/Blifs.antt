@@ -89,11 +89,14 @@ construct_told most context kinds.Buffer line = port_told (on_both_sides context
 construct_told most context kinds.Passed line = port_told (on_both_sides context kinds.Passed line)
 construct_told most context kinds.Other line = unsupported_told (word_at line 0)
 
-problem_told : (reason : Option Reason) (construct : Option Problem) → TellsContent construct → TellsContent (problem_of reason construct)
-problem_told None construct tells = tells
-problem_told (Some reason) construct tells problem is memory =
+malformed_told : (reason : Reason) → TellsContent (Some (problems.Malformed reason))
+malformed_told reason problem is memory =
     let wrong : Some (problems.Malformed reason) ≡ Some problems.Memory = is ∙ ap (λ (p : Problem). Some p) memory in
     cc
+
+problem_told : (reason : Option Reason) (found : Option Problem) → TellsContent found → TellsContent (problem_of reason found)
+problem_told None found tells = tells
+problem_told (Some reason) found tells = malformed_told reason
 
 judge_told : (most : ℕ) (before : List (List ℕ)) (line : List ℕ) → TellsContent (judge most before line)
 judge_told most before line =

@@ -9,7 +9,7 @@ use Rattle.fab_syntax.specs.Plain.{PlainModule, variable}
 use Rattle.fab_syntax.specs.Declarations.{width, is_input_of, width_in}
 use Rattle.fab_meaning.specs.Value.{bit_at}
 use Rattle.fab_meaning.specs.Runs.{clock_name, user_clock_name}
-use Rattle.fab_meaning.specs.Loading.{write_strobe_name, write_data_name}
+use Rattle.fab_meaning.specs.Loading.{write_strobe_name}
 use Rattle.fab_meaning.specs.Points.{point, outside, copy, bit_of, JoinDrives, Drives, module_at}
 use Rattle.fab_meaning.specs.Settled.{Assignment}
 use Rattle.fab_meaning.specs.Ports.{scalar}

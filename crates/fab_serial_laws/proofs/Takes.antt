@@ -207,9 +207,9 @@ module _ (fabric : PlainFabric) (placed : PlacedTile) where
       (all_flat_map Leads (row_joins fabric placed) rows (all_of (λ (numbered : ℕ × WireRow). All Leads (row_joins fabric placed numbered)) rows row_leads))
       (all_flat_map Leads (pad_joins placed.x placed.y) bels (all_of (λ (bel : ℕ × Bel). All Leads (pad_joins placed.x placed.y bel)) bels pad_leads))))
 
-top_has_no_clock : (fabric : PlainFabric) → All NoClock (top_items fabric)
-top_has_no_clock fabric =
-    all_of_top fabric NoClock (λ name. tt) (λ name. tt) (λ name. tt) (λ x. tt) (λ frames. loader_joins_lead fabric.rows) (λ placed there. tile_joins_lead fabric placed)
+top_has_no_clock : (fabric : PlainFabric) → text_mode fabric ≡ modes.Frames → All NoClock (top_items fabric)
+top_has_no_clock fabric frames =
+    all_of_top fabric NoClock (λ name. tt) (λ name. tt) (λ name. tt) (λ x. tt) (λ _. loader_joins_lead fabric.rows) (λ placed there. tile_joins_lead fabric placed frames)
 
 -- ---- the loader's only clock is CLK
 

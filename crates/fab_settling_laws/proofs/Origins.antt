@@ -160,7 +160,7 @@ module _ (s : Setting) where
       let bel = site_bel s.fabric site kinds.Lut4c at.0 kind_is at.1 in
       let path = bel_path (site_path site) site.bel in
       let tile_stands = has.stands site.x site.y at.0 at.1 in
-      let stands = bel_stands s.text (site_path site) at.0 tile_stands (all_of false) (all_of false) (λ q. unknown) site.bel bel.found bel.there
+      let stands = bel_stands _ s.text (site_path site) at.0 tile_stands (all_of false) (all_of false) (λ q. unknown) site.bel bel.found bel.there
       ∙ ap (λ kind. Some (module_of_kind kind)) bel.kind_is in
       record {
         path = path;

@@ -90,20 +90,20 @@ module _ (s : Setting) (site : Site) (lists : ListsZeroFirst s.fabric site)
     zero_bit_shown : Shows (wire_point here tile zero) (sources.always false)
     zero_bit_shown =
         subst (λ bit. Shows (wire_point here tile zero) (sources.always bit)) (zero_is lists.found.dest lists.zero)
-        (constant_shown s.text here tile is_tile (has.stands site.x site.y tile lists.tile_is) inputs held t lists.row lists.bit lists.found lists.row_is lists.inside lists.jumps
+        (constant_shown _ s.text here tile is_tile (has.stands site.x site.y tile lists.tile_is) inputs held t lists.row lists.bit lists.found lists.row_is lists.inside lists.jumps
         lists.unsourced)
 
     zero_port_shown : Shows (point (matrix_path here) (name_of tile zero) 0) (sources.shows (wire_point here tile zero))
     zero_port_shown =
         let stands = has.stands site.x site.y tile lists.tile_is in
-        input_port_shown s.text here tile is_tile stands inputs held t zero zero_exists zero_input (some s.text here tile is_tile stands inputs held t pin pin_exists pin_output)
+        input_port_shown _ s.text here tile is_tile stands inputs held t zero zero_exists zero_input (some _ s.text here tile is_tile stands inputs held t pin pin_exists pin_output)
 
     pin_wire_shown : Shows (pin_point tile site pad_t) (sources.shows (point (matrix_path here) (name_of tile pin) 0))
-    pin_wire_shown = output_wire_shown s.text here tile is_tile (has.stands site.x site.y tile lists.tile_is) inputs held t pin pin_exists pin_output
+    pin_wire_shown = output_wire_shown _ s.text here tile is_tile (has.stands site.x site.y tile lists.tile_is) inputs held t pin pin_exists pin_output
 
     pin_port_shown : KnowsBits s.fabric s.bits t → Shows (point (matrix_path here) (name_of tile pin) 0) (sources.shows (point (matrix_path here) (name_of tile zero) 0))
     pin_port_shown knows =
-        output_port_shown s.text here tile is_tile (has.stands site.x site.y tile lists.tile_is) inputs held t pin pin_exists pin_output (s.bits site.x site.y)
+        output_port_shown _ s.text here tile is_tile (has.stands site.x site.y tile lists.tile_is) inputs held t pin pin_exists pin_output (s.bits site.x site.y)
         (knows site.x site.y tile lists.tile_is) zero
         (ap₂ (λ inputs value. option_and_then (slice_get (plain_wires tile)) (input_at inputs value)) lists.first selects ∙ wire_at_number tile zero zero_exists)
 
@@ -111,17 +111,17 @@ module _ (s : Setting) (site : Site) (lists : ListsZeroFirst s.fabric site)
     turns_shown =
         let named : slice_get (pin_names bel.found.kind) pad_t ≡ Some (codes "T") = ap (λ kind. slice_get (pin_names kind) pad_t) bel.kind_is in
         let among : Contains (input_names bel.found.kind) (codes "T") = subst (λ kind. Contains (input_names kind) (codes "T")) (sym bel.kind_is) (1, omega arith, refl) in
-        input_shown s.text here tile (has.stands site.x site.y tile lists.tile_is) inputs held t site.bel bel.found bel.there pad_t (codes "T") named among
+        input_shown _ s.text here tile (has.stands site.x site.y tile lists.tile_is) inputs held t site.bel bel.found bel.there pad_t (codes "T") named among
 
     turned_shown : Shows (bel_point site (codes "T_top")) (sources.inverts (bel_point site (codes "T")))
     turned_shown =
         let stands : module_at s.text (bel_path here site.bel) ≡ Some (module_of_kind kinds.Io) =
-        bel_stands s.text here tile (has.stands site.x site.y tile lists.tile_is) inputs held t site.bel bel.found bel.there
+        bel_stands _ s.text here tile (has.stands site.x site.y tile lists.tile_is) inputs held t site.bel bel.found bel.there
         ∙ ap (λ kind. Some (module_of_kind kind)) bel.kind_is in
         t_top_shown s.text (bel_path here site.bel) inputs held t stands
 
     tile_shown : Shows (port_point site (codes "T_top")) (sources.shows (bel_point site (codes "T_top")))
-    tile_shown = to_outside_shown s.text here tile (has.stands site.x site.y tile lists.tile_is) inputs held t site.bel bel.found bel.there (codes "T_top") goes_out
+    tile_shown = to_outside_shown _ s.text here tile (has.stands site.x site.y tile lists.tile_is) inputs held t site.bel bel.found bel.there (codes "T_top") goes_out
 
     outside_shown : Shows (top_point site (codes "T_top")) (sources.shows (port_point site (codes "T_top")))
     outside_shown =

@@ -8,7 +8,6 @@ use Rattle.fab_bits.specs.Bits.{digits}
 use Rattle.fab_syntax.specs.Plain.{PlainModule}
 use Rattle.fab_syntax.specs.declared.tree.Shape.TheVariants.{Scalar}
 use Rattle.fab_systems_laws.specs.Ternary.{Tern, no, yes, known}
-use Rattle.fab_meaning.specs.Value.{bit_at}
 use Rattle.fab_meaning.specs.Points.{Point, point, Driver, outside, copy, bit_of, flop, hold, Drives, IsStored}
 use Rattle.fab_meaning.specs.Settled.{Assignment, IsSettledOn}
 use Rattle.fab_meaning.specs.Reads.{is_declared}
@@ -269,8 +268,8 @@ module _ (text : List PlainModule) (network : Network) (of : IsNetworkOf text ne
           (ticks : Ticks (IsLoading text) text moment.clock base now next) where
         -- what is no point of WriteData is offered what it had
         same_offered : (number : ℕ) → IsNoData stream.carrier number → step.offered number ≡ old number
-        same_offered number outside =
-            step.is_offered.others number (elim outside [ inl before ↦ inl before | inr behind ↦ inr (omega (arith, behind, wide)) ])
+        same_offered number apart =
+            step.is_offered.others number (elim apart [ inl before ↦ inl before | inr behind ↦ inr (omega (arith, behind, wide)) ])
 
         -- inputs, and what is held, as the text has them
         inputs : (t : Terns) × AreByNumber text t step.offered

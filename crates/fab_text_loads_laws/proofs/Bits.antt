@@ -63,7 +63,8 @@ pub record BringsBits (mode : Mode) (text : List PlainModule) (flops : Point →
   pub inner : 0 < tile_bits tile → All (λ port. AreWithin text flops (config_path x y) port.name) (config_ports mode)
   pub kept : (number : ℕ) → number < tile_bits tile → AreWithin text flops (config_path x y) (latch_name number)
 
-module _ (fabric : PlainFabric) (mode : Mode) (is : text_mode fabric ≡ mode) (text : List PlainModule) (has : HasFabric fabric text) (flops : Point → Bool) where
+module _ (fabric : PlainFabric) (mode : Mode) (is : text_mode fabric ≡ mode) (text : List PlainModule) (has : HasFabric fabric text)
+    (flops : Point → Bool) where
   abbrev Are : Path → List ℕ → Type 0
   Are = AreWithin text flops
 
@@ -76,7 +77,8 @@ module _ (fabric : PlainFabric) (mode : Mode) (is : text_mode fabric ≡ mode) (
         is_input (tile_module mode tile).ports port ≡ true → Are [] name → Are (place_path x y) port
     tile_input_within port name among input within bit declared =
         variable_within text flops (point (place_path x y) port bit) [] name bit declared
-        (joined_to text [] (top_module fabric) has.top_is (tile_module mode tile) (tile_module_name tile) (place_name x y) (tile_joins fabric (placed_tile x y tile))
+        (joined_to text [] (top_module fabric) has.top_is (tile_module mode tile) (tile_module_name tile) (place_name x y)
+        (tile_joins fabric (placed_tile x y tile))
         (module_in fabric mode is text has x y tile there) (tile_instance_there fabric x y tile there) port (variable name) bit
         (carrying_joined fabric mode is (placed_tile x y tile) (port_join port (variable name)) among) input)
         within
@@ -86,11 +88,13 @@ module _ (fabric : PlainFabric) (mode : Mode) (is : text_mode fabric ≡ mode) (
       config_here = config_in fabric mode is text has x y tile there some
 
       -- and on to its configuration
-      pub config_input_within : (port : List ℕ) → Contains (config_joins mode) (port_join port (variable port)) → is_input (config_module mode tile).ports port ≡ true →
+      pub config_input_within : (port : List ℕ) → Contains (config_joins mode) (port_join port (variable port)) →
+          is_input (config_module mode tile).ports port ≡ true →
           Are (place_path x y) port → Are (config_path x y) port
       config_input_within port among input within bit declared =
           variable_within text flops (point (config_path x y) port bit) (place_path x y) port bit declared
-          (joined_to text (place_path x y) (tile_module mode tile) stands.tile_is (config_module mode tile) (config_module_name tile) config_instance_name (config_joins mode)
+          (joined_to text (place_path x y) (tile_module mode tile) stands.tile_is (config_module mode tile) (config_module_name tile) config_instance_name
+          (config_joins mode)
           (stands.config_is some) (config_there mode tile some) port (variable port) bit among input)
           within
 
@@ -106,7 +110,8 @@ module _ (fabric : PlainFabric) (mode : Mode) (is : text_mode fabric ≡ mode) (
           (assigned_by text path (config_module mode tile) (config_here some) config_name (all_latches (tile_bits tile)) bit (all_there mode tile))
           (parts_mention (Are path) (reverse kept)
           (all_reverse Mentioned kept
-          (all_counted Mentioned (tile_bits tile) (λ bit. variable (latch_name bit)) (λ number few. only_name text flops path (latch_name number) (brings.kept number few)))))
+          (all_counted Mentioned (tile_bits tile) (λ bit. variable (latch_name bit))
+          (λ number few. only_name text flops path (latch_name number) (brings.kept number few)))))
 
       config_ports_within : 0 < tile_bits tile → All (λ port. Are (config_path x y) port.name) (config_module mode tile).ports
       config_ports_within some =
@@ -125,19 +130,22 @@ module _ (fabric : PlainFabric) (mode : Mode) (is : text_mode fabric ≡ mode) (
       config_within : (name : List ℕ) → Are (config_path x y) name
       config_within name bit declared =
           let some : 0 < tile_bits tile = config_has_bits mode text (place_path x y) tile name bit stands.tile_is declared in
-          point_holds text (config_path x y) (config_module mode tile) (Are (config_path x y)) name bit (config_here some) (config_ports_within some) config_nets_within declared bit declared
+          point_holds text (config_path x y) (config_module mode tile) (Are (config_path x y)) name bit (config_here some)
+          (config_ports_within some) config_nets_within declared bit declared
 
       -- the wire of the configuration bits
       bits_within : Are (place_path x y) bits_name
       bits_within bit declared =
-          let below : bit < width_of (tile_module mode tile) bits_name = bit_below text (place_path x y) (tile_module mode tile) bits_name bit stands.tile_is declared in
+          let below : bit < width_of (tile_module mode tile) bits_name =
+          bit_below text (place_path x y) (tile_module mode tile) bits_name bit stands.tile_is declared in
           let some : 0 < tile_bits tile = wire_has_bits mode tile (omega (arith, below)) in
           let wide = bits_wide mode tile some in
           let inner_wide = all_width mode tile in
           let inner : is_declared text (point (config_path x y) config_name bit) ≡ true =
           declared_at text (config_path x y) (config_module mode tile) config_name bit (config_here some) (omega (arith, below, wide, inner_wide)) in
           copy_within text flops (point (place_path x y) bits_name bit) (point (config_path x y) config_name bit) declared
-          (joined_from text (place_path x y) (tile_module mode tile) stands.tile_is (config_module mode tile) (config_module_name tile) config_instance_name (config_joins mode)
+          (joined_from text (place_path x y) (tile_module mode tile) stands.tile_is (config_module mode tile) (config_module_name tile) config_instance_name
+          (config_joins mode)
           (stands.config_is some) (config_there mode tile some) config_name bits_name bit (bits_joined mode) (bits_output mode (tile_bits tile)))
           (config_within config_name bit inner)
 
@@ -166,4 +174,5 @@ module _ (fabric : PlainFabric) (mode : Mode) (is : text_mode fabric ≡ mode) (
         let among : Contains (tile_names mode) p.name = subst (λ (m : Mode). Contains (tile_names m) p.name) is listed in
         at_path p (place_path x y) at
         (All-contains (Are (place_path x y)) (tile_names mode) p.name (tile_within x y tile there (brings x y tile there)) among) declared
-    all_named_within p (in_configuration x y tile there at) declared = at_path p (config_path x y) at (config_within x y tile there (brings x y tile there) p.name) declared
+    all_named_within p (in_configuration x y tile there at) declared =
+        at_path p (config_path x y) at (config_within x y tile there (brings x y tile there) p.name) declared

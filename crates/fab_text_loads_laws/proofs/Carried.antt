@@ -55,7 +55,8 @@ module _ (fabric : PlainFabric) (text : List PlainModule) (is : IsFabric fabric)
   latches_in_configurations p path gate e bit drives =
       let item = latch_item text p path gate e bit drives in
       let loader = loader_is_named fabric text is is_text in
-      let latch = latch_of_tile fabric path item.here item.target item.gate item.e (part_at fabric text carried.tiles loader path item.here item.stands) item.there in
+      let latch =
+      latch_of_tile fabric path item.here item.target item.gate item.e (part_at fabric text carried.tiles loader path item.here item.stands) item.there in
       (latch.0, latch.1, latch.2, latch.3, ap (λ (q : Point). q.path) item.at ∙ latch.4)
 
   -- what holds the same is configured as well

@@ -44,19 +44,22 @@ pub end_in_tile : (tile : PlainTile) → tile_bits tile ≡ 0 → Contains (tile
 end_in_tile tile none =
     let rest = matrix_instances tile (matrix_output_names tile) ++ bel_instances tile.bels in
     let config = config_instances modes.Chain tile (tile_bits tile) in
-    Contains-append_right (map (wire Scalar) (matrix_names tile)) (bits_wire (tile_bits tile) ++ (flat_map row_assigns tile.rows ++ (config ++ rest))) (chain_end 0)
+    Contains-append_right (map (wire Scalar) (matrix_names tile)) (bits_wire (tile_bits tile) ++ (flat_map row_assigns tile.rows ++ (config ++ rest)))
+    (chain_end 0)
     (Contains-append_right (bits_wire (tile_bits tile)) (flat_map row_assigns tile.rows ++ (config ++ rest)) (chain_end 0)
     (Contains-append_right (flat_map row_assigns tile.rows) (config ++ rest) (chain_end 0)
     (Contains-append_left config rest (chain_end 0) (none_configured tile (tile_bits tile) none))))
 
 kept_there : (tile : PlainTile) (item : PlainItem) → Contains (keeping_items modes.Chain tile) item → Contains (config_items modes.Chain tile) item
 kept_there tile item there =
-    Contains-append_right (counted (tile_bits tile) (λ bit. reg Scalar (latch_name bit))) _ item (Contains-append_left (keeping_items modes.Chain tile) _ item there)
+    Contains-append_right (counted (tile_bits tile) (λ bit. reg Scalar (latch_name bit))) _ item
+    (Contains-append_left (keeping_items modes.Chain tile) _ item there)
 
 pub flop_there : (tile : PlainTile) (bit : ℕ) → bit < tile_bits tile → Contains (config_items modes.Chain tile) (bit_flop bit)
 flop_there tile bit few =
     kept_there tile (bit_flop bit)
-    (Contains-append_left (counted (tile_bits tile) bit_flop) (chain_end (tile_bits tile) ∷ []) (bit_flop bit) (contains_counted (tile_bits tile) bit_flop bit few))
+    (Contains-append_left (counted (tile_bits tile) bit_flop) (chain_end (tile_bits tile) ∷ []) (bit_flop bit)
+    (contains_counted (tile_bits tile) bit_flop bit few))
 
 -- and one with bits what its last bit is
 pub end_there : (tile : PlainTile) → Contains (config_items modes.Chain tile) (chain_end (tile_bits tile))
@@ -98,6 +101,7 @@ module _ (fabric : PlainFabric) (text : List PlainModule) (has : HasChain fabric
         (record { module_name = config_module_name tile; joins = config_joins modes.Chain }) clock_name
         (config_in fabric modes.Chain has.chain text has.tiles x y tile there some) refl
         (ap (λ m. instance_in m config_instance_name) stands.tile_is ∙ config_found modes.Chain tile some) refl
-        ∙ clock_below text [] (place_name x y) clock_name (tile_module modes.Chain tile) (found_tile fabric (placed_tile x y tile)) clock_name stands.tile_is refl
+        ∙ clock_below text [] (place_name x y) clock_name (tile_module modes.Chain tile)
+        (found_tile fabric (placed_tile x y tile)) clock_name stands.tile_is refl
         (ap (λ m. instance_in m (place_name x y)) has.tiles.top_is ∙ tile_instance_found fabric is x y tile there) clock_joined
         ∙ clock_at_top text (top_module fabric) clock_name has.tiles.top_is refl

@@ -1,5 +1,5 @@
 -- The bits of tiles as lists: what each moves on by a tick, what goes out behind it, and the whole chain.
-use Rattle.std.proofs.Common.{◌≡◌, ℕ, zero, suc, ◌+◌, ◌<◌, Bool, List, [], ◌∷◌, ◌++◌, length, map, refl, ap, ap₂, ◌∙◌, arith, All}
+use Rattle.std.proofs.Common.{◌≡◌, ℕ, zero, suc, ◌<◌, Bool, List, [], ◌∷◌, ◌++◌, length, map, refl, ap, ap₂, ◌∙◌, arith, All}
 use Rattle.std.specs.List.{flat_map}
 use Rattle.std.proofs.lemmas.List.{map-append}
 use Rattle.std.proofs.lemmas.List.Elements.{All-nil, All-cons, All-head, All-tail}
@@ -7,9 +7,9 @@ use Rattle.fab_drives_laws.specs.fab_model_Tiles.{counted, tile_bits}
 use Rattle.fab_drives_laws.specs.fab_model_Grid.{PlainFabric}
 use Rattle.fab_drives_laws.specs.fab_model_Drive.{PlainBits}
 use Rattle.fab_drives_laws.specs.fab_fabric_text_defs_Places.{PlacedTile, placed_tiles}
-use Rattle.fab_drives_laws.proofs.Lists.{all_of}
 use Rattle.fab_loading_laws.specs.Chain.{shifted, chain_out, chain_bits}
 use Rattle.fab_loading_laws.specs.fab_frames_Positions.{bit_in, bit_place, tile_chain}
+use Rattle.fab_drives_laws.proofs.Lists.{all_of}
 
 -- ---- counted bits
 

@@ -11,11 +11,11 @@ use Rattle.fab_drives_laws.specs.fab_model_Grid.{PlainFabric, tile_at}
 use Rattle.fab_drives_laws.specs.fab_fabric_text_defs_Chain.{chain_from}
 use Rattle.fab_drives_laws.specs.fab_fabric_text_defs_Names.{chain_wire_name}
 use Rattle.fab_drives_laws.specs.fab_fabric_text_defs_Places.{PlacedTile, placed_at, column_tiles, placed_tiles}
+use Rattle.fab_loading_laws.specs.Chain.{chain_out, IsHandedOn}
 use Rattle.fab_parts_sound_laws.proofs.Lists.{all_flat_map, pairs_none, pairs_head, pairs_tail, pairs_append, pairs_counted}
 use Rattle.fab_drives_laws.proofs.Chains.{first_reads}
 use Rattle.fab_drives_laws.proofs.Lists.{all_of, all_found}
 use Rattle.fab_drives_laws.proofs.Places.{placed_tile}
-use Rattle.fab_loading_laws.specs.Chain.{chain_out, IsHandedOn}
 
 -- ---- places
 
@@ -39,7 +39,8 @@ module _ (fabric : PlainFabric) where
   in_column : (x : ℕ) → All (λ p. p.x ≡ x) (column_tiles fabric x)
   in_column x =
       all_found (λ (p : PlacedTile). p.x ≡ x) (placed_at fabric x) (counted fabric.rows (λ y. y))
-      (all_of (λ (y : ℕ). (p : PlacedTile) → placed_at fabric x y ≡ Some p → p.x ≡ x) (counted fabric.rows (λ y. y)) (λ y p is. (stands_at (tile_at fabric x y) x y p is).0))
+      (all_of (λ (y : ℕ). (p : PlacedTile) → placed_at fabric x y ≡ Some p → p.x ≡ x) (counted fabric.rows (λ y. y))
+      (λ y p is. (stands_at (tile_at fabric x y) x y p is).0))
 
   rows_apart : (x : ℕ) (ys : List ℕ) → AllPairs IsBelow ys → AllPairs IsElsewhere (filter_map (placed_at fabric x) ys)
   rows_apart x [] below = pairs_none IsElsewhere
@@ -64,7 +65,8 @@ module _ (fabric : PlainFabric) where
       (λ p at. all_flat_map (IsElsewhere p) (column_tiles fabric) xs
       (All-weaker (IsBelow x) (λ (other : ℕ). All (IsElsewhere p) (column_tiles fabric other))
       (λ other before. All-weaker (λ (q : PlacedTile). q.x ≡ other) (IsElsewhere p)
-      (λ q at_other same_x same_y. omega (arith, before, at, at_other, same_x)) (column_tiles fabric other) (in_column other)) xs (pairs_head IsBelow x xs below)))
+      (λ q at_other same_x same_y. omega (arith, before, at, at_other, same_x)) (column_tiles fabric other) (in_column other)) xs
+      (pairs_head IsBelow x xs below)))
       (column_tiles fabric x) (in_column x))
 
   pub tiles_apart : AllPairs IsElsewhere (placed_tiles fabric)
@@ -97,7 +99,8 @@ module _ (shows : List ℕ → Bool) (held : PlacedTile → List Bool) where
       let Same : PlacedTile → Type 0 = λ p. other p ≡ comes p in
       (All-head Same p tiles same ∙ handed.0, handed_same comes other (chain_out offered (held p)) tiles (All-tail Same p tiles same) handed.1)
 
-  lets_out_same : (before own : List ℕ) (all more rest : List PlacedTile) → All (λ p. comes_along before all p ≡ comes_along own more p) rest → All (LetsOut before all) rest →
+  lets_out_same : (before own : List ℕ) (all more rest : List PlacedTile) → All (λ p. comes_along before all p ≡ comes_along own more p) rest →
+      All (LetsOut before all) rest →
       All (LetsOut own more) rest
   lets_out_same before own all more [] same out = All-nil (LetsOut own more)
   lets_out_same before own all more (p ∷ rest) same out =
@@ -113,9 +116,14 @@ module _ (shows : List ℕ → Bool) (held : PlacedTile → List Bool) where
       let own = chain_wire_name p.x p.y in
       let first : comes_along before (p ∷ more) p ≡ shows before = ap shows (first_reads before p more) in
       let same : All (λ q. comes_along before (p ∷ more) q ≡ comes_along own more q) more =
-      All-weaker (IsElsewhere p) (λ (q : PlacedTile). comes_along before (p ∷ more) q ≡ comes_along own more q) (λ q elsewhere. ap shows (past_first before p q more elsewhere)) more
+      All-weaker (IsElsewhere p) (λ (q : PlacedTile). comes_along before (p ∷ more) q ≡ comes_along own more q)
+      (λ q elsewhere. ap shows (past_first before p q more elsewhere)) more
       (pairs_head IsElsewhere p more apart) in
       let goes : shows own ≡ chain_out (shows before) (held p) = All-head (LetsOut before (p ∷ more)) p more out ∙ ap (λ bit. chain_out bit (held p)) first in
-      let later = handed_on own more (pairs_tail IsElsewhere p more apart) (lets_out_same before own (p ∷ more) more more same (All-tail (LetsOut before (p ∷ more)) p more out)) in
-      (first, handed_same (comes_along own more) (comes_along before (p ∷ more)) (chain_out (shows before) (held p)) more same
-      (subst (λ bit. IsHandedOn (comes_along own more) held bit more) goes later))
+      let later =
+      handed_on own more (pairs_tail IsElsewhere p more apart)
+      (lets_out_same before own (p ∷ more) more more same (All-tail (LetsOut before (p ∷ more)) p more out)) in (
+        first,
+        handed_same (comes_along own more) (comes_along before (p ∷ more)) (chain_out (shows before) (held p)) more same
+            (subst (λ bit. IsHandedOn (comes_along own more) held bit more) goes later),
+      )

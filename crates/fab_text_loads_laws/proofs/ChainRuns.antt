@@ -24,12 +24,12 @@ use Rattle.fab_drives_laws.specs.fab_fabric_text_defs_Chain.{chain_source}
 use Rattle.fab_drives_laws.specs.fab_fabric_text_defs_Mode.{text_mode}
 use Rattle.fab_drives_laws.specs.fab_fabric_text_defs_Places.{PlacedTile, placed_tiles}
 use Rattle.fab_drives_laws.specs.Points.{ShowsBits}
-use Rattle.fab_drives_laws.proofs.fab_tile_drives_laws_Driven.{declared_at}
-use Rattle.fab_drives_laws.proofs.fab_tile_drives_laws_Latches.{latch_width}
-use Rattle.fab_drives_laws.proofs.Places.{placed_tile, tile_is_placed, IsThere, all_placed}
 use Rattle.fab_loading_laws.specs.Chain.{shifted, after_bits, TilesAreOneChain, stream_bits, ChainLoads}
 use Rattle.fab_loading_laws.specs.Latches.{Turn, word, pause, other_clock, words_of}
 use Rattle.fab_loading_laws.specs.Streams.{stream_words}
+use Rattle.fab_drives_laws.proofs.fab_tile_drives_laws_Driven.{declared_at}
+use Rattle.fab_drives_laws.proofs.fab_tile_drives_laws_Latches.{latch_width}
+use Rattle.fab_drives_laws.proofs.Places.{placed_tile, tile_is_placed, IsThere, all_placed}
 use Rattle.fab_text_loads_laws.specs.Points.{config_path, in_configuration}
 use Rattle.fab_text_loads_laws.specs.Loads.{IsQuiet, WritesWord, IsTurn, Writes, LoaderRests, IsConfigured}
 use Rattle.fab_text_loads_laws.proofs.ChainLists.{behind, counted_same, counted_apart, shifted_counted, tile_values, all_values, flat_same, values_are, tiles_same}
@@ -69,7 +69,8 @@ module _ (fabric : PlainFabric) (text : List PlainModule) (has : HasChain fabric
 
   -- ---- a tick
 
-  module _ (inputs held now : Assignment) (settled : IsSettledOn Loading text inputs held now) (clock : List ℕ) (after : Assignment) (ticks : Ticks Loading text clock held now after) where
+  module _ (inputs held now : Assignment) (settled : IsSettledOn Loading text inputs held now) (clock : List ℕ) (after : Assignment)
+      (ticks : Ticks Loading text clock held now after) where
     -- what a tile gets from the wire before it
     abbrev comes : PlacedTile → Bool
     comes placed = now (point [] (chain_source fabric placed.x placed.y) 0)
@@ -87,21 +88,25 @@ module _ (fabric : PlainFabric) (text : List PlainModule) (has : HasChain fabric
         ∙ shifted_counted n (held_bits held x y) (comes placed)
 
     -- and so does the whole chain
-    chain_moves : TilesAreOneChain → bytes_eq clock_name clock ≡ true → inputs (point [] write_strobe_name 0) ≡ true → values after ≡ shifted (values held) (inputs (point [] write_data_name 0))
+    chain_moves : TilesAreOneChain → bytes_eq clock_name clock ≡ true → inputs (point [] write_strobe_name 0) ≡ true →
+        values after ≡ shifted (values held) (inputs (point [] write_data_name 0))
     chain_moves one_chain ticked writes =
         let all = placed_tiles fabric in
         let shows : List ℕ → Bool = λ name. now (point [] name 0) in
         let own = tile_values (held_bits held) in
         let Out = LetsOut shows own write_data_name all in
         let out : All Out all =
-        All-weaker (IsThere fabric) Out (λ placed there. lets_out fabric text has is inputs held now settled placed.x placed.y placed.tile there) all (all_placed fabric) in
+        All-weaker (IsThere fabric) Out (λ placed there. lets_out fabric text has is inputs held now settled placed.x placed.y placed.tile there) all
+        (all_placed fabric) in
         flat_same (tile_values (held_bits after)) (λ placed. shifted (own placed) (comes placed)) all
-        (All-weaker (IsThere fabric) (λ placed. tile_values (held_bits after) placed ≡ shifted (own placed) (comes placed)) (tile_moves ticked writes) all (all_placed fabric))
+        (All-weaker (IsThere fabric) (λ placed. tile_values (held_bits after) placed ≡ shifted (own placed) (comes placed)) (tile_moves ticked writes) all
+        (all_placed fabric))
         ∙ one_chain comes own (shows write_data_name) all (handed_on shows own write_data_name all (tiles_apart fabric) out)
         ∙ ap (shifted (values held)) (data_shows fabric text has is inputs held now settled)
 
     -- else nothing moves
-    bit_stays : (bytes_eq clock_name clock ≡ true → inputs (point [] write_strobe_name 0) ≡ false) → (x y : ℕ) (tile : PlainTile) (number : ℕ) → tile_at fabric x y ≡ Some tile →
+    bit_stays : (bytes_eq clock_name clock ≡ true → inputs (point [] write_strobe_name 0) ≡ false) → (x y : ℕ) (tile : PlainTile) (number : ℕ) →
+        tile_at fabric x y ≡ Some tile →
         number < tile_bits tile → after (latch_point x y number) ≡ held (latch_point x y number)
     bit_stays quiet x y tile number there few =
         let moved = behind (now (point [] (chain_source fabric x y) 0)) (held_bits held x y) number in
@@ -129,14 +134,16 @@ module _ (fabric : PlainFabric) (text : List PlainModule) (has : HasChain fabric
       flat_same (tile_values (held_bits after)) (tile_values (held_bits held)) (placed_tiles fabric)
       (All-weaker (IsThere fabric) (λ placed. tile_values (held_bits after) placed ≡ tile_values (held_bits held) placed)
       (λ placed there. counted_same (tile_bits placed.tile) (held_bits after placed.x placed.y) (held_bits held placed.x placed.y)
-      (λ number few. same (latch_point placed.x placed.y number) (bit_loads placed.x placed.y placed.tile number there few))) (placed_tiles fabric) (all_placed fabric))
+      (λ number few. same (latch_point placed.x placed.y number) (bit_loads placed.x placed.y placed.tile number there few))) (placed_tiles fabric)
+      (all_placed fabric))
 
   rests : (held : Assignment) → LoaderRests (text_mode fabric) held
   rests held = subst (λ (m : Mode). LoaderRests m held) (sym has.chain) tt
 
   module _ (one_chain : TilesAreOneChain) where
     -- bits that are written, one at a tick, move the chain on
-    bits_move : (turns : List Turn) (moments : List Moment) (bits : List Bool) (held after : Assignment) → words_of turns ≡ map single bits → AllZip IsTurn turns moments →
+    bits_move : (turns : List Turn) (moments : List Moment) (bits : List Bool) (held after : Assignment) → words_of turns ≡ map single bits →
+        AllZip IsTurn turns moments →
         IsRunOn Loading text moments held after → values after ≡ after_bits (values held) bits
     bits_move [] [] [] held after written are_turns run = same_values held after run
     bits_move [] [] (bit ∷ bits) held after written are_turns run = absurd cc
@@ -151,14 +158,16 @@ module _ (fabric : PlainFabric) (text : List PlainModule) (has : HasChain fabric
         let ticked : bytes_eq clock_name moment.clock ≡ true = ap (bytes_eq clock_name) clock ∙ same_name clock_name in
         bits_move turns moments bits between after others are_turns.1 rest
         ∙ ap (λ held. after_bits held bits)
-        (chain_moves moment.inputs held now settled moment.clock between ticks one_chain ticked writes.strobe ∙ ap (shifted (values held)) (writes.bits 0 (omega arith)))
+        (chain_moves moment.inputs held now settled moment.clock between ticks one_chain ticked writes.strobe
+        ∙ ap (shifted (values held)) (writes.bits 0 (omega arith)))
     bits_move (pause ∷ turns) (moment ∷ moments) bits held after written are_turns (now, between, settled, low, ticks, rest) =
         bits_move turns moments bits between after written are_turns.1 rest
         ∙ ap (λ held. after_bits held bits) (chain_stays moment.inputs held now settled moment.clock between ticks (λ ticked. are_turns.0.1))
     bits_move (other_clock ∷ turns) (moment ∷ moments) bits held after written are_turns (now, between, settled, low, ticks, rest) =
         bits_move turns moments bits between after written are_turns.1 rest
         ∙ ap (λ held. after_bits held bits)
-        (chain_stays moment.inputs held now settled moment.clock between ticks (λ ticked. absurd (are_turns.0 (sym ((bytes_eq-Decides clock_name moment.clock).0 ticked)))))
+        (chain_stays moment.inputs held now settled moment.clock between ticks
+        (λ ticked. absurd (are_turns.0 (sym ((bytes_eq-Decides clock_name moment.clock).0 ticked)))))
 
     -- so the words of a bitstream leave its bits,
     pub chain_configures : ChainLoads → (bits : PlainBits) (moments : List Moment) (held after : Assignment) → Writes text (stream_words fabric bits) moments →
@@ -174,19 +183,23 @@ module _ (fabric : PlainFabric) (text : List PlainModule) (has : HasChain fabric
           rests = rests after;
           bits_held = λ x y tile there number few.
               counted_apart (tile_bits tile) (held_bits after x y) (bits x y)
-              (All-contains (λ (placed : PlacedTile). tile_values (held_bits after) placed ≡ tile_values bits placed) (placed_tiles fabric) (placed_tile x y tile) each
+              (All-contains (λ (placed : PlacedTile). tile_values (held_bits after) placed ≡ tile_values bits placed) (placed_tiles fabric)
+              (placed_tile x y tile) each
               (tile_is_placed fabric x y tile there)) number few;
         }
 
   -- which goes with what the loading points hold,
-  pub chain_goes : (bits : PlainBits) (held after : Assignment) → IsConfigured fabric bits held → ((p : Point) → Loading p → after p ≡ held p) → IsConfigured fabric bits after
+  pub chain_goes : (bits : PlainBits) (held after : Assignment) → IsConfigured fabric bits held → ((p : Point) → Loading p → after p ≡ held p) →
+      IsConfigured fabric bits after
   chain_goes bits held after configured same = record {
     rests = rests after;
-    bits_held = λ x y tile there number few. same (latch_point x y number) (bit_loads x y tile number there few) ∙ configured.bits_held x y tile there number few;
+    bits_held =
+        λ x y tile there number few. same (latch_point x y number) (bit_loads x y tile number there few) ∙ configured.bits_held x y tile there number few;
   }
 
   -- is shown,
-  pub chain_shows : (bits : PlainBits) (inputs held now : Assignment) → IsConfigured fabric bits held → IsSettledOn Loading text inputs held now → ShowsBits fabric bits now
+  pub chain_shows : (bits : PlainBits) (inputs held now : Assignment) → IsConfigured fabric bits held → IsSettledOn Loading text inputs held now →
+      ShowsBits fabric bits now
   chain_shows bits inputs held now configured settled x y tile there number few =
       tile_bit_shows fabric text has is inputs held now settled x y tile there number few ∙ configured.bits_held x y tile there number few
 
@@ -196,13 +209,16 @@ module _ (fabric : PlainFabric) (text : List PlainModule) (has : HasChain fabric
 
   module _ (moment : Moment) (held now after : Assignment) (quiet : IsQuiet moment) (settled : IsSettledOn Loading text moment.inputs held now)
       (ticks : Ticks Loading text moment.clock held now after) where
-    flop_keeps : moment.clock ≡ clock_name → (path : List (List ℕ)) (target : List ℕ) (bit : ℕ) → IsOfClock fabric path target → is_declared text (point path target bit) ≡ true →
+    flop_keeps : moment.clock ≡ clock_name → (path : List (List ℕ)) (target : List ℕ) (bit : ℕ) → IsOfClock fabric path target →
+        is_declared text (point path target bit) ≡ true →
         after (point path target bit) ≡ held (point path target bit)
     flop_keeps clock path target bit (of_loader frames at listed) declared = absurd (not_both (text_mode fabric) frames has.chain)
     flop_keeps clock path target bit (of_bit x y tile number chain there few at named) declared =
         let here = config_in fabric modes.Chain has.chain text has.tiles x y tile there (omega (arith, few)) in
         let moved : point path target bit ≡ point (config_path x y) (latch_name number) bit = (λ j. point (at j) (named j) bit) in
-        let below = bit_below text (config_path x y) (config_module modes.Chain tile) (latch_name number) bit here (subst (λ q. is_declared text q ≡ true) moved declared) in
+        let below =
+        bit_below text (config_path x y) (config_module modes.Chain tile) (latch_name number) bit here
+        (subst (λ q. is_declared text q ≡ true) moved declared) in
         let wide = latch_width modes.Chain tile number few in
         let first : bit ≡ 0 = omega (arith, below, wide) in
         let same : point path target bit ≡ latch_point x y number = moved ∙ ap (λ bit. point (config_path x y) (latch_name number) bit) first in
@@ -219,4 +235,6 @@ module _ (fabric : PlainFabric) (text : List PlainModule) (has : HasChain fabric
 
   pub chain_rests : (bits : PlainBits) (moments : List Moment) (held after : Assignment) → IsConfigured fabric bits held → All IsQuiet moments →
       IsRunOn Loading text moments held after → (p : Point) → Loading p → after p ≡ held p
-  chain_rests bits = run_stays text (IsConfigured fabric bits) (chain_goes bits) (λ moment held now after configured quiet settled ticks. one_stays moment held now after quiet settled ticks)
+  chain_rests bits =
+      run_stays text (IsConfigured fabric bits) (chain_goes bits)
+      (λ moment held now after configured quiet settled ticks. one_stays moment held now after quiet settled ticks)

@@ -75,7 +75,8 @@ module _ (fabric : PlainFabric) where
       let names = counted (tile_bits tile) latch_name in
       let at : same_path (config_path x y) (config_path x y) ≡ true = same_path_refl (config_path x y) in
       let listed : list_any (bytes_eq (latch_name number)) names ≡ true =
-      any_there (bytes_eq (latch_name number)) names (latch_name number) (contains_counted (tile_bits tile) latch_name number few) (same_name (latch_name number)) in
+      any_there (bytes_eq (latch_name number)) names (latch_name number) (contains_counted (tile_bits tile) latch_name number few)
+      (same_name (latch_name number)) in
       let both : is_bit_of p (placed_tile x y tile) ≡ true = rw (at, listed) refl in
       any_there (is_bit_of p) (placed_tiles fabric) (placed_tile x y tile) (tile_is_placed fabric x y tile there) both
 
@@ -96,7 +97,8 @@ module _ (fabric : PlainFabric) where
       let names = counted (tile_bits placed.0.tile) latch_name in
       let parts = and_parts (same_path p.path (config_path placed.0.x placed.0.y)) (list_any (bytes_eq p.name) names) placed.2 in
       let IsBitName : List ℕ → Type 0 = λ name. (number : ℕ) × (number < tile_bits placed.0.tile) × (name ≡ latch_name number) in
-      let name = found_any IsBitName (bytes_eq p.name) names (all_counted IsBitName (tile_bits placed.0.tile) latch_name (λ number few. (number, few, refl))) parts.1 in
+      let name =
+      found_any IsBitName (bytes_eq p.name) names (all_counted IsBitName (tile_bits placed.0.tile) latch_name (λ number few. (number, few, refl))) parts.1 in
       let at : p.path ≡ config_path placed.0.x placed.0.y = (pointwise_decides bytes_eq-Decides p.path (config_path placed.0.x placed.0.y)).0 parts.0 in
       let named : p.name ≡ latch_name name.1.0 = (bytes_eq-Decides p.name name.0).0 name.2 ∙ name.1.2 in
       record {
@@ -137,7 +139,8 @@ module _ (fabric : PlainFabric) (text : List PlainModule) (has : HasChain fabric
         let last = last_before (tile_bits tile) some in
         let count = last.1 in
         variable_within text led (point (config_path x y) chain_out_name bit) (config_path x y) (before_bit (tile_bits tile)) bit declared
-        (assigned_by text (config_path x y) (config_module modes.Chain tile) (config_here some) chain_out_name (variable (before_bit (tile_bits tile))) bit (end_there tile))
+        (assigned_by text (config_path x y) (config_module modes.Chain tile) (config_here some) chain_out_name (variable (before_bit (tile_bits tile))) bit
+        (end_there tile))
         (subst (Are (config_path x y)) (sym last.2) (flop_within last.0 (omega (arith, count))))
 
     tile_out_within : Are (place_path x y) chain_in_name → Are (place_path x y) chain_out_name
@@ -147,13 +150,16 @@ module _ (fabric : PlainFabric) (text : List PlainModule) (has : HasChain fabric
           | inl some ↦ (
               let below : bit < 1 = bit_below text (place_path x y) (tile_module modes.Chain tile) chain_out_name bit stands.tile_is declared in
               copy_within text led p (point (config_path x y) chain_out_name bit) declared
-              (joined_from text (place_path x y) (tile_module modes.Chain tile) stands.tile_is (config_module modes.Chain tile) (config_module_name tile) config_instance_name
-              (config_joins modes.Chain) (stands.config_is some) (config_there modes.Chain tile some) chain_out_name chain_out_name bit (3, omega arith, refl) refl)
+              (joined_from text (place_path x y) (tile_module modes.Chain tile) stands.tile_is (config_module modes.Chain tile)
+              (config_module_name tile) config_instance_name
+              (config_joins modes.Chain) (stands.config_is some) (config_there modes.Chain tile some) chain_out_name chain_out_name bit
+              (3, omega arith, refl) refl)
               (config_out_within some bit (declared_at text (config_path x y) (config_module modes.Chain tile) chain_out_name bit (config_here some) below)))
           | inr none ↦ (
               let no_bits : tile_bits tile ≡ 0 = omega (arith, none) in
               variable_within text led p (place_path x y) chain_in_name bit declared
-              (assigned_by text (place_path x y) (tile_module modes.Chain tile) stands.tile_is chain_out_name (variable chain_in_name) bit (end_in_tile tile no_bits))
+              (assigned_by text (place_path x y) (tile_module modes.Chain tile) stands.tile_is chain_out_name (variable chain_in_name) bit
+              (end_in_tile tile no_bits))
               comes)
         ]
 
@@ -165,10 +171,12 @@ module _ (fabric : PlainFabric) (text : List PlainModule) (has : HasChain fabric
         let below = bit_below text [] top wire bit has.tiles.top_is declared in
         let outer : bit < 1 = omega (arith, below, wide) in
         copy_within text led (point [] wire bit) (point (place_path x y) chain_out_name bit) declared
-        (joined_from text [] top has.tiles.top_is (tile_module modes.Chain tile) (tile_module_name tile) (place_name x y) (tile_joins fabric (placed_tile x y tile))
+        (joined_from text [] top has.tiles.top_is (tile_module modes.Chain tile) (tile_module_name tile) (place_name x y)
+        (tile_joins fabric (placed_tile x y tile))
         (module_in fabric modes.Chain has.chain text has.tiles x y tile there) (tile_instance_there fabric x y tile there) chain_out_name wire bit
         (carrying_joined fabric modes.Chain has.chain (placed_tile x y tile) (port_join chain_out_name (variable wire)) (3, omega arith, refl)) refl)
-        (tile_out_within (tile_input_within fabric modes.Chain has.chain text has.tiles led x y tile there chain_in_name (chain_source fabric x y) (2, omega arith, refl) refl comes) bit
+        (tile_out_within (tile_input_within fabric modes.Chain has.chain text has.tiles led x y tile there chain_in_name (chain_source fabric x y)
+        (2, omega arith, refl) refl comes) bit
         (declared_at text (place_path x y) (tile_module modes.Chain tile) chain_out_name bit stands.tile_is outer))
 
   -- so all wires of the chain are within
@@ -194,7 +202,8 @@ module _ (fabric : PlainFabric) (text : List PlainModule) (has : HasChain fabric
   module _ (x y : ℕ) (tile : PlainTile) (there : tile_at fabric x y ≡ Some tile) where
     outer_clock : Are (place_path x y) clock_name
     outer_clock =
-        tile_input_within fabric modes.Chain has.chain text has.tiles led x y tile there clock_name clock_name (0, omega arith, refl) refl (clock_within text led fabric has.tiles)
+        tile_input_within fabric modes.Chain has.chain text has.tiles led x y tile there clock_name clock_name (0, omega arith, refl) refl
+        (clock_within text led fabric has.tiles)
 
     outer_strobe : Are (place_path x y) write_strobe_name
     outer_strobe =
@@ -207,7 +216,8 @@ module _ (fabric : PlainFabric) (text : List PlainModule) (has : HasChain fabric
         (along x y tile there).0
 
     inner_strobe : 0 < tile_bits tile → Are (config_path x y) write_strobe_name
-    inner_strobe some = config_input_within fabric modes.Chain has.chain text has.tiles led x y tile there some write_strobe_name (1, omega arith, refl) refl outer_strobe
+    inner_strobe some =
+        config_input_within fabric modes.Chain has.chain text has.tiles led x y tile there some write_strobe_name (1, omega arith, refl) refl outer_strobe
 
     inner_in : 0 < tile_bits tile → Are (config_path x y) chain_in_name
     inner_in some = config_input_within fabric modes.Chain has.chain text has.tiles led x y tile there some chain_in_name (2, omega arith, refl) refl outer_in
@@ -218,7 +228,8 @@ module _ (fabric : PlainFabric) (text : List PlainModule) (has : HasChain fabric
           each_all (λ (port : Port). Are (place_path x y) port.name) (config_ports modes.Chain)
           (outer_clock, (outer_strobe, (outer_in, (tile_out_within x y tile there outer_in, tt))));
       inner = λ some.
-          let clock = config_input_within fabric modes.Chain has.chain text has.tiles led x y tile there some clock_name (0, omega arith, refl) refl outer_clock in
+          let clock =
+          config_input_within fabric modes.Chain has.chain text has.tiles led x y tile there some clock_name (0, omega arith, refl) refl outer_clock in
           each_all (λ (port : Port). Are (config_path x y) port.name) (config_ports modes.Chain)
           (clock, (inner_strobe some, (inner_in some, (config_out_within x y tile there some, tt))));
       kept = flop_within x y tile there;
@@ -231,7 +242,8 @@ module _ (fabric : PlainFabric) (text : List PlainModule) (has : HasChain fabric
 
     -- a flip-flop reads WriteStrobe, what stands before it, and itself
     next_within : (number : ℕ) → number < tile_bits tile → (name : List ℕ) →
-        mentions (conditional (variable write_strobe_name) (variable (before_bit number)) (variable (latch_name number))) name ≡ true → Are (config_path x y) name
+        mentions (conditional (variable write_strobe_name) (variable (before_bit number)) (variable (latch_name number))) name ≡ true →
+        Are (config_path x y) name
     next_within number few name mentioned =
         let path = config_path x y in
         elim (or_cases (bytes_eq write_strobe_name name) (bytes_eq (before_bit number) name || bytes_eq (latch_name number) name) mentioned) [
@@ -259,7 +271,8 @@ module _ (fabric : PlainFabric) (text : List PlainModule) (has : HasChain fabric
         bit = p.bit;
         drives =
             subst (λ q. Drives text q (flop path clock_name next p.bit)) (sym found.is)
-            (clocked_by text path (config_module modes.Chain found.tile) (config_here found.x found.y found.tile found.there some) clock_name (latch_name number) next p.bit
+            (clocked_by text path (config_module modes.Chain found.tile) (config_here found.x found.y found.tile found.there some) clock_name
+            (latch_name number) next p.bit
             (flop_there found.tile number few));
         clocked = config_clock fabric text has is found.x found.y found.tile found.there some;
         inside = read_within text led path next (next_within found.x found.y found.tile found.there number few);

@@ -18,17 +18,17 @@ use Rattle.fab_drives_laws.specs.fab_gen_tile_MatrixModule.{matrix_module}
 use Rattle.fab_drives_laws.specs.fab_gen_loader_Loader.{loader_of}
 use Rattle.fab_drives_laws.specs.fab_fabric_text_defs_Top.{top_module}
 use Rattle.fab_drives_laws.specs.Points.{place_path}
+use Rattle.fab_drives_laws.specs.fab_gen_tile_ConfigModule.{config_module}
+use Rattle.fab_drives_laws.specs.fab_gen_tile_TileModule.{tile_module}
+use Rattle.fab_drives_laws.specs.fab_prim_Modules.{module_of_kind}
+use Rattle.fab_drives_laws.specs.fab_gen_tile_Names.{latch_name}
+use Rattle.fab_drives_laws.specs.fab_fabric_text_defs_Mode.{text_mode}
 use Rattle.fab_drives_laws.proofs.Apart.{told_apart}
 use Rattle.fab_drives_laws.proofs.Instances.{found_tile, tile_instance_found}
 use Rattle.fab_drives_laws.proofs.Places.{placed_tile}
 use Rattle.fab_drives_laws.proofs.Texts.{HasFabric}
 use Rattle.fab_text_loads_laws.specs.Points.{loader_path, config_path}
 use Rattle.fab_text_loads_laws.proofs.Loader.{register_names}
-use Rattle.fab_drives_laws.specs.fab_gen_tile_ConfigModule.{config_module}
-use Rattle.fab_drives_laws.specs.fab_gen_tile_TileModule.{tile_module}
-use Rattle.fab_drives_laws.specs.fab_prim_Modules.{module_of_kind}
-use Rattle.fab_drives_laws.specs.fab_gen_tile_Names.{latch_name}
-use Rattle.fab_drives_laws.specs.fab_fabric_text_defs_Mode.{text_mode}
 use Rattle.fab_text_loads_laws.proofs.Parts.{flop_is, NoInstance, NoLatch, NoFlop, ByUserClock, IsTopPart, top_is, IsRegister, loader_is, IsLatchOf, config_is, matrix_is, kind_is, KeepsClock, IsTilePart, tile_is, IsPart, the_top, the_loader, a_tile, a_config, a_matrix, a_bel, IsFlopOf}
 
 -- ---- UserCLK stays UserCLK on the way up
@@ -69,7 +69,8 @@ clock_above text path i found c at leads is =
 -- what has CLK as its clock: a register of a loader, or what keeps a bit in a chain
 pub data IsOfClock (fabric : PlainFabric) (path : Path) (target : List ℕ) : Type 0 where
   of_loader : text_mode fabric ≡ modes.Frames → path ≡ loader_path → Contains (register_names fabric.rows) target → IsOfClock fabric path target
-  of_bit : (x y : ℕ) (tile : PlainTile) (number : ℕ) → text_mode fabric ≡ modes.Chain → tile_at fabric x y ≡ Some tile → number < tile_bits tile → path ≡ config_path x y →
+  of_bit : (x y : ℕ) (tile : PlainTile) (number : ℕ) → text_mode fabric ≡ modes.Chain → tile_at fabric x y ≡ Some tile → number < tile_bits tile →
+      path ≡ config_path x y →
       target ≡ latch_name number → IsOfClock fabric path target
 
 module _ (fabric : PlainFabric) (text : List PlainModule) (has : HasFabric fabric text) (is_fabric : IsFabric fabric) where
@@ -84,12 +85,14 @@ module _ (fabric : PlainFabric) (text : List PlainModule) (has : HasFabric fabri
       let of_top : clock_of text [] user_clock_name ≡ Some c = clock_above text [] (place_name x y) (found_tile fabric (placed_tile x y tile)) c here first of_tile in
       let both : Some user_clock_name ≡ Some c = sym (clock_at_top text (top_module fabric) user_clock_name has.top_is refl) ∙ of_top in cc
 
-  pub flop_of_clock : (path : Path) (m : PlainModule) (clock target : List ℕ) (e : PlainExpr) → IsPart fabric path m → Contains m.items (clocked clock target e) →
+  pub flop_of_clock : (path : Path) (m : PlainModule) (clock target : List ℕ) (e : PlainExpr) → IsPart fabric path m →
+      Contains m.items (clocked clock target e) →
       clock_of text path clock ≡ Some clock_name → IsOfClock fabric path target
   flop_of_clock path m clock target e (the_top at is) there clocks =
       absurd (flop_is (IsTopPart fabric) NoLatch NoFlop m (top_module fabric) (top_is fabric) is clock target e there)
   flop_of_clock path m clock target e (the_loader next frames at is) there clocks =
-      of_loader frames at (flop_is NoInstance NoLatch (IsRegister fabric.rows) m (loader_of fabric.rows next) (loader_is fabric.rows next) is clock target e there)
+      of_loader frames at (flop_is NoInstance NoLatch (IsRegister fabric.rows) m (loader_of fabric.rows next)
+      (loader_is fabric.rows next) is clock target e there)
   flop_of_clock path m clock target e (a_tile x y tile stands at is) there clocks =
       let mode = text_mode fabric in
       absurd (flop_is (IsTilePart tile) NoLatch NoFlop m (tile_module mode tile) (tile_is mode tile) is clock target e there)

@@ -13,7 +13,8 @@ module _ (text : List PlainModule) (path : Path) (m : PlainModule) (stands : mod
   latched_by name gate e bit there =
       inr (record { path = path; module_here = m; item = latch name gate e; stands = stands; holds = there; drives = (refl, refl) })
 
-  pub clocked_by : (clock name : List ℕ) (next : PlainExpr) (bit : ℕ) → Contains m.items (clocked clock name next) → Drives text (point path name bit) (flop path clock next bit)
+  pub clocked_by : (clock name : List ℕ) (next : PlainExpr) (bit : ℕ) → Contains m.items (clocked clock name next) →
+      Drives text (point path name bit) (flop path clock next bit)
   clocked_by clock name next bit there =
       inr (record { path = path; module_here = m; item = clocked clock name next; stands = stands; holds = there; drives = (refl, refl) })
 

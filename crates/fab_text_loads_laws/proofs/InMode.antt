@@ -14,11 +14,11 @@ use Rattle.fab_drives_laws.specs.fab_gen_tile_Names.{tile_module_name, config_in
 use Rattle.fab_drives_laws.specs.fab_gen_tile_ConfigModule.{config_module}
 use Rattle.fab_drives_laws.specs.fab_gen_tile_TileModule.{tile_module}
 use Rattle.fab_drives_laws.specs.fab_fabric_text_defs_Mode.{text_mode}
-use Rattle.fab_loading_laws.specs.fab_frames_Stream.{stream_mode}
 use Rattle.fab_drives_laws.specs.fab_fabric_text_defs_Places.{PlacedTile, placed_tiles}
 use Rattle.fab_drives_laws.specs.fab_fabric_text_defs_Top.{carrying_items, tile_begin_wires, config_joins, row_joins, pad_joins, tile_joins, tile_instance, top_items}
 use Rattle.fab_drives_laws.specs.fab_tile_drives_laws_Stands.{TileStands}
 use Rattle.fab_drives_laws.specs.Points.{place_path}
+use Rattle.fab_loading_laws.specs.fab_frames_Stream.{stream_mode}
 use Rattle.fab_drives_laws.proofs.fab_tile_drives_laws_BitValues.{inside}
 use Rattle.fab_drives_laws.proofs.fab_tile_drives_laws_Members.{contains_later}
 use Rattle.fab_drives_laws.proofs.fab_tile_drives_laws_TileItems.{config_found}
@@ -39,13 +39,15 @@ module _ (fabric : PlainFabric) (mode : Mode) (is : text_mode fabric ≡ mode) w
   -- what carries the bits stands in the top
   pub carrying_there : (item : PlainItem) → Contains (carrying_items mode fabric) item → Contains (top_items fabric) item
   carrying_there item there =
-      Contains-append_left (carrying_items (text_mode fabric) fabric) (flat_map tile_begin_wires (placed_tiles fabric) ++ map (tile_instance fabric) (placed_tiles fabric)) item
+      Contains-append_left (carrying_items (text_mode fabric) fabric)
+      (flat_map tile_begin_wires (placed_tiles fabric) ++ map (tile_instance fabric) (placed_tiles fabric)) item
       (subst (λ (m : Mode). Contains (carrying_items m fabric) item) (sym is) there)
 
   -- by which its bits come to a tile is joined there
   pub carrying_joined : (placed : PlacedTile) (join : PlainJoin) → Contains (config_joins mode fabric placed) join → Contains (tile_joins fabric placed) join
   carrying_joined placed join among =
-      let others = flat_map (row_joins fabric placed) (enumerate_from 0 placed.tile.rows) ++ flat_map (pad_joins placed.x placed.y) (enumerate_from 0 placed.tile.bels) in
+      let others =
+      flat_map (row_joins fabric placed) (enumerate_from 0 placed.tile.rows) ++ flat_map (pad_joins placed.x placed.y) (enumerate_from 0 placed.tile.bels) in
       contains_later (same_join user_clock_name) (config_joins (text_mode fabric) fabric placed ++ others) join
       (Contains-append_left (config_joins (text_mode fabric) fabric placed) others join
       (subst (λ (m : Mode). Contains (config_joins m fabric placed) join) (sym is) among))
@@ -60,4 +62,5 @@ module _ (fabric : PlainFabric) (mode : Mode) (is : text_mode fabric ≡ mode) w
     -- the configuration of a tile with bits
     pub config_in : 0 < tile_bits tile → module_at text (config_path x y) ≡ Some (config_module mode tile)
     config_in some =
-        inside mode text (place_path x y) tile config_instance_name _ (config_module mode tile) stands_in.tile_is (config_found mode tile some) (stands_in.config_is some)
+        inside mode text (place_path x y) tile config_instance_name _ (config_module mode tile) stands_in.tile_is (config_found mode tile some)
+        (stands_in.config_is some)

@@ -59,9 +59,11 @@ pub loader_there : (fabric : PlainFabric) → text_mode fabric ≡ modes.Frames 
 loader_there fabric frames =
     let behind = counted fabric.columns (λ x. wire (Vector 20) (column_strobe_name x)) ++ counted fabric.columns column_strobes in
     carrying_there fabric modes.Frames frames (loader_instance fabric.rows)
-    (Contains-append_right (loader_wires fabric.rows) (loader_instance fabric.rows ∷ behind) (loader_instance fabric.rows) (contains_first (loader_instance fabric.rows) behind))
+    (Contains-append_right (loader_wires fabric.rows) (loader_instance fabric.rows ∷ behind) (loader_instance fabric.rows)
+    (contains_first (loader_instance fabric.rows) behind))
 
-pub loader_found : (fabric : PlainFabric) → text_mode fabric ≡ modes.Frames → instance_named (top_items fabric) loader_instance_name ≡ Some (found_loader fabric)
+pub loader_found : (fabric : PlainFabric) → text_mode fabric ≡ modes.Frames →
+    instance_named (top_items fabric) loader_instance_name ≡ Some (found_loader fabric)
 loader_found fabric frames =
     instance_found (top_items fabric) loader_instance_name (found_loader fabric) (loader_there fabric frames)
     (all_of_top fabric (Agrees loader_instance_name (found_loader fabric)) (λ name. tt) (λ name. tt) (λ name. tt) (λ x. tt)
@@ -94,7 +96,8 @@ loader_named fabric loader is =
     (All-weaker (Only loader.name loader) (λ (other : PlainModule). bytes_eq other.name loader.name ≡ true → other ≡ loader)
     (λ other alone same. alone ((bytes_eq-Decides other.name loader.name).0 same)) (fabric_text fabric (loader ∷ [])) (loader_alone fabric loader is))
 
-text_has_loader : (fabric : PlainFabric) (next : NextValues) → IsFabric fabric → text_mode fabric ≡ modes.Frames → StepsAsTheMachine fabric.rows (loader_of fabric.rows next) →
+text_has_loader : (fabric : PlainFabric) (next : NextValues) → IsFabric fabric → text_mode fabric ≡ modes.Frames →
+    StepsAsTheMachine fabric.rows (loader_of fabric.rows next) →
     HasLoader fabric next (fabric_text fabric (loader_of fabric.rows next ∷ []))
 text_has_loader fabric next is frames steps =
     let loader = loader_of fabric.rows next in
@@ -122,7 +125,8 @@ pub data Carrier (fabric : PlainFabric) (text : List PlainModule) : Type 0 where
   by_frames : (next : NextValues) → HasLoader fabric next text → Carrier fabric text
   by_chain : HasChain fabric text → Carrier fabric text
 
-carrier_of : (fabric : PlainFabric) → IsFabric fabric → {mode : Mode} → text_mode fabric ≡ mode → {loaders : List PlainModule} → AreLoaders fabric.rows mode loaders →
+carrier_of : (fabric : PlainFabric) → IsFabric fabric → {mode : Mode} → text_mode fabric ≡ mode → {loaders : List PlainModule} →
+    AreLoaders fabric.rows mode loaders →
     Carrier fabric (fabric_text fabric loaders)
 carrier_of fabric is frames (one {loader} is_loader small) =
     let next = is_loader.next in

@@ -11,6 +11,7 @@ use Rattle.fab_meaning.specs.Points.{Path, Point, point, hold, module_at}
 use Rattle.fab_meaning.specs.Reads.{is_declared, expression_reads}
 use Rattle.fab_meaning.specs.Loading.{Within, by_reads, write_strobe_name, write_data_name}
 use Rattle.fab_meaning.proofs.Modules.{each_all}
+use Rattle.fab_meaning.specs.Runs.{clock_name}
 use Rattle.fab_drives_laws.specs.fab_model_mode_Mode_TheVariants as modes
 use Rattle.fab_drives_laws.specs.fab_model_Tiles.{PlainTile, counted, tile_bits}
 use Rattle.fab_drives_laws.specs.fab_model_Grid.{PlainFabric, tile_at}
@@ -18,13 +19,12 @@ use Rattle.fab_drives_laws.specs.fab_gen_tile_Names.{frame_data_name, frame_stro
 use Rattle.fab_drives_laws.specs.fab_gen_tile_ConfigModule.{bit_latch, config_items, config_module, config_ports}
 use Rattle.fab_drives_laws.specs.fab_gen_loader_Loader.{NextValues, loader_of, loader_module_name, address_port, strobe_port, row_port}
 use Rattle.fab_drives_laws.specs.fab_fabric_text_defs_Names.{loader_instance_name, column_strobe_name}
-use Rattle.fab_meaning.specs.Runs.{clock_name}
 use Rattle.fab_drives_laws.specs.fab_fabric_text_defs_Top.{loader_wires, loader_joins, loader_instance, column_strobes, top_items, top_module}
+use Rattle.fab_drives_laws.specs.Points.{place_path}
+use Rattle.fab_drives_laws.specs.fab_fabric_text_defs_Mode.{text_mode}
 use Rattle.fab_drives_laws.proofs.fab_tile_drives_laws_Driven.{width_of, declared_at}
 use Rattle.fab_drives_laws.proofs.fab_tile_drives_laws_Endings.{all_counted}
 use Rattle.fab_drives_laws.proofs.fab_tile_drives_laws_Members.{contains_later, contains_counted}
-use Rattle.fab_drives_laws.specs.Points.{place_path}
-use Rattle.fab_drives_laws.specs.fab_fabric_text_defs_Mode.{text_mode}
 use Rattle.fab_drives_laws.proofs.Places.{in_grid}
 use Rattle.fab_text_loads_laws.specs.Points.{loader_path, config_path, top_names, IsLoadingPoint}
 use Rattle.fab_text_loads_laws.specs.Loads.{NamedAreLoading}
@@ -90,7 +90,9 @@ module _ (fabric : PlainFabric) (next : NextValues) (text : List PlainModule) (h
   loader_strobe_within = from_loader strobe_port 1 (4, omega arith, refl) refl (strobe_width fabric has.frames) refl
 
   row_within : (y : ℕ) → y < fabric.rows → Are [] (row_port y)
-  row_within y few = from_loader (row_port y) 32 (row_joined fabric.rows y few) (row_is_output fabric.rows next y) (row_width fabric has.frames y few) (row_port_width fabric.rows next y few)
+  row_within y few =
+      from_loader (row_port y) 32 (row_joined fabric.rows y few) (row_is_output fabric.rows next y) (row_width fabric has.frames y few)
+      (row_port_width fabric.rows next y few)
 
   column_within : (x : ℕ) → x < fabric.columns → Are [] (column_strobe_name x)
   column_within x few bit declared =
@@ -148,10 +150,12 @@ module _ (fabric : PlainFabric) (next : NextValues) (text : List PlainModule) (h
       config_stands = config_in fabric modes.Frames has.frames text has.tiles x y tile there some
 
       config_data : Are (config_path x y) frame_data_name
-      config_data = config_input_within fabric modes.Frames has.frames text has.tiles F x y tile there some frame_data_name (0, omega arith, refl) refl data_here
+      config_data =
+          config_input_within fabric modes.Frames has.frames text has.tiles F x y tile there some frame_data_name (0, omega arith, refl) refl data_here
 
       config_strobe : Are (config_path x y) frame_strobe_name
-      config_strobe = config_input_within fabric modes.Frames has.frames text has.tiles F x y tile there some frame_strobe_name (1, omega arith, refl) refl strobe_here
+      config_strobe =
+          config_input_within fabric modes.Frames has.frames text has.tiles F x y tile there some frame_strobe_name (1, omega arith, refl) refl strobe_here
 
       latch_within : (number : ℕ) → number < tile_bits tile → Are (config_path x y) (latch_name number)
       latch_within number few bit declared =

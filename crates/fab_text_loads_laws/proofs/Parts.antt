@@ -30,14 +30,14 @@ use Rattle.fab_drives_laws.specs.fab_gen_loader_Loader.{NextValues, address_port
 use Rattle.fab_drives_laws.specs.fab_fabric_text_defs_Names.{loader_instance_name}
 use Rattle.fab_drives_laws.specs.fab_fabric_text_defs_Places.{PlacedTile}
 use Rattle.fab_drives_laws.specs.fab_fabric_text_defs_Top.{top_items, top_module}
-use Rattle.fab_parts_sound_laws.proofs.Apart.{differs_from}
-use Rattle.fab_parts_sound_laws.proofs.Names.{Differ}
-use Rattle.fab_drives_laws.proofs.fab_tile_drives_laws_Endings.{all_counted}
 use Rattle.fab_drives_laws.specs.Points.{place_path}
 use Rattle.fab_drives_laws.specs.fab_fabric_Fabric.{IsFabric}
 use Rattle.fab_drives_laws.specs.fab_fabric_text_defs_Texts.{IsFabricText}
 use Rattle.fab_drives_laws.specs.fab_model_mode_Mode.{Mode}
 use Rattle.fab_drives_laws.specs.fab_fabric_text_defs_Mode.{text_mode}
+use Rattle.fab_parts_sound_laws.proofs.Apart.{differs_from}
+use Rattle.fab_parts_sound_laws.proofs.Names.{Differ}
+use Rattle.fab_drives_laws.proofs.fab_tile_drives_laws_Endings.{all_counted}
 use Rattle.fab_drives_laws.proofs.Apart.{told_apart}
 use Rattle.fab_drives_laws.proofs.Instances.{all_of_top}
 use Rattle.fab_drives_laws.proofs.Lists.{all_of}
@@ -154,7 +154,8 @@ IsFlopOf mode tile clock target = (mode ≡ modes.Chain) × ((number : ℕ) × (
 
 keeping_is : (mode : Mode) (tile : PlainTile) → All (ItemIs NoInstance (IsLatchOf mode tile) (IsFlopOf mode tile)) (keeping_items mode tile)
 keeping_is modes.Frames tile =
-    all_counted (ItemIs NoInstance (IsLatchOf modes.Frames tile) (IsFlopOf modes.Frames tile)) (tile_bits tile) (bit_latch tile) (λ bit few. (refl, (bit, few, refl)))
+    all_counted (ItemIs NoInstance (IsLatchOf modes.Frames tile) (IsFlopOf modes.Frames tile)) (tile_bits tile) (bit_latch tile)
+    (λ bit few. (refl, (bit, few, refl)))
 keeping_is modes.Chain tile =
     let P = ItemIs NoInstance (IsLatchOf modes.Chain tile) (IsFlopOf modes.Chain tile) in
     All-append P (counted (tile_bits tile) bit_flop) (chain_end (tile_bits tile) ∷ [])
@@ -244,7 +245,8 @@ pub data IsTilePart (tile : PlainTile) (name_of_module i : List ℕ) (joins : Li
 pub tile_is : (mode : Mode) (tile : PlainTile) → All (ItemIs (IsTilePart tile) NoLatch NoFlop) (tile_items mode tile)
 tile_is mode tile =
     let P = ItemIs (IsTilePart tile) NoLatch NoFlop in
-    all_of_items mode tile P (λ target e. tt) (all_of (λ name. P (wire Scalar name)) (matrix_names tile) (λ name. tt)) (λ some. tt) (λ some. a_configuration some refl refl)
+    all_of_items mode tile P (λ target e. tt) (all_of (λ name. P (wire Scalar name)) (matrix_names tile) (λ name. tt)) (λ some. tt)
+    (λ some. a_configuration some refl refl)
     (λ some. a_switch_matrix some refl)
     (λ place low bel listed. a_site bel listed refl (bel_keeps place low bel))
 
@@ -253,8 +255,10 @@ tile_is mode tile =
 pub data IsPart (fabric : PlainFabric) (path : Path) (m : PlainModule) : Type 0 where
   the_top : path ≡ [] → m ≡ top_module fabric → IsPart fabric path m
   the_loader : (next : NextValues) → text_mode fabric ≡ modes.Frames → path ≡ loader_path → m ≡ loader_of fabric.rows next → IsPart fabric path m
-  a_tile : (x y : ℕ) (tile : PlainTile) → tile_at fabric x y ≡ Some tile → path ≡ place_path x y → m ≡ tile_module (text_mode fabric) tile → IsPart fabric path m
-  a_config : (x y : ℕ) (tile : PlainTile) → tile_at fabric x y ≡ Some tile → path ≡ config_path x y → m ≡ config_module (text_mode fabric) tile → IsPart fabric path m
+  a_tile : (x y : ℕ) (tile : PlainTile) → tile_at fabric x y ≡ Some tile → path ≡ place_path x y → m ≡ tile_module (text_mode fabric) tile →
+      IsPart fabric path m
+  a_config : (x y : ℕ) (tile : PlainTile) → tile_at fabric x y ≡ Some tile → path ≡ config_path x y → m ≡ config_module (text_mode fabric) tile →
+      IsPart fabric path m
   a_matrix : (tile : PlainTile) → m ≡ matrix_module tile → IsPart fabric path m
   a_bel : (x y : ℕ) (tile : PlainTile) (i : List ℕ) (found : Found) (kind : Kind) → tile_at fabric x y ≡ Some tile → path ≡ i ∷ place_path x y →
       instance_named (tile_items (text_mode fabric) tile) i ≡ Some found → All KeepsClock found.joins → m ≡ module_of_kind kind → IsPart fabric path m
@@ -288,12 +292,15 @@ module _ (fabric : PlainFabric) (text : List PlainModule) (has : HasFabric fabri
       elim (named_is (IsTopPart fabric) NoLatch NoFlop (top_items fabric) i found (top_is fabric) at) [
         | inl one ↦ (
             let made = loader one.0 in
-            the_loader made.0 one.0 (ap (λ name. name ∷ []) one.2) (one_module found.module_name loader_module_name m (loader_of fabric.rows made.0) one.1 named made.1))
+            the_loader made.0 one.0 (ap (λ name. name ∷ []) one.2)
+            (one_module found.module_name loader_module_name m (loader_of fabric.rows made.0) one.1 named made.1))
         | inr tile ↦ a_tile tile.0.x tile.0.y tile.0.tile tile.1 (ap (λ name. name ∷ []) tile.3)
-            (one_module found.module_name (tile_module_name tile.0.tile) m (tile_module mode tile.0.tile) tile.2 named (has.module_is tile.0.x tile.0.y tile.0.tile tile.1))
+            (one_module found.module_name (tile_module_name tile.0.tile) m (tile_module mode tile.0.tile) tile.2 named
+            (has.module_is tile.0.x tile.0.y tile.0.tile tile.1))
       ]
 
-  below_tile : (x y : ℕ) (tile : PlainTile) → tile_at fabric x y ≡ Some tile → (i : List ℕ) (m : PlainModule) (found : Found) → instance_named (tile_items mode tile) i ≡ Some found →
+  below_tile : (x y : ℕ) (tile : PlainTile) → tile_at fabric x y ≡ Some tile → (i : List ℕ) (m : PlainModule) (found : Found) →
+      instance_named (tile_items mode tile) i ≡ Some found →
       module_named text found.module_name ≡ Some m → Part (i ∷ place_path x y) m
   below_tile x y tile there i m found at named =
       let stands = has.stands x y tile there in
@@ -334,16 +341,26 @@ module _ (fabric : PlainFabric) (text : List PlainModule) (has : HasFabric fabri
 -- ---- latches
 
 -- a latch of a text is that of a configuration bit, in frames
-pub latch_of_tile : (fabric : PlainFabric) (path : Path) (m : PlainModule) (target : List ℕ) (gate e : PlainExpr) → IsPart fabric path m → Contains m.items (latch target gate e) →
+pub latch_of_tile : (fabric : PlainFabric) (path : Path) (m : PlainModule) (target : List ℕ) (gate e : PlainExpr) → IsPart fabric path m →
+    Contains m.items (latch target gate e) →
     (x : ℕ) × (y : ℕ) × (tile : PlainTile) × (tile_at fabric x y ≡ Some tile) × (path ≡ config_path x y) × IsLatchOf (text_mode fabric) tile target
-latch_of_tile fabric path m target gate e (the_top at is) there = absurd (latch_is (IsTopPart fabric) NoLatch NoFlop m (top_module fabric) (top_is fabric) is target gate e there)
+latch_of_tile fabric path m target gate e (the_top at is) there =
+    absurd (latch_is (IsTopPart fabric) NoLatch NoFlop m (top_module fabric) (top_is fabric) is target gate e there)
 latch_of_tile fabric path m target gate e (the_loader next frames at is) there =
     absurd (latch_is NoInstance NoLatch (IsRegister fabric.rows) m (loader_of fabric.rows next) (loader_is fabric.rows next) is target gate e there)
 latch_of_tile fabric path m target gate e (a_tile x y tile stands at is) there =
     absurd (latch_is (IsTilePart tile) NoLatch NoFlop m (tile_module (text_mode fabric) tile) (tile_is (text_mode fabric) tile) is target gate e there)
 latch_of_tile fabric path m target gate e (a_config x y tile stands at is) there =
-    let mode = text_mode fabric in
-    (x, y, tile, stands, at, latch_is NoInstance (IsLatchOf mode tile) (IsFlopOf mode tile) m (config_module mode tile) (config_is mode tile) is target gate e there)
-latch_of_tile fabric path m target gate e (a_matrix tile is) there = absurd (latch_is NoInstance NoLatch NoFlop m (matrix_module tile) (matrix_is tile) is target gate e there)
+    let mode = text_mode fabric in (
+      x,
+      y,
+      tile,
+      stands,
+      at,
+      latch_is NoInstance (IsLatchOf mode tile) (IsFlopOf mode tile) m (config_module mode tile)
+          (config_is mode tile) is target gate e there,
+    )
+latch_of_tile fabric path m target gate e (a_matrix tile is) there =
+    absurd (latch_is NoInstance NoLatch NoFlop m (matrix_module tile) (matrix_is tile) is target gate e there)
 latch_of_tile fabric path m target gate e (a_bel x y tile i found kind stands at found_here keeps is) there =
     absurd (latch_is NoInstance NoLatch ByUserClock m (module_of_kind kind) (kind_is kind) is target gate e there)

@@ -16,21 +16,21 @@ use Rattle.fab_drives_laws.specs.fab_model_Tiles.{PlainTile, tile_bits}
 use Rattle.fab_drives_laws.specs.fab_model_Grid.{PlainFabric, tile_at}
 use Rattle.fab_drives_laws.specs.fab_model_Drive.{PlainBits}
 use Rattle.fab_drives_laws.specs.fab_fabric_Fabric.{IsFabric}
-use Rattle.fab_loading_laws.specs.fab_frames_Stream.{stream, placed_bit, bit_placed_at}
-use Rattle.fab_loading_laws.proofs.fab_frames_Placed.{placed_at}
 use Rattle.fab_drives_laws.specs.fab_gen_tile_Names.{frame_data_name, frame_strobe_name, latch_name}
 use Rattle.fab_drives_laws.specs.fab_gen_tile_ConfigModule.{config_module}
 use Rattle.fab_drives_laws.specs.fab_gen_loader_Loader.{NextValues, loader_of, state_name, machine_at}
-use Rattle.fab_drives_laws.proofs.fab_tile_drives_laws_Driven.{declared_at}
-use Rattle.fab_drives_laws.proofs.fab_tile_drives_laws_Latches.{latch_width}
 use Rattle.fab_drives_laws.specs.Points.{ShowsBits}
 use Rattle.fab_drives_laws.specs.fab_model_mode_Mode.{Mode}
 use Rattle.fab_drives_laws.specs.fab_fabric_text_defs_Mode.{text_mode}
+use Rattle.fab_loading_laws.specs.fab_frames_Stream.{stream, placed_bit, bit_placed_at}
+use Rattle.fab_loading_laws.specs.Latches.{IsWord, Turn, word, pause, other_clock, words_of, after_turn, after_turns, latch_shows, latch_after}
+use Rattle.fab_loading_laws.specs.Streams.{stream_words, StreamsLoad, TicksKeepMachines}
+use Rattle.fab_loading_laws.proofs.fab_frames_Placed.{placed_at}
+use Rattle.fab_drives_laws.proofs.fab_tile_drives_laws_Driven.{declared_at}
+use Rattle.fab_drives_laws.proofs.fab_tile_drives_laws_Latches.{latch_width}
 use Rattle.fab_drives_laws.proofs.Lists.{all_of}
 use Rattle.fab_drives_laws.proofs.Modules.{tile_of_types}
 use Rattle.fab_drives_laws.proofs.Places.{in_grid}
-use Rattle.fab_loading_laws.specs.Latches.{IsWord, Turn, word, pause, other_clock, words_of, after_turn, after_turns, latch_shows, latch_after}
-use Rattle.fab_loading_laws.specs.Streams.{stream_words, StreamsLoad, TicksKeepMachines}
 use Rattle.fab_text_loads_laws.specs.Points.{loader_path, config_path, in_loader, in_configuration}
 use Rattle.fab_text_loads_laws.specs.Loads.{IsTurn, Writes, LoaderWaits, LoaderRests, IsConfigured}
 use Rattle.fab_text_loads_laws.proofs.Drivers.{latched_by}
@@ -46,7 +46,8 @@ use Rattle.fab_text_loads_laws.proofs.InMode.{modes_agree}
 pub rests_in : (fabric : PlainFabric) {held : Assignment} → text_mode fabric ≡ modes.Frames → LoaderWaits held → LoaderRests (text_mode fabric) held
 rests_in fabric {held} frames waits = subst (λ (m : Mode). LoaderRests m held) (sym frames) waits
 
-pub loader_waits : (fabric : PlainFabric) → text_mode fabric ≡ modes.Frames → (bits : PlainBits) (held : Assignment) → IsConfigured fabric bits held → LoaderWaits held
+pub loader_waits : (fabric : PlainFabric) → text_mode fabric ≡ modes.Frames → (bits : PlainBits) (held : Assignment) → IsConfigured fabric bits held →
+    LoaderWaits held
 loader_waits fabric frames bits held configured = subst (λ (m : Mode). LoaderRests m held) frames configured.rests
 
 -- ---- what turns leave
@@ -112,7 +113,8 @@ module _ (fabric : PlainFabric) (next : NextValues) (text : List PlainModule) (h
         let few = latch.few in
         let some : 0 < tile_bits latch.tile = omega (arith, few) in
         named_are_loading fabric next text has (latch_point x y number) (in_configuration x y latch.tile latch.there refl)
-        (declared_at text (config_path x y) (config_module modes.Frames latch.tile) (latch_name number) 0 (config_stands fabric next text has x y latch.tile latch.there some)
+        (declared_at text (config_path x y) (config_module modes.Frames latch.tile) (latch_name number) 0
+        (config_stands fabric next text has x y latch.tile latch.there some)
         (omega (arith, latch_width modes.Frames latch.tile number few)))
 
     pub latch_now : (inputs held now : Assignment) → IsSettledOn (IsLoading text) text inputs held now →
@@ -130,7 +132,8 @@ module _ (fabric : PlainFabric) (next : NextValues) (text : List PlainModule) (h
         let gate = part frame_strobe_name place.frame place.frame in
         let data_value = part frame_data_name place.bit place.bit in
         ticks (latch_point x y number) (hold (config_path x y) gate data_value 0) latch_loads
-        (latched_by text (config_path x y) (config_module modes.Frames latch.tile) (config_stands fabric next text has x y latch.tile latch.there some) (latch_name number) gate data_value 0
+        (latched_by text (config_path x y) (config_module modes.Frames latch.tile) (config_stands fabric next text has x y latch.tile latch.there some)
+        (latch_name number) gate data_value 0
         (latch_there latch.tile number few))
 
   -- ---- a run
@@ -189,8 +192,11 @@ module _ (fabric : PlainFabric) (next : NextValues) (text : List PlainModule) (h
         IsRunOn (IsLoading text) text moments held after → IsConfigured fabric bits after
     unfolding has_latch
     writing_configures streams_load bits moments held after writes run =
-        let written : words_of writes.turns ≡ stream_words fabric bits = writes.written ∙ offered_whole fabric text has.tiles has.frames (stream_words fabric bits) in
-        let loaded = streams_load fabric bits (machine_at held loader_path rows) writes.turns (sym (modes_agree fabric) ∙ has.frames) is (held_is_machine rows held) written in
+        let written : words_of writes.turns ≡ stream_words fabric bits =
+        writes.written ∙ offered_whole fabric text has.tiles has.frames (stream_words fabric bits) in
+        let loaded =
+        streams_load fabric bits (machine_at held loader_path rows) writes.turns (sym (modes_agree fabric) ∙ has.frames) is
+        (held_is_machine rows held) written in
         let long : All IsWord (words_of writes.turns) =
         subst (All IsWord) (sym written) (All-map IsWord (digits 32) (stream fabric bits) (all_of (λ (n : ℕ). IsWord (digits 32 n)) (stream fabric bits) (digits_long 32))) in
         let through = taken writes.turns moments held after (words_fit writes.turns long) writes.each run in
@@ -215,5 +221,6 @@ module _ (fabric : PlainFabric) (next : NextValues) (text : List PlainModule) (h
       let place = latch_place x y tile number in
       let machine = machine_at held loader_path rows in
       latch_now x y number latch inputs held now settled
-      ∙ ap (λ strobe. latch_shows (record machine { strobe = strobe }) place (held (latch_point x y number))) (loader_waits fabric has.frames bits held configured).strobe
+      ∙ ap (λ strobe. latch_shows (record machine { strobe = strobe }) place (held (latch_point x y number)))
+      (loader_waits fabric has.frames bits held configured).strobe
       ∙ configured.bits_held x y tile there number few

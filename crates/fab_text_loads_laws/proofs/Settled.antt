@@ -21,20 +21,20 @@ use Rattle.fab_drives_laws.specs.fab_gen_tile_ConfigModule.{config_module}
 use Rattle.fab_drives_laws.specs.fab_gen_tile_TileModule.{config_joins, tile_module}
 use Rattle.fab_drives_laws.specs.fab_gen_loader_Machine.{Machine}
 use Rattle.fab_drives_laws.specs.fab_gen_loader_Loader.{NextValues, outputs, loader_of, machine_at, bits_at, strobe_register_name, address_register_name as address_register, row_register_name, loader_module_name, address_port, strobe_port, row_port}
-use Rattle.fab_drives_laws.proofs.fab_gen_loader_Counted.{get_counted}
-use Rattle.fab_drives_laws.proofs.fab_gen_loader_Widths.{address_width as address_register_width, row_width as row_register_width}
 use Rattle.fab_drives_laws.specs.fab_fabric_text_defs_Names.{loader_instance_name, column_strobe_name}
 use Rattle.fab_drives_laws.specs.fab_fabric_text_defs_Top.{loader_joins, tile_joins, top_module, config_joins as carrying_joins}
 use Rattle.fab_drives_laws.specs.fab_tile_drives_laws_Stands.{IsSettledOnDeclared, TileStands}
+use Rattle.fab_drives_laws.specs.Points.{place_path}
+use Rattle.fab_drives_laws.specs.fab_model_mode_Mode.{Mode}
+use Rattle.fab_loading_laws.specs.Latches.{LatchPlace, is_open, latch_shows}
+use Rattle.fab_drives_laws.proofs.fab_gen_loader_Counted.{get_counted}
+use Rattle.fab_drives_laws.proofs.fab_gen_loader_Widths.{address_width as address_register_width, row_width as row_register_width}
 use Rattle.fab_drives_laws.proofs.fab_tile_drives_laws_Driven.{width_of, declared_at, variable_bit, part_bit, assigned, joined_in, joined_out}
 use Rattle.fab_drives_laws.proofs.fab_tile_drives_laws_Latches.{latch_width}
 use Rattle.fab_drives_laws.proofs.fab_tile_drives_laws_Members.{contains_counted}
 use Rattle.fab_drives_laws.proofs.fab_tile_drives_laws_TileItems.{config_there}
-use Rattle.fab_drives_laws.specs.Points.{place_path}
-use Rattle.fab_drives_laws.specs.fab_model_mode_Mode.{Mode}
 use Rattle.fab_drives_laws.proofs.Instances.{tile_instance_there}
 use Rattle.fab_drives_laws.proofs.Places.{in_grid, placed_tile}
-use Rattle.fab_loading_laws.specs.Latches.{LatchPlace, is_open, latch_shows}
 use Rattle.fab_text_loads_laws.specs.Points.{loader_path, config_path, top_names, IsLoadingPoint, in_top, in_loader, in_tile, in_configuration, tile_names}
 use Rattle.fab_text_loads_laws.proofs.Drivers.{latched_by}
 use Rattle.fab_text_loads_laws.proofs.Tops.{address_width, strobe_width, row_width, column_width}
@@ -84,7 +84,8 @@ module _ (fabric : PlainFabric) (next : NextValues) (text : List PlainModule) (h
       on_named (point loader_path name bit) (flop loader_path clock_name found.0 bit) (in_loader refl, declared_at text loader_path loader name bit has.stands few) (found.1 bit)
 
   -- an input of the top that carries words comes to the loader
-  pub input_shows : (name : List ℕ) (bit : ℕ) → Contains (top_names modes.Frames fabric) name → Contains (loader_joins fabric.rows) (port_join name (variable name)) →
+  pub input_shows : (name : List ℕ) (bit : ℕ) → Contains (top_names modes.Frames fabric) name →
+      Contains (loader_joins fabric.rows) (port_join name (variable name)) →
       is_input loader.ports name ≡ true → is_input top.ports name ≡ true → bit < width_of loader name → bit < width_of top name →
       now (point loader_path name bit) ≡ inputs (point [] name bit)
   input_shows name bit listed among inner outer few few_outside =
@@ -96,7 +97,8 @@ module _ (fabric : PlainFabric) (next : NextValues) (text : List PlainModule) (h
       (inl (record { top = refl; input = input; is = refl }))
 
   -- what the loader drives in the top
-  driven_shows : (name register : List ℕ) (width bit : ℕ) → Contains (top_names modes.Frames fabric) name → Contains (loader_joins fabric.rows) (port_join name (variable name)) →
+  driven_shows : (name register : List ℕ) (width bit : ℕ) → Contains (top_names modes.Frames fabric) name →
+      Contains (loader_joins fabric.rows) (port_join name (variable name)) →
       is_input loader.ports name ≡ false → Contains (outputs fabric.rows) (assign name (variable register)) → Contains (register_names fabric.rows) register →
       width_of top name ≡ width → width_of loader name ≡ width → width_of loader register ≡ width → bit < width →
       now (point [] name bit) ≡ held (point loader_path register bit)
@@ -150,7 +152,8 @@ module _ (fabric : PlainFabric) (next : NextValues) (text : List PlainModule) (h
       let address : names_at text now [] address_port ≡ bits_at held loader_path address_register 32 =
       bits_of_name text now [] top address_port 32 has.tiles.top_is (address_width fabric has.frames)
       ∙ first_bits_same 32 (λ bit. now (point [] address_port bit)) (λ bit. held (point loader_path address_register bit)) address_shows in
-      assigned (IsLoadingPoint fabric) text inputs held now on_named [] top (column_strobe_name x) (strobe_expression x) frame has.tiles.top_is (strobes_there fabric has.frames x within)
+      assigned (IsLoadingPoint fabric) text inputs held now on_named [] top (column_strobe_name x) (strobe_expression x) frame has.tiles.top_is
+      (strobes_there fabric has.frames x within)
       (omega (arith, few, column_width fabric has.frames x within)) (in_frames (column_strobe_name x) frame (column_listed x within))
       ∙ strobe_value (λ bit. held (point loader_path address_register bit)) (names_at text now []) (held (point loader_path strobe_register_name 0)) x frame strobe address
       (omega (arith, within, few_columns)) few
@@ -168,8 +171,10 @@ module _ (fabric : PlainFabric) (next : NextValues) (text : List PlainModule) (h
     tile_input_shows port name bit among input few few_outside listed =
         let named : IsLoadingPoint fabric (point (place_path x y) port bit) =
         in_tile x y tile there refl (subst (λ (m : Mode). Contains (tile_names m) port) (sym has.frames) listed) in
-        joined_in (IsLoadingPoint fabric) text inputs held now on_named [] top (tile_module modes.Frames tile) (tile_module_name tile) (place_name x y) (tile_joins fabric (placed_tile x y tile))
-        has.tiles.top_is (module_in fabric modes.Frames has.frames text has.tiles x y tile there) (tile_instance_there fabric x y tile there) port (variable name) bit
+        joined_in (IsLoadingPoint fabric) text inputs held now on_named [] top (tile_module modes.Frames tile) (tile_module_name tile) (place_name x y)
+        (tile_joins fabric (placed_tile x y tile))
+        has.tiles.top_is (module_in fabric modes.Frames has.frames text has.tiles x y tile there) (tile_instance_there fabric x y tile there) port
+        (variable name) bit
         (carrying_joined fabric modes.Frames has.frames (placed_tile x y tile) (port_join port (variable name)) among) stands.tile_is input few named
         ∙ variable_bit text now [] top has.tiles.top_is name bit few_outside
 
@@ -178,12 +183,15 @@ module _ (fabric : PlainFabric) (next : NextValues) (text : List PlainModule) (h
       config_here = config_stands fabric next text has x y tile there some
 
       -- and on to its configuration
-      config_input_shows : (port : List ℕ) (bit : ℕ) → Contains (config_joins modes.Frames) (port_join port (variable port)) → is_input (config_module modes.Frames tile).ports port ≡ true →
+      config_input_shows : (port : List ℕ) (bit : ℕ) → Contains (config_joins modes.Frames) (port_join port (variable port)) →
+          is_input (config_module modes.Frames tile).ports port ≡ true →
           bit < width_of (config_module modes.Frames tile) port → bit < width_of (tile_module modes.Frames tile) port →
           now (point (config_path x y) port bit) ≡ now (point (place_path x y) port bit)
       config_input_shows port bit among input few few_outside =
-          joined_in (IsLoadingPoint fabric) text inputs held now on_named (place_path x y) (tile_module modes.Frames tile) (config_module modes.Frames tile) (config_module_name tile)
-          config_instance_name (config_joins modes.Frames) stands.tile_is (stands.config_is some) (config_there modes.Frames tile some) port (variable port) bit among config_here input few
+          joined_in (IsLoadingPoint fabric) text inputs held now on_named (place_path x y) (tile_module modes.Frames tile) (config_module modes.Frames tile)
+          (config_module_name tile)
+          config_instance_name (config_joins modes.Frames) stands.tile_is (stands.config_is some) (config_there modes.Frames tile some) port
+          (variable port) bit among config_here input few
           (in_configuration x y tile there refl)
           ∙ variable_bit text now (place_path x y) (tile_module modes.Frames tile) stands.tile_is port bit few_outside
 
@@ -225,7 +233,9 @@ module _ (fabric : PlainFabric) (next : NextValues) (text : List PlainModule) (h
             let data_value = part frame_data_name place.bit place.bit in
             on_named (latch_point x y number_of_bit) (hold (config_path x y) gate data_value 0) (
               in_configuration x y tile there refl,
-              declared_at text (config_path x y) (config_module modes.Frames tile) (latch_name number_of_bit) 0 config_here (omega (arith, latch_width modes.Frames tile number_of_bit few)),
+              declared_at text (config_path x y) (config_module modes.Frames tile) (latch_name number_of_bit) 0 config_here
+                  (omega (arith, latch_width modes.Frames tile number_of_bit few)),
             )
-            (latched_by text (config_path x y) (config_module modes.Frames tile) config_here (latch_name number_of_bit) gate data_value 0 (latch_there tile number_of_bit few))
+            (latched_by text (config_path x y) (config_module modes.Frames tile) config_here (latch_name number_of_bit) gate data_value 0
+            (latch_there tile number_of_bit few))
             ∙ (λ j. cond (gate_shows j) (data_shows j) (held (latch_point x y number_of_bit)))

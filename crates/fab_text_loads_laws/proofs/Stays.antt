@@ -127,11 +127,14 @@ within_declared text flops p (by_reads d declared drives derived reads) = declar
 
 module _ (fabric : PlainFabric) (text : List PlainModule) (has : HasFabric fabric text) (loader : LoaderIs fabric text) (is : IsFabric fabric) where
   module _ (clock : List ℕ) (held now after : Assignment) (ticks : Ticks (IsLoading text) text clock held now after)
-      (flop_keeps : clock ≡ clock_name → (path : Path) (target : List ℕ) (bit : ℕ) → IsOfClock fabric path target → is_declared text (point path target bit) ≡ true →
-          after (point path target bit) ≡ held (point path target bit))
+      (flop_keeps : clock ≡ clock_name → (path : Path) (target : List ℕ) (bit : ℕ) → IsOfClock fabric path target → is_declared text
+      (point path target bit) ≡ true →
+      after (point path target bit) ≡ held (point path target bit))
       (latch_keeps : (x y : ℕ) (tile : PlainTile) (target : List ℕ) (bit : ℕ) → tile_at fabric x y ≡ Some tile → IsLatchOf (text_mode fabric) tile target →
-          is_declared text (point (config_path x y) target bit) ≡ true → after (point (config_path x y) target bit) ≡ held (point (config_path x y) target bit)) where
-    flop_stays : (p : Point) (path : Path) (name : List ℕ) (e : PlainExpr) (bit : ℕ) → is_declared text p ≡ true → IsLoading text p → Drives text p (flop path name e bit) →
+      is_declared text (point (config_path x y) target bit) ≡ true →
+      after (point (config_path x y) target bit) ≡ held (point (config_path x y) target bit)) where
+    flop_stays : (p : Point) (path : Path) (name : List ℕ) (e : PlainExpr) (bit : ℕ) → is_declared text p ≡ true → IsLoading text p →
+        Drives text p (flop path name e bit) →
         clock_of text path name ≡ Some clock_name → after p ≡ held p
     flop_stays p path name e bit declared loading drives clocks =
         let taken = bit_at (value (names_at text now path) e) bit in
@@ -141,9 +144,12 @@ module _ (fabric : PlainFabric) (text : List PlainModule) (has : HasFabric fabri
         elim (cases_Bool (bytes_eq clock_name clock)) [
           | inl ticked ↦ (
               let item = flop_item text p path name e bit drives in
-              let found = flop_of_clock fabric text has is path item.here name item.target item.e (part_at fabric text has loader path item.here item.stands) item.there clocks in
+              let found =
+              flop_of_clock fabric text has is path item.here name item.target item.e
+              (part_at fabric text has loader path item.here item.stands) item.there clocks in
               ap after item.at
-              ∙ flop_keeps (sym ((bytes_eq-Decides clock_name clock).0 ticked)) path item.target p.bit found (subst (λ q. is_declared text q ≡ true) item.at declared)
+              ∙ flop_keeps (sym ((bytes_eq-Decides clock_name clock).0 ticked)) path item.target p.bit found
+              (subst (λ q. is_declared text q ≡ true) item.at declared)
               ∙ ap held (sym item.at))
           | inr idle ↦ kept_is ∙ ap (λ b. cond b taken (held p)) idle
         ]
@@ -179,7 +185,7 @@ module _ (fabric : PlainFabric) (text : List PlainModule) (has : HasFabric fabri
 module _ (text : List PlainModule) (Configured : Assignment → Type 0)
     (goes : (held after : Assignment) → Configured held → ((p : Point) → IsLoading text p → after p ≡ held p) → Configured after)
     (one_stays : (moment : Moment) (held now after : Assignment) → Configured held → IsQuiet moment → IsSettledOn (IsLoading text) text moment.inputs held now →
-        Ticks (IsLoading text) text moment.clock held now after → (p : Point) → IsLoading text p → after p ≡ held p) where
+    Ticks (IsLoading text) text moment.clock held now after → (p : Point) → IsLoading text p → after p ≡ held p) where
   pub run_stays : (moments : List Moment) (held after : Assignment) → Configured held → All IsQuiet moments → IsRunOn (IsLoading text) text moments held after →
       (p : Point) → IsLoading text p → after p ≡ held p
   run_stays [] held after configured quiet run p loading = run p loading

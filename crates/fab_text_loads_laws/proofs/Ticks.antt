@@ -6,7 +6,6 @@ use Rattle.std.proofs.lemmas.List.Elements.{All-contains}
 use Rattle.std.proofs.lemmas.Slice.Eq.{bytes_eq-Decides}
 use Rattle.fab_bits.specs.Bits.{number, digits, first_bits}
 use Rattle.fab_bits.proofs.Numbers.{length_first_bits, first_bits_same, get_first_bits}
-use Rattle.fab_loading_laws.proofs.fab_frames_Numbers.{digits_number, number_digits, number_below}
 use Rattle.fab_syntax.specs.Plain.{PlainModule}
 use Rattle.fab_syntax.specs.Declarations.{width}
 use Rattle.fab_meaning.specs.Value.{value, bit_at}
@@ -21,12 +20,13 @@ use Rattle.fab_drives_laws.specs.fab_gen_loader_Machine.{Machine, Word, tick}
 use Rattle.fab_drives_laws.specs.fab_gen_loader_Loader.{NextValues, loader_of, state_name, count_name, strobe_register_name, bits_at, machine_at, machine_next, RegisterTakes, TakesNext, address_register_name, row_register_name}
 use Rattle.fab_drives_laws.specs.fab_model_mode_Mode.{Mode}
 use Rattle.fab_drives_laws.specs.fab_fabric_text_defs_Top.{data_shape}
+use Rattle.fab_loading_laws.specs.Latches.{IsWord, IsMachine}
+use Rattle.fab_loading_laws.specs.Streams.{TicksKeepMachines}
+use Rattle.fab_loading_laws.proofs.fab_frames_Numbers.{digits_number, number_digits, number_below}
 use Rattle.fab_drives_laws.proofs.fab_gen_loader_Counted.{length-counted, get_counted}
 use Rattle.fab_drives_laws.proofs.fab_gen_loader_Widths.{state_width, count_width, address_width, row_width}
 use Rattle.fab_drives_laws.proofs.fab_tile_drives_laws_Driven.{width_of, declared_at}
 use Rattle.fab_drives_laws.proofs.fab_tile_drives_laws_Endings.{all_counted}
-use Rattle.fab_loading_laws.specs.Latches.{IsWord, IsMachine}
-use Rattle.fab_loading_laws.specs.Streams.{TicksKeepMachines}
 use Rattle.fab_text_loads_laws.specs.Points.{loader_path, in_loader}
 use Rattle.fab_text_loads_laws.specs.Loads.{WritesWord}
 use Rattle.fab_text_loads_laws.proofs.Loader.{HasLoader, strobe_register_width, register_names, all_registers, row_register, IsFlop, registers_are_flops, loader_clock}

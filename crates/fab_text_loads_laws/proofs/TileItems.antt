@@ -117,7 +117,8 @@ no_config_instance mode tile none =
     (λ place low bel listed. told_apart 4 (bel_instance_name place) config_instance_name refl))
 
 -- a tile whose configuration declares a point has configuration bits
-pub config_has_bits : (mode : Mode) (text : List PlainModule) (path : Path) (tile : PlainTile) (name : List ℕ) (bit : ℕ) → module_at text path ≡ Some (tile_module mode tile) →
+pub config_has_bits : (mode : Mode) (text : List PlainModule) (path : Path) (tile : PlainTile) (name : List ℕ) (bit : ℕ) →
+    module_at text path ≡ Some (tile_module mode tile) →
     is_declared text (point (config_instance_name ∷ path) name bit) ≡ true → 0 < tile_bits tile
 config_has_bits mode text path tile name bit stands declared =
     elim (cases_lt 0 (tile_bits tile)) [

@@ -9,12 +9,12 @@ use Rattle.fab_meaning.specs.Loading.{AreAlike, IsIdle, LoadingRunsAgree, Loadin
 use Rattle.fab_drives_laws.specs.fab_model_Grid.{PlainFabric}
 use Rattle.fab_drives_laws.specs.fab_fabric_Fabric.{IsFabric}
 use Rattle.fab_drives_laws.specs.fab_gen_loader_Loader.{NextValues}
-use Rattle.fab_loading_laws.specs.Streams.{stream_words, StreamsLoad, TicksKeepMachines}
-use Rattle.fab_load_runs_laws.specs.Runs.{HasClocks, RunsExist}
-use Rattle.fab_text_loads_laws.specs.Loads.{RunsOnce, LoadsConfigurations}
 use Rattle.fab_drives_laws.specs.fab_fabric_text_defs_Texts.{IsFabricText}
-use Rattle.fab_drives_laws.proofs.Texts.{HasFabric}
+use Rattle.fab_loading_laws.specs.Streams.{stream_words, StreamsLoad, TicksKeepMachines}
 use Rattle.fab_loading_laws.specs.Chain.{TilesAreOneChain, ChainLoads}
+use Rattle.fab_load_runs_laws.specs.Runs.{HasClocks, RunsExist}
+use Rattle.fab_drives_laws.proofs.Texts.{HasFabric}
+use Rattle.fab_text_loads_laws.specs.Loads.{RunsOnce, LoadsConfigurations}
 use Rattle.fab_text_loads_laws.proofs.ChainRuns.{chain_configures, chain_goes, chain_shows, chain_rests}
 use Rattle.fab_text_loads_laws.proofs.ChainWithin.{chain_named_are_loading}
 use Rattle.fab_text_loads_laws.proofs.Frames.{still_configured, configuration_stays}
@@ -40,9 +40,14 @@ module _ (agree : LoadingRunsAgree) (stay : LoadingPointsStay) (exist : RunsExis
 
   text_runs_once : (fabric : PlainFabric) (text : List PlainModule) → HasFabric fabric text → IsSound text → RunsOnce text
   text_runs_once fabric text has sound =
-      runs_once text sound (record { loader_clock = ap (λ m. is_input_of m clock_name) has.top_is; user_clock = ap (λ m. is_input_of m user_clock_name) has.top_is })
+      runs_once text sound (record {
+        loader_clock = ap (λ m. is_input_of m clock_name) has.top_is;
+        user_clock = ap
+            (λ m. is_input_of m user_clock_name) has.top_is;
+      })
 
-  frames_load : TicksKeepMachines → StreamsLoad → (fabric : PlainFabric) (next : NextValues) (text : List PlainModule) → IsFabric fabric → HasLoader fabric next text → IsSound text →
+  frames_load : TicksKeepMachines → StreamsLoad → (fabric : PlainFabric) (next : NextValues) (text : List PlainModule) → IsFabric fabric →
+      HasLoader fabric next text → IsSound text →
       LoadsConfigurations fabric text
   frames_load keeps load fabric next text is has sound = record {
     named = named_are_loading fabric next text has;

@@ -10,13 +10,14 @@ use Rattle.fab_syntax.specs.Plain.{PlainItem, wire}
 use Rattle.fab_syntax.specs.Declarations.{width_if_any, item_shape, declared_width}
 use Rattle.fab_meaning.specs.Runs.{user_clock_name, clock_name}
 use Rattle.fab_meaning.specs.Ports.{scalar}
+use Rattle.fab_meaning.specs.Loading.{write_strobe_name, write_data_name}
+use Rattle.fab_meaning.proofs.Dependence.{same_name}
 use Rattle.fab_drives_laws.specs.fab_prim_Ports.{top_inputs, top_outputs}
 use Rattle.fab_drives_laws.specs.fab_model_mode_Mode.{Mode}
 use Rattle.fab_drives_laws.specs.fab_model_mode_Mode_TheVariants as modes
 use Rattle.fab_drives_laws.specs.fab_model_tiles_Bel.{Bel}
 use Rattle.fab_drives_laws.specs.fab_model_Tiles.{counted}
 use Rattle.fab_drives_laws.specs.fab_model_Grid.{PlainFabric}
-use Rattle.fab_meaning.specs.Loading.{write_strobe_name, write_data_name}
 use Rattle.fab_drives_laws.specs.fab_fabric_text_defs_Names.{column_strobe_name, pad_port_name, chain_wire_name}
 use Rattle.fab_drives_laws.specs.fab_gen_loader_Loader.{address_port, strobe_port, row_port}
 use Rattle.fab_drives_laws.specs.fab_fabric_text_defs_Mode.{text_mode}
@@ -27,7 +28,6 @@ use Rattle.fab_drives_laws.proofs.fab_tile_drives_laws_Endings.{all_flat_map}
 use Rattle.fab_drives_laws.proofs.fab_tile_drives_laws_Widths.{passed_ports}
 use Rattle.fab_drives_laws.proofs.Lists.{first_or_later, none_there, all_of}
 use Rattle.fab_drives_laws.proofs.Apart.{told_apart}
-use Rattle.fab_meaning.proofs.Dependence.{same_name}
 use Rattle.fab_text_loads_laws.proofs.Declared.{wire_found, wires_passed}
 
 -- the first letter of the ports' names
@@ -53,7 +53,8 @@ module _ (name : List ℕ) (no_pad : nat_eq 88 (letter_of name) ≡ false) where
   ports_differ fabric no_clock no_user no_write =
       let pads = flat_map tile_pads (placed_tiles fabric) in
       let words = data_port (text_mode fabric) in
-      All-cons Differs (scalar true clock_name) (scalar true user_clock_name ∷ scalar true write_strobe_name ∷ words ∷ pads) (told_apart 0 clock_name name no_clock)
+      All-cons Differs (scalar true clock_name) (scalar true user_clock_name ∷ scalar true write_strobe_name ∷ words ∷ pads)
+      (told_apart 0 clock_name name no_clock)
       (All-cons Differs (scalar true user_clock_name) (scalar true write_strobe_name ∷ words ∷ pads) (told_apart 0 user_clock_name name no_user)
       (All-cons Differs (scalar true write_strobe_name) (words ∷ pads) (told_apart 0 write_strobe_name name no_write)
       (All-cons Differs words pads (told_apart 0 write_data_name name no_write)
@@ -140,7 +141,8 @@ module _ (fabric : PlainFabric) where
         (all_of (λ (placed : ℕ × Bel). All IsScalar (pad_ports p.x p.y placed)) (enumerate_from 0 p.tile.bels) (scalar_pads p.x p.y))))))))
 
     -- a name of one bit, be it that of a port or of a net
-    one_wide : (ports : List Port) (items : List PlainItem) (name : List ℕ) → All IsScalar ports → width_if_any (item_shape items name) ≡ 1 → declared_width ports items name ≡ 1
+    one_wide : (ports : List Port) (items : List PlainItem) (name : List ℕ) → All IsScalar ports → width_if_any (item_shape items name) ≡ 1 →
+        declared_width ports items name ≡ 1
     one_wide [] items name scalars net = net
     one_wide (port ∷ ports) items name scalars net =
         elim (cases_Bool (bytes_eq port.name name)) [

@@ -69,7 +69,8 @@ module _ (text : List PlainModule) (flops : Point → Bool) where
   -- ---- what comes from the top
 
   module _ (fabric : PlainFabric) (has : HasFabric fabric text) where
-    stream_within : (name : List ℕ) → (name ≡ clock_name) ⊎ ((name ≡ write_strobe_name) ⊎ (name ≡ write_data_name)) → is_input (top_module fabric).ports name ≡ true →
+    stream_within : (name : List ℕ) → (name ≡ clock_name) ⊎ ((name ≡ write_strobe_name) ⊎ (name ≡ write_data_name)) →
+        is_input (top_module fabric).ports name ≡ true →
         AreWithin [] name
     stream_within name named input bit declared =
         let is : is_input_of (module_at text []) name ≡ true = ap (λ m. is_input_of m name) has.top_is ∙ input in
@@ -102,7 +103,8 @@ module _ (fabric : PlainFabric) (next : NextValues) (text : List PlainModule) (h
       AreWithin text flops [] name → AreWithin text flops loader_path name
   input_within name among input is bit declared =
       variable_within text flops (point loader_path name bit) [] name bit declared
-      (joined_to text [] (top_module fabric) has.tiles.top_is loader loader_module_name loader_instance_name (loader_joins rows) has.named (loader_there fabric has.frames) name (variable name)
+      (joined_to text [] (top_module fabric) has.tiles.top_is loader loader_module_name loader_instance_name (loader_joins rows) has.named
+      (loader_there fabric has.frames) name (variable name)
       bit among input)
       is
 

@@ -61,20 +61,17 @@ texts_printable fabric loaders is tiles written loaders_are = (some, modules_of 
   standing : All Stands (standing_types fabric)
   standing = all_standing fabric Stands (λ k d few. record { is_tile = tiles k d few; few_bels = is.few_bels k d few; table = is.tables k d few; written = written k d few })
 
-  abbrev mode : Mode
-  mode = text_mode fabric
-
   all : All IsModule (fabric_text fabric loaders)
   all =
       All-append IsModule (map module_of_kind (used_kinds fabric)) _
       (All-map IsModule module_of_kind (used_kinds fabric) (λ k d few. kind_printable (get_or (used_kinds fabric) k d)))
-      (All-append IsModule (flat_map (tile_modules mode) (standing_types fabric)) (loaders ++ top_module fabric ∷ [])
-      (all_flat_map IsModule (tile_modules mode) (standing_types fabric) (λ k d few. modules_printable mode (get_or (standing_types fabric) k d) (standing k d few)))
+      (All-append IsModule (flat_map (tile_modules (text_mode fabric)) (standing_types fabric)) (loaders ++ top_module fabric ∷ [])
+      (all_flat_map IsModule (tile_modules (text_mode fabric)) (standing_types fabric) (λ k d few. modules_printable (text_mode fabric) (get_or (standing_types fabric) k d) (standing k d few)))
       (All-append IsModule loaders (top_module fabric ∷ []) loaders_are (All-cons IsModule (top_module fabric) [] (top_printable fabric is written) (All-nil IsModule))))
 
   some : 0 < length (fabric_text fabric loaders)
   some =
-      let first = length-append (map module_of_kind (used_kinds fabric)) (flat_map (tile_modules mode) (standing_types fabric) ++ (loaders ++ top_module fabric ∷ [])) in
-      let second = length-append (flat_map (tile_modules mode) (standing_types fabric)) (loaders ++ top_module fabric ∷ []) in
+      let first = length-append (map module_of_kind (used_kinds fabric)) (flat_map (tile_modules (text_mode fabric)) (standing_types fabric) ++ (loaders ++ top_module fabric ∷ [])) in
+      let second = length-append (flat_map (tile_modules (text_mode fabric)) (standing_types fabric)) (loaders ++ top_module fabric ∷ []) in
       let third = length-append loaders (top_module fabric ∷ []) in
       omega (arith, first, second, third)

@@ -1,5 +1,5 @@
 -- The modules of a tile are printable.
-use Rattle.std.proofs.Common.{◌≡◌, ◌⊎◌, ℕ, zero, suc, ◌+◌, ◌^◌, ◌<◌, ◌≤◌, Bool, true, false, not, List, [], ◌∷◌, ◌++◌, map, filter, length, slice_get, reverse, refl, sym, ap, subst, ◌∙◌, inl, inr, arith, lit<, lit≤, codes, Option, Some, None, All, slice_index_or, nat_eq, leb}
+use Rattle.std.proofs.Common.{◌≡◌, ◌⊎◌, ℕ, zero, suc, ◌+◌, ◌^◌, ◌<◌, ◌≤◌, Bool, true, false, not, List, [], ◌∷◌, map, filter, length, slice_get, reverse, refl, sym, ap, subst, ◌∙◌, inl, inr, arith, lit<, lit≤, codes, Option, Some, None, All, slice_index_or, nat_eq, leb}
 use Rattle.std.proofs.lemmas.Bool.{cases_Bool, cases_lt}
 use Rattle.std.proofs.lemmas.Bool.Decides.{nat_tests, Decides-eqb}
 use Rattle.std.proofs.lemmas.List.{length-map, length-reverse}

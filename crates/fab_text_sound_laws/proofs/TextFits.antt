@@ -1,7 +1,7 @@
 -- Each module of a fabric's text fits behind those before it, and so the text is sound.
 use Rattle.std.proofs.Common.{◌≡◌, ℕ, ◌<◌, true, List, [], ◌∷◌, ◌++◌, map, length, sym, ap, ◌∙◌, subst, Some, All, AllPairs, Contains, append_assoc, append-nil}
 use Rattle.std.specs.List.{flat_map, list_any}
-use Rattle.std.proofs.lemmas.List.Elements.{All-nil, All-cons, All-head, All-tail, All-weaker, All-contains, All-contains_itself, Contains-append_left, Contains-append_right, All-map}
+use Rattle.std.proofs.lemmas.List.Elements.{All-head, All-tail, All-weaker, All-contains, All-contains_itself, Contains-append_left, Contains-append_right, All-map}
 use Rattle.fab_kinds.specs.declared.kind.Kind.TheVariants as kinds
 use Rattle.fab_syntax.specs.Plain.{PlainModule}
 use Rattle.fab_syntax.specs.Declarations.{module_named}
@@ -175,14 +175,14 @@ module _ (fabric : PlainFabric) (is : IsFabric fabric) (are : AreTiles fabric) (
   abbrev HasKinds : List PlainModule → Type 0
   HasKinds before = All (Contains before) kinds_text
 
-  tiles_fit_from : (before : List PlainModule) (tiles : List PlainTile) → HasKinds before → AllPairs NamesDiffer (before ++ flat_map (tile_modules mode) mode tiles) → All IsReady tiles →
-      AllFit text before (flat_map (tile_modules mode) mode tiles)
+  tiles_fit_from : (before : List PlainModule) (tiles : List PlainTile) → HasKinds before → AllPairs NamesDiffer (before ++ flat_map (tile_modules mode) tiles) → All IsReady tiles →
+      AllFit text before (flat_map (tile_modules mode) tiles)
   tiles_fit_from before [] has names_apart ready = tt
   tiles_fit_from before (tile ∷ tiles) has names_apart ready =
       let here = All-head IsReady tile tiles ready in
       let own_matrices = matrix_modules tile (matrix_output_names tile) in
       let own_configs = config_modules mode tile (tile_bits tile) in
-      let rest = flat_map (tile_modules mode) mode tiles in
+      let rest = flat_map (tile_modules mode) tiles in
       let front = (before ++ own_matrices) ++ own_configs in
       let in_order : before ++ ((own_matrices ++ (own_configs ++ tile_module mode tile ∷ [])) ++ rest) ≡ front ++ tile_module mode tile ∷ rest =
       ap (λ names. before ++ names) (append_assoc own_matrices (own_configs ++ tile_module mode tile ∷ []) rest ∙ ap (λ names. own_matrices ++ names) (append_assoc own_configs (tile_module mode tile ∷ []) rest))

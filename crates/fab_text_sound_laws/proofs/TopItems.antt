@@ -1,5 +1,5 @@
 -- The selects, the widths and the instances of the top fit, and its clocks.
-use Rattle.std.proofs.Common.{◌≡◌, ◌≢◌, ◌⊎◌, ℕ, ◌<◌, ◌≤◌, Bool, true, false, List, [], ◌∷◌, ◌++◌, map, refl, sym, ap, ◌∙◌, subst, inl, inr, arith, Option, Some, None, All, Contains, IsSomeAnd, codes}
+use Rattle.std.proofs.Common.{◌≡◌, ◌≢◌, ◌⊎◌, ℕ, ◌<◌, ◌≤◌, Bool, true, false, List, [], ◌∷◌, ◌++◌, map, refl, sym, ap, ◌∙◌, subst, inl, inr, arith, Option, Some, None, All, Contains, get_or, IsSomeAnd, codes}
 use Rattle.std.specs.List.{flat_map, enumerate_from, AllZip}
 use Rattle.std.proofs.lemmas.Bool.{false≢true}
 use Rattle.std.proofs.lemmas.List.Elements.{All-nil, All-cons, All-append, All-head, All-tail, All-weaker, All-map, All-contains_itself, All-from_recursion}
@@ -230,8 +230,9 @@ module _ (fabric : PlainFabric) (is : IsFabric fabric) (are : AreTiles fabric) w
     pub two_clocks_fit : (clock other : List ℕ) → All (IsClockJoin clock) joins → All (IsClockJoin other) joins →
         ((port : List ℕ) → ServesAsClock text below port → (port ≡ clock) ⊎ (port ≡ other)) → ClockFits text top (instance module_name i joins)
     two_clocks_fit clock other first second serves other_below other_found k d within serving =
+        let join = get_or joins k d in
         let same_below : below ≡ other_below = cc in
-        elim (serves _ (subst (λ b. ServesAsClock text b _) (sym same_below) serving)) [ inl is ↦ first k d within is | inr is ↦ second k d within is ]
+        elim (serves join.port (subst (λ b. ServesAsClock text b join.port) (sym same_below) serving)) [ inl is ↦ first k d within is | inr is ↦ second k d within is ]
 
   -- ---- the clocks of a tile
 

@@ -1,6 +1,6 @@
 -- The configuration bits come from what keeps them to the instances that use them.
 use Rattle.std.proofs.Common.{◌≡◌, ℕ, zero, suc, ◌+◌, ◌<◌, ◌≤◌, Bool, true, List, [], ◌∷◌, refl, ap, ◌∙◌, arith, Some, Contains}
-use Rattle.fab_gen_tile.specs.fab_syntax.specs.Plain.{PlainJoin, PlainModule, variable, part, instance}
+use Rattle.fab_gen_tile.specs.fab_syntax.specs.Plain.{PlainJoin, PlainModule, part, instance}
 use Rattle.fab_gen_tile.specs.fab_syntax.specs.Declarations.{module_named, is_input}
 use Rattle.fab_gen_tile.specs.fab_meaning.specs.Points.{Path, Point, point, Found, instance_in, instance_named, module_of, module_at}
 use Rattle.fab_gen_tile.specs.fab_meaning.specs.Settled.{Assignment}

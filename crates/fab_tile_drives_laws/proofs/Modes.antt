@@ -1,5 +1,5 @@
 -- What the ports of a configuration have in common in both modes, and what stands in a tile without configuration bits.
-use Rattle.std.proofs.Common.{◌≡◌, ℕ, true, false, List, [], ◌∷◌, ◌++◌, map, refl, All, Contains}
+use Rattle.std.proofs.Common.{◌≡◌, ℕ, false, List, [], ◌∷◌, ◌++◌, map, refl, All, Contains}
 use Rattle.std.proofs.lemmas.List.Elements.{Contains-append_right}
 use Rattle.fab_gen_tile.specs.fab_syntax.specs.declared.tree.Port.{Port}
 use Rattle.fab_gen_tile.specs.fab_syntax.specs.Plain.{PlainItem, variable}

@@ -1,10 +1,14 @@
-use Rattle.std.proofs.Common.{◌≡◌, ◌+◌, ◌-◌, ◌∙◌, ℕ, length, subst, ap, arith, List}
+use Rattle.std.proofs.Common.{◌≡◌, ◌+◌, ◌-◌, ◌∙◌, ℕ, length, subst, ap, sym, arith, List}
 use Rattle.std.specs.List.{remove_range}
 use Rattle.std.proofs.lemmas.List.{length-map}
 use Rattle.std.proofs.lemmas.Result.{IfOk-weaker}
 use Rattle.fab_syntax.specs.Plain.{PlainModule, plain_module, plain_text}
 use Rattle.fab_syntax.specs.Sound.{IsSound}
 use Rattle.fab_syntax.specs.Spelling.{text_bytes}
+use Rattle.fab_model.specs.declared.mode.Mode.TheVariants as modes
+use Rattle.fab_model.specs.Grid.{PlainFabric}
+use Rattle.fab_gen_top.specs.fab_fabric_text_defs_Mode.{text_mode}
+use Rattle.fab_gen_top.proofs.Modes.{text_mode_told}
 use Rattle.fab_assemble.specs.fab_fabric_text_defs_Texts.{IsFabricText}
 use Rattle.fab_serial.specs.Delivery.{DeliversSerially}
 use Rattle.fab_serial.specs.Module.{serial_text}
@@ -14,6 +18,9 @@ use Rattle.fab_flow.specs.Serial.{text_with_port}
 use Rattle.fab_flow.proofs.Lengths.{text_long}
 use Rattle.fab_flow.proofs.PortLengths.{port_text_long, port_without_loaders}
 use Rattle.fab_flow.proofs.serial.printed_with_port.Goals as goal
+
+in_frames : (fabric : PlainFabric) → fabric.mode ≡ modes.Frames → text_mode fabric ≡ modes.Frames
+in_frames fabric is = sym (text_mode_told fabric modes.Frames (sym is))
 
 pub overflow_sub-top : goal.overflow_sub-top
 overflow_sub-top c =
@@ -57,7 +64,7 @@ returns-clause-sound c =
     let whole_is = c.in_ok-text-2.ensures.is ∙ ap serial_text c.in_ok-text.ensures.text in
     IfOk-weaker c.printed_text.result _ _
     (λ printed is named. subst IsSound whole_is (c.in_ok-text-2.ensures.sound
-    (c.fabric_texts_take_ports.ensures fabric text c.is_well_made.ensures.is_fabric (c.in_ok-text.ensures.is_text named)))) c.printed_text.ensures.bytes
+    (c.fabric_texts_take_ports.ensures fabric text (in_frames fabric c.requires) c.is_well_made.ensures.is_fabric (c.in_ok-text.ensures.is_text named)))) c.printed_text.ensures.bytes
 
 pub returns-clause-delivers : goal.returns-clause-delivers
 returns-clause-delivers c =
@@ -66,7 +73,7 @@ returns-clause-delivers c =
     let whole_is = c.in_ok-text-2.ensures.is ∙ ap serial_text c.in_ok-text.ensures.text in
     IfOk-weaker c.printed_text.result _ _
     (λ printed is named. subst DeliversSerially whole_is (c.in_ok-text-2.ensures.delivers
-    (c.fabric_texts_take_ports.ensures fabric text c.is_well_made.ensures.is_fabric (c.in_ok-text.ensures.is_text named)))) c.printed_text.ensures.bytes
+    (c.fabric_texts_take_ports.ensures fabric text (in_frames fabric c.requires) c.is_well_made.ensures.is_fabric (c.in_ok-text.ensures.is_text named)))) c.printed_text.ensures.bytes
 
 pub returns-clause-loads : goal.returns-clause-loads
 returns-clause-loads c =
@@ -74,7 +81,7 @@ returns-clause-loads c =
     let text = plain_text c.in_ok-text.text in
     IfOk-weaker c.printed_text.result _ _
     (λ printed is named. subst (λ (ms : List PlainModule). LoadsSerially fabric (serial_text ms)) c.in_ok-text.ensures.text
-    (c.serial_texts_load.ensures fabric text c.is_well_made.ensures.is_fabric (c.in_ok-text.ensures.is_text named))) c.printed_text.ensures.bytes
+    (c.serial_texts_load.ensures fabric text (in_frames fabric c.requires) c.is_well_made.ensures.is_fabric (c.in_ok-text.ensures.is_text named))) c.printed_text.ensures.bytes
 
 pub returns-clause-length : goal.returns-clause-length
 returns-clause-length c =

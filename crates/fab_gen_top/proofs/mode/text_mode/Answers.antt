@@ -1,6 +1,5 @@
-use Rattle.fab_text_loads_laws.specs.fab_fabric_text_defs_Mode.{text_mode}
+use Rattle.fab_gen_top.proofs.Modes.{text_mode_told}
 use Rattle.fab_gen_top.proofs.mode.text_mode.Goals as goal
 
 pub returns : goal.returns
-unfolding text_mode
-returns c = c.mode.ensures
+returns c = text_mode_told c.args.fabric.now c.mode.result c.mode.ensures

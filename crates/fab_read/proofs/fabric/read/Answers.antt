@@ -6,15 +6,16 @@ use Rattle.fab_base.specs.declared.words.Reason.TheVariants as reasons
 use Rattle.fab_base.specs.declared.words.Quantity.TheVariants as quantities
 use Rattle.fab_base.specs.declared.problem.Problem.TheVariants as problems
 use Rattle.fab_desk.specs.Files.{Map}
+use Rattle.fab_model.specs.declared.mode.Mode.{Mode}
 use Rattle.fab_model.specs.Tables.{HasTable}
 use Rattle.fab_blocks.specs.Reading.{PlainReading, PlainGridLine, start}
-use Rattle.fab_fabric.specs.Fabric.{fabric_of, wire_count}
+use Rattle.fab_fabric.specs.Fabric.{fabric_of, in_mode, wire_count}
 use Rattle.fab_files.proofs.Causes.{cause_weaker, placed_cause}
 use Rattle.fab_read.specs.Rows.{MeetsRowsFile}
 use Rattle.fab_read.specs.inner.Following.{ReadsFileTo}
 use Rattle.fab_read.specs.Fabrics.{top, strange_line, column_count, places, most_wires, MeetsFabric, of_rows}
 use Rattle.fab_read.proofs.Grids.{some_lines, rows_are, reading_is_fabric}
-use Rattle.fab_read.proofs.Whole.{grid_absent, tile_absent, wires_past}
+use Rattle.fab_read.proofs.Whole.{grid_absent, spells, tile_absent, wires_past}
 use Rattle.fab_read.proofs.fabric.read.Goals as goal
 
 pub returns-in_err-last-clause-cause : goal.returns-in_err-last-clause-cause
@@ -112,3 +113,22 @@ with_mode-requires g c =
     let tables : All HasTable reading.types = c.in_ok-last.ensures.tables (subst (λ (r : PlainReading). All HasTable r.types) (sym c.new-reading.ensures) (All-nil HasTable)) in
     reading_is_fabric reading types lines columns grid c.in_ok-wires.wires c.into_parts-types.ensures.types grid_of sound (some_lines reading lines sound c.in_ok-last.ensures.closed grid_of) tables columns_are grid_is wires_are
     c.if-wires-gt-MOST_WIRES.false
+
+pub returns-clause-spelled : goal.returns-clause-spelled
+returns-clause-spelled g c = λ files is.
+    let name = c.args.name.now in
+    let reading = c.take_file.new.reading in
+    let last = c.in_ok-last.last in
+    let types = c.into_parts-types.result.0.items in
+    let lines = c.in-Some.lines.items in
+    let columns = c.column_count-columns.result in
+    let grid = c.in_ok-grid.grid.items in
+    let read : ReadsFileTo files (top name) start reading last =
+    subst (λ (r : PlainReading). ReadsFileTo files (top name) r reading last) c.new-reading.ensures (c.in_ok-last.ensures.read files is) in
+    let grid_of : reading.grid ≡ Some lines = sym (rw c.in-Some.is at c.into_parts-types.ensures.grid) in
+    let columns_are : columns ≡ column_count lines = c.column_count-columns.ensures ∙ ap column_count c.deref-3.ensures.value in
+    let grid_is : grid ≡ places types lines = c.in_ok-grid.ensures ∙ (λ j. places (c.deref-4.ensures.value j) (c.deref-5.ensures.value j)) in
+    let named : strange_line types lines ≡ None = sym (c.in_default-strange_line.ensures ∙ (λ j. strange_line (c.deref.ensures.value j) (c.deref-2.ensures.value j))) in
+    let wires_are : c.in_ok-wires.wires ≡ wire_count (fabric_of types columns grid) = c.in_ok-wires.ensures ∙ (λ j. wire_count (fabric_of (c.deref-6.ensures.value j) columns (c.deref-7.ensures.value j))) in
+    spells files name reading last read types c.into_parts-types.ensures.types lines grid_of columns grid c.in_ok-wires.wires c.in_ok-with_mode.field-0 named columns_are grid_is wires_are
+    c.if-wires-gt-MOST_WIRES.false (c.in_ok-with_mode.ensures ∙ ap (λ (mode : Mode). in_mode mode (fabric_of types columns grid)) c.configuration-mode.ensures)
