@@ -41,7 +41,7 @@ drive_value fabric bits held now (bel_output x y bel pin) = option_map_or (pin_v
 
 -- ---- the law
 
--- In any assignment in which the configuration latches show these bits, and which is settled on the own points of a wire, the wire has the
+-- In any assignment in which the configurations show these bits, and which is settled on the own points of a wire, the wire has the
 -- value of what drives it under these bits. No other point need be settled.
 abbrev pub ShowsDrives : PlainFabric → List PlainModule → Type 0
 ShowsDrives fabric text =

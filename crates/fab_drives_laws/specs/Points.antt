@@ -21,7 +21,7 @@ use Rattle.fab_tile_drives_laws.specs.Tiles.{ShowsTileBits, IsOwnOfOutput, IsOwn
 abbrev pub place_path : (x y : ℕ) → Path
 place_path x y = place_name x y ∷ []
 
--- the latches of all tiles show these configuration bits
+-- the configurations of all tiles show these bits
 abbrev pub ShowsBits : PlainFabric → PlainBits → Assignment → Type 0
 ShowsBits fabric bits now =
     (x y : ℕ) (tile : PlainTile) → tile_at fabric x y ≡ Some tile → ShowsTileBits (place_path x y) tile (bits x y) now

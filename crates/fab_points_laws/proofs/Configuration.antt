@@ -246,7 +246,7 @@ module _ (fabric : PlainFabric) (text : List PlainModule) (is : IsFabric fabric)
   chain_loads chain =
       all_mapped Loads (λ (placed : PlacedTile). named_bits [] (chain_wire_name placed.x placed.y) 1) (placed_tiles fabric)
       (λ placed listed. by_name [] (top_module fabric) (chain_wire_name placed.x placed.y) 1 has.top_is (chain_wire_width fabric chain placed listed)
-        (named_top modes.Chain chain (chain_wire_name placed.x placed.y) (wire_named fabric placed listed)))
+      (named_top modes.Chain chain (chain_wire_name placed.x placed.y) (wire_named fabric placed listed)))
 
   -- what carries the bits to the tiles
   carrying_loads : (other : Mode) → mode ≡ other → All Loads (carrying_configuration other fabric)
@@ -296,7 +296,7 @@ module _ (fabric : PlainFabric) (text : List PlainModule) (is : IsFabric fabric)
             (of_name some config_name (tile_bits tile) (bits_port mode (tile_bits tile) (config_items mode tile)))
             (All-append Loads ports kept
             (all_mapped Loads (λ (port : Port). named_bits inner port.name (width port.shape)) (config_ports mode)
-              (λ port among. of_name some port.name (width port.shape) (config_port_width mode tile port among)))
+            (λ port among. of_name some port.name (width port.shape) (config_port_width mode tile port among)))
             (all_counted Loads (tile_bits tile) (λ bit. named_bits inner (latch_name bit) 1) (λ bit few. of_name some (latch_name bit) 1 (latch_width mode tile bit few)))))
 
     -- ---- where bits are used

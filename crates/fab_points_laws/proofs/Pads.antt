@@ -80,8 +80,13 @@ carrying_ports mode name others =
     let differs : (k : ℕ) → k < 5 → get_or names k [] ≢ name = λ k few. All-contains (λ (other : List ℕ). other ≢ name) names (get_or names k []) others (Contains-get_or names k [] few) in
     each_mode (IsOutput name)
     (each_all (IsOutput name) frame_ports ((λ same. absurd (differs 0 (omega arith) same)), ((λ same. absurd (differs 1 (omega arith) same)), tt)))
-    (each_all (IsOutput name) chain_ports ((λ same. absurd (differs 2 (omega arith) same)), ((λ same. absurd (differs 3 (omega arith) same)),
-      ((λ same. absurd (differs 4 (omega arith) same)), ((λ same. refl), tt))))) mode
+    (each_all (IsOutput name) chain_ports (
+      (λ same. absurd (differs 2 (omega arith) same)),
+      (
+        (λ same. absurd (differs 3 (omega arith) same)),
+        ((λ same. absurd (differs 4 (omega arith) same)), ((λ same. refl), tt)),
+      ),
+    )) mode
 
 all_ports : (mode : Mode) (tile : PlainTile) (name : List ℕ) → user_clock_name ≢ name → All (IsOutput name) (config_ports mode) →
     ((row : WireRow) (bit : ℕ) → end_name row bit ≢ name) → ((other : ℕ) → pad_name other top_name ≢ name) → All (IsOutput name) (tile_ports mode tile)
@@ -117,8 +122,10 @@ module _ (mode : Mode) (tile : PlainTile) (number : ℕ) (bel : Bel) (stands : s
       nat_eq (get_or chain_in_name 4 0) (get_or name 4 0) ≡ false →
       All (λ other. other ≢ name) (frame_data_name ∷ frame_strobe_name ∷ clock_name ∷ write_strobe_name ∷ chain_in_name ∷ [])
   told_all name frame strobe clock write comes =
-      each_all (λ other. other ≢ name) (frame_data_name ∷ frame_strobe_name ∷ clock_name ∷ write_strobe_name ∷ chain_in_name ∷ []) (told_apart 4 frame_data_name name frame,
-        (told_apart 4 frame_strobe_name name strobe, (told_apart 4 clock_name name clock, (told_apart 4 write_strobe_name name write, (told_apart 4 chain_in_name name comes, tt)))))
+      each_all (λ other. other ≢ name) (frame_data_name ∷ frame_strobe_name ∷ clock_name ∷ write_strobe_name ∷ chain_in_name ∷ []) (
+        told_apart 4 frame_data_name name frame,
+        (told_apart 4 frame_strobe_name name strobe, (told_apart 4 clock_name name clock, (told_apart 4 write_strobe_name name write, (told_apart 4 chain_in_name name comes, tt)))),
+      )
 
   -- pads are told apart from what comes in by the first letter of the port, and from other ports before
   outside_is_output : (port ≡ codes "I_top") ⊎ (port ≡ codes "T_top") → is_input (tile_ports mode tile) (pad_name number port) ≡ false

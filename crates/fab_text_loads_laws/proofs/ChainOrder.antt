@@ -122,6 +122,8 @@ module _ (shows : List ℕ → Bool) (held : PlacedTile → List Bool) where
       let goes : shows own ≡ chain_out (shows before) (held p) = All-head (LetsOut before (p ∷ more)) p more out ∙ ap (λ bit. chain_out bit (held p)) first in
       let later =
       handed_on own more (pairs_tail IsElsewhere p more apart)
-      (lets_out_same before own (p ∷ more) more more same (All-tail (LetsOut before (p ∷ more)) p more out)) in
-      (first, handed_same (comes_along own more) (comes_along before (p ∷ more)) (chain_out (shows before) (held p)) more same
-      (subst (λ bit. IsHandedOn (comes_along own more) held bit more) goes later))
+      (lets_out_same before own (p ∷ more) more more same (All-tail (LetsOut before (p ∷ more)) p more out)) in (
+        first,
+        handed_same (comes_along own more) (comes_along before (p ∷ more)) (chain_out (shows before) (held p)) more same
+            (subst (λ bit. IsHandedOn (comes_along own more) held bit more) goes later),
+      )

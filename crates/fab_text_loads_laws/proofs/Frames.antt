@@ -48,9 +48,9 @@ module _ (fabric : PlainFabric) (next : NextValues) (text : List PlainModule) (h
   still_configured held after configured same =
       let waits = loader_waits fabric has.frames bits held configured in record {
         rests = rests_in fabric has.frames (record {
-            state = λ bit few. register_same held after same state_name bit (omega (arith, few, state_width fabric.rows next)) ∙ waits.state bit few;
-            strobe = register_same held after same strobe_register_name 0 (omega (arith, strobe_register_width fabric.rows next)) ∙ waits.strobe;
-          });
+          state = λ bit few. register_same held after same state_name bit (omega (arith, few, state_width fabric.rows next)) ∙ waits.state bit few;
+          strobe = register_same held after same strobe_register_name 0 (omega (arith, strobe_register_width fabric.rows next)) ∙ waits.strobe;
+        });
         bits_held = λ x y tile there number few.
             same (latch_point x y number) (latch_loads fabric next text has is x y number (has_latch fabric next text has is x y tile number there few))
             ∙ configured.bits_held x y tile there number few;

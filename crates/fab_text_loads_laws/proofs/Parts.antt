@@ -351,9 +351,15 @@ latch_of_tile fabric path m target gate e (the_loader next frames at is) there =
 latch_of_tile fabric path m target gate e (a_tile x y tile stands at is) there =
     absurd (latch_is (IsTilePart tile) NoLatch NoFlop m (tile_module (text_mode fabric) tile) (tile_is (text_mode fabric) tile) is target gate e there)
 latch_of_tile fabric path m target gate e (a_config x y tile stands at is) there =
-    let mode = text_mode fabric in
-    (x, y, tile, stands, at, latch_is NoInstance (IsLatchOf mode tile) (IsFlopOf mode tile) m (config_module mode tile)
-    (config_is mode tile) is target gate e there)
+    let mode = text_mode fabric in (
+      x,
+      y,
+      tile,
+      stands,
+      at,
+      latch_is NoInstance (IsLatchOf mode tile) (IsFlopOf mode tile) m (config_module mode tile)
+          (config_is mode tile) is target gate e there,
+    )
 latch_of_tile fabric path m target gate e (a_matrix tile is) there =
     absurd (latch_is NoInstance NoLatch NoFlop m (matrix_module tile) (matrix_is tile) is target gate e there)
 latch_of_tile fabric path m target gate e (a_bel x y tile i found kind stands at found_here keeps is) there =

@@ -234,7 +234,7 @@ module _ (fabric : PlainFabric) (next : NextValues) (text : List PlainModule) (h
             on_named (latch_point x y number_of_bit) (hold (config_path x y) gate data_value 0) (
               in_configuration x y tile there refl,
               declared_at text (config_path x y) (config_module modes.Frames tile) (latch_name number_of_bit) 0 config_here
-              (omega (arith, latch_width modes.Frames tile number_of_bit few)),
+                  (omega (arith, latch_width modes.Frames tile number_of_bit few)),
             )
             (latched_by text (config_path x y) (config_module modes.Frames tile) config_here (latch_name number_of_bit) gate data_value 0
             (latch_there tile number_of_bit few))

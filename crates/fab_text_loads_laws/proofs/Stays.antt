@@ -129,10 +129,10 @@ module _ (fabric : PlainFabric) (text : List PlainModule) (has : HasFabric fabri
   module _ (clock : List ℕ) (held now after : Assignment) (ticks : Ticks (IsLoading text) text clock held now after)
       (flop_keeps : clock ≡ clock_name → (path : Path) (target : List ℕ) (bit : ℕ) → IsOfClock fabric path target → is_declared text
       (point path target bit) ≡ true →
-          after (point path target bit) ≡ held (point path target bit))
+      after (point path target bit) ≡ held (point path target bit))
       (latch_keeps : (x y : ℕ) (tile : PlainTile) (target : List ℕ) (bit : ℕ) → tile_at fabric x y ≡ Some tile → IsLatchOf (text_mode fabric) tile target →
-          is_declared text (point (config_path x y) target bit) ≡ true →
-          after (point (config_path x y) target bit) ≡ held (point (config_path x y) target bit)) where
+      is_declared text (point (config_path x y) target bit) ≡ true →
+      after (point (config_path x y) target bit) ≡ held (point (config_path x y) target bit)) where
     flop_stays : (p : Point) (path : Path) (name : List ℕ) (e : PlainExpr) (bit : ℕ) → is_declared text p ≡ true → IsLoading text p →
         Drives text p (flop path name e bit) →
         clock_of text path name ≡ Some clock_name → after p ≡ held p
@@ -185,7 +185,7 @@ module _ (fabric : PlainFabric) (text : List PlainModule) (has : HasFabric fabri
 module _ (text : List PlainModule) (Configured : Assignment → Type 0)
     (goes : (held after : Assignment) → Configured held → ((p : Point) → IsLoading text p → after p ≡ held p) → Configured after)
     (one_stays : (moment : Moment) (held now after : Assignment) → Configured held → IsQuiet moment → IsSettledOn (IsLoading text) text moment.inputs held now →
-        Ticks (IsLoading text) text moment.clock held now after → (p : Point) → IsLoading text p → after p ≡ held p) where
+    Ticks (IsLoading text) text moment.clock held now after → (p : Point) → IsLoading text p → after p ≡ held p) where
   pub run_stays : (moments : List Moment) (held after : Assignment) → Configured held → All IsQuiet moments → IsRunOn (IsLoading text) text moments held after →
       (p : Point) → IsLoading text p → after p ≡ held p
   run_stays [] held after configured quiet run p loading = run p loading

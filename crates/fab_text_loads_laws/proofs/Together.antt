@@ -40,8 +40,11 @@ module _ (agree : LoadingRunsAgree) (stay : LoadingPointsStay) (exist : RunsExis
 
   text_runs_once : (fabric : PlainFabric) (text : List PlainModule) → HasFabric fabric text → IsSound text → RunsOnce text
   text_runs_once fabric text has sound =
-      runs_once text sound (record { loader_clock = ap (λ m. is_input_of m clock_name) has.top_is; user_clock = ap
-      (λ m. is_input_of m user_clock_name) has.top_is })
+      runs_once text sound (record {
+        loader_clock = ap (λ m. is_input_of m clock_name) has.top_is;
+        user_clock = ap
+            (λ m. is_input_of m user_clock_name) has.top_is;
+      })
 
   frames_load : TicksKeepMachines → StreamsLoad → (fabric : PlainFabric) (next : NextValues) (text : List PlainModule) → IsFabric fabric →
       HasLoader fabric next text → IsSound text →

@@ -14,10 +14,12 @@ use Rattle.fab_drives_laws.specs.fab_fabric_text_defs_Texts.{loaders_of}
 -- By their names are found the loaders, and the module of each tile that stands at some place.
 pub record HasTopModules (modules : List PlainModule) (fabric : PlainFabric) : Type 0 where
   pub loaders_are : All (λ loader. module_named modules loader.name ≡ Some loader) (loaders_of (text_mode fabric) fabric.rows)
-  pub tiles_are : (x y : ℕ) (tile : PlainTile) → tile_at fabric x y ≡ Some tile → module_named modules (tile_module_name tile) ≡ Some (tile_module (text_mode fabric) tile)
+  pub tiles_are : (x y : ℕ) (tile : PlainTile) → tile_at fabric x y ≡ Some tile →
+      module_named modules (tile_module_name tile) ≡ Some (tile_module (text_mode fabric) tile)
 
 -- No port of these modules but CLK of a loader, and UserCLK and CLK of a tile, serves as a clock.
 pub record HasTopClocks (text : List PlainModule) (fabric : PlainFabric) : Type 0 where
-  pub of_loaders : All (λ loader. (port : List ℕ) → ServesAsClock text loader port → port ≡ clock_name) (loaders_of (text_mode fabric) fabric.rows)
-  pub of_tiles : (x y : ℕ) (tile : PlainTile) → tile_at fabric x y ≡ Some tile → (port : List ℕ) → ServesAsClock text (tile_module (text_mode fabric) tile) port →
-      (port ≡ user_clock_name) ⊎ (port ≡ clock_name)
+  pub of_loaders : All (λ loader. (port : List ℕ) → ServesAsClock text loader port → port ≡ clock_name)
+      (loaders_of (text_mode fabric) fabric.rows)
+  pub of_tiles : (x y : ℕ) (tile : PlainTile) → tile_at fabric x y ≡ Some tile →
+      (port : List ℕ) → ServesAsClock text (tile_module (text_mode fabric) tile) port → (port ≡ user_clock_name) ⊎ (port ≡ clock_name)
