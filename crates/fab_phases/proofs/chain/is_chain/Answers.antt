@@ -1,5 +1,4 @@
 use Rattle.std.proofs.Common.{ℕ, ◌<◌, subst, arith, get_or}
-use Rattle.std.specs.Bool.{IsTrue}
 use Rattle.std.proofs.lemmas.Option.{slice_get-get_or}
 use Rattle.fab_phases.specs.Loading.{Takes}
 use Rattle.fab_phases.proofs.Chained.{chain_all, chain_more, chain_none}
