@@ -31,7 +31,8 @@ use Rattle.fab_read.specs.Fabrics.{SpellsFabric, MeetsFabric}
 use Rattle.fab_designs.specs.Implementations.{SpellsImplementation, RefusesImplementation, ReadsImplementation, MeetsImplementation}
 use Rattle.fab_spelled_fabrics_laws.specs.Laws.{SpelledFabricsAreFabrics, SpelledFabricsHaveTiles}
 use Rattle.fab_flow.specs.Generating.{text_length, most_text_bytes, IsTooLong, MeetsGenerate, IsReadyToGenerate}
-use Rattle.fab_flow.specs.Serial.{serial_length, RefusesSerial, chain, long, MeetsSerial, IsReadyForSerial}
+use Rattle.fab_flow.specs.Serial.{serial_length, RefusesSerial, MeetsSerial, IsReadyForSerial}
+use Rattle.fab_flow.specs.Serial as serials
 use Rattle.fab_flow.specs.Bits.{BitsFiles, ReadsFeatures, MeetsFeatures, RefusesBits, illegal, MeetsBits, IsReadyForBits}
 use Rattle.fab_flow.specs.BitFeatures.{FeaturesFiles, SpellsBits, RefusesBitstream, cut, wrong, MeetsBitstream, MeetsBitFeatures, IsReadyForFeatures}
 use Rattle.fab_flow.specs.Partial.{PartialFiles, HasFrames, RefusesChain, RefusesPartial, too_far, in_use, MeetsContent, MeetsRunning, MeetsPartial, IsReadyToExchange}
@@ -106,11 +107,11 @@ module _ (files : Map) where
   serial_content : (name : List ℕ) (fabric : PlainFabric) → SpellsFabric files name fabric →
       IsReadyForSerial files name ⊎ ((fault : Fault) × RefusesSerial name fabric fault)
   serial_content name fabric spelled = elim (by_mode fabric.mode) [
-    | inr is ↦ inr (fault_at name 0 (problems.Unsupported (codes "serial FlipFlopChain")), chain is)
+    | inr is ↦ inr (fault_at name 0 (problems.Unsupported (codes "serial FlipFlopChain")), serials.chain is)
     | inl is ↦
         elim (cases_lt most_text_bytes (serial_length fabric)) [
           | inr short ↦ inl (record { fabric = fabric; spelled = spelled; frames = is; short = short })
-          | inl much ↦ inr (fault_at name 0 (problems.Limit quantities.TextBytes (serial_length fabric) most_text_bytes), long is much)
+          | inl much ↦ inr (fault_at name 0 (problems.Limit quantities.TextBytes (serial_length fabric) most_text_bytes), serials.long is much)
         ]
   ]
 
