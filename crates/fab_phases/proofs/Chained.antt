@@ -1,13 +1,13 @@
 -- A chain that is moved by many bits at once has made a step for each of them.
-use Rattle.std.proofs.Common.{◌≡◌, ◌≢◌, ◌⊎◌, ℕ, zero, suc, ◌+◌, ◌-◌, ◌*◌, ◌/◌, ◌%◌, ◌<◌, ◌≤◌, Bool, true, false, nat_eq, nat_lt, List, [], ◌∷◌, ◌++◌, length, map, reverse, get_or, Option, Some, refl, sym, ap, ◌∙◌, subst, inl, inr, arith, eq-eqb, ne_eqb, lt-ltb, le-ltb, if◌then◌else◌, slice_set}
-use Rattle.std.specs.List.{flat_map, slice_get}
-use Rattle.std.specs.Option.{ForSome}
+use Rattle.std.proofs.Common.{◌≡◌, ◌≢◌, ◌⊎◌, ℕ, zero, suc, ◌+◌, ◌-◌, ◌*◌, ◌/◌, ◌%◌, ◌^◌, ◌<◌, ◌≤◌, Bool, true, false, nat_eq, nat_lt, List, [], ◌∷◌, ◌++◌, length, map, reverse, get_or, Some, refl, sym, ap, ◌∙◌, subst, inl, inr, arith, eq-eqb, ne_eqb, lt-ltb, le-ltb, slice_set}
+use Rattle.std.specs.List.{slice_get}
 use Rattle.std.proofs.lemmas.Bool.{cases_eq, cases_lt}
 use Rattle.std.proofs.lemmas.List.{map-append}
-use Rattle.std.proofs.lemmas.Option.{slice_get_within, slice_get-get_or}
+use Rattle.std.proofs.Math.Nat.{div-one}
+use Rattle.std.proofs.lemmas.Option.{get_or_from_slice_get, slice_get_within, slice_get-get_or}
 use Rattle.fab_meaning.specs.Loading.{single_bits}
 use Rattle.fab_meaning.specs.Value.{bit_at}
-use Rattle.fab_systems_laws.specs.Ternary.{known, unknown, Tern as PlainTern}
+use Rattle.fab_systems_laws.specs.Ternary.{known, unknown}
 use Rattle.fab_ternary.specs.declared.Tern.{Tern}
 use Rattle.fab_ternary.specs.Terns.{plain_tern}
 use Rattle.fab_compiled.specs.Leading.{PointTerns, IsMarked}
@@ -23,13 +23,14 @@ use Rattle.fab_network.specs.Solved.{asked_by, IsLeast, Solves}
 use Rattle.fab_demand.specs.Asked.{Asked, IsPossible}
 use Rattle.fab_demand.specs.Demand.{IsAsked, IsKept, IsKeptBy}
 use Rattle.fab_phases.specs.Lists.{Each, HasOne}
-use Rattle.fab_phases.specs.Loading.{AreLoading, IsChain, IsInChain, Rises, Takes, before_at, point_at}
-use Rattle.fab_phases.specs.Words.{AreLoadSteps, IsLeft, IsLoadingAt, IsLoadStep, IsOffered, word_bits}
+use Rattle.fab_phases.specs.Loading.{AreFlops, AreLoading, IsChain, IsInChain, Rises, Takes, before_at, point_at}
+use Rattle.fab_phases.specs.Words.{AreLoadSteps, IsLoadingAt, IsLoadStep, IsOffered, word_bits}
 use Rattle.fab_phases.specs.inner.Chain.{behind, bit_for, bits_of, comes_to, fed, IsInChainBefore, IsMoved, ticked}
+use Rattle.fab_phases.specs.inner.Ticks.{AreFitFlops}
 use Rattle.fab_phases.specs.declared.loading.LoadedFlop.{LoadedFlop}
 use Rattle.fab_phases.specs.declared.loading.Loading.{Loading}
 use Rattle.fab_phases.proofs.Shifting.{before_has, behind_few, behind_many, behind_other, behind_source, bit_comes, bits_long, one_place, point_here, ticked_keeps, ticked_takes}
-use Rattle.fab_phases.proofs.Stepping.{all_bits, offered_kept, tick_of}
+use Rattle.fab_phases.proofs.Stepping.{all_bits, offered_kept}
 
 -- ---- one step
 
@@ -156,7 +157,7 @@ still_comes flops words place old now flop rises at some so_far =
     elim (cases_lt (place / 32) (length words)) [
       | inl l ↦ let few : nat_lt (place / 32) (length words) ≡ true = lt-ltb (place / 32) (length words) l in rw few refl
       | inr g ↦
-          let many : nat_lt (place / 32) (length words) ≡ false = le-ltb (length words) (place / 32) g in
+          let many : nat_lt (place / 32) (length words) ≡ false = le-ltb (place / 32) (length words) g in
           let within : place < length flops = slice_get_within flops place flop at in
           let k = place - 32 * length words in
           let f = get_or flops k flop in
@@ -202,7 +203,7 @@ place_behind flops source words old rises apart place flop at =
           rw few (ap known (sym (bit_comes words place inside)) ∙ ap (λ k. known (get_or (bits_of words) k false)) index
           ∙ sym (behind_few source flops rises apart (bits_of words) old place flop at (omega (arith, long, inside))))
       | inr g ↦
-          let many : nat_lt (place / 32) (length words) ≡ false = le-ltb (length words) (place / 32) g in
+          let many : nat_lt (place / 32) (length words) ≡ false = le-ltb (place / 32) (length words) g in
           let within : place < length flops = slice_get_within flops place flop at in
           let past : 32 * length words ≤ place = omega (arith, g) in
           let k = place - 32 * length words in
@@ -228,6 +229,14 @@ has_or_not (flop ∷ flops) point =
         | inr none ↦ inr (λ one. not_first flop flops point apart none one)
       ]
     ]
+
+-- the last bit of the last word comes to the first place
+pub first_bit : (words : List ℕ) (last : ℕ) → slice_get words (length words - 1) ≡ Some last → bit_for words 0 ≡ nat_eq (last % 2) 1
+first_bit words last at =
+    let index : length words - 1 - 0 / 32 ≡ length words - 1 = omega arith in
+    ap (λ k. nat_eq (get_or words k 0 / 2 ^ 0 % 2) 1) index
+    ∙ ap (λ n. nat_eq (n / 2 ^ 0 % 2) 1) (get_or_from_slice_get words (length words - 1) last 0 at)
+    ∙ ap (λ n. nat_eq (n % 2) 1) (div-one last)
 
 -- all places and the input
 pub moved_all : (flops : List LoadedFlop) (source : ℕ) (words : List ℕ) (old : PointTerns) (now : List Tern) (left : Tern) → Rises flops →
@@ -305,12 +314,16 @@ chain_within network asked loads loading count are long k flop at =
     let less : flop.point < length network.drives.items = slice_get_within network.drives.items flop.point (Flop Loader flop.next) (are.flops k flop at).is in
     omega (arith, less, long)
 
+-- flip-flops that loading sets fit
+pub loaded_fit : (network : Network) (asked : Asked) (loads : List Bool) (loaded : List LoadedFlop) → AreFlops network asked loads loaded → AreFitFlops network loaded
+loaded_fit network asked loads loaded are k flop at =
+    let is = are k flop at in
+    record { point = slice_get_within network.drives.items flop.point (Flop Loader flop.next) is.is; next = is.ready.fit }
+
 -- the chain of a loading that has one
 pub chain_of : (network : Network) (asked : Asked) (loads : List Bool) (loading : Loading) (source : ℕ) → loading.chain ≡ Some source → AreLoading network asked loads loading →
     IsChain network asked source loading.flops.items loading.runs.items
-chain_of network asked loads loading source is are =
-    let is_chain : ℕ → Type 0 = λ input. IsChain network asked input loading.flops.items loading.runs.items in
-    subst (λ (input : Option ℕ). ForSome input is_chain) is are.chain
+chain_of network asked loads loading source is are = are.chain source is
 
 pub words_step : (network : Network) (loading : Loading) (loads : List Bool) (source : ℕ) (demand : Asked) (words : List ℕ) (old new : List Tern) →
     ((given : PointTerns) → (t : PointTerns) × IsLeast network.trees.items network.drives.items given t) → loading.chain ≡ Some source →

@@ -1,6 +1,6 @@
 //! How words are loaded, whole or bit by bit.
 
-ghost use Rattle.std.specs.Prelude.{◌≡◌, ◌+◌, ◌<◌, ◌≤◌, ℕ, [], ◌∷◌, Bool, List, length, map};
+ghost use Rattle.std.specs.Prelude.{◌≡◌, ◌+◌, ◌<◌, ◌≤◌, ℕ, [], ◌∷◌, Bool, List, length, map, IsTrue, Some};
 ghost use Rattle.std.specs.List.{flat_map};
 ghost use Rattle.fab_meaning.specs.Loading.{single_bits};
 ghost use Rattle.fab_ternary.specs.Terns.{plain_tern};
@@ -83,12 +83,22 @@ pub fn load_bits(
     ensures steps { (loads : List Bool) → IsLoadingAt network.now loading.now loads point 1 demand.old given.old →
         AreLoadSteps network.now loads point (flat_map single_bits (map word_bits words.now)) (kept_tern given.old) (kept_tern given.new) }
 {
-    if loading.chain == Some(point) {
+    if is_behind(loading.chain, point) {
         move_chain(&loading.flops, point, words, given);
         return;
     }
     for word in words {
         load_word_bits(network, loading, point, *word, demand, given);
+    }
+}
+
+// Whether a chain stands behind this input.
+fn is_behind(chain: Option<u32>, point: u32) -> bool
+    ensures { IsTrue result → chain ≡ Some point }
+{
+    match chain {
+        Some(source) => source == point,
+        None => false,
     }
 }
 
@@ -112,7 +122,7 @@ fn load_word_bits(
     ensures steps { (loads : List Bool) → IsLoadingAt network.now loading.now loads point 1 demand.old given.old →
         AreLoadSteps network.now loads point (single_bits (word_bits word)) (kept_tern given.old) (kept_tern given.new) }
 {
-    for place in 0..32 {
+    for place in 0..32_u32 {
         let bit = word >> (31 - place) & 1 == 1;
         load_bit(network, loading, point, bit, demand, given);
     }

@@ -17,9 +17,11 @@ pub loop-place-preserved : goal.loop-place-preserved
 loop-place-preserved c =
     let place = c.loop-place.place in
     let flop = get_or c.args.flops.now place no_flop in
-    let before : (n : ℕ) → c.before_of-before.result ≡ n → Takes c.args.network.now c.args.demand.now flop.next n = λ n same. ? in
+    let same = c.before_of-before.ensures in
+    let takes = c.is_taken_from.ensures c.if-not-is_taken_from.false in
+    let above = c.is_above.ensures c.if-not-is_above.false in
     chain_more c.args.network.now c.args.demand.now c.args.source c.args.flops.now place flop (slice_get-get_or c.args.flops.now place no_flop c.loop-place-test.true)
-    ? ? c.loop-place.invariant
+    (subst (Takes c.args.network.now c.args.demand.now flop.next) same takes) (λ some. subst (λ (before : ℕ). before < flop.point) same (above some)) c.loop-place.invariant
 
 pub returns : goal.returns
 returns c = λ yes. chain_all c.args.network.now c.args.demand.now c.args.source c.args.flops.now c.loop-place.place (omega arith) c.loop-place.invariant

@@ -1,6 +1,12 @@
-use Rattle.std.proofs.Common.{length, sym, subst}
+use Rattle.std.proofs.Common.{List, length, sym, subst}
+use Rattle.std.specs.Option.{ForSome}
+use Rattle.fab_phases.specs.Loading.{IsChain}
 use Rattle.fab_phases.specs.inner.Gathering.{AreGated, AreInRuns}
+use Rattle.fab_phases.specs.inner.Ticks.{AreFitFlops}
+use Rattle.fab_phases.specs.declared.loading.LoadedFlop.{LoadedFlop}
+use Rattle.fab_phases.specs.declared.loading.Run.{Run}
 use Rattle.fab_phases.proofs.Asking.{flops_grow, more_twice}
+use Rattle.fab_phases.proofs.Chained.{loaded_fit}
 use Rattle.fab_phases.proofs.Gathered.{gated_moved, has_gated_moved, has_latches}
 use Rattle.fab_phases.proofs.gathering.loading_of.Goals as goal
 
@@ -10,6 +16,12 @@ runs_of-requires-clause-latches c =
     let gated = gated_moved c.args.network.now c.latches_of.new.demand c.args.loads.now c.in_ok-latches.latches.items c.bring_together.new.latches.items c.bring_together.ensures
     made.latches in
     (c.args.loads.now, subst (AreGated c.args.network.now c.latches_of.new.demand c.args.loads.now) (sym c.deref.ensures.value) gated)
+
+pub chain_source-chain-requires-clause-flops : goal.chain_source-chain-requires-clause-flops
+chain_source-chain-requires-clause-flops c =
+    let flops = c.in_ok-flops.ensures in
+    subst (AreFitFlops c.args.network.now) (sym c.deref-2.ensures.value)
+    (loaded_fit c.args.network.now c.flops_of.new.demand c.args.loads.now c.in_ok-flops.flops.items flops.flops)
 
 pub returns-clause-more : goal.returns-clause-more
 returns-clause-more c =
@@ -35,4 +47,8 @@ returns-clause-loading c =
       has_latches = has_latches network loads (length network.drives.items) new c.in_ok-runs.runs.items
           (has_gated_moved network loads (length network.drives.items) old new c.bring_together.ensures latches.all)
           (subst (AreInRuns c.in_ok-runs.runs.items) c.deref.ensures.value runs.all);
+      chain =
+          subst (λ (rs : List Run). ForSome c.chain_source-chain.result (λ source. IsChain network asked source c.in_ok-flops.flops.items rs)) c.deref-3.ensures.value
+          (subst (λ (fs : List LoadedFlop). ForSome c.chain_source-chain.result (λ source. IsChain network asked source fs c.deref-3.result.now)) c.deref-2.ensures.value
+          c.chain_source-chain.ensures);
     }

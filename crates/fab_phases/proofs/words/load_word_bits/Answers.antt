@@ -1,4 +1,4 @@
-use Rattle.std.proofs.Common.{◌≡◌, ◌∙◌, ◌-◌, ◌/◌, ◌^◌, Bool, List, [], ◌∷◌, ap, bit_and, nat_eq, subst, sym, take, arith}
+use Rattle.std.proofs.Common.{◌∙◌, ◌-◌, ◌/◌, ◌^◌, Bool, List, [], ◌∷◌, ap, bit_and, nat_eq, subst, sym, take, arith}
 use Rattle.std.proofs.lemmas.Nat.Bits.{shr_and_one}
 use Rattle.fab_meaning.specs.Loading.{single_bits}
 use Rattle.fab_network.specs.Passes.{kept_tern}
