@@ -105,6 +105,7 @@ done_ready (Partial fabric implementation fasm first last out) files told after 
       implementation = made.implementation;
       features = made.features;
       spelled = made.spelled;
+      frames = made.frames;
       implemented = made.implemented;
       read = made.read;
       within = made.within;
