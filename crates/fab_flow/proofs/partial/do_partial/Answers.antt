@@ -39,7 +39,7 @@ returns-in_err-running-clause-cause g c =
     let before = c.in_ok-read.ensures.reads in
     rw (residual.1, residual.2)
     (implementation_cause (g.D.Desk.told c.args.desk.now) names (reads c.args.desk.now < reads c.read_implementation.new.desk) _ c.in_err-running.field-0.0 c.in_ok-read.read
-    (λ files is. c.in_ok-read.ensures.spelled files is) c.in_ok-check_frames.ensures (g.D.Desk.told c.read_fabric.new.desk) (reads c.read_fabric.new.desk < reads c.read_implementation.new.desk)
+    (λ files is. c.in_ok-read.ensures.spelled files is) c.in_ok-check_frames.ensures.frames (g.D.Desk.told c.read_fabric.new.desk) (reads c.read_fabric.new.desk < reads c.read_implementation.new.desk)
     c.in_ok-read.ensures.told (λ rose. omega (arith, rose, before)) c.in_err-running.ensures.cause)
 
 pub returns-in_err-features-clause-cause : goal.returns-in_err-features-clause-cause
@@ -55,7 +55,7 @@ returns-in_err-features-clause-cause g c =
     (λ files is. c.in_ok-running.ensures.spelled files is) in
     rw (residual.1, residual.2)
     (fasm_cause told names (reads c.args.desk.now < reads c.read_features.new.desk) _ c.in_err-features.field-0.0 c.in_ok-read.read (λ files is. c.in_ok-read.ensures.spelled files is)
-    c.in_ok-check_frames.ensures c.in_ok-running.running implemented (g.D.Desk.told c.read_implementation.new.desk) (reads c.read_implementation.new.desk < reads c.read_features.new.desk)
+    c.in_ok-check_frames.ensures.frames c.in_ok-running.running implemented (g.D.Desk.told c.read_implementation.new.desk) (reads c.read_implementation.new.desk < reads c.read_features.new.desk)
     same (λ rose. omega (arith, rose, before, later)) c.in_err-features.ensures.cause)
 
 -- ---- what was read is
@@ -71,7 +71,7 @@ returns-in_err-bytes-clause-cause g c =
     let features = features_behind told (g.D.Desk.told c.read_implementation.new.desk) c.args.fasm.now c.deref.result.now c.in_ok-features.features.items same c.deref.ensures.value
     (λ files is. c.in_ok-features.ensures.spelled files is) in
     rw (residual.1, residual.2)
-    (content_cause told names _ _ c.in_err-bytes.field-0.0 c.in_ok-read.read (λ files is. c.in_ok-read.ensures.spelled files is) c.in_ok-check_frames.ensures c.in_ok-running.running implemented
+    (content_cause told names _ _ c.in_err-bytes.field-0.0 c.in_ok-read.read (λ files is. c.in_ok-read.ensures.spelled files is) c.in_ok-check_frames.ensures.frames c.in_ok-running.running implemented
     c.deref.result.now features
     c.in_err-bytes.ensures.refused)
 
@@ -99,7 +99,7 @@ returns-clause-done g c =
     let of = c.in_ok-bytes.ensures in
     on_ok_weaker c.store_all.result (λ stored. done_of_store (λ files. MakesPartial files names) told outputs (g.D.Desk.told c.read_features.new.desk) (g.D.Desk.told c.store_all.new.desk)
     (λ files is. partial_made files names c.in_ok-read.read c.in_ok-running.running c.deref.result.now c.in_ok-bytes.bytes.items outputs (c.in_ok-read.ensures.spelled files is)
-    c.in_ok-check_frames.ensures (implemented files is) (features files is) of.within of.unused of.right of.made (ap (map plain_output) c.deref-2.ensures.value ∙ c.in_ok-outputs.ensures.are))
+    c.in_ok-check_frames.ensures.frames (implemented files is) (features files is) of.within of.unused of.right of.made (ap (map plain_output) c.deref-2.ensures.value ∙ c.in_ok-outputs.ensures.are))
     (c.in_ok-features.ensures.told ∙ same) stored) c.store_all.ensures.done
 
 pub returns-clause-leaves : goal.returns-clause-leaves
@@ -116,7 +116,7 @@ returns-clause-leaves g c =
     IfErr-weaker c.store_all.result _ _
     (λ fault stopped. leaves_of_store (λ files. MakesPartial files names) told outputs (g.D.Desk.told c.read_features.new.desk) (g.D.Desk.told c.store_all.new.desk) _ fault
     (λ files is. partial_made files names c.in_ok-read.read c.in_ok-running.running c.deref.result.now c.in_ok-bytes.bytes.items outputs (c.in_ok-read.ensures.spelled files is)
-    c.in_ok-check_frames.ensures (implemented files is) (features files is) of.within of.unused of.right of.made (ap (map plain_output) c.deref-2.ensures.value ∙ c.in_ok-outputs.ensures.are))
+    c.in_ok-check_frames.ensures.frames (implemented files is) (features files is) of.within of.unused of.right of.made (ap (map plain_output) c.deref-2.ensures.value ∙ c.in_ok-outputs.ensures.are))
     (c.in_ok-features.ensures.told ∙ same) stopped) c.store_all.ensures.stopped
 
 pub returns-clause-cause : goal.returns-clause-cause
@@ -139,7 +139,7 @@ returns-clause-cause g c =
       implementation = c.in_ok-running.running;
       features = c.deref.result.now;
       spelled = c.in_ok-read.ensures.spelled files is;
-      frames = c.in_ok-check_frames.ensures;
+      frames = c.in_ok-check_frames.ensures.frames;
       implemented = implemented files is;
       read = features files is;
       within = of.within;

@@ -13,8 +13,8 @@ use Rattle.fab_flow.proofs.partial.exchange.Goals as goal
 in_frames : (fabric : PlainFabric) → fabric.mode ≡ modes.Frames → stream_mode fabric ≡ modes.Frames
 in_frames fabric is = sym (mode_told fabric modes.Frames (sym is))
 
-pub partial-words-requires-clause-frames : goal.partial-words-requires-clause-frames
-partial-words-requires-clause-frames c = in_frames c.args.fabric.now c.requires.frames
+pub partial-requires-clause-frames : goal.partial-requires-clause-frames
+partial-requires-clause-frames c = in_frames c.args.fabric.now c.requires.frames
 
 pub returns-in_err-bits-clause-refused : goal.returns-in_err-bits-clause-refused
 returns-in_err-bits-clause-refused c =

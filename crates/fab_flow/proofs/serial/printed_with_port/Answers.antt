@@ -34,7 +34,7 @@ overflow_sub-first c =
     let text = c.in_ok-text.text in
     let all = text_long c.args.fabric.now (plain_text text) c.in_ok-text.ensures.text in
     let long = length-map text.modules.items plain_module in
-    omega (arith, all, long, c.len-top.ensures, text.modules.ok.0, c.loader_count-first.ensures)
+    omega (arith, all, long, c.len-top.ensures, text.modules.ok.0, c.loader_count.ensures)
 
 pub printed_text-requires-clause-within : goal.printed_text-requires-clause-within
 printed_text-requires-clause-within c =
@@ -97,4 +97,4 @@ returns-clause-length c =
     let unloaded : ℕ → ℕ = λ loaders. length (text_bytes (remove_range (plain_text whole) (top - loaders) top)) in
     let without = port_without_loaders fabric (plain_text whole) top whole_is at in
     IfOk-weaker c.printed_text.result _ _
-    (λ printed is. is ∙ ap unloaded c.loader_count-first.ensures ∙ ap (λ (ms : List PlainModule). length (text_bytes ms)) without) c.printed_text.ensures.unloaded
+    (λ printed is. is ∙ ap unloaded c.loader_count.ensures ∙ ap (λ (ms : List PlainModule). length (text_bytes ms)) without) c.printed_text.ensures.unloaded

@@ -12,7 +12,7 @@ returns-clause-readable c =
 
 pub returns-in_err-check_frames-clause-refused : goal.returns-in_err-check_frames-clause-refused
 returns-in_err-check_frames-clause-refused c =
-    let residual = err_from_is_err_and c.from_residual-in_err-check_frames.result c.from_residual-in_err-check_frames.ensures.1 in
+    let residual = err_from_is_err_and c.from_residual.result c.from_residual.ensures.1 in
     rw (residual.1, residual.2)
     (chain_refused c.args.name.now c.args.fabric.now c.in_err-check_frames.field-0.0 c.in_err-check_frames.ensures.chain c.in_err-check_frames.ensures.refused)
 
@@ -20,5 +20,5 @@ pub returns-in_err-check_length-clause-refused : goal.returns-in_err-check_lengt
 returns-in_err-check_length-clause-refused c =
     let residual = err_from_is_err_and c.from_residual-in_err-check_length.result c.from_residual-in_err-check_length.ensures.1 in
     rw (residual.1, residual.2)
-    (long_refused c.args.name.now c.args.fabric.now c.in_ok-text.text.unloaded c.in_err-check_length.field-0.0 c.in_ok-check_frames.ensures
+    (long_refused c.args.name.now c.args.fabric.now c.in_ok-text.text.unloaded c.in_err-check_length.field-0.0 c.in_ok-check_frames.ensures.frames
     c.in_ok-text.ensures.length c.in_err-check_length.ensures.long)
