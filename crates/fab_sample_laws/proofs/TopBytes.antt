@@ -52,7 +52,7 @@ ports_have = record {
   clock = omega (arith, port_line true clock_name);
   user = omega (arith, port_line true user_clock_name);
   strobe = omega (arith, port_line true write_strobe_name);
-  data = data_line;
+  words = data_line;
   pad = λ input x y place port short. omega (arith, port_line input (pad_port_name x y place port), pad_port_bytes x y place port, short);
 }
 

@@ -18,7 +18,7 @@ data_bits modes.Frames = lit≤ tt
 data_bits modes.Chain = lit≤ tt
 
 ports_have : PortsHave port_bits 32
-ports_have = record { clock = lit≤ tt; user = lit≤ tt; strobe = lit≤ tt; data = data_bits; pad = λ input x y place port short. lit≤ tt }
+ports_have = record { clock = lit≤ tt; user = lit≤ tt; strobe = lit≤ tt; words = data_bits; pad = λ input x y place port short. lit≤ tt }
 
 module _ (fabric : PlainFabric) (small : All IsSmallTile fabric.types) (frames : text_mode fabric ≡ modes.Frames)
     (of : List ℕ → ℕ) (of_loader : of loader_module_name ≤ 10000)

@@ -75,7 +75,7 @@ pub record PortsHave (f : Port → ℕ) (line : ℕ) : Type 0 where
   pub clock : f (scalar true clock_name) ≤ line
   pub user : f (scalar true user_clock_name) ≤ line
   pub strobe : f (scalar true write_strobe_name) ≤ line
-  pub data : (mode : Mode) → f (data_port mode) ≤ line
+  pub words : (mode : Mode) → f (data_port mode) ≤ line
   pub pad : (input : Bool) (x y place : ℕ) (port : List ℕ) → length port ≤ 5 → f (scalar input (pad_port_name x y place port)) ≤ line
 
 module _ (f : Port → ℕ) (line : ℕ) (have : PortsHave f line) where
@@ -107,14 +107,14 @@ module _ (f : Port → ℕ) (line : ℕ) (have : PortsHave f line) where
       let pads : List Port = flat_map tile_pads (placed_tiles fabric) in
       let user : Port = scalar true user_clock_name in
       let strobe : Port = scalar true write_strobe_name in
-      let data : Port = data_port (text_mode fabric) in
-      let first = sum_by-cons f (scalar true clock_name) (user ∷ strobe ∷ data ∷ pads) in
-      let second = sum_by-cons f user (strobe ∷ data ∷ pads) in
-      let third = sum_by-cons f strobe (data ∷ pads) in
-      let fourth = sum_by-cons f data pads in
+      let words : Port = data_port (text_mode fabric) in
+      let first = sum_by-cons f (scalar true clock_name) (user ∷ strobe ∷ words ∷ pads) in
+      let second = sum_by-cons f user (strobe ∷ words ∷ pads) in
+      let third = sum_by-cons f strobe (words ∷ pads) in
+      let fourth = sum_by-cons f words pads in
       let each = each_tile fabric small (λ placed. sum_by f (tile_pads placed) ≤ 6 * line) tile_sum in
       let of_pads = of_flat_map f (6 * line) tile_pads (placed_tiles fabric) each in
-      omega (arith, first, second, third, fourth, of_pads, have.clock, have.user, have.strobe, have.data (text_mode fabric))
+      omega (arith, first, second, third, fourth, of_pads, have.clock, have.user, have.strobe, have.words (text_mode fabric))
 
 -- ---- items
 
