@@ -1,5 +1,5 @@
 -- What a tile reads by the chain: the wire behind the tile before it.
-use Rattle.std.proofs.Common.{◌≡◌, ℕ, zero, suc, ◌+◌, ◌<◌, ◌&&◌, true, nat_eq, List, [], ◌∷◌, length, map, AllPairs, Option, Some, None, slice_get, get_or, option_map, refl, sym, ap, ◌∙◌, subst, arith, inl, inr, add-one}
+use Rattle.std.proofs.Common.{◌≡◌, ℕ, zero, suc, ◌+◌, ◌<◌, ◌&&◌, nat_eq, List, [], ◌∷◌, length, map, AllPairs, Option, Some, None, slice_get, get_or, option_map, refl, sym, ap, ◌∙◌, subst, arith, inl, inr, add-one}
 use Rattle.std.proofs.lemmas.Bool.{cases_Bool}
 use Rattle.std.proofs.lemmas.Bool.Decides.{nat_tests}
 use Rattle.std.proofs.lemmas.Option.{slice_get-map, slice_get-get_or, slice_get_within, get_or_from_slice_get}
@@ -8,7 +8,7 @@ use Rattle.fab_model.specs.Grid.{PlainFabric}
 use Rattle.fab_drives_laws.proofs.Chains.{first_reads}
 use Rattle.fab_text_sound_laws.proofs.Standing.{IsElsewhere, placed_apart}
 use Rattle.fab_text_loads_laws.specs.fab_fabric_text_defs_Names.{chain_wire_name}
-use Rattle.fab_drives_laws.specs.fab_fabric_text_defs_Chain.{chain_from, chain_source}
+use Rattle.fab_drives_laws.specs.fab_fabric_text_defs_Chain.{chain_from}
 use Rattle.fab_text_loads_laws.specs.fab_fabric_text_defs_Places.{PlacedTile, placed_tiles}
 use Rattle.fab_gen_top.specs.declared.places.Place.{Place}
 use Rattle.fab_gen_top.specs.inner.Standing.{placed_of, place_before, IsBehind}

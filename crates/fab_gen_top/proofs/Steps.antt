@@ -2,7 +2,7 @@
 use Rattle.std.proofs.Common.{◌≡◌, ℕ, ◌+◌, ◌<◌, Bool, true, cond, List, [], ◌∷◌, ◌++◌, length, map, filter, take, get_or, ◌||◌, refl, sym, ap, ◌∙◌, inl, inr, append_assoc}
 use Rattle.std.specs.List.{flat_map, list_any}
 use Rattle.std.proofs.lemmas.Bool.{cases_Bool}
-use Rattle.std.proofs.lemmas.List.{map-append, take_more}
+use Rattle.std.proofs.lemmas.List.{map-append, map_push, take_more}
 use Rattle.std.proofs.lemmas.List.Folds.{list_any_more, list_any_at}
 use Rattle.fab_kinds.specs.declared.kind.Kind.{Kind}
 use Rattle.fab_kinds.specs.declared.kind.Kind.TheVariants as kinds
@@ -22,6 +22,17 @@ pub map_seen_more : {X Y A : Type 0} (f : Y → A) (g : X → Y) (xs : List X) (
 map_seen_more f g xs i d within =
     ap (map f) (ap (map g) (take_more xs i d within) ∙ map-append g (take i xs) (get_or xs i d ∷ []))
     ∙ map-append f (map g (take i xs)) (g (get_or xs i d) ∷ [])
+
+pub seen_twice : {X Y A : Type 0} (f : Y → A) (g : X → Y) (xs : List X) → map f (map g xs) ≡ map (λ x. f (g x)) xs
+seen_twice f g [] = refl
+seen_twice f g (x ∷ xs) = ap (λ more. f (g x) ∷ more) (seen_twice f g xs)
+
+-- what was pushed, seen as another thing
+pub pushed : {X Y : Type 0} (f : X → Y) (old new : List X) (x : X) (front : List Y) (y : Y) → new ≡ old ++ x ∷ [] → map f old ≡ front → f x ≡ y → map f new ≡ front ++ y ∷ []
+pushed f old new x front y is so_far same = ap (map f) is ∙ map_push f old x ∙ (λ j. so_far j ++ same j ∷ [])
+
+pub four_pushed : {X : Type 0} (old : List X) (a b c d : X) → (((old ++ a ∷ []) ++ b ∷ []) ++ c ∷ []) ++ d ∷ [] ≡ old ++ a ∷ b ∷ c ∷ d ∷ []
+four_pushed old a b c d = simp append_assoc
 
 -- whether one of the things seen passes a test
 any_seen : {X Y : Type 0} (p : Y → Bool) (g : X → Y) (xs : List X) → list_any p (map g xs) ≡ list_any (λ x. p (g x)) xs

@@ -5,10 +5,9 @@ ghost use Rattle.std.specs.List.{flat_map, list_any};
 ghost use Rattle.std.specs.Option.{option_map_or};
 ghost use Rattle.fab_syntax.specs.Plain.{plain_module, plain_text};
 ghost use Rattle.fab_prim.specs.Modules.{module_of_kind};
+ghost use Rattle.fab_model.specs.declared.mode.Mode.TheVariants as modes;
 ghost use Rattle.fab_model.specs.Tiles.{tile_bits};
 ghost use Rattle.fab_fabric.specs.Fabric.{IsFabric, AreTiles};
-ghost use Rattle.fab_gen_loader.specs.Loader.{IsLoader};
-ghost use Rattle.fab_gen_loader.specs.Bounds.{IsSmall};
 ghost use Rattle.fab_gen_loader.specs.Expressions.{loader_module};
 ghost use Rattle.fab_gen_tile.specs.TileModule.{matrix_output_names};
 ghost use Rattle.fab_gen_tile.specs.Words.{IsNamed};
@@ -194,8 +193,7 @@ fn push_loader(alloc: Global, modules: &mut Vec<Module>, rows: u32) -> Result<()
     requires some { 1 ≤ rows }
     requires few { rows ≤ 31 }
     ensures modules { OnOk result (map plain_module modules.new.items ≡ map plain_module modules.old.items ++ loader_module rows ∷ []) }
-    ensures loader { OnOk result (IsLoader rows (loader_module rows)) }
-    ensures small { OnOk result (IsSmall (loader_module rows)) }
+    ensures loaders { OnOk result (AreLoaders rows modes.Frames (loader_module rows ∷ [])) }
 {
     modules.push(loader_module(alloc, rows)?)?;
     Ok(())

@@ -1,20 +1,30 @@
 -- Nothing of the files of a sample is refused.
-use Rattle.std.proofs.Common.{◌≤◌, ℕ, List, [], ◌∷◌, length, refl, arith}
+use Rattle.std.proofs.Common.{◌≤◌, ℕ, List, [], ◌∷◌, ◌++◌, length, ap, arith}
+use Rattle.std.proofs.lemmas.List.Sums.{sum_by-append}
+use Rattle.fab_syntax.specs.Plain.{PlainModule}
 use Rattle.fab_syntax.specs.Spelling.{text_bytes}
 use Rattle.fab_model.specs.Grid.{PlainFabric}
-use Rattle.fab_gen_loader.specs.Expressions.{loader_module}
+use Rattle.fab_fabric_text_defs.specs.Top.{top_module}
 use Rattle.fab_sample_laws.specs.Sizes.{most_sample_bytes}
+use Rattle.fab_sample_laws.proofs.Printed.{module_bytes, bytes_sum}
 use Rattle.fab_sample_laws.proofs.Small.{texts_small}
 use Rattle.fab_flow.specs.Generating.{generated_text, text_length, most_text_bytes}
-use Rattle.fab_flow.proofs.Lengths.{whole_length}
+use Rattle.fab_flow.proofs.Lengths.{front_of, made_loaders, in_front}
 use Rattle.fab_sample_laws.specs.Ready.{SamplesAreReady}
 use Rattle.fab_sample_laws.proofs.Designs.{tells_fabric, designs_read}
 
 -- without its loader the text is no longer
 short_text : (fabric : PlainFabric) → length (text_bytes (generated_text fabric)) ≤ most_sample_bytes → text_length fabric ≤ most_text_bytes
 short_text fabric short =
-    let alone : List ℕ = text_bytes (loader_module fabric.rows ∷ []) in
-    omega (arith, whole_length fabric (text_bytes (generated_text fabric)) alone (loader_module fabric.rows) refl refl refl, short)
+    let front : List PlainModule = front_of fabric in
+    let loaders : List PlainModule = made_loaders fabric in
+    let top : List PlainModule = top_module fabric ∷ [] in
+    let with_loaders = ap (λ (ms : List PlainModule). length (text_bytes ms)) (in_front fabric loaders) in
+    let without = ap (λ (ms : List PlainModule). length (text_bytes ms)) (in_front fabric []) in
+    let first = sum_by-append module_bytes front (loaders ++ top) in
+    let second = sum_by-append module_bytes loaders top in
+    let third = sum_by-append module_bytes front top in
+    omega (arith, with_loaders, without, first, second, third, bytes_sum (front ++ (loaders ++ top)), bytes_sum (front ++ top), short)
 
 pub ready : SamplesAreReady
 ready files size draws least most told =

@@ -9,15 +9,17 @@ use Rattle.std.proofs.lemmas.Nat.{mul-le}
 use Rattle.fab_syntax.specs.Plain.{PlainModule}
 use Rattle.fab_syntax.specs.Spelling.{text_bytes}
 use Rattle.fab_prim.specs.Modules.{module_of_kind}
+use Rattle.fab_model.specs.declared.mode.Mode.TheVariants as modes
 use Rattle.fab_model.specs.Tiles.{PlainTile}
 use Rattle.fab_model.specs.Grid.{PlainFabric}
 use Rattle.fab_gen_tile.specs.Names.{tile_module_name}
 use Rattle.fab_gen_loader.specs.Expressions.{loader_module}
 use Rattle.fab_gen_loader.proofs.Small as loaders
 use Rattle.fab_gen_loader.specs.Loader.{loader_module_name}
+use Rattle.fab_fabric_text_defs.specs.Mode.{text_mode}
 use Rattle.fab_fabric_text_defs.specs.Places.{placed_tiles}
 use Rattle.fab_fabric_text_defs.specs.Text.{tile_modules}
-use Rattle.fab_fabric_text_defs.specs.Texts.{generated_text}
+use Rattle.fab_fabric_text_defs.specs.Texts.{loaders_of, generated_text}
 use Rattle.fab_fabric_text_defs.specs.Top.{top_module}
 use Rattle.fab_sample_laws.proofs.fab_read_FabricsOnce.{one_fabric}
 use Rattle.fab_sample_laws.specs.Fabrics.{IsSampleFabric}
@@ -57,20 +59,20 @@ reversed prims tiles loader top =
     ap reverse (sym (append_assoc prims tiles (loader ∷ top ∷ []))) ∙ reverse-append (prims ++ tiles) (loader ∷ top ∷ [])
 
 abbrev IsShortTile : PlainTile → Type 0
-IsShortTile tile = length (text_bytes (tile_modules tile)) ≤ 65536
+IsShortTile tile = length (text_bytes (tile_modules modes.Frames tile)) ≤ 65536
 
-tiles_within : (types : List PlainTile) → length types ≤ 3 → All IsShortTile types → length (text_bytes (flat_map tile_modules types)) ≤ 196608
+tiles_within : (types : List PlainTile) → length types ≤ 3 → All IsShortTile types → length (text_bytes (flat_map (tile_modules modes.Frames) types)) ≤ 196608
 tiles_within types few each =
-    let sums : All (λ tile. sum_by module_bytes (tile_modules tile) ≤ 65536) types =
-    λ k d l. subst (λ (sum : ℕ). sum ≤ 65536) (bytes_sum (tile_modules (get_or types k d))) (each k d l) in
-    omega (arith, bytes_sum (flat_map tile_modules types), of_flat_map module_bytes 65536 tile_modules types sums, few)
+    let sums : All (λ tile. sum_by module_bytes (tile_modules modes.Frames tile) ≤ 65536) types =
+    λ k d l. subst (λ (sum : ℕ). sum ≤ 65536) (bytes_sum (tile_modules modes.Frames (get_or types k d))) (each k d l) in
+    omega (arith, bytes_sum (flat_map (tile_modules modes.Frames) types), of_flat_map module_bytes 65536 (tile_modules modes.Frames) types sums, few)
 
 -- below an instance of the tile there are few points and instances
 abbrev HasFewBelow : (before : List PlainModule) → PlainTile → Type 0
 HasFewBelow before tile = below before (tile_module_name tile) ≤ 30000
 
 module _ (fabric : PlainFabric) (prims tiles : List PlainModule)
-    (small : All IsSmallTile fabric.types) (rows : fabric.rows ≤ 16) (columns : fabric.columns ≤ 18)
+    (small : All IsSmallTile fabric.types) (frames : text_mode fabric ≡ modes.Frames) (rows : fabric.rows ≤ 16) (columns : fabric.columns ≤ 18)
     (prims_short : length (text_bytes prims) ≤ 65536) (tiles_short : length (text_bytes tiles) ≤ 196608)
     (of_loader : below (before prims tiles (loader_module fabric.rows)) loader_module_name ≤ 10000)
     (of_tiles : All (HasFewBelow (before prims tiles (loader_module fabric.rows))) fabric.types) where
@@ -83,9 +85,9 @@ module _ (fabric : PlainFabric) (prims tiles : List PlainModule)
       let top : PlainModule = top_module fabric in
       let loader = (loaders.is_small fabric.rows m (omega (arith, rows)) refl).short in
       let count = count_is (before prims tiles m) top (whole prims tiles m top) (reversed prims tiles m top) in
-      let few = top_count fabric small (below (before prims tiles m)) of_loader of_tiles rows columns few_tiles in
+      let few = top_count fabric small frames (below (before prims tiles m)) of_loader of_tiles rows columns few_tiles in
       record {
-        bytes = omega (arith, whole_bytes prims tiles m top, prims_short, tiles_short, loader, top_within fabric small rows columns few_tiles);
+        bytes = omega (arith, whole_bytes prims tiles m top, prims_short, tiles_short, loader, top_within fabric small frames rows columns few_tiles);
         points = omega (arith, count, few);
       }
 
@@ -93,10 +95,10 @@ module _ (fabric : PlainFabric) (prims tiles : List PlainModule)
 
 types_short : All IsShortTile sample_types
 types_short = All-from_recursion IsShortTile sample_types (
-  leb-true (length (text_bytes (tile_modules west_tile))) 65536 west_within,
+  leb-true (length (text_bytes (tile_modules modes.Frames west_tile))) 65536 west_within,
   (
-    leb-true (length (text_bytes (tile_modules logic_tile))) 65536 logic_within,
-    (leb-true (length (text_bytes (tile_modules east_tile))) 65536 east_within, tt),
+    leb-true (length (text_bytes (tile_modules modes.Frames logic_tile))) 65536 logic_within,
+    (leb-true (length (text_bytes (tile_modules modes.Frames east_tile))) 65536 east_within, tt),
   ),
 )
 
@@ -113,25 +115,31 @@ module _ (size : ℕ) (least : 2 ≤ size) (most : size ≤ 16)
     (fabric : PlainFabric) (is : IsSampleFabric size fabric) (typed : fabric.types ≡ sample_types) where
   loader_few : below (before_top fabric.rows) loader_module_name ≤ 10000
   loader_few =
-      let others : List PlainModule = reverse (primitives ++ flat_map tile_modules sample_types) in
+      let others : List PlainModule = reverse (primitives ++ flat_map (tile_modules modes.Frames) sample_types) in
       leb-true (below (before_top fabric.rows) loader_module_name) 10000
       (loader_has others fabric.rows (omega (arith, is.rows, least)) (omega (arith, is.rows, most)))
 
+  -- frames keep the configuration
+  in_frames : text_mode fabric ≡ modes.Frames
+  unfolding text_mode
+  in_frames = is.mode
+
   text_small : IsSmall (generated_text fabric)
   text_small =
-      let tiles : List PlainModule = flat_map tile_modules sample_types in
+      let tiles : List PlainModule = flat_map (tile_modules modes.Frames) sample_types in
       let are_small = subst (All IsSmallTile) (sym typed) (types_small west_pairs logic_pairs east_pairs) in
       let prims_short = leb-true (length (text_bytes primitives)) 65536 primitives_within in
       let tiles_short = tiles_within sample_types (lit≤ tt) types_short in
       let have_few = subst (All (HasFewBelow (before_top fabric.rows))) (sym typed) (types_have fabric.rows) in
       let rows : fabric.rows ≤ 16 = omega (arith, is.rows, most) in
       let columns : fabric.columns ≤ 18 = omega (arith, is.columns, most) in
-      let here = whole_small fabric primitives tiles are_small rows columns prims_short tiles_short loader_few have_few in
+      let here = whole_small fabric primitives tiles are_small in_frames rows columns prims_short tiles_short loader_few have_few in
       let stands = types_stand west_pairs logic_pairs east_pairs size fabric least most is typed in
       let types_are = sym typed ∙ sym stands.types in
       let kinds_are = sym stands.kinds in
-      let loader : PlainModule = loader_module fabric.rows in
-      subst IsSmall (λ j. whole (map module_of_kind (kinds_are j)) (flat_map tile_modules (types_are j)) loader (top_module fabric)) here
+      let mode_is = sym in_frames in
+      subst IsSmall
+      (λ j. map module_of_kind (kinds_are j) ++ (flat_map (tile_modules (mode_is j)) (types_are j) ++ (loaders_of (mode_is j) fabric.rows ++ top_module fabric ∷ []))) here
 
 pub texts_small : SampleTextsAreSmall
 texts_small files size least most told fabric spelled =

@@ -9,6 +9,7 @@ use Rattle.fab_bits.specs.Widths.{select_width}
 use Rattle.fab_kinds.specs.declared.kind.Kind.TheVariants.{Lut4c, Io}
 use Rattle.fab_syntax.specs.Plain.{PlainModule}
 use Rattle.fab_syntax.specs.Spelling.{latch_head, clocked_head, text_bytes}
+use Rattle.fab_model.specs.declared.mode.Mode.TheVariants as modes
 use Rattle.fab_model.specs.Tiles.{counted, PlainTile}
 use Rattle.fab_names.specs.Names.{all_names, text_of}
 use Rattle.fab_blocks.specs.Blocks.{names, row_names}
@@ -25,15 +26,15 @@ use Rattle.fab_sample_laws.proofs.Counts.{below}
 abbrev pub is_within : (most : ℕ) → List PlainModule → Bool
 is_within most ms = nat_le (length (text_bytes ms)) most
 
-pub west_within : is_within 65536 (tile_modules west_tile) ≡ true
+pub west_within : is_within 65536 (tile_modules modes.Frames west_tile) ≡ true
 unfolding digits next_record strip_bom select_width counted all_names text_of names row_names bits pad_lines edge_lines latch_head clocked_head
 west_within = refl
 
-pub logic_within : is_within 65536 (tile_modules logic_tile) ≡ true
+pub logic_within : is_within 65536 (tile_modules modes.Frames logic_tile) ≡ true
 unfolding digits next_record strip_bom select_width counted all_names text_of names row_names bits table_inputs table_lines begin_lines logic_lines latch_head clocked_head
 logic_within = refl
 
-pub east_within : is_within 65536 (tile_modules east_tile) ≡ true
+pub east_within : is_within 65536 (tile_modules modes.Frames east_tile) ≡ true
 unfolding digits next_record strip_bom select_width counted all_names text_of names row_names bits pad_lines edge_lines latch_head clocked_head
 east_within = refl
 
@@ -53,7 +54,7 @@ sample_types = west_tile ∷ logic_tile ∷ east_tile ∷ []
 
 -- what stands before the top, the last first
 abbrev pub before_top : (rows : ℕ) → List PlainModule
-before_top rows = loader_module rows ∷ reverse (primitives ++ flat_map tile_modules sample_types)
+before_top rows = loader_module rows ∷ reverse (primitives ++ flat_map (tile_modules modes.Frames) sample_types)
 
 abbrev pub has_few : (rows : ℕ) → (name : List ℕ) → Bool
 has_few rows name = nat_le (below (before_top rows) name) 30000

@@ -1,5 +1,5 @@
 -- How long the printed top module of a fabric of small tiles is.
-use Rattle.std.proofs.Common.{◌≡◌, ℕ, ◌+◌, ◌*◌, ◌≤◌, true, false, List, [], ◌∷◌, ◌++◌, codes, map, length, refl, arith, lit≤, Option, Some, None, All}
+use Rattle.std.proofs.Common.{◌≡◌, ℕ, ◌+◌, ◌*◌, ◌≤◌, true, false, List, [], ◌∷◌, ◌++◌, codes, map, length, refl, ap, arith, lit≤, Option, Some, None, All}
 use Rattle.std.specs.Fmt.{decimal}
 use Rattle.std.specs.List.{flat_map, enumerate_from, sum_by}
 use Rattle.std.proofs.lemmas.List.{length-append}
@@ -13,6 +13,8 @@ use Rattle.fab_syntax.specs.declared.tree.Shape.TheVariants.{Scalar, Vector}
 use Rattle.fab_syntax.specs.Plain.{PlainJoin, variable, wire}
 use Rattle.fab_syntax.specs.Spelling.{expr_text, shape_text}
 use Rattle.fab_prim.specs.Ports.{top_inputs, top_outputs}
+use Rattle.fab_model.specs.declared.mode.Mode.{Mode}
+use Rattle.fab_model.specs.declared.mode.Mode.TheVariants as modes
 use Rattle.fab_model.specs.declared.tiles.WireRow.{WireRow}
 use Rattle.fab_model.specs.declared.tiles.Bel.{Bel}
 use Rattle.fab_model.specs.Rows.{is_jump}
@@ -26,10 +28,11 @@ use Rattle.fab_gen_tile.specs.Names.{begin_name, end_name, frame_data_name, fram
 use Rattle.fab_gen_tile.specs.Borders.{side_border}
 use Rattle.fab_tile_drives_laws.proofs.Members.{contains_at}
 use Rattle.fab_meaning.specs.Loading.{write_data_name, write_strobe_name}
+use Rattle.fab_fabric_text_defs.specs.Mode.{text_mode}
 use Rattle.fab_fabric_text_defs.specs.Names.{begin_wire_name, column_strobe_name, pad_port_name}
 use Rattle.fab_gen_loader.specs.Loader.{row_port}
 use Rattle.fab_fabric_text_defs.specs.Places.{PlacedTile, placed_tiles}
-use Rattle.fab_fabric_text_defs.specs.Top.{end_value, numbered_row, pad_joins, row_joins, tile_instance, tile_joins, top_module}
+use Rattle.fab_fabric_text_defs.specs.Top.{config_joins, data_port, end_value, numbered_row, pad_joins, row_joins, tile_instance, tile_joins, top_module}
 use Rattle.fab_drives_laws.proofs.Lists.{all_numbered, all_of}
 use Rattle.fab_sample_laws.proofs.Sums.{of_counted, of_flat_map}
 use Rattle.fab_sample_laws.proofs.Printed.{port_bytes, join_bytes, item_bytes, module_bytes, module_within}
@@ -40,12 +43,16 @@ use Rattle.fab_sample_laws.proofs.Tops.{PortsHave, ItemsHave, ports_sum, items_s
 
 -- ---- ports and wires
 
+data_line : (mode : Mode) → port_bytes (data_port mode) ≤ 300
+data_line modes.Frames = omega (arith, range_bytes 32, length-append (shape_text (Vector 32)) write_data_name)
+data_line modes.Chain = omega (arith, port_line true write_data_name)
+
 ports_have : PortsHave port_bytes 300
 ports_have = record {
   clock = omega (arith, port_line true clock_name);
   user = omega (arith, port_line true user_clock_name);
   strobe = omega (arith, port_line true write_strobe_name);
-  word = omega (arith, range_bytes 32, length-append (shape_text (Vector 32)) write_data_name);
+  data = data_line;
   pad = λ input x y place port short. omega (arith, port_line input (pad_port_name x y place port), pad_port_bytes x y place port, short);
 }
 
@@ -77,7 +84,7 @@ begin_joined placed row bit short =
     let name : List ℕ = begin_wire_name placed.x placed.y row bit in
     omega (arith, joined_is (begin_name row bit) (variable name), begin_bytes row bit, wire_bytes placed.x placed.y row bit, short.source)
 
-module _ (fabric : PlainFabric) (small : All IsSmallTile fabric.types) where
+module _ (fabric : PlainFabric) (small : All IsSmallTile fabric.types) (frames : text_mode fabric ≡ modes.Frames) where
   -- the row next door is one of a small tile
   previous_short : (here previous : PlacedRow) → previous_row fabric here ≡ Some previous → side_bytes previous.row.source ≤ 8
   previous_short here previous is =
@@ -136,6 +143,8 @@ module _ (fabric : PlainFabric) (small : All IsSmallTile fabric.types) where
       let bels : List PlainJoin = flat_map (pad_joins placed.x placed.y) (enumerate_from 0 placed.tile.bels) in
       let word : PlainJoin = port_join frame_data_name (variable (row_port placed.y)) in
       let strobe : PlainJoin = port_join frame_strobe_name (variable (column_strobe_name placed.x)) in
+      let whole : sum_by join_bytes (tile_joins fabric placed) ≡ sum_by join_bytes (same_join user_clock_name ∷ word ∷ strobe ∷ (rows ++ bels)) =
+      ap (λ mode. sum_by join_bytes (same_join user_clock_name ∷ (config_joins mode fabric placed ++ (rows ++ bels)))) frames in
       let first = sum_by-cons join_bytes (same_join user_clock_name) (word ∷ strobe ∷ (rows ++ bels)) in
       let second = sum_by-cons join_bytes word (strobe ∷ (rows ++ bels)) in
       let third = sum_by-cons join_bytes strobe (rows ++ bels) in
@@ -145,7 +154,7 @@ module _ (fabric : PlainFabric) (small : All IsSmallTile fabric.types) where
       let strobe_is = joined_is frame_strobe_name (variable (column_strobe_name placed.x)) in
       let of_rows = rows_joined placed tile in
       let of_bels = bels_joined placed tile in
-      omega (arith, first, second, third, fourth, of_rows, of_bels, clock_is, word_is, strobe_is, row_bytes placed.y, column_bytes placed.x)
+      omega (arith, whole, first, second, third, fourth, of_rows, of_bels, clock_is, word_is, strobe_is, row_bytes placed.y, column_bytes placed.x)
 
   tile_line : (placed : PlacedTile) → IsSmallTile placed.tile → item_bytes (tile_instance fabric placed) ≤ 25000
   tile_line placed tile =
@@ -169,5 +178,5 @@ module _ (fabric : PlainFabric) (small : All IsSmallTile fabric.types) where
   pub top_within : fabric.rows ≤ 16 → fabric.columns ≤ 18 → length (placed_tiles fabric) ≤ 288 → module_bytes (top_module fabric) ≤ 12000000
   top_within rows columns few =
       let ports = ports_sum port_bytes 300 ports_have fabric small in
-      let items = items_sum item_bytes fabric small 300 (300 + fabric.rows * 300) 25000 items_have in
+      let items = items_sum item_bytes fabric small frames 300 (300 + fabric.rows * 300) 25000 items_have in
       omega (arith, module_within (top_module fabric), ports, items)

@@ -1,5 +1,5 @@
 -- Sums over the ports and the items of a top module over small tiles, whatever is summed.
-use Rattle.std.proofs.Common.{ℕ, ◌+◌, ◌*◌, ◌≤◌, Bool, true, false, cond, List, [], ◌∷◌, ◌++◌, codes, map, length, sym, subst, arith, lit≤, Option, Some, None, All}
+use Rattle.std.proofs.Common.{◌≡◌, ℕ, ◌+◌, ◌*◌, ◌≤◌, Bool, true, false, cond, List, [], ◌∷◌, ◌++◌, codes, map, length, sym, ap, subst, arith, lit≤, Option, Some, None, All}
 use Rattle.std.specs.List.{flat_map, enumerate_from, sum_by}
 use Rattle.std.proofs.Math.Nat.{mul-le-mul_right}
 use Rattle.std.proofs.lemmas.List.Concat.{length-flat_map}
@@ -14,20 +14,22 @@ use Rattle.fab_syntax.specs.declared.tree.Port.{Port}
 use Rattle.fab_syntax.specs.Plain.{PlainItem, wire}
 use Rattle.fab_meaning.specs.Ports.{scalar}
 use Rattle.fab_prim.specs.Ports.{top_inputs, top_outputs}
+use Rattle.fab_model.specs.declared.mode.Mode.{Mode}
+use Rattle.fab_model.specs.declared.mode.Mode.TheVariants as modes
 use Rattle.fab_model.specs.declared.tiles.WireRow.{WireRow}
 use Rattle.fab_model.specs.declared.tiles.Bel.{Bel}
 use Rattle.fab_model.specs.Rows.{is_jump}
 use Rattle.fab_model.specs.Tiles.{PlainTile, counted}
 use Rattle.fab_model.specs.Grid.{PlainFabric}
 use Rattle.fab_gen_loader.proofs.Counted.{length-counted}
-use Rattle.fab_gen_tile.specs.Names.{vector}
 use Rattle.fab_gen_tile.specs.Borders.{border, side_border}
 use Rattle.fab_tile_drives_laws.proofs.Endings.{all_counted}
-use Rattle.fab_meaning.specs.Loading.{write_strobe_name, write_data_name}
+use Rattle.fab_meaning.specs.Loading.{write_strobe_name}
+use Rattle.fab_fabric_text_defs.specs.Mode.{text_mode}
 use Rattle.fab_fabric_text_defs.specs.Names.{pad_port_name, column_strobe_name, begin_wire_name}
 use Rattle.fab_gen_loader.specs.Loader.{address_port, strobe_port, row_port}
 use Rattle.fab_fabric_text_defs.specs.Places.{PlacedTile, placed_at, column_tiles, placed_tiles}
-use Rattle.fab_fabric_text_defs.specs.Top.{pad_ports, tile_pads, top_ports, loader_wires, loader_instance, column_strobes, row_begin_wires, tile_begin_wires, tile_instance, top_items}
+use Rattle.fab_fabric_text_defs.specs.Top.{pad_ports, tile_pads, data_port, top_ports, loader_wires, loader_instance, column_strobes, frame_items, carrying_items, row_begin_wires, tile_begin_wires, tile_instance, top_items}
 use Rattle.fab_drives_laws.proofs.Lists.{all_of}
 use Rattle.fab_drives_laws.proofs.Modules.{tile_of_types}
 use Rattle.fab_drives_laws.proofs.Places.{IsThere, all_placed}
@@ -73,7 +75,7 @@ pub record PortsHave (f : Port → ℕ) (line : ℕ) : Type 0 where
   pub clock : f (scalar true clock_name) ≤ line
   pub user : f (scalar true user_clock_name) ≤ line
   pub strobe : f (scalar true write_strobe_name) ≤ line
-  pub word : f (vector true 32 write_data_name) ≤ line
+  pub data : (mode : Mode) → f (data_port mode) ≤ line
   pub pad : (input : Bool) (x y place : ℕ) (port : List ℕ) → length port ≤ 5 → f (scalar input (pad_port_name x y place port)) ≤ line
 
 module _ (f : Port → ℕ) (line : ℕ) (have : PortsHave f line) where
@@ -105,14 +107,14 @@ module _ (f : Port → ℕ) (line : ℕ) (have : PortsHave f line) where
       let pads : List Port = flat_map tile_pads (placed_tiles fabric) in
       let user : Port = scalar true user_clock_name in
       let strobe : Port = scalar true write_strobe_name in
-      let word : Port = vector true 32 write_data_name in
-      let first = sum_by-cons f (scalar true clock_name) (user ∷ strobe ∷ word ∷ pads) in
-      let second = sum_by-cons f user (strobe ∷ word ∷ pads) in
-      let third = sum_by-cons f strobe (word ∷ pads) in
-      let fourth = sum_by-cons f word pads in
+      let data : Port = data_port (text_mode fabric) in
+      let first = sum_by-cons f (scalar true clock_name) (user ∷ strobe ∷ data ∷ pads) in
+      let second = sum_by-cons f user (strobe ∷ data ∷ pads) in
+      let third = sum_by-cons f strobe (data ∷ pads) in
+      let fourth = sum_by-cons f data pads in
       let each = each_tile fabric small (λ placed. sum_by f (tile_pads placed) ≤ 6 * line) tile_sum in
       let of_pads = of_flat_map f (6 * line) tile_pads (placed_tiles fabric) each in
-      omega (arith, first, second, third, fourth, of_pads, have.clock, have.user, have.strobe, have.word)
+      omega (arith, first, second, third, fourth, of_pads, have.clock, have.user, have.strobe, have.data (text_mode fabric))
 
 -- ---- items
 
@@ -127,7 +129,8 @@ pub record ItemsHave (f : PlainItem → ℕ) (fabric : PlainFabric) (line loader
   pub begin : (x y : ℕ) (row : WireRow) (bit : ℕ) → IsShortRow row → f (wire Scalar (begin_wire_name x y row bit)) ≤ line
   pub each_tile : All (λ placed. f (tile_instance fabric placed) ≤ tile) (placed_tiles fabric)
 
-module _ (f : PlainItem → ℕ) (fabric : PlainFabric) (small : All IsSmallTile fabric.types)
+-- of a top in frames
+module _ (f : PlainItem → ℕ) (fabric : PlainFabric) (small : All IsSmallTile fabric.types) (frames : text_mode fabric ≡ modes.Frames)
     (line loader tile : ℕ) (have : ItemsHave f fabric line loader tile) where
   loader_sum : sum_by f (loader_wires fabric.rows) ≤ 2 * line + fabric.rows * line
   loader_sum =
@@ -159,14 +162,16 @@ module _ (f : PlainItem → ℕ) (fabric : PlainFabric) (small : All IsSmallTile
       let begins : List PlainItem = flat_map tile_begin_wires (placed_tiles fabric) in
       let strobes : List PlainItem = counted fabric.columns column_strobes in
       let columns : List PlainItem = counted fabric.columns (λ x. wire (Vector 20) (column_strobe_name x)) in
-      let first = sum_by-append f (loader_wires fabric.rows) (loader_instance fabric.rows ∷ (columns ++ (strobes ++ (begins ++ tiles)))) in
-      let second = sum_by-cons f (loader_instance fabric.rows) (columns ++ (strobes ++ (begins ++ tiles))) in
-      let third = sum_by-append f columns (strobes ++ (begins ++ tiles)) in
-      let fourth = sum_by-append f strobes (begins ++ tiles) in
+      let whole : sum_by f (top_items fabric) ≡ sum_by f (frame_items fabric ++ (begins ++ tiles)) =
+      ap (λ mode. sum_by f (carrying_items mode fabric ++ (begins ++ tiles))) frames in
+      let first = sum_by-append f (frame_items fabric) (begins ++ tiles) in
+      let second = sum_by-append f (loader_wires fabric.rows) (loader_instance fabric.rows ∷ (columns ++ strobes)) in
+      let third = sum_by-cons f (loader_instance fabric.rows) (columns ++ strobes) in
+      let fourth = sum_by-append f columns strobes in
       let fifth = sum_by-append f begins tiles in
       let of_columns = of_counted f line fabric.columns (λ x. wire (Vector 20) (column_strobe_name x)) have.column in
       let of_strobes = of_counted f line fabric.columns column_strobes have.strobes in
       let each = each_tile fabric small (λ placed. sum_by f (tile_begin_wires placed) ≤ 36 * line) tile_begins in
       let of_begins = of_flat_map f (36 * line) tile_begin_wires (placed_tiles fabric) each in
       let of_tiles = of_map f tile (tile_instance fabric) (placed_tiles fabric) have.each_tile in
-      omega (arith, first, second, third, fourth, fifth, loader_sum, have.instance, of_columns, of_strobes, of_begins, of_tiles)
+      omega (arith, whole, first, second, third, fourth, fifth, loader_sum, have.instance, of_columns, of_strobes, of_begins, of_tiles)
