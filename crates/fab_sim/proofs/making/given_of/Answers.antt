@@ -1,4 +1,4 @@
-use Rattle.std.proofs.Common.{ℕ, subst, arith}
+use Rattle.std.proofs.Common.{ℕ, subst}
 use Rattle.fab_systems_laws.specs.Ternary.{unknown}
 use Rattle.fab_network.specs.Passes.{kept_tern}
 use Rattle.fab_state_points.specs.Standing.{data_width, first_data}

@@ -1,4 +1,4 @@
-use Rattle.std.proofs.Common.{ℕ, subst, slice_set, arith}
+use Rattle.std.proofs.Common.{ℕ, subst, length-set, slice_set, arith}
 use Rattle.fab_systems_laws.specs.Ternary.{no}
 use Rattle.fab_ternary.specs.declared.Tern.TheVariants.{No}
 use Rattle.fab_network.specs.Passes.{kept_tern}
@@ -8,7 +8,10 @@ use Rattle.fab_sim.proofs.Setting.{all_set}
 use Rattle.fab_sim.proofs.starting.set_out.Goals as goal
 
 pub fill-requires : goal.fill-requires
-fill-requires c = let room = c.requires.carrier in omega (arith, room, c.first.ensures, c.width.ensures)
+fill-requires c =
+    let room = c.requires.carrier in
+    let long = length-set c.args.given.now c.args.points.now.stream.strobe No in
+    omega (arith, room, long, c.first.ensures, c.width.ensures)
 
 pub returns : goal.returns
 returns c =
