@@ -31,12 +31,12 @@ is_bit fabric at =
     elim (cases_lt at.x fabric.columns) [
       | inr far ↦ inr (λ of. omega (arith, far, of.column))
       | inl column ↦ elim (cases_lt at.y fabric.rows) [
-          | inr low ↦ inr (λ of. omega (arith, low, of.row))
-          | inl row ↦ elim (cases_lt at.bit (bits_at fabric at.x at.y)) [
-              | inr past ↦ inr (λ of. omega (arith, past, of.number))
-              | inl number ↦ inl (record { column = column; row = row; number = number })
-            ]
+        | inr low ↦ inr (λ of. omega (arith, low, of.row))
+        | inl row ↦ elim (cases_lt at.bit (bits_at fabric at.x at.y)) [
+          | inr past ↦ inr (λ of. omega (arith, past, of.number))
+          | inl number ↦ inl (record { column = column; row = row; number = number })
         ]
+      ]
     ]
 
 module _ (fabric : PlainFabric) (words : List ℕ) where

@@ -126,9 +126,9 @@ module _ (files : Map) (name : List ℕ) where
     | inl many ↦
         inr (fault_at name (last_line bytes) (problems.Limit quantities.Wires (wire_count (grid_fabric reading.types lines)) most_wires), many_wires parts many)
     | inr few ↦ inl (
-        in_mode parts.reading.configuration (grid_fabric reading.types lines),
-        record { bytes = bytes; types = reading.types; lines = lines; parts = parts; few_wires = few; is = refl },
-      )
+      in_mode parts.reading.configuration (grid_fabric reading.types lines),
+      record { bytes = bytes; types = reading.types; lines = lines; parts = parts; few_wires = few; is = refl },
+    )
   ]
 
   by_names : (bytes : List ℕ) (reading : PlainReading) (lines : List PlainGridLine) → ReadsFile files (top name) start bytes reading → reading.grid ≡ Some lines
