@@ -1,7 +1,9 @@
-use Rattle.std.proofs.Common.{◌∙◌, ap, map, arith, refl}
+use Rattle.std.proofs.Common.{◌∙◌, All, List, ap, map, arith, refl, subst, sym}
+use Rattle.std.specs.Str.{IsUtf8}
 use Rattle.std.proofs.lemmas.Result.{IfErr-weaker, on_ok_weaker, err_from_is_err_and}
 use Rattle.fab_files.specs.Stages.{at_first}
 use Rattle.fab_read.specs.Fabrics.{MeetsFabric}
+use Rattle.fab_outputs.specs.declared.storing.Output.{Output}
 use Rattle.fab_outputs.specs.Storing.{plain_output}
 use Rattle.fab_flow.specs.Generating.{generate_refusals}
 use Rattle.fab_flow.specs.Serial.{MakesSerial, MeetsSerial, IsReadyForSerial}
@@ -39,6 +41,10 @@ returns-in_err-text-clause-leaves g c =
     rw (residual.1, residual.2)
     (port_leaves (λ files. MakesSerial files c.args.fabric.now c.args.out.now) (g.D.Desk.told c.args.desk.now) _ c.args.fabric.now c.in_ok-read.read
     c.in_err-text.field-0.0 c.in_ok-read.ensures.told c.in_err-text.ensures.refused)
+
+pub store_all-requires : goal.store_all-requires
+store_all-requires g c =
+    subst (λ (outputs : List Output). All (λ (o : Output). IsUtf8 o.name) outputs) (sym c.deref.ensures.value) (c.in_ok-outputs.ensures.names c.requires)
 
 pub returns-clause-done : goal.returns-clause-done
 returns-clause-done g c =
