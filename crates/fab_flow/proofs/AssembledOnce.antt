@@ -1,5 +1,5 @@
 -- The first refusals of the command `assemble` have one status number, or it is ready.
-use Rattle.std.proofs.Common.{◌≡◌, ℕ, List, refl, sym, ap, ◌∙◌, subst}
+use Rattle.std.proofs.Common.{◌≡◌, ℕ, List, refl, sym, ap, ◌∙◌}
 use Rattle.fab_base.specs.declared.fault.Fault.{Fault}
 use Rattle.fab_base.specs.Report.{number_of}
 use Rattle.fab_desk.specs.Files.{Map}

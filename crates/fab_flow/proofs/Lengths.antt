@@ -1,5 +1,5 @@
 -- How long the printed text of a fabric is with its loaders, and where these stand.
-use Rattle.std.proofs.Common.{◌≡◌, ◌≤◌, ◌+◌, ◌-◌, ◌∙◌, ℕ, List, [], ◌∷◌, ◌++◌, length, map, take, drop, refl, sym, ap, arith, append_assoc, length-append}
+use Rattle.std.proofs.Common.{◌≡◌, ◌≤◌, ◌+◌, ◌-◌, ◌∙◌, ℕ, List, [], ◌∷◌, ◌++◌, length, map, drop, refl, sym, ap, arith, append_assoc, length-append}
 use Rattle.std.specs.List.{flat_map, remove_range}
 use Rattle.std.proofs.lemmas.List.{take_at, drop_at}
 use Rattle.fab_syntax.specs.Plain.{PlainModule}

@@ -1,5 +1,5 @@
 -- What runs the packed netlist runs the one that was read, where the packed one runs as that does.
-use Rattle.std.proofs.Common.{◌≡◌, ◌<◌, ◌&&◌, ℕ, Bool, true, All, List, [], ◌∷◌, map, length, nat_lt, refl, sym, ap, ◌∙◌, subst}
+use Rattle.std.proofs.Common.{◌≡◌, ◌<◌, ◌&&◌, ℕ, Bool, List, [], ◌∷◌, map, length, sym, ap, ◌∙◌, subst}
 use Rattle.std.specs.Prelude.{Contains}
 use Rattle.std.proofs.lemmas.Bool.{lt-ltb}
 use Rattle.std.proofs.lemmas.List.Elements.{All-weaker, Contains-append_right}
@@ -12,7 +12,6 @@ use Rattle.fab_netlist.specs.declared.netlist.Latch.{Latch}
 use Rattle.fab_netlist.specs.Plain.{PlainNetlist, IsAt}
 use Rattle.fab_netlist.specs.Wide.{RunsAs, within}
 use Rattle.fab_implementation.specs.Plain.{Pad, PlainImplementation}
-use Rattle.fab_fabric.specs.declared.wire.Site.{Site}
 use Rattle.fab_state.specs.Plain.{PlainState}
 use Rattle.fab_assemble.specs.fab_use_defs_Cycles.{Cycle, Instant, EachShows, Shows}
 use Rattle.fab_assemble.specs.fab_use_defs_Headline.{RunsDesign, RunsFrom}
