@@ -43,7 +43,8 @@ module _ (pairs_of : PlainBlock → List NumberPair) (table_of : PlainBlock → 
   types = tile_of west ∷ tile_of logic ∷ tile_of east ∷ []
 
   abbrev pub reading_of : (size : ℕ) → PlainReading
-  reading_of size = record { types = types; grid = Some (grid_from size 2 size); parameters = parts.Absent; configuration = modes.Frames; begun = blocks.Outside }
+  reading_of size =
+      record { types = types; grid = Some (grid_from size 2 size); parameters = parts.Absent; configuration = modes.Frames; begun = blocks.Outside }
 
   abbrev pub fabric_at : (size : ℕ) → PlainFabric
   fabric_at size = grid_fabric types (grid_from size 2 size)

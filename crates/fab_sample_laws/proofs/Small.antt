@@ -139,7 +139,8 @@ module _ (size : ℕ) (least : 2 ≤ size) (most : size ≤ 16)
       let kinds_are = sym stands.kinds in
       let mode_is = sym in_frames in
       subst IsSmall
-      (λ j. map module_of_kind (kinds_are j) ++ (flat_map (tile_modules (mode_is j)) (types_are j) ++ (loaders_of (mode_is j) fabric.rows ++ top_module fabric ∷ []))) here
+      (λ j. map module_of_kind (kinds_are j)
+      ++ (flat_map (tile_modules (mode_is j)) (types_are j) ++ (loaders_of (mode_is j) fabric.rows ++ top_module fabric ∷ []))) here
 
 pub texts_small : SampleTextsAreSmall
 texts_small files size least most told fabric spelled =
