@@ -13,7 +13,7 @@ use Rattle.fab_netlist.specs.Plain.{PlainNetlist}
 use Rattle.fab_netlist.specs.Resets.{netlist_with, reset_place}
 use Rattle.fab_netlist.specs.WellMade.{ports}
 use Rattle.fab_netlist.proofs.Resetting.{made_with}
-use Rattle.fab_implementation.specs.Plain.{PlainImplementation}
+use Rattle.fab_implementation.specs.Plain.{Pad, PlainImplementation}
 use Rattle.fab_files.specs.Stages.{ReadsFrom, MeetsLast}
 use Rattle.fab_texts.specs.Rows.{rows_of, words_of}
 use Rattle.fab_legal.specs.WellMade.{PackedIsWellMade}
