@@ -3,9 +3,9 @@ import re
 
 from explain_files import cells_of, place_of
 from explain_lists import WIRE
-from explain_text import lines_of, listed, near_words, plural, shown
+from explain_text import lines_of, listed, near_words, plural, quoted, shown
 from fabric import STEPS, Bel
-from read_tables import KINDS, MAX_NAMES, wire_row
+from read_tables import KINDS, MAX_NAMES, MODES, wire_row
 
 NAME = re.compile(r"[A-Za-z_][A-Za-z0-9_]*\Z")
 ENDS = {"FabricBegin": "FabricEnd", "ParametersBegin": "ParametersEnd", "TILE": "EndTILE"}
@@ -33,9 +33,13 @@ def explain_fabric(case):
         if block:
             yield f"{block} in line {begin} has no {ENDS[block]}"
         return
+    if case.status == 5 and case.reason.endswith(" FlipFlopChain"):
+        yield from mode_row(case)
     if not cells:
         return
-    if case.reason in ("row", "block"):
+    if case.reason == "row" and block == "ParametersBegin" and cells[0] == "ConfigBitMode":
+        yield from unknown_mode(cells)
+    elif case.reason in ("row", "block"):
         yield from misplaced(case, cells, block, begin)
     elif case.reason == "grid":
         yield from grid_faults(case, cells, block)
@@ -49,6 +53,19 @@ def explain_fabric(case):
         yield from wire_faults(case, cells)
     elif case.status == 5 and cells[0] == "BEL":
         yield from unknown_bel(case.reason)
+
+
+def mode_row(case):
+    """The row that makes the configuration a chain. The report names no line of it."""
+    found = [(line, text) for line, text in lines_of(case.path) if cells_of(text)[:2] == ["ConfigBitMode", "FlipFlopChain"]]
+    for line, text in found[-1:]:
+        yield f"line {line} makes a chain of it:"
+        yield quoted(case.path, line, text.strip())
+
+
+def unknown_mode(cells):
+    modes = " or ".join(f"ConfigBitMode,{mode}" for mode in MODES)
+    yield f"the row is {modes}" + (near_words(cells[1], MODES) if len(cells) == 2 else f", and has {plural(len(cells), 'cell')}")
 
 
 def misplaced(case, cells, block, begin):

@@ -71,10 +71,17 @@ def fabrics():
         ("LUT4c_frame", "LUT4_frame", "unsupported duo.csv:22 LUT4_frame_config", "near: LUT4c_frame_config"),
         ("log.list", "log.v", "unsupported duo.csv:23 matrix file", "list its pairs"),
         ("ConfigBitMode,frame_based", "FrameBitsPerRow,16", "unsupported duo.csv:5 FrameBitsPerRow", "write FrameBitsPerRow,32"),
+        ("ConfigBitMode,frame_based", "ConfigBitMode,FlipflopChain", "malformed duo.csv:5 row", "near: FlipFlopChain"),
         ("FabricEnd", "FabricEnd\nSuperTILE,A", "unsupported duo.csv:4 SuperTILE", "Write each part as a tile of its own"),
         ("log.list", "lgo.list", "missing lgo.list", "duo.csv:23 | MATRIX,lgo.list"),
     ):
         yield Case(GENERATE, edited(FABRIC, "duo.csv", old, new), report, (wanted,))
+    for words, construct, wanted in (
+        ("serial duo_chain.csv o.v", "serial FlipFlopChain", "write the fabric with generate"),
+        ("partial duo_chain.csv inv.impl inv.fasm 0 0 o", "partial FlipFlopChain", "All bits of a chain move"),
+    ):
+        yield Case(words, dict(DESIGN, **CHAIN), f"unsupported duo_chain.csv:0 {construct}",
+                   (wanted, "line 5 makes a chain of it", "duo_chain.csv:5 | ConfigBitMode,FlipFlopChain"))
 
 
 def tables():
