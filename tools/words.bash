@@ -308,6 +308,15 @@ judge_output() {
   fi
 }
 
+# tells_fit COMMAND: whether it is said what an implementation takes of its fabric: where the program tells what it does
+tells_fit() {
+  [ "${FAB_PROGRESS-}" = 1 ] || [ -t 2 ] || return
+  case $1 in
+    flow | map | assemble) return 0 ;;
+  esac
+  return 1
+}
+
 # is_fabric_text FILE: whether fab wrote it, or began to: an interrupted run may leave the first part. Such a text begins
 # with the look-up table, the pad or the multiplexer tree, or with a tile where the grid has none of them.
 is_fabric_text() {
