@@ -40,6 +40,26 @@ fn toll(tables: &Tables, node: u32) -> u64
     tables.price(node)
 }
 
+/// When a signal is due where a bound aims, if it is at a node at this time.
+pub(crate) fn due_by<F: Field>(field: &F, guide: Option<u32>, node: u32, arrival: u32) -> u32
+    requires { node < (F.graph field.now).nodes }
+{
+    match guide {
+        Some(aim) => arrival.saturating_add(field.ahead(aim, node)),
+        None => arrival,
+    }
+}
+
+/// When a signal is at a node where walks begin: at one of the tree when it came there, and at a root from the beginning.
+fn start_of(tables: &Tables, node: u32) -> u32
+    requires { node < count_of tables.now }
+{
+    if tables.is_held(node) {
+        return tables.arrival(node);
+    }
+    0
+}
+
 /// Offers starts, behind others that have been offered.
 pub(crate) fn seed<F: Field>(
     field: &F,
@@ -66,7 +86,9 @@ pub(crate) fn seed<F: Field>(
             continue;
         }
         let key = cost + left(field, guide, *start) as u64;
-        tables.take(*start, cost, *start, key)?;
+        let arrival = start_of(tables, *start);
+        let due = due_by(field, guide, *start, arrival);
+        tables.take(*start, cost, *start, key, arrival, due)?;
     }
     Ok(())
 }
@@ -99,6 +121,7 @@ fn relax<F: Field>(
     ensures size { OnOk result (size tables.new.queue < size tables.old.queue + 2 ^ 64) }
 {
     let cost = tables.cost(node);
+    let here = tables.arrival(node);
     let ends = field.ends(node);
     for next in ends {
         if tables.is_held(*next) {
@@ -112,7 +135,9 @@ fn relax<F: Field>(
         if key >= limit {
             continue;
         }
-        tables.take(*next, through, node, key)?;
+        let arrival = here.saturating_add(field.delay(*next));
+        let due = due_by(field, guide, *next, arrival);
+        tables.take(*next, through, node, key, arrival, due)?;
     }
     Ok(())
 }
