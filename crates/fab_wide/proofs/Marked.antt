@@ -1,4 +1,4 @@
--- Tables are filled row by row, and a row by the halves that it leaves.
+-- Tables are filled row by row.
 use Rattle.std.proofs.Common.{◌≡◌, ℕ, zero, suc, ◌+◌, ◌-◌, ◌*◌, ◌/◌, ◌^◌, ◌<◌, ◌≤◌, Bool, true, false, List, [], ◌∷◌, ◌++◌, map, take, drop, length, get_or, length-append, max, replicate, if◌then◌else◌, nat_eq, bit_and, refl, sym, ap, ◌∙◌, subst, inl, inr, arith, pow-suc, eqb-true, eq-eqb}
 use Rattle.std.specs.Int.{from_bool}
 use Rattle.std.specs.Int.Bits.{bit_or}

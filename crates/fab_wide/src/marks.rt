@@ -22,15 +22,15 @@ fn lower_word(row: Cube) -> u16
     word
 }
 
-/// The bits of a word where its place has the value `value` at the bits of `care`, and else none.
+/// The bits of a row in the word of a place: these where the place has the value `value` at the bits of `care`, and else none.
 fn bits_at(place: u16, care: u16, value: u16, bits: u16) -> u16
     ensures { result ≡ (if nat_eq (bit_and place care) value then bits else 0) }
 {
     if place & care == value { bits } else { 0 }
 }
 
-/// Puts the bits of a word into those of a few words of which the places have the value `value` at the bits of `care`. The others are
-/// written too, as they stand: so there is no branch, and a processor takes several words at once.
+/// Puts the bits of a row into those of a few words of which the places have the value `value` at the bits of `care`. The other words are
+/// written too, as they stand: so no step depends on a test, and a processor takes several words at once.
 fn mark_few(words: &mut [u16], care: u16, value: u16, bits: u16)
     requires { length words.old ≤ 64 }
     ensures { words.new ≡ marked care value bits 0 words.old }
@@ -52,9 +52,9 @@ fn join(words: &mut [u16], block: &[u16])
     }
 }
 
-/// Puts the bits of a word into those words of a table of which the places have the value `value` at the bits of `care`. A large table is
-/// marked by blocks. All blocks that the row has bits in get the same ones, so these are made once. Such a block has a place that is that
-/// of `value`, and besides some of the bits that are open, those past `care`: the numbers of such bits are passed through from all of them down.
+/// Puts the bits of a row into those words of a table of which the places have the value `value` at the bits of `care`. A large table is
+/// marked by blocks. The row has the same bits in each block that it has bits in, so they are made once. The numbers of these blocks have
+/// the value at the bits of `care`, and any bits at the others, which are free. They are gone through from the last one down.
 fn mark(words: &mut [u16], care: usize, value: usize, bits: u16)
     requires power { IsPower (length words.old) }
     requires row { IsRowOf (length words.old) care value }
@@ -73,6 +73,7 @@ fn mark(words: &mut [u16], care: usize, value: usize, bits: u16)
     let free = words.len() / BLOCK - 1 - care / BLOCK;
     let mut above = free + 1;
     while 0 < above {
+        // The greatest number below that has only free bits.
         above = (above - 1) & free;
         let first = BLOCK * (value / BLOCK + above);
         join(&mut words[first..first + BLOCK], &block);

@@ -1,6 +1,6 @@
 //! Covers are split by the halves of their tables.
 
-ghost use Rattle.std.specs.Prelude.{◌≡◌, ◌+◌, ◌≤◌, IfOk, OnOk, length, map};
+ghost use Rattle.std.specs.Prelude.{◌≡◌, ◌+◌, ◌*◌, ◌≤◌, IfOk, OnOk, length, map};
 ghost use Rattle.std.specs.List.{All};
 ghost use Rattle.fab_netlist.specs.Wide.{IsFineRow, tabled_cover};
 ghost use Rattle.fab_netlist.specs.WellMade.{most_nets};
@@ -20,9 +20,9 @@ const CHOOSER: u16 = 0xCACA;
 /// The covers of a netlist while they are split.
 #[derive(Drop)]
 pub(crate) struct Narrowing {
-    /// The covers so far. None are put behind them from the first cover on with which there are too many nets.
+    /// The covers so far. Once there are too many nets, none is put behind them.
     pub(crate) covers: Vec<Cover>,
-    /// The next new net, and so how many nets there are.
+    /// The next new net, which is how many nets there are.
     pub(crate) fresh: u32,
 }
 
@@ -98,11 +98,11 @@ fn narrow(
     made.push(alloc, cover.line, &[net, 1 + net, last], output, CHOOSER)
 }
 
-/// Puts the covers that stand for a cover. Where there are too many nets with those of these, they are counted, and no cover is made.
+/// Puts the covers that stand for a cover. Where there are too many nets with those that they take, these are counted, and no cover is put.
 fn narrow_cover(alloc: Global, cover: &WideCover, made: &mut Narrowing) -> Result<(), Memory>
     requires few { length cover.now.inputs ≤ 16 }
     requires rows { All (IsFineRow (length cover.now.inputs)) cover.now.rows }
-    requires small { made.old.fresh ≤ 200000000 }
+    requires small { made.old.fresh ≤ most_nets + 8192 * most_nets }
     ensures nets { OnOk result (made.new.fresh ≡ taken_by (tabled_cover cover.now) + made.old.fresh) }
     ensures small { OnOk result (made.new.fresh ≤ 8192 + made.old.fresh) }
     ensures covers { OnOk result (made.new.fresh ≤ most_nets → made.new ≡ narrowed cover.now.line cover.now.inputs (length cover.now.inputs) (tabled_cover cover.now).table cover.now.output made.old) }
@@ -117,8 +117,8 @@ fn narrow_cover(alloc: Global, cover: &WideCover, made: &mut Narrowing) -> Resul
     narrow(alloc, cover, inputs, &words, cover.output, made)
 }
 
-/// The covers that stand for these, where new nets have the numbers from `fresh` on, and how many nets there are then. Each table is made
-/// once. The covers are all there where there are not too many nets.
+/// The covers that stand for these, where new nets have the numbers from `fresh` on, and how many nets there are then. Where there are too
+/// many, some of the covers are missing.
 pub(crate) fn narrow_all(
     alloc: Global,
     covers: &[WideCover],

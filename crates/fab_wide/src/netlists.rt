@@ -64,9 +64,9 @@ fn with_covers(
 
 /// The netlist in which each cover of more than four inputs is replaced by covers of at most four, in its place and with its line. A cover of
 /// k inputs becomes at most 2^(k-3) - 1 covers; the nets between these have no name and come last. `file` and `last_line` are of the BLIF
-/// file that was read. The fault is `Limit` where there would be more than `MAX_NETS` nets, which are counted before any is made, and
-/// `Memory` where memory was refused. Tables are made one at a time, in at most 8 kB, and two times. A row takes a step for each input
-/// and each word of the table that it has bits in.
+/// file that was read. The fault is `Limit` where there would be more than `MAX_NETS` nets: once there are, the rest is counted and not made.
+/// It is `Memory` where memory was refused. Tables are made one at a time, in at most 8 kB, and once. A row takes a step for each word of
+/// one block of 64, and then one for each block that it has bits in, of which a table has at most 64.
 pub fn split(
     alloc: Global,
     file: &Name,

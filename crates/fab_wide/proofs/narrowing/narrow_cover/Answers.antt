@@ -28,6 +28,6 @@ returns-clause-small c =
     c.in_ok-words.ensures.words.many c.deref.ensures.value c.taken.ensures.small in
     on_ok c.narrow.result
     (λ is.
-        let fresh : c.narrow.new.made.fresh ≡ taken inputs (number_of_words words) + c.args.made.now.fresh =
-        ap (λ (made : PlainNarrowing). made.fresh) is in
-        omega (arith, fresh, nets, few)) c.narrow.ensures
+    let fresh : c.narrow.new.made.fresh ≡ taken inputs (number_of_words words) + c.args.made.now.fresh =
+    ap (λ (made : PlainNarrowing). made.fresh) is in
+    omega (arith, fresh, nets, few)) c.narrow.ensures
