@@ -37,11 +37,14 @@ fn has_name(names: &IndexSet<Vec<u8>>, name: &Name) -> bool
     names.contains(name.bytes())
 }
 
-/// Adds a name to a set.
+/// Adds a name to a set, and copies it only where it is new.
 fn add_name(names: &mut IndexSet<Vec<u8>>, alloc: Global, name: &Name) -> Result<(), Memory>
     ensures { OnOk result ((other : List ℕ) → list_any (bytes_eq other) (key_names names.new.keys)
         ≡ (list_any (bytes_eq other) (key_names names.old.keys) || bytes_eq other name.now)) }
 {
+    if has_name(names, name) {
+        return Ok(());
+    }
     names.insert(name.copy(alloc)?.into_vec())?;
     Ok(())
 }
