@@ -3,4 +3,3 @@ pub mod Rows
 pub mod Once
 pub mod Named
 pub mod Supported
-pub mod FirstRows

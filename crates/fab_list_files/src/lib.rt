@@ -3,7 +3,6 @@
 
 mod crowd;
 mod laws;
-mod lines;
 mod listing;
 mod matrix_pairs;
 mod pair_set;
@@ -13,7 +12,6 @@ pub use crowd::MOST_INPUTS;
 pub use laws::{
     listed_names_are_wire_names, lists_are_spelled_once, spelled_lists_are_not_refused,
 };
-pub use lines::first_row;
 pub use listing::{ListState, MOST_OPEN, read_list_file};
 pub use pair_set::PairSet;
 pub use pairs::read_pairs;

@@ -9,12 +9,11 @@ ghost use Rattle.fab_files.specs.Files.{HasReadCause, IsSupported};
 ghost use Rattle.fab_list_files.specs.Lists.{Knowledge, with_pairs, opened, deed_of, ReadsList, MeetsList, ReadsListFile, MeetsListFile};
 ghost use Rattle.fab_list_files.specs.inner.Following.{plain_deed, MayOpen, RowLeads, MeetsRow};
 
-use crate::lines::first_row;
 use fab_base::{Fault, MAX_FILE_BYTES, Memory, Name, Problem, Quantity, Reason};
 use fab_desk::Desk;
 use fab_files::fetch;
 use fab_paths::resolve;
-use fab_rows::Row;
+use fab_rows::{Row, next_row};
 use fab_tables::{KnownNames, ListBody, read_list_row};
 use std::alloc::Global;
 
@@ -121,7 +120,7 @@ fn take_row<D: Desk, S: ListState>(
     }
 }
 
-/// Takes the rows of a file, line by line: no more than one row is kept.
+/// Takes the rows of a file.
 #[cycle(list)]
 pub fn take_rows<D: Desk, S: ListState>(
     alloc: Global,
@@ -142,13 +141,10 @@ pub fn take_rows<D: Desk, S: ListState>(
 {
     let mut rest = bytes;
     let mut line: u32 = 1;
-    while 0 < rest.len() {
-        let (found, after) = first_row(alloc, rest, line)?;
-        if let Some(row) = &found {
-            take_row(alloc, desk, state, left, file, row)?;
-        }
+    while let Some((row, after)) = next_row(alloc, rest, line)? {
+        take_row(alloc, desk, state, left, file, &row)?;
         rest = after;
-        line += 1;
+        line = row.line + 1;
     }
     Ok(())
 }
