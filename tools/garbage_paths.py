@@ -68,13 +68,17 @@ class Layout:
     def inserted(self, path, piece):
         """The path with a piece at the front of one of its segments."""
         segments = path.split(b"/")
-        place = self.chance.randrange(len(segments))
+        # an empty segment in front would make the path one from the root
+        place = self.chance.randrange(min(piece == b"/" and self.chance.randrange(20) > 0, len(segments) - 1), len(segments))
         return b"/".join(segments[:place] + [piece + segments[place]] + segments[place + 1:])
 
     def odd(self, path, word=b"", holder=b""):
         """The path in another form, which mostly leads to the same file."""
         for _ in range(self.chance.choice((0, 1, 1, 2, 3))):
             kind = self.chance.randrange(14)
+            if not word and self.chance.randrange(6):
+                # the system itself reads a path of the words: a folder that is gone leads nowhere there
+                kind = self.chance.choice((0, 2, 8, 9))
             if kind < 6:
                 piece = (b"./", b"gone/../", b"/", b"n" * 300 + b"/../", b"./" * 3000, b"x/y/../../")[kind]
                 path = self.inserted(path, piece)

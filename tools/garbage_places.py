@@ -46,11 +46,13 @@ def make_inputs(chance):
 
 def special_output(chance, path):
     """What stands at an output, what else has to be there, and whether it can be stored."""
-    is_root = os.geteuid() == 0
+    is_root, part = os.geteuid() == 0, os.fsdecode(path) + ".part"
     return chance.choice([
         (Folder(), {}, False), (Link(path), {}, False), (Link(os.fsencode(FULL)), {}, False), (Link(b"gone/x"), {}, False),
         (Link(b"made_here"), {}, True), (Link(b"there"), {"there": b"old\n"}, True), (Link(b"in/there"), {"in/there": b"old and longer\n" * 4000}, True),
-        (Closed(b"old\n"), {}, is_root), (Socket(), {}, False), (b"old and longer\n" * 4000, {}, True)])
+        (Closed(b"old\n"), {}, is_root), (Socket(), {}, False), (b"old and longer\n" * 4000, {}, True),
+        # the name under which a new file is written beside the old one may be taken
+        (b"old\n", {part: b"mine\n"}, True), (None, {part: Folder()}, True), (Folder(), {part: b"mine\n"}, False)])
 
 
 def make_outputs(chance):
