@@ -11,6 +11,9 @@ use crate::field::Field;
 use crate::tables::Tables;
 use fab_base::Memory;
 
+/// By how much each of up to two other nets makes the step to a node longer.
+const CROWD: u32 = 8;
+
 /// The end of the best walk so far. Entries whose keys are not below the limit are of no use.
 #[derive(Clone, Copy)]
 struct Best {
@@ -48,6 +51,18 @@ pub(crate) fn due_by<F: Field>(field: &F, guide: Option<u32>, node: u32, arrival
         Some(aim) => arrival.saturating_add(field.ahead(aim, node)),
         None => arrival,
     }
+}
+
+/// When a signal is at a node, by a step from one where it is at this time. The step to a node that other nets have counts as a longer one:
+/// nets that keep out of each other's way, where that takes little, need fewer detours in the end.
+fn arrival_at<F: Field>(field: &F, tables: &Tables, node: u32, before: u32) -> u32
+    requires node { node < (F.graph field.now).nodes }
+    requires count { count_of tables.now ≡ (F.graph field.now).nodes }
+{
+    let crowd = CROWD * tables.users(node).min(2);
+    before
+        .saturating_add(field.delay(node))
+        .saturating_add(crowd)
 }
 
 /// When a signal is at a node where walks begin: at one of the tree when it came there, and at a root from the beginning.
@@ -135,7 +150,7 @@ fn relax<F: Field>(
         if key >= limit {
             continue;
         }
-        let arrival = here.saturating_add(field.delay(*next));
+        let arrival = arrival_at(field, tables, *next, here);
         let due = due_by(field, guide, *next, arrival);
         tables.take(*next, through, node, key, arrival, due)?;
     }
