@@ -97,9 +97,7 @@ pub fn route_with_progress<P: Progress>(
     ensures fault { IfErr result (IsTrueFault fabric.now packed.now placed.now rounds) }
 {
     let found = route_by(alloc, progress, fabric, packed, placed, rounds, true)?;
-    let Some(routed) = found else {
-        unreachable!()
-    };
+    let Some(routed) = found else { unreachable!() };
     Ok(routed)
 }
 
