@@ -4,6 +4,7 @@ ghost use Rattle.std.specs.Prelude.{◌≡◌, ◌<◌, ◌≤◌, None, Err, If
 ghost use Rattle.std.specs.Option.{ForSome};
 
 use crate::outside::{Desk, DeskFault};
+use crate::replacing::{Replacement, replace};
 use crate::write::write_whole;
 use fab_base::MAX_FILE_BYTES;
 use std::alloc::Global;
@@ -15,8 +16,9 @@ use std::rt::Files;
 /// The files of the system, with counts of the reads and the writes that failed. A name is a path.
 ///
 /// Whatever the system refuses is `Failed`, but for a file that is absent or cannot be there, since a folder of its path is a file
-/// or its name is too long for the system: `fetch` answers these by `None`. After a `store` that failed half-way the file holds a
-/// front of the bytes.
+/// or its name is too long for the system: `fetch` answers these by `None`. `store` writes a plain file beside the old one, under its
+/// name and `.part`, and renames it, so that after a `store` that failed the old one stands. Links, pipes and devices are written where
+/// they are, and so is a file beside which none can be made: such a file may hold a front of the bytes then.
 #[derive(Drop)]
 pub struct FileDesk<'a, R: Files> {
     rt: &'a R,
@@ -62,6 +64,14 @@ fn read_all<F: Read>(alloc: Global, file: &mut F) -> Result<Vec<u8>, DeskFault>
     }
 }
 
+// Whether a file took all bytes where it stands.
+fn overwrite<R: Files>(rt: &R, name: &str, bytes: &[u8]) -> bool {
+    let Ok(mut file) = fs::create(rt, name) else {
+        return false;
+    };
+    write_whole(&mut file, bytes)
+}
+
 impl<'a, R: Files> FileDesk<'a, R> {
     /// A desk over the files of the system. No call has failed yet.
     pub fn new(rt: &'a R) -> FileDesk<'a, R>
@@ -101,10 +111,12 @@ impl<R: Files> Desk for FileDesk<'_, R> {
     }
 
     fn store(&mut self, name: &str, bytes: &[u8]) -> Result<(), DeskFault> {
-        let Ok(mut file) = fs::create(self.rt, name) else {
-            return Err(DeskFault::counted(&mut self.writes));
+        let stored = match replace(self.rt, name, bytes) {
+            Replacement::Done => true,
+            Replacement::Failed => false,
+            Replacement::Refused => overwrite(self.rt, name, bytes),
         };
-        if write_whole(&mut file, bytes) {
+        if stored {
             Ok(())
         } else {
             Err(DeskFault::counted(&mut self.writes))
@@ -141,6 +153,37 @@ mod tests {
         // A folder is opened, and its read fails.
         assert_eq!(rt; desk.fetch(alloc, "."), Err(DeskFault::Failed));
         assert_eq!(rt; desk.store(".", b"text"), Err(DeskFault::Failed));
+        Ok(())
+    }
+
+    #[test]
+    fn replaces_plain_files_alone(rt: HostRuntime) -> Result<(), Fail> {
+        let alloc = rt.alloc();
+        let name = "fab_desk_test_old";
+        let link = "fab_desk_test_link";
+        let part = "fab_desk_test_old.part";
+        let mut desk = FileDesk::new(&rt);
+        desk.store(name, b"old text")?;
+        desk.store(name, b"text")?;
+        let replaced = desk.fetch(alloc, name)?;
+        let left = desk.fetch(alloc, part)?.is_none();
+        // Through a link, the file that it leads to is written.
+        fs::rename(&rt, name, link)?;
+        rt.symlink(link, name)?;
+        desk.store(name, b"new")?;
+        let written = desk.fetch(alloc, link)?;
+        // A file that stands under the name of the one beside is not touched.
+        fs::remove_file(&rt, name)?;
+        desk.store(part, b"mine")?;
+        desk.store(name, b"text")?;
+        let mine = desk.fetch(alloc, part)?;
+        for each in [name, link, part] {
+            fs::remove_file(&rt, each)?;
+        }
+        assert_eq!(rt; replaced.ok_or("absent")?.as_slice(), b"text".as_slice());
+        assert!(rt; left);
+        assert_eq!(rt; written.ok_or("absent")?.as_slice(), b"new".as_slice());
+        assert_eq!(rt; mine.ok_or("absent")?.as_slice(), b"mine".as_slice());
         Ok(())
     }
 }

@@ -7,6 +7,7 @@ mod memory_desk;
 mod memory_sink;
 mod out_sink;
 mod outside;
+mod replacing;
 mod write;
 
 pub use file_desk::FileDesk;

@@ -59,7 +59,7 @@ any_push test [] x = elim (cases_Bool (test x)) [ inl t ↦ rw t refl | inr f �
 any_push test (y ∷ xs) x = elim (cases_Bool (test y)) [ inl t ↦ rw t refl | inr f ↦ rw f (any_push test xs x) ]
 
 -- where a name stands among names, another that is the same stands there too
-any_same : (other name : List ℕ) (names : List (List ℕ)) → list_any (bytes_eq name) names ≡ true → (list_any (bytes_eq other) names || bytes_eq other name) ≡ list_any (bytes_eq other) names
+pub any_same : (other name : List ℕ) (names : List (List ℕ)) → list_any (bytes_eq name) names ≡ true → (list_any (bytes_eq other) names || bytes_eq other name) ≡ list_any (bytes_eq other) names
 any_same other name names there =
     elim (told bytes_eq bytes_eq-Decides other name) [
       | inl t ↦ (let stands : list_any (bytes_eq other) names ≡ true = ap (λ (n : List ℕ). list_any (bytes_eq n) names) t.1 ∙ there in rw stands refl)
@@ -221,8 +221,21 @@ one_more count (Some other) more limit iff is = let same : other ≡ more = cc i
 -- ---- new pairs that cross
 
 -- names on sides tell which pairs cross
-pub any_crosses : (before fresh : PlainSides) (pairs new tried : List Pair) → HasSides before pairs → HasSides fresh new →
-    list_any (λ pair. crosses_sides before pair || crosses_sides fresh pair) tried ≡ list_any (λ pair. crosses pairs pair || crosses new pair) tried
-any_crosses before fresh pairs new [] has have = refl
-any_crosses before fresh pairs new (pair ∷ tried) has have = λ j.
-    ((has.inputs pair.0 j || has.outputs pair.1 j) || (have.inputs pair.0 j || have.outputs pair.1 j)) || any_crosses before fresh pairs new tried has have j
+pub any_crosses : (sides : PlainSides) (pairs tried : List Pair) → HasSides sides pairs → list_any (crosses_sides sides) tried ≡ list_any (crosses pairs) tried
+any_crosses sides pairs [] has = refl
+any_crosses sides pairs (pair ∷ tried) has = λ j. (has.inputs pair.0 j || has.outputs pair.1 j) || any_crosses sides pairs tried has j
+
+-- some pass one of two tests
+pub any_either : {X : Type 0} (first second : X → Bool) (xs : List X) → list_any (λ x. first x || second x) xs ≡ (list_any first xs || list_any second xs)
+any_either first second [] = refl
+any_either first second (x ∷ xs) = elim (cases_Bool (first x)) [
+  | inl t ↦ rw t refl
+  | inr f ↦ rw f (elim (cases_Bool (second x)) [
+    | inl y ↦ rw y (sym (or_true (list_any first xs)))
+    | inr n ↦ rw n (any_either first second xs)
+  ])
+]
+  where
+    or_true : (b : Bool) → (b || true) ≡ true
+    or_true true = refl
+    or_true false = refl

@@ -13,7 +13,7 @@ use fab_base::{Fault, MAX_FILE_BYTES, Memory, Name, Problem, Quantity, Reason};
 use fab_desk::Desk;
 use fab_files::fetch;
 use fab_paths::resolve;
-use fab_rows::{Row, rows};
+use fab_rows::{Row, next_row};
 use fab_tables::{KnownNames, ListBody, read_list_row};
 use std::alloc::Global;
 
@@ -139,9 +139,12 @@ pub fn take_rows<D: Desk, S: ListState>(
     ensures cause { IfErr result (HasReadCause (D.told desk.old) (D.reads desk.old < D.reads desk.new) (λ files. MeetsList files (S.known state.old) left file.now (S.pairs state.old) (rows_of bytes.now))) }
     ensures supported { IfErr result IsSupported }
 {
-    let found = rows(alloc, bytes)?;
-    for row in &found {
-        take_row(alloc, desk, state, left, file, row)?;
+    let mut rest = bytes;
+    let mut line: u32 = 1;
+    while let Some((row, after)) = next_row(alloc, rest, line)? {
+        take_row(alloc, desk, state, left, file, &row)?;
+        rest = after;
+        line = row.line + 1;
     }
     Ok(())
 }

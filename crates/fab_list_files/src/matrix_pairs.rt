@@ -6,6 +6,7 @@ ghost use Rattle.std.specs.Str.{bytes_eq};
 ghost use Rattle.fab_tables.specs.Lists.{Pair};
 ghost use Rattle.fab_bits.specs.Keys.{key_names};
 ghost use Rattle.fab_list_files.specs.Keys.{crosses_sides, HasSides};
+ghost use Rattle.fab_list_files.specs.Sides.{crosses, has_input, has_output};
 
 use crate::listing::ListState;
 use crate::pair_set::PairSet;
@@ -14,6 +15,9 @@ use indexmap::IndexSet;
 use std::alloc::Global;
 use std::marker::Model;
 use std::mem;
+
+/// So many pairs are compared each with each.
+const FEW_PAIRS: usize = 8;
 
 /// The names on the two sides of some pairs.
 #[derive(Drop)]
@@ -37,11 +41,14 @@ fn has_name(names: &IndexSet<Vec<u8>>, name: &Name) -> bool
     names.contains(name.bytes())
 }
 
-/// Adds a name to a set.
+/// Adds a name to a set, and copies it only where it is new.
 fn add_name(names: &mut IndexSet<Vec<u8>>, alloc: Global, name: &Name) -> Result<(), Memory>
     ensures { OnOk result ((other : List ℕ) → list_any (bytes_eq other) (key_names names.new.keys)
         ≡ (list_any (bytes_eq other) (key_names names.old.keys) || bytes_eq other name.now)) }
 {
+    if has_name(names, name) {
+        return Ok(());
+    }
     names.insert(name.copy(alloc)?.into_vec())?;
     Ok(())
 }
@@ -82,12 +89,41 @@ impl Sides {
     }
 }
 
-/// Whether some of the new pairs crosses those before them or one another.
-fn any_crosses(before: &Sides, fresh: &Sides, new: &[(Name, Name)]) -> bool
-    ensures { result ≡ list_any (λ pair. crosses_sides before.now pair || crosses_sides fresh.now pair) new.now }
+/// Whether some of the new pairs crosses pairs of which these are the sides.
+fn any_crosses(sides: &Sides, new: &[(Name, Name)]) -> bool
+    ensures { result ≡ list_any (crosses_sides sides.now) new.now }
 {
-    new.iter()
-        .any(|pair| before.crosses(pair) || fresh.crosses(pair))
+    new.iter().any(|pair| sides.crosses(pair))
+}
+
+fn has_output(pairs: &[(Name, Name)], name: &[u8]) -> bool
+    ensures { result ≡ has_output pairs.now name.now }
+{
+    pairs.iter().any(|pair| name == pair.0.bytes())
+}
+
+fn has_input(pairs: &[(Name, Name)], name: &[u8]) -> bool
+    ensures { result ≡ has_input pairs.now name.now }
+{
+    pairs.iter().any(|pair| name == pair.1.bytes())
+}
+
+fn crosses(pairs: &[(Name, Name)], pair: &(Name, Name)) -> bool
+    ensures { result ≡ crosses pairs.now pair.now }
+{
+    has_input(pairs, pair.0.bytes()) || has_output(pairs, pair.1.bytes())
+}
+
+/// Whether some of the new pairs crosses another of them. Most rows have one pair, for which it takes no sets.
+fn cross_one_another(alloc: Global, new: &[(Name, Name)]) -> Result<bool, Memory>
+    ensures { IfOk result (λ any. any ≡ list_any (crosses new.now) new.now) }
+{
+    if new.len() <= FEW_PAIRS {
+        return Ok(new.iter().any(|pair| crosses(new, pair)));
+    }
+    let mut fresh = Sides::new(alloc);
+    fresh.add_all(alloc, new)?;
+    Ok(any_crosses(&fresh, new))
 }
 
 /// The pairs so far, and the names on their two sides.
@@ -136,9 +172,7 @@ impl ListState for MatrixPairs {
     ghost pairs = { λ matrix. matrix };
 
     fn judge(&self, alloc: Global, new: &[(Name, Name)]) -> Result<Option<Reason>, Memory> {
-        let mut fresh = Sides::new(alloc);
-        fresh.add_all(alloc, new)?;
-        if any_crosses(&self.sides, &fresh, new) {
+        if any_crosses(&self.sides, new) || cross_one_another(alloc, new)? {
             return Ok(Some(Reason::BothSides));
         }
         Ok(None)

@@ -19,7 +19,7 @@ use fab_blocks::{Block, Holder, Reading, Said};
 use fab_desk::Desk;
 use fab_files::fetch;
 use fab_lines::last_line;
-use fab_rows::{Row, rows};
+use fab_rows::{Row, next_row};
 use std::alloc::Global;
 
 /// Whether a block that began in the file is open.
@@ -128,9 +128,12 @@ fn take_rows<D: Desk>(
     ensures read { ForSome (D.told desk.old) (λ files. OnOk result (ReadsRows files holder.now reading.old (rows_of bytes.now) reading.new)) }
     ensures cause { IfErr result (HasReadCause (D.told desk.old) (D.reads desk.old < D.reads desk.new) (λ files. MeetsRows files holder.now reading.old (rows_of bytes.now))) }
 {
-    let found = rows(alloc, bytes)?;
-    for row in &found {
-        take_row(alloc, desk, reading, holder, row)?;
+    let mut rest = bytes;
+    let mut line: u32 = 1;
+    while let Some((row, after)) = next_row(alloc, rest, line)? {
+        take_row(alloc, desk, reading, holder, &row)?;
+        rest = after;
+        line = row.line + 1;
     }
     Ok(())
 }

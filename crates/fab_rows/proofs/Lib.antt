@@ -2,3 +2,4 @@ pub mod Fields
 pub mod Kept
 pub mod Turns
 pub mod PlainLines
+pub mod LastGaps

@@ -28,6 +28,10 @@ rows_from number (line ∷ rest) = record { line = number; cells = cells_of_line
 abbrev pub has_cells : PlainRow → Bool
 has_cells row = not (length row.cells == 0)
 
+-- the rows of a text whose first line has this number
+abbrev pub rows_at : (number : ℕ) (bytes : List ℕ) → List PlainRow
+rows_at number bytes = filter has_cells (rows_from number (lines bytes))
+
 -- the rows of a text
 abbrev pub rows_of : (bytes : List ℕ) → List PlainRow
 rows_of bytes = filter has_cells (rows_from 1 (lines bytes))

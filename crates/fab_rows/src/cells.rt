@@ -7,12 +7,12 @@ ghost use Rattle.csv.specs.Reading.{default_config, strip_bom};
 ghost use Rattle.csv.specs.Records.{fields_of};
 ghost use Rattle.csv.specs.declared.parser.State.TheVariants as states;
 ghost use Rattle.fab_lines.specs.Parts.{is_empty_cell, trimmed, without_back};
-ghost use Rattle.fab_rows.specs.inner.Plain.{is_comma, is_plain_byte};
+ghost use Rattle.fab_rows.specs.inner.Plain.{is_comma, is_gap, is_plain_byte};
 ghost use Rattle.fab_rows.specs.Rows.{cells_of_line, fields_of_line};
 
 use csv::{ByteRecord, Error, ReaderBuilder};
 use fab_base::{Memory, Name};
-use fab_lines::{trimmed, uncommented};
+use fab_lines::{is_blank, trimmed, uncommented};
 use std::alloc::Global;
 
 /// The first record of a line that is read alone, if it has one.
@@ -74,6 +74,26 @@ fn is_plain(line: &[u8]) -> bool
     line.iter().all(|byte| *byte != b'"' && *byte != b'\r' && *byte != b'\n' && *byte != 0xef)
 }
 
+fn is_gap(byte: u8) -> bool
+    ensures { result ≡ is_gap byte }
+{
+    byte == b',' || is_blank(byte)
+}
+
+/// A line without the commas and blanks at its end, so that no empty cells are made of them.
+fn without_gaps(line: &[u8]) -> &[u8]
+    ensures { result.now ≡ without_back is_gap line.now }
+{
+    let mut rest = line;
+    while let Some((last, before)) = rest.split_last() {
+        if !is_gap(*last) {
+            break;
+        }
+        rest = before;
+    }
+    rest
+}
+
 /// What stands between commas.
 fn between_commas(alloc: Global, line: &[u8]) -> Result<Vec<Name>, Memory>
     ensures { IfOk result (λ cells. cells.items ≡ map trimmed (slice_split is_comma line.now)) }
@@ -99,13 +119,13 @@ fn csv_fields(alloc: Global, line: &[u8]) -> Result<Vec<Name>, Memory>
 }
 
 /// The cells of a line. A reader of CSV takes a buffer, so it is made only for lines that need one.
-#[tactic(auto, using(crate::proofs::PlainLines::plain_cells))]
+#[tactic(auto, using(crate::proofs::PlainLines::plain_cells, crate::proofs::LastGaps::cells_without_gaps))]
 pub fn cells_of(alloc: Global, line: &[u8]) -> Result<Vec<Name>, Memory>
     ensures { IfOk result (λ cells. cells.items ≡ cells_of_line line.now) }
 {
     let text = uncommented(line);
     if is_plain(text) {
-        return Ok(kept(between_commas(alloc, text)?));
+        return Ok(kept(between_commas(alloc, without_gaps(text))?));
     }
     Ok(kept(csv_fields(alloc, text)?))
 }

@@ -6,4 +6,4 @@ mod order;
 mod row;
 
 pub use order::{RowReader, read_rows};
-pub use row::{Row, rows};
+pub use row::{Row, next_row, rows};

@@ -1,13 +1,12 @@
-use Rattle.std.proofs.Common.{◌≡◌, ◌<◌, ◌-◌, ◌+◌, ◌∙◌, ℕ, List, drop, Ok, Some, ap, refl, subst, arith}
-use Rattle.std.proofs.lemmas.List.{drop_all}
+use Rattle.std.proofs.Common.{◌≡◌, ◌<◌, ◌≤◌, ◌-◌, ◌+◌, ◌∷◌, ◌∙◌, ℕ, length, Ok, Some, ap, sym, refl, subst, arith}
 use Rattle.std.proofs.lemmas.Result.{IfOk-weaker, IfErr-weaker, err_from_is_err_and}
 use Rattle.fab_base.specs.Reading.{IsFaultOr, fault_at}
-use Rattle.fab_rows.specs.Rows.{PlainRow, rows_of}
+use Rattle.fab_rows.specs.Rows.{PlainRow, rows_of, rows_at}
 use Rattle.fab_files.specs.Files.{MeetsFile, handed_out}
 use Rattle.fab_desk.specs.Files.{Map}
 use Rattle.fab_list_files.specs.Lists.{deed_of, Knowledge, ReadsList, MeetsList, MeetsListFile, of_file, of_rows}
 use Rattle.fab_list_files.specs.inner.Following.{RowLeads, MeetsRow}
-use Rattle.fab_list_files.proofs.Rows.{cause_at, adds_lead, opens_lead, opens_meets, bad_meets, leads_further, leads_to_end, leads_to_event, drop_next}
+use Rattle.fab_list_files.proofs.Rows.{cause_at, adds_lead, opens_lead, opens_meets, bad_meets, leads_further, leads_to_end, leads_to_event}
 use Rattle.fab_files.proofs.Causes.{cause_weaker}
 use Rattle.fab_list_files.proofs.Supported.{row_supported}
 use Rattle.fab_list_files.proofs.listing.+list.Goals as goal
@@ -88,57 +87,61 @@ pub take_rows-returns-in_err-take_row-clause-cause : goal.take_rows-returns-in_e
 take_rows-returns-in_err-take_row-clause-cause g t c =
     let residual = err_from_is_err_and c.from_residual-in_err-take_row.result c.from_residual-in_err-take_row.ensures.1 in
     let known = g.S.ListState.known c.args.state.now in
-    let here = g.S.ListState.known c.loop-row.state in
+    let here = g.S.ListState.known c.loop-rest.state in
     let before = g.S.ListState.pairs c.args.state.now in
-    let pairs = g.S.ListState.pairs c.loop-row.state in
+    let pairs = g.S.ListState.pairs c.loop-rest.state in
     let told = g.D.Desk.told c.args.desk.now in
-    let now_told = g.D.Desk.told c.loop-row.desk in
+    let now_told = g.D.Desk.told c.loop-rest.desk in
     let reads = g.D.Desk.reads in
-    let rows = c.deref-row-items.result.now in
-    let all : rows ≡ rows_of c.args.bytes.now = c.deref-row-items.ensures.value ∙ c.in_ok-found.ensures in
+    let rows = rows_of c.args.bytes.now in
     let file = c.args.file.now in
     let left = c.args.left in
-    rw (residual.1, residual.2) (cause_weaker now_told told (reads c.loop-row.desk < reads c.take_row.new.desk) (reads c.args.desk.now < reads c.take_row.new.desk)
-    (λ files. MeetsRow files here left file pairs c.row-item.result) (λ files. MeetsList files known left file before (rows_of c.args.bytes.now)) c.in_err-take_row.field-0.0
-    c.loop-row.invariant.told (λ r. omega (arith, r, c.loop-row.invariant.reads))
+    let row = c.in-Some.row in
+    rw (residual.1, residual.2) (cause_weaker now_told told (reads c.loop-rest.desk < reads c.take_row.new.desk) (reads c.args.desk.now < reads c.take_row.new.desk)
+    (λ files. MeetsRow files here left file pairs row) (λ files. MeetsList files known left file before rows) c.in_err-take_row.field-0.0
+    c.loop-rest.invariant.told (λ r. omega (arith, r, c.loop-rest.invariant.reads))
     (λ files is event met.
-    subst (λ (rs : List PlainRow). MeetsList files known left file before rs event) all
-    (leads_to_event files known left file before rows pairs c.row-item.result (drop c.loop-row.row-index rows) (drop (c.loop-row.row-index + 1) rows) event
-    (drop_next rows c.loop-row.row-index c.row-item.result c.loop-row-test.true c.row-item.is)
-    (c.loop-row.invariant.on files is)
-    (subst (λ (k : Knowledge). MeetsRow files k left file pairs c.row-item.result event) c.loop-row.invariant.known met)))
+    leads_to_event files known left file before rows pairs row (rows_at c.loop-rest.line c.loop-rest.rest.now) (rows_at (row.line + 1) c.in-Some.after.now) event
+    (rw c.in-Some.is at c.in_ok-row.ensures.next)
+    (c.loop-rest.invariant.on files is)
+    (subst (λ (k : Knowledge). MeetsRow files k left file pairs row event) c.loop-rest.invariant.known met))
     c.in_err-take_row.ensures.cause)
 
-pub take_rows-loop-row-preserved : goal.take_rows-loop-row-preserved
-take_rows-loop-row-preserved g t c =
+pub take_rows-loop-rest-preserved : goal.take_rows-loop-rest-preserved
+take_rows-loop-rest-preserved g t c =
     let known = g.S.ListState.known c.args.state.now in
     let before = g.S.ListState.pairs c.args.state.now in
-    let pairs = g.S.ListState.pairs c.loop-row.state in
+    let pairs = g.S.ListState.pairs c.loop-rest.state in
     let next = g.S.ListState.pairs c.take_row.new.state in
-    let rows = c.deref-row-items.result.now in
     let file = c.args.file.now in
     let left = c.args.left in
+    let row = c.in-Some.row in
+    let after = c.in-Some.after.now in
+    let line : c.row.inside.line ≡ row.line = ap (λ (r : PlainRow). r.line) c.row.view_is in
+    let cut : rows_at c.loop-rest.line c.loop-rest.rest.now ≡ row ∷ rows_at (row.line + 1) after = rw c.in-Some.is at c.in_ok-row.ensures.next in
+    let numbered : row.line + 1 + length after ≤ c.loop-rest.line + length c.loop-rest.rest.now = rw c.in-Some.is at c.in_ok-row.ensures.numbered in
+    let shorter : length after < length c.loop-rest.rest.now = rw c.in-Some.is at c.in_ok-row.ensures.shorter in
     record {
-      told = c.in_ok-take_row.ensures.told ∙ c.loop-row.invariant.told;
-      writes = c.in_ok-take_row.ensures.writes ∙ c.loop-row.invariant.writes;
-      reads = omega (arith, c.in_ok-take_row.ensures.reads, c.loop-row.invariant.reads);
-      known = c.in_ok-take_row.ensures.known ∙ c.loop-row.invariant.known;
+      told = c.in_ok-take_row.ensures.told ∙ c.loop-rest.invariant.told;
+      writes = c.in_ok-take_row.ensures.writes ∙ c.loop-rest.invariant.writes;
+      reads = omega (arith, c.in_ok-take_row.ensures.reads, c.loop-rest.invariant.reads);
+      known = c.in_ok-take_row.ensures.known ∙ c.loop-rest.invariant.known;
       on = λ files is.
-          leads_further files known left file before rows pairs next c.row-item.result (drop c.loop-row.row-index rows) (drop (c.loop-row.row-index + 1) rows)
-          (drop_next rows c.loop-row.row-index c.row-item.result c.loop-row-test.true c.row-item.is)
-          (c.loop-row.invariant.on files is)
-          (subst (λ (k : Knowledge). RowLeads files k left file pairs c.row-item.result next) c.loop-row.invariant.known (c.in_ok-take_row.ensures.read files (c.loop-row.invariant.told ∙ is)));
+          leads_further files known left file before (rows_of c.args.bytes.now) pairs next row (rows_at c.loop-rest.line c.loop-rest.rest.now) (rows_at (c.row.inside.line + 1) after)
+          (cut ∙ ap (λ n. row ∷ rows_at (n + 1) after) (sym line))
+          (c.loop-rest.invariant.on files is)
+          (subst (λ (k : Knowledge). RowLeads files k left file pairs row next) c.loop-rest.invariant.known (c.in_ok-take_row.ensures.read files (c.loop-rest.invariant.told ∙ is)));
+      small = omega (arith, shorter, c.loop-rest.invariant.small);
+      room = omega (arith, line, numbered, c.loop-rest.invariant.room);
     }
 
 pub take_rows-returns-clause-read : goal.take_rows-returns-clause-read
 take_rows-returns-clause-read g t c = λ files is.
     let known = g.S.ListState.known c.args.state.now in
     let before = g.S.ListState.pairs c.args.state.now in
-    let pairs = g.S.ListState.pairs c.loop-row.state in
-    let rows = c.deref-row-items.result.now in
-    let all : rows ≡ rows_of c.args.bytes.now = c.deref-row-items.ensures.value ∙ c.in_ok-found.ensures in
-    subst (λ (rs : List PlainRow). ReadsList files known c.args.left c.args.file.now before rs pairs) all
-    (leads_to_end files known c.args.left c.args.file.now before rows pairs (drop c.loop-row.row-index rows) (drop_all c.loop-row.row-index rows (omega arith)) (c.loop-row.invariant.on files is))
+    let pairs = g.S.ListState.pairs c.loop-rest.state in
+    leads_to_end files known c.args.left c.args.file.now before (rows_of c.args.bytes.now) pairs (rows_at c.loop-rest.line c.loop-rest.rest.now)
+    (rw c.in_default.is at c.in_ok-row.ensures.next) (c.loop-rest.invariant.on files is)
 
 pub read_list_file-returns-in_err-bytes-clause-supported : goal.read_list_file-returns-in_err-bytes-clause-supported
 read_list_file-returns-in_err-bytes-clause-supported g t c =

@@ -1,5 +1,6 @@
-use Rattle.std.proofs.Common.{◌≡◌, ◌≤◌, ◌+◌, ◌*◌, drop}
+use Rattle.std.proofs.Common.{◌≡◌, ◌≤◌, ◌+◌, ◌*◌, length}
 use Rattle.std.specs.Option.{ForSome}
+use Rattle.fab_rows.specs.Rows.{rows_of, rows_at}
 use Rattle.fab_list_files.specs.inner.Following.{LeadsOn}
 use Rattle.fab_list_files.proofs.listing.+list.Given as goal
 
@@ -14,12 +15,17 @@ abbrev pub decreases-take_row : goal.decreases-take_row
 decreases-take_row g l = 3 * l.left
 
 -- what all rows come to, the rest of them comes to from here
-abbrev pub invariant-take_rows-loop-row : goal.invariant-take_rows-loop-row
-invariant-take_rows-loop-row g l = record {
+abbrev pub invariant-take_rows-loop-rest : goal.invariant-take_rows-loop-rest
+invariant-take_rows-loop-rest g l = record {
   told : g.D.Desk.told l.desk ≡ g.D.Desk.told l.fn.desk;
   writes : g.D.Desk.writes l.desk ≡ g.D.Desk.writes l.fn.desk;
   reads : g.D.Desk.reads l.fn.desk ≤ g.D.Desk.reads l.desk;
   known : g.S.ListState.known l.state ≡ g.S.ListState.known l.fn.state;
   on : ForSome (g.D.Desk.told l.fn.desk)
-      (λ files. LeadsOn files (g.S.ListState.known l.fn.state) l.left l.file (g.S.ListState.pairs l.fn.state) l.row-items (g.S.ListState.pairs l.state) (drop l.row-index l.row-items));
+      (λ files. LeadsOn files (g.S.ListState.known l.fn.state) l.left l.file (g.S.ListState.pairs l.fn.state) (rows_of l.bytes) (g.S.ListState.pairs l.state) (rows_at l.line l.rest));
+  small : length l.rest ≤ length l.bytes;
+  room : l.line + length l.rest ≤ length l.bytes + 1;
 }
+
+abbrev pub decreases-take_rows-loop-rest : goal.decreases-take_rows-loop-rest
+decreases-take_rows-loop-rest g l = length l.rest

@@ -1,5 +1,4 @@
-use Rattle.std.proofs.Common.{◌≡◌, ◌<◌, ◌-◌, ◌+◌, ◌∙◌, ℕ, true, false, not, All, List, drop, Ok, Some, sym, ap, refl, subst, arith}
-use Rattle.std.proofs.lemmas.List.{drop_all}
+use Rattle.std.proofs.Common.{◌≡◌, ◌<◌, ◌≤◌, ◌-◌, ◌+◌, ◌∷◌, ◌∙◌, ℕ, true, false, not, All, List, length, Ok, Some, sym, ap, refl, subst, arith}
 use Rattle.std.proofs.lemmas.Result.{IfOk-weaker, IfErr-weaker, err_from_is_err_and, on_ok_weaker}
 use Rattle.fab_base.specs.Reading.{IsFaultOr, fault_at}
 use Rattle.fab_base.specs.declared.problem.Problem.TheVariants as problems
@@ -9,10 +8,10 @@ use Rattle.fab_blocks.specs.Saying.{said_of}
 use Rattle.fab_blocks.specs.declared.standing.Said.TheVariants as said
 use Rattle.fab_desk.specs.Files.{Map}
 use Rattle.fab_model.specs.Tables.{HasTable}
-use Rattle.fab_rows.specs.Rows.{PlainRow, rows_of}
+use Rattle.fab_rows.specs.Rows.{PlainRow, rows_of, rows_at}
 use Rattle.fab_lines.specs.Counts.{last_line}
 use Rattle.fab_files.specs.Files.{MeetsFile, handed_out}
-use Rattle.fab_list_files.proofs.Rows.{cause_at, drop_next}
+use Rattle.fab_list_files.proofs.Rows.{cause_at}
 use Rattle.fab_files.proofs.Causes.{cause_weaker, placed_cause}
 use Rattle.fab_read.specs.Rows.{end_at, is_left_open, ReadsRows, MeetsRows, MeetsRowsFile, of_file, of_rows, of_end}
 use Rattle.fab_read.specs.Tiles.{End, MeetsTile}
@@ -26,48 +25,50 @@ take_rows-returns-in_err-take_row-clause-cause g t c =
     let residual = err_from_is_err_and c.from_residual-in_err-take_row.result c.from_residual-in_err-take_row.ensures.1 in
     let holder = c.args.holder.now in
     let before = c.args.reading.now in
-    let here = c.loop-row.reading in
+    let here = c.loop-rest.reading in
     let told = g.D.Desk.told c.args.desk.now in
-    let now_told = g.D.Desk.told c.loop-row.desk in
+    let now_told = g.D.Desk.told c.loop-rest.desk in
     let reads = g.D.Desk.reads in
-    let rows = c.deref-row-items.result.now in
-    let all : rows ≡ rows_of c.args.bytes.now = c.deref-row-items.ensures.value ∙ c.in_ok-found.ensures in
-    rw (residual.1, residual.2) (cause_weaker now_told told (reads c.loop-row.desk < reads c.take_row.new.desk) (reads c.args.desk.now < reads c.take_row.new.desk)
-    (λ files. MeetsRow files holder here c.row-item.result) (λ files. MeetsRows files holder before (rows_of c.args.bytes.now)) c.in_err-take_row.field-0.0
-    c.loop-row.invariant.told (λ r. omega (arith, r, c.loop-row.invariant.reads))
+    let rows = rows_of c.args.bytes.now in
+    let row = c.in-Some.row in
+    rw (residual.1, residual.2) (cause_weaker now_told told (reads c.loop-rest.desk < reads c.take_row.new.desk) (reads c.args.desk.now < reads c.take_row.new.desk)
+    (λ files. MeetsRow files holder here row) (λ files. MeetsRows files holder before rows) c.in_err-take_row.field-0.0
+    c.loop-rest.invariant.told (λ r. omega (arith, r, c.loop-rest.invariant.reads))
     (λ files is event met.
-    subst (λ (rs : List PlainRow). MeetsRows files holder before rs event) all
-    (leads_to_event files holder before rows here c.row-item.result (drop c.loop-row.row-index rows) (drop (c.loop-row.row-index + 1) rows) event
-    (drop_next rows c.loop-row.row-index c.row-item.result c.loop-row-test.true c.row-item.is)
-    (c.loop-row.invariant.on files is) met))
+    leads_to_event files holder before rows here row (rows_at c.loop-rest.line c.loop-rest.rest.now) (rows_at (row.line + 1) c.in-Some.after.now) event
+    (rw c.in-Some.is at c.in_ok-row.ensures.next)
+    (c.loop-rest.invariant.on files is) met)
     c.in_err-take_row.ensures.cause)
 
-pub take_rows-loop-row-preserved : goal.take_rows-loop-row-preserved
-take_rows-loop-row-preserved g t c =
+pub take_rows-loop-rest-preserved : goal.take_rows-loop-rest-preserved
+take_rows-loop-rest-preserved g t c =
     let holder = c.args.holder.now in
     let before = c.args.reading.now in
-    let here = c.loop-row.reading in
+    let here = c.loop-rest.reading in
     let next = c.take_row.new.reading in
-    let rows = c.deref-row-items.result.now in
+    let row = c.in-Some.row in
+    let after = c.in-Some.after.now in
+    let line : c.row.inside.line ≡ row.line = ap (λ (r : PlainRow). r.line) c.row.view_is in
+    let cut : rows_at c.loop-rest.line c.loop-rest.rest.now ≡ row ∷ rows_at (row.line + 1) after = rw c.in-Some.is at c.in_ok-row.ensures.next in
+    let numbered : row.line + 1 + length after ≤ c.loop-rest.line + length c.loop-rest.rest.now = rw c.in-Some.is at c.in_ok-row.ensures.numbered in
+    let shorter : length after < length c.loop-rest.rest.now = rw c.in-Some.is at c.in_ok-row.ensures.shorter in
     record {
-      told = c.in_ok-take_row.ensures.told ∙ c.loop-row.invariant.told;
-      writes = c.in_ok-take_row.ensures.writes ∙ c.loop-row.invariant.writes;
-      reads = omega (arith, c.in_ok-take_row.ensures.reads, c.loop-row.invariant.reads);
-      tables = λ sound. c.in_ok-take_row.ensures.tables (c.loop-row.invariant.tables sound);
+      told = c.in_ok-take_row.ensures.told ∙ c.loop-rest.invariant.told;
+      writes = c.in_ok-take_row.ensures.writes ∙ c.loop-rest.invariant.writes;
+      reads = omega (arith, c.in_ok-take_row.ensures.reads, c.loop-rest.invariant.reads);
+      tables = λ sound. c.in_ok-take_row.ensures.tables (c.loop-rest.invariant.tables sound);
       on = λ files is.
-          leads_further files holder before rows here next c.row-item.result (drop c.loop-row.row-index rows) (drop (c.loop-row.row-index + 1) rows)
-          (drop_next rows c.loop-row.row-index c.row-item.result c.loop-row-test.true c.row-item.is)
-          (c.loop-row.invariant.on files is) (c.in_ok-take_row.ensures.read files (c.loop-row.invariant.told ∙ is));
+          leads_further files holder before (rows_of c.args.bytes.now) here next row (rows_at c.loop-rest.line c.loop-rest.rest.now) (rows_at (c.row.inside.line + 1) after)
+          (cut ∙ ap (λ n. row ∷ rows_at (n + 1) after) (sym line))
+          (c.loop-rest.invariant.on files is) (c.in_ok-take_row.ensures.read files (c.loop-rest.invariant.told ∙ is));
+      small = omega (arith, shorter, c.loop-rest.invariant.small);
+      room = omega (arith, line, numbered, c.loop-rest.invariant.room);
     }
 
 pub take_rows-returns-clause-read : goal.take_rows-returns-clause-read
 take_rows-returns-clause-read g t c = λ files is.
-    let holder = c.args.holder.now in
-    let before = c.args.reading.now in
-    let rows = c.deref-row-items.result.now in
-    let all : rows ≡ rows_of c.args.bytes.now = c.deref-row-items.ensures.value ∙ c.in_ok-found.ensures in
-    subst (λ (rs : List PlainRow). ReadsRows files holder before rs c.loop-row.reading) all
-    (leads_to_end files holder before rows c.loop-row.reading (drop c.loop-row.row-index rows) (drop_all c.loop-row.row-index rows (omega arith)) (c.loop-row.invariant.on files is))
+    leads_to_end files c.args.holder.now c.args.reading.now (rows_of c.args.bytes.now) c.loop-rest.reading (rows_at c.loop-rest.line c.loop-rest.rest.now)
+    (rw c.in_default.is at c.in_ok-row.ensures.next) (c.loop-rest.invariant.on files is)
 
 pub take_file-returns-in_err-bytes-clause-cause : goal.take_file-returns-in_err-bytes-clause-cause
 take_file-returns-in_err-bytes-clause-cause g t c =
