@@ -105,6 +105,24 @@ def row(weight, words, files):
     return weight, [word.encode() for word in words.split()], files
 
 
+def chain_rows():
+    """Rows whose fabric keeps its configuration in a chain of flip-flops."""
+    chain = fixtures("duo_chain.csv", "io.list", "log.list")
+    inv = dict(chain, **fixtures("inv.blif", "inv.pcf"))
+    return [
+        row(3, "generate duo_chain.csv f.v", chain),
+        row(3, "generate tall.csv f.v", fixtures("tall.csv", "io.list", "log.list", "pass.list")),
+        row(3, "flow duo_chain.csv inv.blif inv --pcf inv.pcf", inv),
+        row(2, "assemble duo_chain.csv inv.blif inv.impl made --pcf inv.pcf", dict(inv, **fixtures("inv.impl"))),
+        row(3, "bits duo_chain.csv inv.fasm b", dict(chain, **fixtures("inv.fasm"))),
+        row(4, "features duo_chain.csv inv_chain.bit f", dict(chain, **fixtures("inv_chain.bit"))),
+        row(4, "simulate duo_chain.v inv_chain.bit inv.state inv.stim t", dict(
+            fixtures("duo_chain.v", "inv_chain.bit", "inv.state"), **{"inv.stim": b"a\n0\n1\n1\n"})),
+        row(2, "simulate duo_chain.v tog_chain.bit tog.state tog.stim t --order 5", dict(
+            fixtures("duo_chain.v", "tog_chain.bit", "tog.state"), **{"tog.stim": b"-\n-\n"})),
+    ]
+
+
 def rows(is_small=False):
     """Rows of weight, words and files. The small ones take some milliseconds each."""
     duo = fixtures("duo.csv", "io.list", "log.list")
@@ -156,7 +174,7 @@ def rows(is_small=False):
     counter = dict(grid, **read(*("examples/counter/counter" + end for end in (".blif", ".pcf", ".impl"))))
     shape = read(*("examples/shapes/" + name for name in (
         "hole.csv", "logic.csv", "logic.list", "pads2.csv", "pads2.list")))
-    return found + [
+    return found + chain_rows() + [
         row(4, "assemble fabric.csv counter.blif counter.impl made --pcf counter.pcf", counter),
         row(4, "flow fabric.csv counter.blif made --pcf counter.pcf", counter),
         row(2, "map hole.csv pwm.blif i --rounds 8", dict(shape, **read("examples/designs/pwm.blif"))),

@@ -34,3 +34,21 @@ pub struct Declared {
     pub shape: Shape,
     pub role: Role,
 }
+
+/// Where a look-up ended: the instance of its point, and the number of its declaration there. A look-up of a point near it begins there.
+/// What is found does not depend on it.
+#[derive(Clone, Copy, Debug, PartialEq, Eq)]
+pub struct Cursor {
+    pub(crate) instance: u32,
+    pub(crate) declared: usize,
+}
+
+impl Cursor {
+    /// At the first point.
+    pub fn new() -> Cursor {
+        Cursor {
+            instance: 0,
+            declared: 0,
+        }
+    }
+}

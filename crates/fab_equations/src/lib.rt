@@ -14,7 +14,7 @@ mod lookups;
 mod placed;
 mod tables;
 
-pub use driver::{Declared, Driver, Source};
+pub use driver::{Cursor, Declared, Driver, Source};
 pub use equations::{Equations, MOST_POINTS, elaborate};
 pub use instances::module_children;
 pub use tables::{ChildTable, LocalDriver, Table, Tables, tables_of};

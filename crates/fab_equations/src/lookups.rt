@@ -1,6 +1,6 @@
 //! What drives a point, and where names are declared: looked up without memory.
 
-ghost use Rattle.std.specs.Prelude.{◌≡◌, ◌<◌, ℕ, Some, length, IfSome, IfNone, slice_get, position, ◌==◌, ◌+◌, ◌^◌};
+ghost use Rattle.std.specs.Prelude.{◌≡◌, ◌<◌, ℕ, Some, length, IfSome, IfNone, IsTrue, slice_get, position, ◌==◌, ◌+◌, ◌^◌};
 ghost use Rattle.std.specs.List.Sorted.{IsNonDecreasingBy};
 ghost use Rattle.fab_syntax.specs.Plain.{plain_text};
 ghost use Rattle.fab_values.specs.Declarations.{declarations, bits_of};
@@ -9,7 +9,7 @@ ghost use Rattle.fab_equations.specs.Numbering.{IsInstanceOfNumber, points_befor
 ghost use Rattle.fab_equations.specs.Equations.{IsDriven, DriverFits, IsFound, IsNotFound, IsPlace, IsNoPlace, declared_in, IsClockPoint};
 ghost use Rattle.fab_equations.specs.Lookups.{IsHere, IsPointOf, IsBit, IsInput, IsJoin, IsName, IsClock, IsChildNamed, IsLastAtMost, HasChild, IsChild, IsLocalName};
 
-use crate::driver::{Declared, Driver, Source};
+use crate::driver::{Cursor, Declared, Driver, Source};
 use crate::equations::Equations;
 use crate::placed::PlacedInstance;
 use crate::tables::{LocalDriver, Table};
@@ -59,7 +59,17 @@ impl<'a> Equations<'a> {
         ensures drives { IsDriven (plain_text self.now) point result }
         ensures fit { DriverFits (plain_text self.now) result }
     {
-        let local = self.bit_at(point);
+        self.driver_near(point, &mut Cursor::new())
+    }
+
+    /// What drives a point, as `driver` says it. It is found without a search where the cursor stands at the same name or at one next to it in its
+    /// instance. Afterwards the cursor stands at the point.
+    pub fn driver_near(&self, point: u32, cursor: &mut Cursor) -> Driver
+        requires { point < length (points (plain_text self.now)) }
+        ensures drives { IsDriven (plain_text self.now) point result }
+        ensures fit { DriverFits (plain_text self.now) result }
+    {
+        let local = self.bit_near(point, cursor);
         let here = self.here(local.instance);
         match here.table.drivers[local.declared] {
             LocalDriver::Input => match self.joined(local.instance, local.declared) {
@@ -112,19 +122,42 @@ impl<'a> Equations<'a> {
     }
 
     // The bit of a declared name that a point is.
-    fn bit_at(&self, point: u32) -> LocalBit
+    fn bit_near(&self, point: u32, cursor: &mut Cursor) -> LocalBit
         requires { point < length (points (plain_text self.now)) }
         ensures { IsBit (plain_text self.now) point result }
     {
-        let instance = self.instance_of(point);
+        let instance = self.instance_near(point, cursor.instance);
         let here = self.here(instance);
         let place = point - here.placed.first;
-        let declared = last_at_most(&here.table.firsts, place);
+        let declared = last_near(&here.table.firsts, place, cursor.declared);
+        *cursor = Cursor { instance, declared };
         LocalBit {
             instance,
             declared,
             bit: place - here.table.firsts[declared],
         }
+    }
+
+    // The instance of a point, which may be this one.
+    fn instance_near(&self, point: u32, near: u32) -> u32
+        requires { point < length (points (plain_text self.now)) }
+        ensures { IsPointOf (plain_text self.now) point result }
+    {
+        if self.has_point(near, point) {
+            return near;
+        }
+        self.instance_of(point)
+    }
+
+    // Whether there is an instance of this number, and a point is one of its own.
+    fn has_point(&self, instance: u32, point: u32) -> bool
+        ensures { IsTrue result → IsPointOf (plain_text self.now) point instance }
+    {
+        if instance >= self.instances() {
+            return false;
+        }
+        let own = self.points_of(instance);
+        own.start <= point && point < own.end
     }
 
     // The instance of a point.
@@ -255,6 +288,40 @@ impl<'a> Equations<'a> {
             None
         }
     }
+}
+
+// The number of the last that is at most a place; the first is 0, and they do not fall. It may be this one or one next to it.
+fn last_near(firsts: &[u32], place: u32, near: usize) -> usize
+    requires starts { slice_get firsts.now 0 ≡ Some 0 }
+    requires rises { IsNonDecreasingBy (λ n. n) firsts.now }
+    ensures { IsLastAtMost (λ n. n) firsts.now place result }
+{
+    if is_last_at_most(firsts, place, near) {
+        return near;
+    }
+    let behind = near.saturating_add(1);
+    if is_last_at_most(firsts, place, behind) {
+        return behind;
+    }
+    let before = near.saturating_sub(1);
+    if is_last_at_most(firsts, place, before) {
+        return before;
+    }
+    last_at_most(firsts, place)
+}
+
+// Whether this is the number of the last that is at most a place. It is not said of the last of all.
+fn is_last_at_most(firsts: &[u32], place: u32, number: usize) -> bool
+    requires { IsNonDecreasingBy (λ n. n) firsts.now }
+    ensures { IsTrue result → IsLastAtMost (λ n. n) firsts.now place number }
+{
+    let Some(first) = firsts.get(number) else {
+        return false;
+    };
+    let Some(next) = firsts.get(number + 1) else {
+        return false;
+    };
+    *first <= place && place < *next
 }
 
 // The number of the last that is at most a place; the first is 0, and they do not fall.

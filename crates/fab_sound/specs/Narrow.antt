@@ -1,5 +1,5 @@
 -- Expressions whose widths are counted in 64 bits.
-use Rattle.std.specs.Prelude.{ℕ, ◌^◌, ◌<◌, List, All}
+use Rattle.std.specs.Prelude.{◌^◌, ◌<◌, List, All}
 use Rattle.fab_syntax.specs.Plain.{PlainExpr, PlainModule}
 use Rattle.fab_syntax.specs.Sound.{item_expressions, width_of, Every, EachItem}
 

@@ -154,6 +154,9 @@ fn names_are_nets(
 ) -> Result<bool, Memory>
     ensures { IfOk result (λ fits. fits ≡ list_all (has_net names.now) (expression_names (plain_expr whole.now))) }
 {
+    if let Expr::Var(name) = whole {
+        return Ok(is_net(names, name));
+    }
     let parts = subexpressions(alloc, whole)?;
     for part in &parts {
         if !own_name_is_net(names, part) {

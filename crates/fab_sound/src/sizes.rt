@@ -1,7 +1,7 @@
 //! The rules on selects and on widths. The list of an expression's parts is gone through from its end with the widths of those that
 //! no operator has taken yet, that of the first part on top.
 
-ghost use Rattle.std.specs.Prelude.{◌≡◌, ◌∷◌, ◌^◌, true, false, nat_eq, length, take, drop, get_or, map, reverse, IfOk, OnOk};
+ghost use Rattle.std.specs.Prelude.{◌≡◌, ◌∷◌, ◌^◌, ◌<◌, true, false, nat_eq, length, take, drop, get_or, map, reverse, IfOk, OnOk};
 ghost use Rattle.std.specs.List.{list_all, sum};
 ghost use Rattle.fab_syntax.specs.Plain.{plain_expr, plain_item};
 ghost use Rattle.fab_syntax.specs.Sound.{expression_width, item_expressions, SelectsFit, WidthsFit};
@@ -146,6 +146,35 @@ pub fn has_width(
 
 /// How wide an expression is, and whether what is in it fits.
 pub fn measure(
+    alloc: Global,
+    names: &IndexMap<&[u8], Declared>,
+    whole: &Expr,
+) -> Result<Measured, Memory>
+    ensures width { IfOk result (λ found. found.width ≡ expression_width (found_width names.now) (plain_expr whole.now)) }
+    ensures selects { IfOk result (λ found. found.selects ≡ all_selects_pass names.now (plain_expr whole.now)) }
+    ensures operands { IfOk result (λ found. found.operands ≡ all_operands_pass (found_width names.now) (plain_expr whole.now)) }
+    ensures narrow { OnOk result (all_narrow (found_width names.now) (plain_expr whole.now) ≡ true) }
+{
+    match whole {
+        Expr::Var(name) => Ok(measured_name(names, name)),
+        _ => measure_parts(alloc, names, whole),
+    }
+}
+
+// What is found of a name that stands alone, as most joins do.
+fn measured_name(names: &IndexMap<&[u8], Declared>, name: &Name) -> Measured
+    ensures found { result ≡ record { width = found_width names.now name.now; selects = true; operands = true } }
+    ensures narrow { found_width names.now name.now < 2 ^ 64 }
+{
+    Measured {
+        width: width_of(names, name),
+        selects: true,
+        operands: true,
+    }
+}
+
+// What is found of an expression, by all that is in it.
+fn measure_parts(
     alloc: Global,
     names: &IndexMap<&[u8], Declared>,
     whole: &Expr,

@@ -8,5 +8,6 @@ pub mod Stays
 pub mod Made
 pub mod Joined
 pub mod Marked
+pub mod Blocks
 pub mod Steps
 pub mod Whole

@@ -1,4 +1,4 @@
--- Tables are filled row by row, and a row by the halves that it leaves.
+-- Tables are filled row by row.
 use Rattle.std.proofs.Common.{◌≡◌, ℕ, zero, suc, ◌+◌, ◌-◌, ◌*◌, ◌/◌, ◌^◌, ◌<◌, ◌≤◌, Bool, true, false, List, [], ◌∷◌, ◌++◌, map, take, drop, length, get_or, length-append, max, replicate, if◌then◌else◌, nat_eq, bit_and, refl, sym, ap, ◌∙◌, subst, inl, inr, arith, pow-suc, eqb-true, eq-eqb}
 use Rattle.std.specs.Int.{from_bool}
 use Rattle.std.specs.Int.Bits.{bit_or}
@@ -25,7 +25,7 @@ bit_small false = omega arith
 
 -- ---- what a row asks of a place
 
-abbrev asks : (care value place : ℕ) → Bool
+abbrev pub asks : (care value place : ℕ) → Bool
 asks care value place = nat_eq (bit_and place care) value
 
 pub marked-append : (care value bits place : ℕ) (xs ys : List ℕ) →
@@ -57,172 +57,9 @@ marked_none care value bits place (word ∷ words) none =
     let rest = marked_none care value bits (suc place) words (λ i small. ap (asks care value) (omega arith) ∙ none (suc i) (omega (arith, small))) in
     λ j. (if here j then bit_or word bits else word) ∷ rest j
 
--- a row that looks at no bit of the places matches all
-pub marked_all : (bits place : ℕ) (words : List ℕ) → marked 0 0 bits place words ≡ map (λ word. bit_or word bits) words
-marked_all bits place [] = refl
-marked_all bits place (word ∷ words) =
-    let none : bit_and place 0 ≡ 0 = omega (arith, and_le_r place 0) in
-    let here : asks 0 0 place ≡ true = ap (λ k. nat_eq k 0) none in
-    let rest = marked_all bits (suc place) words in
-    λ j. (if here j then bit_or word bits else word) ∷ rest j
-
-pub none_cared : (care value bits : ℕ) (words : List ℕ) → care ≡ 0 → IsRowOf (length words) care value →
-    map (λ word. bit_or word bits) words ≡ marked care value bits 0 words
-none_cared care value bits words none row =
-    let less : bit_and value care ≤ care = and_le_r value care in
-    let value_none : value ≡ 0 = omega (arith, less, none, row.cared) in
-    sym ((λ j. marked (none j) (value_none j) bits 0 words) ∙ marked_all bits 0 words)
-
--- ---- the highest bit of a place
-
-module _ (k : ℕ) where
-  abbrev half : ℕ
-  half = 2 ^ k
-
-  -- places of the second half, where the row does not look at the highest bit
-  above_free : (i care : ℕ) → i < half → care < half → bit_and (half + i) care ≡ bit_and i care
-  above_free i care small low =
-      let place : half + i ≡ 1 * half + i = omega arith in
-      let row : care ≡ 0 * half + care = omega arith in
-      (λ j. bit_and (place j) (row j)) ∙ and_block k 1 0 i care small low ∙ omega arith
-
-  -- places of the first half, where it does
-  below_fixed : (i care : ℕ) → i < half → care < half → bit_and i (half + care) ≡ bit_and i care
-  below_fixed i care small low =
-      let place : i ≡ 0 * half + i = omega arith in
-      let row : half + care ≡ 1 * half + care = omega arith in
-      (λ j. bit_and (place j) (row j)) ∙ and_block k 0 1 i care small low ∙ omega arith
-
-  -- places of the second half
-  above_fixed : (i care : ℕ) → i < half → care < half → bit_and (half + i) (half + care) ≡ half + bit_and i care
-  above_fixed i care small low =
-      let place : half + i ≡ 1 * half + i = omega arith in
-      let row : half + care ≡ 1 * half + care = omega arith in
-      (λ j. bit_and (place j) (row j)) ∙ and_block k 1 1 i care small low ∙ omega arith
-
--- ---- the halves of a table
-
-not_equal : (x y : ℕ) → x < y → nat_eq x y ≡ false
-not_equal x y less = ne_eqb x y (λ e. omega (arith, e, less))
-
-not_above : (x y : ℕ) → y < x → nat_eq x y ≡ false
-not_above x y less = ne_eqb x y (λ e. omega (arith, e, less))
-
-same_behind : (h x y : ℕ) → nat_eq (h + x) (h + y) ≡ nat_eq x y
-same_behind h x y =
-    elim (cases_Bool (nat_eq x y)) [
-      | inl same ↦ rw same (eq-eqb (h + x) (h + y) (omega (arith, eqb-true x y same)))
-      | inr other ↦ rw other (ne_eqb (h + x) (h + y) (λ e. eqb-false x y other (omega (arith, e))))
-    ]
-
--- How a table is marked by its halves, and the row of a half.
-pub record AreHalvesMarked (care value bits half : ℕ) (words low high : List ℕ) : Type 0 where
-  pub both : care < half → marked care value bits 0 low ++ marked care value bits 0 high ≡ marked care value bits 0 words
-  pub first : half ≤ care → value < half → marked (care - half) value bits 0 low ++ high ≡ marked care value bits 0 words
-  pub second : half ≤ care → half ≤ value → low ++ marked (care - half) (value - half) bits 0 high ≡ marked care value bits 0 words
-  pub low_power : IsPower (length low)
-  pub high_power : IsPower (length high)
-  pub low_less : length low < length words
-  pub high_less : length high < length words
-  pub both_low : care < half → IsRowOf (length low) care value
-  pub both_high : care < half → IsRowOf (length high) care value
-  pub first_row : half ≤ care → value < half → IsRowOf (length low) (care - half) value
-  pub second_row : half ≤ care → half ≤ value → IsRowOf (length high) (care - half) (value - half)
-
-module _ (k care value bits : ℕ) (low high : List ℕ) (many_low : length low ≡ 2 ^ k) (many_high : length high ≡ 2 ^ k)
-    (row : IsRowOf (2 ^ k + 2 ^ k) care value) where
-  abbrev part : ℕ
-  part = 2 ^ k
-
-  joined : marked care value bits 0 (low ++ high) ≡ marked care value bits 0 low ++ marked care value bits part high
-  joined = marked-append care value bits 0 low high ∙ ap (λ p. marked care value bits 0 low ++ marked care value bits p high) (omega (arith, many_low))
-
-  value_small : value ≤ care
-  value_small = subst (λ v. v ≤ care) row.cared (and_le_r value care)
-
-  both_parts : care < part → marked care value bits part high ≡ marked care value bits 0 high
-  both_parts small = marked_alike care value care value bits part 0 high (λ i within.
-      let at : i + part ≡ part + i = omega arith in
-      let alone : i + 0 ≡ i = omega arith in
-      ap (λ p. asks care value p) at
-      ∙ ap (λ b. nat_eq b value) (above_free k i care (omega (arith, within, many_high)) small)
-      ∙ ap (λ p. asks care value p) (sym alone))
-
-  module _ (high_care : part ≤ care) where
-    care_is : care ≡ part + (care - part)
-    care_is = omega (arith, high_care)
-
-    rest_small : care - part < part
-    rest_small = omega (arith, row.low)
-
-    first_low : marked care value bits 0 low ≡ marked (care - part) value bits 0 low
-    first_low = marked_alike care value (care - part) value bits 0 0 low (λ i within.
-        let small : i + 0 < part = omega (arith, within, many_low) in
-        ap (λ b. nat_eq b value) (ap (bit_and (i + 0)) care_is ∙ below_fixed k (i + 0) (care - part) small rest_small))
-
-    first_high : value < part → marked care value bits part high ≡ high
-    first_high small = marked_none care value bits part high (λ i within.
-        let at : i + part ≡ part + i = omega arith in
-        let inside : i < part = omega (arith, within, many_high) in
-        let is : bit_and (i + part) care ≡ part + bit_and i (care - part) =
-        (λ j. bit_and (at j) (care_is j)) ∙ above_fixed k i (care - part) inside rest_small in
-        not_above (bit_and (i + part) care) value (omega (arith, is, small)))
-
-    second_low : part ≤ value → marked care value bits 0 low ≡ low
-    second_low large = marked_none care value bits 0 low (λ i within.
-        not_equal (bit_and (i + 0) care) value (omega (arith, and_le_l (i + 0) care, within, many_low, large)))
-
-    second_high : part ≤ value → marked care value bits part high ≡ marked (care - part) (value - part) bits 0 high
-    second_high large = marked_alike care value (care - part) (value - part) bits part 0 high (λ i within.
-        let at : i + part ≡ part + i = omega arith in
-        let alone : i ≡ i + 0 = omega arith in
-        let inside : i < part = omega (arith, within, many_high) in
-        let is : bit_and (i + part) care ≡ part + bit_and i (care - part) =
-        (λ j. bit_and (at j) (care_is j)) ∙ above_fixed k i (care - part) inside rest_small in
-        let value_is : value ≡ part + (value - part) = omega (arith, large) in
-        (λ j. nat_eq (is j) (value_is j)) ∙ same_behind part (bit_and i (care - part)) (value - part)
-        ∙ ap (λ p. asks (care - part) (value - part) p) alone)
-
-    first_cared : value < part → bit_and value (care - part) ≡ value
-    first_cared small = sym (below_fixed k value (care - part) small rest_small) ∙ ap (bit_and value) (sym care_is) ∙ row.cared
-
-    second_cared : part ≤ value → bit_and (value - part) (care - part) ≡ value - part
-    second_cared large =
-        let value_is : value ≡ part + (value - part) = omega (arith, large) in
-        let small : value - part < part = omega (arith, value_small, row.low) in
-        let is = (λ j. bit_and (value_is j) (care_is j)) ∙ above_fixed k (value - part) (care - part) small rest_small in
-        omega (arith, is, row.cared, large)
-
-  are_marked : AreHalvesMarked care value bits (2 ^ k) (low ++ high) low high
-  are_marked = record {
-    both = λ small. sym (joined ∙ ap (λ second. marked care value bits 0 low ++ second) (both_parts small));
-    first = λ large small. sym (joined ∙ (λ j. first_low large j ++ first_high large small j));
-    second = λ large more. sym (joined ∙ (λ j. second_low large more j ++ second_high large more j));
-    low_power = (k, many_low);
-    high_power = (k, many_high);
-    low_less = omega (arith, length-append low high, many_low, many_high, pow_pos k);
-    high_less = omega (arith, length-append low high, many_low, many_high, pow_pos k);
-    both_low = λ small. record { low = omega (arith, small, many_low); cared = row.cared };
-    both_high = λ small. record { low = omega (arith, small, many_high); cared = row.cared };
-    first_row = λ large small. record { low = omega (arith, rest_small large, many_low); cared = first_cared large small };
-    second_row = λ large more. record { low = omega (arith, rest_small large, many_high); cared = second_cared large more };
-  }
-
-pub halves_marked : (care value bits half : ℕ) (words low high : List ℕ) → IsPower (length words) → IsRowOf (length words) care value → 0 < care →
-    half ≡ length words / 2 → words ≡ low ++ high → length low ≡ half → length high + half ≡ length words →
-    AreHalvesMarked care value bits half words low high
-halves_marked care value bits half words low high (zero, power) row some is parts many_low many_high = absurd (omega (arith, row.low, power))
-halves_marked care value bits half words low high (suc k, power) row some is parts many_low many_high =
-    let twice : length words ≡ 2 ^ k + 2 ^ k = omega (arith, power, pow-suc 2 k) in
-    let part : half ≡ 2 ^ k = omega (arith, is, twice) in
-    let whole : IsRowOf (2 ^ k + 2 ^ k) care value = subst (λ n. IsRowOf n care value) twice row in
-    let split = are_marked k care value bits low high (omega (arith, many_low, part)) (omega (arith, many_high, part, twice)) whole in
-    subst (λ h. AreHalvesMarked care value bits h words low high) (sym part)
-    (subst (λ (w : List ℕ). AreHalvesMarked care value bits (2 ^ k) w low high) (sym parts) split)
-
 -- ---- one row more
 
-none_or : (n : ℕ) → bit_or n 0 ≡ n
+pub none_or : (n : ℕ) → bit_or n 0 ≡ n
 none_or n =
     let none : bit_and n 0 ≡ 0 = omega (arith, and_le_r n 0) in
     or_disjoint n 0 none ∙ omega arith

@@ -1,10 +1,13 @@
-//! Tables of covers are filled row by row, where a row takes its word to the halves of the table that it leaves.
+//! Tables of covers are filled row by row, and a row puts its bits into a block of words at a time.
 
-ghost use Rattle.std.specs.Prelude.{◌≡◌, ◌+◌, ◌-◌, ◌*◌, ◌/◌, ◌%◌, ◌<◌, ◌≤◌, bit_and, bit_or, length, map, nat_eq};
+ghost use Rattle.std.specs.Prelude.{◌≡◌, ◌+◌, ◌-◌, ◌*◌, ◌/◌, ◌%◌, ◌<◌, ◌≤◌, bit_and, bit_or, if◌then◌else◌, length, map, nat_eq};
 ghost use Rattle.fab_bits.specs.Bits.{first_bits, number};
-ghost use Rattle.fab_wide.specs.inner.Words.{IsPower, IsRowOf, marked, marked_by};
+ghost use Rattle.fab_wide.specs.inner.Words.{IsPower, IsRowOf, joined, marked, marked_by};
 
 use fab_netlist::Cube;
+
+/// How many words a block has.
+const BLOCK: usize = 64;
 
 /// Bit i tells whether the first four inputs, where they spell i, are as the row asks.
 fn lower_word(row: Cube) -> u16
@@ -19,34 +22,61 @@ fn lower_word(row: Cube) -> u16
     word
 }
 
-/// Puts the bits of a word into each of these.
-fn fill(words: &mut [u16], bits: u16)
-    ensures { words.new ≡ map (λ word. bit_or word bits) words.old }
+/// The bits of a row in the word of a place: these where the place has the value `value` at the bits of `care`, and else none.
+fn bits_at(place: u16, care: u16, value: u16, bits: u16) -> u16
+    ensures { result ≡ (if nat_eq (bit_and place care) value then bits else 0) }
 {
+    if place & care == value { bits } else { 0 }
+}
+
+/// Puts the bits of a row into those of a few words of which the places have the value `value` at the bits of `care`. The other words are
+/// written too, as they stand: so no step depends on a test, and a processor takes several words at once.
+fn mark_few(words: &mut [u16], care: u16, value: u16, bits: u16)
+    requires { length words.old ≤ 64 }
+    ensures { words.new ≡ marked care value bits 0 words.old }
+{
+    let mut place: u16 = 0;
     for word in words.iter_mut() {
-        *word |= bits;
+        *word |= bits_at(place, care, value, bits);
+        place += 1;
     }
 }
 
-/// Puts the bits of a word into those words of a table of which the places have the value `value` at the bits of `care`. A half of the
-/// table is passed over where the highest bit of its places is another; where `care` has no bit left, the whole of it is filled at once.
+/// Puts the bits of each word of a block into the word of that place.
+fn join(words: &mut [u16], block: &[u16])
+    requires { length words.old ≡ length block.now }
+    ensures { words.new ≡ joined words.old block.now }
+{
+    for place in 0..words.len() {
+        words[place] |= block[place];
+    }
+}
+
+/// Puts the bits of a row into those words of a table of which the places have the value `value` at the bits of `care`. A large table is
+/// marked by blocks. The row has the same bits in each block that it has bits in, so they are made once. The numbers of these blocks have
+/// the value at the bits of `care`, and any bits at the others, which are free. They are gone through from the last one down.
 fn mark(words: &mut [u16], care: usize, value: usize, bits: u16)
     requires power { IsPower (length words.old) }
     requires row { IsRowOf (length words.old) care value }
     ensures { words.new ≡ marked care value bits 0 words.old }
 {
-    if care == 0 {
-        return fill(words, bits);
+    if words.len() <= BLOCK {
+        return mark_few(words, care as u16, value as u16, bits);
     }
-    let half = words.len() / 2;
-    let (low, high) = words.split_at_mut(half);
-    if care < half {
-        mark(low, care, value, bits);
-        mark(high, care, value, bits);
-    } else if value < half {
-        mark(low, care - half, value, bits);
-    } else {
-        mark(high, care - half, value - half, bits);
+    let mut block = [0; BLOCK];
+    mark_few(
+        &mut block,
+        (care % BLOCK) as u16,
+        (value % BLOCK) as u16,
+        bits,
+    );
+    let free = words.len() / BLOCK - 1 - care / BLOCK;
+    let mut above = free + 1;
+    while 0 < above {
+        // The greatest number below that has only free bits.
+        above = (above - 1) & free;
+        let first = BLOCK * (value / BLOCK + above);
+        join(&mut words[first..first + BLOCK], &block);
     }
 }
 

@@ -37,6 +37,12 @@ marked care value bits place [] = []
 marked care value bits place (word ∷ words) =
     (if nat_eq (bit_and place care) value then bit_or word bits else word) ∷ marked care value bits (suc place) words
 
+-- words with the bits of others put into them
+abbrev pub joined : (words others : List ℕ) → List ℕ
+joined words [] = words
+joined [] (other ∷ others) = []
+joined (word ∷ words) (other ∷ others) = bit_or word other ∷ joined words others
+
 -- with the bits that a row matches
 abbrev pub marked_by : Cube → (place : ℕ) → List ℕ → List ℕ
 marked_by cube place words =

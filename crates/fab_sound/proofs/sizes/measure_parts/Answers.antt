@@ -3,7 +3,7 @@ use Rattle.fab_syntax.specs.Plain.{plain_expr}
 use Rattle.fab_syntax.specs.Sound.{subexpressions}
 use Rattle.fab_sound.specs.inner.Checks.{plain_all, found_width, widths_from, select_passes, operands_pass, narrow_over}
 use Rattle.fab_sound.proofs.Sizing.{steps_pass, all_widths, all_selects, all_operands, all_are_narrow}
-use Rattle.fab_sound.proofs.sizes.measure.Goals as goal
+use Rattle.fab_sound.proofs.sizes.measure_parts.Goals as goal
 
 pub returns-clause-width : goal.returns-clause-width
 returns-clause-width c =

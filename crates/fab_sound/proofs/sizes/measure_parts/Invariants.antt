@@ -3,7 +3,7 @@ use Rattle.fab_syntax.specs.Plain.{PlainExpr, plain_expr}
 use Rattle.fab_syntax.specs.Sound.{subexpressions}
 use Rattle.fab_sound.specs.inner.Checks.{plain_all, found_width, widths_from, select_passes, operands_pass, narrow_over}
 use Rattle.fab_sound.proofs.Sizing.{steps_pass}
-use Rattle.fab_sound.proofs.sizes.measure.Given as goal
+use Rattle.fab_sound.proofs.sizes.measure_parts.Given as goal
 
 abbrev pub invariant-loop-part : goal.invariant-loop-part
 invariant-loop-part l =
