@@ -10,7 +10,7 @@ use Rattle.fab_tables.specs.inner.Expanding.{is_sign}
 
 -- what is no sign
 record IsNone (byte : ℕ) : Type 0 where
-  pub open : is_open byte ≡ false
+  pub opening : is_open byte ≡ false
   pub close : is_close byte ≡ false
   pub bar : is_bar byte ≡ false
   pub brace : is_brace byte ≡ false
@@ -20,7 +20,7 @@ none_is byte none =
     let last = or_parts (is_open byte || is_close byte || is_bar byte) (is_brace byte) none in
     let third = or_parts (is_open byte || is_close byte) (is_bar byte) last.0 in
     let first = or_parts (is_open byte) (is_close byte) third.0 in
-    record { open = first.0; close = first.1; bar = third.1; brace = last.1 }
+    record { opening = first.0; close = first.1; bar = third.1; brace = last.1 }
 
 -- a test that only signs pass
 passes_none : (test : ℕ → Bool) → ((byte : ℕ) → IsNone byte → test byte ≡ false) → (cell : List ℕ) → list_any is_sign cell ≡ false → list_any test cell ≡ false
@@ -34,7 +34,7 @@ no_open : (cell : List ℕ) → list_any is_sign cell ≡ false → All (λ byte
 no_open [] none = All-nil (λ byte. is_open byte ≡ false)
 no_open (byte ∷ cell) none =
     let both = or_parts (is_sign byte) (list_any is_sign cell) none in
-    All-cons (λ b. is_open b ≡ false) byte cell (none_is byte both.0).open (no_open cell both.1)
+    All-cons (λ b. is_open b ≡ false) byte cell (none_is byte both.0).opening (no_open cell both.1)
 
 no_repeat : (cell : List ℕ) → list_any is_sign cell ≡ false → begins_repeat cell ≡ false
 no_repeat [] none = refl
