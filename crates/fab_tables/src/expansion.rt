@@ -103,7 +103,8 @@ fn with_piece(alloc: Global, names: Vec<Name>, piece: &[u8]) -> Result<Vec<Name>
 fn with_pieces(alloc: Global, text: &[u8], choices: &[&[u8]]) -> Result<Vec<Name>, Memory>
     ensures { IfOk result (λ names. names.items ≡ product (parts_of (text.now ∷ map (λ choice. choice.now) choices.now))) }
 {
-    let mut names = one_name(alloc, text)?;
+    let mut names = Vec::new(alloc);
+    names.push(Name::of(alloc, text)?)?;
     for choice in choices {
         names = with_piece(alloc, names, choice)?;
     }
