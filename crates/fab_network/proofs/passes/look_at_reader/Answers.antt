@@ -10,4 +10,4 @@ returns c =
     let new = c.look_at-found.new.terns in
     let found = c.in-Some.ensures.lookup.3 in
     visit_further scene c.requires.fit c.requires.points c.requires.own c.args.place now c.requires.backed found.0 c.requires.terns new c.look_at-found.result
-    (subst (λ (n : ℕ). IsVisit scene n now new c.look_at-found.result) (found.1 0) (c.look_at-found.ensures c.args.order.now))
+    (subst (λ (n : ℕ). IsVisit scene n now new c.look_at-found.result) (found.1 0) (c.look_at-found.ensures.visit c.args.order.now))
