@@ -143,7 +143,14 @@ impl Search {
     }
 
     // One step for the last point that waits: what its row tells is asked for without a look.
-    fn go_by(&mut self, network: &Network, clock: Clock, given: &[Tern], rows: &mut Rows, point: u32)
+    fn go_by(
+        &mut self,
+        network: &Network,
+        clock: Clock,
+        given: &[Tern],
+        rows: &mut Rows,
+        point: u32,
+    )
         requires fit { AreFit network.now.trees.items network.now.drives.items }
         requires points { length network.now.drives.items ≡ length self.old.leads.items }
         requires given { length given.now ≡ length self.old.leads.items }
@@ -153,14 +160,25 @@ impl Search {
         ensures more { AsksMore (asked_of self.old) (asked_of self.new) }
         ensures falls { left_of self.new < left_of self.old }
     {
-        match rows.next(self.stack.len(), &self.marks) {
-            Some(needed) => self.wait(needed),
-            None => self.step(network, clock, given, rows, point),
+        if let Some(needed) = rows.next(self.stack.len(), &self.marks) {
+            self.wait(needed);
+            return;
+        }
+        let kept = self.step(network, clock, given, rows, point);
+        if kept {
+            self.keep_others(network, point);
         }
     }
 
-    // One look for the last point that waits.
-    fn step(&mut self, network: &Network, clock: Clock, given: &[Tern], rows: &mut Rows, point: u32)
+    // One look for the last point that waits. Tells whether it stands for itself.
+    fn step(
+        &mut self,
+        network: &Network,
+        clock: Clock,
+        given: &[Tern],
+        rows: &mut Rows,
+        point: u32,
+    ) -> bool
         requires fit { AreFit network.now.trees.items network.now.drives.items }
         requires points { length network.now.drives.items ≡ length self.old.leads.items }
         requires given { length given.now ≡ length self.old.leads.items }
@@ -178,12 +196,19 @@ impl Search {
             Lead::Unmarked(needed) => {
                 rows.add(network, point, needed, self.stack.len());
                 self.wait(needed);
+                false
             }
-            Lead::Known(bit) => self.know(point, bit),
-            Lead::Point(other) => self.follow(point, other),
+            Lead::Known(bit) => {
+                self.know(point, bit);
+                false
+            }
+            Lead::Point(other) => {
+                self.follow(point, other);
+                false
+            }
             Lead::Own => {
                 self.keep(point);
-                self.keep_others(network, point);
+                true
             }
         }
     }
