@@ -164,13 +164,14 @@ impl Search {
             self.wait(needed);
             return;
         }
-        let kept = self.step(network, clock, given, rows, point);
-        if kept {
+        let own = self.own.len();
+        self.step(network, clock, given, rows, point);
+        if own < self.own.len() {
             self.keep_others(network, point);
         }
     }
 
-    // One look for the last point that waits. Tells whether it stands for itself.
+    // One look for the last point that waits.
     fn step(
         &mut self,
         network: &Network,
@@ -178,7 +179,7 @@ impl Search {
         given: &[Tern],
         rows: &mut Rows,
         point: u32,
-    ) -> bool
+    )
         requires fit { AreFit network.now.trees.items network.now.drives.items }
         requires points { length network.now.drives.items ≡ length self.old.leads.items }
         requires given { length given.now ≡ length self.old.leads.items }
@@ -196,20 +197,10 @@ impl Search {
             Lead::Unmarked(needed) => {
                 rows.add(network, point, needed, self.stack.len());
                 self.wait(needed);
-                false
             }
-            Lead::Known(bit) => {
-                self.know(point, bit);
-                false
-            }
-            Lead::Point(other) => {
-                self.follow(point, other);
-                false
-            }
-            Lead::Own => {
-                self.keep(point);
-                true
-            }
+            Lead::Known(bit) => self.know(point, bit),
+            Lead::Point(other) => self.follow(point, other),
+            Lead::Own => self.keep(point),
         }
     }
 
