@@ -24,8 +24,7 @@ returns-clause-shared c =
 
 pub returns-clause-visit : goal.returns-clause-visit
 returns-clause-visit c order =
-    let held = sym (ap tern_or_unknown (slice_get-get_or c.args.held.now c.args.point No (omega (arith, c.requires.within, c.requires.held)))) in
-    (
+    let held = sym (ap tern_or_unknown (slice_get-get_or c.args.held.now c.args.point No (omega (arith, c.requires.within, c.requires.held)))) in (
       none_kept c,
       c.shown-found.result,
       refl,

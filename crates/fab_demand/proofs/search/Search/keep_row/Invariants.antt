@@ -3,7 +3,7 @@ use Rattle.fab_compiled.specs.Leading.{PointTerns}
 use Rattle.fab_network.specs.declared.network.Clock.{Clock}
 use Rattle.fab_demand.specs.Asked.{AsksMore}
 use Rattle.fab_demand.specs.Search.{asked_of, left_of, IsSearching}
-use Rattle.fab_demand.proofs.others.Search.keep_row.Given as goal
+use Rattle.fab_demand.proofs.search.Search.keep_row.Given as goal
 
 abbrev pub invariant-loop-other : goal.invariant-loop-other
 invariant-loop-other l = record {
