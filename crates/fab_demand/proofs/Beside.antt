@@ -52,7 +52,7 @@ other_goes_on network clock given old mid new searching points source next other
     let mid_points : length network.drives.items ≡ length mid.leads.items = points ∙ sym first.more.long in
     let finds : Finds network.trees.items clock (given other) mid.terns.items mid.leads.items mid.marks.items (Some (Value next)) Own =
     λ later t u kept at_t follow_t at_u follow_u agree.
-        bit_same network old.marks.items source next same_tree same_first depends t u (λ q m. agree q (first.more.marks q m)) in
+    bit_same network old.marks.items source next same_tree same_first depends t u (λ q m. agree q (first.more.marks q m)) in
     let then : GoesOn network clock given mid new =
     keep_goes_on network clock given mid first.searching mid_points other last new
     (subst (λ (d : Option Drive). Finds network.trees.items clock (given other) mid.terns.items mid.leads.items mid.marks.items d Own) (sym drive) finds) closes in

@@ -172,14 +172,7 @@ impl Search {
     }
 
     // One look for the last point that waits.
-    fn step(
-        &mut self,
-        network: &Network,
-        clock: Clock,
-        given: &[Tern],
-        rows: &mut Rows,
-        point: u32,
-    )
+    fn step(&mut self, network: &Network, clock: Clock, given: &[Tern], rows: &mut Rows, point: u32)
         requires fit { AreFit network.now.trees.items network.now.drives.items }
         requires points { length network.now.drives.items ≡ length self.old.leads.items }
         requires given { length given.now ≡ length self.old.leads.items }

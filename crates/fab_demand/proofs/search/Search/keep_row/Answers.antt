@@ -1,6 +1,6 @@
-use Rattle.std.proofs.Common.{Bool, List, length, refl, ◌∙◌, sym, subst, ap, arith}
+use Rattle.std.proofs.Common.{Bool, List, ◌∙◌, sym, subst, arith}
+use Rattle.fab_compiled.specs.declared.tree.Tree.{Tree}
 use Rattle.fab_network.specs.Leading.{DependsOnMarked}
-use Rattle.fab_network.specs.Network.{IsFitSource}
 use Rattle.fab_demand.specs.Search.{asked_of}
 use Rattle.fab_demand.proofs.Asking.{asks_both, asks_same}
 use Rattle.fab_demand.proofs.Beside.{depends_more}
@@ -14,7 +14,10 @@ keep_other-requires-clause-points c = c.requires.points ∙ sym c.loop-other.inv
 
 pub keep_other-requires-clause-depends : goal.keep_other-requires-clause-depends
 keep_other-requires-clause-depends c =
-    depends_more c.args.network.now c.args.source (asked_of c.args.self.now) (asked_of c.loop-other.self) c.loop-other.invariant.more ?
+    depends_more c.args.network.now c.args.source (asked_of c.args.self.now) (asked_of c.loop-other.self) c.loop-other.invariant.more
+    (subst (λ (marks : List Bool). DependsOnMarked c.args.network.now.trees.items marks c.args.source) c.deref-2.ensures.value
+    (subst (λ (trees : List Tree). DependsOnMarked trees c.deref-2.result.now c.args.source) c.deref.ensures.value
+    (c.is_marked.ensures c.if-not-is_marked.false)))
 
 pub keep_other-requires-clause-searching : goal.keep_other-requires-clause-searching
 keep_other-requires-clause-searching c =
