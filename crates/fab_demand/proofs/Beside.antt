@@ -1,6 +1,5 @@
 -- Other bits of an expression that stands for itself.
-use Rattle.std.proofs.Common.{◌≡◌, ℕ, zero, suc, ◌-◌, ◌≤◌, Bool, true, false, List, [], ◌∷◌, ◌++◌, Option, Some, length, refl, sym, ap, ◌∙◌, subst, arith, slice_get, slice_set, length-append}
-use Rattle.fab_systems_laws.specs.Ternary.{Tern as PlainTern}
+use Rattle.std.proofs.Common.{◌≡◌, ℕ, zero, suc, ◌-◌, Bool, true, false, List, [], ◌∷◌, ◌++◌, Option, Some, length, refl, sym, ap, ◌∙◌, subst, arith, slice_get, slice_set, length-append}
 use Rattle.fab_compiled.specs.declared.leads.Lead.TheVariants.{Own}
 use Rattle.fab_compiled.specs.Leading.{PointTerns, AgreeOnMarked}
 use Rattle.fab_network.specs.declared.network.Clock.{Clock}
@@ -13,7 +12,7 @@ use Rattle.fab_network.specs.Network.{source_tern}
 use Rattle.fab_demand.specs.declared.search.Search.{Search}
 use Rattle.fab_demand.specs.Asked.{Asked, AsksMore}
 use Rattle.fab_demand.specs.inner.Looking.{Finds}
-use Rattle.fab_demand.specs.Search.{asked_of, left_of, Closes, HasRoom, IsSearching}
+use Rattle.fab_demand.specs.Search.{asked_of, Closes, HasRoom, IsSearching}
 use Rattle.fab_demand.proofs.Asking.{asks_both, keep_goes_on, wait_goes_on, GoesOn}
 
 last_there : (xs : List ℕ) (y k : ℕ) → k ≡ length xs → slice_get (xs ++ y ∷ []) k ≡ Some y
