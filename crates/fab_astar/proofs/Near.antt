@@ -28,22 +28,22 @@ module _ (xs ys : List (List ℕ)) (at node : ℕ) (inside : at < length xs) (is
   pub elsewhere : (k : ℕ) → k ≢ at → get_or ys k [] ≡ get_or xs k []
   elsewhere k n = ap (λ zs. get_or zs k []) is ∙ get_or-set_other xs at k (get_or xs at [] ++ node ∷ []) [] n
 
-  pub near_here : IsNear ys (at / 4) node
+  pub near_here : IsNear ys (at / 8) node
   near_here = (at, refl, rw at_node (Contains-push (get_or xs at []) node))
 
   pub near_kept : (key v : ℕ) → IsNear xs key v → IsNear ys key v
   near_kept key v h = elim (cases_eq h.0 at) [
-    | inl e ↦ (at, ap (λ n. n / 4) (sym e) ∙ h.1, rw at_node (Contains-append_left (get_or xs at []) (node ∷ []) v (rw e at h.2)))
+    | inl e ↦ (at, ap (λ n. n / 8) (sym e) ∙ h.1, rw at_node (Contains-append_left (get_or xs at []) (node ∷ []) v (rw e at h.2)))
     | inr n ↦ (h.0, h.1, rw (elsewhere h.0 n) h.2)
   ]
 
-  pub near_cases : (key v : ℕ) → IsNear ys key v → ((key ≡ at / 4) × (v ≡ node)) ⊎ IsNear xs key v
+  pub near_cases : (key v : ℕ) → IsNear ys key v → ((key ≡ at / 8) × (v ≡ node)) ⊎ IsNear xs key v
   near_cases key v h = elim (cases_eq h.0 at) [
     | inl e ↦
         let c : Contains (get_or xs at [] ++ node ∷ []) v = rw (e, at_node) at h.2 in
         elim (Contains-push_cases (get_or xs at []) node v c) [
-          | inl before ↦ inr (at, ap (λ n. n / 4) (sym e) ∙ h.1, before)
-          | inr here ↦ inl (sym h.1 ∙ ap (λ n. n / 4) e, sym here)
+          | inl before ↦ inr (at, ap (λ n. n / 8) (sym e) ∙ h.1, before)
+          | inr here ↦ inl (sym h.1 ∙ ap (λ n. n / 8) e, sym here)
         ]
     | inr n ↦ inr (h.0, h.1, rw (elsewhere h.0 n) at h.2)
   ]

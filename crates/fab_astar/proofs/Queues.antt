@@ -11,7 +11,7 @@ use Rattle.fab_astar.proofs.Near.{elsewhere, near_here, near_kept, near_cases, l
 
 -- ---- an entry of a greater key
 
-pub far_queue : (old new : Queue) (key node : ℕ) → IsQueue old → 16384 ≤ key → near new ≡ near old → new.now ≡ old.now → new.top ≡ old.top → new.far.keys ≡ insert_key pair_cmp old.far.keys (key, node) → IsQueue new
+pub far_queue : (old new : Queue) (key node : ℕ) → IsQueue old → 8192 ≤ key → near new ≡ near old → new.now ≡ old.now → new.top ≡ old.top → new.far.keys ≡ insert_key pair_cmp old.far.keys (key, node) → IsQueue new
 far_queue old new key node q far n now top keys = record {
   many = ap length n ∙ q.many;
   below = λ k l. ap (λ zs. get_or zs k []) n ∙ q.below k (omega arith);
@@ -41,7 +41,7 @@ near_queue old new at node q more now top keys = record {
   apart = λ k v h. q.apart k v (rw keys at h);
 }
 
-pub near_pushed : (old new : Queue) (at key node : ℕ) → IsLonger (near old) (near new) at node → key ≡ at / 4 → new.far.keys ≡ old.far.keys → IsPushed old new key node
+pub near_pushed : (old new : Queue) (at key node : ℕ) → IsLonger (near old) (near new) at node → key ≡ at / 8 → new.far.keys ≡ old.far.keys → IsPushed old new key node
 near_pushed old new at key node more is keys = record {
   here = rw is (inl (near_here (near old) (near new) at node more.inside more.is));
   kept = λ k v w. elim w [ inl a ↦ inl (near_kept (near old) (near new) at node more.inside more.is k v a) | inr b ↦ inr (rw keys b) ];
@@ -53,7 +53,7 @@ near_pushed old new at key node more is keys = record {
 
 -- ---- an entry is taken out
 
-pub near_popped : (old new : Queue) (at node : ℕ) → IsQueue old → old.now ≡ at → at < old.top → IsLonger (near new) (near old) at node → new.far.keys ≡ old.far.keys → IsPopped old new (at / 4) node
+pub near_popped : (old new : Queue) (at node : ℕ) → IsQueue old → old.now ≡ at → at < old.top → IsLonger (near new) (near old) at node → new.far.keys ≡ old.far.keys → IsPopped old new (at / 8) node
 near_popped old new at node q now more less keys =
     let l : at < 65536 = omega (arith, q.top_in) in
     record {

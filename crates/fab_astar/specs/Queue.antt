@@ -3,13 +3,13 @@ use Rattle.std.specs.Prelude.{◌≡◌, ◌⊎◌, ℕ, ◌+◌, ◌/◌, ◌<�
 use Rattle.std.specs.List.{Contains}
 use Rattle.fab_astar.specs.declared.queue.Queue.{Queue}
 
--- the nodes in the buckets; four buckets share a key
+-- the nodes in the buckets; eight buckets share a key
 abbrev pub near : Queue → List (List ℕ)
 near queue = map (λ bucket. bucket.items) queue.buckets.items
 
 -- a node waits in a bucket
 abbrev pub IsNear : List (List ℕ) → (key node : ℕ) → Type 0
-IsNear buckets key node = (k : ℕ) × (k / 4 ≡ key) × Contains (slice_index_or buckets k []) node
+IsNear buckets key node = (k : ℕ) × (k / 8 ≡ key) × Contains (slice_index_or buckets k []) node
 
 -- an entry is among those of greater keys
 abbrev pub IsFar : List (ℕ × ℕ) → (key node : ℕ) → Type 0
@@ -30,7 +30,7 @@ pub record IsQueue (queue : Queue) : Type 0 where
   pub below : (k : ℕ) → k < queue.now → slice_index_or (near queue) k [] ≡ []
   pub above : (k : ℕ) → queue.top ≤ k → slice_index_or (near queue) k [] ≡ []
   pub top_in : queue.top ≤ 65536
-  pub apart : (key node : ℕ) → IsFar queue.far.keys key node → 16384 ≤ key
+  pub apart : (key node : ℕ) → IsFar queue.far.keys key node → 8192 ≤ key
 
 -- nothing waits
 abbrev pub IsEmpty : Queue → Type 0

@@ -11,6 +11,9 @@ use crate::field::Field;
 use crate::tables::Tables;
 use fab_base::Memory;
 
+/// By how much each of up to two other nets makes the step to a node longer.
+const CROWD: u32 = 8;
+
 /// The end of the best walk so far. Entries whose keys are not below the limit are of no use.
 #[derive(Clone, Copy)]
 struct Best {
@@ -40,6 +43,38 @@ fn toll(tables: &Tables, node: u32) -> u64
     tables.price(node)
 }
 
+/// When a signal is due where a bound aims, if it is at a node at this time.
+pub(crate) fn due_by<F: Field>(field: &F, guide: Option<u32>, node: u32, arrival: u32) -> u32
+    requires { node < (F.graph field.now).nodes }
+{
+    match guide {
+        Some(aim) => arrival.saturating_add(field.ahead(aim, node)),
+        None => arrival,
+    }
+}
+
+/// When a signal is at a node, by a step from one where it is at this time. The step to a node that other nets have counts as a longer one:
+/// nets that keep out of each other's way, where that takes little, need fewer detours in the end.
+fn arrival_at<F: Field>(field: &F, tables: &Tables, node: u32, before: u32) -> u32
+    requires node { node < (F.graph field.now).nodes }
+    requires count { count_of tables.now ≡ (F.graph field.now).nodes }
+{
+    let crowd = CROWD * tables.users(node).min(2);
+    before
+        .saturating_add(field.delay(node))
+        .saturating_add(crowd)
+}
+
+/// When a signal is at a node where walks begin: at one of the tree when it came there, and at a root from the beginning.
+fn start_of(tables: &Tables, node: u32) -> u32
+    requires { node < count_of tables.now }
+{
+    if tables.is_held(node) {
+        return tables.arrival(node);
+    }
+    0
+}
+
 /// Offers starts, behind others that have been offered.
 pub(crate) fn seed<F: Field>(
     field: &F,
@@ -66,7 +101,9 @@ pub(crate) fn seed<F: Field>(
             continue;
         }
         let key = cost + left(field, guide, *start) as u64;
-        tables.take(*start, cost, *start, key)?;
+        let arrival = start_of(tables, *start);
+        let due = due_by(field, guide, *start, arrival);
+        tables.take(*start, cost, *start, key, arrival, due)?;
     }
     Ok(())
 }
@@ -99,6 +136,7 @@ fn relax<F: Field>(
     ensures size { OnOk result (size tables.new.queue < size tables.old.queue + 2 ^ 64) }
 {
     let cost = tables.cost(node);
+    let here = tables.arrival(node);
     let ends = field.ends(node);
     for next in ends {
         if tables.is_held(*next) {
@@ -112,7 +150,9 @@ fn relax<F: Field>(
         if key >= limit {
             continue;
         }
-        tables.take(*next, through, node, key)?;
+        let arrival = arrival_at(field, tables, *next, here);
+        let due = due_by(field, guide, *next, arrival);
+        tables.take(*next, through, node, key, arrival, due)?;
     }
     Ok(())
 }

@@ -19,4 +19,13 @@ pub trait Field {
     fn rest(&self, aim: u32, node: u32) -> u32
         requires { node < (graph self.now).nodes }
         ensures { result ≡ rest self.now aim node };
+
+    /// How long a signal takes for a step to a node, in units of time. Of walks that pay the same, a search prefers those that arrive
+    /// first, as far as it looks; nothing that is promised of it depends on this.
+    fn delay(&self, node: u32) -> u32
+        requires { node < (graph self.now).nodes };
+
+    /// How long a signal takes from a node to where a bound aims, at the least, as a guess.
+    fn ahead(&self, aim: u32, node: u32) -> u32
+        requires { node < (graph self.now).nodes };
 }

@@ -5,11 +5,11 @@ use fab_base::Memory;
 use std::alloc::Global;
 use std::collections::BTreeSet;
 
-/// Buckets for the keys from 0 on, four for each key.
+/// Buckets for the keys from 0 on, eight for each key.
 const BUCKETS: usize = 65536;
 
 /// The first key that no bucket has.
-const FAR: u64 = 16384;
+const FAR: u64 = 8192;
 
 /// Entries of a key and a node. Of a key's entries those of a lower tie are taken first, and of these the last one first.
 #[derive(Drop)]
@@ -50,10 +50,10 @@ impl Queue {
         })
     }
 
-    /// Adds an entry; the tie is below 4.
+    /// Adds an entry; the tie is below 8.
     pub fn push(&mut self, key: u64, tie: u32, node: u32) -> Result<(), Memory>
         requires queue { IsQueue self.old }
-        requires tie { tie < 4 }
+        requires tie { tie < 8 }
         ensures queue { OnOk result (IsQueue self.new) }
         ensures pushed { OnOk result (IsPushed self.old self.new key node) }
         ensures size { OnOk result (size self.new ≤ size self.old + 1) }
@@ -62,7 +62,7 @@ impl Queue {
             self.far.insert((key, node))?;
             return Ok(());
         }
-        let at = 4 * key as usize + tie as usize;
+        let at = 8 * key as usize + tie as usize;
         let bucket = &mut self.buckets[at];
         bucket.push(node)?;
         self.now = self.now.min(at);
@@ -103,7 +103,7 @@ impl Queue {
         let Some(node) = bucket.pop() else {
             unreachable!();
         };
-        Some((at as u64 / 4, node))
+        Some((at as u64 / 8, node))
     }
 
     /// Takes everything out.

@@ -21,6 +21,8 @@ pub(crate) struct Node {
     pub tree: u32,
     /// How many nets have it.
     pub users: u32,
+    /// When a signal is there that goes by that walk, or by that of the tree.
+    pub arrival: u32,
 }
 
 /// The tables of all searches in one graph. They are made once; a new search, and a new tree, costs nothing for each node.
@@ -28,6 +30,8 @@ pub(crate) struct Node {
 pub struct Tables {
     pub(crate) mark: u32,
     pub(crate) tree_mark: u32,
+    /// When a signal can be at the goals of the search at hand, at the soonest.
+    pub(crate) soonest: u32,
     pub(crate) nodes: Vec<Node>,
     pub(crate) queue: Queue,
 }
@@ -50,6 +54,7 @@ impl Tables {
             before: 0,
             tree: 0,
             users: 0,
+            arrival: 0,
         };
         let mut table = Vec::with_capacity(alloc, nodes as usize)?;
         for _ in 0..nodes {
@@ -58,6 +63,7 @@ impl Tables {
         Ok(Tables {
             mark: 1,
             tree_mark: 1,
+            soonest: 0,
             nodes: table,
             queue: Queue::new(alloc)?,
         })
@@ -93,6 +99,13 @@ impl Tables {
         ensures { result ≡ cost (state_of self.now) node }
     {
         self.nodes[node as usize].cost
+    }
+
+    /// When a signal is at the node that goes by that walk, or by that of the tree.
+    pub(crate) fn arrival(&self, node: u32) -> u32
+        requires { node < count_of self.now }
+    {
+        self.nodes[node as usize].arrival
     }
 
     /// The node before it on that walk, or itself.
@@ -152,8 +165,8 @@ impl Tables {
         }
     }
 
-    /// Forgets the last search.
-    pub(crate) fn begin(&mut self)
+    /// Forgets the last search. In the next one a signal can be at the goals at this time, at the soonest.
+    pub(crate) fn begin(&mut self, soonest: u32)
         requires tables { AreTables self.old }
         ensures tables { AreTables self.new }
         ensures kept { IsKept self.old self.new }
@@ -161,6 +174,7 @@ impl Tables {
         ensures unseen { (node : ℕ) → stamp (state_of self.new) node < self.new.mark }
     {
         self.queue.clear();
+        self.soonest = soonest;
         if self.mark < u32::MAX - 4 {
             self.mark += 2;
         } else {
@@ -183,8 +197,17 @@ impl Tables {
         }
     }
 
-    /// Gives a node a price and the node before it. Among entries of one key, nodes that fewer nets have or had are taken out first.
-    pub(crate) fn take(&mut self, node: u32, cost: u64, before: u32, key: u64) -> Result<(), Memory>
+    /// Gives a node a price, the node before it, and the time when a signal arrives there. Among entries of one key those are taken out
+    /// first by which it is due at the goals the soonest.
+    pub(crate) fn take(
+        &mut self,
+        node: u32,
+        cost: u64,
+        before: u32,
+        key: u64,
+        arrival: u32,
+        due: u32,
+    ) -> Result<(), Memory>
         requires node { node < count_of self.old }
         requires queue { IsQueue self.old.queue }
         ensures taken { OnOk result (state_of self.new ≡ taken (state_of self.old) node cost before) }
@@ -193,13 +216,14 @@ impl Tables {
         ensures size { OnOk result (size self.new.queue ≤ size self.old.queue + 1) }
         ensures kept { OnOk result (IsKept self.old self.new) }
     {
-        let tie = tie_of(self.nodes[node as usize]);
+        let tie = tie_of(due.saturating_sub(self.soonest));
         self.queue.push(key, tie, node)?;
         let mark = self.mark;
         let note = &mut self.nodes[node as usize];
         note.stamp = mark;
         note.cost = cost;
         note.before = before;
+        note.arrival = arrival;
         Ok(())
     }
 
@@ -217,12 +241,11 @@ impl Tables {
     }
 }
 
-/// Where a node stands among entries of one key: how many nets have it, and whether it has a price above 1.
-fn tie_of(note: Node) -> u32
-    ensures { result < 4 }
+/// Where entries by which a signal comes so late stand among those of one key. A step to the next tile and back takes no less than 6.
+fn tie_of(late: u32) -> u32
+    ensures { result < 8 }
 {
-    let users = note.users.min(2);
-    if note.price > 1 { users + 1 } else { users }
+    (late / 6).min(7)
 }
 
 /// Forgets which tree took a node.

@@ -7,7 +7,7 @@ ghost use Rattle.fab_astar.specs.Scene.{IsScene, IsGraph, IsBound, ArePrices, le
 ghost use Rattle.fab_astar.specs.State.{IsShaped, IsSeen, AreTraced, IsWalkedBack};
 ghost use Rattle.fab_astar.specs.Tables.{state_of, count_of, price_of, prices, counts, is_held, AreTables, IsKept};
 
-use crate::explore::{explore, left, seed};
+use crate::explore::{due_by, explore, left, seed};
 use crate::field::Field;
 use crate::tables::Tables;
 use fab_base::Memory;
@@ -56,6 +56,16 @@ fn guide_to<F: Field>(field: &F, aim: u32, goals: &[u32]) -> Option<u32>
         }
     }
     Some(aim)
+}
+
+/// When a signal from the first root is due where a bound aims, at the soonest.
+fn soonest<F: Field>(field: &F, guide: Option<u32>, roots: &[u32]) -> u32
+    requires { All (λ w. w < (F.graph field.now).nodes) roots.now }
+{
+    match roots.first() {
+        Some(root) => due_by(field, guide, *root, 0),
+        None => 0,
+    }
 }
 
 /// Appends the walk to a goal that the search reached, the goal first.
@@ -128,7 +138,7 @@ fn seek<F: Field>(
     ensures same { IfOk result (λ found. OnFalse found (tree.new.items ≡ tree.old.items)) }
 {
     let guide = guide_to(field, aim, goals);
-    tables.begin();
+    tables.begin(soonest(field, guide, roots));
     seed(field, guide, tables, tree, &[], tree)?;
     seed(field, guide, tables, tree, tree, roots)?;
     let Some(goal) = explore(field, guide, tables, tree, roots, goals)? else {

@@ -9,10 +9,11 @@ ghost use Rattle.fab_route.specs.Plain.{graph_of};
 
 use crate::aims::aims_of;
 use crate::classes::{Place, class_count, places_of};
+use crate::delays::{STEP, TILE};
 use crate::filled::{Spot, fill, set_far};
 use crate::hops::{Hop, hops_of};
 use crate::nodes::Nodes;
-use crate::tested::is_tested;
+use crate::tested::{entry, is_tested};
 use crate::window::Window;
 use fab_base::Memory;
 use fab_fabric::{Fabric, Wire};
@@ -71,15 +72,31 @@ impl Bounds {
     pub fn left(&self, aim: u32, node: u32) -> u32
         ensures { result ≡ left_from self.now aim node }
     {
-        let at = number_at(&self.spots, node as usize).saturating_add(number_at(
-            &self.aims,
-            aim as usize,
-        ));
-        match self.entries.get(at) {
-            Some(entry) => u32::from(*entry),
-            None => 0,
-        }
+        entry(&self.entries, self.place(aim, node))
     }
+
+    /// How long a signal takes from a node to a sink at the least, by the steps that are left and how far the tile of the sink is.
+    pub fn ahead(&self, aim: u32, node: u32) -> u32 {
+        let at = self.place(aim, node);
+        ahead_at(at, entry(&self.entries, at))
+    }
+
+    // Where the entry of a node stands, for a sink.
+    fn place(&self, aim: u32, node: u32) -> usize
+        ensures { slice_index self.now.entries result ≡ left_from self.now aim node }
+    {
+        number_at(&self.spots, node as usize).saturating_add(number_at(&self.aims, aim as usize))
+    }
+}
+
+// How long a signal takes from a spot in a table, where so much is left to pay: what falls by 2 for each step, and the distance of the
+// tiles, which are 32 where they are one.
+fn ahead_at(at: usize, left: u32) -> u32 {
+    let across = (at / 64 % 64).abs_diff(32) as u32;
+    let down = (at % 64).abs_diff(32) as u32;
+    (left / 2)
+        .saturating_mul(STEP)
+        .saturating_add((across + down) * TILE)
 }
 
 // That entries are bytes.

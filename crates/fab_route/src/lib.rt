@@ -5,6 +5,7 @@ mod aims;
 mod bounds;
 mod classes;
 mod constants;
+mod delays;
 mod driven;
 mod filled;
 mod goals;

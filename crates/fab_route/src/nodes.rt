@@ -98,4 +98,14 @@ impl Field for Nodes {
         let _none = (aim, node);
         0
     }
+
+    fn delay(&self, node: u32) -> u32 {
+        let _none = node;
+        0
+    }
+
+    fn ahead(&self, aim: u32, node: u32) -> u32 {
+        let _none = (aim, node);
+        0
+    }
 }

@@ -16,6 +16,7 @@ ghost use Rattle.fab_route.specs.inner.Told.{IsNodeRun};
 ghost use Rattle.fab_route.specs.inner.Wanted.{wire_groups};
 
 use crate::bounds::Bounds;
+use crate::delays::delays_of;
 use crate::guide::Guide;
 use crate::lines::input_lines;
 use crate::nets::nets_of;
@@ -100,7 +101,12 @@ pub fn route_with_progress<P: Progress>(
     let nodes = Nodes::new(alloc, fabric)?;
     let nets = nets_of(alloc, fabric, &nodes, packed, placed, &sinks)?;
     let bounds = Bounds::new(alloc, fabric, &nodes, &nets, &sinks)?;
-    let guide = Guide { nodes, bounds };
+    let delays = delays_of(alloc, fabric, &nodes)?;
+    let guide = Guide {
+        nodes,
+        bounds,
+        delays,
+    };
     match run_rounds(alloc, progress, &guide, guide.nodes.count(), &nets, rounds)? {
         Err(cut) => Err(no_path(fabric, packed, placed, &guide.nodes, &nets, &sinks, cut)),
         Ok(run) => tell(

@@ -92,8 +92,8 @@ fn overlap(count: u32, shift: u32) -> (u32, u32)
     (low, high)
 }
 
-// An entry, and 0 past the last.
-fn entry(entries: &[u8], at: usize) -> u32
+/// An entry, and 0 past the last.
+pub(crate) fn entry(entries: &[u8], at: usize) -> u32
     ensures value { result ≡ slice_index entries.now at }
     ensures small { result < 256 }
 {

@@ -12,18 +12,18 @@ returns-then-key-ge-FAR-clause-pushed c = far_pushed c.args.self.now _ c.args.ke
 
 pub returns-clause-queue : goal.returns-clause-queue
 returns-clause-queue c =
-    near_queue c.args.self.now _ (4 * c.args.key + c.args.tie) c.args.node c.requires.queue
-    (lent_longer c.args.self.now.buckets.items (4 * c.args.key + c.args.tie) c.index_mut-bucket.result.now c.push.new.self c.args.node (omega (arith, c.requires.queue.many)) c.index_mut-bucket.ensures.value c.in_ok-push.ensures.items)
+    near_queue c.args.self.now _ (8 * c.args.key + c.args.tie) c.args.node c.requires.queue
+    (lent_longer c.args.self.now.buckets.items (8 * c.args.key + c.args.tie) c.index_mut-bucket.result.now c.push.new.self c.args.node (omega (arith, c.requires.queue.many)) c.index_mut-bucket.ensures.value c.in_ok-push.ensures.items)
     c.min-self.ensures c.max-self.ensures refl
 
 pub returns-clause-pushed : goal.returns-clause-pushed
 returns-clause-pushed c =
-    near_pushed c.args.self.now _ (4 * c.args.key + c.args.tie) c.args.key c.args.node
-    (lent_longer c.args.self.now.buckets.items (4 * c.args.key + c.args.tie) c.index_mut-bucket.result.now c.push.new.self c.args.node (omega (arith, c.requires.queue.many)) c.index_mut-bucket.ensures.value c.in_ok-push.ensures.items)
+    near_pushed c.args.self.now _ (8 * c.args.key + c.args.tie) c.args.key c.args.node
+    (lent_longer c.args.self.now.buckets.items (8 * c.args.key + c.args.tie) c.index_mut-bucket.result.now c.push.new.self c.args.node (omega (arith, c.requires.queue.many)) c.index_mut-bucket.ensures.value c.in_ok-push.ensures.items)
     (omega arith) refl
 
 pub returns-clause-size : goal.returns-clause-size
 returns-clause-size c =
-    near_grows c.args.self.now (record c.args.self.now { buckets = with_item c.args.self.now.buckets (4 * c.args.key + c.args.tie) c.push.new.self; now = c.min-self.result; top = c.max-self.result }) (4 * c.args.key + c.args.tie) c.args.node
-    (lent_longer c.args.self.now.buckets.items (4 * c.args.key + c.args.tie) c.index_mut-bucket.result.now c.push.new.self c.args.node (omega (arith, c.requires.queue.many)) c.index_mut-bucket.ensures.value c.in_ok-push.ensures.items)
+    near_grows c.args.self.now (record c.args.self.now { buckets = with_item c.args.self.now.buckets (8 * c.args.key + c.args.tie) c.push.new.self; now = c.min-self.result; top = c.max-self.result }) (8 * c.args.key + c.args.tie) c.args.node
+    (lent_longer c.args.self.now.buckets.items (8 * c.args.key + c.args.tie) c.index_mut-bucket.result.now c.push.new.self c.args.node (omega (arith, c.requires.queue.many)) c.index_mut-bucket.ensures.value c.in_ok-push.ensures.items)
     refl
