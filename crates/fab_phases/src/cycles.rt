@@ -119,13 +119,7 @@ fn tick(network: &Network, demand: &Demand, given: &mut [Tern])
 }
 
 // What a tick of UserCLK leaves with a point that holds this.
-fn left_by(
-    network: &Network,
-    view: &View,
-    point: usize,
-    held: Tern,
-    shared: &mut Shared,
-) -> Tern
+fn left_by(network: &Network, view: &View, point: usize, held: Tern, shared: &mut Shared) -> Tern
     requires fit { AreFit network.now.trees.items network.now.drives.items }
     requires points { length network.now.drives.items ≡ length view.now.leads.now }
     requires view { IsView view.now.terns.now view.now.leads.now }

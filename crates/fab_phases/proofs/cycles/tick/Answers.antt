@@ -27,9 +27,9 @@ loop-point-preserved c =
     let less : point < length c.loop-point.given = omega arith in
     record {
       ticked = ticked_more network demand c.loop-point.point-index c.args.given.now c.loop-point.given point c.left_by.result at less
-      (written_at network demand c.view-view.result.terns.now c.view-view.result.leads.now point (plain_tern (get_or c.loop-point.given point No)) (kept_tern c.loop-point.given point)
-      (plain_tern c.left_by.result) c.view-view.ensures.terns c.view-view.ensures.leads (kept_get c.loop-point.given point No less) c.left_by.ensures.left)
-      c.loop-point.invariant.ticked;
+          (written_at network demand c.view-view.result.terns.now c.view-view.result.leads.now point (plain_tern (get_or c.loop-point.given point No)) (kept_tern c.loop-point.given point)
+          (plain_tern c.left_by.result) c.view-view.ensures.terns c.view-view.ensures.leads (kept_get c.loop-point.given point No less) c.left_by.ensures.left)
+          c.loop-point.invariant.ticked;
       shared = c.left_by.ensures.shared;
     }
 
