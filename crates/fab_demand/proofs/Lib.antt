@@ -10,3 +10,4 @@ mod Finding
 mod Rooms
 mod Blank
 mod Starting
+mod Beside

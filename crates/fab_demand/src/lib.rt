@@ -5,6 +5,8 @@ mod cycles;
 mod demand;
 pub mod laws;
 mod look;
+mod others;
+mod rows;
 mod search;
 
 pub use demand::Demand;

@@ -14,6 +14,7 @@ ghost use Rattle.fab_demand.specs.Demand.{AreRegistersAsked, IsRegisterAsked};
 ghost use Rattle.fab_demand.specs.Search.{asked_of, left_of, Closes, HasRoom, IsBlank, IsKeeping, IsResting, IsSearching};
 
 use crate::look::look;
+use crate::rows::{Rows, end_of_rest};
 use fab_base::Memory;
 use fab_compiled::{Lead, View};
 use fab_network::{Clock, Drive, Network, Readers, Source, lead_of_source};
@@ -81,8 +82,8 @@ impl Search {
         self.stack.last().copied()
     }
 
-    // Asks for a point.
-    fn wait(&mut self, point: u32)
+    /// Asks for a point.
+    pub(crate) fn wait(&mut self, point: u32)
         requires room { HasRoom self.old }
         requires unmarked { slice_get self.old.marks.items point ≡ Some false }
         ensures asked { asked_of self.new ≡ record (asked_of self.old) { marks = slice_set self.old.marks.items point true } }
@@ -130,8 +131,8 @@ impl Search {
         self.close(point);
     }
 
-    // A point stands for itself.
-    fn keep(&mut self, point: u32)
+    /// A point stands for itself.
+    pub(crate) fn keep(&mut self, point: u32)
         requires room { HasRoom self.old }
         requires done { slice_get self.old.done.items point ≡ Some false }
         ensures { Closes self.old self.new point (record (asked_of self.old) { own = self.old.own.items ++ point ∷ [] }) }
@@ -141,8 +142,37 @@ impl Search {
         self.close(point);
     }
 
-    // One step for the last point that waits.
-    fn step(&mut self, network: &Network, clock: Clock, given: &[Tern], point: u32)
+    // One step for the last point that waits: what its row tells is asked for without a look.
+    fn go_by(
+        &mut self,
+        network: &Network,
+        clock: Clock,
+        given: &[Tern],
+        rows: &mut Rows,
+        point: u32,
+    )
+        requires fit { AreFit network.now.trees.items network.now.drives.items }
+        requires points { length network.now.drives.items ≡ length self.old.leads.items }
+        requires given { length given.now ≡ length self.old.leads.items }
+        requires searching { IsSearching network.now clock (kept_tern given.now) self.old }
+        requires waits { slice_get self.old.stack.items (length self.old.stack.items - 1) ≡ Some point }
+        ensures searching { IsSearching network.now clock (kept_tern given.now) self.new }
+        ensures more { AsksMore (asked_of self.old) (asked_of self.new) }
+        ensures falls { left_of self.new < left_of self.old }
+    {
+        if let Some(needed) = rows.next(self.stack.len(), &self.marks) {
+            self.wait(needed);
+            return;
+        }
+        let own = self.own.len();
+        self.step(network, clock, given, rows, point);
+        if own < self.own.len() {
+            self.keep_others(network, point);
+        }
+    }
+
+    // One look for the last point that waits.
+    fn step(&mut self, network: &Network, clock: Clock, given: &[Tern], rows: &mut Rows, point: u32)
         requires fit { AreFit network.now.trees.items network.now.drives.items }
         requires points { length network.now.drives.items ≡ length self.old.leads.items }
         requires given { length given.now ≡ length self.old.leads.items }
@@ -157,7 +187,10 @@ impl Search {
             leads: &self.leads,
         };
         match look(network, clock, given, point as usize, &view, &self.marks) {
-            Lead::Unmarked(needed) => self.wait(needed),
+            Lead::Unmarked(needed) => {
+                rows.add(network, point, needed, self.stack.len());
+                self.wait(needed);
+            }
             Lead::Known(bit) => self.know(point, bit),
             Lead::Point(other) => self.follow(point, other),
             Lead::Own => self.keep(point),
@@ -212,8 +245,9 @@ impl Search {
         ensures resting { IsResting self.new }
         ensures more { AsksMore (asked_of self.old) (asked_of self.new) }
     {
+        let mut rows = Rows::new(*self.stack.allocator());
         'waiting: while let Some(top) = self.waiting() {
-            self.step(network, clock, given, top);
+            self.go_by(network, clock, given, &mut rows, top);
         }
     }
 
@@ -237,6 +271,46 @@ impl Search {
         ensures asked { IsSourceAsked network.now.trees.items (asked_of self.new) source }
     {
         'needs: while let Some(point) = self.need(network, source) {
+            self.ask(network, clock, given, point);
+            self.ask_rest(network, clock, given, source, point);
+        }
+    }
+
+    // Asks for the rest of the name that a point stands in which the bit of an expression needs.
+    fn ask_rest(
+        &mut self,
+        network: &Network,
+        clock: Clock,
+        given: &[Tern],
+        source: Source,
+        point: u32,
+    )
+        requires fit { AreFit network.now.trees.items network.now.drives.items }
+        requires points { length network.now.drives.items ≡ length self.old.leads.items }
+        requires given { length given.now ≡ length self.old.leads.items }
+        requires searching { IsSearching network.now clock (kept_tern given.now) self.old }
+        requires resting { IsResting self.old }
+        ensures searching { IsSearching network.now clock (kept_tern given.now) self.new }
+        ensures resting { IsResting self.new }
+        ensures more { AsksMore (asked_of self.old) (asked_of self.new) }
+    {
+        for next in point.saturating_add(1)..end_of_rest(&network.trees, source, point) {
+            self.ask_number(network, clock, given, next);
+        }
+    }
+
+    // Asks for the point of a number, if there is one.
+    fn ask_number(&mut self, network: &Network, clock: Clock, given: &[Tern], point: u32)
+        requires fit { AreFit network.now.trees.items network.now.drives.items }
+        requires points { length network.now.drives.items ≡ length self.old.leads.items }
+        requires given { length given.now ≡ length self.old.leads.items }
+        requires searching { IsSearching network.now clock (kept_tern given.now) self.old }
+        requires resting { IsResting self.old }
+        ensures searching { IsSearching network.now clock (kept_tern given.now) self.new }
+        ensures resting { IsResting self.new }
+        ensures more { AsksMore (asked_of self.old) (asked_of self.new) }
+    {
+        if (point as usize) < self.leads.len() {
             self.ask(network, clock, given, point);
         }
     }

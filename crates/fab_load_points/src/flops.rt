@@ -13,7 +13,7 @@ use crate::causes::source_reads;
 use crate::search::{Search, Status};
 use crate::stream::Stream;
 use fab_base::Memory;
-use fab_equations::{Driver, Equations, Source};
+use fab_equations::{Cursor, Driver, Equations, Source};
 use std::alloc::Global;
 
 /// A flip-flop of the clock `CLK`: its first point, and its next value.
@@ -55,8 +55,9 @@ fn loader_flops(alloc: Global, equations: &Equations, stream: Stream) -> Result<
     ensures all { IfOk result (λ flops. (p : Point) → IsLoaderPoint (plain_text equations.now) p → among (plain_text equations.now) flops.items p ≡ true) }
 {
     let mut flops = Vec::new(alloc);
+    let mut cursor = Cursor::new();
     for point in 0..equations.points() {
-        if let Some(flop) = loader_flop(equations, stream, point) {
+        if let Some(flop) = loader_flop(equations, stream, &mut cursor, point) {
             flops.push(flop)?;
         }
     }
@@ -64,7 +65,12 @@ fn loader_flops(alloc: Global, equations: &Equations, stream: Stream) -> Result<
 }
 
 // The flip-flop of the clock `CLK` of which this is the first point; none where it is not such a point.
-fn loader_flop(equations: &Equations, stream: Stream, point: u32) -> Option<Flop>
+fn loader_flop(
+    equations: &Equations,
+    stream: Stream,
+    cursor: &mut Cursor,
+    point: u32,
+) -> Option<Flop>
     requires sound { IsSound (plain_text equations.now) }
     requires stream { IsStreamOf (plain_text equations.now) stream }
     requires within { point < length (points (plain_text equations.now)) }
@@ -72,7 +78,7 @@ fn loader_flop(equations: &Equations, stream: Stream, point: u32) -> Option<Flop
     ensures flop { IfSome result (IsLoaderFlop (plain_text equations.now)) }
     ensures other { IfNone result ((p : Point) → StandsFor (plain_text equations.now) point p → ¬ IsLoaderPoint (plain_text equations.now) p) }
 {
-    let Driver::Flop(clock, next) = equations.driver(point) else {
+    let Driver::Flop(clock, next) = equations.driver_near(point, cursor) else {
         return None;
     };
     if next.bit == 0 && stream.clock == Some(clock) {

@@ -15,7 +15,7 @@ use crate::flops::closed_search;
 use crate::search::Search;
 use crate::stream::{Stream, carries_words};
 use fab_base::Memory;
-use fab_equations::{Driver, Equations};
+use fab_equations::{Cursor, Driver, Equations};
 use std::alloc::Global;
 
 /// For each point of a text by its number: whether it is a loading point.
@@ -48,8 +48,10 @@ fn mark_points(
     requires marks { length marks.old ≡ length (points (plain_text equations.now)) }
     ensures { OnOk result (AreMarkedFrom (plain_text equations.now) 0 marks.new) }
 {
+    let mut cursor = Cursor::new();
     for point in (0..equations.points()).rev() {
-        marks[point as usize] = mark_of(search, alloc, equations, stream, marks, point)?;
+        let mark = mark_of(search, alloc, equations, stream, marks, &mut cursor, point)?;
+        marks[point as usize] = mark;
     }
     Ok(())
 }
@@ -61,6 +63,7 @@ fn mark_of(
     equations: &Equations,
     stream: Stream,
     marks: &[bool],
+    cursor: &mut Cursor,
     point: u32,
 ) -> Result<bool, Memory>
     requires sound { IsSound (plain_text equations.now) }
@@ -76,7 +79,7 @@ fn mark_of(
     ensures closed { OnOk result (IsClosedSearch (plain_text equations.now) search.new.statuses.items) }
     ensures mark { IfOk result (IsPointMark (plain_text equations.now) point) }
 {
-    let driver = equations.driver(point);
+    let driver = equations.driver_near(point, cursor);
     match driven_bit(driver) {
         Some(bit) => search.is_inside(alloc, equations, stream, point - bit),
         None => Ok(given_mark(equations, marks, point, driver)),

@@ -11,7 +11,7 @@ ghost use Rattle.fab_load_points.specs.inner.Registers.{stored_mark};
 
 use crate::points::loading_points;
 use fab_base::Memory;
-use fab_equations::{Driver, Equations};
+use fab_equations::{Cursor, Driver, Equations};
 use std::alloc::Global;
 
 /// For each point of a text by its number: whether it is a flip-flop or a latch that is a loading point.
@@ -42,8 +42,10 @@ pub fn registers_among(
         Drives (plain_text equations.now) p d → ¬ IsStored d → slice_get registers.items number ≡ Some false) }
 {
     let mut registers = Vec::with_capacity(alloc, marks.len())?;
+    let mut cursor = Cursor::new();
     for point in 0..equations.points() {
-        let register = register_mark(marks[point as usize], equations.driver(point));
+        let driver = equations.driver_near(point, &mut cursor);
+        let register = register_mark(marks[point as usize], driver);
         registers.push(register)?;
     }
     Ok(registers)

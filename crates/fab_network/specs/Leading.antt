@@ -6,6 +6,9 @@ use Rattle.fab_ternary.specs.declared.Tern.{Tern}
 use Rattle.fab_compiled.specs.declared.leads.Lead.{Lead}
 use Rattle.fab_compiled.specs.declared.leads.Lead.TheVariants.{Known, Point, Own, Unmarked}
 use Rattle.fab_compiled.specs.Leading.{PointTerns, AreAbove, FollowLeads, AgreeOnMarked, IsLedTo}
+use Rattle.fab_compiled.specs.declared.tree.Tree.{Tree}
+use Rattle.fab_network.specs.declared.network.Source.{Source}
+use Rattle.fab_network.specs.Network.{source_tern}
 
 -- What is told of a value, under all assignments that know no less than what is kept. It is `Leads` of `fab_compiled` for any value.
 abbrev pub LeadsTo : List Tern → List ℕ → (marks : List Bool) → (value : PointTerns → PlainTern) → Lead → Type 0
@@ -14,3 +17,9 @@ LeadsTo terns leads marks value (Point lead) =
     ((t : PointTerns) → AreAbove terns leads t → FollowLeads leads marks t → value t ≡ t lead) × IsLedTo leads marks lead
 LeadsTo terns leads marks value Own = (t u : PointTerns) → AreAbove terns leads t → AreAbove terns leads u → AgreeOnMarked marks t u → value t ≡ value u
 LeadsTo terns leads marks value (Unmarked point) = slice_get marks point ≡ Some false
+
+-- Each bit of the expression of a source depends on marked points alone.
+abbrev pub DependsOnMarked : List Tree → (marks : List Bool) → Source → Type 0
+DependsOnMarked trees marks source =
+    (bit : ℕ) (t u : PointTerns) → AgreeOnMarked marks t u →
+    source_tern trees t (record { tree = source.tree; first = source.first; bit = bit }) ≡ source_tern trees u (record { tree = source.tree; first = source.first; bit = bit })

@@ -4,7 +4,9 @@ ghost use Rattle.std.specs.Prelude.{◌≡◌, ◌<◌, ◌≤◌, ◌^◌, Some
 ghost use Rattle.fab_ternary.specs.Terns.{plain_tern};
 ghost use Rattle.fab_compiled.specs.Terns.{seen, IsView};
 ghost use Rattle.fab_network.specs.Network.{drive_tern, source_tern, shown_tern, AreFit, IsFitDrive, IsFitSource};
+ghost use Rattle.fab_network.specs.Sharing.{IsShared};
 
+use crate::sharing::Shared;
 use fab_compiled::{Tree, View, eval, through};
 use fab_ternary::Tern;
 
@@ -62,35 +64,52 @@ pub fn evaluate(trees: &[Tree], source: Source, view: &View) -> Tern
 }
 
 // What a point shows, where a latch holds this value; nothing is known of it where there is no such point.
-pub(crate) fn shown(network: &Network, point: usize, held: Tern, view: &View) -> Tern
+pub(crate) fn shown(
+    network: &Network,
+    point: usize,
+    held: Tern,
+    shared: &mut Shared,
+    view: &View,
+) -> Tern
     requires fit { AreFit network.now.trees.items network.now.drives.items }
     requires points { length network.now.drives.items ≡ length view.now.leads.now }
     requires view { IsView view.now.terns.now view.now.leads.now }
     requires small { length view.now.leads.now ≤ 2 ^ 32 }
     requires within { point < length view.now.leads.now }
-    ensures { plain_tern result ≡ shown_tern network.now.trees.items network.now.drives.items (plain_tern held) (seen view.now.terns.now view.now.leads.now) point }
+    requires shared { IsShared network.now.trees.items (length view.now.leads.now) (seen view.now.terns.now view.now.leads.now) shared.old }
+    ensures shared { IsShared network.now.trees.items (length view.now.leads.now) (seen view.now.terns.now view.now.leads.now) shared.new }
+    ensures value { plain_tern result ≡ shown_tern network.now.trees.items network.now.drives.items (plain_tern held) (seen view.now.terns.now view.now.leads.now) point }
 {
     match network.drives.get(point) {
-        Some(drive) => shown_by(&network.trees, *drive, point, held, view),
+        Some(drive) => shown_by(&network.trees, *drive, point, held, shared, view),
         None => Tern::Open,
     }
 }
 
 // What a point shows by its drive.
-fn shown_by(trees: &[Tree], drive: Drive, point: usize, held: Tern, view: &View) -> Tern
+fn shown_by(
+    trees: &[Tree],
+    drive: Drive,
+    point: usize,
+    held: Tern,
+    shared: &mut Shared,
+    view: &View,
+) -> Tern
     requires fit { IsFitDrive trees.now (length view.now.leads.now) drive }
     requires view { IsView view.now.terns.now view.now.leads.now }
     requires small { length view.now.leads.now ≤ 2 ^ 32 }
     requires within { point < length view.now.leads.now }
-    ensures { plain_tern result ≡ drive_tern trees.now (plain_tern held) (seen view.now.terns.now view.now.leads.now) point (Some drive) }
+    requires shared { IsShared trees.now (length view.now.leads.now) (seen view.now.terns.now view.now.leads.now) shared.old }
+    ensures shared { IsShared trees.now (length view.now.leads.now) (seen view.now.terns.now view.now.leads.now) shared.new }
+    ensures value { plain_tern result ≡ drive_tern trees.now (plain_tern held) (seen view.now.terns.now view.now.leads.now) point (Some drive) }
 {
     match drive {
         Drive::Given | Drive::Flop(_, _) => view.at(point),
         Drive::Same(other) => view.at(other as usize),
-        Drive::Value(source) => evaluate(trees, source, view),
+        Drive::Value(source) => shared.value(trees, source, view),
         Drive::Hold(gate, latched) => {
             let gate = evaluate(trees, gate, view);
-            through(gate, evaluate(trees, latched, view), held)
+            through(gate, shared.value(trees, latched, view), held)
         }
     }
 }

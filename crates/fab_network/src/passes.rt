@@ -5,9 +5,11 @@ ghost use Rattle.fab_ternary.specs.Terns.{plain_tern};
 ghost use Rattle.fab_compiled.specs.Terns.{seen, IsView};
 ghost use Rattle.fab_network.specs.Network.{AreFit};
 ghost use Rattle.fab_network.specs.Passes.{changed_after, kept_tern, unsettled_after, AreBacked, AreOwn, AreRising, AreSolved, IsFurther, IsListed, IsPassed, IsVisit, StaysBelow};
+ghost use Rattle.fab_network.specs.Sharing.{IsShared};
 
 use crate::network::{Network, shown};
 use crate::readers::Readers;
+use crate::sharing::Shared;
 use fab_compiled::View;
 use fab_ternary::Tern;
 
@@ -107,8 +109,9 @@ fn pass_over(
         changed: false,
         unsettled: false,
     };
+    let mut shared = Shared::new(*network.trees.allocator());
     for point in order {
-        let found = look_at(network, *point as usize, held, leads, terns);
+        let found = look_at(network, *point as usize, held, leads, &mut shared, terns);
         pass = pass.noting(found);
     }
     pass
@@ -120,6 +123,7 @@ fn look_at(
     point: usize,
     held: &[Tern],
     leads: &[u32],
+    shared: &mut Shared,
     terns: &mut [Tern],
 ) -> Visit
     requires fit { AreFit network.now.trees.items network.now.drives.items }
@@ -129,17 +133,20 @@ fn look_at(
     requires view { IsView terns.old leads.now }
     requires small { length leads.now ≤ 2 ^ 32 }
     requires within { point < length leads.now }
-    ensures { (order : List ℕ) → IsVisit (record { trees = network.now.trees.items; drives = network.now.drives.items; held = held.now; order = order; leads = leads.now })
+    requires shared { IsShared network.now.trees.items (length leads.now) (seen terns.old leads.now) shared.old }
+    ensures shared { IsShared network.now.trees.items (length leads.now) (seen terns.new leads.now) shared.new }
+    ensures visit { (order : List ℕ) → IsVisit (record { trees = network.now.trees.items; drives = network.now.drives.items; held = held.now; order = order; leads = leads.now })
         point terns.old terns.new result }
 {
     if !terns[point].is_open() {
         return Visit::Known;
     }
-    let found = shown(network, point, held[point], &View { terns, leads });
+    let found = shown(network, point, held[point], shared, &View { terns, leads });
     if found.is_open() {
         return Visit::Still;
     }
     terns[point] = found;
+    shared.note_change();
     Visit::Found
 }
 
@@ -278,7 +285,8 @@ fn look_at_reader(
     let Some(point) = order.get(place as usize) else {
         return;
     };
-    let found = look_at(network, *point as usize, held, leads, terns);
+    let mut shared = Shared::new(*network.trees.allocator());
+    let found = look_at(network, *point as usize, held, leads, &mut shared, terns);
     note_found(readers, *point, found);
 }
 

@@ -64,11 +64,19 @@ impl Readers {
         }
         self.list(order);
         for (place, point) in order.iter().enumerate() {
+            if self.is_full() {
+                break;
+            }
             if let Ok(reader) = u32::try_from(place) {
                 self.note_drive(network, *point as usize, leads, reader);
             }
         }
         self.fresh = true;
+    }
+
+    // Whether there is no room for one more note.
+    fn is_full(&self) -> bool {
+        self.notes.len() >= self.notes.capacity()
     }
 
     // These points are in the order, and nothing is noted of them.

@@ -8,6 +8,7 @@ ghost use Rattle.fab_compiled.specs.Terns.{seen, IsView};
 ghost use Rattle.fab_network.specs.declared.network.Drive.TheVariants.{Flop, Given};
 ghost use Rattle.fab_network.specs.Network.{AreFit, IsFitSource};
 ghost use Rattle.fab_network.specs.Passes.{kept_tern};
+ghost use Rattle.fab_network.specs.Sharing.{IsShared};
 ghost use Rattle.fab_network.specs.Solved.{IsLeast};
 ghost use Rattle.fab_phases.specs.Lists.{Each};
 ghost use Rattle.fab_phases.specs.Cycles.{AreOnce, IsFed, IsIn, IsRunningAt, IsTicked};
@@ -16,7 +17,7 @@ ghost use Rattle.fab_phases.specs.Running.{AreNumbers, IsTickedOwn, written_by};
 use fab_compiled::View;
 use fab_demand::Demand;
 use fab_demand::laws::kept_again;
-use fab_network::{Clock, Drive, Network, Source, evaluate};
+use fab_network::{Clock, Drive, Network, Shared, Source};
 use fab_ternary::Tern;
 
 /// Asks for all that these outputs need in a run, where this is given: inputs that vary are open. What was asked for before is forgotten.
@@ -110,38 +111,50 @@ fn tick(network: &Network, demand: &Demand, given: &mut [Tern])
     ensures { IsTickedOwn network.now demand.now given.old given.new }
 {
     let view = demand.view();
+    let mut shared = Shared::new(*network.trees.allocator());
     for point in demand.own() {
         let point = *point as usize;
-        given[point] = left_by(network, &view, point, given[point]);
+        given[point] = left_by(network, &view, point, given[point], &mut shared);
     }
 }
 
 // What a tick of UserCLK leaves with a point that holds this.
-fn left_by(network: &Network, view: &View, point: usize, held: Tern) -> Tern
+fn left_by(network: &Network, view: &View, point: usize, held: Tern, shared: &mut Shared) -> Tern
     requires fit { AreFit network.now.trees.items network.now.drives.items }
     requires points { length network.now.drives.items ≡ length view.now.leads.now }
     requires view { IsView view.now.terns.now view.now.leads.now }
     requires few { length view.now.leads.now ≤ 2 ^ 32 }
     requires within { point < length view.now.leads.now }
-    ensures { plain_tern result ≡ written_by network.now.trees.items (plain_tern held) (seen view.now.terns.now view.now.leads.now) point
+    requires shared { IsShared network.now.trees.items (length view.now.leads.now) (seen view.now.terns.now view.now.leads.now) shared.old }
+    ensures left { plain_tern result ≡ written_by network.now.trees.items (plain_tern held) (seen view.now.terns.now view.now.leads.now) point
         (slice_get network.now.drives.items point) }
+    ensures shared { IsShared network.now.trees.items (length view.now.leads.now) (seen view.now.terns.now view.now.leads.now) shared.new }
 {
     match network.drives[point] {
-        Drive::Flop(clock, next) => left_by_flop(network, view, clock, next, held),
+        Drive::Flop(clock, next) => left_by_flop(network, view, clock, next, held, shared),
         Drive::Hold(_, _) => view.at(point),
         Drive::Given | Drive::Same(_) | Drive::Value(_) => held,
     }
 }
 
 // What it leaves with a flip-flop.
-fn left_by_flop(network: &Network, view: &View, clock: Clock, next: Source, held: Tern) -> Tern
+fn left_by_flop(
+    network: &Network,
+    view: &View,
+    clock: Clock,
+    next: Source,
+    held: Tern,
+    shared: &mut Shared,
+) -> Tern
     requires next { IsFitSource network.now.trees.items (length view.now.leads.now) next }
     requires view { IsView view.now.terns.now view.now.leads.now }
     requires few { length view.now.leads.now ≤ 2 ^ 32 }
-    ensures { (point : ℕ) → plain_tern result ≡ written_by network.now.trees.items (plain_tern held) (seen view.now.terns.now view.now.leads.now) point (Some (Flop clock next)) }
+    requires shared { IsShared network.now.trees.items (length view.now.leads.now) (seen view.now.terns.now view.now.leads.now) shared.old }
+    ensures left { (point : ℕ) → plain_tern result ≡ written_by network.now.trees.items (plain_tern held) (seen view.now.terns.now view.now.leads.now) point (Some (Flop clock next)) }
+    ensures shared { IsShared network.now.trees.items (length view.now.leads.now) (seen view.now.terns.now view.now.leads.now) shared.new }
 {
     match clock {
-        Clock::User => evaluate(&network.trees, next, view),
+        Clock::User => shared.value(&network.trees, next, view),
         Clock::Loader | Clock::Other => held,
     }
 }

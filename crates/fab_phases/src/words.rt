@@ -14,7 +14,7 @@ use crate::chain::move_chain;
 use crate::loading::{Latch, LoadedFlop, Loading, Run};
 use fab_compiled::through;
 use fab_demand::Demand;
-use fab_network::{Network, evaluate};
+use fab_network::{Network, Shared, evaluate};
 use fab_ternary::Tern;
 
 /// Loads words one by one. Inputs take the bits of a word, from the first of their points on.
@@ -201,8 +201,10 @@ fn take_flops(network: &Network, flops: &[LoadedFlop], demand: &Demand, given: &
     requires flops { AreFitFlops network.now flops.now }
     ensures { LeavesFlops network.now flops.now demand.now given.old given.new }
 {
+    let view = demand.view();
+    let mut shared = Shared::new(*network.trees.allocator());
     for flop in flops {
-        given[flop.point as usize] = evaluate(&network.trees, flop.next, &demand.view());
+        given[flop.point as usize] = shared.value(&network.trees, flop.next, &view);
     }
 }
 
@@ -245,9 +247,11 @@ fn take_latches(
     requires latches { AreFitLatches network.now latches.now }
     ensures { LeavesLatches network.now (plain_tern gate) latches.now demand.now given.old given.new }
 {
+    let view = demand.view();
+    let mut shared = Shared::new(*network.trees.allocator());
     for latch in latches {
         let point = latch.point as usize;
-        let latched = evaluate(&network.trees, latch.latched, &demand.view());
+        let latched = shared.value(&network.trees, latch.latched, &view);
         given[point] = through(gate, latched, given[point]);
     }
 }

@@ -15,3 +15,4 @@ pub mod Entries
 pub mod Items
 pub mod Sides
 pub mod OneTile
+pub mod OneNames

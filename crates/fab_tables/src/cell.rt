@@ -17,6 +17,7 @@ ghost use Rattle.fab_tables.specs.Cells.{
   repeat_digits,
   repeats,
 };
+ghost use Rattle.fab_tables.specs.inner.Expanding.{is_sign};
 
 use fab_lines::{capped_number, place_or_end};
 use std::alloc::{AllocError, Global};
@@ -120,6 +121,14 @@ fn is_cell_byte(byte: u8) -> bool
     ensures { result ≡ is_cell_byte byte }
 {
     matches!(byte, b'a'..=b'z' | b'A'..=b'Z' | b'0'..=b'9' | b'_' | b'[' | b']' | b'|' | b'{' | b'}')
+}
+
+/// Whether a cell has a bracket, a bar or a brace. One that has none is a name as it stands.
+pub fn has_signs(cell: &[u8]) -> bool
+    ensures { result ≡ list_any is_sign cell.now }
+{
+    cell.iter()
+        .any(|byte| matches!(*byte, b'[' | b']' | b'|' | b'{' | b'}'))
 }
 
 /// Whether every byte of a cell may stand in one.

@@ -17,7 +17,7 @@ ghost use Rattle.fab_tables.specs.Cells.{
 };
 ghost use Rattle.fab_tables.specs.inner.Expanding.{extended, extended_by};
 
-use crate::cell::{after, before, body, pieces, repeats};
+use crate::cell::{after, before, body, has_signs, pieces, repeats};
 use fab_base::{Memory, Name};
 use std::alloc::Global;
 
@@ -116,11 +116,7 @@ fn product(alloc: Global, cell: &[u8]) -> Result<Vec<Name>, Memory>
 {
     let pieces = pieces(alloc, body(cell), b'[')?;
     match pieces.as_slice() {
-        [] => {
-            let mut names = Vec::new(alloc);
-            names.push(Name::of(alloc, b"")?)?;
-            Ok(names)
-        }
+        [] => one_name(alloc, b""),
         [text, choices @ ..] => with_pieces(alloc, text, choices),
     }
 }
@@ -145,12 +141,24 @@ fn repeated(alloc: Global, names: &[Name], times: u64) -> Result<Vec<Name>, Memo
     Ok(copies)
 }
 
+/// A name alone.
+fn one_name(alloc: Global, name: &[u8]) -> Result<Vec<Name>, Memory>
+    ensures { IfOk result (λ made. made.items ≡ name.now ∷ []) }
+{
+    let mut names = Vec::new(alloc);
+    names.push(Name::of(alloc, name)?)?;
+    Ok(names)
+}
+
 /// The names that a cell expands to. They are counted before: the cell has not too many.
 pub fn names(alloc: Global, cell: &[u8]) -> Result<Vec<Name>, Memory>
     requires numbered { has_bad_number cell.now ≡ false }
     requires counted { count cell.now ≤ MAX_NAMES }
     ensures { IfOk result (λ made. made.items ≡ names cell.now) }
 {
+    if !has_signs(cell) {
+        return one_name(alloc, cell);
+    }
     let once = product(alloc, cell)?;
     repeated(alloc, &once, repeats(cell))
 }

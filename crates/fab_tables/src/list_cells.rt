@@ -20,7 +20,7 @@ ghost use Rattle.fab_tables.specs.Lists.{
   BothNames,
 };
 
-use crate::cell::{has_bad_number, has_brackets, has_only_cell_bytes};
+use crate::cell::{has_bad_number, has_brackets, has_only_cell_bytes, has_signs};
 use crate::expansion::{MAX_NAMES, count, names};
 use fab_base::{Memory, Name, Problem, Quantity, Reason};
 use fab_lines::is_wire_name;
@@ -46,6 +46,9 @@ fn size(alloc: Global, cell: &[u8]) -> Result<Option<u64>, Memory>
     requires { has_bad_number cell.now ≡ false }
     ensures { IfOk result (λ found. found ≡ size cell.now) }
 {
+    if !has_signs(cell) {
+        return Ok(Some(1));
+    }
     if has_brackets(alloc, cell)? {
         Ok(Some(count(alloc, cell)?))
     } else {

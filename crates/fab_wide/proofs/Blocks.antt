@@ -1,9 +1,9 @@
 -- A row is put into a table by blocks of 64 words.
-use Rattle.std.proofs.Common.{◌≡◌, ℕ, zero, suc, ◌+◌, ◌-◌, ◌*◌, ◌/◌, ◌%◌, ◌^◌, ◌<◌, ◌≤◌, ◌⊎◌, Bool, true, false, List, [], ◌∷◌, ◌++◌, take, drop, set, length, get_or, length-append, length-drop, replicate, if◌then◌else◌, nat_eq, bit_and, refl, sym, ap, ◌∙◌, subst, inl, inr, arith, pow-suc, eqb-true, eq-eqb}
+use Rattle.std.proofs.Common.{◌≡◌, ℕ, zero, suc, ◌+◌, ◌-◌, ◌*◌, ◌/◌, ◌%◌, ◌^◌, ◌<◌, ◌≤◌, ◌⊎◌, false, List, [], ◌∷◌, ◌++◌, take, drop, set, length, get_or, length-drop, replicate, if◌then◌else◌, nat_eq, bit_and, refl, sym, ap, ◌∙◌, subst, inl, inr, arith, eqb-true, eq-eqb}
 use Rattle.std.specs.Int.Bits.{and_self, bit_or}
 use Rattle.std.proofs.lemmas.Bool.{cases_Bool, cases_lt, eqb-false, ne_eqb}
 use Rattle.std.proofs.lemmas.List.{append_assoc, drop-drop, drop-take, drop_at, drop_more, get_or_at, length-take-le, set_at, take-append-drop, take-take, take_at, take_more}
-use Rattle.std.proofs.lemmas.Nat.{and-not, and_assoc, and_block, and_comm, and_le_l, and_le_r, and_mask, and_mod, and_or_apart, and_shr, or_disjoint, pow-add, pow_pos}
+use Rattle.std.proofs.lemmas.Nat.{and-not, and_assoc, and_block, and_comm, and_le_l, and_le_r, and_mask, and_mod, and_or_apart, and_shr, or_disjoint, pow-add}
 use Rattle.std.proofs.Math.Nat.{pow-le-pow_right}
 use borrow.Rule.Slice.PartMut.{put_mid}
 use Rattle.fab_wide.specs.inner.Words.{IsPower, IsRowOf, joined, marked}

@@ -1,16 +1,16 @@
 -- Tables are filled row by row.
-use Rattle.std.proofs.Common.{◌≡◌, ℕ, zero, suc, ◌+◌, ◌-◌, ◌*◌, ◌/◌, ◌^◌, ◌<◌, ◌≤◌, Bool, true, false, List, [], ◌∷◌, ◌++◌, map, take, drop, length, get_or, length-append, max, replicate, if◌then◌else◌, nat_eq, bit_and, refl, sym, ap, ◌∙◌, subst, inl, inr, arith, pow-suc, eqb-true, eq-eqb}
+use Rattle.std.proofs.Common.{◌≡◌, ℕ, zero, suc, ◌+◌, ◌-◌, ◌*◌, ◌/◌, ◌^◌, ◌<◌, ◌≤◌, Bool, true, false, List, [], ◌∷◌, ◌++◌, map, take, drop, length, get_or, max, replicate, if◌then◌else◌, nat_eq, bit_and, refl, sym, ap, ◌∙◌, inl, inr, arith}
 use Rattle.std.specs.Int.{from_bool}
 use Rattle.std.specs.Int.Bits.{bit_or}
-use Rattle.std.proofs.lemmas.Bool.{cases_Bool, eqb-false, ne_eqb}
-use Rattle.std.proofs.lemmas.Nat.{and_block, and_le_l, and_le_r, and_shr, or_disjoint, pow_pos}
+use Rattle.std.proofs.lemmas.Bool.{cases_Bool}
+use Rattle.std.proofs.lemmas.Nat.{and_le_r, and_shr, or_disjoint}
 use Rattle.std.proofs.Math.Nat.{pow-le-pow_right}
 use Rattle.std.proofs.Math.Seq.{take-append_seam}
 use Rattle.fab_bits.specs.Bits.{bit_number, number, first_bits}
 use Rattle.fab_netlist.specs.declared.wide.Cube.{Cube}
 use Rattle.fab_netlist.specs.Wide.{IsFineRow, rows_say}
 use Rattle.fab_netlist.proofs.Rows.{asks_lower, asks_upper, row_above, row_none, rows_bits, rows_step, word_off, word_on}
-use Rattle.fab_wide.specs.inner.Words.{IsPower, IsRowOf, covered_words, marked, marked_by}
+use Rattle.fab_wide.specs.inner.Words.{IsRowOf, covered_words, marked, marked_by}
 use Rattle.fab_wide.proofs.Joined.{table_bits, words_by}
 
 -- ---- a bit as a number

@@ -10,7 +10,7 @@ pub returns-in_default : goal.returns-in_default
 returns-in_default c = record {
   name = tt;
   flop = tt;
-  other = λ p stands l. no_flop (plain_text c.args.equations.now) c.requires.sound c.args.point c.driver.result c.driver.ensures.drives c.in_default.not-Flop p stands l;
+  other = λ p stands l. no_flop (plain_text c.args.equations.now) c.requires.sound c.args.point c.driver_near.result c.driver_near.ensures.drives c.in_default.not-Flop p stands l;
 }
 
 pub returns-else-next-eq0-clause-other : goal.returns-else-next-eq0-clause-other

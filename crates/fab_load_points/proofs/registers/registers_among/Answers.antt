@@ -15,7 +15,7 @@ loop-point-preserved c =
     let register = c.register_mark-register.result in
     let items = c.in_ok-push.ensures.items in
     let less : point < length marks = omega (arith, c.requires.long, c.points-point-end.ensures) in
-    let kept = stored_kept text c.requires.sound point (get_or marks point false) c.driver.result c.driver.ensures.drives in
+    let kept = stored_kept text c.requires.sound point (get_or marks point false) c.driver_near-driver.result c.driver_near-driver.ensures.drives in
     record {
       count = omega (arith, c.in_ok-push.ensures.len, c.loop-point.invariant.count);
       stored = λ number p d l is drives holds.

@@ -1,7 +1,12 @@
+use Rattle.std.proofs.Common.{length}
+use Rattle.fab_compiled.specs.Terns.{seen}
 use Rattle.fab_network.specs.Passes.{IsPassed}
+use Rattle.fab_network.specs.Sharing.{IsShared}
 use Rattle.fab_network.proofs.passes.pass_over.Given as goal
 
 abbrev pub invariant-loop-point : goal.invariant-loop-point
-invariant-loop-point l =
-    IsPassed (record { trees = l.network.trees.items; drives = l.network.drives.items; held = l.held; order = l.order; leads = l.leads })
-    l.point-index l.initial.terns l.terns l.pass.changed l.pass.unsettled
+invariant-loop-point l = record {
+  passed : IsPassed (record { trees = l.network.trees.items; drives = l.network.drives.items; held = l.held; order = l.order; leads = l.leads })
+      l.point-index l.initial.terns l.terns l.pass.changed l.pass.unsettled;
+  shared : IsShared l.network.trees.items (length l.leads) (seen l.terns l.leads) l.shared;
+}

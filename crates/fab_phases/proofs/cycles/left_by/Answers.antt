@@ -19,17 +19,17 @@ left_by_flop-requires-clause-next c =
     fit_at c.args.network.now c.args.network.now.trees.items (length c.args.view.now.leads.now) c.in-Flop.next refl c.requires.points
     (c.requires.fit c.args.point (Flop c.in-Flop.clock c.in-Flop.next) at)
 
-pub returns-in-Flop : goal.returns-in-Flop
-returns-in-Flop c =
+pub returns-in-Flop-clause-left : goal.returns-in-Flop-clause-left
+returns-in-Flop-clause-left c =
     let drives = c.args.network.now.drives.items in
     let less : c.args.point < length drives = omega arith in
     let at : slice_get drives c.args.point ≡ Some (Flop c.in-Flop.clock c.in-Flop.next) =
     slice_get_read drives (length drives) c.args.point c.index.result.now refl less c.index.ensures ∙ ap (λ (d : Drive). Some d) c.in-Flop.is in
-    c.left_by_flop.ensures c.args.point
+    c.left_by_flop.ensures.left c.args.point
     ∙ sym (ap (λ (o : Option Drive). written_by c.args.network.now.trees.items (plain_tern c.args.held) (seen c.args.view.now.terns.now c.args.view.now.leads.now) c.args.point o) at)
 
-pub returns-in-Hold : goal.returns-in-Hold
-returns-in-Hold c =
+pub returns-in-Hold-clause-left : goal.returns-in-Hold-clause-left
+returns-in-Hold-clause-left c =
     let drives = c.args.network.now.drives.items in
     let less : c.args.point < length drives = omega arith in
     let at : slice_get drives c.args.point ≡ Some (Hold c.in-Hold.field-0 c.in-Hold.field-1) =
@@ -37,8 +37,8 @@ returns-in-Hold c =
     c.at.ensures
     ∙ sym (ap (λ (o : Option Drive). written_by c.args.network.now.trees.items (plain_tern c.args.held) (seen c.args.view.now.terns.now c.args.view.now.leads.now) c.args.point o) at)
 
-pub returns-in-Given : goal.returns-in-Given
-returns-in-Given c =
+pub returns-in-Given-clause-left : goal.returns-in-Given-clause-left
+returns-in-Given-clause-left c =
     let drives = c.args.network.now.drives.items in
     let less : c.args.point < length drives = omega arith in
     let at : slice_get drives c.args.point ≡ Some c.index.result.now = slice_get_read drives (length drives) c.args.point c.index.result.now refl less c.index.ensures in

@@ -1,5 +1,11 @@
+use Rattle.std.proofs.Common.{length}
+use Rattle.fab_compiled.specs.Terns.{seen}
+use Rattle.fab_network.specs.Sharing.{IsShared}
 use Rattle.fab_phases.proofs.Ticking.{FlopsSoFar}
 use Rattle.fab_phases.proofs.words.take_flops.Given as goal
 
 abbrev pub invariant-loop-flop : goal.invariant-loop-flop
-invariant-loop-flop l = FlopsSoFar l.network l.flops l.demand l.flop-index l.fn.given l.given
+invariant-loop-flop l = record {
+  left : FlopsSoFar l.network l.flops l.demand l.flop-index l.fn.given l.given;
+  shared : IsShared l.network.trees.items (length l.view.leads.now) (seen l.view.terns.now l.view.leads.now) l.shared;
+}

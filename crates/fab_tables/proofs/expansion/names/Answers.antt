@@ -1,10 +1,17 @@
-use Rattle.std.proofs.Common.{◌≡◌, ◌≤◌, ℕ, List, ap, ◌∙◌, lit<, arith}
+use Rattle.std.proofs.Common.{◌≡◌, ◌≤◌, ℕ, false, List, sym, ap, ◌∙◌, lit<, arith}
 use Rattle.std.specs.Prelude.{replicate}
-use Rattle.std.specs.List.{flat_map, slice_split}
+use Rattle.std.specs.List.{list_any, flat_map, slice_split}
 use Rattle.std.proofs.lemmas.Result.{IfOk-weaker}
 use Rattle.fab_tables.specs.Cells.{is_open, body, repeats, count}
+use Rattle.fab_tables.specs.inner.Expanding.{is_sign}
+use Rattle.fab_tables.proofs.OneNames.{one_name}
 use Rattle.fab_tables.proofs.Products.{repeats_within}
 use Rattle.fab_tables.proofs.expansion.names.Goals as goal
+
+pub returns-then-not-has_signs : goal.returns-then-not-has_signs
+returns-then-not-has_signs c =
+    let none : list_any is_sign c.args.cell.now ≡ false = sym c.has_signs.ensures ∙ c.if-not-has_signs.true in
+    IfOk-weaker c.one_name.result _ _ (λ made is. is ∙ sym (one_name c.args.cell.now none)) c.one_name.ensures
 
 pub returns : goal.returns
 returns c =

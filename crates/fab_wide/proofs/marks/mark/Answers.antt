@@ -1,6 +1,6 @@
-use Rattle.std.proofs.Common.{◌≡◌, ℕ, ◌+◌, ◌-◌, ◌*◌, ◌/◌, ◌≤◌, drop, length, take, arith, inl, inr, refl, ap, sym, ◌∙◌, bit_and}
+use Rattle.std.proofs.Common.{◌≡◌, ℕ, ◌+◌, ◌-◌, ◌/◌, ◌≤◌, drop, length, take, arith, inl, inr, refl, ap, ◌∙◌, bit_and}
 use Rattle.std.specs.Int.Bits.{and_self}
-use Rattle.std.proofs.lemmas.Nat.{and_assoc, and_le_l, and_le_r}
+use Rattle.std.proofs.lemmas.Nat.{and_assoc, and_le_r}
 use borrow.Rule.Slice.PartMut.{put_mid}
 use Rattle.fab_wide.specs.inner.Words.{joined}
 use Rattle.fab_wide.proofs.Blocks.{blocks_marked, first_of, marked_from}

@@ -6,8 +6,8 @@ use Rattle.fab_demand.proofs.search.Search.go_on.Goals as goal
 
 pub waiting-preserved : goal.waiting-preserved
 waiting-preserved c = record {
-  searching = c.step.ensures.searching;
-  more = asks_both (asked_of c.args.self.now) (asked_of c.waiting.self) (asked_of c.step.new.self) c.waiting.invariant.more c.step.ensures.more;
+  searching = c.go_by.ensures.searching;
+  more = asks_both (asked_of c.args.self.now) (asked_of c.waiting.self) (asked_of c.go_by.new.self) c.waiting.invariant.more c.go_by.ensures.more;
 }
 
 pub returns-clause-resting : goal.returns-clause-resting

@@ -1,0 +1,156 @@
+//! Points that follow one another and that a waiting point needs: they are asked for without a look between.
+
+ghost use Rattle.std.specs.Prelude.{◌≡◌, true, false, slice_get, IfSome, Some};
+
+use fab_compiled::Tree;
+use fab_network::{Drive, Network, Source};
+use std::alloc::Global;
+
+/// From how many points on they are asked for without a look between. Of fewer a look may find that no more are needed, and takes not long.
+const MANY: u32 = 32;
+
+/// Points that follow one another and that a waiting point needs.
+#[derive(Clone, Copy, Debug)]
+struct Row {
+    /// The next of them.
+    next: u32,
+    /// Behind the last of them.
+    end: u32,
+    /// How many points wait, up to the one that needs them.
+    depth: usize,
+}
+
+/// The rows of points that wait. They are a help for speed: any point may be asked for, so what a search finds does not depend on them. Without
+/// them an expression over a name of many bits would be looked at anew for each bit that is asked for.
+#[derive(Drop)]
+pub(crate) struct Rows {
+    rows: Vec<Row>,
+}
+
+impl Rows {
+    /// No point waits.
+    pub(crate) fn new(alloc: Global) -> Rows {
+        Rows {
+            rows: Vec::new(alloc),
+        }
+    }
+
+    /// What a look has found that the last of so many waiting points needs, with the rest of the name that it stands in.
+    pub(crate) fn add(&mut self, network: &Network, point: u32, needed: u32, depth: usize) {
+        let end = end_by_drive(network, point, needed);
+        let next = needed.saturating_add(1);
+        if end.saturating_sub(next) >= MANY {
+            self.push(Row { next, end, depth });
+        }
+    }
+
+    /// The next point that the last of so many waiting points needs and that has not been asked for, as far as that is told by its row.
+    pub(crate) fn next(&mut self, depth: usize, marks: &[bool]) -> Option<u32>
+        ensures { IfSome result (λ point. slice_get marks.now point ≡ Some false) }
+    {
+        let row = self.rows.pop()?;
+        if row.depth != depth {
+            self.push(row);
+            return None;
+        }
+        let point = first_unmarked(row.next, row.end, marks)?;
+        self.push(Row {
+            next: point.saturating_add(1),
+            end: row.end,
+            depth,
+        });
+        Some(point)
+    }
+
+    // One more row, where there is memory.
+    fn push(&mut self, row: Row) {
+        let _ = self.rows.push(row);
+    }
+}
+
+// The first of some points that follow one another that has not been asked for.
+fn first_unmarked(next: u32, end: u32, marks: &[bool]) -> Option<u32>
+    ensures { IfSome result (λ point. slice_get marks.now point ≡ Some false) }
+{
+    for point in next..end {
+        if is_unmarked(point, marks) {
+            return Some(point);
+        }
+    }
+    None
+}
+
+/// Whether there is a point of this number and it has not been asked for.
+pub(crate) fn is_unmarked(point: u32, marks: &[bool]) -> bool
+    ensures { result ≡ true → slice_get marks.now point ≡ Some false }
+{
+    match marks.get(point as usize) {
+        Some(mark) => !*mark,
+        None => false,
+    }
+}
+
+// Behind the last point of the name in which this point stands that the drive of another needs.
+fn end_by_drive(network: &Network, point: u32, needed: u32) -> u32 {
+    match network.drives.get(point as usize) {
+        Some(Drive::Value(source)) => end_in_source(&network.trees, *source, needed),
+        Some(Drive::Hold(gate, latched)) => {
+            let end = end_in_source(&network.trees, *gate, needed);
+            end.max(end_in_source(&network.trees, *latched, needed))
+        }
+        Some(Drive::Given | Drive::Flop(_, _) | Drive::Same(_)) | None => needed,
+    }
+}
+
+/// Behind the last point of a name of many bits that an expression needs and in which this point stands, or the point itself.
+pub(crate) fn end_of_rest(trees: &[Tree], source: Source, needed: u32) -> u32 {
+    let end = end_in_source(trees, source, needed);
+    if end.saturating_sub(needed) > MANY {
+        end
+    } else {
+        needed
+    }
+}
+
+// Behind the last point of the names of an expression in which this point stands, or the point where it stands in none.
+fn end_in_source(trees: &[Tree], source: Source, needed: u32) -> u32 {
+    match trees.get(source.tree as usize) {
+        Some(tree) => end_in_tree(tree, source.first, needed),
+        None => needed,
+    }
+}
+
+fn end_in_tree(tree: &Tree, first: u32, needed: u32) -> u32 {
+    match tree {
+        Tree::Const(_) => needed,
+        Tree::Bits(place, count) => end_in_name(first.saturating_add(*place), *count, needed),
+        Tree::Pick(place, width, index) => {
+            let count = 1_u32.checked_shl(*width).unwrap_or(u32::MAX);
+            let end = end_in_name(first.saturating_add(*place), count, needed);
+            end.max(end_in_tree(index, first, needed))
+        }
+        Tree::Not(inner) => end_in_tree(inner, first, needed),
+        Tree::Cat(left, _, right)
+        | Tree::And(left, right)
+        | Tree::Or(left, right)
+        | Tree::Xor(left, right)
+        | Tree::Equal(_, left, right)
+        | Tree::Minus(_, left, right) => {
+            let end = end_in_tree(left, first, needed);
+            end.max(end_in_tree(right, first, needed))
+        }
+        Tree::Cond(test, yes, no) => {
+            let end = end_in_tree(yes, first, needed).max(end_in_tree(no, first, needed));
+            end.max(end_in_tree(test, first, needed))
+        }
+    }
+}
+
+fn end_in_name(start: u32, count: u32, needed: u32) -> u32 {
+    let end = start.saturating_add(count);
+    if start <= needed && needed < end {
+        end
+    } else {
+        needed
+    }
+}

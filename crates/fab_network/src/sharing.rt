@@ -1,0 +1,163 @@
+//! The value of one expression, for bits of it that are looked at one after another.
+
+ghost use Rattle.std.specs.Prelude.{◌≡◌, ◌<◌, ◌≤◌, ◌^◌, ℕ, List, false, true, length, slice_get, IfSome, Some};
+ghost use Rattle.fab_systems_laws.specs.Ternary.{IsBelow};
+ghost use Rattle.fab_ternary.specs.Terns.{is_known, plain_tern};
+ghost use Rattle.fab_compiled.specs.declared.tree.Tree.{Tree};
+ghost use Rattle.fab_compiled.specs.Leading.{PointTerns};
+ghost use Rattle.fab_compiled.specs.Terns.{seen, IsView};
+ghost use Rattle.fab_network.specs.Network.{source_tern, IsFitSource};
+ghost use Rattle.fab_network.specs.Sharing.{IsShared};
+
+use crate::network::{Source, evaluate};
+use fab_base::Memory;
+use fab_compiled::{Tree, View, whole};
+use fab_ternary::Tern;
+use std::alloc::Global;
+
+/// The expression that was looked at last, and all bits of its value as soon as a second one is asked for: so the operands of `-` are gone
+/// through once for all bits of a difference that follow one another. Where there is no memory, each bit is evaluated alone.
+#[derive(Drop)]
+pub struct Shared {
+    /// The number of its tree.
+    pub tree: u32,
+    /// The first point of its instance.
+    pub first: u32,
+    /// Whether nothing has come to be known of points since the bits were found. What was known then is right in any case.
+    pub exact: bool,
+    /// Whether each bit is evaluated alone, because that takes no longer or because there is no memory.
+    pub alone: bool,
+    /// Its bits, or none.
+    pub bits: Vec<Tern>,
+}
+
+impl Shared {
+    /// Nothing has been looked at.
+    pub fn new(alloc: Global) -> Shared
+        ensures { (trees : List Tree) (count : ℕ) (t : PointTerns) → IsShared trees count t result }
+    {
+        Shared {
+            tree: u32::MAX,
+            first: 0,
+            exact: false,
+            alone: false,
+            bits: Vec::new(alloc),
+        }
+    }
+
+    /// What a source has.
+    pub fn value(&mut self, trees: &[Tree], source: Source, view: &View) -> Tern
+        requires fit { IsFitSource trees.now (length view.now.leads.now) source }
+        requires view { IsView view.now.terns.now view.now.leads.now }
+        requires small { length view.now.leads.now ≤ 2 ^ 32 }
+        requires shared { IsShared trees.now (length view.now.leads.now) (seen view.now.terns.now view.now.leads.now) self.old }
+        ensures value { plain_tern result ≡ source_tern trees.now (seen view.now.terns.now view.now.leads.now) source }
+        ensures shared { IsShared trees.now (length view.now.leads.now) (seen view.now.terns.now view.now.leads.now) self.new }
+    {
+        if self.tree != source.tree || self.first != source.first {
+            self.turn_to(source);
+            return evaluate(trees, source, view);
+        }
+        if let Some(bit) = self.kept(source.bit) {
+            return bit;
+        }
+        self.find(trees, source, view);
+        match self.kept(source.bit) {
+            Some(bit) => bit,
+            None => evaluate(trees, source, view),
+        }
+    }
+
+    /// More may be known of points from now on.
+    pub fn note_change(&mut self)
+        ensures { (trees : List Tree) (count : ℕ) (t u : PointTerns) → ((point : ℕ) → point < count → IsBelow (t point) (u point)) →
+            IsShared trees count t self.old → IsShared trees count u self.new }
+    {
+        self.exact = false;
+    }
+
+    // Another expression is looked at.
+    fn turn_to(&mut self, source: Source)
+        ensures { (trees : List Tree) (count : ℕ) (t : PointTerns) → IsShared trees count t self.new }
+    {
+        self.tree = source.tree;
+        self.first = source.first;
+        self.alone = false;
+        self.bits.clear();
+    }
+
+    // Finds all bits of the expression, where that is faster than each alone.
+    fn find(&mut self, trees: &[Tree], source: Source, view: &View)
+        requires fit { IsFitSource trees.now (length view.now.leads.now) source }
+        requires view { IsView view.now.terns.now view.now.leads.now }
+        requires small { length view.now.leads.now ≤ 2 ^ 32 }
+        requires tree { self.old.tree ≡ source.tree }
+        requires first { self.old.first ≡ source.first }
+        requires shared { IsShared trees.now (length view.now.leads.now) (seen view.now.terns.now view.now.leads.now) self.old }
+        ensures tree { self.new.tree ≡ source.tree }
+        ensures first { self.new.first ≡ source.first }
+        ensures shared { IsShared trees.now (length view.now.leads.now) (seen view.now.terns.now view.now.leads.now) self.new }
+    {
+        let tree = &trees[source.tree as usize];
+        if self.alone || !shares(tree) {
+            self.alone = true;
+            return;
+        }
+        match whole(*self.bits.allocator(), tree, source.first as usize, view) {
+            Ok(bits) => self.keep(bits),
+            Err(Memory) => self.alone = true,
+        }
+    }
+
+    // Keeps bits that have just been found.
+    fn keep(&mut self, bits: Vec<Tern>)
+        ensures tree { self.new.tree ≡ self.old.tree }
+        ensures first { self.new.first ≡ self.old.first }
+        ensures exact { self.new.exact ≡ true }
+        ensures bits { self.new.bits.items ≡ bits.items }
+    {
+        self.bits = bits;
+        self.exact = true;
+    }
+
+    // A bit that is kept, if it is right.
+    fn kept(&self, bit: u32) -> Option<Tern>
+        ensures is { IfSome result (λ kept. slice_get self.now.bits.items bit ≡ Some kept) }
+        ensures right { IfSome result (λ kept. self.now.exact ≡ false → is_known (plain_tern kept) ≡ true) }
+    {
+        let kept = *self.bits.get(bit as usize)?;
+        if self.exact || !kept.is_open() {
+            Some(kept)
+        } else {
+            None
+        }
+    }
+}
+
+// Whether bits of an expression rest on the same work: on what lower bits of a difference borrow, or on a test that is more than a point.
+fn shares(tree: &Tree) -> bool {
+    match tree {
+        Tree::Const(_) | Tree::Bits(_, _) | Tree::Pick(_, _, _) | Tree::Equal(_, _, _) => false,
+        Tree::Minus(_, _, _) => true,
+        Tree::Not(inner) => shares(inner),
+        Tree::Cat(left, _, right)
+        | Tree::And(left, right)
+        | Tree::Or(left, right)
+        | Tree::Xor(left, right) => shares(left) || shares(right),
+        Tree::Cond(test, yes, no) => takes_long(test) || shares(yes) || shares(no),
+    }
+}
+
+// Whether a bit of an expression takes longer than a few points.
+fn takes_long(tree: &Tree) -> bool {
+    match tree {
+        Tree::Const(_) | Tree::Bits(_, _) => false,
+        Tree::Pick(_, _, _) | Tree::Equal(_, _, _) | Tree::Minus(_, _, _) => true,
+        Tree::Not(inner) => takes_long(inner),
+        Tree::Cat(left, _, right)
+        | Tree::And(left, right)
+        | Tree::Or(left, right)
+        | Tree::Xor(left, right) => takes_long(left) || takes_long(right),
+        Tree::Cond(test, yes, no) => takes_long(test) || takes_long(yes) || takes_long(no),
+    }
+}
