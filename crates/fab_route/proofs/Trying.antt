@@ -1,5 +1,5 @@
 -- Runs that may have ended before their last round.
-use Rattle.std.proofs.Common.{◌≡◌, ℕ, ◌≤◌, Bool, true, false, length, Option, Some, None, IfSome, refl, sym, subst, inl, inr}
+use Rattle.std.proofs.Common.{◌≡◌, ℕ, ◌≤◌, Bool, true, false, List, length, Option, Some, None, IfSome, refl, sym, subst, inl, inr}
 use Rattle.std.proofs.lemmas.Bool.{cases_Bool}
 use Rattle.fab_pathfinder.specs.declared.rounds.Routed.{Routed}
 use Rattle.fab_pathfinder.specs.Rounds.{Net}
@@ -27,7 +27,7 @@ run_at graph nets allowed patient run is few all unshared = record {
   unshared = is.unshared;
   shared = is.shared;
   all_rounds = elim (cases_Bool patient) [
-    | inl yes ↦ all yes
-    | inr no ↦ none_left run.shared (length run.rounds.items ≡ allowed) (unshared no)
+    | inl t ↦ all t
+    | inr f ↦ none_left run.shared (length run.rounds.items ≡ allowed) (unshared f)
   ];
 }

@@ -1,4 +1,4 @@
-use Rattle.std.proofs.Common.{ℕ, List, length, Option, IfSome, sym, ◌∙◌, subst}
+use Rattle.std.proofs.Common.{List, length, Option, IfSome, sym, ◌∙◌, subst, arith}
 use Rattle.std.specs.List.{All}
 use Rattle.std.proofs.lemmas.Option.{IfSome_then}
 use Rattle.std.proofs.lemmas.Result.{IfOk-weaker}
@@ -18,14 +18,14 @@ use Rattle.fab_route.proofs.router.route_by.Goals as goal
 
 pub run_rounds-requires-clause-nets : goal.run_rounds-requires-clause-nets
 run_rounds-requires-clause-nets g c =
-    subst (λ (ns : List Net). All (IsInside (graph_of c.in_ok-nodes.nodes).nodes) ns) (sym c.deref.ensures.value) c.in_ok-nets.ensures.inside
+    subst (λ (ns : List Net). All (IsInside (graph_of c.in_ok-nodes.nodes).nodes) ns) (sym c.deref-2.ensures.value) c.in_ok-nets.ensures.inside
 
 pub returns-in-Err-clause-fault : goal.returns-in-Err-clause-fault
 returns-in-Err-clause-fault g c = c.no_path.ensures c.args.rounds
 
 pub tell_found-requires-clause-run : goal.tell_found-requires-clause-run
 tell_found-requires-clause-run g c =
-    subst (λ (ns : List Net). IsNodeRun (graph_of c.in_ok-nodes.nodes) (nets_of ns) (length c.in-Ok.run'.rounds.items) c.in-Ok.run') (c.deref.ensures.value ∙ sym c.deref-in-Ok.ensures.value) (record {
+    subst (λ (ns : List Net). IsNodeRun (graph_of c.in_ok-nodes.nodes) (nets_of ns) (length c.in-Ok.run'.rounds.items) c.in-Ok.run') (c.deref-2.ensures.value ∙ sym c.deref-in-Ok.ensures.value) (record {
       run = rw c.in-Ok.is at c.in_ok-cut.ensures.run;
       some_rounds = (rw c.in-Ok.is at c.in_ok-cut.ensures.begun) c.requires.some;
       few_rounds = omega arith;

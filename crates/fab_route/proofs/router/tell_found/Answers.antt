@@ -1,4 +1,4 @@
-use Rattle.std.proofs.Common.{length, omega, arith}
+use Rattle.std.proofs.Common.{length}
 use Rattle.fab_pathfinder.specs.Plain.{nets_of}
 use Rattle.fab_route.specs.Plain.{graph_of}
 use Rattle.fab_route.proofs.Telling.{one_shared, is_left}
