@@ -23,8 +23,9 @@ def special_input(chance, name, content):
     own = name.encode()
     kinds = [(Folder(), {}), (Link(own), {}), (Link(b"other"), {"other": Link(own)}), (Link(b"gone"), {}), (Link(b"gone/x"), {}),
              (Link(b"there"), {"there": content}), (Link(b"in/" + own), {"in/" + name: content}), (Link(own + b"/x"), {}), (Socket(), {}),
-             (Closed(content), {}), (Link(b"/proc/self/mem"), {}), (Link(b"/dev/null"), {}), (None, {name + "/x": b""}), (LIMIT + 1, {})]
-    return chance.choice(kinds)
+             (Closed(content), {}), (Link(b"/proc/self/mem"), {}), (Link(b"/dev/null"), {}), (None, {name + "/x": b""})]
+    # a file that is too long takes a second to be read
+    return chance.choice(kinds) if chance.randrange(40) else (LIMIT + 1, {})
 
 
 def make_inputs(chance):

@@ -7,6 +7,7 @@ use crate::board::Board;
 use crate::lots::Lots;
 use crate::placement::Placement;
 use crate::telling::tell_step;
+use crate::ties::Ties;
 use fab_progress::Progress;
 use rand_core::SeedableRng;
 use rand_core::utils::NextWord;
@@ -61,8 +62,14 @@ const STEPS: [(u32, u32); 40] = [
 /// How many steps there are.
 const STEP_COUNT: u32 = 40;
 
-/// How many exchanges a step tries for each item that there is. The items are drawn.
-const TRIES: u32 = 40;
+/// How many exchanges all steps together try for each item that there is. The items are drawn.
+const TRIES: u32 = 2000;
+
+/// By how much each item makes the first step hotter, in 1/65,536, and how hot it is at least. A board of few items has its order
+/// while it is warm, so hot steps would be lost on it; all steps are for boards of more than a thousand items.
+const HEAT: u32 = 170;
+
+const LEAST_HEAT: u32 = 40000;
 
 /// How often a tile is drawn for an exchange.
 const DRAWS: u32 = 8;
@@ -71,11 +78,14 @@ const DRAWS: u32 = 8;
 #[derive(Clone, Copy)]
 struct Step {
     temperature: u32,
+    /// How many exchanges it tries for each item.
+    tries: u32,
     /// How far an item may go in each direction.
     window: u32,
     /// The greatest column and the greatest row.
     last_column: u32,
     last_row: u32,
+    ghost bounded: { tries ≤ 2000 },
     ghost narrow: { window ≤ 8 },
     ghost few_columns: { last_column ≤ 31 },
     ghost few_rows: { last_row ≤ 31 },
@@ -111,7 +121,8 @@ fn draw_near(random: &mut Lcg64Xsh32, place: u32, window: u32, last: u32) -> u32
     low + below(random, high - low + 1)
 }
 
-/// A random site in a tile not far from that of a site, and of the same kind; none where the tile has none.
+/// A random site in another tile not far from that of a site, and of the same kind; none where the tile that is drawn has none, or
+/// is that of the site: an exchange within a tile changes nothing.
 fn draw_in_tile(
     board: &Board,
     lots: &Lots,
@@ -126,8 +137,12 @@ fn draw_in_tile(
     ensures kind { IfSome result (λ site. is_second board.now site ≡ is_second board.now from) }
 {
     let second = board.is_second(from);
-    let column = draw_near(random, board.column(from), step.window, step.last_column);
-    let row = draw_near(random, board.row(from), step.window, step.last_row);
+    let (x, y) = (board.column(from), board.row(from));
+    let column = draw_near(random, x, step.window, step.last_column);
+    let row = draw_near(random, y, step.window, step.last_row);
+    if column == x && row == y {
+        return None;
+    }
     let lot = lots.at(second, column, row);
     let count = lot.len();
     if count == 0 {
@@ -137,7 +152,8 @@ fn draw_in_tile(
     Some(lot[place])
 }
 
-/// A random site of the kind of a site, not far from it. Sites of the second kind stand in few tiles, so a tile without one is drawn again.
+/// A random site of the kind of a site, in another tile not far from it. Sites of the second kind stand in few tiles, so a tile without
+/// one is drawn again.
 fn draw_site(
     board: &Board,
     lots: &Lots,
@@ -159,12 +175,13 @@ fn draw_site(
     None
 }
 
-/// Tries one random exchange.
+/// Tries one random exchange. Most would raise the cost by too much, and for most of those the spans of the nets tell so at once.
 #[tactic(auto, using(crate::proofs::Falling::keeps_refl))]
 fn try_random(
     placement: &mut Placement,
     board: &Board,
     lots: &Lots,
+    ties: &Ties,
     random: &mut Lcg64Xsh32,
     step: Step,
 ) -> Result<(), AllocError>
@@ -186,7 +203,11 @@ fn try_random(
     if !placement.is_loose(board, item, site) {
         return Ok(());
     }
-    let most = placement.cost() + allowed(step.temperature, random.next_word());
+    let room = allowed(step.temperature, random.next_word());
+    if !placement.may_rise_within(board, ties, item, site, room) {
+        return Ok(());
+    }
+    let most = placement.cost() + room;
     let _taken = placement.exchange_below(board, item, site, most)?;
     Ok(())
 }
@@ -196,6 +217,7 @@ fn anneal_at(
     placement: &mut Placement,
     board: &Board,
     lots: &Lots,
+    ties: &Ties,
     random: &mut Lcg64Xsh32,
     step: Step,
 ) -> Result<(), AllocError>
@@ -206,18 +228,32 @@ fn anneal_at(
     ensures kept { OnOk result (IsKept board.now placement.new) }
     ensures keeps { OnOk result (Keeps board.now placement.old.sites.items placement.new.sites.items) }
 {
-    for _try in 0..TRIES * board.locked.len() as u32 {
-        try_random(placement, board, lots, random, step)?;
+    for _try in 0..step.tries * board.locked.len() as u32 {
+        try_random(placement, board, lots, ties, random, step)?;
     }
     Ok(())
 }
 
-/// Goes through all steps, with random numbers from a seed.
+/// How hot the first step of a board of so many items may be.
+fn hottest(items: usize) -> u32 {
+    HEAT.saturating_mul(items as u32).max(LEAST_HEAT)
+}
+
+/// How many tries each step makes for an item, where steps above a temperature are left out.
+fn tries_below(hottest: u32) -> u32
+    ensures { result ≤ 2000 }
+{
+    let steps = STEPS.iter().filter(|step| step.0 <= hottest).count();
+    TRIES / (steps as u32).max(1)
+}
+
+/// Goes through the steps that a board of so many items needs, with random numbers from a seed.
 pub fn anneal<P: Progress>(
     progress: &mut P,
     placement: &mut Placement,
     board: &Board,
     lots: &Lots,
+    ties: &Ties,
     seed: u64,
 ) -> Result<(), AllocError>
     requires board { IsBoard board.now }
@@ -232,17 +268,23 @@ pub fn anneal<P: Progress>(
     let last_column = last_of(&board.columns);
     let last_row = last_of(&board.rows);
     let widest = last_column.max(last_row) / 4;
+    let hottest = hottest(board.locked.len());
+    let tries = tries_below(hottest);
     let mut random = Lcg64Xsh32::seed_from_u64(seed);
     let mut done: u32 = 0;
     for (temperature, share) in STEPS {
+        done = done.saturating_add(1);
+        if hottest < temperature {
+            continue;
+        }
         let step = Step {
             temperature,
+            tries,
             window: 1 + (widest.saturating_mul(share) / 256).min(7),
             last_column,
             last_row,
         };
-        anneal_at(placement, board, lots, &mut random, step)?;
-        done = done.saturating_add(1);
+        anneal_at(placement, board, lots, ties, &mut random, step)?;
         tell_step(progress, placement, done, STEP_COUNT);
     }
     Ok(())

@@ -4,6 +4,7 @@ ghost use Rattle.fab_annealing.specs.Spans.{span_of};
 ghost use Rattle.fab_annealing.specs.Measured.{IsNets, HasMoved, IsMeasured, IsShaped, IsRight, IsStretched, AreNoted, AreRenewed, item_count, net_count, items_of, no_span, width, undone};
 
 use crate::nets::Nets;
+use crate::ties::Change;
 use std::alloc::{AllocError, Global};
 
 /// The least and the greatest of some places.
@@ -32,6 +33,26 @@ impl Span {
             low: self.low.min(to),
             high: self.high.max(to),
         })
+    }
+
+    /// How its width changes where one of the places changes: it rises by what lies beyond it, and falls at most up to the new place.
+    fn forecast(self, from: u32, to: u32) -> Change {
+        let beyond = to.saturating_sub(self.high);
+        let before = self.low.saturating_sub(to);
+        let left = if from == self.low {
+            to.min(self.high).saturating_sub(self.low)
+        } else {
+            0
+        };
+        let right = if from == self.high {
+            self.high.saturating_sub(to.max(self.low))
+        } else {
+            0
+        };
+        Change {
+            rise: beyond.saturating_add(before),
+            fall: left.saturating_add(right),
+        }
     }
 }
 
@@ -90,6 +111,21 @@ impl Axis {
         ensures { result ≡ self.now.total }
     {
         self.total
+    }
+
+    /// What the spans tell of the sum of the widths, where an item that only these nets tie comes from a place to another. It is as if
+    /// no other item stood at the end of a span that the item leaves.
+    pub fn forecast(&self, nets: &[u32], from: u32, to: u32) -> Change {
+        let mut change = Change::NONE;
+        if from == to {
+            return change;
+        }
+        for net in nets {
+            if let Some(span) = self.spans.get(*net as usize) {
+                change = change.and(span.forecast(from, to));
+            }
+        }
+        change
     }
 
     /// Writes the place of an item, and leaves the spans as they are.

@@ -10,6 +10,7 @@ mod nets;
 mod placement;
 mod placing;
 mod telling;
+mod ties;
 
 pub use board::Board;
 pub use nets::Nets;

@@ -6,6 +6,7 @@ ghost use Rattle.fab_annealing.specs.inner.Standing.{IsLaid, IsKept, AreStanding
 
 use crate::axis::Axis;
 use crate::board::Board;
+use crate::ties::{Change, Ties};
 use std::alloc::{AllocError, Global};
 
 /// The site of each item and the item of each site, with the spans of the nets in both directions.
@@ -71,6 +72,44 @@ impl Placement {
             None => true,
             Some(other) => !board.locked[other as usize],
         }
+    }
+
+    /// What the spans tell of an item that goes from a site to another.
+    fn forecast(&self, board: &Board, ties: &Ties, item: u32, from: u32, to: u32) -> Change
+        requires board { IsBoard board.now }
+        requires from { from < site_count board.now }
+        requires to { to < site_count board.now }
+    {
+        let nets = ties.at(item);
+        let across = self
+            .across
+            .forecast(nets, board.column(from), board.column(to));
+        let down = self.down.forecast(nets, board.row(from), board.row(to));
+        across.and(down)
+    }
+
+    /// Whether the exchange of an item with what stands on a site may raise the cost by this much at most. Where it says no, the
+    /// cost would surely rise by more.
+    pub fn may_rise_within(
+        &self,
+        board: &Board,
+        ties: &Ties,
+        item: u32,
+        site: u32,
+        room: u64,
+    ) -> bool
+        requires board { IsBoard board.now }
+        requires kept { IsKept board.now self.now }
+        requires item { item < length self.now.sites.items }
+        requires site { site < site_count board.now }
+    {
+        let from = self.sites[item as usize];
+        let here = self.forecast(board, ties, item, from, site);
+        let there = match self.items[site as usize] {
+            None => Change::NONE,
+            Some(other) => self.forecast(board, ties, other, site, from),
+        };
+        here.and(there).may_be_within(room)
     }
 
     /// Puts an item on a site, and leaves the spans of its nets as they are.

@@ -7,6 +7,7 @@ use crate::board::Board;
 use crate::descent::descend;
 use crate::lots::Lots;
 use crate::placement::Placement;
+use crate::ties::Ties;
 use fab_progress::Progress;
 use std::alloc::{AllocError, Global};
 
@@ -32,7 +33,8 @@ pub fn settled<P: Progress>(
     let lots = Lots::of(alloc, board)?;
     let mut placement = Placement::new(alloc, board, sites)?;
     let start = placement.cost();
-    anneal(progress, &mut placement, board, &lots, seed)?;
+    let ties = Ties::of(alloc, &board.nets)?;
+    anneal(progress, &mut placement, board, &lots, &ties, seed)?;
     descend(&mut placement, board, &lots)?;
     if placement.cost() <= start {
         return Ok(placement.into_sites());

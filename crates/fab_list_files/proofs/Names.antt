@@ -225,6 +225,10 @@ pub any_crosses : (sides : PlainSides) (pairs tried : List Pair) → HasSides si
 any_crosses sides pairs [] has = refl
 any_crosses sides pairs (pair ∷ tried) has = λ j. (has.inputs pair.0 j || has.outputs pair.1 j) || any_crosses sides pairs tried has j
 
+pub or_true : (b : Bool) → (b || true) ≡ true
+or_true true = refl
+or_true false = refl
+
 -- some pass one of two tests
 pub any_either : {X : Type 0} (first second : X → Bool) (xs : List X) → list_any (λ x. first x || second x) xs ≡ (list_any first xs || list_any second xs)
 any_either first second [] = refl
@@ -235,7 +239,3 @@ any_either first second (x ∷ xs) = elim (cases_Bool (first x)) [
     | inr n ↦ rw n (any_either first second xs)
   ])
 ]
-  where
-    or_true : (b : Bool) → (b || true) ≡ true
-    or_true true = refl
-    or_true false = refl

@@ -24,4 +24,5 @@ pub mod Determined
 pub mod Contract
 pub mod Stepping
 pub mod Looping
+pub mod InWord
 pub mod Feeding

@@ -1,6 +1,6 @@
 //! A text is read byte by byte, and its first token that cannot stand there is reported.
 
-ghost use Rattle.std.specs.Prelude.{◌≡◌, ◌≤◌, ◌<◌, ◌+◌, length, map};
+ghost use Rattle.std.specs.Prelude.{◌≡◌, ◌≤◌, ◌<◌, ◌+◌, ℕ, List, length, map, IfOk};
 ghost use Rattle.fab_base.specs.Reading.{Gives};
 ghost use Rattle.fab_syntax.specs.Plain.{plain_module, plain_text};
 ghost use Rattle.fab_vread.specs.inner.Progress.{plain_progress};
@@ -11,7 +11,8 @@ use crate::expressions::{MAX_BITS, Over};
 use crate::levels::MAX_DEPTH;
 use crate::parser::{Parser, State, put};
 use crate::places::{Header, Place};
-use fab_base::{Fault, Name, Problem, Quantity, Reason};
+use crate::words::word_len;
+use fab_base::{Fault, Memory, Name, Problem, Quantity, Reason};
 use fab_syntax::Text;
 use fab_tokens::{Scan, Token, finish, take_byte};
 use std::alloc::Global;
@@ -132,7 +133,26 @@ impl Progress {
         Ok(())
     }
 
-    /// Takes bytes of a text.
+    /// Takes the word that begins at the front where no token is in progress, all its bytes at once; nothing elsewhere. Gives what is left.
+    fn take_word<'b>(&mut self, alloc: Global, bytes: &'b [u8]) -> Result<&'b [u8], Memory>
+        ensures read { IfOk result (λ rest. (file : List ℕ) → read_from file (plain_progress self.old) bytes.now ≡ read_from file (plain_progress self.new) rest.now) }
+        ensures shorter { IfOk result (λ rest. length rest.now ≤ length bytes.now) }
+        ensures line { self.new.line ≡ self.old.line }
+    {
+        if !matches!(self.scan, Scan::Between) {
+            return Ok(bytes);
+        }
+        let (word, rest) = bytes.split_at(word_len(bytes));
+        if word.is_empty() {
+            return Ok(bytes);
+        }
+        let word = Name::of(alloc, word)?;
+        put(&mut self.scan, Scan::Word(word));
+        self.last = self.line;
+        Ok(rest)
+    }
+
+    /// Takes bytes of a text. Most of them stand in words.
     pub(crate) fn take_bytes(
         &mut self,
         alloc: Global,
@@ -146,7 +166,7 @@ impl Progress {
         let mut rest = bytes;
         while let Some((byte, after)) = rest.split_first() {
             self.take_byte(alloc, file, *byte)?;
-            rest = after;
+            rest = self.take_word(alloc, after)?;
         }
         Ok(())
     }

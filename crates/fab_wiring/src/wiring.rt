@@ -13,7 +13,7 @@ ghost use Rattle.fab_wiring.specs.inner.Trees.{AreTrees, AreKept};
 use crate::clocks::{Clocks, clocks_of};
 use crate::trees::Trees;
 use fab_base::Memory;
-use fab_equations::{Driver, Equations};
+use fab_equations::{Cursor, Driver, Equations};
 use fab_meaning::laws::points_of_sound_texts_have_one_driver;
 use fab_network::{Drive, Network};
 use std::alloc::Global;
@@ -44,8 +44,9 @@ fn drives_of(alloc: Global, equations: &Equations, trees: &mut Trees) -> Result<
     points_of_sound_texts_have_one_driver();
     let clocks = clocks_of(equations);
     let mut drives = Vec::with_capacity(alloc, equations.points() as usize)?;
+    let mut cursor = Cursor::new();
     for point in 0..equations.points() {
-        let driver = equations.driver(point);
+        let driver = equations.driver_near(point, &mut cursor);
         drives.push(drive_of(alloc, equations, clocks, trees, driver)?)?;
     }
     Ok(drives)

@@ -87,61 +87,61 @@ pub take_rows-returns-in_err-take_row-clause-cause : goal.take_rows-returns-in_e
 take_rows-returns-in_err-take_row-clause-cause g t c =
     let residual = err_from_is_err_and c.from_residual-in_err-take_row.result c.from_residual-in_err-take_row.ensures.1 in
     let known = g.S.ListState.known c.args.state.now in
-    let here = g.S.ListState.known c.loop-rest.state in
+    let here = g.S.ListState.known c.loop-row.state in
     let before = g.S.ListState.pairs c.args.state.now in
-    let pairs = g.S.ListState.pairs c.loop-rest.state in
+    let pairs = g.S.ListState.pairs c.loop-row.state in
     let told = g.D.Desk.told c.args.desk.now in
-    let now_told = g.D.Desk.told c.loop-rest.desk in
+    let now_told = g.D.Desk.told c.loop-row.desk in
     let reads = g.D.Desk.reads in
     let rows = rows_of c.args.bytes.now in
     let file = c.args.file.now in
     let left = c.args.left in
     let row = c.in-Some.row in
-    rw (residual.1, residual.2) (cause_weaker now_told told (reads c.loop-rest.desk < reads c.take_row.new.desk) (reads c.args.desk.now < reads c.take_row.new.desk)
+    rw (residual.1, residual.2) (cause_weaker now_told told (reads c.loop-row.desk < reads c.take_row.new.desk) (reads c.args.desk.now < reads c.take_row.new.desk)
     (λ files. MeetsRow files here left file pairs row) (λ files. MeetsList files known left file before rows) c.in_err-take_row.field-0.0
-    c.loop-rest.invariant.told (λ r. omega (arith, r, c.loop-rest.invariant.reads))
+    c.loop-row.invariant.told (λ r. omega (arith, r, c.loop-row.invariant.reads))
     (λ files is event met.
-    leads_to_event files known left file before rows pairs row (rows_at c.loop-rest.line c.loop-rest.rest.now) (rows_at (row.line + 1) c.in-Some.after.now) event
+    leads_to_event files known left file before rows pairs row (rows_at c.loop-row.line c.loop-row.rest.now) (rows_at (row.line + 1) c.in-Some.after.now) event
     (rw c.in-Some.is at c.in_ok-row.ensures.next)
-    (c.loop-rest.invariant.on files is)
-    (subst (λ (k : Knowledge). MeetsRow files k left file pairs row event) c.loop-rest.invariant.known met))
+    (c.loop-row.invariant.on files is)
+    (subst (λ (k : Knowledge). MeetsRow files k left file pairs row event) c.loop-row.invariant.known met))
     c.in_err-take_row.ensures.cause)
 
-pub take_rows-loop-rest-preserved : goal.take_rows-loop-rest-preserved
-take_rows-loop-rest-preserved g t c =
+pub take_rows-loop-row-preserved : goal.take_rows-loop-row-preserved
+take_rows-loop-row-preserved g t c =
     let known = g.S.ListState.known c.args.state.now in
     let before = g.S.ListState.pairs c.args.state.now in
-    let pairs = g.S.ListState.pairs c.loop-rest.state in
+    let pairs = g.S.ListState.pairs c.loop-row.state in
     let next = g.S.ListState.pairs c.take_row.new.state in
     let file = c.args.file.now in
     let left = c.args.left in
     let row = c.in-Some.row in
     let after = c.in-Some.after.now in
     let line : c.row.inside.line ≡ row.line = ap (λ (r : PlainRow). r.line) c.row.view_is in
-    let cut : rows_at c.loop-rest.line c.loop-rest.rest.now ≡ row ∷ rows_at (row.line + 1) after = rw c.in-Some.is at c.in_ok-row.ensures.next in
-    let numbered : row.line + 1 + length after ≤ c.loop-rest.line + length c.loop-rest.rest.now = rw c.in-Some.is at c.in_ok-row.ensures.numbered in
-    let shorter : length after < length c.loop-rest.rest.now = rw c.in-Some.is at c.in_ok-row.ensures.shorter in
+    let cut : rows_at c.loop-row.line c.loop-row.rest.now ≡ row ∷ rows_at (row.line + 1) after = rw c.in-Some.is at c.in_ok-row.ensures.next in
+    let numbered : row.line + 1 + length after ≤ c.loop-row.line + length c.loop-row.rest.now = rw c.in-Some.is at c.in_ok-row.ensures.numbered in
+    let shorter : length after < length c.loop-row.rest.now = rw c.in-Some.is at c.in_ok-row.ensures.shorter in
     record {
-      told = c.in_ok-take_row.ensures.told ∙ c.loop-rest.invariant.told;
-      writes = c.in_ok-take_row.ensures.writes ∙ c.loop-rest.invariant.writes;
-      reads = omega (arith, c.in_ok-take_row.ensures.reads, c.loop-rest.invariant.reads);
-      known = c.in_ok-take_row.ensures.known ∙ c.loop-rest.invariant.known;
+      told = c.in_ok-take_row.ensures.told ∙ c.loop-row.invariant.told;
+      writes = c.in_ok-take_row.ensures.writes ∙ c.loop-row.invariant.writes;
+      reads = omega (arith, c.in_ok-take_row.ensures.reads, c.loop-row.invariant.reads);
+      known = c.in_ok-take_row.ensures.known ∙ c.loop-row.invariant.known;
       on = λ files is.
-          leads_further files known left file before (rows_of c.args.bytes.now) pairs next row (rows_at c.loop-rest.line c.loop-rest.rest.now) (rows_at (c.row.inside.line + 1) after)
+          leads_further files known left file before (rows_of c.args.bytes.now) pairs next row (rows_at c.loop-row.line c.loop-row.rest.now) (rows_at (c.row.inside.line + 1) after)
           (cut ∙ ap (λ n. row ∷ rows_at (n + 1) after) (sym line))
-          (c.loop-rest.invariant.on files is)
-          (subst (λ (k : Knowledge). RowLeads files k left file pairs row next) c.loop-rest.invariant.known (c.in_ok-take_row.ensures.read files (c.loop-rest.invariant.told ∙ is)));
-      small = omega (arith, shorter, c.loop-rest.invariant.small);
-      room = omega (arith, line, numbered, c.loop-rest.invariant.room);
+          (c.loop-row.invariant.on files is)
+          (subst (λ (k : Knowledge). RowLeads files k left file pairs row next) c.loop-row.invariant.known (c.in_ok-take_row.ensures.read files (c.loop-row.invariant.told ∙ is)));
+      small = omega (arith, shorter, c.loop-row.invariant.small);
+      room = omega (arith, line, numbered, c.loop-row.invariant.room);
     }
 
 pub take_rows-returns-clause-read : goal.take_rows-returns-clause-read
 take_rows-returns-clause-read g t c = λ files is.
     let known = g.S.ListState.known c.args.state.now in
     let before = g.S.ListState.pairs c.args.state.now in
-    let pairs = g.S.ListState.pairs c.loop-rest.state in
-    leads_to_end files known c.args.left c.args.file.now before (rows_of c.args.bytes.now) pairs (rows_at c.loop-rest.line c.loop-rest.rest.now)
-    (rw c.in_default.is at c.in_ok-row.ensures.next) (c.loop-rest.invariant.on files is)
+    let pairs = g.S.ListState.pairs c.loop-row.state in
+    leads_to_end files known c.args.left c.args.file.now before (rows_of c.args.bytes.now) pairs (rows_at c.loop-row.line c.loop-row.rest.now)
+    (rw c.in_default.is at c.in_ok-row.ensures.next) (c.loop-row.invariant.on files is)
 
 pub read_list_file-returns-in_err-bytes-clause-supported : goal.read_list_file-returns-in_err-bytes-clause-supported
 read_list_file-returns-in_err-bytes-clause-supported g t c =

@@ -17,8 +17,8 @@ abbrev pub decreases-take_row : goal.decreases-take_row
 decreases-take_row g l = 3 * depth l.holder.now
 
 -- what all rows come to, the rest of them comes to from here
-abbrev pub invariant-take_rows-loop-rest : goal.invariant-take_rows-loop-rest
-invariant-take_rows-loop-rest g l = record {
+abbrev pub invariant-take_rows-loop-row : goal.invariant-take_rows-loop-row
+invariant-take_rows-loop-row g l = record {
   told : g.D.Desk.told l.desk ≡ g.D.Desk.told l.fn.desk;
   writes : g.D.Desk.writes l.desk ≡ g.D.Desk.writes l.fn.desk;
   reads : g.D.Desk.reads l.fn.desk ≤ g.D.Desk.reads l.desk;
@@ -28,5 +28,5 @@ invariant-take_rows-loop-rest g l = record {
   room : l.line + length l.rest ≤ length l.bytes + 1;
 }
 
-abbrev pub decreases-take_rows-loop-rest : goal.decreases-take_rows-loop-rest
-decreases-take_rows-loop-rest g l = length l.rest
+abbrev pub decreases-take_rows-loop-row : goal.decreases-take_rows-loop-row
+decreases-take_rows-loop-row g l = length l.rest

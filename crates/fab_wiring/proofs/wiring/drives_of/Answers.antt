@@ -7,7 +7,7 @@ pub loop-point-preserved : goal.loop-point-preserved
 loop-point-preserved c = (
   c.in_ok-drive_of.ensures.trees,
   more_driven (plain_text c.args.equations.now) c.loop-point.trees.trees.items c.drive_of.new.trees.trees.items c.in_ok-drive_of.ensures.kept c.loop-point.point
-      c.loop-point.drives.items c.push.new.self.items c.in_ok-drive_of.field-0 c.driver-driver.result c.in_ok-push.ensures.items c.driver-driver.ensures.drives
+      c.loop-point.drives.items c.push.new.self.items c.in_ok-drive_of.field-0 c.driver_near-driver.result c.in_ok-push.ensures.items c.driver_near-driver.ensures.drives
       c.in_ok-drive_of.ensures.drive c.in_ok-drive_of.ensures.fit c.loop-point.invariant.1,
 )
 

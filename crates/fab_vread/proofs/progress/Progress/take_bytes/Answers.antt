@@ -23,8 +23,11 @@ loop-byte-preserved c =
     let shorter = c.in-Some.ensures.cases.1 in
     let near = c.in_ok-take_byte.ensures.line in
     let lines = c.loop-byte.invariant.lines in
+    let left = c.in_ok-rest.ensures.shorter in
+    let same = c.in_ok-rest.ensures.line in
     record {
-      so_far = byte_taken file p (plain_progress c.take_byte.new.self) c.in-Some.byte.now c.in-Some.after.now (read_from file (plain_progress c.args.self.now) c.args.bytes.now)
+      so_far = sym (c.in_ok-rest.ensures.read file)
+          ∙ byte_taken file p (plain_progress c.take_byte.new.self) c.in-Some.byte.now c.in-Some.after.now (read_from file (plain_progress c.args.self.now) c.args.bytes.now)
           c.in_ok-take_byte.ensures.given so_far;
       lines = omega arith;
     }
