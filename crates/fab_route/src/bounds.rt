@@ -93,11 +93,13 @@ impl Bounds {
 // How long a signal takes from a spot in a table, where so much is left to pay: what falls by 2 for each step, and the distance of the
 // tiles, which are 32 where they are one.
 fn ahead_at(at: usize, left: u32) -> u32 {
-    let across = (at / 64 % 64).abs_diff(32) as u32;
-    let down = (at % 64).abs_diff(32) as u32;
-    (left / 2)
+    let across = (at / 64 % 64) as u32;
+    let down = (at % 64) as u32;
+    let tiles = across.abs_diff(32).saturating_add(down.abs_diff(32));
+    let steps = left / 2;
+    steps
         .saturating_mul(STEP)
-        .saturating_add((across + down) * TILE)
+        .saturating_add(tiles.saturating_mul(TILE))
 }
 
 // That entries are bytes.
