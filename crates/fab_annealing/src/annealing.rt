@@ -236,7 +236,8 @@ fn anneal_at(
 
 /// How hot the first step of a board of so many items may be.
 fn hottest(items: usize) -> u32 {
-    HEAT.saturating_mul(items as u32).max(LEAST_HEAT)
+    let items = u32::try_from(items).unwrap_or(u32::MAX);
+    HEAT.saturating_mul(items).max(LEAST_HEAT)
 }
 
 /// How many tries each step makes for an item, where steps above a temperature are left out.

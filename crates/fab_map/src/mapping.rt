@@ -1,6 +1,6 @@
 //! Placing and routing, one behind the other.
 
-ghost use Rattle.std.specs.Prelude.{◌≤◌, IfOk, IfErr};
+ghost use Rattle.std.specs.Prelude.{◌≡◌, ◌≤◌, Ok, None, IfOk, IfErr, IfSome};
 ghost use Rattle.fab_implementation.specs.OnFabric.{IsOnFabric};
 ghost use Rattle.fab_legal.specs.Legal.{IsLegal};
 ghost use Rattle.fab_ways_laws.specs.Placing.{IsGoodPlacement};
@@ -17,11 +17,12 @@ use fab_implementation::{Fixed, Implementation};
 use fab_netlist::Packed;
 use fab_place::place_with_progress;
 use fab_progress::{Progress, Silent, Step};
-use fab_route::route_with_progress;
+use fab_route::{route_with_progress, try_route};
 use std::alloc::Global;
 
 /// Maps a design onto a fabric: places it, and routes its nets in at most so many rounds. Where nets share a wire after the
-/// last round, it is tried again with the next seed, twice at most. The same seed gives the same implementation.
+/// last round, it is tried again with the next seed, twice at most. A try before the last ends earlier where it gets no better,
+/// as `try_route` of `fab_route` says. The same seed gives the same implementation.
 ///
 /// The fault is `NoPath` where no walk leads from a net to one of its sinks, with the text of the placement. It is `Overused`
 /// where nets share a wire after the last round of the last try, with the text of the placement and the trees of that round.
@@ -67,15 +68,21 @@ pub fn map_with_progress<P: Progress>(
     ensures inputs { IfOk result InputsAreLines }
     ensures cause { IfErr result (HasMapCause fabric.now packed.now fixed.now rounds) }
 {
-    let first = attempt(alloc, progress, fabric, packed, fixed, seed, rounds);
+    if let Some(mapped) = try_seed(alloc, progress, fabric, packed, fixed, seed, rounds)? {
+        return Ok(mapped);
+    }
     let next = seed.wrapping_add(1);
-    let second = again(alloc, progress, fabric, packed, fixed, next, rounds, first);
+    progress.tell(Step::Retrying { seed: next });
+    if let Some(mapped) = try_seed(alloc, progress, fabric, packed, fixed, next, rounds)? {
+        return Ok(mapped);
+    }
     let last = seed.wrapping_add(2);
-    again(alloc, progress, fabric, packed, fixed, last, rounds, second)
+    progress.tell(Step::Retrying { seed: last });
+    attempt(alloc, progress, fabric, packed, fixed, last, rounds)
 }
 
-/// Another attempt where one left a wire shared.
-fn again<P: Progress>(
+/// Places a design, and routes it as long as that gets better; none where nets share a wire in the end.
+fn try_seed<P: Progress>(
     alloc: Global,
     progress: &mut P,
     fabric: &Fabric,
@@ -83,30 +90,55 @@ fn again<P: Progress>(
     fixed: &Fixed,
     seed: u64,
     rounds: u32,
-    before: Result<Implementation, Fault>,
-) -> Result<Implementation, Fault>
+) -> Result<Option<Implementation>, Fault>
     requires fits { Fits fabric.now packed.now }
     requires fixed { AreFixed fabric.now packed.now fixed.now }
     requires some { 1 ≤ rounds }
     requires few { rounds ≤ 64 }
-    requires mapping { IfOk before (IsMapping fabric.now packed.now fixed.now rounds) }
-    requires legal { IfOk before (IsLegal fabric.now packed.now fixed.now) }
-    requires on_fabric { IfOk before (IsOnFabric fabric.now) }
-    requires inputs { IfOk before InputsAreLines }
-    requires cause { IfErr before (HasMapCause fabric.now packed.now fixed.now rounds) }
-    ensures mapping { IfOk result (IsMapping fabric.now packed.now fixed.now rounds) }
-    ensures legal { IfOk result (IsLegal fabric.now packed.now fixed.now) }
-    ensures on_fabric { IfOk result (IsOnFabric fabric.now) }
-    ensures inputs { IfOk result InputsAreLines }
+    ensures mapping { IfOk result (λ found. IfSome found (IsMapping fabric.now packed.now fixed.now rounds)) }
+    ensures legal { IfOk result (λ found. IfSome found (IsLegal fabric.now packed.now fixed.now)) }
+    ensures on_fabric { IfOk result (λ found. IfSome found (IsOnFabric fabric.now)) }
+    ensures inputs { IfOk result (λ found. IfSome found InputsAreLines) }
     ensures cause { IfErr result (HasMapCause fabric.now packed.now fixed.now rounds) }
 {
-    match before {
-        Err(Fault::Overused(..)) => {
-            progress.tell(Step::Retrying { seed });
-            attempt(alloc, progress, fabric, packed, fixed, seed, rounds)
-        }
-        answer => answer,
+    let placed = place_with_progress(alloc, progress, fabric, packed, fixed, seed)?;
+    tried_on(alloc, progress, fabric, packed, fixed, placed, rounds)
+}
+
+/// Routes a placed design as long as that gets better.
+fn tried_on<P: Progress>(
+    alloc: Global,
+    progress: &mut P,
+    fabric: &Fabric,
+    packed: &Packed,
+    _fixed: &Fixed,
+    placed: Implementation,
+    rounds: u32,
+) -> Result<Option<Implementation>, Fault>
+    requires fits { Fits fabric.now packed.now }
+    requires good { IsGoodPlacement fabric.now packed.now _fixed.now placed }
+    requires on_fabric { IsOnFabric fabric.now placed }
+    requires some { 1 ≤ rounds }
+    requires few { rounds ≤ 64 }
+    ensures mapping { IfOk result (λ found. IfSome found (IsMapping fabric.now packed.now _fixed.now rounds)) }
+    ensures legal { IfOk result (λ found. IfSome found (IsLegal fabric.now packed.now _fixed.now)) }
+    ensures on_fabric { IfOk result (λ found. IfSome found (IsOnFabric fabric.now)) }
+    ensures inputs { IfOk result (λ found. IfSome found InputsAreLines) }
+    ensures cause { IfErr result (HasMapCause fabric.now packed.now _fixed.now rounds) }
+{
+    fabric.is_well_made();
+    match try_route(alloc, progress, fabric, packed, &placed, rounds) {
+        Ok(Some(routed)) => Ok(Some(with_trees(placed, routed.trees))),
+        Ok(None) => given_up(placed),
+        Err(fault) => Err(fault_of(alloc, fabric, packed, _fixed, placed, fault, rounds)?),
     }
+}
+
+/// Lets a placement go that is not routed.
+fn given_up(_placed: Implementation) -> Result<Option<Implementation>, Fault>
+    ensures { result ≡ Ok None }
+{
+    Ok(None)
 }
 
 /// Places a design, and routes it.

@@ -3,6 +3,7 @@
 
 mod counts;
 mod grow;
+mod hope;
 mod net;
 mod round;
 mod rounds;

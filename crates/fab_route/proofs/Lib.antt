@@ -19,3 +19,4 @@ pub mod Stepped
 pub mod Testing
 pub mod Hopping
 pub mod Guiding
+pub mod Trying

@@ -41,7 +41,7 @@ use Rattle.fab_nodes_laws.proofs.WalkLaw.{walk_of}
 use Rattle.fab_nodes_laws.proofs.Users.{AreWireTrees, used_low, node_users, output_users, IsNodeWire, as_input, as_output, shared_kind}
 use Rattle.fab_nodes_laws.proofs.NetSinks.{nets_across}
 use Rattle.fab_nodes_laws.proofs.Runs.{IsWiredRun, run_wired, node_runs_are_runs, cut_off_has_no_walk}
-use Rattle.fab_route.specs.Answers.{AreRouted, IsReached, IsCutOff, HasWire, AreFirstTwo, IsOverused}
+use Rattle.fab_route.specs.Answers.{AreRouted, IsLeftShared, IsReached, IsCutOff, HasWire, AreFirstTwo, IsOverused}
 use Rattle.fab_route.specs.inner.Owners.{AreFirst, HasNode, owners_at, AreOwners, IsTwice, IsWireOf, IsSharedBy, IsLeastShared}
 use Rattle.fab_route.specs.Over.{IsOver}
 use Rattle.fab_route.specs.Plain.{PlainNodes, graph_of, numbering_of}
@@ -263,6 +263,16 @@ module _ (fabric : PlainFabric) (packed : PlainPacked) (placement : PlainImpleme
       unshared = λ shared.
           let node = (node_runs_are_runs fabric packed placement graph numbering node_nets all last tiles made placed over.are_nodes are is.run).1.0 shared in omega (arith, node.1, few node.0);
       trees_are = same;
+    }
+
+    pub is_left : (most : ℕ) → allowed ≤ most → (node : ℕ) × (2 ≤ rounds.users last node) → IsLeftShared fabric packed placement most
+    is_left most low node = record {
+      rounds = map wired all;
+      last = wired last;
+      run = wired_run.run;
+      some_rounds = omega (arith, is.some_rounds, rounds_many);
+      few_rounds = omega (arith, is.few_rounds, rounds_many, low);
+      shared = (node_runs_are_runs fabric packed placement graph numbering node_nets all last tiles made placed over.are_nodes are is.run).1.1 node;
     }
 
     -- ---- shared wires

@@ -22,6 +22,15 @@ pub record AreRouted (fabric : PlainFabric) (packed : PlainPacked) (placement : 
   pub unshared : LeavesShared last → ⊥
   pub trees_are : trees ≡ trees_of packed placement last
 
+-- a run of at most so many rounds leaves a wire in two trees
+pub record IsLeftShared (fabric : PlainFabric) (packed : PlainPacked) (placement : PlainImplementation) (allowed : ℕ) : Type 0 where
+  pub rounds : List (List Paths)
+  pub last : List Paths
+  pub run : Run fabric packed placement rounds last
+  pub some_rounds : 0 < length rounds
+  pub few_rounds : length rounds ≤ allowed
+  pub shared : LeavesShared last
+
 -- ---- no path
 
 -- a walk comes to a wire from a root of a net

@@ -72,20 +72,21 @@ impl Bounds {
     pub fn left(&self, aim: u32, node: u32) -> u32
         ensures { result ≡ left_from self.now aim node }
     {
-        entry(&self.entries, self.place(aim, node))
+        let at = number_at(&self.spots, node as usize).saturating_add(number_at(
+            &self.aims,
+            aim as usize,
+        ));
+        match self.entries.get(at) {
+            Some(entry) => u32::from(*entry),
+            None => 0,
+        }
     }
 
     /// How long a signal takes from a node to a sink at the least, by the steps that are left and how far the tile of the sink is.
     pub fn ahead(&self, aim: u32, node: u32) -> u32 {
-        let at = self.place(aim, node);
+        let spot = number_at(&self.spots, node as usize);
+        let at = spot.saturating_add(number_at(&self.aims, aim as usize));
         ahead_at(at, entry(&self.entries, at))
-    }
-
-    // Where the entry of a node stands, for a sink.
-    fn place(&self, aim: u32, node: u32) -> usize
-        ensures { slice_index self.now.entries result ≡ left_from self.now aim node }
-    {
-        number_at(&self.spots, node as usize).saturating_add(number_at(&self.aims, aim as usize))
     }
 }
 

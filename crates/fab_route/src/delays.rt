@@ -1,9 +1,5 @@
 //! How long signals take for the steps between nodes, in the units of timing texts.
 
-ghost use Rattle.fab_route.specs.Over.{IsOver};
-ghost use Rattle.fab_route.specs.Plain.{graph_of};
-ghost use Rattle.std.specs.Prelude.{◌<◌};
-
 use crate::nodes::Nodes;
 use fab_base::Memory;
 use fab_fabric::{Fabric, Wire};
@@ -18,9 +14,7 @@ pub(crate) const TILE: u32 = 2;
 
 /// For each node how long a step to it takes, by the pair and the join before it. Nothing is promised of it: it decides between walks of
 /// one price.
-pub(crate) fn delays_of(alloc: Global, fabric: &Fabric, nodes: &Nodes) -> Result<Vec<u32>, Memory>
-    requires { IsOver fabric.now nodes.now }
-{
+pub(crate) fn delays_of(alloc: Global, fabric: &Fabric, nodes: &Nodes) -> Result<Vec<u32>, Memory> {
     let mut delays = Vec::with_capacity(alloc, nodes.count() as usize)?;
     for node in 0..nodes.count() {
         delays.push(step_to(fabric, nodes.wire(node), nodes.output(node)))?;

@@ -28,5 +28,5 @@ mod window;
 
 pub use goals::goals_of;
 pub use nodes::Nodes;
-pub use router::{RouteFault, Routed, route, route_with_progress};
+pub use router::{RouteFault, Routed, route, route_with_progress, try_route};
 pub use walks::put_walk;

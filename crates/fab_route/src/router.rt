@@ -1,6 +1,6 @@
 //! The router.
 
-ghost use Rattle.std.specs.Prelude.{◌≡◌, ◌≤◌, ℕ, List, IfOk, IfErr};
+ghost use Rattle.std.specs.Prelude.{◌≡◌, ◌≤◌, ℕ, true, false, length, List, None, is_some, IfOk, IfErr, IfSome, IfNone};
 ghost use Rattle.fab_implementation.specs.Plain.{Pad};
 ghost use Rattle.fab_legal.specs.Legal.{ArePlaced, IsLegal};
 ghost use Rattle.fab_legal.specs.Lines.{ConstraintsHold};
@@ -9,7 +9,7 @@ ghost use Rattle.fab_pathfinder.specs.Plain.{nets_of};
 ghost use Rattle.fab_pathfinder.specs.Rounds.{IsCutOff};
 ghost use Rattle.fab_ways_laws.specs.Trees.{with_trees};
 ghost use Rattle.fab_nodes_laws.specs.Nets.{AreNets, net_sinks};
-ghost use Rattle.fab_route.specs.Answers.{AreRouted, IsTrueFault};
+ghost use Rattle.fab_route.specs.Answers.{AreRouted, IsLeftShared, IsTrueFault};
 ghost use Rattle.fab_route.specs.Over.{IsOver};
 ghost use Rattle.fab_route.specs.Plain.{graph_of, numbering_of};
 ghost use Rattle.fab_route.specs.inner.Told.{IsNodeRun};
@@ -97,6 +97,53 @@ pub fn route_with_progress<P: Progress>(
     ensures legal { IfOk result (λ routed. (fixed : List Pad) → ConstraintsHold fixed placed.now → IsLegal fabric.now packed.now fixed (with_trees placed.now routed.trees.items)) }
     ensures fault { IfErr result (IsTrueFault fabric.now packed.now placed.now rounds) }
 {
+    let found = route_by(alloc, progress, fabric, packed, placed, rounds, true)?;
+    let Some(routed) = found else { unreachable!() };
+    Ok(routed)
+}
+
+/// Routes a placed design as `route_with_progress` does, but only while that gets better: its rounds end as soon as the count of shared
+/// wires does not get to its half within 8 of them, while it is above 32. It finds none where a wire is shared behind the last round.
+pub fn try_route<P: Progress>(
+    alloc: Global,
+    progress: &mut P,
+    fabric: &Fabric,
+    packed: &Packed,
+    placed: &Implementation,
+    rounds: u32,
+) -> Result<Option<Routed>, RouteFault>
+    requires made { IsWellMadePacked packed.now }
+    requires placed { ArePlaced fabric.now packed.now placed.now }
+    requires some { 1 ≤ rounds }
+    requires few { rounds ≤ 64 }
+    ensures routed { IfOk result (λ found. IfSome found (λ routed. AreRouted fabric.now packed.now placed.now rounds routed.trees.items)) }
+    ensures legal { IfOk result (λ found. IfSome found (λ routed. (fixed : List Pad) → ConstraintsHold fixed placed.now → IsLegal fabric.now packed.now fixed (with_trees placed.now routed.trees.items))) }
+    ensures left { IfOk result (λ found. IfNone found (IsLeftShared fabric.now packed.now placed.now rounds)) }
+    ensures fault { IfErr result (IsTrueFault fabric.now packed.now placed.now rounds) }
+{
+    route_by(alloc, progress, fabric, packed, placed, rounds, false)
+}
+
+// Routes a placed design, patiently or only while that gets better.
+fn route_by<P: Progress>(
+    alloc: Global,
+    progress: &mut P,
+    fabric: &Fabric,
+    packed: &Packed,
+    placed: &Implementation,
+    rounds: u32,
+    patient: bool,
+) -> Result<Option<Routed>, RouteFault>
+    requires made { IsWellMadePacked packed.now }
+    requires placed { ArePlaced fabric.now packed.now placed.now }
+    requires some { 1 ≤ rounds }
+    requires few { rounds ≤ 64 }
+    ensures routed { IfOk result (λ found. IfSome found (λ routed. AreRouted fabric.now packed.now placed.now rounds routed.trees.items)) }
+    ensures legal { IfOk result (λ found. IfSome found (λ routed. (fixed : List Pad) → ConstraintsHold fixed placed.now → IsLegal fabric.now packed.now fixed (with_trees placed.now routed.trees.items))) }
+    ensures left { IfOk result (λ found. IfNone found (IsLeftShared fabric.now packed.now placed.now rounds)) }
+    ensures patient { patient ≡ true → IfOk result (λ found. is_some found ≡ true) }
+    ensures fault { IfErr result (IsTrueFault fabric.now packed.now placed.now rounds) }
+{
     let sinks = sinks_by_net(alloc, fabric, packed, placed)?;
     let nodes = Nodes::new(alloc, fabric)?;
     let nets = nets_of(alloc, fabric, &nodes, packed, placed, &sinks)?;
@@ -107,9 +154,10 @@ pub fn route_with_progress<P: Progress>(
         bounds,
         delays,
     };
-    match run_rounds(alloc, progress, &guide, guide.nodes.count(), &nets, rounds)? {
+    let count = guide.nodes.count();
+    match run_rounds(alloc, progress, &guide, count, &nets, rounds, patient)? {
         Err(cut) => Err(no_path(fabric, packed, placed, &guide.nodes, &nets, &sinks, cut)),
-        Ok(run) => tell(
+        Ok(run) => tell_found(
             alloc,
             fabric,
             packed,
@@ -119,6 +167,7 @@ pub fn route_with_progress<P: Progress>(
             &sinks,
             &run,
             rounds,
+            patient,
         ),
     }
 }
@@ -144,6 +193,51 @@ fn no_path(
     fabric.is_well_made();
     let wires = &sinks[cut.net];
     RouteFault::NoPath(net_at(packed, cut.net), wires[cut.sink])
+}
+
+// Whether a run comes to nothing: it leaves a node shared, and did not have to be patient.
+fn is_given_up(run: &Run, patient: bool) -> bool
+    ensures left { result ≡ true → is_some run.now.shared ≡ true }
+    ensures patient { patient ≡ true → result ≡ false }
+    ensures unshared { result ≡ false → patient ≡ false → run.now.shared ≡ None }
+{
+    !patient && run.shared.is_some()
+}
+
+// What `tell` tells of a run that does not come to nothing.
+fn tell_found(
+    alloc: Global,
+    fabric: &Fabric,
+    packed: &Packed,
+    placed: &Implementation,
+    nodes: &Nodes,
+    _nets: &[Net],
+    sinks: &Vec<Vec<Wire>>,
+    run: &Run,
+    allowed: u32,
+    patient: bool,
+) -> Result<Option<Routed>, RouteFault>
+    requires made { IsWellMadePacked packed.now }
+    requires placed { ArePlaced fabric.now packed.now placed.now }
+    requires nodes { IsOver fabric.now nodes.now }
+    requires nets { AreNets fabric.now packed.now placed.now (graph_of nodes.now) (numbering_of nodes.now) (nets_of _nets.now) }
+    requires sinks { wire_groups sinks.now.items ≡ net_sinks fabric.now packed.now placed.now }
+    requires run { IsNodeRun (graph_of nodes.now) (nets_of _nets.now) (length run.now.rounds.items) run.now }
+    requires few { length run.now.rounds.items ≤ allowed }
+    requires all { patient ≡ true → IfSome run.now.shared (λ _. length run.now.rounds.items ≡ allowed) }
+    ensures routed { IfOk result (λ found. IfSome found (λ routed. AreRouted fabric.now packed.now placed.now allowed routed.trees.items)) }
+    ensures left { IfOk result (λ found. IfNone found (IsLeftShared fabric.now packed.now placed.now allowed)) }
+    ensures patient { patient ≡ true → IfOk result (λ found. is_some found ≡ true) }
+    ensures fault { IfErr result (IsTrueFault fabric.now packed.now placed.now allowed) }
+{
+    fabric.is_well_made();
+    if is_given_up(run, patient) {
+        return Ok(None);
+    }
+    let routed = tell(
+        alloc, fabric, packed, placed, nodes, _nets, sinks, run, allowed,
+    )?;
+    Ok(Some(routed))
 }
 
 // The trees of a run, or what is wrong with it.

@@ -17,6 +17,8 @@ loop-number-init g c = record {
   found = tt;
   least = tt;
   apart = λ w. omega (arith, c.in_ok-tables.ensures.unused w);
+  few = omega (arith, c.new-hope.ensures);
+  slow = omega (arith, c.new-hope.ensures);
 }
 
 pub run_round-requires-clause-old : goal.run_round-requires-clause-old
@@ -40,6 +42,19 @@ pub returns-then-is_none-clause-apart : goal.returns-then-is_none-clause-apart
 returns-then-is_none-clause-apart g c = λ w.
     omega (arith, ap (λ (ts : List Paths). users ts w) (run_last (g.F.Field.graph c.args.field.now) (nets_of c.args.nets.now) (rounds_of c.loop-number.rounds.items) (rounds_of c.push.new.self.items) c.loop-number.tables c.run_round.new.tables c.loop-number.past.items c.remember.new.past.items c.loop-number.number (trees_of c.in-Ok.trees.items) (rounds_push c.loop-number.rounds.items c.push.new.self.items (record { trees = c.in-Ok.trees }) c.in_ok-push.ensures.items) c.loop-number.invariant.running (round_at (g.F.Field.graph c.args.field.now) (nets_of c.args.nets.now) c.loop-number.past.items c.deref-in-loop-number-2.result.now c.loop-number.number (last_trees (no_trees (nets_of c.args.nets.now)) (rounds_of c.loop-number.rounds.items)) (trees_of c.latest-old.result.now) (trees_of c.in-Ok.trees.items) c.deref-in-loop-number-2.ensures.value (latest_is c.latest-old.result.now c.in_ok-bare.bare.items c.deref-in-loop-number.result.now c.loop-number.rounds.items c.deref.result.now c.args.nets.now c.latest-old.ensures c.deref-in-loop-number.ensures.value c.deref.ensures.value c.in_ok-bare.ensures.count c.in_ok-bare.ensures.walks) (rw c.in-Ok.is at c.in_ok-trees.ensures.round)) (rw c.in-Ok.is at c.in_ok-trees.ensures.counted)), (rw c.in-Ok.is at c.in_ok-trees.ensures.counted) w, none_shared c.shared_nodes-left.result.least ((w : ℕ) → users_of c.run_round.new.tables w ≤ 1) (search rules) c.shared_nodes-left.ensures.none w)
 
+pub returns-then-is_lost-clause-run : goal.returns-then-is_lost-clause-run
+returns-then-is_lost-clause-run g c = run_on (g.F.Field.graph c.args.field.now) (nets_of c.args.nets.now) (rounds_of c.loop-number.rounds.items) (rounds_of c.push.new.self.items) c.loop-number.tables c.run_round.new.tables c.loop-number.past.items c.remember.new.past.items c.loop-number.number (trees_of c.in-Ok.trees.items) (rounds_push c.loop-number.rounds.items c.push.new.self.items (record { trees = c.in-Ok.trees }) c.in_ok-push.ensures.items) c.loop-number.invariant.running (round_at (g.F.Field.graph c.args.field.now) (nets_of c.args.nets.now) c.loop-number.past.items c.deref-in-loop-number-2.result.now c.loop-number.number (last_trees (no_trees (nets_of c.args.nets.now)) (rounds_of c.loop-number.rounds.items)) (trees_of c.latest-old.result.now) (trees_of c.in-Ok.trees.items) c.deref-in-loop-number-2.ensures.value (latest_is c.latest-old.result.now c.in_ok-bare.bare.items c.deref-in-loop-number.result.now c.loop-number.rounds.items c.deref.result.now c.args.nets.now c.latest-old.ensures c.deref-in-loop-number.ensures.value c.deref.ensures.value c.in_ok-bare.ensures.count c.in_ok-bare.ensures.walks) (rw c.in-Ok.is at c.in_ok-trees.ensures.round)) (rw c.in-Ok.is at c.in_ok-trees.ensures.counted)
+
+pub returns-then-is_lost-clause-shared : goal.returns-then-is_lost-clause-shared
+returns-then-is_lost-clause-shared g c =
+    let last = (run_last (g.F.Field.graph c.args.field.now) (nets_of c.args.nets.now) (rounds_of c.loop-number.rounds.items) (rounds_of c.push.new.self.items) c.loop-number.tables c.run_round.new.tables c.loop-number.past.items c.remember.new.past.items c.loop-number.number (trees_of c.in-Ok.trees.items) (rounds_push c.loop-number.rounds.items c.push.new.self.items (record { trees = c.in-Ok.trees }) c.in_ok-push.ensures.items) c.loop-number.invariant.running (round_at (g.F.Field.graph c.args.field.now) (nets_of c.args.nets.now) c.loop-number.past.items c.deref-in-loop-number-2.result.now c.loop-number.number (last_trees (no_trees (nets_of c.args.nets.now)) (rounds_of c.loop-number.rounds.items)) (trees_of c.latest-old.result.now) (trees_of c.in-Ok.trees.items) c.deref-in-loop-number-2.ensures.value (latest_is c.latest-old.result.now c.in_ok-bare.bare.items c.deref-in-loop-number.result.now c.loop-number.rounds.items c.deref.result.now c.args.nets.now c.latest-old.ensures c.deref-in-loop-number.ensures.value c.deref.ensures.value c.in_ok-bare.ensures.count c.in_ok-bare.ensures.walks) (rw c.in-Ok.is at c.in_ok-trees.ensures.round)) (rw c.in-Ok.is at c.in_ok-trees.ensures.counted)) in
+    IfSome_then c.shared_nodes-left.result.least c.shared_nodes-left.ensures.found (λ w h. omega (arith, h, (rw c.in-Ok.is at c.in_ok-trees.ensures.counted) w, ap (λ (ts : List Paths). users ts w) last))
+
+pub returns-then-is_lost-clause-least : goal.returns-then-is_lost-clause-least
+returns-then-is_lost-clause-least g c =
+    let last = (run_last (g.F.Field.graph c.args.field.now) (nets_of c.args.nets.now) (rounds_of c.loop-number.rounds.items) (rounds_of c.push.new.self.items) c.loop-number.tables c.run_round.new.tables c.loop-number.past.items c.remember.new.past.items c.loop-number.number (trees_of c.in-Ok.trees.items) (rounds_push c.loop-number.rounds.items c.push.new.self.items (record { trees = c.in-Ok.trees }) c.in_ok-push.ensures.items) c.loop-number.invariant.running (round_at (g.F.Field.graph c.args.field.now) (nets_of c.args.nets.now) c.loop-number.past.items c.deref-in-loop-number-2.result.now c.loop-number.number (last_trees (no_trees (nets_of c.args.nets.now)) (rounds_of c.loop-number.rounds.items)) (trees_of c.latest-old.result.now) (trees_of c.in-Ok.trees.items) c.deref-in-loop-number-2.ensures.value (latest_is c.latest-old.result.now c.in_ok-bare.bare.items c.deref-in-loop-number.result.now c.loop-number.rounds.items c.deref.result.now c.args.nets.now c.latest-old.ensures c.deref-in-loop-number.ensures.value c.deref.ensures.value c.in_ok-bare.ensures.count c.in_ok-bare.ensures.walks) (rw c.in-Ok.is at c.in_ok-trees.ensures.round)) (rw c.in-Ok.is at c.in_ok-trees.ensures.counted)) in
+    IfSome_then c.shared_nodes-left.result.least c.shared_nodes-left.ensures.least (λ w h. λ v l. omega (arith, h v l, (rw c.in-Ok.is at c.in_ok-trees.ensures.counted) v, ap (λ (ts : List Paths). users ts v) last))
+
 pub loop-number-preserved : goal.loop-number-preserved
 loop-number-preserved g c = record {
   tables = c.in_ok-trees.ensures.tables;
@@ -53,6 +68,8 @@ loop-number-preserved g c = record {
   found = c.shared_nodes-left.ensures.found;
   least = c.shared_nodes-left.ensures.least;
   apart = c.shared_nodes-left.ensures.none;
+  few = c.after-hope.ensures.few;
+  slow = omega (arith, c.after-hope.ensures.slow, c.loop-number.invariant.slow);
 }
 
 pub returns-clause-apart : goal.returns-clause-apart

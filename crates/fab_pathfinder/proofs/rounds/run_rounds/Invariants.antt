@@ -1,4 +1,4 @@
-use Rattle.std.proofs.Common.{◌≡◌, ℕ, ◌<◌, ◌≤◌, length, IfSome, IfNone}
+use Rattle.std.proofs.Common.{◌≡◌, ℕ, ◌+◌, ◌<◌, ◌≤◌, length, IfSome, IfNone}
 use Rattle.fab_astar.specs.Tables.{AreTables, count_of, users_of}
 use Rattle.fab_pathfinder.specs.Plain.{nets_of, rounds_of}
 use Rattle.fab_pathfinder.proofs.Running.{IsRunning}
@@ -13,4 +13,6 @@ invariant-loop-number g l = record {
   found : IfSome l.shared (λ w. 2 ≤ users_of l.tables w);
   least : IfSome l.shared (λ w. (v : ℕ) → v < w → users_of l.tables v ≤ 1);
   apart : IfNone l.shared ((w : ℕ) → users_of l.tables w ≤ 1);
+  few : l.hope.left ≤ 8;
+  slow : 8 ≤ l.hope.left + l.number;
 }
