@@ -37,6 +37,9 @@ impl Rows {
 
     /// What a look has found that the last of so many waiting points needs, with the rest of the name that it stands in.
     pub(crate) fn add(&mut self, network: &Network, point: u32, needed: u32, depth: usize) {
+        if !may_begin_row(network, needed) {
+            return;
+        }
         let end = end_by_drive(network, point, needed);
         let next = needed.saturating_add(1);
         if end.saturating_sub(next) >= MANY {
@@ -90,6 +93,33 @@ pub(crate) fn is_unmarked(point: u32, marks: &[bool]) -> bool
     }
 }
 
+// Whether a point and those behind it may be bits of one name of many bits: they are driven alike then. Else an expression need not be gone
+// through for it. Most points stand in names of few bits.
+fn may_begin_row(network: &Network, point: u32) -> bool {
+    let last = point.saturating_add(MANY);
+    match (
+        network.drives.get(point as usize),
+        network.drives.get(last as usize),
+    ) {
+        (Some(first), Some(last)) => are_alike(first, last),
+        _ => false,
+    }
+}
+
+// Whether two drives may be those of bits of one name.
+fn are_alike(first: &Drive, last: &Drive) -> bool {
+    match (first, last) {
+        (Drive::Given, Drive::Given) => true,
+        (Drive::Same(one), Drive::Same(other)) => one.saturating_add(MANY) == *other,
+        (Drive::Value(one), Drive::Value(other))
+        | (Drive::Flop(_, one), Drive::Flop(_, other))
+        | (Drive::Hold(_, one), Drive::Hold(_, other)) => {
+            one.tree == other.tree && one.first == other.first
+        }
+        _ => false,
+    }
+}
+
 // Behind the last point of the name in which this point stands that the drive of another needs.
 fn end_by_drive(network: &Network, point: u32, needed: u32) -> u32 {
     match network.drives.get(point as usize) {
@@ -103,8 +133,11 @@ fn end_by_drive(network: &Network, point: u32, needed: u32) -> u32 {
 }
 
 /// Behind the last point of a name of many bits that an expression needs and in which this point stands, or the point itself.
-pub(crate) fn end_of_rest(trees: &[Tree], source: Source, needed: u32) -> u32 {
-    let end = end_in_source(trees, source, needed);
+pub(crate) fn end_of_rest(network: &Network, source: Source, needed: u32) -> u32 {
+    if !may_begin_row(network, needed) {
+        return needed;
+    }
+    let end = end_in_source(&network.trees, source, needed);
     if end.saturating_sub(needed) > MANY {
         end
     } else {

@@ -294,7 +294,7 @@ impl Search {
         ensures resting { IsResting self.new }
         ensures more { AsksMore (asked_of self.old) (asked_of self.new) }
     {
-        for next in point.saturating_add(1)..end_of_rest(&network.trees, source, point) {
+        for next in point.saturating_add(1)..end_of_rest(network, source, point) {
             self.ask_number(network, clock, given, next);
         }
     }
