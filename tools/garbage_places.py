@@ -18,6 +18,11 @@ def stored_rows():
     return [(words, files) for _, words, files in command_rows.rows(is_small=True) if words[0] != b"sample" and b"--reset" not in words]
 
 
+def is_asked(name, words, files):
+    """Whether a word or a file names the file; a table of places is asked for by the name of its tile."""
+    return name in words or name.endswith(b"_ConfigMem.csv") or any(name in content for content in files.values())
+
+
 def special_input(chance, name, content):
     """What stands in the place of a file, and what else has to be there."""
     own = name.encode()
@@ -32,7 +37,7 @@ def make_inputs(chance):
     """One input of a row is no plain file."""
     words, files = chance.choice(stored_rows())
     whole = Case(words, files)
-    name = chance.choice(sorted(files))
+    name = chance.choice(sorted(name for name in files if is_asked(name.encode(), words, files)))
     there, more = special_input(chance, name, files[name])
     asked = name.encode()
 
