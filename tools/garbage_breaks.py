@@ -127,7 +127,9 @@ def broken(chance, whole):
         elif kind < 27:
             case.files[name] = b""
         elif kind == 27:
-            case.files[name] = LIMIT + chance.randrange(2)
+            # each word of a bitstream is a tick of `simulate`, so the longest one takes a minute; a longer one is not loaded
+            is_loaded = case.words[:1] == [b"simulate"] and os.fsencode(name) in case.words[2:3]
+            case.files[name] = LIMIT + max(is_loaded, chance.randrange(2))
         else:
             case.files[name] = break_content(chance, name, content, case)
     return case
