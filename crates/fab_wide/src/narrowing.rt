@@ -1,6 +1,6 @@
 //! Covers are split by the halves of their tables.
 
-ghost use Rattle.std.specs.Prelude.{◌≡◌, ◌+◌, ◌*◌, ◌≤◌, IfOk, OnOk, length, map};
+ghost use Rattle.std.specs.Prelude.{◌≡◌, ◌+◌, ◌≤◌, IfOk, OnOk, length, map};
 ghost use Rattle.std.specs.List.{All};
 ghost use Rattle.fab_netlist.specs.Wide.{IsFineRow, tabled_cover};
 ghost use Rattle.fab_netlist.specs.WellMade.{most_nets};
@@ -8,9 +8,9 @@ ghost use Rattle.fab_wide.specs.Split.{all_parts, all_taken, cover_with, taken, 
 ghost use Rattle.fab_wide.specs.inner.Narrowing.{narrowed, pushed, two_taken};
 ghost use Rattle.fab_wide.specs.inner.Words.{AreWords, number_of_words};
 
-use crate::words::{same_words, taken, words_of};
+use crate::words::{same_words, words_of};
 use fab_base::Memory;
-use fab_netlist::{Cover, MAX_NETS, WideCover};
+use fab_netlist::{Cover, WideCover};
 use std::alloc::Global;
 use std::marker::Model;
 
@@ -19,11 +19,11 @@ const CHOOSER: u16 = 0xCACA;
 
 /// The covers of a netlist while they are split.
 #[derive(Drop)]
-pub(crate) struct Narrowing {
-    /// The covers so far. Once there are too many nets, none is put behind them.
-    pub(crate) covers: Vec<Cover>,
+struct Narrowing {
+    /// The covers so far.
+    covers: Vec<Cover>,
     /// The next new net, which is how many nets there are.
-    pub(crate) fresh: u32,
+    fresh: u32,
 }
 
 impl Model for Narrowing {
@@ -98,38 +98,27 @@ fn narrow(
     made.push(alloc, cover.line, &[net, 1 + net, last], output, CHOOSER)
 }
 
-/// Puts the covers that stand for a cover. Where there are too many nets with those that they take, these are counted, and no cover is put.
+/// Puts the covers that stand for a cover.
 fn narrow_cover(alloc: Global, cover: &WideCover, made: &mut Narrowing) -> Result<(), Memory>
     requires few { length cover.now.inputs ≤ 16 }
     requires rows { All (IsFineRow (length cover.now.inputs)) cover.now.rows }
-    requires small { made.old.fresh ≤ most_nets + 8192 * most_nets }
-    ensures nets { OnOk result (made.new.fresh ≡ taken_by (tabled_cover cover.now) + made.old.fresh) }
-    ensures small { OnOk result (made.new.fresh ≤ 8192 + made.old.fresh) }
-    ensures covers { OnOk result (made.new.fresh ≤ most_nets → made.new ≡ narrowed cover.now.line cover.now.inputs (length cover.now.inputs) (tabled_cover cover.now).table cover.now.output made.old) }
+    requires room { taken_by (tabled_cover cover.now) + made.old.fresh ≤ most_nets }
+    ensures { OnOk result (made.new ≡ narrowed cover.now.line cover.now.inputs (length cover.now.inputs) (tabled_cover cover.now).table cover.now.output made.old) }
 {
-    let inputs = cover.inputs.len();
     let words = words_of(alloc, cover)?;
-    let fresh = taken(inputs, &words) + made.fresh;
-    if fresh > MAX_NETS as u32 {
-        made.fresh = fresh;
-        return Ok(());
-    }
-    narrow(alloc, cover, inputs, &words, cover.output, made)
+    narrow(alloc, cover, cover.inputs.len(), &words, cover.output, made)
 }
 
-/// The covers that stand for these, where new nets have the numbers from `fresh` on, and how many nets there are then. Where there are too
-/// many, some of the covers are missing.
+/// The covers that stand for these, where new nets have the numbers from `fresh` on.
 pub(crate) fn narrow_all(
     alloc: Global,
     covers: &[WideCover],
     fresh: u32,
-) -> Result<Narrowing, Memory>
+) -> Result<Vec<Cover>, Memory>
     requires few { All (λ cover. length cover.inputs ≤ 16) covers.now }
     requires rows { All (λ cover. All (IsFineRow (length cover.inputs)) cover.rows) covers.now }
-    requires covers { length covers.now ≤ most_nets }
-    requires fresh { fresh ≤ most_nets }
-    ensures nets { IfOk result (λ made. made.fresh ≡ fresh + all_taken (map tabled_cover covers.now)) }
-    ensures parts { IfOk result (λ made. made.fresh ≤ most_nets → made.covers ≡ all_parts (map tabled_cover covers.now) fresh) }
+    requires room { all_taken (map tabled_cover covers.now) + fresh ≤ most_nets }
+    ensures { IfOk result (λ parts. parts.items ≡ all_parts (map tabled_cover covers.now) fresh) }
 {
     let mut made = Narrowing {
         covers: Vec::with_capacity(alloc, covers.len())?,
@@ -138,5 +127,5 @@ pub(crate) fn narrow_all(
     for cover in covers {
         narrow_cover(alloc, cover, &mut made)?;
     }
-    Ok(made)
+    Ok(made.covers)
 }

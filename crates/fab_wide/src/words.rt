@@ -4,7 +4,7 @@ ghost use Rattle.std.specs.Prelude.{◌≡◌, ◌+◌, ◌*◌, ◌-◌, ◌^�
 ghost use Rattle.std.specs.Cmp.Lexicographic.{pointwise};
 ghost use Rattle.std.specs.List.{All};
 ghost use Rattle.fab_netlist.specs.Wide.{IsFineRow, tabled_cover};
-ghost use Rattle.fab_wide.specs.Split.{taken};
+ghost use Rattle.fab_wide.specs.Split.{taken, taken_by};
 ghost use Rattle.fab_wide.specs.inner.Words.{AreWords, covered_words, number_of_words};
 
 use crate::marks::{mark_row, turn_over};
@@ -56,7 +56,7 @@ pub(crate) fn same_words(first: &[u16], second: &[u16]) -> bool
 }
 
 /// How many new nets the split of a table takes: two for each pair of halves that differ.
-pub(crate) fn taken(inputs: usize, words: &[u16]) -> u32
+fn taken(inputs: usize, words: &[u16]) -> u32
     requires few { inputs ≤ 16 }
     requires words { AreWords inputs words.now }
     ensures value { result ≡ taken inputs (number_of_words words.now) }
@@ -71,4 +71,15 @@ pub(crate) fn taken(inputs: usize, words: &[u16]) -> u32
         return first;
     }
     2 + (first + taken(inputs - 1, high))
+}
+
+/// How many new nets the split of a cover takes.
+pub(crate) fn taken_by(alloc: Global, cover: &WideCover) -> Result<u32, Memory>
+    requires few { length cover.now.inputs ≤ 16 }
+    requires rows { All (IsFineRow (length cover.now.inputs)) cover.now.rows }
+    ensures value { IfOk result (λ nets. nets ≡ taken_by (tabled_cover cover.now)) }
+    ensures small { IfOk result (λ nets. nets ≤ 8192) }
+{
+    let words = words_of(alloc, cover)?;
+    Ok(taken(cover.inputs.len(), &words))
 }
