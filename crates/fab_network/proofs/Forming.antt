@@ -121,15 +121,29 @@ form_at trees drives order leads terns forms place point form has at is = record
 -- ---- what a form tells
 
 module _ (trees : List Tree) (drives : List Drive) (leads : List ℕ) (terns : List Tern) (point : ℕ) (form : Form) (has : HasForm trees drives leads terns point form)
-    (drive : Drive) (there : slice_get drives point ≡ Some drive) where
-  by_drive : IsFormBy trees leads has.marks has.base drive form
-  by_drive = has.is drive there
+    (within : point < length drives) (table : Table) where
+  -- a point that shows the source of a table
+  pub shows_by : form ≡ Shows table → (source : Source) × (slice_get drives point ≡ Some (Value source)) × IsTable trees leads has.marks has.base source table
+  shows_by is =
+      let there = some_there drives point within in
+      let by : IsFormBy trees leads has.marks has.base there.0 (Shows table) = subst (IsFormBy trees leads has.marks has.base there.0) is (has.is there.0 there.1) in
+      (by.0, there.1 ∙ ap (λ (d : Drive). Some d) by.1, by.2)
 
-  -- inputs are points
-  pub form_inside : (table : Table) → length terns ≡ length leads → (source : Source) → IsTable trees leads has.marks has.base source table → AreInside (length terns) table.inputs
-  form_inside table long source is = subst (λ (n : ℕ). AreInside n table.inputs) (sym long) is.inside
+  -- a flip-flop that takes the source of a table
+  pub takes_by : form ≡ Takes table → (next : Source) × (slice_get drives point ≡ Some (Flop User next)) × IsTable trees leads has.marks has.base next table
+  takes_by is =
+      let there = some_there drives point within in
+      let by : IsFormBy trees leads has.marks has.base there.0 (Takes table) = subst (IsFormBy trees leads has.marks has.base there.0) is (has.is there.0 there.1) in
+      (by.0, there.1 ∙ ap (λ (d : Drive). Some d) by.1, by.2)
 
-  -- what a table tells of its source
-  pub table_tells : (table : Table) (source : Source) → IsTable trees leads has.marks has.base source table → (found : Tern) →
-      slice_get table.entries (entry_place table.inputs (kept_tern terns)) ≡ Some found → plain_tern found ≡ source_tern trees (seen terns leads) source
-  table_tells table source is found at = is.value terns has.stays found at
+  -- what the point shows
+  pub shown_of : (held : PlainTern) (found : Tern) → form ≡ Shows table → slice_get table.entries (entry_place table.inputs (kept_tern terns)) ≡ Some found →
+      plain_tern found ≡ shown_tern trees drives held (seen terns leads) point
+  shown_of held found is at =
+      let by = shows_by is in
+      by.2.value terns has.stays found at ∙ sym (ap (λ (o : Option Drive). drive_tern trees held (seen terns leads) point o) by.1)
+
+  -- what a flip-flop takes
+  pub taken_of : (found : Tern) → (is : form ≡ Takes table) → slice_get table.entries (entry_place table.inputs (kept_tern terns)) ≡ Some found →
+      plain_tern found ≡ source_tern trees (seen terns leads) (takes_by is).0
+  taken_of found is at = (takes_by is).2.value terns has.stays found at
