@@ -139,6 +139,7 @@ impl Demand {
         requires forms { AreFormsOf network.now self.old forms.now }
         ensures stays { (asked : Asked) → DiffersInOwn asked self.old → DiffersInOwn asked self.new }
         ensures shows { ShowsLeast network.now given.now self.old self.new }
+        ensures forms { AreFormsOf network.now self.new forms.now }
     {
         let search = &mut self.search;
         settle_anew(
