@@ -49,12 +49,12 @@ module _ (old new : Asked) (leads : new.leads ≡ old.leads) (marks : new.marks 
     (same : (q : ℕ) → kept_tern new.terns q ≡ kept_tern old.terns q) where
   pub formed : (network : Network) (forms : List Form) → AreOpen old →
       AreForms network.trees.items network.drives.items old.leads old.marks old.terns old.own forms → AreFormsOf network new forms
-  formed network forms open are =
+  formed network forms varied are =
       forms_same network.trees.items network.drives.items old.own new.own old.leads new.leads new.terns new.terns forms (sym own) (sym leads) refl
       (record {
         marks = old.marks;
         base = old.terns;
-        varies = λ q listed fixed. varies old.marks old.terns q (open q listed).0 (open q listed).1 fixed;
+        varies = λ q listed fixed. varies old.marks old.terns q (varied q listed).0 (varied q listed).1 fixed;
         stays = λ q fixed. same q;
         are = are;
       })

@@ -105,7 +105,7 @@ impl Demand {
     pub fn find_forms(&mut self, network: &Network, forms: &mut Vec<Form>)
         requires fit { AreFit network.now.trees.items network.now.drives.items }
         requires points { length network.now.drives.items ≡ length self.old.leads }
-        requires open { AreOpen self.old }
+        requires fresh { AreOpen self.old }
         ensures stays { (asked : Asked) → DiffersInOwn asked self.old → DiffersInOwn asked self.new }
         ensures forms { AreFormsOf network.now self.new forms.new.items }
     {

@@ -43,8 +43,8 @@ ask_registers-requires-clause-asked c = c.loop-out.invariant.asked
 pub find_forms-requires-clause-points : goal.find_forms-requires-clause-points
 find_forms-requires-clause-points c = c.requires.points ∙ sym (c.ask_registers.ensures.more.long ∙ c.loop-out.invariant.points)
 
-pub find_forms-requires-clause-open : goal.find_forms-requires-clause-open
-find_forms-requires-clause-open c = asked_open c.args.network.now (kept_tern c.args.given.now) c.ask_registers.new.self c.ask_registers.ensures.asked
+pub find_forms-requires-clause-fresh : goal.find_forms-requires-clause-fresh
+find_forms-requires-clause-fresh c = asked_open c.args.network.now (kept_tern c.args.given.now) c.ask_registers.new.self c.ask_registers.ensures.asked
 
 pub returns-clause-points : goal.returns-clause-points
 returns-clause-points c =

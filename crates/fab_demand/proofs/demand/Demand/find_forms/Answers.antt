@@ -33,7 +33,7 @@ returns-clause-forms c =
     formed old _ leads marks own
     (λ q. ap (λ (ts : List Tern). kept_tern ts q) kept ∙ c.forms_of.ensures.same q
     ∙ ap (λ (ts : List Tern). kept_tern ts q) (c.deref_mut.ensures.value ∙ terns))
-    c.args.network.now c.forms_of.new.forms.items c.requires.open
+    c.args.network.now c.forms_of.new.forms.items c.requires.fresh
     (made_same c.args.network.now.trees.items c.args.network.now.drives.items c.deref-2.result.now old.leads c.deref-3.result.now old.marks c.deref_mut.result.now
     old.terns c.deref.result.now old.own c.forms_of.new.forms.items (c.deref-2.ensures.value ∙ leads) (c.deref-3.ensures.value ∙ marks)
     (c.deref_mut.ensures.value ∙ terns) (c.deref.ensures.value ∙ own) c.forms_of.ensures.forms)
