@@ -22,6 +22,7 @@ registers-preserved c =
       resting = c.ask_register.ensures.resting;
       more = asks_both (asked_of c.args.self.now) (asked_of old) (asked_of new) c.registers.invariant.more more;
       inside = omega (arith, room, ap length more.own, length-append old.own.items more.more);
+      asked = c.ask_register.ensures.asked;
       so_far = λ place l. elim (cases_lt place c.registers.place) [
         | inl before ↦ subst (IsRegisterAsked c.args.network.now c.args.clock (asked_of new)) (sym (same place (omega (arith, before, room))))
             (register_stays c.args.network.now c.args.clock (asked_of old) (asked_of new) more (slice_index old.own.items place)
