@@ -6,18 +6,16 @@ ghost use Rattle.std.specs.List.{range_with_len};
 ghost use Rattle.fab_systems_laws.specs.Ternary.{known as known_tern};
 ghost use Rattle.fab_ternary.specs.Terns.{plain_tern};
 ghost use Rattle.fab_compiled.specs.Leading.{IsMarked};
-ghost use Rattle.fab_network.specs.declared.network.Drive.TheVariants.{Flop};
 ghost use Rattle.fab_network.specs.Network.{AreFit, IsFitSource};
 ghost use Rattle.fab_network.specs.Passes.{kept_tern};
 ghost use Rattle.fab_demand.specs.Asked.{AsksMore, IsSourceAsked, IsWhole};
-ghost use Rattle.fab_demand.specs.Demand.{AreRegistersAsked, IsRegisterAsked};
 ghost use Rattle.fab_demand.specs.Search.{asked_of, left_of, Closes, HasRoom, IsBlank, IsKeeping, IsResting, IsSearching};
 
 use crate::look::look;
 use crate::rows::{Rows, end_of_rest};
 use fab_base::Memory;
 use fab_compiled::{Lead, View};
-use fab_network::{Clock, Drive, Network, Readers, Source, lead_of_source};
+use fab_network::{Clock, Network, Readers, Source, lead_of_source};
 use fab_ternary::Tern;
 use std::alloc::Global;
 
@@ -331,43 +329,6 @@ impl Search {
             Lead::Known(_) | Lead::Point(_) | Lead::Own => None,
         }
     }
-
-    /// Asks for the next values of flip-flops of this clock that stand for themselves. The list of them grows while it is gone along.
-    pub(crate) fn ask_registers(&mut self, network: &Network, clock: Clock, given: &[Tern])
-        requires fit { AreFit network.now.trees.items network.now.drives.items }
-        requires points { length network.now.drives.items ≡ length self.old.leads.items }
-        requires given { length given.now ≡ length self.old.leads.items }
-        requires searching { IsSearching network.now clock (kept_tern given.now) self.old }
-        requires resting { IsResting self.old }
-        ensures searching { IsSearching network.now clock (kept_tern given.now) self.new }
-        ensures resting { IsResting self.new }
-        ensures more { AsksMore (asked_of self.old) (asked_of self.new) }
-        ensures registers { AreRegistersAsked network.now clock (asked_of self.new) }
-    {
-        let mut place = 0;
-        'registers: while place < self.own.len() {
-            let point = self.own[place];
-            self.ask_register(network, clock, given, point);
-            place += 1;
-        }
-    }
-
-    // Asks for the next value of a point, if it is a flip-flop of this clock.
-    fn ask_register(&mut self, network: &Network, clock: Clock, given: &[Tern], point: u32)
-        requires fit { AreFit network.now.trees.items network.now.drives.items }
-        requires points { length network.now.drives.items ≡ length self.old.leads.items }
-        requires given { length given.now ≡ length self.old.leads.items }
-        requires searching { IsSearching network.now clock (kept_tern given.now) self.old }
-        requires resting { IsResting self.old }
-        ensures searching { IsSearching network.now clock (kept_tern given.now) self.new }
-        ensures resting { IsResting self.new }
-        ensures more { AsksMore (asked_of self.old) (asked_of self.new) }
-        ensures register { IsRegisterAsked network.now clock (asked_of self.new) point }
-    {
-        if let Some(next) = next_of(network, clock, point as usize) {
-            self.ask_source(network, clock, given, next);
-        }
-    }
 }
 
 // One more point, where there is room.
@@ -377,17 +338,6 @@ fn add(points: &mut Vec<u32>, point: u32)
     ensures room { vec_capacity points.old ≤ vec_capacity points.new }
 {
     let _ = points.push(point);
-}
-
-// What a flip-flop of this clock takes next.
-fn next_of(network: &Network, clock: Clock, point: usize) -> Option<Source>
-    ensures { MatchOption result ((next : Source) → slice_get network.now.drives.items point ≡ Some (Flop clock next) → ⊥)
-        (λ next. slice_get network.now.drives.items point ≡ Some (Flop clock next)) }
-{
-    match network.drives.get(point) {
-        Some(Drive::Flop(own, next)) if *own == clock => Some(*next),
-        _ => None,
-    }
 }
 
 // Leads each point to itself.

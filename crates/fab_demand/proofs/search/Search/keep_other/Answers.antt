@@ -14,11 +14,11 @@ goes_on c clock given searching =
     other_goes_on c.args.network.now clock given c.args.self.now c.wait.new.self c.keep.new.self searching c.requires.points c.args.source bit.0 c.args.other unmarked
     bit.1 bit.2 bit.3 c.requires.depends c.wait.ensures.asked c.wait.ensures.done c.wait.ensures.stack c.wait.ensures.room c.keep.ensures
 
-pub returns-then-is_bit_of-clause-searching : goal.returns-then-is_bit_of-clause-searching
-returns-then-is_bit_of-clause-searching c clock given searching = (goes_on c clock given searching).searching
+pub returns-then-is_open-clause-searching : goal.returns-then-is_open-clause-searching
+returns-then-is_open-clause-searching c clock given searching = (goes_on c clock given searching).searching
 
-pub returns-then-is_bit_of-clause-more : goal.returns-then-is_bit_of-clause-more
-returns-then-is_bit_of-clause-more c = let is = c.requires.searching in (goes_on c is.0 is.1 is.2).more
+pub returns-then-is_open-clause-more : goal.returns-then-is_open-clause-more
+returns-then-is_open-clause-more c = let is = c.requires.searching in (goes_on c is.0 is.1 is.2).more
 
-pub returns-then-is_bit_of-clause-left : goal.returns-then-is_bit_of-clause-left
-returns-then-is_bit_of-clause-left c = let is = c.requires.searching in omega (arith, (goes_on c is.0 is.1 is.2).falls)
+pub returns-then-is_open-clause-left : goal.returns-then-is_open-clause-left
+returns-then-is_open-clause-left c = let is = c.requires.searching in omega (arith, (goes_on c is.0 is.1 is.2).falls)
