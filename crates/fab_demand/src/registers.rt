@@ -2,16 +2,28 @@
 
 ghost use Rattle.std.specs.Prelude.{◌≡◌, ◌≤◌, ◌^◌, true, length, slice_get, IfSome, MatchOption, Some};
 ghost use Rattle.fab_network.specs.declared.network.Drive.TheVariants.{Flop};
-ghost use Rattle.fab_network.specs.Leading.{DependsOnMarked};
 ghost use Rattle.fab_network.specs.Network.{AreFit, IsFitSource};
 ghost use Rattle.fab_network.specs.Passes.{kept_tern};
-ghost use Rattle.fab_demand.specs.Asked.{AsksMore};
+ghost use Rattle.fab_demand.specs.Asked.{AsksMore, IsWhole};
 ghost use Rattle.fab_demand.specs.Demand.{AreRegistersAsked, IsRegisterAsked};
 ghost use Rattle.fab_demand.specs.Search.{asked_of, IsResting, IsSearching};
+ghost use Rattle.fab_demand.specs.inner.Beside.{IsInSpan, IsSpanAsked, IsSpanOf};
 
 use crate::search::Search;
-use fab_network::{Clock, Drive, Network, Source, is_marked};
+use fab_compiled::{Part, View};
+use fab_network::{Clock, Drive, Network, Source, part_of_source};
 use fab_ternary::Tern;
+
+/// Bits of an expression that follow one another, where all that they need has been asked for.
+#[derive(Clone, Copy, Debug)]
+pub struct Span {
+    pub tree: u32,
+    pub first: u32,
+    /// The first of them.
+    pub low: u64,
+    /// How many they are.
+    pub count: u64,
+}
 
 impl Search {
     /// Asks for the next values of flip-flops of this clock that stand for themselves. The list of them grows while it is gone along.
@@ -35,7 +47,7 @@ impl Search {
         }
     }
 
-    // Asks for the next value of a point, if it is a flip-flop of this clock, unless all has been asked for on which its expression depends. That is
+    // Asks for the next value of a point, if it is a flip-flop of this clock, unless all has been asked for that its bit needs. For which bits that holds is
     // told for the next point, since the bits of a register follow one another.
     fn ask_register(
         &mut self,
@@ -43,43 +55,60 @@ impl Search {
         clock: Clock,
         given: &[Tern],
         point: u32,
-        asked: Option<Source>,
-    ) -> Option<Source>
+        asked: Option<Span>,
+    ) -> Option<Span>
         requires fit { AreFit network.now.trees.items network.now.drives.items }
         requires points { length network.now.drives.items ≡ length self.old.leads.items }
         requires given { length given.now ≡ length self.old.leads.items }
         requires searching { IsSearching network.now clock (kept_tern given.now) self.old }
         requires resting { IsResting self.old }
-        requires asked { IfSome asked (λ source. DependsOnMarked network.now.trees.items self.old.marks.items source) }
+        requires asked { IfSome asked (IsSpanAsked network.now.trees.items (asked_of self.old)) }
         ensures searching { IsSearching network.now clock (kept_tern given.now) self.new }
         ensures resting { IsResting self.new }
         ensures more { AsksMore (asked_of self.old) (asked_of self.new) }
         ensures register { IsRegisterAsked network.now clock (asked_of self.new) point }
-        ensures asked { IfSome result (λ source. DependsOnMarked network.now.trees.items self.new.marks.items source) }
+        ensures asked { IfSome result (IsSpanAsked network.now.trees.items (asked_of self.new)) }
     {
         let Some(next) = next_of(network, clock, point as usize) else {
             return asked;
         };
-        if is_bit_of(asked, next) {
+        if is_in(asked, next) {
             return asked;
         }
         self.ask_source(network, clock, given, next);
-        self.all_asked(network, next, point)
+        self.span_of(network, next, point)
     }
 
-    // A source of one of many bits, if all has been asked for on which its expression depends.
-    fn all_asked(&self, network: &Network, source: Source, point: u32) -> Option<Source>
-        requires source { IsFitSource network.now.trees.items (length self.now.marks.items) source }
-        requires few { length self.now.marks.items ≤ 2 ^ 32 }
-        ensures { IfSome result (λ source. DependsOnMarked network.now.trees.items self.now.marks.items source) }
+    // The bits beside that of a source in its expression, if all has been asked for that they need.
+    fn span_of(&self, network: &Network, source: Source, point: u32) -> Option<Span>
+        requires source { IsFitSource network.now.trees.items (length self.now.leads.items) source }
+        requires whole { IsWhole (asked_of self.now) }
+        ensures { IfSome result (IsSpanAsked network.now.trees.items (asked_of self.now)) }
     {
-        if takes_bit_beside(network, source, point)
-            && is_marked(&network.trees, source, &self.marks)
-        {
-            Some(source)
-        } else {
-            None
+        if !takes_bit_beside(network, source, point) {
+            return None;
         }
+        let alloc = *self.stack.allocator();
+        let view = View {
+            terns: &self.terns,
+            leads: &self.leads,
+        };
+        match part_of_source(alloc, &network.trees, source, &view, &self.marks) {
+            Ok(part) if part.marked => Some(all_of(source, &part)),
+            _ => None,
+        }
+    }
+}
+
+// All bits of a part of an expression.
+fn all_of(source: Source, part: &Part) -> Span
+    ensures { IsSpanOf source part.now result }
+{
+    Span {
+        tree: source.tree,
+        first: source.first,
+        low: part.low,
+        count: part.bits.len() as u64,
     }
 }
 
@@ -94,14 +123,24 @@ fn next_of(network: &Network, clock: Clock, point: usize) -> Option<Source>
     }
 }
 
-// Whether a source is a bit of the expression of another, if there is that one.
-fn is_bit_of(asked: Option<Source>, source: Source) -> bool
-    ensures { result ≡ true → (other : Source) × (asked ≡ Some other) × (source.tree ≡ other.tree) × (source.first ≡ other.first) }
+// Whether the bit of a source is one of these, if there are any.
+fn is_in(asked: Option<Span>, source: Source) -> bool
+    ensures { result ≡ true → (span : Span) × (asked ≡ Some span) × IsInSpan span source }
 {
     match asked {
-        Some(other) => source.tree == other.tree && source.first == other.first,
+        Some(span) => is_in_span(span, source),
         None => false,
     }
+}
+
+fn is_in_span(span: Span, source: Source) -> bool
+    ensures { result ≡ true → IsInSpan span source }
+{
+    source.tree == span.tree
+        && source.first == span.first
+        && u64::from(source.bit)
+            .checked_sub(span.low)
+            .is_some_and(|place| place < span.count)
 }
 
 // Whether a flip-flop beside a point takes another bit of the same expression.

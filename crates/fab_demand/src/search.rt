@@ -12,7 +12,7 @@ ghost use Rattle.fab_demand.specs.Asked.{AsksMore, IsSourceAsked, IsWhole};
 ghost use Rattle.fab_demand.specs.Search.{asked_of, left_of, Closes, HasRoom, IsBlank, IsKeeping, IsResting, IsSearching};
 
 use crate::look::look;
-use crate::rows::{Rows, end_of_rest};
+use crate::rows::{Next, Rows, end_of_rest};
 use fab_base::Memory;
 use fab_compiled::{Lead, View};
 use fab_network::{Clock, Network, Readers, Source, lead_of_source};
@@ -106,8 +106,8 @@ impl Search {
         self.stack.pop();
     }
 
-    // A point is known.
-    fn know(&mut self, point: u32, bit: bool)
+    /// A point is known.
+    pub(crate) fn know(&mut self, point: u32, bit: bool)
         requires room { HasRoom self.old }
         requires done { slice_get self.old.done.items point ≡ Some false }
         requires within { point < length self.old.terns.items }
@@ -140,7 +140,8 @@ impl Search {
         self.close(point);
     }
 
-    // One step for the last point that waits: what its row tells is asked for without a look.
+    // One step for the last point that waits: what its row tells is asked for without a look. Others beside it are closed with it where it stands for itself,
+    // and in a row in any case, since there are many then.
     fn go_by(
         &mut self,
         network: &Network,
@@ -158,14 +159,22 @@ impl Search {
         ensures more { AsksMore (asked_of self.old) (asked_of self.new) }
         ensures falls { left_of self.new < left_of self.old }
     {
-        if let Some(needed) = rows.next(self.stack.len(), &self.marks) {
-            self.wait(needed);
-            return;
-        }
         let own = self.own.len();
-        self.step(network, clock, given, rows, point);
-        if own < self.own.len() {
-            self.keep_others(network, point);
+        let depth = self.stack.len();
+        match rows.next(depth, &self.marks) {
+            Next::Ask(needed) => self.wait(needed),
+            Next::Look => {
+                self.step(network, clock, given, rows, point);
+                if own < self.own.len() {
+                    self.close_others(network, point);
+                }
+            }
+            Next::LookInRow => {
+                self.step(network, clock, given, rows, point);
+                if self.stack.len() < depth {
+                    self.close_others(network, point);
+                }
+            }
         }
     }
 

@@ -227,7 +227,7 @@ compile_parts-returns t c =
     let es = plain_exprs (map plain_expr c.args.parts.now) in
     ok_map c.close.result
     (λ (m : Compiled). (ds : List Declaration) (fs : PlainExprs) → AreJoined ds fs old.low.tree.value old.low.width old.group.tree.value old.group.width →
-        AreCompiled ds fs m.tree.value m.width)
+    AreCompiled ds fs m.tree.value m.width)
     (λ (m : Compiled). (i : Instance) → IsInstanceOfNumber (plain_text c.args.equations.now) c.args.instance i → AreCompiled (declarations i.here) es m.tree.value m.width)
     c.close.ensures
     (λ m all i is. all (declarations i.here) es

@@ -16,9 +16,9 @@ returns-else-joined-lt-GROUP c =
     let high = c.args.high in
     ok_map c.flush.result
     (λ (m : Joined). (ds : List Declaration) (es : PlainExprs) → AreJoined ds es low.tree.value low.width longer.tree.value longer.width →
-        AreJoined ds es m.low.tree.value m.low.width m.group.tree.value m.group.width)
+    AreJoined ds es m.low.tree.value m.low.width m.group.tree.value m.group.width)
     (λ (m : Joined). (ds : List Declaration) (e : PlainExpr) (es : PlainExprs) → AreJoined ds es low.tree.value low.width group.tree.value group.width →
-        IsCompiled ds e high.tree.value high.width → AreJoined ds (more e es) m.low.tree.value m.low.width m.group.tree.value m.group.width)
+    IsCompiled ds e high.tree.value high.width → AreJoined ds (more e es) m.low.tree.value m.low.width m.group.tree.value m.group.width)
     c.flush.ensures
     (λ m flushed ds e es joined part. flushed ds (more e es)
     (more_joined ds es low.tree.value low.width group.tree.value group.width joined e high.tree.value high.width part longer.tree.value longer.width c.in_ok-group.ensures))
