@@ -2,6 +2,6 @@ pub mod Sources
 pub mod Kept
 pub mod Passing
 pub mod Shares
-pub mod Marked
+pub mod Parted
 pub use Rattle.fab_compiled.proofs.fab_solutions_laws_Demanded as fab_solutions_laws_Demanded
 pub use Rattle.fab_compiled.proofs.fab_solutions_laws_Orders as fab_solutions_laws_Orders

@@ -7,7 +7,7 @@ mod passes;
 mod readers;
 mod sharing;
 
-pub use leading::{is_marked, lead_of_source};
+pub use leading::{lead_of_source, part_of_source};
 pub use network::{Clock, Drive, Network, Source, evaluate};
 pub use passes::settle;
 pub use readers::Readers;
