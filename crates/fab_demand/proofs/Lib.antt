@@ -10,4 +10,5 @@ mod Finding
 mod Rooms
 mod Blank
 mod Starting
+mod Formed
 mod Beside

@@ -6,11 +6,13 @@ use Rattle.fab_ternary.specs.declared.Tern.{Tern}
 use Rattle.fab_compiled.specs.Terns.{seen}
 use Rattle.fab_compiled.specs.Leading.{PointTerns, AreAbove, AgreeOnMarked, IsMarked}
 use Rattle.fab_compiled.specs.declared.tree.Tree.{Tree}
+use Rattle.fab_network.specs.declared.forms.Form.{Form}
 use Rattle.fab_network.specs.declared.network.Clock.{Clock}
 use Rattle.fab_network.specs.declared.network.Drive.{Drive}
 use Rattle.fab_network.specs.declared.network.Drive.TheVariants.{Given, Flop, Same, Value, Hold}
 use Rattle.fab_network.specs.declared.network.Network.{Network}
 use Rattle.fab_network.specs.declared.network.Source.{Source}
+use Rattle.fab_network.specs.Forms.{HasForms}
 use Rattle.fab_network.specs.Network.{source_tern}
 use Rattle.fab_network.specs.Passes.{kept_tern, IsListed}
 use Rattle.fab_network.specs.Solved.{asked_tern, IsLeast, Solves}
@@ -87,6 +89,16 @@ IsRegisterAsked network clock asked point =
 
 abbrev pub AreRegistersAsked : Network → Clock → Asked → Type 0
 AreRegistersAsked network clock asked = (point : ℕ) → IsListed asked.own point → IsRegisterAsked network clock asked point
+
+-- ---- points that stand for themselves
+
+-- They have been asked for, and nothing is known of them yet.
+abbrev pub AreOpen : Asked → Type 0
+AreOpen asked = (point : ℕ) → IsListed asked.own point → IsMarked asked.marks point × (kept_tern asked.terns point ≡ unknown)
+
+-- forms of them that are right, whatever is kept for them
+abbrev pub AreFormsOf : Network → Asked → List Form → Type 0
+AreFormsOf network asked forms = HasForms network.trees.items network.drives.items asked.own asked.leads asked.terns forms
 
 -- ---- what is settled
 

@@ -8,13 +8,13 @@ ghost use Rattle.fab_network.specs.declared.network.Network.{Network};
 ghost use Rattle.fab_network.specs.Network.{AreFit, IsFitSource};
 ghost use Rattle.fab_network.specs.Passes.{kept_tern};
 ghost use Rattle.fab_demand.specs.Asked.{Asked, AsksMore, DiffersInOwn, IsSourceAsked, IsWhole};
-ghost use Rattle.fab_demand.specs.Demand.{AreRegistersAsked, IsAsked, IsClear, ShowsLeast};
+ghost use Rattle.fab_demand.specs.Demand.{AreFormsOf, AreOpen, AreRegistersAsked, IsAsked, IsClear, ShowsLeast};
 
 use crate::cycles::settle_anew;
 use crate::search::Search;
 use fab_base::Memory;
 use fab_compiled::View;
-use fab_network::{Clock, Network, Source};
+use fab_network::{Clock, Form, Network, Source, forms_of};
 use fab_ternary::Tern;
 use std::alloc::Global;
 use std::marker::Model;
@@ -101,6 +101,25 @@ impl Demand {
         self.search.ask_registers(network, clock, given);
     }
 
+    /// The forms of the points that stand for themselves, for cycles from now on. Nothing is known of these points yet.
+    pub fn find_forms(&mut self, network: &Network, forms: &mut Vec<Form>)
+        requires fit { AreFit network.now.trees.items network.now.drives.items }
+        requires points { length network.now.drives.items ≡ length self.old.leads }
+        requires open { AreOpen self.old }
+        ensures stays { (asked : Asked) → DiffersInOwn asked self.old → DiffersInOwn asked self.new }
+        ensures forms { AreFormsOf network.now self.new forms.new.items }
+    {
+        let search = &mut self.search;
+        forms_of(
+            network,
+            &search.own,
+            &search.leads,
+            &search.marks,
+            &mut search.terns,
+            forms,
+        );
+    }
+
     /// The values of a cycle: points that stand for themselves start with what is given to them now, and are settled.
     pub fn settle(&mut self, network: &Network, given: &[Tern])
         requires fit { AreFit network.now.trees.items network.now.drives.items }
@@ -109,12 +128,26 @@ impl Demand {
         ensures stays { (asked : Asked) → DiffersInOwn asked self.old → DiffersInOwn asked self.new }
         ensures shows { ShowsLeast network.now given.now self.old self.new }
     {
+        self.settle_by(network, &[], given);
+    }
+
+    /// The same, where points that stand for themselves have these forms.
+    pub fn settle_by(&mut self, network: &Network, forms: &[Form], given: &[Tern])
+        requires fit { AreFit network.now.trees.items network.now.drives.items }
+        requires points { length network.now.drives.items ≡ length self.old.leads }
+        requires given { length given.now ≡ length self.old.leads }
+        requires forms { AreFormsOf network.now self.old forms.now }
+        ensures stays { (asked : Asked) → DiffersInOwn asked self.old → DiffersInOwn asked self.new }
+        ensures shows { ShowsLeast network.now given.now self.old self.new }
+        ensures forms { AreFormsOf network.now self.new forms.now }
+    {
         let search = &mut self.search;
         settle_anew(
             network,
             &search.own,
             given,
             &search.leads,
+            forms,
             &mut search.readers,
             &mut search.terns,
         );

@@ -3,10 +3,12 @@
 ghost use Rattle.std.specs.Prelude.{◌≡◌, ◌<◌, ◌≤◌, ◌^◌, ℕ, List, length, slice_index};
 ghost use Rattle.fab_ternary.specs.Terns.{plain_tern};
 ghost use Rattle.fab_compiled.specs.Terns.{seen, IsView};
-ghost use Rattle.fab_network.specs.Network.{AreFit};
+ghost use Rattle.fab_network.specs.Forms.{HasForms};
+ghost use Rattle.fab_network.specs.Network.{shown_tern, AreFit};
 ghost use Rattle.fab_network.specs.Passes.{changed_after, kept_tern, unsettled_after, AreBacked, AreOwn, AreRising, AreSolved, IsFurther, IsListed, IsPassed, IsVisit, StaysBelow};
 ghost use Rattle.fab_network.specs.Sharing.{IsShared};
 
+use crate::forms::{Form, shown_by_form};
 use crate::network::{Network, shown};
 use crate::readers::Readers;
 use crate::sharing::Shared;
@@ -77,12 +79,39 @@ pub fn settle(
     ensures solved { AreSolved network.now.trees.items network.now.drives.items held.now order.now (seen terns.new leads.now) }
     ensures others { (point : ℕ) → (IsListed order.now point → ⊥) → kept_tern terns.new point ≡ kept_tern terns.old point }
 {
+    settle_by(network, order, held, leads, &[], readers, terns);
+}
+
+/// The same, where points have these forms.
+pub fn settle_by(
+    network: &Network,
+    order: &[u32],
+    held: &[Tern],
+    leads: &[u32],
+    forms: &[Form],
+    readers: &mut Readers,
+    terns: &mut [Tern],
+)
+    requires fit { AreFit network.now.trees.items network.now.drives.items }
+    requires points { length network.now.drives.items ≡ length leads.now }
+    requires terns { length terns.old ≡ length leads.now }
+    requires held { length held.now ≡ length leads.now }
+    requires view { IsView terns.old leads.now }
+    requires small { length leads.now ≤ 2 ^ 32 }
+    requires own { AreOwn order.now leads.now }
+    requires backed { AreBacked network.now.trees.items network.now.drives.items held.now order.now (seen terns.old leads.now) }
+    requires forms { HasForms network.now.trees.items network.now.drives.items order.now leads.now terns.old forms.now }
+    ensures rising { AreRising terns.old terns.new }
+    ensures below { StaysBelow network.now.trees.items network.now.drives.items held.now order.now leads.now terns.old terns.new }
+    ensures solved { AreSolved network.now.trees.items network.now.drives.items held.now order.now (seen terns.new leads.now) }
+    ensures others { (point : ℕ) → (IsListed order.now point → ⊥) → kept_tern terns.new point ≡ kept_tern terns.old point }
+{
     'passes: loop {
-        let pass = pass_over(network, order, held, leads, terns);
+        let pass = pass_over(network, order, held, leads, forms, terns);
         if !pass.changed || !pass.unsettled {
             return;
         }
-        look_again(network, order, held, leads, readers, terns);
+        look_again(network, order, held, leads, forms, readers, terns);
     }
 }
 
@@ -92,6 +121,7 @@ fn pass_over(
     order: &[u32],
     held: &[Tern],
     leads: &[u32],
+    forms: &[Form],
     terns: &mut [Tern],
 ) -> Pass
     requires fit { AreFit network.now.trees.items network.now.drives.items }
@@ -102,6 +132,7 @@ fn pass_over(
     requires small { length leads.now ≤ 2 ^ 32 }
     requires own { AreOwn order.now leads.now }
     requires backed { AreBacked network.now.trees.items network.now.drives.items held.now order.now (seen terns.old leads.now) }
+    requires forms { HasForms network.now.trees.items network.now.drives.items order.now leads.now terns.old forms.now }
     ensures { IsPassed (record { trees = network.now.trees.items; drives = network.now.drives.items; held = held.now; order = order.now; leads = leads.now })
         (length order.now) terns.old terns.new result.changed result.unsettled }
 {
@@ -110,19 +141,21 @@ fn pass_over(
         unsettled: false,
     };
     let mut shared = Shared::new(*network.trees.allocator());
-    for point in order {
-        let found = look_at(network, *point as usize, held, leads, &mut shared, terns);
+    for place in 0..order.len() {
+        let found = look_at(network, order, held, leads, forms, place, &mut shared, terns);
         pass = pass.noting(found);
     }
     pass
 }
 
-// One look at a point.
+// One look at the point at a place of the order.
 fn look_at(
     network: &Network,
-    point: usize,
+    order: &[u32],
     held: &[Tern],
     leads: &[u32],
+    forms: &[Form],
+    place: usize,
     shared: &mut Shared,
     terns: &mut [Tern],
 ) -> Visit
@@ -132,16 +165,20 @@ fn look_at(
     requires held { length held.now ≡ length leads.now }
     requires view { IsView terns.old leads.now }
     requires small { length leads.now ≤ 2 ^ 32 }
-    requires within { point < length leads.now }
+    requires own { AreOwn order.now leads.now }
+    requires within { place < length order.now }
+    requires forms { HasForms network.now.trees.items network.now.drives.items order.now leads.now terns.old forms.now }
     requires shared { IsShared network.now.trees.items (length leads.now) (seen terns.old leads.now) shared.old }
     ensures shared { IsShared network.now.trees.items (length leads.now) (seen terns.new leads.now) shared.new }
-    ensures visit { (order : List ℕ) → IsVisit (record { trees = network.now.trees.items; drives = network.now.drives.items; held = held.now; order = order; leads = leads.now })
-        point terns.old terns.new result }
+    ensures visit { IsVisit (record { trees = network.now.trees.items; drives = network.now.drives.items; held = held.now; order = order.now; leads = leads.now })
+        (slice_index order.now place) terns.old terns.new result }
 {
+    let point = order[place] as usize;
     if !terns[point].is_open() {
         return Visit::Known;
     }
-    let found = shown(network, point, held[point], shared, &View { terns, leads });
+    let view = View { terns, leads };
+    let found = shown_at(network, order, held[point], forms, place, shared, &view);
     if found.is_open() {
         return Visit::Still;
     }
@@ -150,12 +187,43 @@ fn look_at(
     Visit::Found
 }
 
+// What the point at a place of the order shows, where a latch holds this value.
+fn shown_at(
+    network: &Network,
+    order: &[u32],
+    held: Tern,
+    forms: &[Form],
+    place: usize,
+    shared: &mut Shared,
+    view: &View,
+) -> Tern
+    requires fit { AreFit network.now.trees.items network.now.drives.items }
+    requires points { length network.now.drives.items ≡ length view.now.leads.now }
+    requires view { IsView view.now.terns.now view.now.leads.now }
+    requires terns { length view.now.terns.now ≡ length view.now.leads.now }
+    requires small { length view.now.leads.now ≤ 2 ^ 32 }
+    requires own { AreOwn order.now view.now.leads.now }
+    requires within { place < length order.now }
+    requires forms { HasForms network.now.trees.items network.now.drives.items order.now view.now.leads.now view.now.terns.now forms.now }
+    requires shared { IsShared network.now.trees.items (length view.now.leads.now) (seen view.now.terns.now view.now.leads.now) shared.old }
+    ensures shared { IsShared network.now.trees.items (length view.now.leads.now) (seen view.now.terns.now view.now.leads.now) shared.new }
+    ensures value { plain_tern result ≡ shown_tern network.now.trees.items network.now.drives.items (plain_tern held) (seen view.now.terns.now view.now.leads.now)
+        (slice_index order.now place) }
+{
+    let point = order[place] as usize;
+    match forms.get(place) {
+        Some(form) => shown_by_form(network, point, held, form, shared, view),
+        None => shown(network, point, held, shared, view),
+    }
+}
+
 // Looks again at the readers of points that are known, where the pass came to the reader first, and at those of points that come to be known.
 fn look_again(
     network: &Network,
     order: &[u32],
     held: &[Tern],
     leads: &[u32],
+    forms: &[Form],
     readers: &mut Readers,
     terns: &mut [Tern],
 )
@@ -167,13 +235,14 @@ fn look_again(
     requires small { length leads.now ≤ 2 ^ 32 }
     requires own { AreOwn order.now leads.now }
     requires backed { AreBacked network.now.trees.items network.now.drives.items held.now order.now (seen terns.old leads.now) }
+    requires forms { HasForms network.now.trees.items network.now.drives.items order.now leads.now terns.old forms.now }
     ensures { IsFurther (record { trees = network.now.trees.items; drives = network.now.drives.items; held = held.now; order = order.now; leads = leads.now })
         terns.old terns.new }
 {
     readers.note(network, order, leads);
     readers.start();
-    look_back(network, order, held, leads, readers, terns);
-    look_on(network, order, held, leads, readers, terns);
+    look_back(network, order, held, leads, forms, readers, terns);
+    look_on(network, order, held, leads, forms, readers, terns);
 }
 
 // Looks at the readers that stand before a point that is known.
@@ -182,6 +251,7 @@ fn look_back(
     order: &[u32],
     held: &[Tern],
     leads: &[u32],
+    forms: &[Form],
     readers: &mut Readers,
     terns: &mut [Tern],
 )
@@ -193,12 +263,13 @@ fn look_back(
     requires small { length leads.now ≤ 2 ^ 32 }
     requires own { AreOwn order.now leads.now }
     requires backed { AreBacked network.now.trees.items network.now.drives.items held.now order.now (seen terns.old leads.now) }
+    requires forms { HasForms network.now.trees.items network.now.drives.items order.now leads.now terns.old forms.now }
     ensures { IsFurther (record { trees = network.now.trees.items; drives = network.now.drives.items; held = held.now; order = order.now; leads = leads.now })
         terns.old terns.new }
 {
     for place in 0..order.len() {
         let note = readers.note_before(order, terns, place);
-        look_at_readers(network, order, held, leads, readers, note, terns);
+        look_at_readers(network, order, held, leads, forms, readers, note, terns);
     }
 }
 
@@ -208,6 +279,7 @@ fn look_on(
     order: &[u32],
     held: &[Tern],
     leads: &[u32],
+    forms: &[Form],
     readers: &mut Readers,
     terns: &mut [Tern],
 )
@@ -219,6 +291,7 @@ fn look_on(
     requires small { length leads.now ≤ 2 ^ 32 }
     requires own { AreOwn order.now leads.now }
     requires backed { AreBacked network.now.trees.items network.now.drives.items held.now order.now (seen terns.old leads.now) }
+    requires forms { HasForms network.now.trees.items network.now.drives.items order.now leads.now terns.old forms.now }
     ensures { IsFurther (record { trees = network.now.trees.items; drives = network.now.drives.items; held = held.now; order = order.now; leads = leads.now })
         terns.old terns.new }
 {
@@ -226,7 +299,7 @@ fn look_on(
         let Some(note) = readers.next_found(place) else {
             return;
         };
-        look_at_readers(network, order, held, leads, readers, note, terns);
+        look_at_readers(network, order, held, leads, forms, readers, note, terns);
     }
 }
 
@@ -236,6 +309,7 @@ fn look_at_readers(
     order: &[u32],
     held: &[Tern],
     leads: &[u32],
+    forms: &[Form],
     readers: &mut Readers,
     last: u32,
     terns: &mut [Tern],
@@ -248,6 +322,7 @@ fn look_at_readers(
     requires small { length leads.now ≤ 2 ^ 32 }
     requires own { AreOwn order.now leads.now }
     requires backed { AreBacked network.now.trees.items network.now.drives.items held.now order.now (seen terns.old leads.now) }
+    requires forms { HasForms network.now.trees.items network.now.drives.items order.now leads.now terns.old forms.now }
     ensures { IsFurther (record { trees = network.now.trees.items; drives = network.now.drives.items; held = held.now; order = order.now; leads = leads.now })
         terns.old terns.new }
 {
@@ -256,7 +331,16 @@ fn look_at_readers(
         let Some(note) = readers.note_at(next) else {
             return;
         };
-        look_at_reader(network, order, held, leads, readers, note.reader, terns);
+        look_at_reader(
+            network,
+            order,
+            held,
+            leads,
+            forms,
+            readers,
+            note.reader,
+            terns,
+        );
         next = note.before;
     }
 }
@@ -267,6 +351,7 @@ fn look_at_reader(
     order: &[u32],
     held: &[Tern],
     leads: &[u32],
+    forms: &[Form],
     readers: &mut Readers,
     place: u32,
     terns: &mut [Tern],
@@ -279,15 +364,17 @@ fn look_at_reader(
     requires small { length leads.now ≤ 2 ^ 32 }
     requires own { AreOwn order.now leads.now }
     requires backed { AreBacked network.now.trees.items network.now.drives.items held.now order.now (seen terns.old leads.now) }
+    requires forms { HasForms network.now.trees.items network.now.drives.items order.now leads.now terns.old forms.now }
     ensures { IsFurther (record { trees = network.now.trees.items; drives = network.now.drives.items; held = held.now; order = order.now; leads = leads.now })
         terns.old terns.new }
 {
-    let Some(point) = order.get(place as usize) else {
+    let place = place as usize;
+    if place >= order.len() {
         return;
-    };
+    }
     let mut shared = Shared::new(*network.trees.allocator());
-    let found = look_at(network, *point as usize, held, leads, &mut shared, terns);
-    note_found(readers, *point, found);
+    let found = look_at(network, order, held, leads, forms, place, &mut shared, terns);
+    note_found(readers, order[place], found);
 }
 
 // The readers of a point wait where it has come to be known.

@@ -8,14 +8,18 @@ use Rattle.fab_ternary.specs.declared.Tern.{Tern}
 use Rattle.fab_ternary.specs.Terns.{plain_tern}
 use Rattle.fab_compiled.specs.Terns.{seen, tern_or_unknown}
 use Rattle.fab_compiled.specs.declared.tree.Tree.{Tree}
+use Rattle.fab_network.specs.declared.forms.Form.{Form}
 use Rattle.fab_network.specs.declared.network.Clock.TheVariants.{Loader}
 use Rattle.fab_network.specs.declared.network.Drive.TheVariants.{Flop, Hold}
 use Rattle.fab_network.specs.declared.network.Network.{Network}
 use Rattle.fab_network.specs.declared.network.Source.{Source}
+use Rattle.fab_network.specs.Forms.{HasForm}
 use Rattle.fab_network.specs.Network.{source_tern, IsFitSource}
 use Rattle.fab_network.specs.Passes.{kept_tern}
 use Rattle.fab_demand.specs.Asked.{Asked}
-use Rattle.fab_demand.specs.Demand.{Shows}
+use Rattle.fab_network.proofs.Forming.{form_at}
+use Rattle.fab_demand.specs.Demand.{AreFormsOf, Shows}
+use Rattle.fab_phases.specs.Running.{HasFormAt}
 use Rattle.fab_phases.specs.Lists.{Each, HasOne}
 use Rattle.fab_phases.specs.Loading.{AreFlops, AreLoading, AreRuns, IsInRuns, IsLatch}
 use Rattle.fab_phases.specs.Words.{IsLeft}
@@ -53,6 +57,16 @@ eval_at trees here terns now_terns leads now_leads source left same same_terns s
 
 pub kept_get : (terns : List Tern) (point : ℕ) (d : Tern) → point < length terns → plain_tern (get_or terns point d) ≡ kept_tern terns point
 kept_get terns point d less = sym (ap tern_or_unknown (slice_get-get_or terns point d less))
+
+-- ---- forms
+
+-- the form at a place of the points that stand for themselves, over a view of them
+pub form_at_place : (network : Network) (demand : Asked) (leads : List ℕ) (terns : List Tern) (forms : List Form) (place point : ℕ) →
+    get_or demand.own place 0 ≡ point → leads ≡ demand.leads → terns ≡ demand.terns → AreFormsOf network demand forms → HasFormAt network leads terns forms place point
+form_at_place network demand leads terns forms place point at same_leads same_terns has form there =
+    subst (λ (ts : List Tern). HasForm network.trees.items network.drives.items leads ts point form) (sym same_terns)
+    (subst (λ (ls : List ℕ). HasForm network.trees.items network.drives.items ls demand.terns point form) (sym same_leads)
+    (form_at network.trees.items network.drives.items demand.own demand.leads demand.terns forms place point form has there at))
 
 -- ---- items of the first places
 

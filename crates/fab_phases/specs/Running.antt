@@ -5,10 +5,12 @@ use Rattle.fab_ternary.specs.declared.Tern.{Tern}
 use Rattle.fab_compiled.specs.Terns.{seen}
 use Rattle.fab_compiled.specs.Leading.{PointTerns}
 use Rattle.fab_compiled.specs.declared.tree.Tree.{Tree}
+use Rattle.fab_network.specs.declared.forms.Form.{Form}
 use Rattle.fab_network.specs.declared.network.Clock.TheVariants.{Loader, User, Other}
 use Rattle.fab_network.specs.declared.network.Drive.{Drive}
 use Rattle.fab_network.specs.declared.network.Drive.TheVariants.{Given, Flop, Same, Value, Hold}
 use Rattle.fab_network.specs.declared.network.Network.{Network}
+use Rattle.fab_network.specs.Forms.{HasForm}
 use Rattle.fab_network.specs.Network.{source_tern}
 use Rattle.fab_network.specs.Passes.{kept_tern, IsListed}
 use Rattle.fab_demand.specs.Asked.{Asked}
@@ -17,6 +19,11 @@ use Rattle.fab_phases.specs.Lists.{Each}
 -- numbers below a count
 abbrev pub AreNumbers : (count : ℕ) → List ℕ → Type 0
 AreNumbers count numbers = Each numbers (λ number. number < count)
+
+-- the form at a place is one of this point
+abbrev pub HasFormAt : Network → (leads : List ℕ) → (terns : List Tern) → List Form → (place point : ℕ) → Type 0
+HasFormAt network leads terns forms place point =
+    (form : Form) → slice_get forms place ≡ Some form → HasForm network.trees.items network.drives.items leads terns point form
 
 -- what a point is left with, by its drive, where points have these values
 abbrev pub written_by : List Tree → (held : PlainTern) → PointTerns → (point : ℕ) → Option Drive → PlainTern

@@ -6,22 +6,31 @@ ghost use Rattle.fab_ternary.specs.Terns.{plain_tern};
 ghost use Rattle.fab_compiled.specs.Leading.{PointTerns};
 ghost use Rattle.fab_compiled.specs.Terns.{seen, IsView};
 ghost use Rattle.fab_network.specs.declared.network.Drive.TheVariants.{Flop, Given};
+ghost use Rattle.fab_network.specs.Forms.{HasForm};
 ghost use Rattle.fab_network.specs.Network.{AreFit, IsFitSource};
 ghost use Rattle.fab_network.specs.Passes.{kept_tern};
 ghost use Rattle.fab_network.specs.Sharing.{IsShared};
 ghost use Rattle.fab_network.specs.Solved.{IsLeast};
+ghost use Rattle.fab_demand.specs.Demand.{AreFormsOf};
 ghost use Rattle.fab_phases.specs.Lists.{Each};
 ghost use Rattle.fab_phases.specs.Cycles.{AreOnce, IsFed, IsIn, IsRunningAt, IsTicked};
-ghost use Rattle.fab_phases.specs.Running.{AreNumbers, IsTickedOwn, written_by};
+ghost use Rattle.fab_phases.specs.Running.{AreNumbers, HasFormAt, IsTickedOwn, written_by};
 
 use fab_compiled::View;
 use fab_demand::Demand;
 use fab_demand::laws::kept_again;
-use fab_network::{Clock, Drive, Network, Shared, Source};
+use fab_network::{Clock, Drive, Form, Network, Shared, Source};
 use fab_ternary::Tern;
 
-/// Asks for all that these outputs need in a run, where this is given: inputs that vary are open. What was asked for before is forgotten.
-pub fn ask_for_run(network: &Network, outs: &[u32], given: &[Tern], demand: &mut Demand)
+/// Asks for all that these outputs need in a run, where this is given: inputs that vary are open. What was asked for before is forgotten. The
+/// points that stand for themselves get forms, by which cycles find them.
+pub fn ask_for_run(
+    network: &Network,
+    outs: &[u32],
+    given: &[Tern],
+    demand: &mut Demand,
+    forms: &mut Vec<Form>,
+)
     requires fit { AreFit network.now.trees.items network.now.drives.items }
     requires points { length network.now.drives.items ≡ length demand.old.leads }
     requires given { length given.now ≡ length demand.old.leads }
@@ -29,20 +38,24 @@ pub fn ask_for_run(network: &Network, outs: &[u32], given: &[Tern], demand: &mut
     ensures points { length demand.new.leads ≡ length demand.old.leads }
     ensures running { (ins : List ℕ) → Each ins (λ point. (slice_get network.now.drives.items point ≡ Some Given) × (kept_tern given.now point ≡ unknown)) →
         IsRunningAt network.now ins outs.now demand.new given.now (kept_tern given.now) }
+    ensures forms { AreFormsOf network.now demand.new forms.new.items }
 {
     demand.clear();
     for out in outs {
         demand.ask(network, Clock::User, given, *out);
     }
     demand.ask_registers(network, Clock::User, given);
+    demand.find_forms(network, forms);
 }
 
-/// A cycle: inputs are fed, outputs are shown, and flip-flops and latches take what the tick leaves them.
+/// A cycle: inputs are fed, outputs are shown, and flip-flops and latches take what the tick leaves them. Points that stand for themselves are found
+/// by these forms.
 pub fn cycle(
     network: &Network,
     ins: &[u32],
     outs: &[u32],
     inputs: &[bool],
+    forms: &[Form],
     demand: &mut Demand,
     given: &mut [Tern],
     outputs: &mut [Tern],
@@ -54,6 +67,7 @@ pub fn cycle(
     requires once { AreOnce ins.now }
     requires outs { AreNumbers (length network.now.drives.items) outs.now }
     requires inputs { length inputs.now ≡ length ins.now }
+    requires forms { AreFormsOf network.now demand.old forms.now }
     requires outputs { length outputs.old ≡ length outs.now }
     ensures points { length demand.new.leads ≡ length demand.old.leads }
     ensures shows { (held later t : PointTerns) → IsRunningAt network.now ins.now outs.now demand.old given.old held → IsFed ins.now inputs.now held later →
@@ -61,12 +75,13 @@ pub fn cycle(
     ensures ticks { (held later t next : PointTerns) → IsRunningAt network.now ins.now outs.now demand.old given.old held → IsFed ins.now inputs.now held later →
         IsLeast network.now.trees.items network.now.drives.items later t → IsTicked network.now ins.now later t next →
         IsRunningAt network.now ins.now outs.now demand.new given.new next }
+    ensures forms { AreFormsOf network.now demand.new forms.now }
 {
     kept_again();
     feed(ins, inputs, given);
-    demand.settle(network, given);
+    demand.settle_by(network, forms, given);
     show(outs, demand, outputs);
-    tick(network, demand, given);
+    tick(network, forms, demand, given);
 }
 
 /// Gives values to points, each the one in its place.
@@ -104,21 +119,87 @@ fn show(outs: &[u32], demand: &Demand, outputs: &mut [Tern])
 }
 
 // A tick of UserCLK.
-fn tick(network: &Network, demand: &Demand, given: &mut [Tern])
+fn tick(network: &Network, forms: &[Form], demand: &Demand, given: &mut [Tern])
     requires fit { AreFit network.now.trees.items network.now.drives.items }
     requires points { length network.now.drives.items ≡ length demand.now.leads }
+    requires forms { AreFormsOf network.now demand.now forms.now }
     requires given { length given.old ≡ length demand.now.leads }
     ensures { IsTickedOwn network.now demand.now given.old given.new }
 {
     let view = demand.view();
+    let own = demand.own();
     let mut shared = Shared::new(*network.trees.allocator());
-    for point in demand.own() {
-        let point = *point as usize;
-        given[point] = left_by(network, &view, point, given[point], &mut shared);
+    for place in 0..own.len() {
+        let point = own[place] as usize;
+        given[point] = left_at(
+            network,
+            &view,
+            forms,
+            place,
+            point,
+            given[point],
+            &mut shared,
+        );
     }
 }
 
-// What a tick of UserCLK leaves with a point that holds this.
+// What a tick of UserCLK leaves with a point that holds this, by the form at a place.
+fn left_at(
+    network: &Network,
+    view: &View,
+    forms: &[Form],
+    place: usize,
+    point: usize,
+    held: Tern,
+    shared: &mut Shared,
+) -> Tern
+    requires fit { AreFit network.now.trees.items network.now.drives.items }
+    requires points { length network.now.drives.items ≡ length view.now.leads.now }
+    requires view { IsView view.now.terns.now view.now.leads.now }
+    requires terns { length view.now.terns.now ≡ length view.now.leads.now }
+    requires few { length view.now.leads.now ≤ 2 ^ 32 }
+    requires within { point < length view.now.leads.now }
+    requires form { HasFormAt network.now view.now.leads.now view.now.terns.now forms.now place point }
+    requires shared { IsShared network.now.trees.items (length view.now.leads.now) (seen view.now.terns.now view.now.leads.now) shared.old }
+    ensures left { plain_tern result ≡ written_by network.now.trees.items (plain_tern held) (seen view.now.terns.now view.now.leads.now) point
+        (slice_get network.now.drives.items point) }
+    ensures shared { IsShared network.now.trees.items (length view.now.leads.now) (seen view.now.terns.now view.now.leads.now) shared.new }
+{
+    match forms.get(place) {
+        Some(form) => left_by_form(network, view, form, point, held, shared),
+        None => left_by(network, view, point, held, shared),
+    }
+}
+
+// What it leaves with a point that has this form.
+fn left_by_form(
+    network: &Network,
+    view: &View,
+    form: &Form,
+    point: usize,
+    held: Tern,
+    shared: &mut Shared,
+) -> Tern
+    requires fit { AreFit network.now.trees.items network.now.drives.items }
+    requires points { length network.now.drives.items ≡ length view.now.leads.now }
+    requires view { IsView view.now.terns.now view.now.leads.now }
+    requires terns { length view.now.terns.now ≡ length view.now.leads.now }
+    requires few { length view.now.leads.now ≤ 2 ^ 32 }
+    requires within { point < length view.now.leads.now }
+    requires form { HasForm network.now.trees.items network.now.drives.items view.now.leads.now view.now.terns.now point form.now }
+    requires shared { IsShared network.now.trees.items (length view.now.leads.now) (seen view.now.terns.now view.now.leads.now) shared.old }
+    ensures left { plain_tern result ≡ written_by network.now.trees.items (plain_tern held) (seen view.now.terns.now view.now.leads.now) point
+        (slice_get network.now.drives.items point) }
+    ensures shared { IsShared network.now.trees.items (length view.now.leads.now) (seen view.now.terns.now view.now.leads.now) shared.new }
+{
+    match form {
+        Form::Shows(_) => held,
+        Form::Takes(table) => table.value(view.terns),
+        Form::Driven => left_by(network, view, point, held, shared),
+    }
+}
+
+// What it leaves with a point by its drive.
 fn left_by(network: &Network, view: &View, point: usize, held: Tern, shared: &mut Shared) -> Tern
     requires fit { AreFit network.now.trees.items network.now.drives.items }
     requires points { length network.now.drives.items ≡ length view.now.leads.now }

@@ -11,6 +11,7 @@ use Rattle.fab_equations.specs.Equations.{IsPoint}
 use Rattle.fab_compiled.specs.Leading.{PointTerns}
 use Rattle.fab_network.specs.declared.network.Drive.TheVariants.{Given}
 use Rattle.fab_network.specs.Passes.{kept_tern}
+use Rattle.fab_demand.specs.Demand.{AreFormsOf}
 use Rattle.fab_wiring.specs.Clocks.{IsClockAt}
 use Rattle.fab_ordering_laws.specs.fab_simulation_laws_Simulation.{with_registers}
 use Rattle.fab_phases.specs.Words.{IsLoadingAt}
@@ -45,6 +46,7 @@ pub record IsAt (text : List PlainModule) (state : PlainState) (machine : Machin
   pub of : IsMachineOf text state machine
   pub holds : PointTerns
   pub running : IsRunningAt machine.network machine.points.ins.items machine.points.outs.items machine.demand machine.given.items holds
+  pub forms : AreFormsOf machine.network machine.demand machine.forms.items
   pub agree : (number : ℕ) (p : Point) (d : Driver) → IsPoint text number p → Drives text p d → IsStored d → holds number ≡ held p
   pub low : (number : ℕ) → slice_get machine.network.drives.items number ≡ Some Given → (IsIn machine.points.ins.items number → ⊥) → holds number ≡ no
 

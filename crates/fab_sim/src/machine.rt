@@ -18,7 +18,7 @@ use fab_demand::Demand;
 use fab_equations::Equations;
 use fab_load_points::{loading_points, registers_among};
 use fab_meaning::laws::points_of_sound_texts_have_one_driver;
-use fab_network::Network;
+use fab_network::{Form, Network};
 use fab_ordering_laws::loading_is_known;
 use fab_phases::{Loading, ask_for_run, cycle};
 use fab_solutions_laws::least_solutions;
@@ -29,7 +29,8 @@ use fab_wiring::laws::{numbered_exists, numbered_kept, numbered_solutions};
 use fab_wiring::network_of;
 use std::alloc::Global;
 
-/// A text that is simulated with the ports and the flip-flops of a state. All memory is taken when it is made.
+/// A text that is simulated with the ports and the flip-flops of a state. All memory is taken when it is made, but that of forms, for which it goes
+/// on without where there is none.
 #[derive(Drop)]
 pub struct Machine {
     pub(crate) network: Network,
@@ -41,6 +42,8 @@ pub struct Machine {
     pub(crate) loading: Loading,
     /// What has to be looked at: first for loading, then for the outputs.
     pub(crate) demand: Demand,
+    /// How cycles find the points that stand for themselves. Where memory is refused for a form, its point is found by its drive.
+    pub(crate) forms: Vec<Form>,
     /// By the number of the point: what is given to an input, and what a flip-flop or a latch holds.
     pub(crate) given: Vec<Tern>,
     /// By the number of the point: whether it is a loading point.
@@ -109,6 +112,7 @@ impl Machine {
             &self.points.outs,
             &self.given,
             &mut self.demand,
+            &mut self.forms,
         );
     }
 
@@ -126,6 +130,7 @@ impl Machine {
             &self.points.ins,
             &self.points.outs,
             inputs,
+            &self.forms,
             &mut self.demand,
             &mut self.given,
             outputs,

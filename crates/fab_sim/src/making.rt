@@ -83,6 +83,7 @@ pub fn machine_of(
         values,
         loading,
         demand,
+        forms: Vec::new(alloc),
         given,
         loads,
         clock,

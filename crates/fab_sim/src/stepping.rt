@@ -140,6 +140,7 @@ pub fn unset_of(machine: Machine, room: Room, seed: u64) -> Unset
         values,
         loading,
         demand,
+        forms,
         given,
         loads,
         clock: _,
@@ -154,6 +155,7 @@ pub fn unset_of(machine: Machine, room: Room, seed: u64) -> Unset
     } = room;
     mem::drop(loading);
     mem::drop(demand);
+    mem::drop(forms);
     let board = Board {
         terns,
         held: given,

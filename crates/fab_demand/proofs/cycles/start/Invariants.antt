@@ -4,8 +4,8 @@ use Rattle.fab_demand.proofs.Starting.{HaveStarted}
 use Rattle.fab_demand.proofs.cycles.start.Given as goal
 
 -- the points so far have started
-abbrev pub invariant-loop-point : goal.invariant-loop-point
-invariant-loop-point l = record {
-  so_far : HaveStarted l.network l.given l.order l.point-index l.terns;
+abbrev pub invariant-loop-place : goal.invariant-loop-place
+invariant-loop-place l = record {
+  so_far : HaveStarted l.network l.given l.order l.place l.terns;
   others : (point : ℕ) → (IsListed l.order point → ⊥) → kept_tern l.terns point ≡ kept_tern l.initial.terns point;
 }

@@ -1,4 +1,4 @@
-use Rattle.std.proofs.Common.{◌≡◌, length, refl, ap, sym, ◌∙◌, arith, slice_set}
+use Rattle.std.proofs.Common.{◌≡◌, length, refl, ap, sym, ◌∙◌, arith, slice_index, slice_set}
 use Rattle.std.proofs.lemmas.Option.{slice_get-get_or}
 use Rattle.fab_systems_laws.specs.Ternary.{unknown, Tern as PlainTern}
 use Rattle.fab_ternary.specs.declared.Tern.TheVariants.{No}
@@ -10,26 +10,26 @@ use Rattle.fab_network.specs.Passes.{kept_tern}
 use Rattle.fab_network.proofs.Shares.{open_kept, seen_grows}
 use Rattle.fab_network.proofs.passes.look_at.Goals as goal
 
-none_kept : (c : goal.After-note_change) → kept_tern c.args.terns.now c.args.point ≡ unknown
+none_kept : (c : goal.After-note_change) → kept_tern c.args.terns.now (slice_index c.args.order.now c.args.place) ≡ unknown
 none_kept c =
-    open_kept c.args.terns.now c.args.point (omega (arith, c.requires.within, c.requires.terns)) c.is_open.result c.is_open.ensures c.if-not-is_open.false
+    open_kept c.args.terns.now (slice_index c.args.order.now c.args.place) (omega (arith, (c.requires.own c.args.place c.requires.within).0, c.requires.terns)) c.is_open.result c.is_open.ensures c.if-not-is_open.false
 
 pub returns-clause-shared : goal.returns-clause-shared
 returns-clause-shared c =
     let terns = c.args.terns.now in
     let leads = c.args.leads.now in
-    c.note_change.ensures c.args.network.now.trees.items (length leads) (seen terns leads) (seen (slice_set terns c.args.point c.shown-found.result) leads)
-    (λ point l. seen_grows terns leads c.args.point c.shown-found.result (omega (arith, c.requires.within, c.requires.terns)) (none_kept c) point)
-    c.shown-found.ensures.shared
+    c.note_change.ensures c.args.network.now.trees.items (length leads) (seen terns leads) (seen (slice_set terns (slice_index c.args.order.now c.args.place) c.shown_at-found.result) leads)
+    (λ point l. seen_grows terns leads (slice_index c.args.order.now c.args.place) c.shown_at-found.result (omega (arith, (c.requires.own c.args.place c.requires.within).0, c.requires.terns)) (none_kept c) point)
+    c.shown_at-found.ensures.shared
 
 pub returns-clause-visit : goal.returns-clause-visit
-returns-clause-visit c order =
-    let held = sym (ap tern_or_unknown (slice_get-get_or c.args.held.now c.args.point No (omega (arith, c.requires.within, c.requires.held)))) in (
+returns-clause-visit c =
+    let held = sym (ap tern_or_unknown (slice_get-get_or c.args.held.now (slice_index c.args.order.now c.args.place) No (omega (arith, (c.requires.own c.args.place c.requires.within).0, c.requires.held)))) in (
       none_kept c,
-      c.shown-found.result,
+      c.shown_at-found.result,
       refl,
-      tells_known (plain_tern c.shown-found.result) c.is_open-2.result c.is_open-2.ensures c.if-is_open.false,
-      c.shown-found.ensures.value
-          ∙ ap (λ (h : PlainTern). shown_tern c.args.network.now.trees.items c.args.network.now.drives.items h (seen c.args.terns.now c.args.leads.now) c.args.point)
+      tells_known (plain_tern c.shown_at-found.result) c.is_open-2.result c.is_open-2.ensures c.if-is_open.false,
+      c.shown_at-found.ensures.value
+          ∙ ap (λ (h : PlainTern). shown_tern c.args.network.now.trees.items c.args.network.now.drives.items h (seen c.args.terns.now c.args.leads.now) (slice_index c.args.order.now c.args.place))
           held,
     )

@@ -4,9 +4,9 @@ use Rattle.fab_network.specs.Passes.{IsPassed}
 use Rattle.fab_network.specs.Sharing.{IsShared}
 use Rattle.fab_network.proofs.passes.pass_over.Given as goal
 
-abbrev pub invariant-loop-point : goal.invariant-loop-point
-invariant-loop-point l = record {
+abbrev pub invariant-loop-place : goal.invariant-loop-place
+invariant-loop-place l = record {
   passed : IsPassed (record { trees = l.network.trees.items; drives = l.network.drives.items; held = l.held; order = l.order; leads = l.leads })
-      l.point-index l.initial.terns l.terns l.pass.changed l.pass.unsettled;
+      l.place l.initial.terns l.terns l.pass.changed l.pass.unsettled;
   shared : IsShared l.network.trees.items (length l.leads) (seen l.terns l.leads) l.shared;
 }

@@ -1,22 +1,7 @@
-use Rattle.std.proofs.Common.{◌≡◌, length, sym, ap, ◌∙◌}
-use Rattle.std.proofs.lemmas.List.{with_items_is}
-use Rattle.fab_demand.specs.Asked.{Asked}
-use Rattle.fab_demand.specs.Search.{asked_of}
-use Rattle.fab_demand.proofs.Settling.{cycle_shows, settled_of}
+use Rattle.std.proofs.Common.{refl}
+use Rattle.fab_network.proofs.Forming.{no_forms}
 use Rattle.fab_demand.proofs.demand.Demand.settle.Goals as goal
 
-pub returns-clause-shows : goal.returns-clause-shows
-returns-clause-shows c =
-    let search = c.self.inside.search in
-    let old : Asked = c.args.self.now in
-    let same : asked_of search ≡ old = c.self.view_is in
-    let leads : search.leads.items ≡ old.leads = ap (λ (a : Asked). a.leads) same in
-    let marks : search.marks.items ≡ old.marks = ap (λ (a : Asked). a.marks) same in
-    let own : search.own.items ≡ old.own = ap (λ (a : Asked). a.own) same in
-    let terns : search.terns.items ≡ old.terns = ap (λ (a : Asked). a.terns) same in
-    let long : length c.settle_anew.new.terns ≡ search.terns.len = c.settle_anew.auto.terns ∙ c.deref_mut.ensures.len in
-    let kept = with_items_is search.terns c.settle_anew.new.terns long in
-    cycle_shows c.args.network.now c.args.given.now old _ c.requires.fit c.requires.points leads marks own
-    (settled_of c.args.network.now c.args.given.now c.deref.result.now old.own c.deref-2.result.now old.leads c.deref_mut.result.now old.terns
-    c.settle_anew.new.terns _
-    (c.deref.ensures.value ∙ own) (c.deref-2.ensures.value ∙ leads) (c.deref_mut.ensures.value ∙ terns) (sym kept) c.settle_anew.ensures)
+pub settle_by-requires-clause-forms : goal.settle_by-requires-clause-forms
+settle_by-requires-clause-forms c =
+    no_forms c.args.network.now.trees.items c.args.network.now.drives.items c.args.self.now.own c.args.self.now.leads c.args.self.now.terns _ refl

@@ -4,6 +4,8 @@ use Rattle.std.specs.Vec.{with_items}
 use Rattle.std.proofs.lemmas.List.{with_items_is}
 use Rattle.fab_ternary.specs.declared.Tern.{Tern}
 use Rattle.fab_state_points.specs.Entries.{in_entries, out_entries}
+use Rattle.fab_network.specs.declared.forms.Form.{Form}
+use Rattle.fab_demand.specs.Demand.{AreFormsOf}
 use Rattle.fab_phases.specs.Cycles.{IsRunningAt}
 use Rattle.fab_sim.proofs.Numbers.{as_many_ins, ins_once, numbers_within}
 use Rattle.fab_sim.proofs.Cycling.{ShowsAs, TicksAs, moved, runs_as}
@@ -28,6 +30,11 @@ cycle-requires-clause-outs c place number e =
     let of = c.requires.3.of in
     numbers_within c.requires.0 (out_entries c.requires.1.outs) m.points.outs.items (length m.network.drives.items) of.stands.outs of.network.long place number
     (ap (λ (ns : List ℕ). slice_get ns place) (sym c.deref-2.ensures.value) ∙ e)
+
+pub cycle-requires-clause-forms : goal.cycle-requires-clause-forms
+cycle-requires-clause-forms c =
+    let m = c.args.self.now in
+    subst (λ (forms : List Form). AreFormsOf m.network m.demand forms) (sym c.deref-3.ensures.value) c.requires.3.forms
 
 pub returns : goal.returns
 returns c text state held next shown at cycle =
@@ -60,6 +67,7 @@ returns c text state held next shown at cycle =
         holds = run.after;
         running = subst (λ (xs : List Tern). IsRunningAt m.network m.points.ins.items m.points.outs.items c.cycle.new.demand xs run.after) (sym filled)
             (ticks at.holds run.later run.t run.after at.running run.fed run.least run.ticked);
+        forms = subst (λ (forms : List Form). AreFormsOf m.network c.cycle.new.demand forms) c.deref-3.ensures.value c.cycle.ensures.forms;
         agree = run.agree;
         low = run.low;
       },

@@ -113,6 +113,7 @@ returns-clause-runs c text state new loaded is_loaded =
           (subst (λ (outs : List ℕ). IsRunningAt m.network m.points.ins.items outs c.ask_for_run.new.demand c.deref-3.result.now
           (kept_tern c.deref-3.result.now))
           c.deref-2.ensures.value running));
+      forms = c.ask_for_run.ensures.forms;
       agree = starts.agree;
       low = starts.low;
     }

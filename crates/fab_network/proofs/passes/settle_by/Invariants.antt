@@ -1,7 +1,7 @@
 use Rattle.std.proofs.Common.{◌≡◌, ℕ, length}
 use Rattle.fab_compiled.specs.Terns.{seen}
 use Rattle.fab_network.specs.Passes.{kept_tern, open_count, AreBacked, AreRising, IsListed, StaysBelow}
-use Rattle.fab_network.proofs.passes.settle.Given as goal
+use Rattle.fab_network.proofs.passes.settle_by.Given as goal
 
 abbrev pub invariant-passes : goal.invariant-passes
 invariant-passes l = record {
