@@ -77,17 +77,7 @@ pub done_ready : (job : Job) (files : Map) (told after : Option Map) â†’ told â‰
 done_ready (Matrix list out) files told after is done = let made = (done.made files is).made in (made.pairs, made.spelled)
 done_ready (Generate fabric out) files told after is done =
     let made = (done.made files is).made in record { fabric = made.fabric; spelled = made.spelled; short = made.short }
-done_ready (Assemble fabric blif pcf implementation base) files told after is done =
-    let made = done.made files is in
-    record {
-      design = made.design;
-      implementation = made.implementation;
-      spelled = made.spelled;
-      implemented = made.implemented;
-      resets = made.resets;
-      fits = made.fits;
-      legal = made.legal;
-    }
+done_ready (Assemble fabric blif pcf implementation base) files told after is done = (done.made files is).ready
 done_ready (Mapping fabric blif pcf seed rounds out) files told after is done =
     let made = done.made files is in record { design = made.design; spelled = made.spelled; fits = made.fits }
 done_ready (Flow fabric blif pcf seed rounds reset base) files told after is done =
@@ -98,31 +88,8 @@ done_ready (Features fabric bit out) files told after is done =
     let made = done.made files is in record { fabric = made.fabric; bits = made.bits; spelled = made.spelled; read = made.read }
 done_ready (Simulate verilog bit state stimulus order trace) files told after is done =
     ready_of files (simulation_files verilog bit state stimulus trace) order done.outputs (done.made files is)
-done_ready (Partial fabric implementation fasm first last out) files told after is done =
-    let made = done.made files is in
-    record {
-      fabric = made.fabric;
-      implementation = made.implementation;
-      features = made.features;
-      spelled = made.spelled;
-      frames = made.frames;
-      implemented = made.implemented;
-      read = made.read;
-      within = made.within;
-      unused = made.unused;
-      right = made.right;
-    }
-done_ready (Timing fabric blif pcf implementation out) files told after is done =
-    let made = done.made files is in
-    record {
-      design = made.design;
-      implementation = made.implementation;
-      spelled = made.spelled;
-      implemented = made.implemented;
-      resets = made.resets;
-      fits = made.fits;
-      legal = made.legal;
-    }
+done_ready (Partial fabric implementation fasm first last out) files told after is done = (done.made files is).ready
+done_ready (Timing fabric blif pcf implementation out) files told after is done = (done.made files is).ready
 done_ready (Serial fabric out) files told after is done =
     let made = (done.made files is).made in record { fabric = made.fabric; spelled = made.spelled; frames = made.frames; short = made.short }
 done_ready (Sample size seed) files told after is done = tt

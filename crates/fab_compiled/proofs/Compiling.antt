@@ -194,17 +194,6 @@ module _ (ds : List Declaration) where
       let c = constant_compiled [] tree wide is e in
       record { made = c.made; tree_wide = c.tree_wide; is_wide = c.is_wide; below = c.below; value = c.value }
 
-  pub more_compiled : (e : PlainExpr) (es : PlainExprs) (low : Tree) (low_wide : ℕ) (high : Tree) (high_wide : ℕ) → AreCompiled ds es low low_wide → IsCompiled ds e high high_wide →
-      (tree : Tree) (wide : ℕ) → IsJoined low low_wide high high_wide tree wide → AreCompiled ds (more e es) tree wide
-  more_compiled e es low low_wide high high_wide ca cb (Cat' p a w q b) wide (la, lw, rb, sum) = record {
-    made = (ap tree_width la ∙ ca.tree_wide ∙ sym lw, subst IsMade (sym la) ca.made, subst IsMade (sym rb) cb.made);
-    tree_wide = omega (arith, lw, sum, ap tree_width rb, cb.tree_wide);
-    is_wide = omega (arith, sum, ca.is_wide, cb.is_wide);
-    below = (subst (IsBelowPlace (bits_of ds)) (sym la) ca.below, subst (IsBelowPlace (bits_of ds)) (sym rb) cb.below);
-    value = λ at. ap₂ (λ ts us. ts ++ us) (ap (tree_value at) la ∙ ca.value at) (ap (tree_value at) rb ∙ cb.value at);
-  }
-  more_compiled e es low low_wide high high_wide ca cb tree wide is = absurd is
-
   -- ---- as the code has it
 
   pub as_compiled : (e f : PlainExpr) (a b : Tree) (v w : ℕ) → IsCompiled ds e a v → f ≡ e → b ≡ a → w ≡ v → IsCompiled ds f b w
@@ -234,6 +223,11 @@ module _ (ds : List Declaration) where
   fit_part [] k e l is fit = absurd (omega arith)
   fit_part (p ∷ parts) zero e l is fit = subst (λ (x : Expr). IsFit ds (plain_expr x)) (sym is) fit.0
   fit_part (p ∷ parts) (suc k) e l is fit = fit_part parts k e (omega arith) is fit.1
+
+-- behind the last part there is none
+pub no_parts : (parts : List Expr) → [] ≡ drop (length parts) (map plain_expr parts)
+no_parts [] = refl
+no_parts (p ∷ parts) = no_parts parts
 
 -- one part more of a concatenation
 pub part_more : (parts : List Expr) (k : ℕ) (e : Expr) → k < length parts → e ≡ get_or parts k e →

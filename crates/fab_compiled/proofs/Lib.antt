@@ -3,8 +3,10 @@ pub mod Bits
 pub mod Entries
 pub mod TreesGrow
 pub mod Leading
+pub mod Telling
 pub mod Picking
 pub mod Compiling
+pub mod Joining
 pub mod Placed
 pub mod Evaluated
 pub mod Written

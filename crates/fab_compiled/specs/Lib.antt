@@ -2,6 +2,7 @@ pub mod Terns
 pub mod Trees
 pub mod Evaluation
 pub mod Leading
+pub mod Parts
 pub mod Compiling
 pub mod Values
 pub mod inner

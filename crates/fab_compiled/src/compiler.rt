@@ -1,13 +1,14 @@
 //! Expressions compiled: places for names.
 
-ghost use Rattle.std.specs.Prelude.{◌≡◌, ◌+◌, ◌^◌, ◌<◌, ℕ, length, map, IfOk, Some};
-ghost use Rattle.fab_syntax.specs.Plain.{concatenation, plain_expr, plain_exprs, plain_text};
-ghost use Rattle.fab_values.specs.Declarations.{declarations, found_in};
+ghost use Rattle.std.specs.Prelude.{◌≡◌, ◌+◌, ◌^◌, ◌<◌, ℕ, List, [], length, map, IfOk, Some};
+ghost use Rattle.fab_syntax.specs.Plain.{concatenation, more, none, plain_expr, plain_exprs, plain_text, PlainExpr, PlainExprs};
+ghost use Rattle.fab_values.specs.Declarations.{declarations, found_in, Declaration};
 ghost use Rattle.fab_values.specs.Evaluation.{IsFit, AreFit};
 ghost use Rattle.fab_values.specs.declared.names.Local.{Local};
 ghost use Rattle.fab_equations.specs.Instances.{Instance, instances};
 ghost use Rattle.fab_equations.specs.Numbering.{IsInstanceOfNumber};
 ghost use Rattle.fab_compiled.specs.Compiling.{IsCompiled, AreCompiled, IsPlaceOf, IsJoined, IsOperation, tree_is_constant};
+ghost use Rattle.fab_compiled.specs.inner.Joining.{AreJoined};
 
 use crate::tree::Tree;
 use fab_base::Memory;
@@ -15,6 +16,9 @@ use fab_equations::Equations;
 use fab_syntax::{Expr, Op, Word};
 use fab_values::bits_of_shape;
 use std::alloc::Global;
+
+/// How many parts of a concatenation make a group.
+const GROUP: usize = 128;
 
 /// A compiled expression, and how many bits it has.
 #[derive(Drop)]
@@ -113,14 +117,93 @@ fn compile_parts(
     ensures { IfOk result (λ made. (i : Instance) → IsInstanceOfNumber (plain_text equations.now) instance i →
         AreCompiled (declarations i.here) (plain_exprs (map plain_expr parts.now)) made.tree.value made.width) }
 {
-    let mut low = boxed(alloc, Tree::Const(Vec::new(alloc)), 0)?;
+    let mut joined = Joined::new(alloc)?;
     let mut end = parts.len();
     while end > 0 {
         end -= 1;
         let high = compile(alloc, equations, instance, &parts[end])?;
-        low = join(alloc, low, high)?;
+        joined = joined.with(alloc, high)?;
     }
-    Ok(low)
+    joined.close(alloc)
+}
+
+/// Parts of a concatenation that are joined one behind the other. The most significant ones wait in a group, and full groups are joined one behind
+/// the other. So the way down to a part passes the parts of its group and the groups above it, and not all parts above it.
+#[derive(Drop)]
+struct Joined {
+    low: Compiled,
+    group: Compiled,
+    /// How many parts the group has.
+    count: usize,
+}
+
+impl Joined {
+    // No parts.
+    fn new(alloc: Global) -> Result<Joined, Memory>
+        ensures { IfOk result (λ made. (ds : List Declaration) → AreJoined ds none made.low.tree.value made.low.width made.group.tree.value made.group.width) }
+    {
+        let low = nothing(alloc)?;
+        let group = nothing(alloc)?;
+        Ok(Joined {
+            low,
+            group,
+            count: 0,
+        })
+    }
+
+    // One part more, more significant than the others.
+    fn with(self, alloc: Global, high: Compiled) -> Result<Joined, Memory>
+        ensures { IfOk result (λ made. (ds : List Declaration) (e : PlainExpr) (es : PlainExprs) →
+            AreJoined ds es self.low.tree.value self.low.width self.group.tree.value self.group.width → IsCompiled ds e high.tree.value high.width →
+            AreJoined ds (more e es) made.low.tree.value made.low.width made.group.tree.value made.group.width) }
+    {
+        let group = join(alloc, self.group, high)?;
+        let joined = Joined {
+            low: self.low,
+            group,
+            count: self.count.saturating_add(1),
+        };
+        if joined.count < GROUP {
+            Ok(joined)
+        } else {
+            joined.flush(alloc)
+        }
+    }
+
+    // The group is joined to those before it.
+    fn flush(self, alloc: Global) -> Result<Joined, Memory>
+        ensures { IfOk result (λ made. (ds : List Declaration) (es : PlainExprs) →
+            AreJoined ds es self.low.tree.value self.low.width self.group.tree.value self.group.width →
+            AreJoined ds es made.low.tree.value made.low.width made.group.tree.value made.group.width) }
+    {
+        let low = join(alloc, self.low, self.group)?;
+        let group = nothing(alloc)?;
+        Ok(Joined {
+            low,
+            group,
+            count: 0,
+        })
+    }
+
+    // All parts in one. A group alone stands as it is.
+    fn close(self, alloc: Global) -> Result<Compiled, Memory>
+        ensures { IfOk result (λ made. (ds : List Declaration) (es : PlainExprs) →
+            AreJoined ds es self.low.tree.value self.low.width self.group.tree.value self.group.width → AreCompiled ds es made.tree.value made.width) }
+    {
+        if self.low.width == 0 {
+            Ok(self.group)
+        } else {
+            join(alloc, self.low, self.group)
+        }
+    }
+}
+
+// No bits.
+fn nothing(alloc: Global) -> Result<Compiled, Memory>
+    ensures tree { IfOk result (λ made. tree_is_constant [] made.tree.value) }
+    ensures width { IfOk result (λ made. made.width ≡ 0) }
+{
+    boxed(alloc, Tree::Const(Vec::new(alloc)), 0)
 }
 
 // Two parts of a concatenation, the less significant one first.

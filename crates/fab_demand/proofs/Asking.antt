@@ -8,7 +8,7 @@ use Rattle.fab_ternary.specs.declared.Tern.{Tern}
 use Rattle.fab_ternary.specs.Terns.{plain_tern}
 use Rattle.fab_compiled.specs.declared.leads.Lead.{Lead}
 use Rattle.fab_compiled.specs.declared.leads.Lead.TheVariants.{Known, Point, Own}
-use Rattle.fab_compiled.specs.Leading.{PointTerns, IsLedTo, IsMarked}
+use Rattle.fab_compiled.specs.Leading.{PointTerns, AreAbove, IsLedTo, IsMarked}
 use Rattle.fab_network.specs.declared.network.Clock.{Clock}
 use Rattle.fab_network.specs.declared.network.Drive.TheVariants.{Flop}
 use Rattle.fab_network.specs.declared.network.Network.{Network}
@@ -16,10 +16,11 @@ use Rattle.fab_network.specs.declared.network.Source.{Source}
 use Rattle.fab_demand.specs.declared.search.Search.{Search}
 use Rattle.fab_demand.specs.Asked.{Asked, AsksMore, IsPossible}
 use Rattle.fab_demand.specs.Demand.{shown_of, IsAsked, IsKept, IsLooked, IsRegisterAsked}
+use Rattle.fab_demand.specs.inner.Beside.{KnowsMore}
 use Rattle.fab_demand.specs.inner.Looking.{Finds}
 use Rattle.fab_demand.specs.Search.{asked_of, left_of, unset_count, AreWaiting, Closes, HasRoom, IsKeeping, IsResting, IsSearching}
 use Rattle.fab_demand.proofs.Lists.{bool_there, get_other, get_within, mark_stays, not_both, unset_fewer}
-use Rattle.fab_demand.proofs.Steps.{keep_looked, keep_more, known_looked, known_more, led_looked, led_more, ring_enough}
+use Rattle.fab_demand.proofs.Steps.{keep_looked, keep_more, known_above, known_looked, known_more, led_above, led_looked, led_more, ring_enough}
 use Rattle.fab_demand.proofs.Waiting.{last_waits, wait_asks, wait_looked, waits_fewer, waits_more}
 
 -- ---- more and more
@@ -48,6 +49,7 @@ pub record GoesOn (network : Network) (clock : Clock) (given : PointTerns) (old 
   pub searching : IsSearching network clock given new
   pub more : AsksMore (asked_of old) (asked_of new)
   pub falls : left_of new < left_of old
+  pub above : KnowsMore (asked_of old) (asked_of new)
 
 module _ (network : Network) (clock : Clock) (given : PointTerns) (old new : Search) (searching : IsSearching network clock given old) where
   -- a point that has not been asked for is not done
@@ -89,6 +91,7 @@ module _ (network : Network) (clock : Clock) (given : PointTerns) (old new : Sea
         };
         more = subst (AsksMore (asked_of old)) (sym asked) (wait_asks network clock given (asked_of old) old.done.items point searching.looked waits);
         falls = omega (arith, unset_fewer old.marks.items point unmarked, ap unset_count marks, ap unset_count done);
+        above = λ t h. subst (λ (a : Asked). AreAbove a.terns a.leads t) asked h;
       }
 
   done_marked : (point : ℕ) → slice_get old.stack.items (length old.stack.items - 1) ≡ Some point → (q : ℕ) →
@@ -102,9 +105,9 @@ module _ (network : Network) (clock : Clock) (given : PointTerns) (old new : Sea
   pub close_goes_on : (point : ℕ) (asked : Asked) → slice_get old.stack.items (length old.stack.items - 1) ≡ Some point →
       slice_get old.done.items point ≡ Some false →
       Closes old new point asked → asked.marks ≡ old.marks.items → IsLooked network clock given asked (slice_set old.done.items point true) →
-      AsksMore (asked_of old) asked →
+      AsksMore (asked_of old) asked → KnowsMore (asked_of old) asked →
       GoesOn network clock given old new
-  close_goes_on point asked last waits closes same looked more =
+  close_goes_on point asked last waits closes same looked more above =
       let marks : new.marks.items ≡ old.marks.items = ap (λ (a : Asked). a.marks) closes.asked ∙ same in
       let asked_looked : IsLooked network clock given (asked_of new) (slice_set old.done.items point true) =
       subst (λ (a : Asked). IsLooked network clock given a (slice_set old.done.items point true)) (sym closes.asked) looked in
@@ -122,6 +125,7 @@ module _ (network : Network) (clock : Clock) (given : PointTerns) (old new : Sea
         };
         more = subst (AsksMore (asked_of old)) (sym closes.asked) more;
         falls = omega (arith, unset_fewer old.done.items point waits, ap unset_count marks, ap unset_count closes.done);
+        above = λ t h. above t (subst (λ (a : Asked). AreAbove a.terns a.leads t) closes.asked h);
       }
 
 -- a point to which a marked point is led
@@ -158,6 +162,8 @@ module _ (network : Network) (clock : Clock) (given : PointTerns) (old : Search)
       registers)
       (known_more network clock given asked old.done.items point searching.looked searching.room.done points searching.marked top.1 top.0 b tern is finds
       registers)
+      (known_above network clock given asked old.done.items point searching.looked searching.room.done points searching.marked top.1 top.0 b tern is finds
+      registers)
 
   keep_by : (new : Search) → ((later t u : PointTerns) → IsKept network clock given asked.terns asked.leads later → IsPossible asked t → IsPossible asked u →
       ((q : ℕ) → IsMarked asked.marks q → t q ≡ u q) → shown_of network later t point ≡ shown_of network later u point) →
@@ -166,6 +172,7 @@ module _ (network : Network) (clock : Clock) (given : PointTerns) (old : Search)
       close_goes_on network clock given old new searching point (record asked { own = asked.own ++ point ∷ [] }) last top.1 closes refl
       (keep_looked network clock given asked old.done.items point searching.looked searching.room.done points searching.marked top.1 top.0 enough)
       (keep_more network clock given asked old.done.items point searching.looked searching.room.done points searching.marked top.1 top.0 enough)
+      (λ t h. h)
 
   pub keep_goes_on : (new : Search) → Found Own → Closes old new point (record asked { own = asked.own ++ point ∷ [] }) → GoesOn network clock given old new
   keep_goes_on new finds closes =
@@ -181,6 +188,8 @@ module _ (network : Network) (clock : Clock) (given : PointTerns) (old : Search)
             (led_looked network clock given asked old.done.items point searching.looked searching.room.done points searching.marked top.1 top.0 other finds
             registers d)
             (led_more network clock given asked old.done.items point searching.looked searching.room.done points searching.marked top.1 top.0 other finds
+            registers d)
+            (led_above network clock given asked old.done.items point searching.looked searching.room.done points searching.marked top.1 top.0 other finds
             registers d)
         | inr n ↦ keep_by new (ring_enough network clock given asked old.done.items point searching.looked searching.room.done points searching.marked top.1
             top.0 other finds registers) (waits n)

@@ -1,19 +1,30 @@
--- Other bits of an expression that stands for itself.
-use Rattle.std.proofs.Common.{◌≡◌, ℕ, zero, suc, ◌-◌, Bool, true, false, List, [], ◌∷◌, ◌++◌, Option, Some, length, refl, sym, ap, ◌∙◌, subst, arith, slice_get, slice_set, length-append}
-use Rattle.fab_compiled.specs.declared.leads.Lead.TheVariants.{Own}
-use Rattle.fab_compiled.specs.Leading.{PointTerns, AgreeOnMarked}
+-- Other bits of an expression, beside one that a look has found.
+use Rattle.std.proofs.Common.{◌≡◌, ℕ, zero, suc, ◌+◌, ◌-◌, ◌<◌, Bool, true, false, List, [], ◌∷◌, ◌++◌, Option, Some, length, refl, sym, ap, ◌∙◌, subst, arith, slice_get, slice_set, length-append}
+use Rattle.fab_systems_laws.specs.Ternary.{no, yes, unknown, known, IsBelow}
+use Rattle.fab_systems_laws.specs.Ternary.{Tern as PlainTern}
+use Rattle.fab_ternary.specs.declared.Tern.{Tern}
+use Rattle.fab_ternary.specs.Terns.{plain_tern, is_known}
+use Rattle.fab_compiled.specs.declared.leads.Lead.TheVariants.{Known, Own}
+use Rattle.fab_compiled.specs.declared.tree.Tree.{Tree}
+use Rattle.fab_compiled.specs.Leading.{PointTerns, AreAbove, AgreeOnMarked}
 use Rattle.fab_network.specs.declared.network.Clock.{Clock}
 use Rattle.fab_network.specs.declared.network.Drive.{Drive}
-use Rattle.fab_network.specs.declared.network.Drive.TheVariants.{Value}
+use Rattle.fab_network.specs.declared.network.Drive.TheVariants.{Flop, Value}
 use Rattle.fab_network.specs.declared.network.Network.{Network}
 use Rattle.fab_network.specs.declared.network.Source.{Source}
-use Rattle.fab_network.specs.Leading.{DependsOnMarked}
 use Rattle.fab_network.specs.Network.{source_tern}
+use Rattle.fab_network.proofs.Kept.{known_below}
+use Rattle.fab_demand.specs.declared.registers.Span.{Span}
+use Rattle.fab_compiled.specs.declared.parts.Part.{Part}
 use Rattle.fab_demand.specs.declared.search.Search.{Search}
-use Rattle.fab_demand.specs.Asked.{Asked, AsksMore}
+use Rattle.fab_demand.specs.Asked.{Asked, AsksMore, IsSourceAsked}
+use Rattle.fab_demand.specs.inner.Beside.{IsBeside, IsClosedAs, IsInSpan, IsSpanAsked, IsSpanOf, KnowsMore}
 use Rattle.fab_demand.specs.inner.Looking.{Finds}
+use Rattle.fab_compiled.specs.Parts.{TellsBits}
+use Rattle.fab_network.specs.Leading.{bits_of_source}
 use Rattle.fab_demand.specs.Search.{asked_of, Closes, HasRoom, IsSearching}
-use Rattle.fab_demand.proofs.Asking.{asks_both, keep_goes_on, wait_goes_on, GoesOn}
+use Rattle.fab_demand.proofs.Asking.{asks_both, keep_goes_on, know_goes_on, wait_goes_on, GoesOn}
+use Rattle.fab_demand.proofs.Lists.{get_within}
 
 last_there : (xs : List ℕ) (y k : ℕ) → k ≡ length xs → slice_get (xs ++ y ∷ []) k ≡ Some y
 last_there [] y zero e = refl
@@ -21,42 +32,103 @@ last_there [] y (suc k) e = absurd (omega (arith, e))
 last_there (x ∷ xs) y zero e = absurd (omega (arith, e))
 last_there (x ∷ xs) y (suc k) e = last_there xs y k (omega (arith, e))
 
--- what depends on marked points does so where more are marked
-pub depends_more : (network : Network) (source : Source) (old new : Asked) → AsksMore old new → DependsOnMarked network.trees.items old.marks source →
-    DependsOnMarked network.trees.items new.marks source
-depends_more network source old new more depends bit t u agree = depends bit t u (λ q m. agree q (more.marks q m))
+known_is : (b : Bool) → is_known (known b) ≡ true
+known_is true = refl
+known_is false = refl
 
--- a bit of such an expression
-pub bit_same : (network : Network) (marks : List Bool) (source next : Source) → next.tree ≡ source.tree → next.first ≡ source.first →
-    DependsOnMarked network.trees.items marks source → (t u : PointTerns) → AgreeOnMarked marks t u →
-    source_tern network.trees.items t next ≡ source_tern network.trees.items u next
-bit_same network marks source next same_tree same_first depends t u agree =
-    let this : Source = record { tree = source.tree; first = source.first; bit = next.bit } in
-    let same : this ≡ next = (λ j. record { tree = sym same_tree j; first = sym same_first j; bit = next.bit }) in
-    subst (λ (s : Source). source_tern network.trees.items t s ≡ source_tern network.trees.items u s) same (depends next.bit t u agree)
+-- the same of equal lists
+pub tells_same : (source : Source) (part : Part) (terns other_terns : List Tern) (leads other_leads : List ℕ) (marks other_marks : List Bool)
+    (trees other_trees : List Tree) → terns ≡ other_terns → leads ≡ other_leads → marks ≡ other_marks → trees ≡ other_trees →
+    TellsBits terns leads marks (bits_of_source trees source) part → TellsBits other_terns other_leads other_marks (bits_of_source other_trees source) part
+tells_same source part terns other_terns leads other_leads marks other_marks trees other_trees e f g h tells =
+    subst (λ (xs : List Tree). TellsBits other_terns other_leads other_marks (bits_of_source xs source) part) h
+    (subst (λ (xs : List Bool). TellsBits other_terns other_leads xs (bits_of_source trees source) part) g
+    (subst (λ (xs : List ℕ). TellsBits other_terns xs marks (bits_of_source trees source) part) f
+    (subst (λ (xs : List Tern). TellsBits xs leads marks (bits_of_source trees source) part) e tells)))
 
--- it is asked for and kept, without a look
-pub other_goes_on : (network : Network) (clock : Clock) (given : PointTerns) (old mid new : Search) → IsSearching network clock given old →
-    length network.drives.items ≡ length old.leads.items → (source next : Source) (other : ℕ) → slice_get old.marks.items other ≡ Some false →
-    slice_get network.drives.items other ≡ Some (Value next) → next.tree ≡ source.tree → next.first ≡ source.first →
-    DependsOnMarked network.trees.items old.marks.items source →
-    asked_of mid ≡ record (asked_of old) { marks = slice_set old.marks.items other true } → mid.done.items ≡ old.done.items →
-    mid.stack.items ≡ old.stack.items ++ other ∷ [] → HasRoom mid →
-    Closes mid new other (record (asked_of mid) { own = mid.own.items ++ other ∷ [] }) → GoesOn network clock given old new
-other_goes_on network clock given old mid new searching points source next other unmarked drive same_tree same_first depends asked done stack room closes =
-    let first : GoesOn network clock given old mid = wait_goes_on network clock given old mid searching other unmarked asked done stack room in
-    let place : length mid.stack.items - 1 ≡ length old.stack.items = omega (arith, ap length stack, length-append old.stack.items (other ∷ [])) in
-    let last : slice_get mid.stack.items (length mid.stack.items - 1) ≡ Some other =
-    ap (λ (xs : List ℕ). slice_get xs (length mid.stack.items - 1)) stack ∙ last_there old.stack.items other (length mid.stack.items - 1) place in
-    let mid_points : length network.drives.items ≡ length mid.leads.items = points ∙ sym first.more.long in
-    let finds : Finds network.trees.items clock (given other) mid.terns.items mid.leads.items mid.marks.items (Some (Value next)) Own =
-    λ later t u kept at_t follow_t at_u follow_u agree.
-    bit_same network old.marks.items source next same_tree same_first depends t u (λ q m. agree q (first.more.marks q m)) in
-    let then : GoesOn network clock given mid new =
-    keep_goes_on network clock given mid first.searching mid_points other last new
-    (subst (λ (d : Option Drive). Finds network.trees.items clock (given other) mid.terns.items mid.leads.items mid.marks.items d Own) (sym drive) finds) closes in
-    record {
-      searching = then.searching;
-      more = asks_both (asked_of old) (asked_of mid) (asked_of new) first.more then.more;
-      falls = omega (arith, first.falls, then.falls);
-    }
+-- what a part tells stays true where more is known
+pub tells_later : (value : PointTerns → (bit : ℕ) → PlainTern) (part : Part) (old new : Asked) → AsksMore old new → KnowsMore old new →
+    TellsBits old.terns old.leads old.marks value part → TellsBits new.terns new.leads new.marks value part
+tells_later value part old new more above tells = record {
+  below = λ k bit e t h. tells.below k bit e t (above t h);
+  depends = λ m k l t u at_t at_u agree. tells.depends m k l t u (above t at_t) (above u at_u) (λ q n. agree q (more.marks q n));
+}
+
+-- one search behind another
+pub goes_both : (network : Network) (clock : Clock) (given : PointTerns) (old mid new : Search) → GoesOn network clock given old mid →
+    GoesOn network clock given mid new → GoesOn network clock given old new
+goes_both network clock given old mid new first then = record {
+  searching = then.searching;
+  more = asks_both (asked_of old) (asked_of mid) (asked_of new) first.more then.more;
+  falls = omega (arith, first.falls, then.falls);
+  above = λ t h. first.above t (then.above t h);
+}
+
+-- a point beside another is asked for and closed, without a look
+module _ (network : Network) (clock : Clock) (given : PointTerns) (old mid new : Search) (searching : IsSearching network clock given old)
+    (points : length network.drives.items ≡ length old.leads.items) (source : Source) (part : Part)
+    (tells : TellsBits old.terns.items old.leads.items old.marks.items (bits_of_source network.trees.items source) part)
+    (other : ℕ) (found : Tern) (beside : IsBeside network source part old.marks.items other found)
+    (asked : asked_of mid ≡ record (asked_of old) { marks = slice_set old.marks.items other true }) (done : mid.done.items ≡ old.done.items)
+    (stack : mid.stack.items ≡ old.stack.items ++ other ∷ []) (room : HasRoom mid) (closes : IsClosedAs mid new other found) where
+  waits : GoesOn network clock given old mid
+  waits = wait_goes_on network clock given old mid searching other beside.unmarked asked done stack room
+
+  last : slice_get mid.stack.items (length mid.stack.items - 1) ≡ Some other
+  last =
+      let place : length mid.stack.items - 1 ≡ length old.stack.items = omega (arith, ap length stack, length-append old.stack.items (other ∷ [])) in
+      ap (λ (xs : List ℕ). slice_get xs (length mid.stack.items - 1)) stack ∙ last_there old.stack.items other (length mid.stack.items - 1) place
+
+  mid_points : length network.drives.items ≡ length mid.leads.items
+  mid_points = points ∙ sym waits.more.long
+
+  abbrev next : Source
+  next = record { tree = source.tree; first = source.first; bit = beside.bit }
+
+  value_is : (t : PointTerns) → source_tern network.trees.items t next ≡ bits_of_source network.trees.items source t (part.low + beside.in_part.place)
+  value_is t = ap (bits_of_source network.trees.items source t) beside.in_part.at
+
+  known_closes : (b : Bool) → plain_tern found ≡ known b → GoesOn network clock given mid new
+  known_closes b is =
+      let finds : Finds network.trees.items clock (given other) mid.terns.items mid.leads.items mid.marks.items (Some (Value next)) (Known b) =
+      λ later t kept above.
+      value_is t ∙ sym (known_below (known b) (bits_of_source network.trees.items source t (part.low + beside.in_part.place)) (known_is b)
+      (subst (λ (x : PlainTern). IsBelow x (bits_of_source network.trees.items source t (part.low + beside.in_part.place))) is
+      (tells.below beside.in_part.place found beside.in_part.is t (waits.above t above)))) in
+      let registers : (own : Source) → slice_get network.drives.items other ≡ Some (Flop clock own) → Known b ≡ Own =
+      λ own drive. let e : Some (Value next) ≡ Some (Flop clock own) = sym beside.drive ∙ drive in cc in
+      let known_at = closes.known b is in
+      know_goes_on network clock given mid waits.searching mid_points other last new b known_at.0 known_at.1
+      (subst (λ (d : Option Drive). Finds network.trees.items clock (given other) mid.terns.items mid.leads.items mid.marks.items d (Known b)) (sym beside.drive) finds)
+      registers known_at.2
+
+  itself_closes : plain_tern found ≡ unknown → GoesOn network clock given mid new
+  itself_closes is =
+      let within = get_within part.bits.items beside.in_part.place found beside.in_part.is in
+      let finds : Finds network.trees.items clock (given other) mid.terns.items mid.leads.items mid.marks.items (Some (Value next)) Own =
+      λ later t u kept at_t follow_t at_u follow_u agree.
+      value_is t
+      ∙ tells.depends (beside.in_part.enough is) beside.in_part.place within t u (waits.above t at_t) (waits.above u at_u) (λ q m. agree q (waits.more.marks q m))
+      ∙ sym (value_is u) in
+      keep_goes_on network clock given mid waits.searching mid_points other last new
+      (subst (λ (d : Option Drive). Finds network.trees.items clock (given other) mid.terns.items mid.leads.items mid.marks.items d Own) (sym beside.drive) finds)
+      (closes.itself is)
+
+  closes_by : (x : PlainTern) → plain_tern found ≡ x → GoesOn network clock given mid new
+  closes_by no is = known_closes false is
+  closes_by yes is = known_closes true is
+  closes_by unknown is = itself_closes is
+
+  pub other_goes_on : GoesOn network clock given old new
+  other_goes_on = goes_both network clock given old mid new waits (closes_by (plain_tern found) refl)
+
+-- all that the bits of a marked part need has been asked for
+pub part_asked : (trees : List Tree) (asked : Asked) (source : Source) (part : Part) (span : Span) →
+    TellsBits asked.terns asked.leads asked.marks (bits_of_source trees source) part → part.marked ≡ true → IsSpanOf source part span → IsSpanAsked trees asked span
+part_asked trees asked source part span tells marked is next inside t u at_t at_u agree =
+    let place : ℕ = next.bit - part.low in
+    let within : place < length part.bits.items = omega (arith, inside.low, inside.below, is.low, is.count) in
+    let at : next.bit ≡ part.low + place = omega (arith, inside.low, is.low) in
+    let same : next ≡ record { tree = source.tree; first = source.first; bit = part.low + place } =
+    (λ j. record { tree = (inside.tree ∙ is.tree) j; first = (inside.first ∙ is.first) j; bit = at j }) in
+    ap (source_tern trees t) same ∙ tells.depends marked place within t u at_t.above at_u.above agree ∙ sym (ap (source_tern trees u) same)

@@ -64,7 +64,7 @@ module _ (network : Network) (clock : Clock) (given : PointTerns) (asked : Asked
     point_known : kept_tern knowing.terns point ≡ known b
     point_known = kept_same asked.terns point tern room ∙ is
 
-    known_above : (t : PointTerns) → AreAbove knowing.terns knowing.leads t → AreAbove asked.terns asked.leads t
+    pub known_above : (t : PointTerns) → AreAbove knowing.terns knowing.leads t → AreAbove asked.terns asked.leads t
     known_above t above q l =
         let lead = slice_index asked.leads q in
         below_trans (kept_tern asked.terns lead) (kept_tern knowing.terns lead) (t q) (rising_set asked.terns point tern room nothing lead) (above q l)
@@ -165,7 +165,7 @@ module _ (network : Network) (clock : Clock) (given : PointTerns) (asked : Asked
       long_same : length leading.leads ≡ length asked.leads
       long_same = length-set asked.leads point other
 
-      led_above : (t : PointTerns) → AreAbove leading.terns leading.leads t → AreAbove asked.terns asked.leads t
+      pub led_above : (t : PointTerns) → AreAbove leading.terns leading.leads t → AreAbove asked.terns asked.leads t
       led_above t above q l =
           elim (cases_eq q point) [
             | inl e ↦ (let none : seen asked.terns asked.leads q ≡ unknown = ap (seen asked.terns asked.leads) e ∙ ap (kept_tern asked.terns) itself

@@ -6,6 +6,7 @@ mod demand;
 pub mod laws;
 mod look;
 mod others;
+mod registers;
 mod rows;
 mod search;
 

@@ -1,26 +1,31 @@
-//! Other bits of a difference of which one stands for itself.
+//! Other bits of an expression, beside one that a look has found.
 
-ghost use Rattle.std.specs.Prelude.{◌≡◌, ◌≤◌, true, length, slice_get, IfSome, Some};
+ghost use Rattle.std.specs.Prelude.{◌≡◌, ◌<◌, ◌≤◌, false, length, slice_get, IfSome};
+ghost use Rattle.fab_systems_laws.specs.Ternary.{unknown, known as known_tern};
+ghost use Rattle.fab_ternary.specs.Terns.{plain_tern};
 ghost use Rattle.fab_compiled.specs.Leading.{PointTerns};
 ghost use Rattle.fab_network.specs.declared.network.Clock.{Clock};
-ghost use Rattle.fab_network.specs.declared.network.Drive.TheVariants.{Value};
 ghost use Rattle.fab_network.specs.Network.{AreFit, IsFitSource};
-ghost use Rattle.fab_network.specs.Leading.{DependsOnMarked};
 ghost use Rattle.fab_demand.specs.Asked.{AsksMore};
-ghost use Rattle.fab_demand.specs.Search.{asked_of, left_of, IsSearching};
+ghost use Rattle.fab_demand.specs.Search.{asked_of, left_of, Closes, HasRoom, IsSearching};
+ghost use Rattle.fab_compiled.specs.Parts.{TellsBits};
+ghost use Rattle.fab_network.specs.Leading.{bits_of_source};
+ghost use Rattle.fab_demand.specs.inner.Beside.{IsBeside, IsBit, IsClosedAs, IsInPart, KnowsMore};
 
 use crate::rows::is_unmarked;
 use crate::search::Search;
-use fab_compiled::Tree;
-use fab_network::{Drive, Network, Source, is_marked};
+use fab_base::Memory;
+use fab_compiled::{Part, View};
+use fab_network::{Drive, Network, Source, part_of_source};
+use fab_ternary::Tern;
 
-/// How many bits a difference has whose bits are kept together.
-const MANY: u64 = 32;
+/// How many bits stand side by side at least, so that they are found together.
+const MANY: u32 = 32;
 
 impl Search {
-    /// Other bits of a difference of which one stands for itself do so too, once all that it depends on has been asked for: a bit of a difference is known
-    /// exactly if all are. So they are kept without a look, each of which would go through all that the difference depends on.
-    pub(crate) fn keep_others(&mut self, network: &Network, point: u32)
+    /// Closes other bits of the expression of a point without a look, as far as they are known or depend on points alone that have been asked for. A look at
+    /// each of them would go through all that they rest on.
+    pub(crate) fn close_others(&mut self, network: &Network, point: u32)
         requires fit { AreFit network.now.trees.items network.now.drives.items }
         requires points { length network.now.drives.items ≡ length self.old.leads.items }
         requires searching { (clock : Clock) × (given : PointTerns) × IsSearching network.now clock given self.old }
@@ -28,99 +33,133 @@ impl Search {
         ensures more { AsksMore (asked_of self.old) (asked_of self.new) }
         ensures left { left_of self.new ≤ left_of self.old }
     {
-        let Some(source) = difference_at(network, point) else {
+        let Some(source) = wide_at(network, point) else {
             return;
         };
-        let start = first_beside(network, source, point, &self.marks);
-        let end = behind_last_beside(network, source, point, &self.marks);
-        if start < point || point.saturating_add(1) < end {
-            self.keep_row(network, source, start, end);
+        let alloc = *self.stack.allocator();
+        let view = View {
+            terns: &self.terns,
+            leads: &self.leads,
+        };
+        match part_of_source(alloc, &network.trees, source, &view, &self.marks) {
+            Ok(part) => self.close_part(network, source, &part, point),
+            Err(Memory) => {}
         }
     }
 
-    // Keeps bits of a difference between these points.
-    fn keep_row(&mut self, network: &Network, source: Source, start: u32, end: u32)
+    // Closes bits of a part of an expression, of which a point is one bit.
+    fn close_part(&mut self, network: &Network, source: Source, part: &Part, point: u32)
         requires points { length network.now.drives.items ≡ length self.old.leads.items }
-        requires fit { IsFitSource network.now.trees.items (length self.old.leads.items) source }
+        requires tells { TellsBits self.old.terns.items self.old.leads.items self.old.marks.items (bits_of_source network.now.trees.items source) part.now }
         requires searching { (clock : Clock) × (given : PointTerns) × IsSearching network.now clock given self.old }
         ensures searching { (clock : Clock) (given : PointTerns) → IsSearching network.now clock given self.old → IsSearching network.now clock given self.new }
         ensures more { AsksMore (asked_of self.old) (asked_of self.new) }
         ensures left { left_of self.new ≤ left_of self.old }
     {
-        if !is_marked(&network.trees, source, &self.marks) {
-            return;
-        }
+        let (start, end) = points_of(source, part, point);
         for other in start..end {
-            self.keep_other(network, source, other);
+            self.close_other(network, source, part, other);
         }
     }
 
-    // Keeps a bit of a difference, unless it has been asked for.
-    fn keep_other(&mut self, network: &Network, source: Source, other: u32)
+    // Closes a bit, unless it has been asked for or has to be looked at.
+    fn close_other(&mut self, network: &Network, source: Source, part: &Part, other: u32)
         requires points { length network.now.drives.items ≡ length self.old.leads.items }
-        requires depends { DependsOnMarked network.now.trees.items self.old.marks.items source }
+        requires tells { TellsBits self.old.terns.items self.old.leads.items self.old.marks.items (bits_of_source network.now.trees.items source) part.now }
         requires searching { (clock : Clock) × (given : PointTerns) × IsSearching network.now clock given self.old }
         ensures searching { (clock : Clock) (given : PointTerns) → IsSearching network.now clock given self.old → IsSearching network.now clock given self.new }
         ensures more { AsksMore (asked_of self.old) (asked_of self.new) }
         ensures left { left_of self.new ≤ left_of self.old }
+        ensures above { KnowsMore (asked_of self.old) (asked_of self.new) }
     {
-        if is_unmarked(other, &self.marks) && is_bit_of(network, source, other) {
+        if let Some(found) = found_beside(network, source, part, other, &self.marks) {
             self.wait(other);
-            self.keep(other);
+            self.close_as(other, found);
+        }
+    }
+
+    // The last point that waits has this, or stands for itself where nothing is known of it.
+    fn close_as(&mut self, point: u32, found: Tern)
+        requires room { HasRoom self.old }
+        requires done { slice_get self.old.done.items point ≡ Some false }
+        requires within { point < length self.old.terns.items }
+        ensures { IsClosedAs self.old self.new point found }
+    {
+        match found {
+            Tern::No => self.know(point, false),
+            Tern::Yes => self.know(point, true),
+            Tern::Open => self.keep(point),
         }
     }
 }
 
-// The difference of which a point is a bit, if it is one of many bits.
-fn difference_at(network: &Network, point: u32) -> Option<Source>
+// The expression of which a point is one of many bits.
+fn wide_at(network: &Network, point: u32) -> Option<Source>
     requires fit { AreFit network.now.trees.items network.now.drives.items }
     ensures { IfSome result (λ source. IsFitSource network.now.trees.items (length network.now.drives.items) source) }
 {
     match network.drives.get(point as usize) {
-        Some(Drive::Value(source)) if is_difference(&network.trees, *source) => Some(*source),
+        Some(Drive::Value(source)) if is_wide(network, *source, point) => Some(*source),
         _ => None,
     }
 }
 
-fn is_difference(trees: &[Tree], source: Source) -> bool {
-    match trees.get(source.tree as usize) {
-        Some(Tree::Minus(width, _, _)) => *width >= MANY,
-        _ => false,
-    }
+// Whether half as many points before or behind a point there is a bit of the same expression.
+fn is_wide(network: &Network, source: Source, point: u32) -> bool {
+    is_bit_of(network, source, point.saturating_add(MANY / 2))
+        || is_bit_of(network, source, point.saturating_sub(MANY / 2))
 }
 
-// Whether a point is a bit of the expression of this source.
-fn is_bit_of(network: &Network, source: Source, point: u32) -> bool
-    ensures { result ≡ true → (next : Source) × (slice_get network.now.drives.items point ≡ Some (Value next)) × (next.tree ≡ source.tree) × (next.first ≡ source.first) }
+fn is_bit_of(network: &Network, source: Source, point: u32) -> bool {
+    bit_of(network, source, point).is_some()
+}
+
+// Which bit of the expression of a source a point is, if it is one.
+fn bit_of(network: &Network, source: Source, point: u32) -> Option<u32>
+    ensures { IfSome result (λ bit. IsBit network.now source point bit) }
 {
     match network.drives.get(point as usize) {
-        Some(Drive::Value(next)) => next.tree == source.tree && next.first == source.first,
-        _ => false,
-    }
-}
-
-// Whether a point is one of the bits that may be kept.
-fn is_beside(network: &Network, source: Source, point: u32, marks: &[bool]) -> bool {
-    is_unmarked(point, marks) && is_bit_of(network, source, point)
-}
-
-// The first of the bits before a point that may be kept, without a gap.
-fn first_beside(network: &Network, source: Source, point: u32, marks: &[bool]) -> u32 {
-    for other in (0..point).rev() {
-        if !is_beside(network, source, other, marks) {
-            return other.saturating_add(1);
+        Some(Drive::Value(next)) if next.tree == source.tree && next.first == source.first => {
+            Some(next.bit)
         }
+        _ => None,
     }
-    0
 }
 
-// Behind the last of the bits behind a point that may be kept, without a gap.
-fn behind_last_beside(network: &Network, source: Source, point: u32, marks: &[bool]) -> u32 {
-    let count = u32::try_from(network.drives.len()).unwrap_or(u32::MAX);
-    for other in point.saturating_add(1)..count {
-        if !is_beside(network, source, other, marks) {
-            return other;
-        }
+// The first point of a part of an expression of which a point is a bit, and behind the last one, where points follow one another as the bits do.
+fn points_of(source: Source, part: &Part, point: u32) -> (u32, u32) {
+    let zero = point.saturating_sub(source.bit);
+    let start = zero.saturating_add(u32::try_from(part.low).unwrap_or(u32::MAX));
+    let count = u32::try_from(part.bits.len()).unwrap_or(u32::MAX);
+    (start, start.saturating_add(count))
+}
+
+// What a part tells of a point that is a bit of its expression and has not been asked for.
+fn found_beside(
+    network: &Network,
+    source: Source,
+    part: &Part,
+    point: u32,
+    marks: &[bool],
+) -> Option<Tern>
+    ensures { IfSome result (λ found. IsBeside network.now source part.now marks.now point found) }
+{
+    if !is_unmarked(point, marks) {
+        return None;
     }
-    count
+    let bit = bit_of(network, source, point)?;
+    found_in(part, bit)
+}
+
+// What a part tells of a bit, if that is enough.
+fn found_in(part: &Part, bit: u32) -> Option<Tern>
+    ensures { IfSome result (λ found. IsInPart part.now bit found) }
+{
+    let place = u64::from(bit).checked_sub(part.low)?;
+    let found = *part.bits.get(place as usize)?;
+    if part.marked || !found.is_open() {
+        Some(found)
+    } else {
+        None
+    }
 }

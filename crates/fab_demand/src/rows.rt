@@ -1,6 +1,7 @@
 //! Points that follow one another and that a waiting point needs: they are asked for without a look between.
 
-ghost use Rattle.std.specs.Prelude.{◌≡◌, true, false, slice_get, IfSome, Some};
+ghost use Rattle.std.specs.Prelude.{◌≡◌, Bool, true, false, List, slice_get, IfSome, Some};
+ghost use Rattle.fab_demand.specs.inner.Beside.{AsksUnmarked};
 
 use fab_compiled::Tree;
 use fab_network::{Drive, Network, Source};
@@ -18,6 +19,17 @@ struct Row {
     end: u32,
     /// How many points wait, up to the one that needs them.
     depth: usize,
+}
+
+/// What is done next for the last point that waits.
+#[derive(Clone, Copy, Debug)]
+pub(crate) enum Next {
+    /// This point is asked for, which it needs by its row.
+    Ask(u32),
+    /// It is looked at.
+    Look,
+    /// The same, where it is one of the points of a row.
+    LookInRow,
 }
 
 /// The rows of points that wait. They are a help for speed: any point may be asked for, so what a search finds does not depend on them. Without
@@ -47,27 +59,49 @@ impl Rows {
         }
     }
 
-    /// The next point that the last of so many waiting points needs and that has not been asked for, as far as that is told by its row.
-    pub(crate) fn next(&mut self, depth: usize, marks: &[bool]) -> Option<u32>
-        ensures { IfSome result (λ point. slice_get marks.now point ≡ Some false) }
+    /// What is done next for the last of so many waiting points: its row tells which points it needs that have not been asked for.
+    pub(crate) fn next(&mut self, depth: usize, marks: &[bool]) -> Next
+        ensures { AsksUnmarked marks.now result }
     {
-        let row = self.rows.pop()?;
+        match self.rows.pop() {
+            Some(row) => self.next_by(row, depth, marks),
+            None => Next::Look,
+        }
+    }
+
+    // The same by the last row.
+    fn next_by(&mut self, row: Row, depth: usize, marks: &[bool]) -> Next
+        ensures { AsksUnmarked marks.now result }
+    {
         if row.depth != depth {
             self.push(row);
-            return None;
+            return look_below(row, depth);
         }
-        let point = first_unmarked(row.next, row.end, marks)?;
+        let Some(point) = first_unmarked(row.next, row.end, marks) else {
+            return Next::Look;
+        };
         self.push(Row {
             next: point.saturating_add(1),
             end: row.end,
             depth,
         });
-        Some(point)
+        Next::Ask(point)
     }
 
     // One more row, where there is memory.
     fn push(&mut self, row: Row) {
         let _ = self.rows.push(row);
+    }
+}
+
+// A look at the last of so many waiting points, which may be one of the points of a row.
+fn look_below(row: Row, depth: usize) -> Next
+    ensures { (marks : List Bool) → AsksUnmarked marks result }
+{
+    if row.depth.saturating_add(1) == depth {
+        Next::LookInRow
+    } else {
+        Next::Look
     }
 }
 

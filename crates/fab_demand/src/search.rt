@@ -6,18 +6,16 @@ ghost use Rattle.std.specs.List.{range_with_len};
 ghost use Rattle.fab_systems_laws.specs.Ternary.{known as known_tern};
 ghost use Rattle.fab_ternary.specs.Terns.{plain_tern};
 ghost use Rattle.fab_compiled.specs.Leading.{IsMarked};
-ghost use Rattle.fab_network.specs.declared.network.Drive.TheVariants.{Flop};
 ghost use Rattle.fab_network.specs.Network.{AreFit, IsFitSource};
 ghost use Rattle.fab_network.specs.Passes.{kept_tern};
 ghost use Rattle.fab_demand.specs.Asked.{AsksMore, IsSourceAsked, IsWhole};
-ghost use Rattle.fab_demand.specs.Demand.{AreRegistersAsked, IsRegisterAsked};
 ghost use Rattle.fab_demand.specs.Search.{asked_of, left_of, Closes, HasRoom, IsBlank, IsKeeping, IsResting, IsSearching};
 
 use crate::look::look;
-use crate::rows::{Rows, end_of_rest};
+use crate::rows::{Next, Rows, end_of_rest};
 use fab_base::Memory;
 use fab_compiled::{Lead, View};
-use fab_network::{Clock, Drive, Network, Readers, Source, lead_of_source};
+use fab_network::{Clock, Network, Readers, Source, lead_of_source};
 use fab_ternary::Tern;
 use std::alloc::Global;
 
@@ -108,8 +106,8 @@ impl Search {
         self.stack.pop();
     }
 
-    // A point is known.
-    fn know(&mut self, point: u32, bit: bool)
+    /// A point is known.
+    pub(crate) fn know(&mut self, point: u32, bit: bool)
         requires room { HasRoom self.old }
         requires done { slice_get self.old.done.items point ≡ Some false }
         requires within { point < length self.old.terns.items }
@@ -142,7 +140,8 @@ impl Search {
         self.close(point);
     }
 
-    // One step for the last point that waits: what its row tells is asked for without a look.
+    // One step for the last point that waits: what its row tells is asked for without a look. Others beside it are closed with it where it stands for itself,
+    // and in a row in any case, since there are many then.
     fn go_by(
         &mut self,
         network: &Network,
@@ -160,14 +159,22 @@ impl Search {
         ensures more { AsksMore (asked_of self.old) (asked_of self.new) }
         ensures falls { left_of self.new < left_of self.old }
     {
-        if let Some(needed) = rows.next(self.stack.len(), &self.marks) {
-            self.wait(needed);
-            return;
-        }
         let own = self.own.len();
-        self.step(network, clock, given, rows, point);
-        if own < self.own.len() {
-            self.keep_others(network, point);
+        let depth = self.stack.len();
+        match rows.next(depth, &self.marks) {
+            Next::Ask(needed) => self.wait(needed),
+            Next::Look => {
+                self.step(network, clock, given, rows, point);
+                if own < self.own.len() {
+                    self.close_others(network, point);
+                }
+            }
+            Next::LookInRow => {
+                self.step(network, clock, given, rows, point);
+                if self.stack.len() < depth {
+                    self.close_others(network, point);
+                }
+            }
         }
     }
 
@@ -331,43 +338,6 @@ impl Search {
             Lead::Known(_) | Lead::Point(_) | Lead::Own => None,
         }
     }
-
-    /// Asks for the next values of flip-flops of this clock that stand for themselves. The list of them grows while it is gone along.
-    pub(crate) fn ask_registers(&mut self, network: &Network, clock: Clock, given: &[Tern])
-        requires fit { AreFit network.now.trees.items network.now.drives.items }
-        requires points { length network.now.drives.items ≡ length self.old.leads.items }
-        requires given { length given.now ≡ length self.old.leads.items }
-        requires searching { IsSearching network.now clock (kept_tern given.now) self.old }
-        requires resting { IsResting self.old }
-        ensures searching { IsSearching network.now clock (kept_tern given.now) self.new }
-        ensures resting { IsResting self.new }
-        ensures more { AsksMore (asked_of self.old) (asked_of self.new) }
-        ensures registers { AreRegistersAsked network.now clock (asked_of self.new) }
-    {
-        let mut place = 0;
-        'registers: while place < self.own.len() {
-            let point = self.own[place];
-            self.ask_register(network, clock, given, point);
-            place += 1;
-        }
-    }
-
-    // Asks for the next value of a point, if it is a flip-flop of this clock.
-    fn ask_register(&mut self, network: &Network, clock: Clock, given: &[Tern], point: u32)
-        requires fit { AreFit network.now.trees.items network.now.drives.items }
-        requires points { length network.now.drives.items ≡ length self.old.leads.items }
-        requires given { length given.now ≡ length self.old.leads.items }
-        requires searching { IsSearching network.now clock (kept_tern given.now) self.old }
-        requires resting { IsResting self.old }
-        ensures searching { IsSearching network.now clock (kept_tern given.now) self.new }
-        ensures resting { IsResting self.new }
-        ensures more { AsksMore (asked_of self.old) (asked_of self.new) }
-        ensures register { IsRegisterAsked network.now clock (asked_of self.new) point }
-    {
-        if let Some(next) = next_of(network, clock, point as usize) {
-            self.ask_source(network, clock, given, next);
-        }
-    }
 }
 
 // One more point, where there is room.
@@ -377,17 +347,6 @@ fn add(points: &mut Vec<u32>, point: u32)
     ensures room { vec_capacity points.old ≤ vec_capacity points.new }
 {
     let _ = points.push(point);
-}
-
-// What a flip-flop of this clock takes next.
-fn next_of(network: &Network, clock: Clock, point: usize) -> Option<Source>
-    ensures { MatchOption result ((next : Source) → slice_get network.now.drives.items point ≡ Some (Flop clock next) → ⊥)
-        (λ next. slice_get network.now.drives.items point ≡ Some (Flop clock next)) }
-{
-    match network.drives.get(point) {
-        Some(Drive::Flop(own, next)) if *own == clock => Some(*next),
-        _ => None,
-    }
 }
 
 // Leads each point to itself.

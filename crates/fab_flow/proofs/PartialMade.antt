@@ -69,16 +69,18 @@ pub partial_made : (files : Map) (names : PartialFiles) (fabric : PlainFabric) (
     → outputs ≡ output names.out bytes ∷ [] → MakesPartial files names outputs
 partial_made files names fabric implementation features bytes outputs spelled frames implemented read within unused right made are =
     record {
-      fabric = fabric;
-      implementation = implementation;
-      features = features;
-      spelled = spelled;
-      frames = frames;
-      implemented = implemented;
-      read = read;
-      within = within;
-      unused = unused;
-      right = right;
+      ready = record {
+        fabric = fabric;
+        implementation = implementation;
+        features = features;
+        spelled = spelled;
+        frames = frames;
+        implemented = implemented;
+        read = read;
+        within = within;
+        unused = unused;
+        right = right;
+      };
       bytes = bytes;
       made = made;
       outputs_are = are;

@@ -74,9 +74,9 @@ pub record IsAssembly (fabric : PlainFabric) (read netlist : PlainNetlist) (impl
   pub runs : (text : List PlainModule) → IsFabricText fabric text → RunsDesign fabric text read netlist implementation (stream fabric bits) (design_state (packed netlist) implementation)
   pub settles : (text : List PlainModule) → IsFabricText fabric text → SettlesDesign fabric text read netlist implementation (stream fabric bits)
 
--- The files spell a design and an implementation of it, which is legal under the design's constraints, and the outputs are what is made of these. The
--- netlist has the reset port that the implementation names. What runs is the netlist as it stands in the BLIF file.
-pub record MakesAssembly (files : Map) (names : AssemblyFiles) (outputs : List PlainOutput) : Type 0 where
+-- Nothing is refused: the files spell a design and an implementation of it, which is legal under the design's constraints. The netlist has the reset
+-- port that the implementation names.
+pub record IsReadyToAssemble (files : Map) (names : AssemblyFiles) : Type 0 where
   pub design : PlainDesign
   pub implementation : PlainImplementation
   pub spelled : SpellsDesign files names.design design
@@ -84,8 +84,12 @@ pub record MakesAssembly (files : Map) (names : AssemblyFiles) (outputs : List P
   pub resets : HasReset implementation.reset design.netlist
   pub fits : Fits design.fabric (netlist_with implementation.reset design.netlist)
   pub legal : IsLegal design.fabric (packed (netlist_with implementation.reset design.netlist)) design.fixed implementation
-  pub made : IsAssembly design.fabric (netlist_with implementation.reset (read_of spelled)) (netlist_with implementation.reset design.netlist) implementation
-      names.base outputs
+
+-- The outputs are made of what these files spell. What runs is the netlist as it stands in the BLIF file.
+pub record MakesAssembly (files : Map) (names : AssemblyFiles) (outputs : List PlainOutput) : Type 0 where
+  pub ready : IsReadyToAssemble files names
+  pub made : IsAssembly ready.design.fabric (netlist_with ready.implementation.reset (read_of ready.spelled))
+      (netlist_with ready.implementation.reset ready.design.netlist) ready.implementation names.base outputs
 
 -- ---- the first refusal
 
@@ -111,16 +115,6 @@ MeetsBehindDesign files implementation design event =
 -- What the command comes upon: first in the files of the design, then in that of the implementation, and then in what these spell.
 abbrev pub MeetsAssembly : (files : Map) (names : AssemblyFiles) → Event → Type 0
 MeetsAssembly files names event = MeetsBehind (SpellsDesign files names.design) (MeetsDesign files names.design) (MeetsBehindDesign files names.implementation) event
-
--- nothing is refused
-pub record IsReadyToAssemble (files : Map) (names : AssemblyFiles) : Type 0 where
-  pub design : PlainDesign
-  pub implementation : PlainImplementation
-  pub spelled : SpellsDesign files names.design design
-  pub implemented : ReadsImplementation files names.implementation design.fabric implementation
-  pub resets : HasReset implementation.reset design.netlist
-  pub fits : Fits design.fabric (netlist_with implementation.reset design.netlist)
-  pub legal : IsLegal design.fabric (packed (netlist_with implementation.reset design.netlist)) design.fixed implementation
 
 -- ---- why the command ends with a fault
 

@@ -17,8 +17,9 @@ use Rattle.fab_assemble.specs.fab_drives_laws_Drives.{ShowsDrives}
 use Rattle.fab_assemble.specs.fab_text_loads_laws_Loads.{LoadsConfigurations}
 use Rattle.fab_assemble.specs.fab_fabric_text_defs_Texts.{IsFabricText}
 pub use Rattle.fab_assemble.specs.fab_fabric_text_defs_Texts.{generated_text}
-use Rattle.fab_outputs.specs.Storing.{PlainOutput, output}
+use Rattle.fab_outputs.specs.Storing.{PlainOutput}
 use Rattle.fab_outputs.specs.Ending.{HasCause}
+use Rattle.fab_flow.specs.Texts.{MakesText}
 
 -- ---- the text of a fabric
 
@@ -49,10 +50,8 @@ pub record IsGeneratedText (files : Map) (name text : List ℕ) : Type 0 where
   pub readable : length text ≤ MAX_FILE_BYTES
 
 -- The one output of the command is such a text.
-pub record MakesFabric (files : Map) (name out : List ℕ) (outputs : List PlainOutput) : Type 0 where
-  pub text : List ℕ
-  pub made : IsGeneratedText files name text
-  pub outputs_are : outputs ≡ output out text ∷ []
+abbrev pub MakesFabric : (files : Map) → (name out : List ℕ) → (outputs : List PlainOutput) → Type 0
+MakesFabric files name out outputs = MakesText (λ text. IsGeneratedText files name text) out outputs
 
 -- ---- the first refusal
 

@@ -1,3 +1,4 @@
+pub mod Texts
 pub mod Generating
 pub mod Matrix
 pub mod Resetting

@@ -9,8 +9,9 @@ use Rattle.fab_tables.specs.Lists.{Pair}
 use Rattle.fab_list_files.specs.Sides.{SpellsPairs, MeetsPairs}
 use Rattle.fab_matrix.specs.Matrix.{list_matrix, list_outputs}
 use Rattle.fab_matrix.specs.Selects.{Selects}
-use Rattle.fab_outputs.specs.Storing.{PlainOutput, output}
+use Rattle.fab_outputs.specs.Storing.{PlainOutput}
 use Rattle.fab_outputs.specs.Ending.{HasCause}
+use Rattle.fab_flow.specs.Texts.{MakesText}
 
 -- ---- what is done
 
@@ -31,10 +32,8 @@ pub record IsTextOf (files : Map) (list text : List ℕ) : Type 0 where
   pub made : IsModuleOf list pairs text
 
 -- The one output of the command is such a text.
-pub record MakesMatrix (files : Map) (list out : List ℕ) (outputs : List PlainOutput) : Type 0 where
-  pub text : List ℕ
-  pub made : IsTextOf files list text
-  pub outputs_are : outputs ≡ output out text ∷ []
+abbrev pub MakesMatrix : (files : Map) → (list out : List ℕ) → (outputs : List PlainOutput) → Type 0
+MakesMatrix files list out outputs = MakesText (λ text. IsTextOf files list text) out outputs
 
 -- ---- why the command ends with a fault
 

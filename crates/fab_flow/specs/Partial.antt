@@ -63,9 +63,9 @@ pub record IsExchange (fabric : PlainFabric) (implementation : PlainImplementati
   pub exchanges : (text : List PlainModule) (netlist : PlainNetlist) (fixed : List Pad) → IsFabricText fabric text → IsWellMade netlist → HasNoCycle netlist
       → IsLegal fabric (packed netlist) fixed implementation → ExchangesColumns fabric text netlist implementation first last (plain_bits bits)
 
--- The files spell a fabric in frames, an implementation on it, and a list of features. The fabric has the columns, and the implementation does not use
--- them. The fabric has each feature too, in whatever column, and no output has two inputs. The one output is the bitstream of the columns.
-pub record MakesPartial (files : Map) (names : PartialFiles) (outputs : List PlainOutput) : Type 0 where
+-- Nothing is refused: the files spell a fabric in frames, an implementation on it, and a list of features. The fabric has the columns, and the
+-- implementation does not use them. The fabric has each feature too, in whatever column, and no output has two inputs.
+pub record IsReadyToExchange (files : Map) (names : PartialFiles) : Type 0 where
   pub fabric : PlainFabric
   pub implementation : PlainImplementation
   pub features : List Feature
@@ -76,8 +76,12 @@ pub record MakesPartial (files : Map) (names : PartialFiles) (outputs : List Pla
   pub within : names.last < fabric.columns
   pub unused : AreUnused fabric implementation (lies_within names.first names.last)
   pub right : AreRight (IsRightFeature fabric) features
+
+-- The one output is the bitstream of the columns.
+pub record MakesPartial (files : Map) (names : PartialFiles) (outputs : List PlainOutput) : Type 0 where
+  pub ready : IsReadyToExchange files names
   pub bytes : List ℕ
-  pub made : IsExchange fabric implementation features names.first names.last bytes
+  pub made : IsExchange ready.fabric ready.implementation ready.features names.first names.last bytes
   pub outputs_are : outputs ≡ output names.out bytes ∷ []
 
 -- ---- the first refusal
@@ -121,19 +125,6 @@ abbrev pub MeetsPartial : (files : Map) (names : PartialFiles) → Event → Typ
 MeetsPartial files names event =
     MeetsBehind (SpellsFabric files names.fabric) (MeetsFabric files names.fabric)
     (λ fabric. MeetsBehind (HasFrames fabric) (MeetsLast (RefusesChain names.fabric fabric)) (λ _. MeetsRunning files names fabric)) event
-
--- nothing is refused
-pub record IsReadyToExchange (files : Map) (names : PartialFiles) : Type 0 where
-  pub fabric : PlainFabric
-  pub implementation : PlainImplementation
-  pub features : List Feature
-  pub spelled : SpellsFabric files names.fabric fabric
-  pub frames : fabric.mode ≡ modes.Frames
-  pub implemented : ReadsImplementation files names.implementation fabric implementation
-  pub read : ReadsFeatures files names.fasm features
-  pub within : names.last < fabric.columns
-  pub unused : AreUnused fabric implementation (lies_within names.first names.last)
-  pub right : AreRight (IsRightFeature fabric) features
 
 -- ---- why the command ends with a fault
 

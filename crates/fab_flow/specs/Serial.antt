@@ -18,8 +18,9 @@ use Rattle.fab_assemble.specs.fab_fabric_text_defs_Texts.{IsFabricText}
 use Rattle.fab_serial.specs.Module.{serial_text}
 use Rattle.fab_serial.specs.Delivery.{DeliversSerially}
 use Rattle.fab_serial_laws.specs.Loads.{LoadsSerially}
-use Rattle.fab_outputs.specs.Storing.{PlainOutput, output}
+use Rattle.fab_outputs.specs.Storing.{PlainOutput}
 use Rattle.fab_outputs.specs.Ending.{HasCause}
+use Rattle.fab_flow.specs.Texts.{MakesText}
 use Rattle.fab_flow.specs.Generating.{generated_text, unloaded_text, most_text_bytes, generate_refusals}
 
 -- ---- the text
@@ -50,10 +51,8 @@ pub record IsSerialText (files : Map) (name text : List ℕ) : Type 0 where
   pub readable : length text ≤ MAX_FILE_BYTES
 
 -- The one output of the command is such a text.
-pub record MakesSerial (files : Map) (name out : List ℕ) (outputs : List PlainOutput) : Type 0 where
-  pub text : List ℕ
-  pub made : IsSerialText files name text
-  pub outputs_are : outputs ≡ output out text ∷ []
+abbrev pub MakesSerial : (files : Map) → (name out : List ℕ) → (outputs : List PlainOutput) → Type 0
+MakesSerial files name out outputs = MakesText (λ text. IsSerialText files name text) out outputs
 
 -- ---- the first refusal
 

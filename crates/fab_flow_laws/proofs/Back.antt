@@ -116,13 +116,14 @@ module _ (one : BitMapsAreOne) (select : BitMapsSelectInputs) (said : SpelledBit
 
   pub assembled_back : AssembledBitstreamsComeBack
   assembled_back files names stored made =
-      let fabric = made.design.fabric in
-      let cells = packed (netlist_with made.implementation.reset made.design.netlist) in
-      let features = design_features fabric cells made.implementation in
-      comes_back fabric (spelled_is_promised files names.design.fabric fabric made.spelled.fabric).is features made.made.bits made.made.bit_map names.base
+      let ready = made.ready in
+      let fabric = ready.design.fabric in
+      let cells = packed (netlist_with ready.implementation.reset ready.design.netlist) in
+      let features = design_features fabric cells ready.implementation in
+      comes_back fabric (spelled_is_promised files names.design.fabric fabric ready.spelled.fabric).is features made.made.bits made.made.bit_map names.base
       (with_outputs stored files)
       (ap (λ (list : List PlainOutput). with_outputs list files (names.base ++ codes ".bit")) made.made.outputs_are
-      ∙ words_assembled files names.base features (stream fabric made.made.bits) (design_state cells made.implementation))
+      ∙ words_assembled files names.base features (stream fabric made.made.bits) (design_state cells ready.implementation))
 
   pub flows_back : FlowBitstreamsComeBack
   flows_back files names allowed stored made =

@@ -65,13 +65,14 @@ module _ (one : BitMapsAreOne) (are_right : DesignFeaturesAreRight) (are_spelled
 
   pub assembled_features : AssembledFeaturesAreTheirBits
   assembled_features files names stored made =
-      let fabric = made.design.fabric in
-      let reset = made.implementation.reset in
-      let state = design_state (packed (netlist_with reset made.design.netlist)) made.implementation in
-      let features = design_features fabric (packed (netlist_with reset made.design.netlist)) made.implementation in
+      let ready = made.ready in
+      let fabric = ready.design.fabric in
+      let reset = ready.implementation.reset in
+      let state = design_state (packed (netlist_with reset ready.design.netlist)) ready.implementation in
+      let features = design_features fabric (packed (netlist_with reset ready.design.netlist)) ready.implementation in
       let words = stream fabric made.made.bits in
       let after_is = ap (λ (list : List PlainOutput). with_outputs list files) made.made.outputs_are in
-      its_bitstream files names.design made.design made.spelled reset made.implementation made.legal names.base (with_outputs stored files) made.made.bits made.made.bit_map
+      its_bitstream files names.design ready.design ready.spelled reset ready.implementation ready.legal names.base (with_outputs stored files) made.made.bits made.made.bit_map
       (ap (λ (m : Map). m (names.base ++ codes ".fasm")) after_is ∙ features_assembled files names.base features words state)
       (ap (λ (m : Map). m (names.base ++ codes ".bit")) after_is ∙ words_assembled files names.base features words state)
 

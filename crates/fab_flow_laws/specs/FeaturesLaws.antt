@@ -47,7 +47,7 @@ pub record IsItsBitstream (fabric : PlainFabric) (base : List ℕ) (stored : Map
 abbrev pub AssembledFeaturesAreTheirBits : Type 0
 AssembledFeaturesAreTheirBits =
     (files : Map) (names : AssemblyFiles) (stored : List PlainOutput) (made : MakesAssembly files names stored) →
-    IsItsBitstream made.design.fabric names.base (with_outputs stored files)
+    IsItsBitstream made.ready.design.fabric names.base (with_outputs stored files)
 
 abbrev pub FlowFeaturesAreTheirBits : Type 0
 FlowFeaturesAreTheirBits =
@@ -80,7 +80,7 @@ ComesBack fabric base stored =
 abbrev pub AssembledBitstreamsComeBack : Type 0
 AssembledBitstreamsComeBack =
     (files : Map) (names : AssemblyFiles) (stored : List PlainOutput) (made : MakesAssembly files names stored) →
-    ComesBack made.design.fabric names.base (with_outputs stored files)
+    ComesBack made.ready.design.fabric names.base (with_outputs stored files)
 
 abbrev pub FlowBitstreamsComeBack : Type 0
 FlowBitstreamsComeBack =

@@ -33,7 +33,7 @@ use Rattle.fab_legal.proofs.SinkLaw.{sinks_are_required}
 use Rattle.fab_ways_laws.specs.Placing.{same_net}
 use Rattle.fab_ways_laws.specs.Routing.{Path, Paths, Walk, MayBegin, AreGrown, nets, sinks_of, negotiated, others}
 use Rattle.fab_ways_laws.specs.Routing.Walk.{begins, goes}
-use Rattle.fab_ways_laws.specs.Trees.{edge_into, edges_along, edges_of, by_line}
+use Rattle.fab_ways_laws.specs.Trees.{edge_into, edges_along, edges_of, by_line, trees_of, with_trees}
 use Rattle.fab_ways_laws.proofs.InputPins.{pin_index, kind_of_line}
 use Rattle.fab_ways_laws.proofs.Legal.{last_round}
 use Rattle.fab_ways_laws.proofs.Lists.{none_some, from_filter}
@@ -196,12 +196,14 @@ module _ (fabric : PlainFabric) (are : AreTiles fabric) (packed : PlainPacked) (
 pub mappings_leave_idle_pads : MappingsLeaveIdlePads
 mappings_leave_idle_pads fabric packed fixed allowed implementation are made mapping site idle tree edge listed among is =
     let placement = mapping.placement in
-    let last = mapping.last in
+    let routed = mapping.routed in
+    let last = routed.last in
+    let is_mapped : implementation ≡ with_trees placement (trees_of packed placement last) = mapping.is ∙ ap (with_trees placement) routed.trees_are in
     let placed : ArePlaced fabric packed placement = mapping.good.placed in
-    let moved = subst (λ (i : PlainImplementation). IsIdlePad fabric i site) mapping.is idle in
+    let moved = subst (λ (i : PlainImplementation). IsIdlePad fabric i site) is_mapped idle in
     let idle_placed : IsIdlePad fabric placement site = record { is_pad = moved.is_pad; no_port = moved.no_port } in
-    let rounds = last_round fabric packed placement mapping.run mapping.some_rounds in
-    let found = from_trees (λ net. by_line packed placement net) (nets packed) last tree (subst (λ (i : PlainImplementation). Contains i.trees tree) mapping.is listed) in
+    let rounds = last_round fabric packed placement routed.run routed.some_rounds in
+    let found = from_trees (λ net. by_line packed placement net) (nets packed) last tree (subst (λ (i : PlainImplementation). Contains i.trees tree) is_mapped listed) in
     let here : Contains (edges_of found.paths) edge = subst (λ (t : PlainTree). Contains t.edges edge) found.tree_is among in
     let left = sinks_of fabric packed placement found.net in
     let grown = rounds.is_round.each found.place found.net found.paths found.net_at found.paths_at in

@@ -11,10 +11,11 @@ use Rattle.fab_implementation.specs.OnFabric.{HasWires, IsOnFabric}
 use Rattle.fab_legal.specs.WellMade.{IsWellMadePacked, IsNetId}
 use Rattle.fab_legal.specs.Legal.{ArePlaced}
 use Rattle.fab_ways_laws.specs.Routing.{Paths}
+use Rattle.fab_ways_laws.specs.Mapping.{AreRouted}
 use Rattle.fab_ways_laws.specs.Trees.{trees_of, with_trees}
 use Rattle.fab_ways_laws.proofs.Legal.{HasLast, last_round}
 use Rattle.fab_implementation.specs.Inputs.{InputsAreLines}
-use Rattle.fab_route.specs.Answers.{AreRouted, IsOverused}
+use Rattle.fab_route.specs.Answers.{IsOverused}
 use Rattle.fab_map.proofs.There.{net_there, wire_there, trees_on_fabric, trees_of_inputs, told_last}
 
 module _ (fabric : PlainFabric) (tiles : AreTiles fabric) (packed : PlainPacked) (i : PlainImplementation) (made : IsWellMadePacked packed) (placed : ArePlaced fabric packed i) (on_fabric : IsOnFabric fabric i) where

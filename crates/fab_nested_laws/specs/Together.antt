@@ -4,9 +4,9 @@ use Rattle.std.specs.List.{list_any}
 use Rattle.fab_syntax.specs.Plain.{PlainModule}
 use Rattle.fab_syntax.specs.Declarations.{is_input_of}
 use Rattle.fab_meaning.specs.Value.{value, bit_at}
-use Rattle.fab_meaning.specs.Points.{Point, Driver, outside, copy, bit_of, flop, hold, Drives, module_at}
+use Rattle.fab_meaning.specs.Points.{Point, Driver, flop, Drives, module_at}
 use Rattle.fab_meaning.specs.Settled.{Assignment, names_at, IsSettledOn}
-use Rattle.fab_meaning.specs.Runs.{clock_name, user_clock_name, clock_of, is_clock, AreClocksLow, Moment, IsRunOn}
+use Rattle.fab_meaning.specs.Runs.{clock_name, user_clock_name, clock_of, is_clock, kept, AreClocksLow, Moment, IsRunOn}
 use Rattle.fab_meaning.specs.Sound.{DrivesOnce}
 use Rattle.fab_meaning.specs.Activation.{State, tick, IsStep, AreSteps}
 use Rattle.fab_meaning.specs.Loading.{IsLoading}
@@ -18,15 +18,12 @@ use Rattle.fab_nested_laws.specs.Nested.{inside, within, StandsIn, IsKept}
 abbrev pub is_among : (clocks : List (List ℕ)) → Option (List ℕ) → Bool
 is_among clocks own = list_any (λ clock. is_clock clock own) clocks
 
--- What a driver keeps where these clocks tick at once: a flip-flop of any of them takes its next value, of the assignment before the tick, and a
--- latch what its point has.
+-- What a driver keeps where these clocks tick at once: a flip-flop of any of them takes its next value, of the assignment before the tick. Other
+-- drivers keep the same at a tick of whatever clock.
 abbrev pub kept_together : List PlainModule → (clocks : List (List ℕ)) → (held now : Assignment) → Point → Driver → Bool
 kept_together text clocks held now p (flop path own next bit) =
     if is_among clocks (clock_of text path own) then bit_at (value (names_at text now path) next) bit else held p
-kept_together text clocks held now p (hold path gate e bit) = now p
-kept_together text clocks held now p outside = held p
-kept_together text clocks held now p (copy other) = held p
-kept_together text clocks held now p (bit_of path e bit) = held p
+kept_together text clocks held now p driver = kept text [] held now p driver
 
 -- each point of a set is left with what its driver keeps
 abbrev pub TickTogether : (Point → Type 0) → List PlainModule → (clocks : List (List ℕ)) → (held now next : Assignment) → Type 0

@@ -2,7 +2,7 @@ pub mod Sources
 pub mod Kept
 pub mod Passing
 pub mod Shares
-pub mod Marked
+pub mod Parted
 pub mod Entries
 pub mod Forming
 pub use Rattle.fab_compiled.proofs.fab_solutions_laws_Demanded as fab_solutions_laws_Demanded

@@ -18,8 +18,6 @@ LeadsTo terns leads marks value (Point lead) =
 LeadsTo terns leads marks value Own = (t u : PointTerns) → AreAbove terns leads t → AreAbove terns leads u → AgreeOnMarked marks t u → value t ≡ value u
 LeadsTo terns leads marks value (Unmarked point) = slice_get marks point ≡ Some false
 
--- Each bit of the expression of a source depends on marked points alone.
-abbrev pub DependsOnMarked : List Tree → (marks : List Bool) → Source → Type 0
-DependsOnMarked trees marks source =
-    (bit : ℕ) (t u : PointTerns) → AgreeOnMarked marks t u →
-    source_tern trees t (record { tree = source.tree; first = source.first; bit = bit }) ≡ source_tern trees u (record { tree = source.tree; first = source.first; bit = bit })
+-- the bits of the expression of a source
+abbrev pub bits_of_source : List Tree → Source → PointTerns → (bit : ℕ) → PlainTern
+bits_of_source trees source t bit = source_tern trees t (record { tree = source.tree; first = source.first; bit = bit })

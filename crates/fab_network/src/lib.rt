@@ -11,7 +11,7 @@ mod sharing;
 mod tables;
 
 pub use forms::{Form, forms_of};
-pub use leading::{is_marked, lead_of_source};
+pub use leading::{lead_of_source, part_of_source};
 pub use network::{Clock, Drive, Network, Source, evaluate};
 pub use passes::{settle, settle_by};
 pub use readers::Readers;

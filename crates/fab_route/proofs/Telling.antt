@@ -32,6 +32,7 @@ use Rattle.fab_pathfinder.proofs.Parts.{nodes_of-parts}
 use Rattle.fab_pathfinder.proofs.Running.{last_trees-at}
 use Rattle.fab_ways_laws.specs.Routing.{has, wires_of, users, nets, sinks_of}
 use Rattle.fab_ways_laws.specs.Routing.Walk.{goes}
+use Rattle.fab_ways_laws.specs.Mapping.{AreRouted}
 use Rattle.fab_ways_laws.specs.Trees.{trees_of, by_line}
 use Rattle.fab_ways_laws.proofs.Walks.{has_in, in_has}
 use Rattle.fab_nodes_laws.specs.Nodes.{Numbering, AreNodes}
@@ -41,7 +42,7 @@ use Rattle.fab_nodes_laws.proofs.WalkLaw.{walk_of}
 use Rattle.fab_nodes_laws.proofs.Users.{AreWireTrees, used_low, node_users, output_users, IsNodeWire, as_input, as_output, shared_kind}
 use Rattle.fab_nodes_laws.proofs.NetSinks.{nets_across}
 use Rattle.fab_nodes_laws.proofs.Runs.{IsWiredRun, run_wired, node_runs_are_runs, cut_off_has_no_walk}
-use Rattle.fab_route.specs.Answers.{AreRouted, IsLeftShared, IsReached, IsCutOff, HasWire, AreFirstTwo, IsOverused}
+use Rattle.fab_route.specs.Answers.{IsLeftShared, IsReached, IsCutOff, HasWire, AreFirstTwo, IsOverused}
 use Rattle.fab_route.specs.inner.Owners.{AreFirst, HasNode, owners_at, AreOwners, IsTwice, IsWireOf, IsSharedBy, IsLeastShared}
 use Rattle.fab_route.specs.Over.{IsOver}
 use Rattle.fab_route.specs.Plain.{PlainNodes, graph_of, numbering_of}

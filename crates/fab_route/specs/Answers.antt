@@ -12,16 +12,6 @@ use Rattle.fab_ways_laws.specs.Trees.{trees_of}
 use Rattle.fab_route.specs.declared.router.RouteFault.{RouteFault}
 use Rattle.fab_route.specs.declared.router.RouteFault.TheVariants as faults
 
--- the last trees of a run of at most so many rounds that leaves no wire in two trees
-pub record AreRouted (fabric : PlainFabric) (packed : PlainPacked) (placement : PlainImplementation) (allowed : ℕ) (trees : List PlainTree) : Type 0 where
-  pub rounds : List (List Paths)
-  pub last : List Paths
-  pub run : Run fabric packed placement rounds last
-  pub some_rounds : 0 < length rounds
-  pub few_rounds : length rounds ≤ allowed
-  pub unshared : LeavesShared last → ⊥
-  pub trees_are : trees ≡ trees_of packed placement last
-
 -- a run of at most so many rounds leaves a wire in two trees
 pub record IsLeftShared (fabric : PlainFabric) (packed : PlainPacked) (placement : PlainImplementation) (allowed : ℕ) : Type 0 where
   pub rounds : List (List Paths)

@@ -1,34 +1,33 @@
 -- Cycles of the text with a port are cycles of the fabric behind it, while no bit is sent.
-use Rattle.std.proofs.Common.{◌≡◌, ◌≢◌, ◌⊎◌, ℕ, Bool, true, false, List, [], ◌∷◌, codes, map, All, Contains, Some, refl, sym, ap, ◌∙◌, subst, inl, inr, arith}
+use Rattle.std.proofs.Common.{◌≡◌, ◌⊎◌, ℕ, Bool, true, false, List, [], ◌∷◌, codes, map, All, Contains, Some, refl, sym, ap, ◌∙◌, subst, inl, inr, arith}
 use Rattle.std.proofs.lemmas.List.Elements.{All-nil, All-cons, All-head, All-tail}
 use Rattle.fab_kinds.specs.declared.kind.Kind.TheVariants as kinds
 use Rattle.fab_kinds.specs.declared.kind.Kind.{Kind}
 use Rattle.fab_syntax.specs.Plain.{PlainModule}
 use Rattle.fab_meaning.specs.Ports.{scalar}
-use Rattle.fab_meaning.specs.Points.{Point, point, Driver, Drives}
+use Rattle.fab_meaning.specs.Points.{Point, point}
 use Rattle.fab_meaning.specs.Settled.{Assignment, IsSettledOn}
 use Rattle.fab_meaning.specs.Runs.{clock_name, user_clock_name, AreClocksLow, Ticks}
 use Rattle.fab_model.specs.Grid.{PlainFabric, tile_at}
 use Rattle.fab_model.specs.Tiles.{PlainTile}
 use Rattle.fab_fabric.specs.Fabric.{IsFabric}
 use Rattle.fab_fabric.specs.declared.wire.Site.{Site}
-use Rattle.fab_netlist.specs.Plain.{PlainNetlist, IsAt, bit_at, name_of}
+use Rattle.fab_netlist.specs.Plain.{PlainNetlist, name_of}
 use Rattle.fab_netlist.specs.Meaning.{IsRun}
-use Rattle.fab_netlist.specs.Packed.{PlainPacked}
 use Rattle.fab_netlist.specs.Packing.{packed}
 use Rattle.fab_implementation.specs.Plain.{Pad, PlainImplementation}
 use Rattle.fab_implementation.specs.OnFabric.{kind_at}
 use Rattle.fab_points_laws.specs.fab_legal_Legal.{IsLegal}
 use Rattle.fab_points_laws.specs.fab_fabric_text_defs_Texts.{IsFabricText}
-use Rattle.fab_points_laws.specs.fab_use_defs_Cycles.{Instant, AreInstants, Feeds, Shows, EndsCycle, Cycle, IsCycle, AreCycles, EachShows}
+use Rattle.fab_points_laws.specs.fab_use_defs_Cycles.{Instant, AreInstants, Feeds, FeedsWith, Shows, EndsCycle, Cycle, IsCycle, IsCycleWith, AreCycles, AreCyclesWith, EachShows}
 use Rattle.fab_points_laws.specs.fab_use_defs_Design.{IsPadPoint, of_input, of_output, input_pad, output_pad}
 use Rattle.fab_points_laws.specs.fab_use_defs_Headline.{DesignPoints, RunsFrom}
 use Rattle.fab_points_laws.specs.fab_use_defs_Sites.{top_point}
 use Rattle.fab_points_laws.proofs.Places.{SiteBel, site_tile, site_bel, in_kind, out_kind}
 use Rattle.fab_serial_laws.specs.fab_nested_laws_Nested.{inside, within, NestedTexts, IsShown, IsSameClock}
 use Rattle.fab_serial_laws.specs.fab_prim_Ports.{top_name, top_inputs, top_outputs}
-use Rattle.fab_serial_laws.specs.fab_serial_Module.{fabric_instance_name, is_pad, CanHaveSerialPort}
-use Rattle.fab_serial_laws.specs.fab_serial_Delivery.{IsSerialLoading, strobe_point, data_point, fabric_strobe}
+use Rattle.fab_serial_laws.specs.fab_serial_Module.{fabric_instance_name, CanHaveSerialPort}
+use Rattle.fab_serial_laws.specs.fab_serial_Delivery.{IsSerialLoading, strobe_point, data_point}
 use Rattle.fab_serial_laws.specs.Loads.{full_point}
 use Rattle.fab_serial_laws.proofs.fab_nested_laws_Sets.{settled_on, ticks_on}
 use Rattle.fab_serial_laws.proofs.fab_serial_Places.{whole}
@@ -40,7 +39,7 @@ use Rattle.fab_serial_laws.proofs.fab_parts_sound_laws_Names.{told_apart}
 use Rattle.fab_serial_laws.proofs.Fabric.{fabric_stands, same_inside}
 use Rattle.fab_serial_laws.proofs.InnerRuns.{fabric_clock_low}
 use Rattle.fab_serial_laws.proofs.Pads.{user_low, pad_enters, pad_leaves, pad_in, pad_out}
-use Rattle.fab_serial_runs_laws.specs.Runs.{IsSerialDesignPoint, in_fabric, user_clock, at_pad, of_port, FeedsSerially, IsSerialCycle, AreSerialCycles, RunsSeriallyFrom}
+use Rattle.fab_serial_runs_laws.specs.Runs.{IsSerialDesignPoint, in_fabric, user_clock, at_pad, of_port, RunsSeriallyFrom}
 
 -- an instant of the fabric: its inputs are what the text around it gives it
 abbrev pub inner_instant : Instant → Instant
@@ -152,7 +151,7 @@ module _ (nested : NestedTexts) (fabric : PlainFabric) (text : List PlainModule)
         (shown_at (inside fabric_instance_name p) (in_fabric (inl (inr (inr (inr pad))))))
 
     -- what is fed comes to the fabric, and no word with it while the port is empty
-    pub feeds_inside : (given : List Bool) → full_bit held ≡ false → AreClocksLow now → FeedsSerially netlist implementation given inputs →
+    pub feeds_inside : (given : List Bool) → full_bit held ≡ false → AreClocksLow now → FeedsWith strobe_point netlist implementation given inputs →
         Feeds netlist implementation given (within fabric_instance_name now)
     feeds_inside given empty low feeds = record {
       quiet = strobe_seen text can inputs held now loading_settled ∙ empty;
@@ -209,7 +208,7 @@ module _ (nested : NestedTexts) (fabric : PlainFabric) (text : List PlainModule)
     empty : full_bit after ≡ false
 
   instants_inside : (given : List Bool) (instants : List Instant) (held after : Assignment) → full_bit held ≡ false → All IsUseClock instants →
-      All (λ i. FeedsSerially netlist implementation given i.inputs) instants → AreInstants Has outer instants held after → IsInside given instants held after
+      All (λ i. FeedsWith strobe_point netlist implementation given i.inputs) instants → AreInstants Has outer instants held after → IsInside given instants held after
   instants_inside given [] held after empty of_use fed run = record {
     run = λ p has. run (inside fabric_instance_name p) (in_fabric has);
     fed = All-nil (λ i. Feeds netlist implementation given i.inputs);
@@ -217,9 +216,9 @@ module _ (nested : NestedTexts) (fabric : PlainFabric) (text : List PlainModule)
   }
   instants_inside given (i ∷ more) held after empty of_use fed run =
       let use_clock = All-head IsUseClock i more of_use in
-      let feeds = All-head (λ (j : Instant). FeedsSerially netlist implementation given j.inputs) i more fed in
+      let feeds = All-head (λ (j : Instant). FeedsWith strobe_point netlist implementation given j.inputs) i more fed in
       let later = instants_inside given more run.0 after (still_empty i.inputs held i.now run.1 i.clock run.0 run.3 use_clock feeds.quiet empty) (All-tail IsUseClock i more of_use)
-      (All-tail (λ (j : Instant). FeedsSerially netlist implementation given j.inputs) i more fed) run.4 in
+      (All-tail (λ (j : Instant). FeedsWith strobe_point netlist implementation given j.inputs) i more fed) run.4 in
       record {
         run = (
           within fabric_instance_name run.0,
@@ -232,17 +231,17 @@ module _ (nested : NestedTexts) (fabric : PlainFabric) (text : List PlainModule)
         empty = later.empty;
       }
 
-  cycle_inside : (cycle : Cycle) (held after : Assignment) → full_bit held ≡ false → IsSerialCycle netlist implementation cycle → AreInstants Has outer cycle.instants held after →
+  cycle_inside : (cycle : Cycle) (held after : Assignment) → full_bit held ≡ false → IsCycleWith strobe_point netlist implementation cycle → AreInstants Has outer cycle.instants held after →
       IsInside cycle.given cycle.instants held after
   cycle_inside cycle held after empty is_cycle run = instants_inside cycle.given cycle.instants held after empty (use_clocks cycle.instants is_cycle.0) is_cycle.1 run
 
-  is_cycle_inside : (cycle : Cycle) (held after : Assignment) → IsSerialCycle netlist implementation cycle → IsInside cycle.given cycle.instants held after →
+  is_cycle_inside : (cycle : Cycle) (held after : Assignment) → IsCycleWith strobe_point netlist implementation cycle → IsInside cycle.given cycle.instants held after →
       IsCycle netlist implementation (inner_cycle cycle)
   is_cycle_inside cycle held after is_cycle inner = (ends_inside cycle.instants is_cycle.0, inner.fed)
 
   -- ---- cycles
 
-  cycles_inside : (cycles : List Cycle) (held after : Assignment) → full_bit held ≡ false → AreSerialCycles Has outer netlist implementation cycles held after →
+  cycles_inside : (cycles : List Cycle) (held after : Assignment) → full_bit held ≡ false → AreCyclesWith strobe_point Has outer netlist implementation cycles held after →
       AreCycles Inner text netlist implementation (inner_cycles cycles) (within fabric_instance_name held) (within fabric_instance_name after) × (full_bit after ≡ false)
   cycles_inside [] held after empty run =
       ((λ p has. run (inside fabric_instance_name p) (in_fabric has)), run full_point (of_port (registers text can, closed text can, full_taken text can)) ∙ empty)
@@ -259,7 +258,7 @@ module _ (nested : NestedTexts) (fabric : PlainFabric) (text : List PlainModule)
       (shows_outside i.inputs held i.now run.1 nets (All-head (λ (j : Instant). Shows read implementation j.now nets) (inner_instant i) (map inner_instant more) shows))
       (instants_show more run.0 after nets run.4 (All-tail (λ (j : Instant). Shows read implementation j.now nets) (inner_instant i) (map inner_instant more) shows))
 
-  cycles_show : (cycles : List Cycle) (nows : List (ℕ → Bool)) (held after : Assignment) → AreSerialCycles Has outer netlist implementation cycles held after →
+  cycles_show : (cycles : List Cycle) (nows : List (ℕ → Bool)) (held after : Assignment) → AreCyclesWith strobe_point Has outer netlist implementation cycles held after →
       EachShows read implementation (inner_cycles cycles) nows → EachShows read implementation cycles nows
   cycles_show [] [] held after run shows = tt
   cycles_show [] (nets ∷ later) held after run shows = absurd shows

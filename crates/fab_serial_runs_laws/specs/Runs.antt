@@ -1,27 +1,24 @@
 -- A text with a serial port, used as a design: while no bit is sent, its pads show what the netlist says.
-use Rattle.std.specs.Prelude.{◌≡◌, ℕ, Bool, false, List, [], ◌∷◌, map, All, Contains}
+use Rattle.std.specs.Prelude.{◌≡◌, ℕ, Bool, List, [], map, All}
 use Rattle.fab_bits.specs.Bits.{digits}
 use Rattle.fab_syntax.specs.Plain.{PlainModule}
 use Rattle.fab_meaning.specs.Points.{Point, point}
 use Rattle.fab_meaning.specs.Settled.{Assignment}
-use Rattle.fab_meaning.specs.Runs.{clock_name, user_clock_name, Moment, IsRunOn}
+use Rattle.fab_meaning.specs.Runs.{user_clock_name, Moment, IsRunOn}
 use Rattle.fab_model.specs.declared.mode.Mode.TheVariants as modes
 use Rattle.fab_model.specs.Grid.{PlainFabric}
 use Rattle.fab_fabric.specs.Fabric.{IsFabric}
-use Rattle.fab_fabric.specs.declared.wire.Site.{Site}
-use Rattle.fab_netlist.specs.Plain.{PlainNetlist, IsAt, bit_at, name_of}
+use Rattle.fab_netlist.specs.Plain.{PlainNetlist}
 use Rattle.fab_netlist.specs.Meaning.{IsRun}
 use Rattle.fab_netlist.specs.Packing.{packed}
 use Rattle.fab_implementation.specs.Plain.{Pad, PlainImplementation}
 use Rattle.fab_points_laws.specs.fab_legal_Legal.{IsLegal}
 use Rattle.fab_points_laws.specs.fab_fabric_text_defs_Texts.{IsFabricText}
-use Rattle.fab_points_laws.specs.fab_use_defs_Cycles.{Instant, AreInstants, EndsCycle, Cycle, EachShows}
+use Rattle.fab_points_laws.specs.fab_use_defs_Cycles.{AreInstants, Cycle, IsCycleWith, AreCyclesWith, EachShows}
 use Rattle.fab_points_laws.specs.fab_use_defs_Design.{IsPadPoint}
 use Rattle.fab_points_laws.specs.fab_use_defs_Headline.{DesignPoints, IsGivenReset, RunsDesign}
 use Rattle.fab_points_laws.specs.fab_use_defs_Registers.{HoldsLatches, design_state, HoldsState, IsInitial}
-use Rattle.fab_points_laws.specs.fab_use_defs_Sites.{top_point}
 use Rattle.fab_serial_laws.specs.fab_fabric_text_defs_Mode.{text_mode}
-use Rattle.fab_serial_laws.specs.fab_prim_Ports.{top_name}
 use Rattle.fab_serial_laws.specs.fab_load_runs_laws_Runs.{IsClockLow}
 use Rattle.fab_serial_laws.specs.fab_nested_laws_Nested.{inside, within}
 use Rattle.fab_serial_laws.specs.fab_serial_Module.{fabric_instance_name, serial_text}
@@ -38,24 +35,6 @@ pub data IsSerialDesignPoint (fabric : PlainFabric) (text serial : List PlainMod
   at_pad : {p : Point} → IsPadPoint fabric implementation p → p.path ≡ [] → IsSerialDesignPoint fabric text serial netlist implementation p
   of_port : {p : Point} → IsSerialLoading serial p → IsSerialDesignPoint fabric text serial netlist implementation p
 
--- ---- cycles
-
--- No bit is sent, CLK is 0, and the pads of input ports have the values that are given.
-pub record FeedsSerially (netlist : PlainNetlist) (implementation : PlainImplementation) (given : List Bool) (inputs : Assignment) : Type 0 where
-  pub quiet : inputs strobe_point ≡ false
-  pub low : inputs (point [] clock_name 0) ≡ false
-  pub pads : (place net : ℕ) (site : Site) → IsAt netlist.inputs place net → Contains implementation.ins (name_of netlist net, site) →
-      inputs (top_point site top_name) ≡ bit_at given place
-
-abbrev pub IsSerialCycle : PlainNetlist → PlainImplementation → Cycle → Type 0
-IsSerialCycle netlist implementation c = EndsCycle c.instants × All (λ i. FeedsSerially netlist implementation c.given i.inputs) c.instants
-
--- cycles one after the other, from what is held at first to what is held at last
-abbrev pub AreSerialCycles : (Point → Type 0) → List PlainModule → PlainNetlist → PlainImplementation → List Cycle → (held after : Assignment) → Type 0
-AreSerialCycles Has text netlist implementation [] held after = (p : Point) → Has p → after p ≡ held p
-AreSerialCycles Has text netlist implementation (c ∷ more) held after =
-    IsSerialCycle netlist implementation c × (next : Assignment) × AreInstants Has text c.instants held next × AreSerialCycles Has text netlist implementation more next after
-
 -- ---- the law
 
 -- From what is held when use starts, the text runs as the netlist that was read, whatever the points beside the design carry. `netlist` is the one
@@ -65,12 +44,13 @@ pub record RunsSeriallyFrom (fabric : PlainFabric) (text serial : List PlainModu
   pub latches : (latches : List Bool) × HoldsLatches netlist implementation (within fabric_instance_name start) latches
   -- and from these each run of cycles shows at the pads, cycle by cycle, what the nets have in a run of the netlist that was read over the given values
   pub shows : (cycles : List Cycle) (after : Assignment) (latches : List Bool) →
-      AreSerialCycles (IsSerialDesignPoint fabric text serial netlist implementation) serial netlist implementation cycles start after →
+      AreCyclesWith strobe_point (IsSerialDesignPoint fabric text serial netlist implementation) serial netlist implementation cycles start after →
       HoldsLatches netlist implementation (within fabric_instance_name start) latches →
       (nows : List (ℕ → Bool)) × IsRun read latches (map (λ c. c.given) cycles) nows × EachShows read implementation cycles nows
   -- A reset starts it anew: behind a cycle in which 1 is given for the reset port, each flip-flop of a latch holds what the state file says of it.
   pub resets : (cycles : List Cycle) (cycle : Cycle) (between after : Assignment) →
-      AreSerialCycles (IsSerialDesignPoint fabric text serial netlist implementation) serial netlist implementation cycles start between → IsSerialCycle netlist implementation cycle →
+      AreCyclesWith strobe_point (IsSerialDesignPoint fabric text serial netlist implementation) serial netlist implementation cycles start between →
+      IsCycleWith strobe_point netlist implementation cycle →
       AreInstants (IsSerialDesignPoint fabric text serial netlist implementation) serial cycle.instants between after → IsGivenReset read cycle.given →
       HoldsState (design_state (packed netlist) implementation) (within fabric_instance_name after)
 

@@ -8,10 +8,13 @@ use Rattle.std.proofs.lemmas.Option.{slice_get_within}
 use Rattle.fab_systems_laws.specs.Ternary.{Tern as PlainTern}
 use Rattle.fab_ternary.specs.declared.Tern.{Tern}
 use Rattle.fab_ternary.specs.Terns.{plain_tern}
+use Rattle.fab_compiled.specs.declared.tree.Tree.{Tree}
 use Rattle.fab_compiled.specs.Terns.{seen}
 use Rattle.fab_network.specs.declared.network.Clock.TheVariants.{User}
 use Rattle.fab_network.specs.declared.network.Network.{Network}
 use Rattle.fab_network.specs.Passes.{kept_tern}
+use Rattle.fab_network.specs.Sharing.{IsShared}
+use Rattle.fab_network.specs.declared.sharing.Shared.{Shared}
 use Rattle.fab_wiring.specs.Given.{left_by}
 use Rattle.fab_stepping.specs.declared.board.Board.{Board}
 use Rattle.fab_stepping.specs.Boards.{left_on, IsTicked, IsTakenOver}
@@ -60,6 +63,15 @@ ticked_all network before now count all so_far = record {
   long = so_far.long;
   left = λ point l. so_far.left point (omega arith);
 }
+
+-- what is kept of an expression is right of equal lists
+pub shared_at : (trees other_trees : List Tree) (terns other_terns : List Tern) (leads other_leads : List ℕ) (shared : Shared) →
+    trees ≡ other_trees → terns ≡ other_terns → leads ≡ other_leads →
+    IsShared trees (length leads) (seen terns leads) shared → IsShared other_trees (length other_leads) (seen other_terns other_leads) shared
+shared_at trees other_trees terns other_terns leads other_leads shared e f g is =
+    subst (λ (xs : List Tree). IsShared xs (length other_leads) (seen other_terns other_leads) shared) e
+    (subst (λ (xs : List Tern). IsShared trees (length other_leads) (seen xs other_leads) shared) f
+    (subst (λ (xs : List ℕ). IsShared trees (length xs) (seen terns xs) shared) g is))
 
 -- ---- values that are taken over
 

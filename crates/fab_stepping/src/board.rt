@@ -6,12 +6,13 @@ ghost use Rattle.fab_compiled.specs.Terns.{seen, IsView};
 ghost use Rattle.fab_network.specs.declared.network.Clock.TheVariants.{User};
 ghost use Rattle.fab_network.specs.declared.network.Drive.TheVariants.{Flop};
 ghost use Rattle.fab_network.specs.Network.{AreFit, IsFitDrive, IsFitSource};
+ghost use Rattle.fab_network.specs.Sharing.{IsShared};
 ghost use Rattle.fab_wiring.specs.Given.{left_by};
 ghost use Rattle.fab_stepping.specs.Boards.{IsBoardOf, IsTakenOver, IsTicked, LeadToThemselves};
 
 use fab_base::Memory;
 use fab_compiled::{Tree, View};
-use fab_network::{Clock, Drive, Network, Source, evaluate};
+use fab_network::{Clock, Drive, Network, Shared, Source};
 use fab_ternary::Tern;
 use std::alloc::Global;
 
@@ -42,9 +43,17 @@ impl Board {
         requires board { IsBoardOf network.now self.old }
         ensures { IsTicked network.now self.old self.new }
     {
+        let mut shared = Shared::new(*network.trees.allocator());
         for point in 0..self.held.len() {
             let drive = network.drives[point];
-            self.held[point] = left(&network.trees, drive, point, self.held[point], &self.view());
+            self.held[point] = left(
+                &network.trees,
+                drive,
+                point,
+                self.held[point],
+                &mut shared,
+                &self.view(),
+            );
         }
     }
 }
@@ -62,29 +71,47 @@ pub fn own_leads(alloc: Global, count: usize) -> Result<Vec<u32>, Memory>
 }
 
 // What a tick of UserCLK leaves with a point that holds this.
-fn left(trees: &[Tree], drive: Drive, point: usize, held: Tern, view: &View) -> Tern
+fn left(
+    trees: &[Tree],
+    drive: Drive,
+    point: usize,
+    held: Tern,
+    shared: &mut Shared,
+    view: &View,
+) -> Tern
     requires fit { IsFitDrive trees.now (length view.now.leads.now) drive }
     requires view { IsView view.now.terns.now view.now.leads.now }
     requires few { length view.now.leads.now ≤ 2 ^ 32 }
     requires within { point < length view.now.leads.now }
-    ensures { plain_tern result ≡ left_by trees.now User (plain_tern held) (seen view.now.terns.now view.now.leads.now) point (Some drive) }
+    requires shared { IsShared trees.now (length view.now.leads.now) (seen view.now.terns.now view.now.leads.now) shared.old }
+    ensures left { plain_tern result ≡ left_by trees.now User (plain_tern held) (seen view.now.terns.now view.now.leads.now) point (Some drive) }
+    ensures shared { IsShared trees.now (length view.now.leads.now) (seen view.now.terns.now view.now.leads.now) shared.new }
 {
     match drive {
-        Drive::Flop(clock, next) => left_with_flop(trees, clock, next, held, view),
+        Drive::Flop(clock, next) => left_with_flop(trees, clock, next, held, shared, view),
         Drive::Hold(_, _) => view.at(point),
         Drive::Given | Drive::Same(_) | Drive::Value(_) => held,
     }
 }
 
 // What it leaves with a flip-flop.
-fn left_with_flop(trees: &[Tree], clock: Clock, next: Source, held: Tern, view: &View) -> Tern
+fn left_with_flop(
+    trees: &[Tree],
+    clock: Clock,
+    next: Source,
+    held: Tern,
+    shared: &mut Shared,
+    view: &View,
+) -> Tern
     requires next { IsFitSource trees.now (length view.now.leads.now) next }
     requires view { IsView view.now.terns.now view.now.leads.now }
     requires few { length view.now.leads.now ≤ 2 ^ 32 }
-    ensures { (point : ℕ) → plain_tern result ≡ left_by trees.now User (plain_tern held) (seen view.now.terns.now view.now.leads.now) point (Some (Flop clock next)) }
+    requires shared { IsShared trees.now (length view.now.leads.now) (seen view.now.terns.now view.now.leads.now) shared.old }
+    ensures shared { IsShared trees.now (length view.now.leads.now) (seen view.now.terns.now view.now.leads.now) shared.new }
+    ensures left { (point : ℕ) → plain_tern result ≡ left_by trees.now User (plain_tern held) (seen view.now.terns.now view.now.leads.now) point (Some (Flop clock next)) }
 {
     match clock {
-        Clock::User => evaluate(trees, next, view),
+        Clock::User => shared.value(trees, next, view),
         Clock::Loader | Clock::Other => held,
     }
 }

@@ -28,12 +28,19 @@ AreInstants Has text (i ∷ more) held after =
 
 -- ---- what is fed, and what is shown
 
--- No word is written, CLK is 0, and the pad of each input port has at O_top the value that is given for the port.
-pub record Feeds (netlist : PlainNetlist) (implementation : PlainImplementation) (given : List Bool) (inputs : Assignment) : Type 0 where
-  pub quiet : inputs (point [] write_strobe_name 0) ≡ false
+-- A strobe is 0, so that nothing is written by it, CLK is 0, and the pad of each input port has at O_top the value that is given for the port.
+pub record FeedsWith (strobe : Point) (netlist : PlainNetlist) (implementation : PlainImplementation) (given : List Bool) (inputs : Assignment) : Type 0 where
+  pub quiet : inputs strobe ≡ false
   pub low : inputs (point [] clock_name 0) ≡ false
   pub pads : (place net : ℕ) (site : Site) → IsAt netlist.inputs place net → Contains implementation.ins (name_of netlist net, site) →
       inputs (top_point site top_name) ≡ bit_at given place
+
+-- the strobe by which words are written
+abbrev pub word_strobe : Point
+word_strobe = point [] write_strobe_name 0
+
+abbrev pub Feeds : PlainNetlist → PlainImplementation → (given : List Bool) → (inputs : Assignment) → Type 0
+Feeds netlist implementation given inputs = FeedsWith word_strobe netlist implementation given inputs
 
 -- The pad of each output port shows at I_top the value of the port's net, where the nets have these values. T_top is 0 at the pads of output
 -- ports, which drive the outside, and 1 at those of input ports, which do not.
@@ -56,14 +63,22 @@ pub record Cycle : Type 0 where
   pub given : List Bool
   pub instants : List Instant
 
+abbrev pub IsCycleWith : (strobe : Point) → PlainNetlist → PlainImplementation → Cycle → Type 0
+IsCycleWith strobe netlist implementation c = EndsCycle c.instants × All (λ i. FeedsWith strobe netlist implementation c.given i.inputs) c.instants
+
 abbrev pub IsCycle : PlainNetlist → PlainImplementation → Cycle → Type 0
-IsCycle netlist implementation c = EndsCycle c.instants × All (λ i. Feeds netlist implementation c.given i.inputs) c.instants
+IsCycle netlist implementation c = IsCycleWith word_strobe netlist implementation c
 
 -- cycles one after the other, from what is held at first to what is held at last
+abbrev pub AreCyclesWith : (strobe : Point) → (Point → Type 0) → List PlainModule → PlainNetlist → PlainImplementation → List Cycle
+    → (held after : Assignment) → Type 0
+AreCyclesWith strobe Has text netlist implementation [] held after = (p : Point) → Has p → after p ≡ held p
+AreCyclesWith strobe Has text netlist implementation (c ∷ more) held after =
+    IsCycleWith strobe netlist implementation c × (next : Assignment) × AreInstants Has text c.instants held next
+    × AreCyclesWith strobe Has text netlist implementation more next after
+
 abbrev pub AreCycles : (Point → Type 0) → List PlainModule → PlainNetlist → PlainImplementation → List Cycle → (held after : Assignment) → Type 0
-AreCycles Has text netlist implementation [] held after = (p : Point) → Has p → after p ≡ held p
-AreCycles Has text netlist implementation (c ∷ more) held after =
-    IsCycle netlist implementation c × (next : Assignment) × AreInstants Has text c.instants held next × AreCycles Has text netlist implementation more next after
+AreCycles Has text netlist implementation cycles held after = AreCyclesWith word_strobe Has text netlist implementation cycles held after
 
 -- Cycle by cycle, in each instant, the pads show the values of the nets; lists of two lengths never do.
 abbrev pub EachShows : PlainNetlist → PlainImplementation → List Cycle → List (ℕ → Bool) → Type 0

@@ -308,5 +308,6 @@ unshared_is_legal fabric packed fixed i rounds last made placed constraints run 
 
 pub mapping_is_legal : MappingIsLegal
 mapping_is_legal fabric packed fixed allowed implementation made mapping =
-    subst (λ (i : PlainImplementation). IsLegal fabric packed fixed i) (sym mapping.is)
-    (unshared_is_legal fabric packed fixed mapping.placement mapping.rounds mapping.last made mapping.good.placed mapping.good.constraints mapping.run mapping.some_rounds mapping.unshared)
+    let routed = mapping.routed in
+    subst (λ (i : PlainImplementation). IsLegal fabric packed fixed i) (sym (mapping.is ∙ ap (with_trees mapping.placement) routed.trees_are))
+    (unshared_is_legal fabric packed fixed mapping.placement routed.rounds routed.last made mapping.good.placed mapping.good.constraints routed.run routed.some_rounds routed.unshared)

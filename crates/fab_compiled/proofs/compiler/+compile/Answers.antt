@@ -2,7 +2,7 @@ use Rattle.std.proofs.Common.{rules, ◌≡◌, ◌+◌, ◌-◌, ◌<◌, ℕ, 
 use Rattle.fab_syntax.specs.declared.tree.Expr.{Expr}
 use Rattle.fab_syntax.specs.Plain.{PlainExpr, PlainExprs, variable, pick, part, concatenation, complement, operation, conditional, plain_expr, plain_exprs, plain_text}
 use Rattle.fab_syntax.proofs.Plain.{plain_concatenation}
-use Rattle.fab_values.specs.Declarations.{declarations}
+use Rattle.fab_values.specs.Declarations.{Declaration, declarations}
 use Rattle.fab_values.specs.Evaluation.{IsFit}
 use Rattle.fab_equations.specs.Instances.{Instance, instances}
 use Rattle.fab_equations.specs.Numbering.{IsInstanceOfNumber}
@@ -10,7 +10,8 @@ use Rattle.fab_equations.proofs.Numbering.{some_there}
 use Rattle.fab_compiled.specs.declared.compiler.Compiled.{Compiled}
 use Rattle.fab_compiled.specs.declared.tree.Tree.{Bits}
 use Rattle.fab_compiled.specs.Compiling.{IsCompiled, AreCompiled, IsOperation}
-use Rattle.fab_compiled.proofs.Compiling.{variable_compiled, part_compiled, pick_compiled, pick_small, not_compiled, cond_compiled, operation_compiled, more_compiled, as_compiled, cat_compiled, pick_declared, part_declared, part_room, fit_part, part_more, ok_map, ok_both}
+use Rattle.fab_compiled.specs.inner.Joining.{AreJoined}
+use Rattle.fab_compiled.proofs.Compiling.{variable_compiled, part_compiled, pick_compiled, pick_small, not_compiled, cond_compiled, operation_compiled, as_compiled, cat_compiled, pick_declared, part_declared, part_room, fit_part, no_parts, part_more, ok_map, ok_both}
 use denote.Param.Weighed.{at_most}
 use Rattle.fab_syntax.proofs.tree.Expr.TheLaws.{the_size}
 use Rattle.fab_compiled.proofs.compiler.+compile.Goals as goal
@@ -191,6 +192,15 @@ compile_parts-compile-requires t c =
       ),
     )
 
+pub compile_parts-loop-end-init : goal.compile_parts-loop-end-init
+compile_parts-loop-end-init t c = record {
+  within = omega arith;
+  compiled = λ i is.
+      let joined = c.in_ok-joined.joined in
+      subst (λ (es : List PlainExpr). AreJoined (declarations i.here) (plain_exprs es) joined.low.tree.value joined.low.width joined.group.tree.value joined.group.width)
+      (no_parts c.args.parts.now) (c.in_ok-joined.ensures (declarations i.here));
+}
+
 pub compile_parts-loop-end-preserved : goal.compile_parts-loop-end-preserved
 compile_parts-loop-end-preserved t c = record {
   within = omega (arith, c.loop-end.invariant.within);
@@ -200,15 +210,26 @@ compile_parts-loop-end-preserved t c = record {
       let e = c.index-parts-end.result in
       let room : k < length c.args.parts.now = omega (arith, c.loop-end.invariant.within, c.loop-end-test.true) in
       let last : c.loop-end.end ≡ k + 1 = omega (arith, c.loop-end-test.true) in
-      let rest : AreCompiled (declarations i.here) (plain_exprs (drop (k + 1) parts)) c.loop-end.low.tree.value c.loop-end.low.width =
-      subst (λ (n : ℕ). AreCompiled (declarations i.here) (plain_exprs (drop n parts)) c.loop-end.low.tree.value c.loop-end.low.width) last (c.loop-end.invariant.compiled i is) in
-      subst (λ (es : PlainExprs). AreCompiled (declarations i.here) es c.in_ok-low-2.low.tree.value c.in_ok-low-2.low.width) (sym (part_more c.args.parts.now k e room c.index-parts-end.is))
-      (more_compiled (declarations i.here) (plain_expr e) (plain_exprs (drop (k + 1) parts)) c.loop-end.low.tree.value c.loop-end.low.width
-      c.in_ok-high.high.tree.value c.in_ok-high.high.width rest (c.in_ok-high.ensures i is) c.in_ok-low-2.low.tree.value c.in_ok-low-2.low.width c.in_ok-low-2.ensures);
+      let old = c.loop-end.joined in
+      let new = c.in_ok-joined-2.joined in
+      let rest : AreJoined (declarations i.here) (plain_exprs (drop (k + 1) parts)) old.low.tree.value old.low.width old.group.tree.value old.group.width =
+      subst (λ (n : ℕ). AreJoined (declarations i.here) (plain_exprs (drop n parts)) old.low.tree.value old.low.width old.group.tree.value old.group.width) last
+      (c.loop-end.invariant.compiled i is) in
+      subst (λ (es : PlainExprs). AreJoined (declarations i.here) es new.low.tree.value new.low.width new.group.tree.value new.group.width)
+      (sym (part_more c.args.parts.now k e room c.index-parts-end.is))
+      (c.in_ok-joined-2.ensures (declarations i.here) (plain_expr e) (plain_exprs (drop (k + 1) parts)) rest (c.in_ok-high.ensures i is));
 }
 
 pub compile_parts-returns : goal.compile_parts-returns
-compile_parts-returns t c i is =
+compile_parts-returns t c =
     let none : c.loop-end.end ≡ 0 = omega (arith, c.loop-end-test.false) in
-    subst (λ (n : ℕ). AreCompiled (declarations i.here) (plain_exprs (drop n (map plain_expr c.args.parts.now))) c.loop-end.low.tree.value c.loop-end.low.width) none
-    (c.loop-end.invariant.compiled i is)
+    let old = c.loop-end.joined in
+    let es = plain_exprs (map plain_expr c.args.parts.now) in
+    ok_map c.close.result
+    (λ (m : Compiled). (ds : List Declaration) (fs : PlainExprs) → AreJoined ds fs old.low.tree.value old.low.width old.group.tree.value old.group.width →
+    AreCompiled ds fs m.tree.value m.width)
+    (λ (m : Compiled). (i : Instance) → IsInstanceOfNumber (plain_text c.args.equations.now) c.args.instance i → AreCompiled (declarations i.here) es m.tree.value m.width)
+    c.close.ensures
+    (λ m all i is. all (declarations i.here) es
+    (subst (λ (n : ℕ). AreJoined (declarations i.here) (plain_exprs (drop n (map plain_expr c.args.parts.now))) old.low.tree.value old.low.width old.group.tree.value old.group.width) none
+    (c.loop-end.invariant.compiled i is)))

@@ -62,13 +62,15 @@ returns-clause-done g c =
     let spelled = c.in_ok-design.ensures.spelled in
     on_ok_weaker c.store_all.result (λ stored. done_of_store (λ files. MakesAssembly files names) told outputs (g.D.Desk.told c.read_implementation.new.desk) (g.D.Desk.told c.store_all.new.desk)
     (λ files is. record {
-      design = c.in_ok-design.design;
-      implementation = c.in_ok-read.read;
-      spelled = spelled files is;
-      implemented = implemented files is;
-      resets = of.resets;
-      fits = of.fits;
-      legal = of.legal;
+      ready = record {
+        design = c.in_ok-design.design;
+        implementation = c.in_ok-read.read;
+        spelled = spelled files is;
+        implemented = implemented files is;
+        resets = of.resets;
+        fits = of.fits;
+        legal = of.legal;
+      };
       made = made_of files names c.in_ok-design.design (spelled files is) c.in_ok-read.read c.in_ok-outputs.outputs.items c.deref.result.now c.deref.ensures.value of.made;
     })
     (c.in_ok-read.ensures.told ∙ c.in_ok-design.ensures.told) stored) c.store_all.ensures.done
@@ -83,13 +85,15 @@ returns-clause-leaves g c =
     let spelled = c.in_ok-design.ensures.spelled in
     IfErr-weaker c.store_all.result _ _ (λ fault stopped. leaves_of_store (λ files. MakesAssembly files names) told outputs (g.D.Desk.told c.read_implementation.new.desk) (g.D.Desk.told c.store_all.new.desk) _ fault
     (λ files is. record {
-      design = c.in_ok-design.design;
-      implementation = c.in_ok-read.read;
-      spelled = spelled files is;
-      implemented = implemented files is;
-      resets = of.resets;
-      fits = of.fits;
-      legal = of.legal;
+      ready = record {
+        design = c.in_ok-design.design;
+        implementation = c.in_ok-read.read;
+        spelled = spelled files is;
+        implemented = implemented files is;
+        resets = of.resets;
+        fits = of.fits;
+        legal = of.legal;
+      };
       made = made_of files names c.in_ok-design.design (spelled files is) c.in_ok-read.read c.in_ok-outputs.outputs.items c.deref.result.now c.deref.ensures.value of.made;
     })
     (c.in_ok-read.ensures.told ∙ c.in_ok-design.ensures.told) stopped) c.store_all.ensures.stopped

@@ -66,7 +66,18 @@ returns-clause-done g c =
     let made : IsTimed design.fabric netlist c.in_ok-read.read c.args.out.now outputs =
     subst (λ (items : List Output). IsTimed design.fabric netlist c.in_ok-read.read c.args.out.now (map plain_output items)) (sym c.deref.ensures.value) of.made in
     on_ok_weaker c.store_all.result (λ stored. done_of_store (λ files. MakesTiming files names) told outputs (g.D.Desk.told c.read_implementation.new.desk) (g.D.Desk.told c.store_all.new.desk)
-    (λ files is. record { design = c.in_ok-design.design; implementation = c.in_ok-read.read; spelled = c.in_ok-design.ensures.spelled files is; implemented = implemented files is; resets = of.resets; fits = of.fits; legal = of.legal; made = made })
+    (λ files is. record {
+      ready = record {
+        design = c.in_ok-design.design;
+        implementation = c.in_ok-read.read;
+        spelled = c.in_ok-design.ensures.spelled files is;
+        implemented = implemented files is;
+        resets = of.resets;
+        fits = of.fits;
+        legal = of.legal;
+      };
+      made = made;
+    })
     (c.in_ok-read.ensures.told ∙ c.in_ok-design.ensures.told) stored) c.store_all.ensures.done
 
 pub returns-clause-leaves : goal.returns-clause-leaves
@@ -81,7 +92,18 @@ returns-clause-leaves g c =
     let made : IsTimed design.fabric netlist c.in_ok-read.read c.args.out.now outputs =
     subst (λ (items : List Output). IsTimed design.fabric netlist c.in_ok-read.read c.args.out.now (map plain_output items)) (sym c.deref.ensures.value) of.made in
     IfErr-weaker c.store_all.result _ _ (λ fault stopped. leaves_of_store (λ files. MakesTiming files names) told outputs (g.D.Desk.told c.read_implementation.new.desk) (g.D.Desk.told c.store_all.new.desk) _ fault
-    (λ files is. record { design = c.in_ok-design.design; implementation = c.in_ok-read.read; spelled = c.in_ok-design.ensures.spelled files is; implemented = implemented files is; resets = of.resets; fits = of.fits; legal = of.legal; made = made })
+    (λ files is. record {
+      ready = record {
+        design = c.in_ok-design.design;
+        implementation = c.in_ok-read.read;
+        spelled = c.in_ok-design.ensures.spelled files is;
+        implemented = implemented files is;
+        resets = of.resets;
+        fits = of.fits;
+        legal = of.legal;
+      };
+      made = made;
+    })
     (c.in_ok-read.ensures.told ∙ c.in_ok-design.ensures.told) stopped) c.store_all.ensures.stopped
 
 pub returns-clause-cause : goal.returns-clause-cause

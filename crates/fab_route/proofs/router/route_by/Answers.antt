@@ -7,9 +7,9 @@ use Rattle.fab_legal.specs.Legal.{IsLegal}
 use Rattle.fab_legal.specs.Lines.{ConstraintsHold}
 use Rattle.fab_pathfinder.specs.declared.net.Net.{Net}
 use Rattle.fab_pathfinder.specs.Plain.{nets_of, IsInside}
+use Rattle.fab_ways_laws.specs.Mapping.{AreRouted}
 use Rattle.fab_ways_laws.specs.Trees.{with_trees}
 use Rattle.fab_ways_laws.proofs.Legal.{unshared_is_legal}
-use Rattle.fab_route.specs.Answers.{AreRouted}
 use Rattle.fab_route.specs.Plain.{graph_of}
 use Rattle.fab_route.specs.inner.Told.{IsNodeRun}
 use Rattle.fab_route.specs.declared.router.Routed.{Routed}

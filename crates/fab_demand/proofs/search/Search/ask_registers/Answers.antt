@@ -10,25 +10,26 @@ use Rattle.fab_demand.proofs.search.Search.ask_registers.Goals as goal
 pub registers-preserved : goal.registers-preserved
 registers-preserved c =
     let old = c.registers.self in
-    let new = c.ask_register.new.self in
-    let more = c.ask_register.ensures.more in
+    let new = c.ask_register-asked.new.self in
+    let more = c.ask_register-asked.ensures.more in
     let room : c.registers.place < length old.own.items = omega (arith, c.registers-test.true, c.len.ensures, old.own.ok.0) in
     let same : (place : ℕ) → place < length old.own.items → slice_index new.own.items place ≡ slice_index old.own.items place =
     λ place l. ap (λ xs. slice_index xs place) more.own ∙ index_left old.own.items more.more place l in
     let here : c.index-point.result.now ≡ slice_index old.own.items c.registers.place =
     get_or_read old.own.items c.registers.place c.index-point.result.now room c.index-point.ensures 0 in
     record {
-      searching = c.ask_register.ensures.searching;
-      resting = c.ask_register.ensures.resting;
+      searching = c.ask_register-asked.ensures.searching;
+      resting = c.ask_register-asked.ensures.resting;
       more = asks_both (asked_of c.args.self.now) (asked_of old) (asked_of new) c.registers.invariant.more more;
       inside = omega (arith, room, ap length more.own, length-append old.own.items more.more);
+      asked = c.ask_register-asked.ensures.asked;
       so_far = λ place l. elim (cases_lt place c.registers.place) [
         | inl before ↦ subst (IsRegisterAsked c.args.network.now c.args.clock (asked_of new)) (sym (same place (omega (arith, before, room))))
             (register_stays c.args.network.now c.args.clock (asked_of old) (asked_of new) more (slice_index old.own.items place)
             (c.registers.invariant.so_far place before))
         | inr after ↦ (let e : c.registers.place ≡ place = omega (arith, l, after) in
             subst (λ n. IsRegisterAsked c.args.network.now c.args.clock (asked_of new) (slice_index new.own.items n)) e
-            (subst (IsRegisterAsked c.args.network.now c.args.clock (asked_of new)) (here ∙ sym (same c.registers.place room)) c.ask_register.ensures.register))
+            (subst (IsRegisterAsked c.args.network.now c.args.clock (asked_of new)) (here ∙ sym (same c.registers.place room)) c.ask_register-asked.ensures.register))
       ];
     }
 

@@ -8,24 +8,33 @@ use Rattle.fab_demand.proofs.search.Search.go_by.Goals as goal
 
 needs : (c : goal.After-wait) → GoesOn c.args.network.now c.args.clock (kept_tern c.args.given.now) c.args.self.now c.wait.new.self
 needs c =
-    let unmarked = subst (λ (marks : List Bool). slice_get marks c.in-Some.needed ≡ Some false) c.deref.ensures.value c.in-Some.ensures in
-    wait_goes_on c.args.network.now c.args.clock (kept_tern c.args.given.now) c.args.self.now c.wait.new.self c.requires.searching c.in-Some.needed unmarked
+    let unmarked = subst (λ (marks : List Bool). slice_get marks c.in-Ask.needed ≡ Some false) c.deref.ensures.value c.in-Ask.ensures in
+    wait_goes_on c.args.network.now c.args.clock (kept_tern c.args.given.now) c.args.self.now c.wait.new.self c.requires.searching c.in-Ask.needed unmarked
     c.wait.ensures.asked c.wait.ensures.done c.wait.ensures.stack c.wait.ensures.room
 
-pub returns-in-Some-clause-searching : goal.returns-in-Some-clause-searching
-returns-in-Some-clause-searching c = (needs c).searching
+pub returns-in-Ask-clause-searching : goal.returns-in-Ask-clause-searching
+returns-in-Ask-clause-searching c = (needs c).searching
 
-pub returns-in-Some-clause-more : goal.returns-in-Some-clause-more
-returns-in-Some-clause-more c = (needs c).more
+pub returns-in-Ask-clause-more : goal.returns-in-Ask-clause-more
+returns-in-Ask-clause-more c = (needs c).more
 
-pub returns-in-Some-clause-falls : goal.returns-in-Some-clause-falls
-returns-in-Some-clause-falls c = (needs c).falls
+pub returns-in-Ask-clause-falls : goal.returns-in-Ask-clause-falls
+returns-in-Ask-clause-falls c = (needs c).falls
 
--- ---- a point that has come to stand for itself, and those beside it
+-- ---- a point that a look has closed, and those beside it
 
 pub returns-then-own-len-clause-searching : goal.returns-then-own-len-clause-searching
-returns-then-own-len-clause-searching c = c.keep_others.ensures.searching c.args.clock (kept_tern c.args.given.now) c.step.ensures.searching
+returns-then-own-len-clause-searching c = c.close_others.ensures.searching c.args.clock (kept_tern c.args.given.now) c.step.ensures.searching
 
 pub returns-then-own-len-clause-more : goal.returns-then-own-len-clause-more
 returns-then-own-len-clause-more c =
-    asks_both (asked_of c.args.self.now) (asked_of c.step.new.self) (asked_of c.keep_others.new.self) c.step.ensures.more c.keep_others.ensures.more
+    asks_both (asked_of c.args.self.now) (asked_of c.step.new.self) (asked_of c.close_others.new.self) c.step.ensures.more c.close_others.ensures.more
+
+pub returns-then-len-depth-clause-searching : goal.returns-then-len-depth-clause-searching
+returns-then-len-depth-clause-searching c =
+    c.close_others-then-len-depth.ensures.searching c.args.clock (kept_tern c.args.given.now) c.step-in-LookInRow.ensures.searching
+
+pub returns-then-len-depth-clause-more : goal.returns-then-len-depth-clause-more
+returns-then-len-depth-clause-more c =
+    asks_both (asked_of c.args.self.now) (asked_of c.step-in-LookInRow.new.self) (asked_of c.close_others-then-len-depth.new.self) c.step-in-LookInRow.ensures.more
+    c.close_others-then-len-depth.ensures.more
