@@ -68,19 +68,20 @@ module _ (old new : Asked) (leads : new.leads ≡ old.leads) (marks : new.marks 
   }
 
 -- forms stay right from cycle to cycle
-pub formed_on : (network : Network) (held : List Tern) (old new : Asked) (forms : List Form) → new.leads ≡ old.leads → new.own ≡ old.own →
-    IsSettled network held old.own old.leads old.terns new.terns → AreFormsOf network old forms → AreFormsOf network new forms
-formed_on network held old new forms leads own settled has =
-    forms_same network.trees.items network.drives.items old.own new.own old.leads new.leads new.terns new.terns forms (sym own) (sym leads) refl
-    (forms_stay network.trees.items network.drives.items old.own old.leads old.terns new.terns forms
+pub formed_on : (network : Network) (held : List Tern) (old : Asked) (own leads : List ℕ) (terns : List Tern) (forms : List Form) → own ≡ old.own → leads ≡ old.leads →
+    IsSettled network held old.own old.leads old.terns terns → AreFormsOf network old forms →
+    HasForms network.trees.items network.drives.items own leads terns forms
+formed_on network held old own leads terns forms same_own same_leads settled has =
+    forms_same network.trees.items network.drives.items old.own own old.leads leads terns terns forms (sym same_own) (sym same_leads) refl
+    (forms_stay network.trees.items network.drives.items old.own old.leads old.terns terns forms
     (λ q none. settled.kept_then q none ∙ settled.kept_first q none) has)
 
 -- ---- what points start with
 
 start_by_form : (trees : List Tree) (leads : List ℕ) (marks : List Bool) (base : List Tern) (drive : Drive) (form : Form) → IsFormBy trees leads marks base drive form →
     IsStart form (Some drive)
-start_by_form trees leads marks base drive (Shows table) (source, is, table_is) given = ap (λ (d : Drive). start_tern given (Some d)) is
-start_by_form trees leads marks base drive (Takes table) (next, is, table_is) given = ap (λ (d : Drive). start_tern given (Some d)) is
+start_by_form trees leads marks base drive (Shows table) (source, is, table_is) = λ given. ap (λ (d : Drive). start_tern given (Some d)) is
+start_by_form trees leads marks base drive (Takes table) (next, is, table_is) = λ given. ap (λ (d : Drive). start_tern given (Some d)) is
 start_by_form trees leads marks base drive Driven is = tt
 
 pub starts_of : (network : Network) (own leads : List ℕ) (terns : List Tern) (forms : List Form) → length network.drives.items ≡ length leads → AreOwn own leads →

@@ -41,7 +41,7 @@ returns-clause-forms c =
     let terns : search.terns.items ≡ old.terns = ap (λ (a : Asked). a.terns) same in
     let long : length c.settle_anew.new.terns ≡ search.terns.len = c.settle_anew.auto.terns ∙ c.deref_mut.ensures.len in
     let kept = with_items_is search.terns c.settle_anew.new.terns long in
-    formed_on c.args.network.now c.args.given.now old _ c.args.forms.now leads own
+    formed_on c.args.network.now c.args.given.now old search.own.items search.leads.items _ c.args.forms.now own leads
     (settled_of c.args.network.now c.args.given.now c.deref.result.now old.own c.deref-2.result.now old.leads c.deref_mut.result.now old.terns
     c.settle_anew.new.terns _
     (c.deref.ensures.value ∙ own) (c.deref-2.ensures.value ∙ leads) (c.deref_mut.ensures.value ∙ terns) (sym kept) c.settle_anew.ensures)
