@@ -68,8 +68,8 @@ module _ (old new : Asked) (leads : new.leads ≡ old.leads) (marks : new.marks 
   }
 
 -- forms stay right from cycle to cycle
-pub formed_on : (network : Network) (held : List Tern) (old : Asked) (own leads : List ℕ) (terns : List Tern) (forms : List Form) → own ≡ old.own → leads ≡ old.leads →
-    IsSettled network held old.own old.leads old.terns terns → AreFormsOf network old forms →
+pub formed_on : (network : Network) (held : List Tern) (old : Asked) (own leads : List ℕ) (terns : List Tern) (forms : List Form) →
+    own ≡ old.own → leads ≡ old.leads → IsSettled network held old.own old.leads old.terns terns → AreFormsOf network old forms →
     HasForms network.trees.items network.drives.items own leads terns forms
 formed_on network held old own leads terns forms same_own same_leads settled has =
     forms_same network.trees.items network.drives.items old.own own old.leads leads terns terns forms (sym same_own) (sym same_leads) refl
@@ -78,14 +78,14 @@ formed_on network held old own leads terns forms same_own same_leads settled has
 
 -- ---- what points start with
 
-start_by_form : (trees : List Tree) (leads : List ℕ) (marks : List Bool) (base : List Tern) (drive : Drive) (form : Form) → IsFormBy trees leads marks base drive form →
-    IsStart form (Some drive)
+start_by_form : (trees : List Tree) (leads : List ℕ) (marks : List Bool) (base : List Tern) (drive : Drive) (form : Form) →
+    IsFormBy trees leads marks base drive form → IsStart form (Some drive)
 start_by_form trees leads marks base drive (Shows table) (source, is, table_is) = λ given. ap (λ (d : Drive). start_tern given (Some d)) is
 start_by_form trees leads marks base drive (Takes table) (next, is, table_is) = λ given. ap (λ (d : Drive). start_tern given (Some d)) is
 start_by_form trees leads marks base drive Driven is = tt
 
-pub starts_of : (network : Network) (own leads : List ℕ) (terns : List Tern) (forms : List Form) → length network.drives.items ≡ length leads → AreOwn own leads →
-    HasForms network.trees.items network.drives.items own leads terns forms → AreStarts network own forms
+pub starts_of : (network : Network) (own leads : List ℕ) (terns : List Tern) (forms : List Form) →
+    length network.drives.items ≡ length leads → AreOwn own leads → HasForms network.trees.items network.drives.items own leads terns forms → AreStarts network own forms
 starts_of network own leads terns forms points are has place room form at =
     let point = slice_index own place in
     let there = some_there network.drives.items point (omega (arith, points, (are place room).0)) in

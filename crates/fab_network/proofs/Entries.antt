@@ -58,7 +58,8 @@ fourth_digit a b c d place l m n o e =
     omega (arith, rest)
 
 -- the values at the place for what the inputs have
-pub digits_kept : (inputs : Inputs) (t : PointTerns) (place : ℕ) (values : Values) → entry_place inputs t ≡ place → AreDigits place values → AreKept t inputs values
+pub digits_kept : (inputs : Inputs) (t : PointTerns) (place : ℕ) (values : Values) → entry_place inputs t ≡ place → AreDigits place values →
+    AreKept t inputs values
 digits_kept inputs t place values e are =
     let a = digit_of (t inputs.first) in
     let b = digit_of (t inputs.second) in
@@ -184,7 +185,8 @@ IsEntry trees leads marks base source inputs place entry =
 abbrev pub AreOthersSame : Inputs → (base now : List Tern) → Type 0
 AreOthersSame inputs base now = (q : ℕ) → (IsInput inputs q → ⊥) → kept_tern now q ≡ kept_tern base q
 
-pub put_again : (inputs : Inputs) (base old : List Tern) (values : Values) → AreOthersSame inputs base old → AreOthersSame inputs base (put_at old inputs values)
+pub put_again : (inputs : Inputs) (base old : List Tern) (values : Values) → AreOthersSame inputs base old →
+    AreOthersSame inputs base (put_at old inputs values)
 put_again inputs base old values same q none = put_others old inputs values q none ∙ same q none
 
 -- inputs are given back what they had

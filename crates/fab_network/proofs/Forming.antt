@@ -53,17 +53,17 @@ at_end [] x y (suc k) is = let none : slice_get ([] ++ x ∷ []) (suc k) ≡ Non
 at_end (z ∷ xs) x y zero is = inl is
 at_end (z ∷ xs) x y (suc k) is = elim (at_end xs x y k is) [ inl before ↦ inl before | inr last ↦ inr (ap suc last.0, last.1) ]
 
-pub forms_none : (trees : List Tree) (drives : List Drive) (leads : List ℕ) (marks : List Bool) (base : List Tern) (order : List ℕ) (forms : List Form) → forms ≡ [] →
-    FormsSoFar trees drives leads marks base order 0 forms
+pub forms_none : (trees : List Tree) (drives : List Drive) (leads : List ℕ) (marks : List Bool) (base : List Tern) (order : List ℕ) (forms : List Form) →
+    forms ≡ [] → FormsSoFar trees drives leads marks base order 0 forms
 forms_none trees drives leads marks base order forms none =
-    (ap length none, λ place form at. let past : slice_get [] place ≡ Some form = ap (λ (xs : List Form). slice_get xs place) (sym none) ∙ at in absurd (nothing place form past))
+    (ap length none, λ place form at. absurd (nothing place form (ap (λ (xs : List Form). slice_get xs place) (sym none) ∙ at)))
   where
     nothing : (place : ℕ) (form : Form) → slice_get [] place ≡ Some form → ⊥
     nothing zero form at = cc
     nothing (suc place) form at = cc
 
-pub forms_more : (trees : List Tree) (drives : List Drive) (leads : List ℕ) (marks : List Bool) (base now : List Tern) (order : List ℕ) (count : ℕ) (old new : List Form)
-    (form : Form) → ((q : ℕ) → kept_tern now q ≡ kept_tern base q) → new ≡ old ++ form ∷ [] →
+pub forms_more : (trees : List Tree) (drives : List Drive) (leads : List ℕ) (marks : List Bool) (base now : List Tern) (order : List ℕ) (count : ℕ)
+    (old new : List Form) (form : Form) → ((q : ℕ) → kept_tern now q ≡ kept_tern base q) → new ≡ old ++ form ∷ [] →
     IsForm trees drives leads marks now (slice_index order count) form → FormsSoFar trees drives leads marks base order count old →
     FormsSoFar trees drives leads marks base order (count + 1) new
 forms_more trees drives leads marks base now order count old new form same grown is so_far = (
@@ -85,7 +85,8 @@ forms_more trees drives leads marks base now order count old new form same grown
 
 -- forms stay right where points of the order alone have changed
 pub forms_stay : (trees : List Tree) (drives : List Drive) (order leads : List ℕ) (old new : List Tern) (forms : List Form) →
-    ((q : ℕ) → (IsListed order q → ⊥) → kept_tern new q ≡ kept_tern old q) → HasForms trees drives order leads old forms → HasForms trees drives order leads new forms
+    ((q : ℕ) → (IsListed order q → ⊥) → kept_tern new q ≡ kept_tern old q) → HasForms trees drives order leads old forms →
+    HasForms trees drives order leads new forms
 forms_stay trees drives order leads old new forms others has = record {
   marks = has.marks;
   base = has.base;
@@ -95,7 +96,8 @@ forms_stay trees drives order leads old new forms others has = record {
 }
 
 -- no forms
-pub no_forms : (trees : List Tree) (drives : List Drive) (order leads : List ℕ) (terns : List Tern) (forms : List Form) → forms ≡ [] → HasForms trees drives order leads terns forms
+pub no_forms : (trees : List Tree) (drives : List Drive) (order leads : List ℕ) (terns : List Tern) (forms : List Form) → forms ≡ [] →
+    HasForms trees drives order leads terns forms
 no_forms trees drives order leads terns forms none = record {
   marks = [];
   base = [];
@@ -110,7 +112,8 @@ no_forms trees drives order leads terns forms none = record {
 
 -- the form at a place
 pub form_at : (trees : List Tree) (drives : List Drive) (order leads : List ℕ) (terns : List Tern) (forms : List Form) (place point : ℕ) (form : Form) →
-    HasForms trees drives order leads terns forms → slice_get forms place ≡ Some form → slice_index order place ≡ point → HasForm trees drives leads terns point form
+    HasForms trees drives order leads terns forms → slice_get forms place ≡ Some form → slice_index order place ≡ point →
+    HasForm trees drives leads terns point form
 form_at trees drives order leads terns forms place point form has at is = record {
   marks = has.marks;
   base = has.base;
@@ -120,20 +123,22 @@ form_at trees drives order leads terns forms place point form has at is = record
 
 -- ---- what a form tells
 
-module _ (trees : List Tree) (drives : List Drive) (leads : List ℕ) (terns : List Tern) (point : ℕ) (form : Form) (has : HasForm trees drives leads terns point form)
-    (within : point < length drives) (table : Table) where
+module _ (trees : List Tree) (drives : List Drive) (leads : List ℕ) (terns : List Tern) (point : ℕ) (form : Form)
+    (has : HasForm trees drives leads terns point form) (within : point < length drives) (table : Table) where
   -- a point that shows the source of a table
   pub shows_by : form ≡ Shows table → (source : Source) × (slice_get drives point ≡ Some (Value source)) × IsTable trees leads has.marks has.base source table
   shows_by is =
       let there = some_there drives point within in
-      let by : IsFormBy trees leads has.marks has.base there.0 (Shows table) = subst (IsFormBy trees leads has.marks has.base there.0) is (has.is there.0 there.1) in
+      let by : IsFormBy trees leads has.marks has.base there.0 (Shows table) =
+      subst (IsFormBy trees leads has.marks has.base there.0) is (has.is there.0 there.1) in
       (by.0, there.1 ∙ ap (λ (d : Drive). Some d) by.1, by.2)
 
   -- a flip-flop that takes the source of a table
   pub takes_by : form ≡ Takes table → (next : Source) × (slice_get drives point ≡ Some (Flop User next)) × IsTable trees leads has.marks has.base next table
   takes_by is =
       let there = some_there drives point within in
-      let by : IsFormBy trees leads has.marks has.base there.0 (Takes table) = subst (IsFormBy trees leads has.marks has.base there.0) is (has.is there.0 there.1) in
+      let by : IsFormBy trees leads has.marks has.base there.0 (Takes table) =
+      subst (IsFormBy trees leads has.marks has.base there.0) is (has.is there.0 there.1) in
       (by.0, there.1 ∙ ap (λ (d : Drive). Some d) by.1, by.2)
 
   -- what the point shows

@@ -59,7 +59,8 @@ pub record AreKept (t : PointTerns) (inputs : Inputs) (values : Values) : Type 0
 -- what is kept for points where the inputs are given values
 abbrev pub put_at : List Tern → Inputs → Values → List Tern
 put_at terns inputs values =
-    slice_set (slice_set (slice_set (slice_set terns inputs.first values.first) inputs.second values.second) inputs.third values.third) inputs.fourth values.fourth
+    slice_set (slice_set (slice_set (slice_set terns inputs.first values.first) inputs.second values.second) inputs.third values.third)
+    inputs.fourth values.fourth
 
 abbrev pub IsInput : Inputs → (point : ℕ) → Type 0
 IsInput inputs point = (point ≡ inputs.first) ⊎ ((point ≡ inputs.second) ⊎ ((point ≡ inputs.third) ⊎ (point ≡ inputs.fourth)))

@@ -83,13 +83,7 @@ fn form_of(
 }
 
 // The form of a point with this drive.
-fn form_by(
-    trees: &[Tree],
-    drive: Drive,
-    leads: &[u32],
-    marks: &[bool],
-    terns: &mut [Tern],
-) -> Form
+fn form_by(trees: &[Tree], drive: Drive, leads: &[u32], marks: &[bool], terns: &mut [Tern]) -> Form
     requires fit { IsFitDrive trees.now (length leads.now) drive }
     requires view { IsView terns.old leads.now }
     requires terns { length terns.old ≡ length leads.now }

@@ -142,7 +142,16 @@ fn pass_over(
     };
     let mut shared = Shared::new(*network.trees.allocator());
     for place in 0..order.len() {
-        let found = look_at(network, order, held, leads, forms, place, &mut shared, terns);
+        let found = look_at(
+            network,
+            order,
+            held,
+            leads,
+            forms,
+            place,
+            &mut shared,
+            terns,
+        );
         pass = pass.noting(found);
     }
     pass
@@ -373,7 +382,16 @@ fn look_at_reader(
         return;
     }
     let mut shared = Shared::new(*network.trees.allocator());
-    let found = look_at(network, order, held, leads, forms, place, &mut shared, terns);
+    let found = look_at(
+        network,
+        order,
+        held,
+        leads,
+        forms,
+        place,
+        &mut shared,
+        terns,
+    );
     note_found(readers, order[place], found);
 }
 

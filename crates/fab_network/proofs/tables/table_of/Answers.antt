@@ -25,10 +25,11 @@ loop-place-preserved c =
     record {
       long = length-set c.loop-place.entries c.loop-place.place c.evaluate.result ∙ c.loop-place.invariant.long;
       others = subst (AreOthersSame inputs base) (sym c.put.ensures) (put_again inputs base old c.values_at.result c.loop-place.invariant.others);
-      made = entries_more trees leads c.args.marks.now base source tree inputs there c.in_ok-inputs.ensures c.loop-place.entries c.loop-place.place c.evaluate.result
+      made = entries_more trees leads c.args.marks.now base source tree inputs there c.in_ok-inputs.ensures c.loop-place.entries c.loop-place.place
+          c.evaluate.result
           (omega (arith, c.loop-place-test.true, c.loop-place.invariant.long))
-          (entry_made trees leads c.args.marks.now base source tree inputs there c.in_ok-inputs.ensures old c.loop-place.place c.values_at.result c.evaluate.result
-          (c.loop-place.auto.terns ∙ c.requires.terns) c.loop-place.invariant.others c.values_at.ensures value)
+          (entry_made trees leads c.args.marks.now base source tree inputs there c.in_ok-inputs.ensures old c.loop-place.place c.values_at.result
+          c.evaluate.result (c.loop-place.auto.terns ∙ c.requires.terns) c.loop-place.invariant.others c.values_at.ensures value)
           c.loop-place.invariant.made;
     }
 
