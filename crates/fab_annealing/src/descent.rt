@@ -1,7 +1,8 @@
 //! Exchanges that lower the cost, until none does.
-ghost use Rattle.std.specs.Prelude.{◌≡◌, ℕ, ◌+◌, ◌-◌, ◌<◌, ◌≤◌, Bool, All, Contains, OnOk, length, slice_index, false};
+ghost use Rattle.std.specs.Prelude.{◌≡◌, ℕ, ◌+◌, ◌-◌, ◌<◌, ◌≤◌, Bool, All, Contains, IfOk, OnOk, length, slice_index, false};
+ghost use Rattle.fab_annealing.specs.Measured.{item_count};
 ghost use Rattle.fab_annealing.specs.Boards.{IsBoard, IsOptimal, site_count, cost, column, row, is_second, is_locked};
-ghost use Rattle.fab_annealing.specs.inner.Standing.{IsKept, HasLots, Falls, IsTried};
+ghost use Rattle.fab_annealing.specs.inner.Standing.{IsKept, HasLots, Falls, IsTried, AreTried, IsNext};
 
 use crate::board::Board;
 use crate::lots::Lots;
@@ -129,20 +130,57 @@ fn try_item(
     Ok(())
 }
 
-/// Tries each item once.
-fn sweep(placement: &mut Placement, board: &Board, lots: &Lots) -> Result<(), AllocError>
+/// Tries an item that follows those which are tried from a number on, and says from which number on they and it are tried then.
+fn try_next(
+    placement: &mut Placement,
+    board: &Board,
+    lots: &Lots,
+    item: u32,
+    since: u32,
+) -> Result<u32, AllocError>
     requires board { IsBoard board.now }
     requires kept { IsKept board.now placement.old }
     requires lots { HasLots board.now lots.now }
+    requires item { item < length placement.old.sites.items }
+    requires tried { AreTried board.now placement.old.sites.items since item }
     ensures kept { OnOk result (IsKept board.now placement.new) }
     ensures falls { OnOk result (Falls board.now placement.old.sites.items placement.new.sites.items) }
-    ensures optimal { OnOk result (cost board.now placement.new.sites.items ≡ cost board.now placement.old.sites.items
-        → IsOptimal board.now placement.new.sites.items) }
+    ensures tried { IfOk result (λ next. AreTried board.now placement.new.sites.items next (item + 1)) }
+    ensures next { IfOk result (λ next. IsNext board.now placement.old.sites.items placement.new.sites.items since next) }
 {
-    for item in 0..board.locked.len() as u32 {
-        try_item(placement, board, lots, item)?;
+    let before = placement.cost();
+    try_item(placement, board, lots, item)?;
+    if placement.cost() == before {
+        return Ok(since);
     }
-    Ok(())
+    Ok(item + 1)
+}
+
+/// Tries the items in their order, of which those from a number on are tried already. It says from which number on they are tried in
+/// the placement that it leaves, and ends where nothing changed and the others are.
+fn sweep(
+    placement: &mut Placement,
+    board: &Board,
+    lots: &Lots,
+    tried: u32,
+) -> Result<u32, AllocError>
+    requires board { IsBoard board.now }
+    requires kept { IsKept board.now placement.old }
+    requires lots { HasLots board.now lots.now }
+    requires tried { AreTried board.now placement.old.sites.items tried (item_count board.now.nets) }
+    ensures kept { OnOk result (IsKept board.now placement.new) }
+    ensures falls { OnOk result (Falls board.now placement.old.sites.items placement.new.sites.items) }
+    ensures tried { IfOk result (λ since. AreTried board.now placement.new.sites.items since (item_count board.now.nets)) }
+    ensures next { IfOk result (λ since. IsNext board.now placement.old.sites.items placement.new.sites.items 0 since) }
+{
+    let mut since = 0;
+    for item in 0..board.locked.len() as u32 {
+        if since == 0 && tried <= item {
+            return Ok(0);
+        }
+        since = try_next(placement, board, lots, item, since)?;
+    }
+    Ok(since)
 }
 
 /// Exchanges items until no exchange within distance 4 lowers the cost.
@@ -154,10 +192,10 @@ pub fn descend(placement: &mut Placement, board: &Board, lots: &Lots) -> Result<
     ensures falls { OnOk result (Falls board.now placement.old.sites.items placement.new.sites.items) }
     ensures optimal { OnOk result (IsOptimal board.now placement.new.sites.items) }
 {
+    let mut tried = board.locked.len() as u32;
     'sweeps: loop {
-        let before = placement.cost();
-        sweep(placement, board, lots)?;
-        if placement.cost() == before {
+        tried = sweep(placement, board, lots, tried)?;
+        if tried == 0 {
             return Ok(());
         }
     }
