@@ -3,20 +3,25 @@ ghost use Rattle.std.specs.Prelude.{◌≡◌, ℕ, ◌+◌, ◌-◌, ◌<◌, �
 ghost use Rattle.fab_annealing.specs.Measured.{item_count};
 ghost use Rattle.fab_annealing.specs.Boards.{IsBoard, IsOptimal, site_count, cost, column, row, is_second, is_locked};
 ghost use Rattle.fab_annealing.specs.inner.Standing.{IsKept, HasLots, Falls, IsTried, AreTried, IsNext};
+ghost use Rattle.fab_annealing.specs.inner.Tied.{HasTies};
 
 use crate::board::Board;
 use crate::lots::Lots;
 use crate::placement::Placement;
+use crate::ties::Ties;
 use std::alloc::AllocError;
 
-/// Exchanges an item with what stands on a site of its kind if that may be done and lowers the cost.
+/// Exchanges an item with what stands on a site of its kind if that may be done and lowers the cost. For most sites the spans of the
+/// nets tell at once that it does not.
 fn try_site(
     placement: &mut Placement,
     board: &Board,
+    ties: &Ties,
     item: u32,
     site: u32,
 ) -> Result<(), AllocError>
     requires board { IsBoard board.now }
+    requires ties { HasTies board.now.nets ties.now }
     requires kept { IsKept board.now placement.old }
     requires item { item < length placement.old.sites.items }
     requires site { site < site_count board.now }
@@ -34,6 +39,9 @@ fn try_site(
     if !placement.is_loose(board, item, site) {
         return Ok(());
     }
+    if !placement.may_fall(board, ties, item, site) {
+        return Ok(());
+    }
     let _lower = placement.exchange_below(board, item, site, cost - 1)?;
     Ok(())
 }
@@ -42,11 +50,13 @@ fn try_site(
 fn try_sites(
     placement: &mut Placement,
     board: &Board,
+    ties: &Ties,
     item: u32,
     second: bool,
     sites: &[u32],
 ) -> Result<(), AllocError>
     requires board { IsBoard board.now }
+    requires ties { HasTies board.now.nets ties.now }
     requires kept { IsKept board.now placement.old }
     requires item { item < length placement.old.sites.items }
     requires kind { is_second board.now (slice_index placement.old.sites.items item) ≡ second }
@@ -58,7 +68,7 @@ fn try_sites(
         → (site : ℕ) → Contains sites.now site → IsTried board.now placement.new.sites.items item site) }
 {
     for site in sites {
-        try_site(placement, board, item, *site)?;
+        try_site(placement, board, ties, item, *site)?;
     }
     Ok(())
 }
@@ -68,6 +78,7 @@ fn try_column(
     placement: &mut Placement,
     board: &Board,
     lots: &Lots,
+    ties: &Ties,
     item: u32,
     second: bool,
     at: u32,
@@ -77,6 +88,7 @@ fn try_column(
     requires board { IsBoard board.now }
     requires kept { IsKept board.now placement.old }
     requires lots { HasLots board.now lots.now }
+    requires ties { HasTies board.now.nets ties.now }
     requires item { item < length placement.old.sites.items }
     requires kind { is_second board.now (slice_index placement.old.sites.items item) ≡ second }
     requires free { is_locked board.now item ≡ false }
@@ -90,7 +102,7 @@ fn try_column(
 {
     for row in low..high {
         let lot = lots.at(second, at, row);
-        try_sites(placement, board, item, second, lot)?;
+        try_sites(placement, board, ties, item, second, lot)?;
     }
     Ok(())
 }
@@ -100,11 +112,13 @@ fn try_item(
     placement: &mut Placement,
     board: &Board,
     lots: &Lots,
+    ties: &Ties,
     item: u32,
 ) -> Result<(), AllocError>
     requires board { IsBoard board.now }
     requires kept { IsKept board.now placement.old }
     requires lots { HasLots board.now lots.now }
+    requires ties { HasTies board.now.nets ties.now }
     requires item { item < length placement.old.sites.items }
     ensures kept { OnOk result (IsKept board.now placement.new) }
     ensures falls { OnOk result (Falls board.now placement.old.sites.items placement.new.sites.items) }
@@ -125,7 +139,7 @@ fn try_item(
         let reach = 4 - off;
         let low = y.saturating_sub(reach);
         let high = (y + reach + 1).min(32);
-        try_column(placement, board, lots, item, second, at, low, high)?;
+        try_column(placement, board, lots, ties, item, second, at, low, high)?;
     }
     Ok(())
 }
@@ -135,12 +149,14 @@ fn try_next(
     placement: &mut Placement,
     board: &Board,
     lots: &Lots,
+    ties: &Ties,
     item: u32,
     since: u32,
 ) -> Result<u32, AllocError>
     requires board { IsBoard board.now }
     requires kept { IsKept board.now placement.old }
     requires lots { HasLots board.now lots.now }
+    requires ties { HasTies board.now.nets ties.now }
     requires item { item < length placement.old.sites.items }
     requires tried { AreTried board.now placement.old.sites.items since item }
     ensures kept { OnOk result (IsKept board.now placement.new) }
@@ -149,7 +165,7 @@ fn try_next(
     ensures next { IfOk result (λ next. IsNext board.now placement.old.sites.items placement.new.sites.items since next) }
 {
     let before = placement.cost();
-    try_item(placement, board, lots, item)?;
+    try_item(placement, board, lots, ties, item)?;
     if placement.cost() == before {
         return Ok(since);
     }
@@ -162,11 +178,13 @@ fn sweep(
     placement: &mut Placement,
     board: &Board,
     lots: &Lots,
+    ties: &Ties,
     tried: u32,
 ) -> Result<u32, AllocError>
     requires board { IsBoard board.now }
     requires kept { IsKept board.now placement.old }
     requires lots { HasLots board.now lots.now }
+    requires ties { HasTies board.now.nets ties.now }
     requires tried { AreTried board.now placement.old.sites.items tried (item_count board.now.nets) }
     ensures kept { OnOk result (IsKept board.now placement.new) }
     ensures falls { OnOk result (Falls board.now placement.old.sites.items placement.new.sites.items) }
@@ -178,23 +196,29 @@ fn sweep(
         if since == 0 && tried <= item {
             return Ok(0);
         }
-        since = try_next(placement, board, lots, item, since)?;
+        since = try_next(placement, board, lots, ties, item, since)?;
     }
     Ok(since)
 }
 
 /// Exchanges items until no exchange within distance 4 lowers the cost.
-pub fn descend(placement: &mut Placement, board: &Board, lots: &Lots) -> Result<(), AllocError>
+pub fn descend(
+    placement: &mut Placement,
+    board: &Board,
+    lots: &Lots,
+    ties: &Ties,
+) -> Result<(), AllocError>
     requires board { IsBoard board.now }
     requires kept { IsKept board.now placement.old }
     requires lots { HasLots board.now lots.now }
+    requires ties { HasTies board.now.nets ties.now }
     ensures kept { OnOk result (IsKept board.now placement.new) }
     ensures falls { OnOk result (Falls board.now placement.old.sites.items placement.new.sites.items) }
     ensures optimal { OnOk result (IsOptimal board.now placement.new.sites.items) }
 {
     let mut tried = board.locked.len() as u32;
     'sweeps: loop {
-        tried = sweep(placement, board, lots, tried)?;
+        tried = sweep(placement, board, lots, ties, tried)?;
         if tried == 0 {
             return Ok(());
         }
