@@ -1,5 +1,5 @@
 -- What the spans of nets tell of an exchange before it is made: the cost afterwards is at least what they forecast.
-use Rattle.std.proofs.Common.{◌≡◌, ◌≢◌, ◌⊎◌, ℕ, ◌+◌, ◌-◌, ◌*◌, ◌<◌, ◌≤◌, ◌^◌, max, min, List, [], ◌∷◌, length, get_or, set, zero, suc, sum_by, Vec, Global, refl, sym, ◌∙◌, ap, subst, inl, inr, arith, length-set, get_or-set_same, get_or-set_other}
+use Rattle.std.proofs.Common.{◌≡◌, ◌≢◌, ◌⊎◌, ℕ, ◌+◌, ◌-◌, ◌*◌, ◌<◌, ◌≤◌, ◌^◌, max, min, List, [], ◌∷◌, length, get_or, set, suc, sum_by, Vec, Global, refl, sym, ◌∙◌, ap, subst, inl, inr, arith, length-set, get_or-set_same, get_or-set_other}
 use Rattle.std.proofs.lemmas.Bool.{cases_eq}
 use Rattle.std.proofs.lemmas.Grind.{get_or_default_zero}
 use Rattle.std.proofs.lemmas.List.Elements.{All-contains, Contains-get_or}
@@ -30,7 +30,8 @@ pub record IsSoFar (spans : List Span) (nets : List ℕ) (from to : ℕ) (change
   pub visited : (place : ℕ) → place < count → IsLeast (get_or spans (get_or nets place 0) no_span) from to (get_or least (get_or nets place 0) no_span)
   pub others : (net : ℕ) → (Contains nets net → ⊥) → get_or least net no_span ≡ get_or spans net no_span
 
-pub none_so_far : (spans : List Span) (nets : List ℕ) (from to : ℕ) (change : Change) → change.before ≡ 0 → change.after ≡ 0 → IsSoFar spans nets from to change 0
+pub none_so_far : (spans : List Span) (nets : List ℕ) (from to : ℕ) (change : Change) → change.before ≡ 0 → change.after ≡ 0
+    → IsSoFar spans nets from to change 0
 none_so_far spans nets from to change before after = record {
   rest = spans;
   least = spans;
@@ -47,7 +48,8 @@ none_so_far spans nets from to change before after = record {
 module _ (spans : List Span) (nets : List ℕ) (from to count wide : ℕ) (change next : Change)
     (distinct : AreDistinct nets) (inside : All (λ net. net < length spans) nets) (low : count < length nets) (few : sum_by width spans ≤ 31 * 2 ^ 16)
     (least_wide : IsLeastWidth (get_or spans (get_or nets count 0) no_span) from to wide)
-    (before : next.before ≡ min (change.before + width (get_or spans (get_or nets count 0) no_span)) (2 ^ 32 - 1)) (after : next.after ≡ min (change.after + wide) (2 ^ 32 - 1))
+    (before : next.before ≡ min (change.before + width (get_or spans (get_or nets count 0) no_span)) (2 ^ 32 - 1))
+    (after : next.after ≡ min (change.after + wide) (2 ^ 32 - 1))
     (h : IsSoFar spans nets from to change count) where
   pub so_far_more : IsSoFar spans nets from to next (count + 1)
   so_far_more =
@@ -61,7 +63,8 @@ module _ (spans : List Span) (nets : List ℕ) (from to count wide : ℕ) (chang
       let rest_here = ap width (h.rest_left count (let q : count ≤ count = omega arith in q) low) in
       let least_here = ap width (h.least_left count (let q : count ≤ count = omega arith in q) low) in
       let exact : next.before ≡ change.before + width (get_or spans (get_or nets count 0) no_span) = omega (arith, before, h.spent, spent, rest_here, few) in
-      let apart : (place : ℕ) → place < length nets → place ≢ count → get_or nets place 0 ≢ get_or nets count 0 = λ place inside_place other e. other (distinct place count inside_place low e) in
+      let apart : (place : ℕ) → place < length nets → place ≢ count
+      → get_or nets place 0 ≢ get_or nets count 0 = λ place inside_place other e. other (distinct place count inside_place low e) in
       record {
         rest = set h.rest k no_span;
         least = set h.least k new;
@@ -69,30 +72,37 @@ module _ (spans : List Span) (nets : List ℕ) (from to count wide : ℕ) (chang
         least_count = length-set h.least k new ∙ h.least_count;
         spent = omega (arith, exact, h.spent, spent, rest_here);
         sums = omega (arith, exact, after, h.sums, moved, least_here, least_wide.2);
-        rest_left = λ place past inside_place. get_or-set_other h.rest k (get_or nets place 0) no_span no_span (apart place inside_place (let q : place ≢ count = omega arith in q)) ∙ h.rest_left place (let q : count ≤ place = omega arith in q) inside_place;
-        least_left = λ place past inside_place. get_or-set_other h.least k (get_or nets place 0) new no_span (apart place inside_place (let q : place ≢ count = omega arith in q)) ∙ h.least_left place (let q : count ≤ place = omega arith in q) inside_place;
+        rest_left = λ place past inside_place. get_or-set_other h.rest k (get_or nets place 0) no_span no_span
+            (apart place inside_place (let q : place ≢ count = omega arith in q)) ∙ h.rest_left place (let q : count ≤ place = omega arith in q) inside_place;
+        least_left = λ place past inside_place. get_or-set_other h.least k (get_or nets place 0) new no_span
+            (apart place inside_place (let q : place ≢ count = omega arith in q)) ∙ h.least_left place (let q : count ≤ place = omega arith in q) inside_place;
         visited = λ place under. elim (cases_eq place count) [
           | inl e ↦ subst (λ p. IsLeast (get_or spans (get_or nets p 0) no_span) from to (get_or (set h.least k new) (get_or nets p 0) no_span)) (sym e)
               (subst (λ s. IsLeast (get_or spans k no_span) from to s) (sym (get_or-set_same h.least k new no_span in_least)) least_wide.1)
           | inr other ↦ subst (λ s. IsLeast (get_or spans (get_or nets place 0) no_span) from to s)
-              (sym (get_or-set_other h.least k (get_or nets place 0) new no_span (apart place (omega (arith, under, low)) other))) (h.visited place (omega (arith, under, other)))
+              (sym (get_or-set_other h.least k (get_or nets place 0) new no_span (apart place (omega (arith, under, low)) other)))
+              (h.visited place (omega (arith, under, other)))
         ];
-        others = λ net without. get_or-set_other h.least k net new no_span (λ e. without (subst (λ n. Contains nets n) (sym e) (Contains-get_or nets count 0 low))) ∙ h.others net without;
+        others = λ net without. get_or-set_other h.least k net new no_span
+            (λ e. without (subst (λ n. Contains nets n) (sym e) (Contains-get_or nets count 0 low))) ∙ h.others net without;
       }
 
 -- behind all nets
-pub all_so_far : (spans : List Span) (nets : List ℕ) (from to : ℕ) (change : Change) → from ≢ to → IsSoFar spans nets from to change (length nets) → IsForecast spans nets from to change
+pub all_so_far : (spans : List Span) (nets : List ℕ) (from to : ℕ) (change : Change) → from ≢ to → IsSoFar spans nets from to change (length nets)
+    → IsForecast spans nets from to change
 all_so_far spans nets from to change moves h = record {
   least = h.least;
   count = h.least_count;
-  moved = λ _ net among. subst (λ n. IsLeast (get_or spans n no_span) from to (get_or h.least n no_span)) (sym (get_or_default_zero nets among.0 net among.1) ∙ among.2) (h.visited among.0 among.1);
+  moved = λ _ net among. subst (λ n. IsLeast (get_or spans n no_span) from to (get_or h.least n no_span))
+      (sym (get_or_default_zero nets among.0 net among.1) ∙ among.2) (h.visited among.0 among.1);
   others = h.others;
   still = λ e. absurd (moves e);
   before = omega (arith, h.spent);
   sums = h.sums;
 }
 
-pub nothing_moves : (spans : List Span) (nets : List ℕ) (from to : ℕ) (change : Change) → from ≡ to → change.before ≡ 0 → change.after ≡ 0 → IsForecast spans nets from to change
+pub nothing_moves : (spans : List Span) (nets : List ℕ) (from to : ℕ) (change : Change) → from ≡ to → change.before ≡ 0 → change.after ≡ 0
+    → IsForecast spans nets from to change
 nothing_moves spans nets from to change same before after = record {
   least = spans;
   count = refl;
@@ -117,7 +127,8 @@ no_nets spans from to change before after = record {
 -- ---- one net
 
 -- a place that changes beside another one leaves at least the narrowest span
-pub least_kept : (place after : ℕ → ℕ) (items : List ℕ) (item other to : ℕ) (old new : Span) → Contains items item → Contains items other → other ≢ item → after item ≡ to → ((x : ℕ) → Contains items x → x ≢ item → after x ≡ place x)
+pub least_kept : (place after : ℕ → ℕ) (items : List ℕ) (item other to : ℕ) (old new : Span) → Contains items item → Contains items other → other ≢ item
+    → after item ≡ to → ((x : ℕ) → Contains items x → x ≢ item → after x ≡ place x)
     → old ≡ span_of place items → IsLeast old (place item) to new → width new ≤ spread after items
 least_kept place after items item other to old new among beside apart there others is h =
     let low : old.low ≡ least place items = ap (λ (s : Span). s.low) is in
@@ -157,7 +168,8 @@ least_within old new from to above below h =
     omega (arith, low, high)
 
 -- two items of a net that change places leave its span as wide
-pub spread_swapped : (place after : ℕ → ℕ) (items : List ℕ) (a b : ℕ) → Contains items a → Contains items b → after a ≡ place b → after b ≡ place a → ((x : ℕ) → Contains items x → x ≢ a → x ≢ b → after x ≡ place x)
+pub spread_swapped : (place after : ℕ → ℕ) (items : List ℕ) (a b : ℕ) → Contains items a → Contains items b → after a ≡ place b → after b ≡ place a
+    → ((x : ℕ) → Contains items x → x ≢ a → x ≢ b → after x ≡ place x)
     → spread place items ≤ spread after items
 spread_swapped place after items a b among_a among_b to_a to_b others =
     let kept : (y : ℕ) → Contains items y → (z : ℕ) × Contains items z × (after z ≡ place y) = λ y among. elim (cases_eq y a) [
@@ -174,7 +186,8 @@ spread_swapped place after items a b among_a among_b to_a to_b others =
     omega (arith, least_below after items low.0 low.1, low.2, l.2, greatest_above after items high.0 high.1, high.2, g.2)
 
 -- the span of a net of one item is nothing
-pub alone_narrow : (place : ℕ → ℕ) (items : List ℕ) (item : ℕ) (old : Span) → Contains items item → All (λ x. x ≡ item) items → old ≡ span_of place items → width old ≡ 0
+pub alone_narrow : (place : ℕ → ℕ) (items : List ℕ) (item : ℕ) (old : Span) → Contains items item → All (λ x. x ≡ item) items → old ≡ span_of place items
+    → width old ≡ 0
 alone_narrow place items item old among alone is =
     let l = least_reached place items item among in
     let g = greatest_reached place items item among in
@@ -196,7 +209,8 @@ tied_by nets item ties good inside h = record {
       let touches = All-contains (λ n. Contains (nets_of nets item) n) ties net h.touching tie in
       (good.complete item net inside (All-contains (λ n. n < net_count nets) (nets_of nets item) net (good.touched item inside) touches)).1 touches;
   others = λ net tie. All-contains (λ n. HasOther nets item n) ties net h.others tie;
-  whole = λ net low among. All-contains (λ n. Contains ties n ⊎ IsAlone nets item n) (nets_of nets item) net h.whole ((good.complete item net inside low).0 among);
+  whole = λ net low among. All-contains (λ n. Contains ties n ⊎ IsAlone nets item n) (nets_of nets item) net h.whole
+      ((good.complete item net inside low).0 among);
 }
 
 -- what is no item has no ties
@@ -204,17 +218,21 @@ pub tied_none : (nets : Nets) → IsNets nets → IsTied nets (item_count nets) 
 tied_none nets good = record {
   among = λ net tie. absurd (omega (arith, tie.1));
   others = λ net tie. absurd (omega (arith, tie.1));
-  whole = λ net low among. absurd (omega (arith, All-contains (λ item. item < item_count nets) (items_of nets net) (item_count nets) (good.inside net low) among));
+  whole = λ net low among.
+      let inside = All-contains (λ item. item < item_count nets) (items_of nets net) (item_count nets) (good.inside net low) among in
+      absurd (omega (arith, inside));
 }
 
-module _ (nets : Nets) (place after : ℕ → ℕ) (a b from to : ℕ) (first second : List ℕ) (good : IsNets nets) (apart : a ≢ b) (a_from : place a ≡ from) (a_to : after a ≡ to)
+module _ (nets : Nets) (place after : ℕ → ℕ) (a b from to : ℕ) (first second : List ℕ) (good : IsNets nets) (apart : a ≢ b) (a_from : place a ≡ from)
+    (a_to : after a ≡ to)
     (b_moves : (net : ℕ) → net < net_count nets → Contains (items_of nets net) b → (place b ≡ to) × (after b ≡ from))
     (others : (x : ℕ) → x < item_count nets → x ≢ a → x ≢ b → after x ≡ place x) (tied_a : IsTied nets a first) (tied_b : IsTied nets b second) where
   other_at : (net : ℕ) → net < net_count nets → (x : ℕ) → Contains (items_of nets net) x → x ≢ a → x ≢ b → after x ≡ place x
   other_at net low x among n m = others x (All-contains (λ item. item < item_count nets) (items_of nets net) x (good.inside net low) among) n m
 
   -- a net of both
-  both_kept : (net : ℕ) → net < net_count nets → (old here there : Span) → old ≡ span_of place (items_of nets net) → Contains first net → Contains second net → IsLeast old from to here → IsLeast old to from there
+  both_kept : (net : ℕ) → net < net_count nets → (old here there : Span) → old ≡ span_of place (items_of nets net) → Contains first net → Contains second net
+      → IsLeast old from to here → IsLeast old to from there
       → width here + width there ≤ width old + spread after (items_of nets net)
   both_kept net low old here there is f s h t =
       let items = items_of nets net in
@@ -224,12 +242,15 @@ module _ (nets : Nets) (place after : ℕ → ℕ) (a b from to : ℕ) (first se
       let low_is = ap (λ (s : Span). s.low) is in
       let high_is = ap (λ (s : Span). s.high) is in
       let swapped = spread_swapped place after items a b a_in b_in (a_to ∙ sym moves.0) (moves.1 ∙ sym a_from) (other_at net low) in
-      let one = least_within old here from to (omega (arith, low_is, least_below place items b b_in, moves.0)) (omega (arith, high_is, greatest_above place items b b_in, moves.0)) h in
-      let two = least_within old there to from (omega (arith, low_is, least_below place items a a_in, a_from)) (omega (arith, high_is, greatest_above place items a a_in, a_from)) t in
+      let one = least_within old here from to (omega (arith, low_is, least_below place items b b_in, moves.0))
+      (omega (arith, high_is, greatest_above place items b b_in, moves.0)) h in
+      let two = least_within old there to from (omega (arith, low_is, least_below place items a a_in, a_from))
+      (omega (arith, high_is, greatest_above place items a a_in, a_from)) t in
       omega (arith, swapped, one, two, low_is, high_is)
 
   -- a net of the first alone
-  first_kept : (net : ℕ) → net < net_count nets → (old here : Span) → old ≡ span_of place (items_of nets net) → Contains first net → (Contains second net → ⊥) → IsLeast old from to here
+  first_kept : (net : ℕ) → net < net_count nets → (old here : Span) → old ≡ span_of place (items_of nets net) → Contains first net → (Contains second net → ⊥)
+      → IsLeast old from to here
       → width here ≤ spread after (items_of nets net)
   first_kept net low old here is f ns h =
       let items = items_of nets net in
@@ -239,10 +260,12 @@ module _ (nets : Nets) (place after : ℕ → ℕ) (a b from to : ℕ) (first se
         | inl s ↦ ns s
         | inr alone ↦ apart (All-contains (λ y. y ≡ b) items a alone a_in)
       ] in
-      least_kept place after items a other.0 to old here a_in other.2 other.1 a_to (λ x among n. other_at net low x among n (without x among)) is (subst (λ s. IsLeast old s to here) (sym a_from) h)
+      least_kept place after items a other.0 to old here a_in other.2 other.1 a_to (λ x among n. other_at net low x among n (without x among)) is
+      (subst (λ s. IsLeast old s to here) (sym a_from) h)
 
   -- a net of the second alone
-  second_kept : (net : ℕ) → net < net_count nets → (old there : Span) → old ≡ span_of place (items_of nets net) → Contains second net → (Contains first net → ⊥) → IsLeast old to from there
+  second_kept : (net : ℕ) → net < net_count nets → (old there : Span) → old ≡ span_of place (items_of nets net) → Contains second net → (Contains first net → ⊥)
+      → IsLeast old to from there
       → width there ≤ spread after (items_of nets net)
   second_kept net low old there is s nf h =
       let items = items_of nets net in
@@ -253,10 +276,12 @@ module _ (nets : Nets) (place after : ℕ → ℕ) (a b from to : ℕ) (first se
         | inl f ↦ nf f
         | inr alone ↦ apart (sym (All-contains (λ y. y ≡ a) items b alone b_in))
       ] in
-      least_kept place after items b other.0 from old there b_in other.2 other.1 moves.1 (λ x among m. other_at net low x among (without x among) m) is (subst (λ s. IsLeast old s from there) (sym moves.0) h)
+      least_kept place after items b other.0 from old there b_in other.2 other.1 moves.1 (λ x among m. other_at net low x among (without x among) m) is
+      (subst (λ s. IsLeast old s from there) (sym moves.0) h)
 
   -- a net of neither, or of one item alone
-  none_kept : (net : ℕ) → net < net_count nets → (old : Span) → old ≡ span_of place (items_of nets net) → (Contains first net → ⊥) → (Contains second net → ⊥) → width old ≤ spread after (items_of nets net)
+  none_kept : (net : ℕ) → net < net_count nets → (old : Span) → old ≡ span_of place (items_of nets net) → (Contains first net → ⊥) → (Contains second net → ⊥)
+      → width old ≤ spread after (items_of nets net)
   none_kept net low old is nf ns =
       let items = items_of nets net in
       elim (cases_contains items a) [
@@ -270,13 +295,17 @@ module _ (nets : Nets) (place after : ℕ → ℕ) (a b from to : ℕ) (first se
             | inr alone ↦ omega (arith, alone_narrow place items b old b_in alone is)
           ]
           | inr nb ↦
-              let same = is ∙ sym (span_same after place items (λ x among. other_at net low x among (λ e. na (subst (λ y. Contains items y) e among)) (λ e. nb (subst (λ y. Contains items y) e among)))) in
+              let stays : (x : ℕ) → Contains items x → after x ≡ place x = λ x among.
+              other_at net low x among (λ e. na (subst (λ y. Contains items y) e among)) (λ e. nb (subst (λ y. Contains items y) e among)) in
+              let same = is ∙ sym (span_same after place items stays) in
               omega (arith, ap (λ (s : Span). s.low) same, ap (λ (s : Span). s.high) same)
         ]
       ]
 
-  net_kept : (net : ℕ) → net < net_count nets → (old here there : Span) → old ≡ span_of place (items_of nets net) → (Contains first net → IsLeast old from to here) → ((Contains first net → ⊥) → here ≡ old)
-      → (Contains second net → IsLeast old to from there) → ((Contains second net → ⊥) → there ≡ old) → width here + width there ≤ width old + spread after (items_of nets net)
+  net_kept : (net : ℕ) → net < net_count nets → (old here there : Span) → old ≡ span_of place (items_of nets net)
+      → (Contains first net → IsLeast old from to here) → ((Contains first net → ⊥) → here ≡ old)
+      → (Contains second net → IsLeast old to from there) → ((Contains second net → ⊥) → there ≡ old)
+      → width here + width there ≤ width old + spread after (items_of nets net)
   net_kept net low old here there is f nf s ns = elim (cases_contains first net) [
     | inl in_first ↦ elim (cases_contains second net) [
       | inl in_second ↦ both_kept net low old here there is in_first in_second (f in_first) (s in_second)
@@ -290,36 +319,53 @@ module _ (nets : Nets) (place after : ℕ → ℕ) (a b from to : ℕ) (first se
 
 -- ---- all nets
 
-sums_kept : (nets : List (Vec ℕ Global)) (spans first second : List Span) (after : ℕ → ℕ) → length spans ≡ length nets → length first ≡ length nets → length second ≡ length nets
-    → ((k : ℕ) → k < length nets → width (get_or first k no_span) + width (get_or second k no_span) ≤ width (get_or spans k no_span) + spread after (numbers_of (slice_get nets k)))
+sums_kept : (nets : List (Vec ℕ Global)) (spans first second : List Span) (after : ℕ → ℕ) → length spans ≡ length nets → length first ≡ length nets
+    → length second ≡ length nets
+    → ((k : ℕ) → k < length nets
+    → width (get_or first k no_span) + width (get_or second k no_span) ≤ width (get_or spans k no_span) + spread after (numbers_of (slice_get nets k)))
     → sum_by width first + sum_by width second ≤ sum_by width spans + sum_by (λ (net : Vec ℕ Global). spread after net.items) nets
 sums_kept [] [] [] [] after e f g h = omega arith
 sums_kept (net ∷ nets) (span ∷ spans) (one ∷ first) (two ∷ second) after e f g h =
     let here : width one + width two ≤ width span + spread after net.items = h 0 (omega arith) in
     let others = sums_kept nets spans first second after (omega arith) (omega arith) (omega arith) (λ k l. h (suc k) (omega arith)) in
-    omega (arith, here, others, sum_by-cons width one first, sum_by-cons width two second, sum_by-cons width span spans, sum_by-cons (λ (n : Vec ℕ Global). spread after n.items) net nets)
+    omega (
+      arith,
+      here,
+      others,
+      sum_by-cons width one first,
+      sum_by-cons width two second,
+      sum_by-cons width span spans,
+      sum_by-cons (λ (n : Vec ℕ Global). spread after n.items) net nets,
+    )
 sums_kept nets spans first second after e f g h = absurd (omega (arith, e, f, g))
 
 -- the cost in one direction, where two items change places and it is at least what is forecast of both
 module _ (nets : Nets) (spans : List Span) (place after : ℕ → ℕ) (a b from to : ℕ) (first second : List ℕ) (here there : Change) (good : IsNets nets)
     (right : (net : ℕ) → net < net_count nets → get_or spans net no_span ≡ span_of place (items_of nets net)) (spans_count : length spans ≡ net_count nets)
-    (apart : from ≢ to → a ≢ b) (a_from : place a ≡ from) (a_to : after a ≡ to) (b_moves : (net : ℕ) → net < net_count nets → Contains (items_of nets net) b → (place b ≡ to) × (after b ≡ from))
+    (apart : from ≢ to → a ≢ b) (a_from : place a ≡ from) (a_to : after a ≡ to)
+    (b_moves : (net : ℕ) → net < net_count nets → Contains (items_of nets net) b → (place b ≡ to) × (after b ≡ from))
     (others : (x : ℕ) → x < item_count nets → x ≢ a → x ≢ b → after x ≡ place x) (still : from ≡ to → (x : ℕ) → x < item_count nets → after x ≡ place x)
-    (tied_a : IsTied nets a first) (tied_b : IsTied nets b second) (forecast_a : IsForecast spans first from to here) (forecast_b : IsForecast spans second to from there) where
+    (tied_a : IsTied nets a first) (tied_b : IsTied nets b second) (forecast_a : IsForecast spans first from to here)
+    (forecast_b : IsForecast spans second to from there) where
   pub foreseen_axis : sum_by width spans + (here.after + there.after) ≤ (here.before + there.before) + widths nets after
   foreseen_axis = elim (cases_eq from to) [
     | inl e ↦
-        let same = sum_right nets.items.items spans after spans_count (λ k l. right k l ∙ sym (span_same after place (items_of nets k) (λ x among. still e x (All-contains (λ item. item < item_count nets) (items_of nets k) x (good.inside k l) among)))) in
+        let same = sum_right nets.items.items spans after spans_count
+        (λ k l. right k l ∙ sym (span_same after place (items_of nets k)
+        (λ x among. still e x (All-contains (λ item. item < item_count nets) (items_of nets k) x (good.inside k l) among)))) in
         omega (arith, same, forecast_a.sums, forecast_b.sums, ap (sum_by width) (forecast_a.still e), ap (sum_by width) (forecast_b.still (sym e)))
     | inr n ↦
-        let kept = sums_kept nets.items.items spans forecast_a.least forecast_b.least after spans_count (forecast_a.count ∙ spans_count) (forecast_b.count ∙ spans_count) (λ k l.
-        net_kept nets place after a b from to first second good (apart n) a_from a_to b_moves others tied_a tied_b k l (get_or spans k no_span) (get_or forecast_a.least k no_span) (get_or forecast_b.least k no_span) (right k l)
+        let kept = sums_kept nets.items.items spans forecast_a.least forecast_b.least after spans_count (forecast_a.count ∙ spans_count)
+        (forecast_b.count ∙ spans_count) (λ k l.
+        net_kept nets place after a b from to first second good (apart n) a_from a_to b_moves others tied_a tied_b k l (get_or spans k no_span)
+        (get_or forecast_a.least k no_span) (get_or forecast_b.least k no_span) (right k l)
         (forecast_a.moved n k) (forecast_a.others k) (forecast_b.moved (λ e. n (sym e)) k) (forecast_b.others k)) in
         omega (arith, kept, forecast_a.sums, forecast_b.sums)
   ]
 
 -- how far a place lies from the ends that stay is as wide as the span that is left
-pub least_reaches : (old : Span) (from to low high wide : ℕ) → (low ≡ old.high) ⊎ ((from ≢ old.low) × (low ≡ old.low)) → (high ≡ old.low) ⊎ ((from ≢ old.high) × (high ≡ old.high)) → wide ≤ (to - low) + (high - to) → IsLeastWidth old from to wide
+pub least_reaches : (old : Span) (from to low high wide : ℕ) → (low ≡ old.high) ⊎ ((from ≢ old.low) × (low ≡ old.low))
+    → (high ≡ old.low) ⊎ ((from ≢ old.high) × (high ≡ old.high)) → wide ≤ (to - low) + (high - to) → IsLeastWidth old from to wide
 least_reaches old from to low high wide lower higher reach = (
   record { low = min low to; high = max high to },
   record {

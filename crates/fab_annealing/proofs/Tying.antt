@@ -1,5 +1,5 @@
 -- The nets that tie items to others, found one by one.
-use Rattle.std.proofs.Common.{◌≡◌, ◌≢◌, ◌⊎◌, ℕ, ◌+◌, ◌<◌, ◌++◌, Bool, true, false, List, [], ◌∷◌, length, get_or, zero, suc, Vec, Global, refl, sym, ◌∙◌, ap, subst, inl, inr, eqb, arith}
+use Rattle.std.proofs.Common.{◌≡◌, ◌⊎◌, ℕ, ◌+◌, ◌<◌, ◌++◌, Bool, true, false, List, [], ◌∷◌, length, get_or, zero, suc, Vec, Global, refl, sym, ◌∙◌, ap, subst, inl, inr, eqb, arith}
 use Rattle.std.proofs.lemmas.Bool.{cases_eq}
 use Rattle.std.proofs.lemmas.Bool.Decides.{Decides-eqb}
 use Rattle.std.proofs.lemmas.List.{get_or_append_left, get_or_default, get_or_push, length_push}
@@ -46,8 +46,10 @@ distinct_more ties net distinct without first second low1 low2 e =
     ]
 
 -- one more net is among the ties or has no other item
-pub whole_more : (nets : Nets) (item index : ℕ) (touching ties after : List ℕ) → ((net : ℕ) → Contains ties net → Contains after net) → Contains after (get_or touching index 0) ⊎ IsAlone nets item (get_or touching index 0)
-    → ((k : ℕ) → k < index → Contains ties (get_or touching k 0) ⊎ IsAlone nets item (get_or touching k 0)) → (k : ℕ) → k < index + 1 → Contains after (get_or touching k 0) ⊎ IsAlone nets item (get_or touching k 0)
+pub whole_more : (nets : Nets) (item index : ℕ) (touching ties after : List ℕ) → ((net : ℕ) → Contains ties net → Contains after net)
+    → Contains after (get_or touching index 0) ⊎ IsAlone nets item (get_or touching index 0)
+    → ((k : ℕ) → k < index → Contains ties (get_or touching k 0) ⊎ IsAlone nets item (get_or touching k 0)) → (k : ℕ) → k < index + 1
+    → Contains after (get_or touching k 0) ⊎ IsAlone nets item (get_or touching k 0)
 whole_more nets item index touching ties after more here before k low = elim (cases_eq k index) [
   | inl e ↦ subst (λ m. Contains after (get_or touching m 0) ⊎ IsAlone nets item (get_or touching m 0)) (sym e) here
   | inr n ↦ elim (before k (omega arith)) [
@@ -56,7 +58,9 @@ whole_more nets item index touching ties after more here before k low = elim (ca
   ]
 ]
 
-pub whole_all : (nets : Nets) (item : ℕ) (touching ties : List ℕ) → ((k : ℕ) → k < length touching → Contains ties (get_or touching k 0) ⊎ IsAlone nets item (get_or touching k 0)) → All (λ net. Contains ties net ⊎ IsAlone nets item net) touching
+pub whole_all : (nets : Nets) (item : ℕ) (touching ties : List ℕ)
+    → ((k : ℕ) → k < length touching → Contains ties (get_or touching k 0) ⊎ IsAlone nets item (get_or touching k 0))
+    → All (λ net. Contains ties net ⊎ IsAlone nets item net) touching
 whole_all nets item touching ties h k d low = subst (λ net. Contains ties net ⊎ IsAlone nets item net) (get_or_default touching k 0 d low) (h k low)
 
 -- ---- lists of ties one behind the other
@@ -67,18 +71,25 @@ pushed_here [] list (suc k) same = absurd (omega (arith, same))
 pushed_here (first ∷ lists) list zero same = absurd (omega (arith, same))
 pushed_here (first ∷ lists) list (suc k) same = pushed_here lists list k (omega arith)
 
-pushed_there : (lists : List (Vec ℕ Global)) (list : Vec ℕ Global) (k : ℕ) → k < length lists → numbers_of (slice_get (lists ++ list ∷ []) k) ≡ numbers_of (slice_get lists k)
+pushed_there : (lists : List (Vec ℕ Global)) (list : Vec ℕ Global) (k : ℕ) → k < length lists
+    → numbers_of (slice_get (lists ++ list ∷ []) k) ≡ numbers_of (slice_get lists k)
 pushed_there [] list k low = absurd (omega (arith, low))
 pushed_there (first ∷ lists) list zero low = refl
 pushed_there (first ∷ lists) list (suc k) low = pushed_there lists list k (omega arith)
 
-pub each_more : (nets : Nets) (lists : List (Vec ℕ Global)) (list : Vec ℕ Global) (count : ℕ) → length lists ≡ count → AreTies nets count list.items → ((item : ℕ) → item < count → AreTies nets item (numbers_of (slice_get lists item)))
+pub each_more : (nets : Nets) (lists : List (Vec ℕ Global)) (list : Vec ℕ Global) (count : ℕ) → length lists ≡ count → AreTies nets count list.items
+    → ((item : ℕ) → item < count → AreTies nets item (numbers_of (slice_get lists item)))
     → (item : ℕ) → item < count + 1 → AreTies nets item (numbers_of (slice_get (lists ++ list ∷ []) item))
 each_more nets lists list count same here before item low = elim (cases_eq item count) [
-  | inl e ↦ subst (λ i. AreTies nets i (numbers_of (slice_get (lists ++ list ∷ []) i))) (sym e) (subst (λ (ns : List ℕ). AreTies nets count ns) (sym (pushed_here lists list count same)) here)
-  | inr n ↦ let under : item < count = omega arith in subst (λ (ns : List ℕ). AreTies nets item ns) (sym (pushed_there lists list item (omega arith))) (before item under)
+  | inl e ↦ subst (λ i. AreTies nets i (numbers_of (slice_get (lists ++ list ∷ []) i))) (sym e)
+      (subst (λ (ns : List ℕ). AreTies nets count ns) (sym (pushed_here lists list count same)) here)
+  | inr n ↦ let under : item < count = omega arith in subst (λ (ns : List ℕ). AreTies nets item ns) (sym (pushed_there lists list item (omega arith)))
+      (before item under)
 ]
 
 -- ties are nets that there are
-pub ties_inside : (nets : Nets) (item : ℕ) (ties : List ℕ) (count : ℕ) → IsNets nets → item < item_count nets → count ≡ net_count nets → AreTies nets item ties → All (λ net. net < count) ties
-ties_inside nets item ties count good inside same h k d low = omega (arith, same, All-contains (λ n. n < net_count nets) (nets_of nets item) (get_or ties k d) (good.touched item inside) (h.touching k d low))
+pub ties_inside : (nets : Nets) (item : ℕ) (ties : List ℕ) (count : ℕ) → IsNets nets → item < item_count nets → count ≡ net_count nets → AreTies nets item ties
+    → All (λ net. net < count) ties
+ties_inside nets item ties count good inside same h k d low =
+    let less = All-contains (λ n. n < net_count nets) (nets_of nets item) (get_or ties k d) (good.touched item inside) (h.touching k d low) in
+    omega (arith, same, less)

@@ -11,7 +11,8 @@ use Rattle.fab_annealing.specs.Boards.{column, row}
 
 -- no number stands twice in a list
 abbrev pub AreDistinct : (numbers : List ℕ) → Type 0
-AreDistinct numbers = (first second : ℕ) → first < length numbers → second < length numbers → slice_index numbers first ≡ slice_index numbers second → first ≡ second
+AreDistinct numbers = (first second : ℕ) → first < length numbers → second < length numbers → slice_index numbers first ≡ slice_index numbers second
+    → first ≡ second
 
 -- ---- the nets that tie an item
 

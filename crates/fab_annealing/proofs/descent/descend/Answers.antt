@@ -12,7 +12,8 @@ sweeps-init c = record {
 pub sweeps-preserved : goal.sweeps-preserved
 sweeps-preserved c = record {
   kept = c.in_ok-tried.ensures.kept;
-  falls = falls_trans c.args.board.now c.args.placement.now.sites.items c.sweeps.placement.sites.items c.sweep.new.placement.sites.items c.sweeps.invariant.falls c.in_ok-tried.ensures.falls;
+  falls = falls_trans c.args.board.now c.args.placement.now.sites.items c.sweeps.placement.sites.items c.sweep.new.placement.sites.items
+      c.sweeps.invariant.falls c.in_ok-tried.ensures.falls;
   tried = c.in_ok-tried.ensures.tried;
 }
 
@@ -29,5 +30,6 @@ returns-then-tried-eq0 c =
     record {
       kept = step.kept;
       falls = falls_trans board c.args.placement.now.sites.items c.sweeps.placement.sites.items last.sites.items c.sweeps.invariant.falls step.falls;
-      optimal = all_tried board last.sites.items last.items.items step.kept.standing (λ item low site inside. step.tried item (omega (arith, c.if-tried-eq0.true)) (omega (arith, low, step.kept.laid.items)) site inside);
+      optimal = all_tried board last.sites.items last.items.items step.kept.standing
+          (λ item low site inside. step.tried item (omega (arith, c.if-tried-eq0.true)) (omega (arith, low, step.kept.laid.items)) site inside);
     }

@@ -12,7 +12,14 @@ loop-item-init c = record {
 }
 
 pub try_next-requires-clause-item : goal.try_next-requires-clause-item
-try_next-requires-clause-item c = omega (arith, c.loop-item-test.true, c.len-item-end.ensures, c.requires.board.locks, c.loop-item.invariant.kept.laid.items, c.args.board.now.locked.ok.0)
+try_next-requires-clause-item c = omega (
+  arith,
+  c.loop-item-test.true,
+  c.len-item-end.ensures,
+  c.requires.board.locks,
+  c.loop-item.invariant.kept.laid.items,
+  c.args.board.now.locked.ok.0,
+)
 
 pub loop-item-preserved : goal.loop-item-preserved
 loop-item-preserved c =
@@ -33,13 +40,16 @@ pub returns-then-tried-item-clause-tried : goal.returns-then-tried-item-clause-t
 returns-then-tried-item-clause-tried c =
     let inv = c.loop-item.invariant in
     let now = c.loop-item.placement.sites.items in
-    (tried_both c.args.board.now c.args.placement.now.sites.items now c.loop-item.since c.args.tried c.loop-item.item (item_count c.args.board.now.nets) inv.falls inv.next (omega arith) (omega arith) inv.tried c.requires.tried).0
+    (tried_both c.args.board.now c.args.placement.now.sites.items now c.loop-item.since c.args.tried c.loop-item.item (item_count c.args.board.now.nets)
+    inv.falls inv.next (omega arith) (omega arith) inv.tried c.requires.tried).0
 
 pub returns-then-tried-item-clause-next : goal.returns-then-tried-item-clause-next
 returns-then-tried-item-clause-next c =
     let inv = c.loop-item.invariant in
     let now = c.loop-item.placement.sites.items in
-    (tried_both c.args.board.now c.args.placement.now.sites.items now c.loop-item.since c.args.tried c.loop-item.item (item_count c.args.board.now.nets) inv.falls inv.next (omega arith) (omega arith) inv.tried c.requires.tried).1
+    (tried_both c.args.board.now c.args.placement.now.sites.items now c.loop-item.since c.args.tried c.loop-item.item (item_count c.args.board.now.nets)
+    inv.falls inv.next (omega arith) (omega arith) inv.tried c.requires.tried).1
 
 pub returns-clause-tried : goal.returns-clause-tried
-returns-clause-tried c = λ k low high. c.loop-item.invariant.tried k low (omega (arith, high, c.loop-item-test.false, c.len-item-end.ensures, c.requires.board.locks, c.args.board.now.locked.ok.0))
+returns-clause-tried c = λ k low high. c.loop-item.invariant.tried k low
+    (omega (arith, high, c.loop-item-test.false, c.len-item-end.ensures, c.requires.board.locks, c.args.board.now.locked.ok.0))

@@ -8,7 +8,8 @@ returns-then-cost-before-clause-tried c =
     let old = c.args.placement.now in
     let new = c.try_item.new.placement in
     let step = c.in_ok-try_item.ensures in
-    let same = next_same board old new c.cost-before.result c.cost.result c.requires.board c.requires.kept step.kept c.cost-before.ensures c.cost.ensures c.if-cost-before.true in
+    let same = next_same board old new c.cost-before.result c.cost.result c.requires.board c.requires.kept step.kept c.cost-before.ensures c.cost.ensures
+    c.if-cost-before.true in
     tried_more board old.sites.items new.sites.items c.args.since c.args.item (step.falls.still same) c.requires.tried (step.tried same)
 
 pub returns-then-cost-before-clause-next : goal.returns-then-cost-before-clause-next
@@ -16,7 +17,8 @@ returns-then-cost-before-clause-next c =
     let board = c.args.board.now in
     let old = c.args.placement.now in
     let new = c.try_item.new.placement in
-    let same = next_same board old new c.cost-before.result c.cost.result c.requires.board c.requires.kept c.in_ok-try_item.ensures.kept c.cost-before.ensures c.cost.ensures c.if-cost-before.true in
+    let same = next_same board old new c.cost-before.result c.cost.result c.requires.board c.requires.kept c.in_ok-try_item.ensures.kept c.cost-before.ensures
+    c.cost.ensures c.if-cost-before.true in
     record { same = λ e. refl; lower = λ low. absurd (omega (arith, low, same)) }
 
 pub returns-clause-tried : goal.returns-clause-tried

@@ -18,7 +18,8 @@ pub loop-other-preserved : goal.loop-other-preserved
 loop-other-preserved c = λ k low.
     let is = c.deref-other-items.ensures.value ∙ numbers_read c.args.nets.now.items.items c.args.net c.index.result.now c.requires c.index.ensures in
     elim (cases_eq k c.loop-other.other-index) [
-      | inl e ↦ subst (λ m. get_or (items_of c.args.nets.now c.args.net) m 0 ≡ c.args.item) (sym e) (ap (λ (ns : List ℕ). get_or ns c.loop-other.other-index 0) (sym is) ∙ c.if-other-item.false)
+      | inl e ↦ subst (λ m. get_or (items_of c.args.nets.now c.args.net) m 0 ≡ c.args.item) (sym e)
+          (ap (λ (ns : List ℕ). get_or ns c.loop-other.other-index 0) (sym is) ∙ c.if-other-item.false)
       | inr n ↦ c.loop-other.invariant k (omega arith)
     ]
 

@@ -1,4 +1,4 @@
-use Rattle.std.proofs.Common.{◌≡◌, ◌⊎◌, ◌<◌, ℕ, get_or}
+use Rattle.std.proofs.Common.{◌⊎◌, ◌<◌, ℕ, get_or}
 use Rattle.std.specs.List.{All, Contains}
 use Rattle.fab_annealing.specs.Measured.{nets_of}
 use Rattle.fab_annealing.specs.inner.Tied.{AreDistinct, HasOther, IsAlone}

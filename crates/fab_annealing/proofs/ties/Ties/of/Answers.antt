@@ -16,7 +16,8 @@ loop-item-preserved c =
     let inv = c.loop-item.invariant in
     record {
       count = ap length more ∙ length_push ties found ∙ (let q : length ties + 1 ≡ at + 1 = omega (arith, inv.count) in q);
-      each = subst (λ (lists : List (Vec ℕ Global)). (item : ℕ) → item < at + 1 → AreTies nets item (numbers_of (slice_get lists item))) (sym more) (each_more nets ties found at inv.count c.in_ok-tying.ensures inv.each);
+      each = subst (λ (lists : List (Vec ℕ Global)). (item : ℕ) → item < at + 1 → AreTies nets item (numbers_of (slice_get lists item))) (sym more)
+          (each_more nets ties found at inv.count c.in_ok-tying.ensures inv.each);
     }
 
 pub returns : goal.returns
