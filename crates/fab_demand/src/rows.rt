@@ -21,6 +21,8 @@ struct Row {
     depth: usize,
     /// Whether they are bits of the same expression as that point, so that each of them needs the others.
     ring: bool,
+    /// How many looks there were at points of the row.
+    looks: u32,
 }
 
 impl Row {
@@ -37,7 +39,8 @@ pub(crate) enum Next {
     Ask(u32),
     /// It is looked at.
     Look,
-    /// The same, where it is one of the points of a row.
+    /// The same, where it is one of the points of a row. That is told at the first look, the second, the fourth and so on: what others are known to have may
+    /// be found anew each time, and that takes long.
     LookInRow,
 }
 
@@ -70,6 +73,7 @@ impl Rows {
                 end,
                 depth,
                 ring,
+                looks: 0,
             });
         }
     }
@@ -94,8 +98,10 @@ impl Rows {
         if depth < row.depth {
             return Next::Look;
         }
-        self.push(row);
-        if row.depth.saturating_add(1) == depth {
+        let in_row = row.depth.saturating_add(1) == depth;
+        let looks = row.looks.saturating_add(u32::from(in_row));
+        self.push(Row { looks, ..row });
+        if in_row && looks.is_power_of_two() {
             Next::LookInRow
         } else {
             Next::Look
@@ -114,6 +120,7 @@ impl Rows {
             end: row.end,
             depth,
             ring: row.ring,
+            looks: row.looks,
         });
         Next::Ask(point)
     }
