@@ -7,7 +7,7 @@ ghost use Rattle.fab_compiled.specs.declared.tree.Tree.{Tree};
 ghost use Rattle.fab_compiled.specs.Leading.{PointTerns};
 ghost use Rattle.fab_compiled.specs.Terns.{seen, IsView};
 ghost use Rattle.fab_network.specs.Network.{source_tern, IsFitSource};
-ghost use Rattle.fab_network.specs.Sharing.{IsShared};
+ghost use Rattle.fab_network.specs.Sharing.{AreShared, IsShared};
 
 use crate::network::{Source, evaluate};
 use fab_base::Memory;
@@ -134,11 +134,40 @@ impl Shared {
     }
 }
 
-// Whether bits of an expression rest on the same work: on what lower bits of a difference borrow, or on a test that is more than a point.
+/// What a pass keeps of expressions: of those of points, and of gates, since latches that follow one another may have one gate.
+#[derive(Drop)]
+pub struct Values {
+    pub points: Shared,
+    pub gates: Shared,
+}
+
+impl Values {
+    /// Nothing has been looked at.
+    pub(crate) fn new(alloc: Global) -> Values
+        ensures { (trees : List Tree) (count : ℕ) (t : PointTerns) → AreShared trees count t result }
+    {
+        Values {
+            points: Shared::new(alloc),
+            gates: Shared::new(alloc),
+        }
+    }
+
+    /// More may be known of points from now on.
+    pub(crate) fn note_change(&mut self)
+        ensures { (trees : List Tree) (count : ℕ) (t u : PointTerns) → ((point : ℕ) → point < count → IsBelow (t point) (u point)) →
+            AreShared trees count t self.old → AreShared trees count u self.new }
+    {
+        self.points.note_change();
+        self.gates.note_change();
+    }
+}
+
+// Whether bits of an expression rest on the same work: on what lower bits of a difference borrow, or on a test that is more than a point; and a bit
+// that takes long and may be asked for many times, as a gate.
 fn shares(tree: &Tree) -> bool {
     match tree {
-        Tree::Const(_) | Tree::Bits(_, _) | Tree::Pick(_, _, _) | Tree::Equal(_, _, _) => false,
-        Tree::Minus(_, _, _) => true,
+        Tree::Const(_) | Tree::Bits(_, _) | Tree::Pick(_, _, _) => false,
+        Tree::Equal(_, _, _) | Tree::Minus(_, _, _) => true,
         Tree::Not(inner) => shares(inner),
         Tree::Cat(left, _, right)
         | Tree::And(left, right)
