@@ -29,6 +29,8 @@ pub struct Shared {
     pub alone: bool,
     /// Its bits, or none.
     pub bits: Vec<Tern>,
+    /// How many looks there were at bits that were open when they were found, behind something that has come to be known since.
+    pub stale: u32,
 }
 
 impl Shared {
@@ -42,6 +44,7 @@ impl Shared {
             exact: false,
             alone: false,
             bits: Vec::new(alloc),
+            stale: 0,
         }
     }
 
@@ -60,6 +63,9 @@ impl Shared {
         }
         if let Some(bit) = self.kept(source.bit) {
             return bit;
+        }
+        if !self.is_due() {
+            return evaluate(trees, source, view);
         }
         self.find(trees, source, view);
         match self.kept(source.bit) {
@@ -84,6 +90,21 @@ impl Shared {
         self.first = source.first;
         self.alone = false;
         self.bits.clear();
+        self.stale = 0;
+    }
+
+    // Whether all bits are found now. Where they were before, and more has come to be known since, that is so at the first look, the second, the fourth
+    // and so on: in a loop through a difference something may come to be known between any two looks.
+    fn is_due(&mut self) -> bool
+        ensures tree { self.new.tree ≡ self.old.tree }
+        ensures first { self.new.first ≡ self.old.first }
+        ensures shared { (trees : List Tree) (count : ℕ) (t : PointTerns) → IsShared trees count t self.old → IsShared trees count t self.new }
+    {
+        if self.exact || self.bits.is_empty() {
+            return true;
+        }
+        self.stale = self.stale.saturating_add(1);
+        self.stale.is_power_of_two()
     }
 
     // Finds all bits of the expression, where that is faster than each alone.
