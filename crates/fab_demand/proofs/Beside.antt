@@ -8,10 +8,10 @@ use Rattle.std.proofs.lemmas.Bool.{false≢true}
 use Rattle.fab_ternary_laws.specs.Shown.{through}
 use Rattle.fab_compiled.specs.declared.leads.Lead.TheVariants.{Known, Point, Own}
 use Rattle.fab_compiled.specs.declared.tree.Tree.{Tree}
-use Rattle.fab_compiled.specs.Leading.{PointTerns, AreAbove, AgreeOnMarked, FollowLeads}
+use Rattle.fab_compiled.specs.Leading.{PointTerns, AreAbove, AgreeOnMarked}
 use Rattle.fab_network.specs.declared.network.Clock.{Clock}
 use Rattle.fab_network.specs.declared.network.Drive.{Drive}
-use Rattle.fab_network.specs.declared.network.Drive.TheVariants.{Flop, Value, Hold}
+use Rattle.fab_network.specs.declared.network.Drive.TheVariants.{Flop}
 use Rattle.fab_network.specs.declared.network.Network.{Network}
 use Rattle.fab_network.specs.declared.network.Source.{Source}
 use Rattle.fab_network.specs.Leading.{LeadsTo}
@@ -24,13 +24,12 @@ use Rattle.fab_demand.specs.declared.registers.Span.{Span}
 use Rattle.fab_compiled.specs.declared.parts.Part.{Part}
 use Rattle.fab_demand.specs.declared.search.Search.{Search}
 use Rattle.fab_demand.specs.Asked.{Asked, AsksMore, IsPossible}
-use Rattle.fab_demand.specs.inner.Beside.{drive_of, AreAlike, AreFitBits, IsBeside, IsBitDrive, IsBitOfPart, IsClosedAs, IsDriveOf, IsInSpan, IsSpanAsked, IsSpanOf, KnowsMore, TellsGate, TellsTogether}
+use Rattle.fab_demand.specs.inner.Beside.{drive_of, AreAlike, AreFitBits, IsBeside, IsBitDrive, IsBitOfPart, IsClosedAs, IsDriveOf, IsSpanAsked, IsSpanOf, KnowsMore, TellsGate, TellsTogether}
 use Rattle.fab_demand.specs.inner.Looking.{Finds}
 use Rattle.fab_compiled.specs.Parts.{TellsBits}
 use Rattle.fab_network.specs.Leading.{bits_of_source}
-use Rattle.fab_demand.specs.Search.{asked_of, Closes, HasRoom, IsSearching}
+use Rattle.fab_demand.specs.Search.{asked_of, HasRoom, IsSearching}
 use Rattle.fab_demand.proofs.Asking.{asks_both, keep_goes_on, know_goes_on, wait_goes_on, GoesOn}
-use Rattle.fab_demand.proofs.Lists.{get_within}
 
 last_there : (xs : List ℕ) (y k : ℕ) → k ≡ length xs → slice_get (xs ++ y ∷ []) k ≡ Some y
 last_there [] y zero e = refl
