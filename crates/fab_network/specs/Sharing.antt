@@ -7,7 +7,7 @@ use Rattle.fab_compiled.specs.declared.tree.Tree.{Tree}
 use Rattle.fab_compiled.specs.Leading.{PointTerns}
 use Rattle.fab_network.specs.declared.network.Source.{Source}
 use Rattle.fab_network.specs.declared.sharing.Shared.{Shared}
-use Rattle.fab_network.specs.declared.sharing.Values.{Values}
+use Rattle.fab_network.specs.declared.sharing.KeptValues.{KeptValues}
 use Rattle.fab_network.specs.Network.{source_tern, IsFitSource}
 
 -- A bit that is kept is below what its source has, and is that as long as nothing has come to be known since.
@@ -23,6 +23,6 @@ IsShared trees count t shared =
     IsKeptBit trees count t shared.exact (record { tree = shared.tree; first = shared.first; bit = bit }) kept
 
 -- the same of what a pass keeps
-pub record AreShared (trees : List Tree) (count : ℕ) (t : PointTerns) (values : Values) : Type 0 where
+pub record AreShared (trees : List Tree) (count : ℕ) (t : PointTerns) (values : KeptValues) : Type 0 where
   pub points : IsShared trees count t values.points
   pub gates : IsShared trees count t values.gates

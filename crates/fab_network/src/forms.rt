@@ -9,7 +9,7 @@ ghost use Rattle.fab_network.specs.Passes.{kept_tern, EachListed};
 ghost use Rattle.fab_network.specs.Sharing.{AreShared};
 
 use crate::network::{Clock, Drive, Network, Source, shown};
-use crate::sharing::Values;
+use crate::sharing::KeptValues;
 use crate::tables::{Table, table_of};
 use fab_compiled::{Tree, View};
 use fab_ternary::Tern;
@@ -112,7 +112,7 @@ pub(crate) fn shown_by_form(
     point: usize,
     held: Tern,
     form: &Form,
-    shared: &mut Values,
+    shared: &mut KeptValues,
     view: &View,
 ) -> Tern
     requires fit { AreFit network.now.trees.items network.now.drives.items }

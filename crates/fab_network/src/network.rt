@@ -6,7 +6,7 @@ ghost use Rattle.fab_compiled.specs.Terns.{seen, IsView};
 ghost use Rattle.fab_network.specs.Network.{drive_tern, source_tern, shown_tern, AreFit, IsFitDrive, IsFitSource};
 ghost use Rattle.fab_network.specs.Sharing.{AreShared};
 
-use crate::sharing::Values;
+use crate::sharing::KeptValues;
 use fab_compiled::{Tree, View, eval, through};
 use fab_ternary::Tern;
 
@@ -68,7 +68,7 @@ pub(crate) fn shown(
     network: &Network,
     point: usize,
     held: Tern,
-    shared: &mut Values,
+    shared: &mut KeptValues,
     view: &View,
 ) -> Tern
     requires fit { AreFit network.now.trees.items network.now.drives.items }
@@ -92,7 +92,7 @@ fn shown_by(
     drive: Drive,
     point: usize,
     held: Tern,
-    shared: &mut Values,
+    shared: &mut KeptValues,
     view: &View,
 ) -> Tern
     requires fit { IsFitDrive trees.now (length view.now.leads.now) drive }

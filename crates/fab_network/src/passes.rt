@@ -11,7 +11,7 @@ ghost use Rattle.fab_network.specs.Sharing.{AreShared};
 use crate::forms::{Form, shown_by_form};
 use crate::network::{Network, shown};
 use crate::readers::Readers;
-use crate::sharing::Values;
+use crate::sharing::KeptValues;
 use fab_compiled::View;
 use fab_ternary::Tern;
 
@@ -140,7 +140,7 @@ fn pass_over(
         changed: false,
         unsettled: false,
     };
-    let mut shared = Values::new(*network.trees.allocator());
+    let mut shared = KeptValues::new(*network.trees.allocator());
     for place in 0..order.len() {
         let found = look_at(
             network,
@@ -165,7 +165,7 @@ fn look_at(
     leads: &[u32],
     forms: &[Form],
     place: usize,
-    shared: &mut Values,
+    shared: &mut KeptValues,
     terns: &mut [Tern],
 ) -> Visit
     requires fit { AreFit network.now.trees.items network.now.drives.items }
@@ -203,7 +203,7 @@ fn shown_at(
     held: Tern,
     forms: &[Form],
     place: usize,
-    shared: &mut Values,
+    shared: &mut KeptValues,
     view: &View,
 ) -> Tern
     requires fit { AreFit network.now.trees.items network.now.drives.items }
@@ -381,7 +381,7 @@ fn look_at_reader(
     if place >= order.len() {
         return;
     }
-    let mut shared = Values::new(*network.trees.allocator());
+    let mut shared = KeptValues::new(*network.trees.allocator());
     let found = look_at(
         network,
         order,

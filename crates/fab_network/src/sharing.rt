@@ -157,17 +157,17 @@ impl Shared {
 
 /// What a pass keeps of expressions: of those of points, and of gates, since latches that follow one another may have one gate.
 #[derive(Drop)]
-pub struct Values {
+pub struct KeptValues {
     pub points: Shared,
     pub gates: Shared,
 }
 
-impl Values {
+impl KeptValues {
     /// Nothing has been looked at.
-    pub(crate) fn new(alloc: Global) -> Values
+    pub(crate) fn new(alloc: Global) -> KeptValues
         ensures { (trees : List Tree) (count : ℕ) (t : PointTerns) → AreShared trees count t result }
     {
-        Values {
+        KeptValues {
             points: Shared::new(alloc),
             gates: Shared::new(alloc),
         }

@@ -1,4 +1,4 @@
-use Rattle.fab_network.proofs.sharing.Values.note_change.Goals as goal
+use Rattle.fab_network.proofs.sharing.KeptValues.note_change.Goals as goal
 
 pub returns : goal.returns
 returns c trees count t u grow shared =
