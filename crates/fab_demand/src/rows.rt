@@ -19,14 +19,14 @@ struct Row {
     end: u32,
     /// How many points wait, up to the one that needs them.
     depth: usize,
-    /// Whether they are bits of the same expression as that point, so that each of them needs the others.
+    /// Whether each of them needs the others, through that point.
     ring: bool,
     /// How many looks there were at points of the row.
     looks: u32,
 }
 
 impl Row {
-    // Whether the last of so many waiting points needs this row: it has found it, or it is itself a point of a row of its own expression.
+    // Whether the last of so many waiting points needs this row: it has found it, or it is itself a point of the row, in a ring.
     fn serves(self, depth: usize) -> bool {
         self.depth == depth || self.ring && self.depth.saturating_add(1) == depth
     }
@@ -180,18 +180,22 @@ fn are_alike(first: &Drive, last: &Drive) -> bool {
     }
 }
 
-// Whether a point needs another bit of its own expression, to which no bit of it is led: then each of its bits needs all of them.
+// Whether a point needs one that in turn needs the name in which the point stands, and neither is led to the other: then each bit of the one name needs all
+// bits of both. They may be bits of one name.
 fn is_ring(network: &Network, point: u32, needed: u32) -> bool {
-    match (
-        network.drives.get(point as usize),
-        network.drives.get(needed as usize),
-    ) {
-        (Some(Drive::Value(one)), Some(Drive::Value(other))) => {
-            one.tree == other.tree
-                && one.first == other.first
-                && !source_leads_to(&network.trees, *one, needed)
+    end_by_drive(network, needed, point) > point
+        && !may_lead_to(network, point, needed)
+        && !may_lead_to(network, needed, point)
+}
+
+// Whether the bits of the expression that drives a point may be led to another point.
+fn may_lead_to(network: &Network, point: u32, other: u32) -> bool {
+    match network.drives.get(point as usize) {
+        Some(Drive::Value(source) | Drive::Hold(_, source)) => {
+            source_leads_to(&network.trees, *source, other)
         }
-        _ => false,
+        Some(Drive::Same(same)) => *same == other,
+        Some(Drive::Given | Drive::Flop(_, _)) | None => false,
     }
 }
 
