@@ -112,8 +112,8 @@ module _ (network : Network) (clock : Clock) (given : PointTerns) (old new : Sea
     (points : length network.drives.items ≡ length old.leads.items) (together : Together) (tells : TellsTogether network.trees.items (asked_of old) together)
     (point : ℕ) (last : slice_get old.stack.items (length old.stack.items - 1) ≡ Some point) (found : Tern) (is : IsBitOfPart network together point found)
     (closes : IsClosedAs old new point found) where
-  abbrev trees : List Tree
-  trees = network.trees.items
+  abbrev all_trees : List Tree
+  all_trees = network.trees.items
 
   abbrev part : Part
   part = together.part
@@ -124,31 +124,31 @@ module _ (network : Network) (clock : Clock) (given : PointTerns) (old new : Sea
   abbrev place : ℕ
   place = is.in_part.place
 
-  value_is : (t : PointTerns) → source_tern trees t next ≡ bits_of_source trees together.bits.source t (part.low + place)
-  value_is t = ap (bits_of_source trees together.bits.source t) is.in_part.at
+  value_is : (t : PointTerns) → source_tern all_trees t next ≡ bits_of_source all_trees together.bits.source t (part.low + place)
+  value_is t = ap (bits_of_source all_trees together.bits.source t) is.in_part.at
 
   known_closes : (b : Bool) → plain_tern found ≡ known b → GoesOn network clock given old new
   known_closes b has =
       let told = is.in_part.known b has in
-      let value : (t : PointTerns) → AreAbove old.terns.items old.leads.items t → source_tern trees t next ≡ known b =
-      λ t above. value_is t ∙ sym (known_below (known b) (bits_of_source trees together.bits.source t (part.low + place)) (known_is b)
-      (subst (λ (x : PlainTern). IsBelow x (bits_of_source trees together.bits.source t (part.low + place))) has (tells.bits.below place found told.0 t above))) in
-      let finds = gate_knows trees clock (given point) (asked_of old) together.passes next together.bits.gate tells.gate told.1 b value in
+      let value : (t : PointTerns) → AreAbove old.terns.items old.leads.items t → source_tern all_trees t next ≡ known b =
+      λ t above. value_is t ∙ sym (known_below (known b) (bits_of_source all_trees together.bits.source t (part.low + place)) (known_is b)
+      (subst (λ (x : PlainTern). IsBelow x (bits_of_source all_trees together.bits.source t (part.low + place))) has (tells.bits.below place found told.0 t above))) in
+      let finds = gate_knows all_trees clock (given point) (asked_of old) together.passes next together.bits.gate tells.gate told.1 b value in
       let registers : (own : Source) → slice_get network.drives.items point ≡ Some (Flop clock own) → Known b ≡ Own =
       λ own drive. absurd (no_flop together.bits.gate next own clock (some_same (drive_of together.bits.gate next) (Flop clock own) (sym is.drive ∙ drive))) in
       let known_at = closes.known b has in
       know_goes_on network clock given old searching points point last new b known_at.0 known_at.1
-      (subst (λ (d : Option Drive). Finds trees clock (given point) old.terns.items old.leads.items old.marks.items d (Known b)) (sym is.drive) finds)
+      (subst (λ (d : Option Drive). Finds all_trees clock (given point) old.terns.items old.leads.items old.marks.items d (Known b)) (sym is.drive) finds)
       registers known_at.2
 
   itself_closes : plain_tern found ≡ unknown → GoesOn network clock given old new
   itself_closes has =
       let same : (t u : PointTerns) → AreAbove old.terns.items old.leads.items t → AreAbove old.terns.items old.leads.items u → AgreeOnMarked old.marks.items t u →
-      source_tern trees t next ≡ source_tern trees u next =
+      source_tern all_trees t next ≡ source_tern all_trees u next =
       λ t u at_t at_u agree. value_is t ∙ tells.bits.depends (is.in_part.enough has) place is.in_part.within t u at_t at_u agree ∙ sym (value_is u) in
-      let finds = gate_keeps trees clock (given point) (asked_of old) together.passes next together.bits.gate tells.gate same in
+      let finds = gate_keeps all_trees clock (given point) (asked_of old) together.passes next together.bits.gate tells.gate same in
       keep_goes_on network clock given old searching points point last new
-      (subst (λ (d : Option Drive). Finds trees clock (given point) old.terns.items old.leads.items old.marks.items d Own) (sym is.drive) finds)
+      (subst (λ (d : Option Drive). Finds all_trees clock (given point) old.terns.items old.leads.items old.marks.items d Own) (sym is.drive) finds)
       (closes.itself has)
 
   closes_by : (x : PlainTern) → plain_tern found ≡ x → GoesOn network clock given old new

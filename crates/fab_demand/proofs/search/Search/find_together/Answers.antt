@@ -1,8 +1,8 @@
 use Rattle.fab_demand.proofs.Beside.{gate_same}
 use Rattle.fab_demand.proofs.search.Search.find_together.Goals as goal
 
-pub returns-in-Some-part_at : goal.returns-in-Some-part_at
-returns-in-Some-part_at c =
+pub returns : goal.returns
+returns c =
     let search = c.args.self.now in
     record {
       gate = gate_same c.args.bits.gate c.in-Some.passes c.deref.result.now search.terns.items c.deref-2.result.now search.leads.items
