@@ -38,7 +38,7 @@ exchanged_length a b [] = refl
 exchanged_length a b (s ∷ sites) = ap suc (exchanged_length a b sites)
 
 -- what stood on the second site comes to the first
-back_to : (a b s : ℕ) → s ≡ b → site_after a b s ≡ a
+pub back_to : (a b s : ℕ) → s ≡ b → site_after a b s ≡ a
 back_to a b s e = elim (cases_eq s a) [
   | inl f ↦ after_first a b s f ∙ sym e ∙ f
   | inr n ↦ after_second a b s n e
@@ -163,7 +163,7 @@ module _ (board : Board) (sites : List ℕ) (items : List (Option ℕ)) (standin
 
 -- ---- what a placement costs
 
-sum_right : (nets : List (Vec ℕ Global)) (spans : List Span) (place : ℕ → ℕ) → length spans ≡ length nets → ((k : ℕ) → k < length nets → get_or spans k no_span ≡ span_of place (numbers_of (slice_get nets k)))
+pub sum_right : (nets : List (Vec ℕ Global)) (spans : List Span) (place : ℕ → ℕ) → length spans ≡ length nets → ((k : ℕ) → k < length nets → get_or spans k no_span ≡ span_of place (numbers_of (slice_get nets k)))
     → sum_by width spans ≡ sum_by (λ (net : Vec ℕ Global). spread place net.items) nets
 sum_right [] [] place e right = refl
 sum_right [] (span ∷ spans) place e right = absurd (omega (arith, e))

@@ -1,10 +1,10 @@
 -- Placements whose cost falls, and the exchanges that were tried.
 use Rattle.std.proofs.Common.{◌≡◌, ◌≢◌, ◌⊎◌, ℕ, ◌+◌, ◌-◌, ◌<◌, ◌≤◌, Bool, true, false, List, [], ◌∷◌, length, get_or, suc, Option, Some, None, refl, sym, ◌∙◌, ap, subst, inl, inr, arith}
-use Rattle.std.proofs.lemmas.Bool.{cases_eq, cases_Bool}
+use Rattle.std.proofs.lemmas.Bool.{cases_eq, cases_lt, cases_Bool}
 use Rattle.fab_annealing.specs.declared.board.Board.{Board}
 use Rattle.fab_annealing.specs.declared.placement.Placement.{Placement}
 use Rattle.fab_annealing.specs.Boards.{IsBoard, IsPlaced, site_count, cost, exchanged, column, site_after, AreLoose, MayExchange, IsOptimal, Keeps, is_second, is_locked}
-use Rattle.fab_annealing.specs.inner.Standing.{IsKept, AreStanding, Falls, IsTried}
+use Rattle.fab_annealing.specs.inner.Standing.{IsKept, AreStanding, Falls, IsTried, AreTried, IsNext}
 use Rattle.fab_annealing.proofs.Exchanging.{exchange_keeps, after_first, after_second, after_other, none_stands, same_item, true_false}
 use Rattle.fab_annealing.proofs.Laying.{laid_cost}
 
@@ -41,6 +41,48 @@ still_both board a b c p q e =
     let first : cost board b ≡ cost board a = omega (arith, p.low, q.low, e) in
     let second : cost board c ≡ cost board b = omega (arith, p.low, q.low, e) in
     (first, second, q.still second)
+
+-- ---- from which number on items are tried
+
+-- the cost that was asked for twice is that of the sites
+pub next_same : (board : Board) (old new : Placement) (first second : ℕ) → IsBoard board → IsKept board old → IsKept board new → first ≡ old.across.total + old.down.total → second ≡ new.across.total + new.down.total → second ≡ first
+    → cost board new.sites.items ≡ cost board old.sites.items
+next_same board old new first second good before after p q e = omega (arith, kept_cost board old good before, kept_cost board new good after, p, q, e)
+
+pub tried_more : (board : Board) (old new : List ℕ) (since item : ℕ) → new ≡ old → AreTried board old since item → ((site : ℕ) → site < site_count board → IsTried board new item site) → AreTried board new since (item + 1)
+tried_more board old new since item same tried here k low high site inside = elim (cases_eq k item) [
+  | inl e ↦ subst (λ i. IsTried board new i site) (sym e) (here site inside)
+  | inr n ↦ subst (λ (s : List ℕ). IsTried board s k site) (sym same) (tried k low (omega (arith, high, n)) site inside)
+]
+
+pub next_more : (board : Board) (a b c : List ℕ) (since next : ℕ) → Falls board a b → Falls board b c → IsNext board a b 0 since → IsNext board b c since next → IsNext board a c 0 next
+next_more board a b c since next p q first second = record {
+  same = λ e. let still = still_both board a b c p q e in second.same still.1 ∙ first.same still.0;
+  lower = λ low. elim (cases_eq (cost board c) (cost board b)) [
+    | inl e ↦ omega (arith, low, e, second.same e, first.lower (omega (arith, low, e)))
+    | inr n ↦ second.lower (omega (arith, n, q.low))
+  ];
+}
+
+pub next_less : (board : Board) (a b : List ℕ) (next : ℕ) → Falls board a b → IsNext board a b 0 next → next ≢ 0 → cost board b < cost board a
+next_less board a b next falls h some = elim (cases_eq (cost board b) (cost board a)) [
+  | inl e ↦ absurd (some (h.same e))
+  | inr n ↦ omega (arith, n, falls.low)
+]
+
+-- where nothing changed and the other items were tried, all are
+pub tried_both : (board : Board) (a b : List ℕ) (since tried item count : ℕ) → Falls board a b → IsNext board a b 0 since → since ≡ 0 → tried ≤ item → AreTried board b since item → AreTried board a tried count → AreTried board b 0 count × IsNext board a b 0 0
+tried_both board a b since tried item count falls next none past here there =
+    let stays : cost board b ≡ cost board a = elim (cases_eq (cost board b) (cost board a)) [
+      | inl e ↦ e
+      | inr n ↦ absurd (omega (arith, none, next.lower (omega (arith, n, falls.low))))
+    ] in (
+      λ k low high site inside. elim (cases_lt k item) [
+        | inl before ↦ here k (omega (arith, none)) before site inside
+        | inr after ↦ subst (λ (s : List ℕ). IsTried board s k site) (sym (falls.still stays)) (there k (omega (arith, past, after)) high site inside)
+      ],
+      record { same = λ e. refl; lower = λ low. absurd (omega (arith, low, stays)) },
+    )
 
 -- ---- one try
 

@@ -42,7 +42,7 @@ undone_more changed spans k new =
     ∙ ap (undone changed) (set_set spans k new (get_or spans k no_span) ∙ set-get_or spans k no_span)
 
 -- a list has a number, or not
-cases_contains : (xs : List ℕ) (k : ℕ) → Contains xs k ⊎ (Contains xs k → ⊥)
+pub cases_contains : (xs : List ℕ) (k : ℕ) → Contains xs k ⊎ (Contains xs k → ⊥)
 cases_contains xs k = elim (cases_Bool (list_any (eqb k) xs)) [
   | inl h ↦ inl (Contains-from_any exact_unsigned_eq k xs h)
   | inr h ↦ inr (λ c. both_ways (list_any (eqb k) xs) h (list_any-from_Contains nat_eq_equiv k xs c))

@@ -4,3 +4,6 @@ pub mod Exchanging
 pub mod Laying
 pub mod Filling
 pub mod Falling
+pub mod Foreseen
+pub mod Forecasting
+pub mod Tying

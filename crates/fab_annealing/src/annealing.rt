@@ -2,6 +2,7 @@
 ghost use Rattle.std.specs.Prelude.{◌≡◌, ◌<◌, ◌≤◌, OnOk, IfSome, length, true};
 ghost use Rattle.fab_annealing.specs.Boards.{IsBoard, Keeps, site_count, is_second};
 ghost use Rattle.fab_annealing.specs.inner.Standing.{IsKept, HasLots};
+ghost use Rattle.fab_annealing.specs.inner.Tied.{HasTies};
 
 use crate::board::Board;
 use crate::lots::Lots;
@@ -188,6 +189,7 @@ fn try_random(
     requires board { IsBoard board.now }
     requires kept { IsKept board.now placement.old }
     requires lots { HasLots board.now lots.now }
+    requires ties { HasTies board.now.nets ties.now }
     requires some { 0 < length board.now.locked.items }
     ensures kept { OnOk result (IsKept board.now placement.new) }
     ensures keeps { OnOk result (Keeps board.now placement.old.sites.items placement.new.sites.items) }
@@ -224,6 +226,7 @@ fn anneal_at(
     requires board { IsBoard board.now }
     requires kept { IsKept board.now placement.old }
     requires lots { HasLots board.now lots.now }
+    requires ties { HasTies board.now.nets ties.now }
     requires some { 0 < length board.now.locked.items }
     ensures kept { OnOk result (IsKept board.now placement.new) }
     ensures keeps { OnOk result (Keeps board.now placement.old.sites.items placement.new.sites.items) }
@@ -260,6 +263,7 @@ pub fn anneal<P: Progress>(
     requires board { IsBoard board.now }
     requires kept { IsKept board.now placement.old }
     requires lots { HasLots board.now lots.now }
+    requires ties { HasTies board.now.nets ties.now }
     ensures kept { OnOk result (IsKept board.now placement.new) }
     ensures keeps { OnOk result (Keeps board.now placement.old.sites.items placement.new.sites.items) }
 {

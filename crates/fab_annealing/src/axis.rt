@@ -1,7 +1,8 @@
 //! One direction of a placement: the columns of the items or their rows.
-ghost use Rattle.std.specs.Prelude.{◌≡◌, ◌⊎◌, ℕ, ◌+◌, ◌-◌, ◌≤◌, ◌<◌, ◌^◌, ◌++◌, length, sum_by, slice_index, slice_index_or, slice_set, IfSome, OnOk, IfOk, List, All, Contains, [], ◌∷◌};
+ghost use Rattle.std.specs.Prelude.{◌≡◌, ◌≢◌, ◌⊎◌, ℕ, ◌+◌, ◌-◌, ◌*◌, ◌≤◌, ◌<◌, ◌^◌, ◌++◌, length, sum_by, slice_index, slice_index_or, slice_set, IfSome, OnOk, IfOk, List, All, Contains, [], ◌∷◌};
 ghost use Rattle.fab_annealing.specs.Spans.{span_of};
 ghost use Rattle.fab_annealing.specs.Measured.{IsNets, HasMoved, IsMeasured, IsShaped, IsRight, IsStretched, AreNoted, AreRenewed, item_count, net_count, items_of, no_span, width, undone};
+ghost use Rattle.fab_annealing.specs.inner.Tied.{AreDistinct, IsLeastWidth, IsForecast};
 
 use crate::nets::Nets;
 use crate::ties::Change;
@@ -35,25 +36,23 @@ impl Span {
         })
     }
 
-    /// How its width changes where one of the places changes: it rises by what lies beyond it, and falls at most up to the new place.
-    fn forecast(self, from: u32, to: u32) -> Change {
-        let beyond = to.saturating_sub(self.high);
-        let before = self.low.saturating_sub(to);
-        let left = if from == self.low {
-            to.min(self.high).saturating_sub(self.low)
-        } else {
-            0
-        };
-        let right = if from == self.high {
-            self.high.saturating_sub(to.max(self.low))
-        } else {
-            0
-        };
-        Change {
-            rise: beyond.saturating_add(before),
-            fall: left.saturating_add(right),
-        }
+    /// Its width at the least where one of the places changes and another one does not: how far the new place lies from both ends. It is
+    /// as if no other place were at an end that is left.
+    fn least_width(self, from: u32, to: u32) -> u32
+        ensures { IsLeastWidth self from to result }
+    {
+        let low = end_after(self.low, self.high, from);
+        let high = end_after(self.high, self.low, from);
+        to.saturating_sub(low)
+            .saturating_add(high.saturating_sub(to))
     }
+}
+
+/// An end of a span after a place is left, at the least: the other end, if it was the place.
+fn end_after(end: u32, other: u32, from: u32) -> u32
+    ensures { (result ≡ other) ⊎ ((from ≢ end) × (result ≡ end)) }
+{
+    if from == end { other } else { end }
 }
 
 /// The span of the places of some items.
@@ -113,17 +112,23 @@ impl Axis {
         self.total
     }
 
-    /// What the spans tell of the sum of the widths, where an item that only these nets tie comes from a place to another. It is as if
-    /// no other item stood at the end of a span that the item leaves.
-    pub fn forecast(&self, nets: &[u32], from: u32, to: u32) -> Change {
-        let mut change = Change::NONE;
+    /// The widths of nets that tie an item, and what they are at the least after it comes from a place to another.
+    pub fn forecast(&self, nets: &[u32], from: u32, to: u32) -> Change
+        requires inside { All (λ net. net < length self.now.spans.items) nets.now }
+        requires distinct { AreDistinct nets.now }
+        requires few { sum_by width self.now.spans.items ≤ 31 * 2 ^ 16 }
+        ensures { IsForecast self.now.spans.items nets.now from to result }
+    {
         if from == to {
-            return change;
+            return Change::NONE;
         }
+        let mut change = Change::NONE;
         for net in nets {
-            if let Some(span) = self.spans.get(*net as usize) {
-                change = change.and(span.forecast(from, to));
-            }
+            let span = self.spans[*net as usize];
+            change = change.and(Change {
+                before: span.width(),
+                after: span.least_width(from, to),
+            });
         }
         change
     }

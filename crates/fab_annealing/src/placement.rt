@@ -3,6 +3,7 @@ ghost use Rattle.std.specs.Prelude.{◌≡◌, ◌↔◌, ℕ, ◌+◌, ◌<◌,
 ghost use Rattle.fab_annealing.specs.Measured.{undone};
 ghost use Rattle.fab_annealing.specs.Boards.{IsBoard, IsPlaced, AreLoose, site_count, cost, exchanged, is_locked};
 ghost use Rattle.fab_annealing.specs.inner.Standing.{IsLaid, IsKept, AreStanding, set_at};
+ghost use Rattle.fab_annealing.specs.inner.Tied.{HasTies, AreForecast, ties_of, ties_at};
 
 use crate::axis::Axis;
 use crate::board::Board;
@@ -75,10 +76,14 @@ impl Placement {
     }
 
     /// What the spans tell of an item that goes from a site to another.
-    fn forecast(&self, board: &Board, ties: &Ties, item: u32, from: u32, to: u32) -> Change
+    fn forecast_item(&self, board: &Board, ties: &Ties, item: u32, from: u32, to: u32) -> Change
         requires board { IsBoard board.now }
+        requires kept { IsKept board.now self.now }
+        requires ties { HasTies board.now.nets ties.now }
+        requires item { item < length self.now.sites.items }
         requires from { from < site_count board.now }
         requires to { to < site_count board.now }
+        ensures { AreForecast board.now self.now (ties_of ties.now item) from to result }
     {
         let nets = ties.at(item);
         let across = self
@@ -88,8 +93,60 @@ impl Placement {
         across.and(down)
     }
 
+    /// The same of an item, if there is one.
+    fn forecast_other(
+        &self,
+        board: &Board,
+        ties: &Ties,
+        other: Option<u32>,
+        from: u32,
+        to: u32,
+    ) -> Change
+        requires board { IsBoard board.now }
+        requires kept { IsKept board.now self.now }
+        requires ties { HasTies board.now.nets ties.now }
+        requires other { IfSome other (λ item. item < length self.now.sites.items) }
+        requires from { from < site_count board.now }
+        requires to { to < site_count board.now }
+        ensures { AreForecast board.now self.now (ties_at ties.now other) from to result }
+    {
+        match other {
+            None => Change::NONE,
+            Some(item) => self.forecast_item(board, ties, item, from, to),
+        }
+    }
+
+    /// What the spans tell of the exchange of an item with what stands on a site.
+    fn forecast(&self, board: &Board, ties: &Ties, item: u32, site: u32) -> Change
+        requires board { IsBoard board.now }
+        requires kept { IsKept board.now self.now }
+        requires ties { HasTies board.now.nets ties.now }
+        requires item { item < length self.now.sites.items }
+        requires site { site < site_count board.now }
+        ensures { cost board.now self.now.sites.items + result.after
+            ≤ result.before + cost board.now (exchanged (slice_index self.now.sites.items item) site self.now.sites.items) }
+    {
+        let from = self.sites[item as usize];
+        let here = self.forecast_item(board, ties, item, from, site);
+        let there = self.forecast_other(board, ties, self.items[site as usize], site, from);
+        here.and(there)
+    }
+
+    /// Whether the exchange of an item with what stands on a site may lower the cost. Where it says no, the exchange would not.
+    pub fn may_fall(&self, board: &Board, ties: &Ties, item: u32, site: u32) -> bool
+        requires board { IsBoard board.now }
+        requires kept { IsKept board.now self.now }
+        requires ties { HasTies board.now.nets ties.now }
+        requires item { item < length self.now.sites.items }
+        requires site { site < site_count board.now }
+        ensures { result ≡ false → cost board.now self.now.sites.items
+            ≤ cost board.now (exchanged (slice_index self.now.sites.items item) site self.now.sites.items) }
+    {
+        self.forecast(board, ties, item, site).may_fall()
+    }
+
     /// Whether the exchange of an item with what stands on a site may raise the cost by this much at most. Where it says no, the
-    /// cost would surely rise by more.
+    /// cost would rise by more.
     pub fn may_rise_within(
         &self,
         board: &Board,
@@ -100,16 +157,11 @@ impl Placement {
     ) -> bool
         requires board { IsBoard board.now }
         requires kept { IsKept board.now self.now }
+        requires ties { HasTies board.now.nets ties.now }
         requires item { item < length self.now.sites.items }
         requires site { site < site_count board.now }
     {
-        let from = self.sites[item as usize];
-        let here = self.forecast(board, ties, item, from, site);
-        let there = match self.items[site as usize] {
-            None => Change::NONE,
-            Some(other) => self.forecast(board, ties, other, site, from),
-        };
-        here.and(there).may_be_within(room)
+        self.forecast(board, ties, item, site).may_be_within(room)
     }
 
     /// Puts an item on a site, and leaves the spans of its nets as they are.

@@ -35,11 +35,11 @@ pub fn settled<P: Progress>(
     let start = placement.cost();
     let ties = Ties::of(alloc, &board.nets)?;
     anneal(progress, &mut placement, board, &lots, &ties, seed)?;
-    descend(&mut placement, board, &lots)?;
+    descend(&mut placement, board, &lots, &ties)?;
     if placement.cost() <= start {
         return Ok(placement.into_sites());
     }
     let mut again = Placement::new(alloc, board, sites)?;
-    descend(&mut again, board, &lots)?;
+    descend(&mut again, board, &lots, &ties)?;
     Ok(again.into_sites())
 }

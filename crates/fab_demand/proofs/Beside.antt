@@ -18,7 +18,7 @@ use Rattle.fab_demand.specs.declared.registers.Span.{Span}
 use Rattle.fab_compiled.specs.declared.parts.Part.{Part}
 use Rattle.fab_demand.specs.declared.search.Search.{Search}
 use Rattle.fab_demand.specs.Asked.{Asked, AsksMore, IsSourceAsked}
-use Rattle.fab_demand.specs.inner.Beside.{IsBeside, IsClosedAs, IsInSpan, IsSpanAsked, IsSpanOf, KnowsMore}
+use Rattle.fab_demand.specs.inner.Beside.{IsBeside, IsBitOfPart, IsClosedAs, IsInSpan, IsSpanAsked, IsSpanOf, KnowsMore}
 use Rattle.fab_demand.specs.inner.Looking.{Finds}
 use Rattle.fab_compiled.specs.Parts.{TellsBits}
 use Rattle.fab_network.specs.Leading.{bits_of_source}
@@ -64,6 +64,50 @@ goes_both network clock given old mid new first then = record {
   above = λ t h. first.above t (then.above t h);
 }
 
+-- the last point that waits is closed, without a look
+module _ (network : Network) (clock : Clock) (given : PointTerns) (old new : Search) (searching : IsSearching network clock given old)
+    (points : length network.drives.items ≡ length old.leads.items) (source : Source) (part : Part)
+    (tells : TellsBits old.terns.items old.leads.items old.marks.items (bits_of_source network.trees.items source) part)
+    (point : ℕ) (last : slice_get old.stack.items (length old.stack.items - 1) ≡ Some point) (found : Tern) (is : IsBitOfPart network source part point found)
+    (closes : IsClosedAs old new point found) where
+  abbrev next : Source
+  next = record { tree = source.tree; first = source.first; bit = is.bit }
+
+  value_is : (t : PointTerns) → source_tern network.trees.items t next ≡ bits_of_source network.trees.items source t (part.low + is.in_part.place)
+  value_is t = ap (bits_of_source network.trees.items source t) is.in_part.at
+
+  known_closes : (b : Bool) → plain_tern found ≡ known b → GoesOn network clock given old new
+  known_closes b has =
+      let finds : Finds network.trees.items clock (given point) old.terns.items old.leads.items old.marks.items (Some (Value next)) (Known b) =
+      λ later t kept above.
+      value_is t ∙ sym (known_below (known b) (bits_of_source network.trees.items source t (part.low + is.in_part.place)) (known_is b)
+      (subst (λ (x : PlainTern). IsBelow x (bits_of_source network.trees.items source t (part.low + is.in_part.place))) has
+      (tells.below is.in_part.place found is.in_part.is t above))) in
+      let registers : (own : Source) → slice_get network.drives.items point ≡ Some (Flop clock own) → Known b ≡ Own =
+      λ own drive. let e : Some (Value next) ≡ Some (Flop clock own) = sym is.drive ∙ drive in cc in
+      let known_at = closes.known b has in
+      know_goes_on network clock given old searching points point last new b known_at.0 known_at.1
+      (subst (λ (d : Option Drive). Finds network.trees.items clock (given point) old.terns.items old.leads.items old.marks.items d (Known b)) (sym is.drive) finds)
+      registers known_at.2
+
+  itself_closes : plain_tern found ≡ unknown → GoesOn network clock given old new
+  itself_closes has =
+      let within = get_within part.bits.items is.in_part.place found is.in_part.is in
+      let finds : Finds network.trees.items clock (given point) old.terns.items old.leads.items old.marks.items (Some (Value next)) Own =
+      λ later t u kept at_t follow_t at_u follow_u agree.
+      value_is t ∙ tells.depends (is.in_part.enough has) is.in_part.place within t u at_t at_u agree ∙ sym (value_is u) in
+      keep_goes_on network clock given old searching points point last new
+      (subst (λ (d : Option Drive). Finds network.trees.items clock (given point) old.terns.items old.leads.items old.marks.items d Own) (sym is.drive) finds)
+      (closes.itself has)
+
+  closes_by : (x : PlainTern) → plain_tern found ≡ x → GoesOn network clock given old new
+  closes_by no has = known_closes false has
+  closes_by yes has = known_closes true has
+  closes_by unknown has = itself_closes has
+
+  pub last_goes_on : GoesOn network clock given old new
+  last_goes_on = closes_by (plain_tern found) refl
+
 -- a point beside another is asked for and closed, without a look
 module _ (network : Network) (clock : Clock) (given : PointTerns) (old mid new : Search) (searching : IsSearching network clock given old)
     (points : length network.drives.items ≡ length old.leads.items) (source : Source) (part : Part)
@@ -79,48 +123,11 @@ module _ (network : Network) (clock : Clock) (given : PointTerns) (old mid new :
       let place : length mid.stack.items - 1 ≡ length old.stack.items = omega (arith, ap length stack, length-append old.stack.items (other ∷ [])) in
       ap (λ (xs : List ℕ). slice_get xs (length mid.stack.items - 1)) stack ∙ last_there old.stack.items other (length mid.stack.items - 1) place
 
-  mid_points : length network.drives.items ≡ length mid.leads.items
-  mid_points = points ∙ sym waits.more.long
-
-  abbrev next : Source
-  next = record { tree = source.tree; first = source.first; bit = beside.bit }
-
-  value_is : (t : PointTerns) → source_tern network.trees.items t next ≡ bits_of_source network.trees.items source t (part.low + beside.in_part.place)
-  value_is t = ap (bits_of_source network.trees.items source t) beside.in_part.at
-
-  known_closes : (b : Bool) → plain_tern found ≡ known b → GoesOn network clock given mid new
-  known_closes b is =
-      let finds : Finds network.trees.items clock (given other) mid.terns.items mid.leads.items mid.marks.items (Some (Value next)) (Known b) =
-      λ later t kept above.
-      value_is t ∙ sym (known_below (known b) (bits_of_source network.trees.items source t (part.low + beside.in_part.place)) (known_is b)
-      (subst (λ (x : PlainTern). IsBelow x (bits_of_source network.trees.items source t (part.low + beside.in_part.place))) is
-      (tells.below beside.in_part.place found beside.in_part.is t (waits.above t above)))) in
-      let registers : (own : Source) → slice_get network.drives.items other ≡ Some (Flop clock own) → Known b ≡ Own =
-      λ own drive. let e : Some (Value next) ≡ Some (Flop clock own) = sym beside.drive ∙ drive in cc in
-      let known_at = closes.known b is in
-      know_goes_on network clock given mid waits.searching mid_points other last new b known_at.0 known_at.1
-      (subst (λ (d : Option Drive). Finds network.trees.items clock (given other) mid.terns.items mid.leads.items mid.marks.items d (Known b)) (sym beside.drive) finds)
-      registers known_at.2
-
-  itself_closes : plain_tern found ≡ unknown → GoesOn network clock given mid new
-  itself_closes is =
-      let within = get_within part.bits.items beside.in_part.place found beside.in_part.is in
-      let finds : Finds network.trees.items clock (given other) mid.terns.items mid.leads.items mid.marks.items (Some (Value next)) Own =
-      λ later t u kept at_t follow_t at_u follow_u agree.
-      value_is t
-      ∙ tells.depends (beside.in_part.enough is) beside.in_part.place within t u (waits.above t at_t) (waits.above u at_u) (λ q m. agree q (waits.more.marks q m))
-      ∙ sym (value_is u) in
-      keep_goes_on network clock given mid waits.searching mid_points other last new
-      (subst (λ (d : Option Drive). Finds network.trees.items clock (given other) mid.terns.items mid.leads.items mid.marks.items d Own) (sym beside.drive) finds)
-      (closes.itself is)
-
-  closes_by : (x : PlainTern) → plain_tern found ≡ x → GoesOn network clock given mid new
-  closes_by no is = known_closes false is
-  closes_by yes is = known_closes true is
-  closes_by unknown is = itself_closes is
-
   pub other_goes_on : GoesOn network clock given old new
-  other_goes_on = goes_both network clock given old mid new waits (closes_by (plain_tern found) refl)
+  other_goes_on =
+      goes_both network clock given old mid new waits
+      (last_goes_on network clock given mid new waits.searching (points ∙ sym waits.more.long) source part
+      (tells_later (bits_of_source network.trees.items source) part (asked_of old) (asked_of mid) waits.more waits.above tells) other last found beside.is closes)
 
 -- all that the bits of a marked part need has been asked for
 pub part_asked : (trees : List Tree) (asked : Asked) (source : Source) (part : Part) (span : Span) →

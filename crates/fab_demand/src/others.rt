@@ -10,7 +10,7 @@ ghost use Rattle.fab_demand.specs.Asked.{AsksMore};
 ghost use Rattle.fab_demand.specs.Search.{asked_of, left_of, Closes, HasRoom, IsSearching};
 ghost use Rattle.fab_compiled.specs.Parts.{TellsBits};
 ghost use Rattle.fab_network.specs.Leading.{bits_of_source};
-ghost use Rattle.fab_demand.specs.inner.Beside.{IsBeside, IsBit, IsClosedAs, IsInPart, KnowsMore};
+ghost use Rattle.fab_demand.specs.inner.Beside.{IsBeside, IsBit, IsBitOfPart, IsClosedAs, IsInPart, KnowsMore};
 
 use crate::rows::is_unmarked;
 use crate::search::Search;
@@ -23,8 +23,8 @@ use fab_ternary::Tern;
 const MANY: u32 = 32;
 
 impl Search {
-    /// Closes other bits of the expression of a point without a look, as far as they are known or depend on points alone that have been asked for. A look at
-    /// each of them would go through all that they rest on.
+    /// Closes other bits of the expression of a point without a look, as far as they are known or depend on points alone that have been asked for: those that
+    /// have not been asked for, and those that wait last. A look at each of them would go through all that they rest on.
     pub(crate) fn close_others(&mut self, network: &Network, point: u32)
         requires fit { AreFit network.now.trees.items network.now.drives.items }
         requires points { length network.now.drives.items ≡ length self.old.leads.items }
@@ -33,7 +33,7 @@ impl Search {
         ensures more { AsksMore (asked_of self.old) (asked_of self.new) }
         ensures left { left_of self.new ≤ left_of self.old }
     {
-        let Some(source) = wide_at(network, point) else {
+        let Some(source) = self.wide_at(network, point) else {
             return;
         };
         let alloc = *self.stack.allocator();
@@ -47,6 +47,26 @@ impl Search {
         }
     }
 
+    // The expression of which a point is one of many bits, if others of them have not been asked for or wait.
+    fn wide_at(&self, network: &Network, point: u32) -> Option<Source>
+        requires fit { AreFit network.now.trees.items network.now.drives.items }
+        ensures { IfSome result (λ source. IsFitSource network.now.trees.items (length network.now.drives.items) source) }
+    {
+        let source = value_at(network, point)?;
+        if self.has_beside(network, source, point) {
+            Some(source)
+        } else {
+            None
+        }
+    }
+
+    // Whether half as many points before or behind a point there is a bit of the same expression that has not been asked for, or one waits last.
+    fn has_beside(&self, network: &Network, source: Source, point: u32) -> bool {
+        is_beside(network, source, point.saturating_add(MANY / 2), &self.marks)
+            || is_beside(network, source, point.saturating_sub(MANY / 2), &self.marks)
+            || is_bit_of(network, source, self.waiting())
+    }
+
     // Closes bits of a part of an expression, of which a point is one bit.
     fn close_part(&mut self, network: &Network, source: Source, part: &Part, point: u32)
         requires points { length network.now.drives.items ≡ length self.old.leads.items }
@@ -56,7 +76,38 @@ impl Search {
         ensures more { AsksMore (asked_of self.old) (asked_of self.new) }
         ensures left { left_of self.new ≤ left_of self.old }
     {
-        let (start, end) = points_of(source, part, point);
+        self.close_waiting(network, source, part);
+        self.close_row(network, source, part, points_of(source, part, point));
+    }
+
+    // Closes the points that wait last, as far as they are bits of a part.
+    fn close_waiting(&mut self, network: &Network, source: Source, part: &Part)
+        requires points { length network.now.drives.items ≡ length self.old.leads.items }
+        requires tells { TellsBits self.old.terns.items self.old.leads.items self.old.marks.items (bits_of_source network.now.trees.items source) part.now }
+        requires searching { (clock : Clock) × (given : PointTerns) × IsSearching network.now clock given self.old }
+        ensures searching { (clock : Clock) (given : PointTerns) → IsSearching network.now clock given self.old → IsSearching network.now clock given self.new }
+        ensures more { AsksMore (asked_of self.old) (asked_of self.new) }
+        ensures left { left_of self.new ≤ left_of self.old }
+        ensures above { KnowsMore (asked_of self.old) (asked_of self.new) }
+    {
+        'waiting: while let Some(last) = self.waiting() {
+            let Some(found) = found_at(network, source, part, last) else {
+                return;
+            };
+            self.close_as(last, found);
+        }
+    }
+
+    // Closes bits of a part between these points.
+    fn close_row(&mut self, network: &Network, source: Source, part: &Part, row: (u32, u32))
+        requires points { length network.now.drives.items ≡ length self.old.leads.items }
+        requires tells { TellsBits self.old.terns.items self.old.leads.items self.old.marks.items (bits_of_source network.now.trees.items source) part.now }
+        requires searching { (clock : Clock) × (given : PointTerns) × IsSearching network.now clock given self.old }
+        ensures searching { (clock : Clock) (given : PointTerns) → IsSearching network.now clock given self.old → IsSearching network.now clock given self.new }
+        ensures more { AsksMore (asked_of self.old) (asked_of self.new) }
+        ensures left { left_of self.new ≤ left_of self.old }
+    {
+        let (start, end) = row;
         for other in start..end {
             self.close_other(network, source, part, other);
         }
@@ -93,25 +144,27 @@ impl Search {
     }
 }
 
-// The expression of which a point is one of many bits.
-fn wide_at(network: &Network, point: u32) -> Option<Source>
+// The expression of which a point is a bit.
+fn value_at(network: &Network, point: u32) -> Option<Source>
     requires fit { AreFit network.now.trees.items network.now.drives.items }
     ensures { IfSome result (λ source. IsFitSource network.now.trees.items (length network.now.drives.items) source) }
 {
     match network.drives.get(point as usize) {
-        Some(Drive::Value(source)) if is_wide(network, *source, point) => Some(*source),
+        Some(Drive::Value(source)) => Some(*source),
         _ => None,
     }
 }
 
-// Whether half as many points before or behind a point there is a bit of the same expression.
-fn is_wide(network: &Network, source: Source, point: u32) -> bool {
-    is_bit_of(network, source, point.saturating_add(MANY / 2))
-        || is_bit_of(network, source, point.saturating_sub(MANY / 2))
+// Whether a point is a bit of the expression of a source and has not been asked for.
+fn is_beside(network: &Network, source: Source, point: u32, marks: &[bool]) -> bool {
+    is_unmarked(point, marks) && is_bit_of(network, source, Some(point))
 }
 
-fn is_bit_of(network: &Network, source: Source, point: u32) -> bool {
-    bit_of(network, source, point).is_some()
+fn is_bit_of(network: &Network, source: Source, point: Option<u32>) -> bool {
+    match point {
+        Some(point) => bit_of(network, source, point).is_some(),
+        None => false,
+    }
 }
 
 // Which bit of the expression of a source a point is, if it is one.
@@ -144,9 +197,17 @@ fn found_beside(
 ) -> Option<Tern>
     ensures { IfSome result (λ found. IsBeside network.now source part.now marks.now point found) }
 {
-    if !is_unmarked(point, marks) {
-        return None;
+    if is_unmarked(point, marks) {
+        found_at(network, source, part, point)
+    } else {
+        None
     }
+}
+
+// What a part tells of a point, if it is a bit of its expression and that is enough.
+fn found_at(network: &Network, source: Source, part: &Part, point: u32) -> Option<Tern>
+    ensures { IfSome result (λ found. IsBitOfPart network.now source part.now point found) }
+{
     let bit = bit_of(network, source, point)?;
     found_in(part, bit)
 }

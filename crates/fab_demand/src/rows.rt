@@ -1,6 +1,6 @@
 //! Points that follow one another and that a waiting point needs: they are asked for without a look between.
 
-ghost use Rattle.std.specs.Prelude.{◌≡◌, Bool, true, false, List, slice_get, IfSome, Some};
+ghost use Rattle.std.specs.Prelude.{◌≡◌, true, false, slice_get, IfSome, Some};
 ghost use Rattle.fab_demand.specs.inner.Beside.{AsksUnmarked};
 
 use fab_compiled::Tree;
@@ -19,6 +19,15 @@ struct Row {
     end: u32,
     /// How many points wait, up to the one that needs them.
     depth: usize,
+    /// Whether they are bits of the same expression as that point, so that each of them needs the others.
+    ring: bool,
+}
+
+impl Row {
+    // Whether the last of so many waiting points needs this row: it has found it, or it is itself a point of a row of its own expression.
+    fn serves(self, depth: usize) -> bool {
+        self.depth == depth || self.ring && self.depth.saturating_add(1) == depth
+    }
 }
 
 /// What is done next for the last point that waits.
@@ -55,7 +64,13 @@ impl Rows {
         let end = end_by_drive(network, point, needed);
         let next = needed.saturating_add(1);
         if end.saturating_sub(next) >= MANY {
-            self.push(Row { next, end, depth });
+            let ring = is_ring(network, point, needed);
+            self.push(Row {
+                next,
+                end,
+                depth,
+                ring,
+            });
         }
     }
 
@@ -69,14 +84,28 @@ impl Rows {
         }
     }
 
-    // The same by the last row.
+    // The same by the last row. It is passed over where the point that needs it does not wait any more.
     fn next_by(&mut self, row: Row, depth: usize, marks: &[bool]) -> Next
         ensures { AsksUnmarked marks.now result }
     {
-        if row.depth != depth {
-            self.push(row);
-            return look_below(row, depth);
+        if row.serves(depth) {
+            return self.next_of(row, depth, marks);
         }
+        if depth < row.depth {
+            return Next::Look;
+        }
+        self.push(row);
+        if row.depth.saturating_add(1) == depth {
+            Next::LookInRow
+        } else {
+            Next::Look
+        }
+    }
+
+    // The next point of a row, for the last of so many waiting points, or a look where there is none.
+    fn next_of(&mut self, row: Row, depth: usize, marks: &[bool]) -> Next
+        ensures { AsksUnmarked marks.now result }
+    {
         let Some(point) = first_unmarked(row.next, row.end, marks) else {
             return Next::Look;
         };
@@ -84,6 +113,7 @@ impl Rows {
             next: point.saturating_add(1),
             end: row.end,
             depth,
+            ring: row.ring,
         });
         Next::Ask(point)
     }
@@ -91,17 +121,6 @@ impl Rows {
     // One more row, where there is memory.
     fn push(&mut self, row: Row) {
         let _ = self.rows.push(row);
-    }
-}
-
-// A look at the last of so many waiting points, which may be one of the points of a row.
-fn look_below(row: Row, depth: usize) -> Next
-    ensures { (marks : List Bool) → AsksUnmarked marks result }
-{
-    if row.depth.saturating_add(1) == depth {
-        Next::LookInRow
-    } else {
-        Next::Look
     }
 }
 
@@ -151,6 +170,43 @@ fn are_alike(first: &Drive, last: &Drive) -> bool {
             one.tree == other.tree && one.first == other.first
         }
         _ => false,
+    }
+}
+
+// Whether a point needs another bit of its own expression, to which no bit of it is led: then each of its bits needs all of them.
+fn is_ring(network: &Network, point: u32, needed: u32) -> bool {
+    match (
+        network.drives.get(point as usize),
+        network.drives.get(needed as usize),
+    ) {
+        (Some(Drive::Value(one)), Some(Drive::Value(other))) => {
+            one.tree == other.tree
+                && one.first == other.first
+                && !source_leads_to(&network.trees, *one, needed)
+        }
+        _ => false,
+    }
+}
+
+// Whether a bit of the expression of a source may be led to a point.
+fn source_leads_to(trees: &[Tree], source: Source, point: u32) -> bool {
+    match trees.get(source.tree as usize) {
+        Some(tree) => leads_to(tree, source.first, point),
+        None => false,
+    }
+}
+
+fn leads_to(tree: &Tree, first: u32, point: u32) -> bool {
+    match tree {
+        Tree::Bits(place, count) => {
+            end_in_name(first.saturating_add(*place), *count, point) > point
+        }
+        Tree::Cat(left, _, right) | Tree::Cond(_, left, right) => {
+            leads_to(left, first, point) || leads_to(right, first, point)
+        }
+        Tree::Const(_) | Tree::Pick(_, _, _) | Tree::Not(_) => false,
+        Tree::And(_, _) | Tree::Or(_, _) | Tree::Xor(_, _) => false,
+        Tree::Equal(_, _, _) | Tree::Minus(_, _, _) => false,
     }
 }
 

@@ -73,8 +73,8 @@ impl Search {
         self.readers.forget();
     }
 
-    // The point that waits and that was asked for last.
-    fn waiting(&self) -> Option<u32>
+    /// The point that waits and that was asked for last.
+    pub(crate) fn waiting(&self) -> Option<u32>
         ensures { result ≡ slice_get self.now.stack.items (length self.now.stack.items - 1) }
     {
         self.stack.last().copied()

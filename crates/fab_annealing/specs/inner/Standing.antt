@@ -46,6 +46,15 @@ abbrev pub IsTried : Board → (sites : List ℕ) → (item site : ℕ) → Type
 IsTried board sites item site =
     MayExchange board sites (slice_index sites item) site → cost board sites ≤ cost board (exchanged (slice_index sites item) site sites)
 
+-- the items of a range are tried with all sites
+abbrev pub AreTried : Board → (sites : List ℕ) → (low high : ℕ) → Type 0
+AreTried board sites low high = (item : ℕ) → low ≤ item → item < high → (site : ℕ) → site < site_count board → IsTried board sites item site
+
+-- from which number on items are tried stays as long as the cost stays, and is above 0 once it fell
+pub record IsNext (board : Board) (old new : List ℕ) (before next : ℕ) : Type 0 where
+  pub same : cost board new ≡ cost board old → next ≡ before
+  pub lower : cost board new < cost board old → 0 < next
+
 -- ---- the sites of each tile
 
 abbrev pub lot_number : (column row : ℕ) → ℕ

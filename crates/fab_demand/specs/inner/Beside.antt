@@ -31,12 +31,16 @@ pub record IsInPart (part : Part) (bit : ℕ) (found : Tern) : Type 0 where
 abbrev pub IsBit : Network → Source → (point bit : ℕ) → Type 0
 IsBit network source point bit = slice_get network.drives.items point ≡ Some (Value (record { tree = source.tree; first = source.first; bit = bit }))
 
--- A point that has not been asked for is a bit of an expression, and stands in a part of it.
-pub record IsBeside (network : Network) (source : Source) (part : Part) (marks : List Bool) (point : ℕ) (found : Tern) : Type 0 where
-  pub unmarked : slice_get marks point ≡ Some false
+-- a point is a bit of an expression, and stands in a part of it
+pub record IsBitOfPart (network : Network) (source : Source) (part : Part) (point : ℕ) (found : Tern) : Type 0 where
   pub bit : ℕ
   pub drive : IsBit network source point bit
   pub in_part : IsInPart part bit found
+
+-- the same of a point that has not been asked for
+pub record IsBeside (network : Network) (source : Source) (part : Part) (marks : List Bool) (point : ℕ) (found : Tern) : Type 0 where
+  pub unmarked : slice_get marks point ≡ Some false
+  pub is : IsBitOfPart network source part point found
 
 -- The last point that waits is done, and has what is found of it, or stands for itself.
 pub record IsClosedAs (old new : Search) (point : ℕ) (found : Tern) : Type 0 where

@@ -15,6 +15,12 @@ returns-then-not-is_loose-clause-falls c = falls_refl c.args.board.now c.args.pl
 pub returns-then-not-is_loose-clause-tried : goal.returns-then-not-is_loose-clause-tried
 returns-then-not-is_loose-clause-tried c = λ e. barred_tried c.args.board.now c.args.placement.now.sites.items c.args.item c.args.site (λ loose. false≢true (c.if-not-is_loose.ensures.1 loose))
 
+pub returns-then-not-may_fall-clause-falls : goal.returns-then-not-may_fall-clause-falls
+returns-then-not-may_fall-clause-falls c = falls_refl c.args.board.now c.args.placement.now.sites.items
+
+pub returns-then-not-may_fall-clause-tried : goal.returns-then-not-may_fall-clause-tried
+returns-then-not-may_fall-clause-tried c = λ e may. c.if-not-may_fall.ensures refl
+
 pub returns-clause-falls : goal.returns-clause-falls
 returns-clause-falls c =
     let old = c.args.placement.now in

@@ -1,30 +1,29 @@
 use Rattle.std.proofs.Common.{◌∙◌, sym, arith}
 use Rattle.fab_demand.specs.Search.{asked_of}
 use Rattle.fab_network.specs.Leading.{bits_of_source}
-use Rattle.fab_demand.proofs.Asking.{asks_both, asks_same}
+use Rattle.fab_demand.proofs.Asking.{asks_both}
 use Rattle.fab_demand.proofs.Beside.{tells_later}
 use Rattle.fab_demand.proofs.search.Search.close_part.Goals as goal
 
-pub loop-other-init : goal.loop-other-init
-loop-other-init c = record { searching = λ clock given is. is; more = asks_same (asked_of c.args.self.now); left = omega arith; above = λ t above. above }
+pub close_row-requires-clause-points : goal.close_row-requires-clause-points
+close_row-requires-clause-points c = c.requires.points ∙ sym c.close_waiting.ensures.more.long
 
-pub close_other-requires-clause-points : goal.close_other-requires-clause-points
-close_other-requires-clause-points c = c.requires.points ∙ sym c.loop-other.invariant.more.long
+pub close_row-requires-clause-tells : goal.close_row-requires-clause-tells
+close_row-requires-clause-tells c =
+    tells_later (bits_of_source c.args.network.now.trees.items c.args.source) c.args.part.now (asked_of c.args.self.now) (asked_of c.close_waiting.new.self)
+    c.close_waiting.ensures.more c.close_waiting.ensures.above c.requires.tells
 
-pub close_other-requires-clause-tells : goal.close_other-requires-clause-tells
-close_other-requires-clause-tells c =
-    tells_later (bits_of_source c.args.network.now.trees.items c.args.source) c.args.part.now (asked_of c.args.self.now) (asked_of c.loop-other.self)
-    c.loop-other.invariant.more c.loop-other.invariant.above c.requires.tells
-
-pub close_other-requires-clause-searching : goal.close_other-requires-clause-searching
-close_other-requires-clause-searching c =
+pub close_row-requires-clause-searching : goal.close_row-requires-clause-searching
+close_row-requires-clause-searching c =
     let is = c.requires.searching in
-    (is.0, is.1, c.loop-other.invariant.searching is.0 is.1 is.2)
+    (is.0, is.1, c.close_waiting.ensures.searching is.0 is.1 is.2)
 
-pub loop-other-preserved : goal.loop-other-preserved
-loop-other-preserved c = record {
-  searching = λ clock given searching. c.close_other.ensures.searching clock given (c.loop-other.invariant.searching clock given searching);
-  more = asks_both (asked_of c.args.self.now) (asked_of c.loop-other.self) (asked_of c.close_other.new.self) c.loop-other.invariant.more c.close_other.ensures.more;
-  left = omega (arith, c.close_other.ensures.left, c.loop-other.invariant.left);
-  above = λ t above. c.loop-other.invariant.above t (c.close_other.ensures.above t above);
-}
+pub returns-clause-searching : goal.returns-clause-searching
+returns-clause-searching c clock given searching = c.close_row.ensures.searching clock given (c.close_waiting.ensures.searching clock given searching)
+
+pub returns-clause-more : goal.returns-clause-more
+returns-clause-more c =
+    asks_both (asked_of c.args.self.now) (asked_of c.close_waiting.new.self) (asked_of c.close_row.new.self) c.close_waiting.ensures.more c.close_row.ensures.more
+
+pub returns-clause-left : goal.returns-clause-left
+returns-clause-left c = omega (arith, c.close_waiting.ensures.left, c.close_row.ensures.left)

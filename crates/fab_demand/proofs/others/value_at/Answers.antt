@@ -2,7 +2,7 @@ use Rattle.std.proofs.Common.{◌≡◌, List, Some, slice_get, sym, ap, ◌∙�
 use Rattle.std.proofs.lemmas.Option.{slice_get-get_or}
 use Rattle.fab_network.specs.declared.network.Drive.{Drive}
 use Rattle.fab_network.specs.declared.network.Drive.TheVariants.{Value}
-use Rattle.fab_demand.proofs.others.wide_at.Goals as goal
+use Rattle.fab_demand.proofs.others.value_at.Goals as goal
 
 pub returns-in-Some-Value : goal.returns-in-Some-Value
 returns-in-Some-Value c =
