@@ -1,7 +1,5 @@
-use Rattle.std.proofs.Common.{◌≡◌, ◌+◌, ℕ, List, ap, sym, ◌∙◌, subst, IfSome}
-use Rattle.fab_systems_laws.specs.Ternary.{Tern as PlainTern}
+use Rattle.std.proofs.Common.{◌+◌, ap, sym}
 use Rattle.fab_solutions_laws.specs.fab_ternary_laws_Shown.{first_terns}
-use Rattle.fab_compiled.specs.declared.tree.Tree.{Tree}
 use Rattle.fab_compiled.specs.Terns.{seen}
 use Rattle.fab_compiled.specs.Evaluation.{value_seen}
 use Rattle.fab_compiled.specs.inner.Indices.{IsNumberBelow}
