@@ -184,8 +184,12 @@ eval-returns-in-Open t c =
 pub picked-at-requires-clause-within : goal.picked-at-requires-clause-within
 picked-at-requires-clause-within t c =
     let long = wide_at c.args.view.now.terns.now c.args.view.now.leads.now c.args.first c.args.index.now c.requires.made ∙ c.requires.width in
-    omega (arith, whole_small (seen c.args.view.now.terns.now c.args.view.now.leads.now) (value_seen c.args.view.now.terns.now c.args.view.now.leads.now c.args.first c.args.index.now)
-    c.args.width c.args.table c.in-Some.number long c.in-Some.ensures, c.requires.table)
+    omega (
+      arith,
+      whole_small (seen c.args.view.now.terns.now c.args.view.now.leads.now) (value_seen c.args.view.now.terns.now c.args.view.now.leads.now c.args.first c.args.index.now)
+          c.args.width c.args.table c.in-Some.number long c.in-Some.ensures,
+      c.requires.table,
+    )
 
 pub picked-returns-in-Some : goal.picked-returns-in-Some
 picked-returns-in-Some t c =
