@@ -10,6 +10,7 @@ ghost use Rattle.fab_compiled.specs.Terns.{seen, IsView};
 ghost use Rattle.fab_compiled.specs.Trees.{tree_width, IsMade};
 ghost use Rattle.fab_compiled.specs.Evaluation.{all_known, known_bits, value_seen, operands_same, operands_difference, operands_width, IsWithin};
 
+use crate::indices::known_index;
 use crate::operators::{agreed, both, differs, either, inverse};
 use crate::tree::Tree;
 use crate::view::View;
@@ -36,8 +37,7 @@ pub fn eval(tree: &Tree, bit: u64, first: usize, view: &View) -> Tern
         Tree::Const(bits) => constant_bit(bits, bit),
         Tree::Bits(place, _) => view.at(first + *place as usize + bit as usize),
         Tree::Pick(place, width, index) => {
-            let bits = index_bits(index, *width, first, view);
-            entry(&bits[..*width as usize], first + *place as usize, 1, view)
+            picked(index, *width, first + *place as usize, first, view)
         }
         Tree::Cat(low, width, high) => {
             if bit < *width {
@@ -79,6 +79,29 @@ fn constant_bit(bits: &[bool], bit: u64) -> Tern
     match bits.get(bit as usize) {
         Some(value) => Tern::known(*value),
         None => Tern::No,
+    }
+}
+
+// The entry that an index picks of a table whose entries are points that follow one another, of which the first is given.
+#[cycle(value)]
+fn picked(index: &Tree, width: u32, table: usize, first: usize, view: &View) -> Tern
+    requires made { IsMade index.now }
+    requires view { IsView view.now.terns.now view.now.leads.now }
+    requires few { length view.now.leads.now ≤ 2 ^ 32 }
+    requires begins { first ≤ length view.now.leads.now }
+    requires inside { IsWithin index.now first (length view.now.leads.now) }
+    requires width { tree_width index.now ≡ width }
+    requires small { width ≤ 32 }
+    requires table { table + 2 ^ width ≤ length view.now.leads.now }
+    ensures { plain_tern result ≡ entry_of (first_terns (2 ^ width) (λ k. seen view.now.terns.now view.now.leads.now (table + k)))
+        (value_seen view.now.terns.now view.now.leads.now first index.now) }
+{
+    match known_index(index, 0, first, view) {
+        Some(number) => view.at(table + number as usize),
+        None => {
+            let bits = index_bits(index, width, first, view);
+            entry(&bits[..width as usize], table, 1, view)
+        }
     }
 }
 
