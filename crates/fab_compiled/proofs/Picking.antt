@@ -142,6 +142,12 @@ module _ (terns : List Tern) (leads : List ℕ) (marks : List Bool) (it : Table)
   behind t some =
       length-drop (bit + 1) (index_under t first index) ∙ omega (arith, some, bits, value_length (λ place. t (first + place)) index made)
 
+  -- where all of the index is marked
+  pub marked_picked : AreMarked marks first index → IsPickedAlike terns leads marks it first index bit
+  marked_picked all t u above over agree same =
+      ap₂ (λ es ts. entry es (drop bit ts)) same
+      (tree_same (λ place. IsMarked marks (first + place)) (λ place. t (first + place)) (λ place. u (first + place)) (λ k m. agree (first + k) m) index all)
+
   pub last_picked : it.size ≡ 0 → IsPickedAlike terns leads marks it first index bit
   last_picked none t u above over agree same =
       let end : (s : PointTerns) → drop bit (index_under s first index) ≡ [] =

@@ -124,7 +124,8 @@ fn index_bits(index: &Tree, width: u32, first: usize, view: &View) -> [Tern; MOS
     bits
 }
 
-// The entry at an index of a table whose entries are points, of which the first is given, and how far each is behind the one before it.
+// The entry at an index of a table whose entries are points, of which the first is given, and how far each is behind the one before it. Where nothing is
+// known of one entry that an open bit may pick, the others do not matter.
 pub(crate) fn entry(index: &[Tern], first: usize, stride: usize, view: &View) -> Tern
     requires leads { IsView view.now.terns.now view.now.leads.now }
     requires small { length view.now.leads.now ≤ 2 ^ 32 }
@@ -139,6 +140,9 @@ pub(crate) fn entry(index: &[Tern], first: usize, stride: usize, view: &View) ->
         Tern::Yes => entry(rest, first + stride, 2 * stride, view),
         Tern::Open => {
             let even = entry(rest, first, 2 * stride, view);
+            if even.is_open() {
+                return Tern::Open;
+            }
             agreed(even, entry(rest, first + stride, 2 * stride, view))
         }
     }

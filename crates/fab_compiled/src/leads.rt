@@ -8,7 +8,7 @@ ghost use Rattle.fab_compiled.specs.Leading.{TellsBit, OwnLeads, PointLeads};
 ghost use Rattle.fab_compiled.specs.inner.Picks.{PickLeads};
 
 use crate::evaluation::eval;
-use crate::marking::{unmarked, unmarked_of};
+use crate::marking::{is_marked, unmarked, unmarked_of};
 use crate::picks::{Table, unmarked_index};
 use crate::tree::Tree;
 use crate::view::View;
@@ -78,7 +78,8 @@ fn lead_of(tree: &Tree, bit: u64, first: usize, view: &View, marks: &[bool]) -> 
 }
 
 // Where an entry leads that an index picks. It stands for itself as soon as the table is marked, and all of the index on which it depends as far as
-// the entries are known: an input that the loaded table does not look at is not asked for.
+// the entries are known: an input that the loaded table does not look at is not asked for. The entries are looked at only where some of the index is
+// not marked.
 fn pick_lead(
     place: u32,
     width: u32,
@@ -99,6 +100,9 @@ fn pick_lead(
 {
     if let Some(point) = unmarked_of(first, place as usize, 2usize.pow(width), marks) {
         return Lead::Unmarked(point);
+    }
+    if is_marked(index, first, marks) {
+        return Lead::Own;
     }
     let table = Table {
         first: first + place as usize,

@@ -222,6 +222,15 @@ module _ (trees : List Tree) (leads : List ℕ) (marks : List Bool) (base : List
         | inr n ↦ subst (IsOf k) (sym (get_or-set_other entries place k entry No n)) (before k (omega (arith, l, n)))
       ]
 
+  -- an entry that no values of the inputs pick
+  pub entries_passed : (entries : List Tern) (place : ℕ) (values : Values) → AreDigits place values → ((t : PointTerns) → AreKept t inputs values → ⊥) →
+      ((k : ℕ) → k < place → IsOf k (get_or entries k No)) → (k : ℕ) → k < place + 1 → IsOf k (get_or entries k No)
+  entries_passed entries place values digits none before k l =
+      elim (cases_eq k place) [
+        | inl e ↦ λ now stays at. absurd (none (kept_tern now) (digits_kept inputs (kept_tern now) place values (at ∙ e) digits))
+        | inr n ↦ before k (omega (arith, l, n))
+      ]
+
   -- all entries
   pub table_made : (entries : List Tern) (table : Table) → table.inputs ≡ inputs → table.entries ≡ entries → length entries ≡ 81 →
       ((k : ℕ) → k < 81 → IsOf k (get_or entries k No)) → IsTable trees leads marks base source table
