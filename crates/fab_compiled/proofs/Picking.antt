@@ -223,7 +223,7 @@ module _ (terns : List Tern) (leads : List ℕ) (marks : List Bool) (first place
 
   pub followed_pick : (lead : Lead) → PointLeads leads marks (first + place + number) lead → PickLeads terns leads marks first place width index lead
   followed_pick (Known b) h = absurd h
-  known_pick Own h = absurd h
+  followed_pick Own h = absurd h
   followed_pick (Unmarked point) h = h
   followed_pick (Point lead) h = (
     λ t above follow. entry_is t above ∙ follow (first + place + number) h.0 ∙ ap t (index_is leads (first + place + number) lead h.1),

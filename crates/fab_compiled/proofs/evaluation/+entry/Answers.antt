@@ -49,7 +49,7 @@ returns-then-is_open t c =
     open_half _ _ _ c.in-Some.ensures.cases.0 (seen c.args.view.now.terns.now c.args.view.now.leads.now) c.args.first c.args.stride c.in-Open.is
     (sym c.entry-even.ensures ∙ open_is (plain_tern c.entry-even.result) (tells_open (plain_tern c.entry-even.result) c.is_open.result c.is_open.ensures c.if-is_open.true))
 
-pub returns-in-Open : goal.returns-in-Open
-returns-in-Open t c =
+pub returns-else-is_open : goal.returns-else-is_open
+returns-else-is_open t c =
     c.agreed.ensures ∙ ap₂ agreed c.entry-even.ensures c.entry-in-Open.ensures
     ∙ open_entry _ _ _ c.in-Some.ensures.cases.0 (seen c.args.view.now.terns.now c.args.view.now.leads.now) c.args.first c.args.stride c.in-Open.is

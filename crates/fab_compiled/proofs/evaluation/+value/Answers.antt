@@ -181,6 +181,17 @@ eval-returns-in-Open t c =
 
 -- ---- the entry that an index picks
 
+pub picked-overflow_add-table : goal.picked-overflow_add-table
+picked-overflow_add-table t c =
+    let long = wide_at c.args.view.now.terns.now c.args.view.now.leads.now c.args.first c.args.index.now c.requires.made ∙ c.requires.width in
+    omega (
+      arith,
+      whole_small (seen c.args.view.now.terns.now c.args.view.now.leads.now) (value_seen c.args.view.now.terns.now c.args.view.now.leads.now c.args.first c.args.index.now)
+          c.args.width c.args.table c.in-Some.number long c.in-Some.ensures,
+      c.requires.table,
+      c.requires.few,
+    )
+
 pub picked-at-requires-clause-within : goal.picked-at-requires-clause-within
 picked-at-requires-clause-within t c =
     let long = wide_at c.args.view.now.terns.now c.args.view.now.leads.now c.args.first c.args.index.now c.requires.made ∙ c.requires.width in

@@ -4,7 +4,7 @@ use Rattle.fab_compiled.specs.Terns.{seen}
 use Rattle.fab_compiled.specs.Evaluation.{value_seen}
 use Rattle.fab_compiled.specs.inner.Indices.{IsNumberBelow}
 use Rattle.fab_compiled.proofs.Numbered.{each_some, parts_below, points_below, same_below}
-use Rattle.fab_compiled.proofs.indices.known_index.Goals as goal
+use Rattle.fab_compiled.proofs.indices.+known_index.Goals as goal
 
 pub returns-in-Bits : goal.returns-in-Bits
 returns-in-Bits t c =
@@ -16,13 +16,14 @@ returns-in-Bits t c =
     (points_below at c.args.first c.in-Bits.place c.in-Bits.count c.args.above n below))
     c.known_points.ensures
 
-pub returns-in_ok-upper : goal.returns-in_ok-upper
-returns-in_ok-upper t c =
+pub returns-in_ok-upper-in-Cat : goal.returns-in_ok-upper-in-Cat
+returns-in_ok-upper-in-Cat t c =
     let value = value_seen c.args.view.now.terns.now c.args.view.now.leads.now c.args.first in
     let low = c.in-Cat.low.value in
     let high = c.in-Cat.high.value in
-    each_some c.known_index.result (IsNumberBelow (value c.deref-in_ok-upper.result.now) c.in_ok-upper.upper) (IsNumberBelow (value c.args.tree.now) c.args.above)
-    (λ n below. parts_below (value low) (value high) (value c.args.tree.now) c.args.above c.in_ok-upper.upper n (ap value c.in-Cat.is)
-    (same_below (value c.deref.result.now) (value high) c.args.above c.in_ok-upper.upper (sym (ap value c.deref.ensures)) c.in_ok-upper.ensures)
-    (same_below (value c.deref-in_ok-upper.result.now) (value low) c.in_ok-upper.upper n (sym (ap value c.deref-in_ok-upper.ensures)) below))
-    c.known_index.ensures
+    let upper = c.in_ok-upper-in-Cat.upper in
+    each_some c.known_index-in-Cat.result (IsNumberBelow (value c.deref-in-Cat.result.now) upper) (IsNumberBelow (value c.args.tree.now) c.args.above)
+    (λ n below. parts_below (value low) (value high) (value c.args.tree.now) c.args.above upper n (ap value c.in-Cat.is)
+    (same_below (value c.deref.result.now) (value high) c.args.above upper (sym (ap value c.deref.ensures)) c.in_ok-upper-in-Cat.ensures)
+    (same_below (value c.deref-in-Cat.result.now) (value low) upper n (sym (ap value c.deref-in-Cat.ensures)) below))
+    c.known_index-in-Cat.ensures
