@@ -14,6 +14,10 @@ use crate::tables::{Table, table_of};
 use fab_compiled::{Tree, View};
 use fab_ternary::Tern;
 
+/// The most forms that are kept, each of a hundred bytes. Designs have fewer points that stand for themselves; where a text has more, the rest are
+/// found by their drives.
+const MOST_FORMS: usize = 1 << 18;
+
 /// How a point that stands for itself is found in a run.
 #[derive(Clone, Copy)]
 pub enum Form {
@@ -26,7 +30,7 @@ pub enum Form {
 }
 
 /// The forms of points, in their order. They are right as long as the points that vary are these: those that have been asked for and are open now.
-/// Where memory is refused the rest of the points has none. All points have again what they had before.
+/// Where memory is refused, or they are too many, the rest of the points has none. All points have again what they had before.
 pub fn forms_of(
     network: &Network,
     order: &[u32],
@@ -47,6 +51,9 @@ pub fn forms_of(
 {
     forms.clear();
     for point in order {
+        if forms.len() >= MOST_FORMS {
+            return;
+        }
         let form = form_of(network, *point as usize, leads, marks, terns);
         if !add(forms, form) {
             return;
