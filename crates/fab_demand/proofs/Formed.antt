@@ -1,5 +1,5 @@
 -- Forms of points that stand for themselves.
-use Rattle.std.proofs.Common.{◌≡◌, ℕ, Bool, true, false, List, length, Some, refl, sym, ap, ◌∙◌, subst, inl, inr, arith, slice_index}
+use Rattle.std.proofs.Common.{◌≡◌, ℕ, Bool, List, length, Some, refl, sym, ap, ◌∙◌, subst, inl, inr, arith, slice_index}
 use Rattle.std.proofs.lemmas.Bool.{false≢true}
 use Rattle.fab_systems_laws.specs.Ternary.{unknown}
 use Rattle.fab_ternary.specs.declared.Tern.{Tern}
