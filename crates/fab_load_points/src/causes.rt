@@ -13,7 +13,7 @@ ghost use Rattle.fab_load_points.specs.inner.Causes.{AddsNames, AreReads, IsCaus
 
 use crate::stream::first_point;
 use fab_base::{Memory, Name};
-use fab_equations::{Driver, Equations, Source};
+use fab_equations::{Cursor, Driver, Equations, Source};
 use fab_syntax::Expr;
 use std::alloc::Global;
 
@@ -28,8 +28,13 @@ pub enum Cause {
     Reads(Vec<u32>),
 }
 
-/// What decides the bits of a name, which is given by its first point.
-pub fn cause_of(alloc: Global, equations: &Equations, name: u32) -> Result<Cause, Memory>
+/// What decides the bits of a name, which is given by its first point. It is looked up from where the cursor stands, which then stands there.
+pub fn cause_of(
+    alloc: Global,
+    equations: &Equations,
+    cursor: &mut Cursor,
+    name: u32,
+) -> Result<Cause, Memory>
     requires sound { IsSound (plain_text equations.now) }
     requires within { name < length (points (plain_text equations.now)) }
     ensures within { IfOk result (IsWithin (length (points (plain_text equations.now)))) }
@@ -37,7 +42,7 @@ pub fn cause_of(alloc: Global, equations: &Equations, name: u32) -> Result<Cause
         IsCause (plain_text equations.now) d cause) }
 {
     let mut reads = Vec::new(alloc);
-    match equations.driver(name) {
+    match equations.driver_near(name, cursor) {
         Driver::Outside => Ok(Cause::Input),
         Driver::Flop(_, _) => Ok(Cause::Register),
         Driver::Same(other) => {

@@ -102,6 +102,7 @@ fn begin(alloc: Global, equations: &Equations, flops: &[Flop]) -> Result<Search,
     Ok(Search {
         statuses,
         stack: Vec::new(alloc),
+        cursor: Cursor::new(),
     })
 }
 

@@ -11,7 +11,7 @@ ghost use Rattle.fab_load_points.specs.inner.Search.{Scene, AreBelow, IsSearch, 
 use crate::causes::{Cause, cause_of};
 use crate::stream::Stream;
 use fab_base::Memory;
-use fab_equations::Equations;
+use fab_equations::{Cursor, Equations};
 use std::alloc::Global;
 
 /// What is known of a name.
@@ -42,6 +42,8 @@ pub enum Visit {
 pub struct Search {
     pub statuses: Vec<Status>,
     pub stack: Vec<Visit>,
+    /// Where the name stands that was looked up last: most names are read by one of their own instance.
+    pub cursor: Cursor,
 }
 
 impl Search {
@@ -163,7 +165,7 @@ impl Search {
             IsSearch (plain_text equations.now) scene self.old.statuses.items (Visit.Enter name ∷ reverse self.old.stack.items) →
             IsSearch (plain_text equations.now) scene self.new.statuses.items (reverse self.new.stack.items)) }
     {
-        match cause_of(alloc, equations, name)? {
+        match cause_of(alloc, equations, &mut self.cursor, name)? {
             Cause::Input => self.settle(name, stream.has(name)),
             // The flip-flops that are left are inside from the start.
             Cause::Register => self.settle(name, false),
