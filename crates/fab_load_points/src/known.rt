@@ -4,7 +4,6 @@ ghost use Rattle.std.specs.Prelude.{◌≡◌, ◌<◌, ◌≤◌, ◌+◌, ◌-
 ghost use Rattle.fab_syntax.specs.Plain.{PlainExpr, plain_text};
 ghost use Rattle.fab_syntax.specs.Sound.{IsSound};
 ghost use Rattle.fab_meaning.specs.Points.{Path, Driver as MeantDriver};
-ghost use Rattle.fab_equations.specs.Instances.{instances};
 ghost use Rattle.fab_equations.specs.Equations.{IsSource, Means};
 ghost use Rattle.fab_load_points.specs.inner.Known.{AddsPlaces, AreKnown};
 
@@ -30,31 +29,18 @@ pub struct KnownReads {
     pub places: Vec<u32>,
 }
 
-/// The names that the expressions of a text read. Each module is gone through once, at its first instance.
+/// The names that the expressions of a text read, as far as points are driven by them. Each is gone through once, for the first point that it drives.
 pub fn known_reads(alloc: Global, equations: &Equations) -> Result<KnownReads, Memory>
     requires { IsSound (plain_text equations.now) }
     ensures { IfOk result (AreKnown (plain_text equations.now)) }
 {
     let mut known = KnownReads::new(alloc, equations)?;
-    let mut seen = vec![in alloc; false; equations.instances() as usize]?;
-    for instance in 0..equations.instances() {
-        if sees_first(&mut seen, equations.module_of(instance) as usize) {
-            known.note_instance(alloc, equations, instance)?;
-        }
+    let mut cursor = Cursor::new();
+    for point in 0..equations.points() {
+        let driver = equations.driver_near(point, &mut cursor);
+        known.note_driver(alloc, equations, driver)?;
     }
     Ok(known)
-}
-
-// Whether a module has not been seen yet. From now on it has been, if there is a mark for it.
-fn sees_first(seen: &mut [bool], module: usize) -> bool {
-    match seen.get_mut(module) {
-        Some(mark) => {
-            let first = !*mark;
-            *mark = true;
-            first
-        }
-        None => true,
-    }
 }
 
 impl KnownReads {
@@ -66,27 +52,6 @@ impl KnownReads {
             known: vec![in alloc; None; equations.expressions()]?,
             places: Vec::new(alloc),
         })
-    }
-
-    // Looks up what the expressions read that drive the points of an instance.
-    fn note_instance(
-        &mut self,
-        alloc: Global,
-        equations: &Equations,
-        instance: u32,
-    ) -> Result<(), Memory>
-        requires sound { IsSound (plain_text equations.now) }
-        requires known { AreKnown (plain_text equations.now) self.old }
-        requires instance { instance < length (instances (plain_text equations.now)) }
-        ensures { OnOk result (AreKnown (plain_text equations.now) self.new) }
-    {
-        let mut cursor = Cursor::new();
-        let own = equations.points_of(instance);
-        for point in own.start..own.end {
-            let driver = equations.driver_near(point, &mut cursor);
-            self.note_driver(alloc, equations, driver)?;
-        }
-        Ok(())
     }
 
     // Looks up what the expressions of a driver read.
