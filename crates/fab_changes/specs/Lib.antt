@@ -1,0 +1,2 @@
+pub mod Fanout
+pub mod Changes
