@@ -7,7 +7,7 @@ use Rattle.fab_network.specs.declared.network.Drive.TheVariants.{Given, Flop, Sa
 use Rattle.fab_network.specs.declared.network.Network.{Network}
 use Rattle.fab_network.specs.declared.network.Source.{Source}
 use Rattle.fab_network.specs.Network.{source_tern}
-use Rattle.fab_network.specs.Passes.{kept_tern, IsListed}
+use Rattle.fab_network.specs.Passes.{kept_tern, AreOwn, IsListed}
 use Rattle.fab_demand.specs.Asked.{Asked}
 use Rattle.fab_changes.specs.declared.changes.Changes.{Changes}
 use Rattle.fab_changes.specs.declared.groups.Group.{Group}
@@ -55,6 +55,7 @@ pub record IsGrouped (groups : List Group) (place : ℕ) : Type 0 where
 
 -- Each point takes what is given to it or stands in a group. Groups follow one another, and read what takes what is given or stands before them.
 pub record AreGroups (network : Network) (own leads : List ℕ) (lists : Lists) (taken : List ℕ) (groups : List Group) : Type 0 where
+  pub own : AreOwn own leads
   pub once : IsOnce own
   pub takes : (place : ℕ) → IsListed taken place → (place < length own) × TakesGiven (drive_at network own place)
   pub all : (place : ℕ) → place < length own → IsListed taken place ⊎ IsGrouped groups place

@@ -51,7 +51,7 @@ impl Fanout {
         requires begins { first ≤ length places.now.leads.now }
         requires inside { IsWithin tree.now first (length places.now.leads.now) }
         ensures watched { OnSome result (WatchesTree places.now.own.now places.now.leads.now self.new.readers.items reader first tree.now) }
-        ensures more { ReadsMore self.old.readers.items self.new.readers.items }
+        ensures more { OnSome result (ReadsMore self.old.readers.items self.new.readers.items) }
         ensures stale { self.new.stale.items ≡ self.old.stale.items }
     {
         self.room = self.room.checked_sub(1)?;
@@ -96,7 +96,7 @@ impl Fanout {
         requires within { first + (place + count) ≤ length places.now.leads.now }
         ensures watched { OnSome result ((k : ℕ) → k < count →
             IsWatched places.now.own.now places.now.leads.now self.new.readers.items reader (first + (place + k))) }
-        ensures more { ReadsMore self.old.readers.items self.new.readers.items }
+        ensures more { OnSome result (ReadsMore self.old.readers.items self.new.readers.items) }
         ensures stale { self.new.stale.items ≡ self.old.stale.items }
     {
         self.room = self.room.checked_sub(count)?;
@@ -106,23 +106,19 @@ impl Fanout {
         Some(())
     }
 
-    // A reader reads the point to which a point is led, if that one stands for itself. It is not noted twice in a row.
+    // A reader reads the point to which a point is led, if that one stands for itself.
     fn note_point(&mut self, places: &Places, point: usize, reader: u32) -> Option<()>
         requires places { ArePlaces places.now }
         requires within { point < length places.now.leads.now }
         ensures watched { OnSome result
             (IsWatched places.now.own.now places.now.leads.now self.new.readers.items reader point) }
-        ensures more { ReadsMore self.old.readers.items self.new.readers.items }
+        ensures more { OnSome result (ReadsMore self.old.readers.items self.new.readers.items) }
         ensures stale { self.new.stale.items ≡ self.old.stale.items }
     {
-        let Some(place) = places.of_lead(point) else {
-            return Some(());
-        };
-        let readers = self.readers.get_mut(place as usize)?;
-        if readers.last().copied() == Some(reader) {
-            return Some(());
+        match places.of_lead(point) {
+            Some(place) => put(&mut self.readers, place as usize, reader),
+            None => Some(()),
         }
-        readers.push(reader).ok()
     }
 
     /// Whether a reader is stale.
@@ -153,9 +149,24 @@ impl Fanout {
             return;
         };
         for reader in readers {
-            if let Some(stale) = self.stale.get_mut(*reader as usize) {
-                *stale = true;
+            let reader = *reader as usize;
+            if reader < self.stale.len() {
+                self.stale[reader] = true;
             }
         }
     }
+}
+
+// Puts a reader at the end of the list of a place, unless it stands there.
+fn put(lists: &mut Vec<Vec<u32>>, place: usize, reader: u32) -> Option<()>
+    ensures reads { OnSome result (IsReader lists.new.items place reader) }
+    ensures more { OnSome result (ReadsMore lists.old.items lists.new.items) }
+{
+    if place >= lists.len() {
+        return None;
+    }
+    if lists[place].last().copied() == Some(reader) {
+        return Some(());
+    }
+    lists[place].push(reader).ok()
 }

@@ -1,0 +1,6 @@
+mod Lists
+mod Touching
+mod Grouping
+mod Reading
+mod Looking
+mod Settled

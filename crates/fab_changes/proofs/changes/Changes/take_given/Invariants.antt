@@ -1,0 +1,12 @@
+use Rattle.fab_changes.specs.Fanout.{HasTouched}
+use Rattle.fab_changes.specs.inner.Looking.{AreSameGroups, HaveTaken}
+use Rattle.fab_changes.proofs.changes.Changes.take_given.Given as goal
+
+-- the inputs and flip-flops so far have what is given to them
+abbrev pub invariant-loop-place : goal.invariant-loop-place
+invariant-loop-place l = record {
+  same : AreSameGroups l.fn.self l.self;
+  taken : HaveTaken l.fn.self.taken.items l.place-index l.given l.fn.demand l.demand;
+  fanout : HasTouched l.fn.demand.own l.fn.demand.terns l.demand.terns l.fn.self.fanout l.self.fanout;
+  watches : HasTouched l.fn.demand.own l.fn.demand.terns l.demand.terns l.fn.watches l.watches;
+}
