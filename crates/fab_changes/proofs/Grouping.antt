@@ -135,7 +135,7 @@ module _ (network : Network) (own : List ℕ) (count : ℕ) (source : Source) (g
 
   module _ (now : List Group) (longer : IsLonger count source groups now) where
     abbrev wide : Group
-    wide = record longer.group { end = count + 1 }
+    wide = record (longer.group) { end = count + 1 }
 
     abbrev set : List Group
     set = slice_set groups longer.last wide

@@ -1,6 +1,8 @@
 mod Lists
 mod Touching
+mod Noting
 mod Grouping
 mod Reading
 mod Looking
 mod Settled
+mod Making

@@ -1,5 +1,8 @@
 -- Lists that grow at their end, by their indices.
-use Rattle.std.proofs.Common.{◌≡◌, ◌⊎◌, ℕ, zero, suc, ◌+◌, ◌<◌, List, [], ◌∷◌, ◌++◌, Some, length, refl, sym, ap, ◌∙◌, inl, inr, arith, slice_get, slice_index}
+use Rattle.std.proofs.Common.{◌≡◌, ◌⊎◌, ℕ, zero, suc, ◌+◌, ◌<◌, List, [], ◌∷◌, ◌++◌, Some, length, refl, sym, ap, ◌∙◌, inl, inr, arith, slice_get, slice_index, slice_index_or}
+use Rattle.fab_ternary.specs.declared.Tern.{Tern}
+use Rattle.fab_ternary.specs.Terns.{plain_tern}
+use Rattle.fab_network.specs.Passes.{kept_tern}
 
 pub get_left : {X : Type 0} (xs ys : List X) (k : ℕ) (x : X) → slice_get xs k ≡ Some x → slice_get (xs ++ ys) k ≡ Some x
 get_left [] ys k x e = cc
@@ -21,3 +24,8 @@ pub index_there : (xs : List ℕ) (k : ℕ) → k < length xs → slice_get xs k
 index_there [] k l = absurd (omega arith)
 index_there (x ∷ xs) zero l = refl
 index_there (x ∷ xs) (suc k) l = index_there xs k (omega arith)
+
+pub kept_read : (terns : List Tern) (k : ℕ) (d : Tern) → k < length terns → plain_tern (slice_index_or terns k d) ≡ kept_tern terns k
+kept_read [] k d l = absurd (omega arith)
+kept_read (t ∷ terns) zero d l = refl
+kept_read (t ∷ terns) (suc k) d l = kept_read terns k d (omega arith)

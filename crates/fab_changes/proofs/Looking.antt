@@ -1,7 +1,8 @@
 -- What a look at a group leaves right.
-use Rattle.std.proofs.Common.{◌≡◌, ◌≢◌, ◌⊎◌, ℕ, zero, suc, ◌+◌, ◌-◌, ◌<◌, ◌≤◌, Bool, false, List, Option, Some, length, refl, sym, ap, ◌∙◌, subst, inl, inr, arith}
+use Rattle.std.proofs.Common.{◌≡◌, ◌≢◌, ◌⊎◌, ℕ, zero, suc, ◌+◌, ◌-◌, ◌<◌, ◌≤◌, Bool, true, false, List, Option, Some, length, refl, sym, ap, ◌∙◌, subst, inl, inr, arith}
 use Rattle.std.proofs.Common.{slice_get, slice_index, slice_set}
 use Rattle.std.proofs.lemmas.Bool.{cases_eq, cases_lt}
+use Rattle.std.proofs.lemmas.List.{length-set}
 use Rattle.fab_systems_laws.specs.Ternary.{Tern as PlainTern}
 use Rattle.fab_ternary.specs.declared.Tern.{Tern}
 use Rattle.fab_ternary.specs.Terns.{plain_tern}
@@ -18,7 +19,7 @@ use Rattle.fab_demand.proofs.Lists.{get_other}
 use Rattle.fab_changes.specs.declared.changes.Changes.{Changes}
 use Rattle.fab_changes.specs.declared.fanout.Fanout.{Fanout}
 use Rattle.fab_changes.specs.declared.groups.Group.{Group}
-use Rattle.fab_changes.specs.Changes.{drive_at, AreGroups, IsBitOf, IsGroup, IsInGroup, IsRightGroup, TakesGiven}
+use Rattle.fab_changes.specs.Changes.{drive_at, takes_given, AreGroups, IsBitOf, IsGroup, IsInGroup, IsRightGroup, TakesGiven}
 use Rattle.fab_changes.specs.Fanout.{HasReader, HasTouched, IsFresh, IsReader, Lists}
 use Rattle.fab_changes.specs.inner.Looking.{AreFound, AreRightFrom, AreSameGroups, AreSamePoints, HasTaken, HasTakenGroup, HasWritten, HaveTaken}
 use Rattle.fab_changes.proofs.Reading.{drive_before, right_at, right_stays, source_stays}
@@ -36,9 +37,28 @@ points_then old mid new one two = record {
   long = two.long ∙ one.long;
 }
 
+-- a point is set
+pub taken_set : (old new : Asked) (point : ℕ) (tern : Tern) → point < length old.terns → new ≡ record old { terns = slice_set old.terns point tern } →
+    HasTaken point (plain_tern tern) old new
+taken_set old new point tern l e =
+    subst (HasTaken point (plain_tern tern) old) (sym e)
+    (record {
+      points = record { leads = refl; marks = refl; own = refl; long = length-set old.terns point tern };
+      value = kept_same old.terns point tern l;
+      others = λ other n. kept_other old.terns point tern other n;
+    })
+
+-- a point has the value already
+pub taken_same : (asked : Asked) (point : ℕ) (value : PlainTern) → kept_tern asked.terns point ≡ value → HasTaken point value asked asked
+taken_same asked point value is = record { points = points_same asked; value = is; others = λ other n. refl }
+
+pub taken_by : (point other : ℕ) (value found : PlainTern) (old new : Asked) → point ≡ other → value ≡ found → HasTaken point value old new → HasTaken other found old new
+taken_by point other value found old new e f taken =
+    subst (λ (n : ℕ). HasTaken n found old new) e (subst (λ (x : PlainTern). HasTaken point x old new) f taken)
+
 -- a value does not take what is given to it
 pub not_both : (drive : Option Drive) (source : Source) → drive ≡ Some (Value source) → TakesGiven drive → ⊥
-not_both drive source is takes = subst TakesGiven is takes
+not_both drive source is takes = let both : true ≡ false = sym takes ∙ ap takes_given is in cc
 
 -- ---- one value after another
 

@@ -19,17 +19,21 @@ use Rattle.fab_network.specs.Network.{drive_tern, source_tern, AreFit, IsFitSour
 use Rattle.fab_network.specs.Passes.{kept_tern, shows, AreLed, AreSolved, IsListed, StaysBelow}
 use Rattle.fab_network.proofs.Kept.{kept_other}
 use Rattle.fab_network.proofs.Sources.{source_grows}
-use Rattle.fab_demand.specs.Asked.{Asked}
+use Rattle.fab_demand.specs.Asked.{Asked, DiffersInOwn}
+use Rattle.fab_demand.specs.Demand.{ShowsLeast}
 use Rattle.fab_demand.specs.inner.Cycles.{start_tern, IsSettled}
 use Rattle.fab_demand.proofs.Lists.{listed_or_not}
+use Rattle.fab_demand.proofs.Settling.{cycle_shows, differs_after, settled_of}
 use Rattle.fab_changes.specs.declared.groups.Group.{Group}
 use Rattle.fab_changes.specs.Changes.{drive_at, AreGroups, IsGrouped, IsInGroup, IsRightGroup, TakesGiven}
 use Rattle.fab_changes.specs.Fanout.{IsReader, IsWatched, Lists}
+use Rattle.fab_changes.specs.inner.Looking.{AreSamePoints, HasWritten, HaveTaken}
+use Rattle.fab_changes.proofs.Looking.{groups_by, not_both, points_then}
 use Rattle.fab_changes.proofs.Reading.{same_source, source_kept}
 
 -- ---- values are opened
 
-open_at : Option Drive → ℕ → List Tern → List Tern
+abbrev open_at : Option Drive → ℕ → List Tern → List Tern
 open_at None q terns = terns
 open_at (Some Given) q terns = terns
 open_at (Some (Flop clock next)) q terns = terns
@@ -38,7 +42,7 @@ open_at (Some (Value source)) q terns = slice_set terns q Open
 open_at (Some (Hold gate latched)) q terns = terns
 
 -- what is kept, but nothing for those of these points that are values
-opened : List Drive → List ℕ → List Tern → List Tern
+abbrev opened : List Drive → List ℕ → List Tern → List Tern
 opened drives [] terns = terns
 opened drives (q ∷ own) terns = open_at (slice_get drives q) q (opened drives own terns)
 
@@ -71,12 +75,12 @@ open_other (Some (Value source)) q terns point n = kept_other terns q Open point
 open_other (Some (Hold gate latched)) q terns point n = refl
 
 open_taken : (drive : Option Drive) (q : ℕ) (terns : List Tern) (point : ℕ) → TakesGiven drive → kept_tern (open_at drive q terns) point ≡ kept_tern terns point
-open_taken None q terns point takes = absurd takes
+open_taken None q terns point takes = cc
 open_taken (Some Given) q terns point takes = refl
 open_taken (Some (Flop clock next)) q terns point takes = refl
-open_taken (Some (Same other)) q terns point takes = absurd takes
-open_taken (Some (Value source)) q terns point takes = absurd takes
-open_taken (Some (Hold gate latched)) q terns point takes = absurd takes
+open_taken (Some (Same other)) q terns point takes = cc
+open_taken (Some (Value source)) q terns point takes = cc
+open_taken (Some (Hold gate latched)) q terns point takes = cc
 
 module _ (drives : List Drive) (terns : List Tern) where
   opened_value : (own : List ℕ) (source : Source) (point : ℕ) → IsListed own point → slice_get drives point ≡ Some (Value source) →
@@ -104,7 +108,7 @@ module _ (drives : List Drive) (terns : List Tern) where
 
 -- ---- the greatest value below two
 
-meet : PlainTern → PlainTern → PlainTern
+abbrev meet : PlainTern → PlainTern → PlainTern
 meet no no = no
 meet no yes = unknown
 meet no unknown = unknown
@@ -132,7 +136,7 @@ meet_is yes unknown below = below
 meet_is unknown y below = refl
 
 -- one of two values
-either_of : {A : Type 0} {B : Type 0} → A ⊎ B → PlainTern → PlainTern → PlainTern
+abbrev either_of : {A : Type 0} {B : Type 0} → A ⊎ B → PlainTern → PlainTern → PlainTern
 either_of (inl a) x y = x
 either_of (inr b) x y = y
 
@@ -162,21 +166,21 @@ source_below trees count Has v t source tree fit there reads below =
 -- ---- what points start with
 
 start_taken : (held : PlainTern) (drive : Option Drive) → TakesGiven drive → start_tern held drive ≡ held
-start_taken held None takes = absurd takes
+start_taken held None takes = cc
 start_taken held (Some Given) takes = refl
 start_taken held (Some (Flop clock next)) takes = refl
-start_taken held (Some (Same other)) takes = absurd takes
-start_taken held (Some (Value source)) takes = absurd takes
-start_taken held (Some (Hold gate latched)) takes = absurd takes
+start_taken held (Some (Same other)) takes = cc
+start_taken held (Some (Value source)) takes = cc
+start_taken held (Some (Hold gate latched)) takes = cc
 
 shown_taken : (trees : List Tree) (held : PlainTern) (t : PointTerns) (point : ℕ) (drive : Option Drive) → TakesGiven drive →
     t point ≡ drive_tern trees held t point drive
-shown_taken trees held t point None takes = absurd takes
+shown_taken trees held t point None takes = cc
 shown_taken trees held t point (Some Given) takes = refl
 shown_taken trees held t point (Some (Flop clock next)) takes = refl
-shown_taken trees held t point (Some (Same other)) takes = absurd takes
-shown_taken trees held t point (Some (Value source)) takes = absurd takes
-shown_taken trees held t point (Some (Hold gate latched)) takes = absurd takes
+shown_taken trees held t point (Some (Same other)) takes = cc
+shown_taken trees held t point (Some (Value source)) takes = cc
+shown_taken trees held t point (Some (Hold gate latched)) takes = cc
 
 -- ---- all groups are right
 
@@ -327,3 +331,56 @@ module _ (network : Network) (asked : Asked) (given old : List Tern) (lists : Li
     kept_first = λ point none. opened_other network.drives.items asked.terns asked.own point none ∙ others point none;
     kept_then = λ point none. sym (opened_other network.drives.items asked.terns asked.own point none);
   }
+
+-- ---- a cycle
+
+module _ (network : Network) (old mid new : Asked) (given : List Tern) (lists : Lists) (taken : List ℕ) (groups : List Group)
+    (fit : AreFit network.trees.items network.drives.items) (points : length network.drives.items ≡ length old.leads)
+    (are : AreGroups network old.own old.leads lists taken groups) (have : HaveTaken taken (length taken) given old mid) (wrote : HasWritten network mid new)
+    (right : (number : ℕ) (group : Group) → slice_get groups number ≡ Some group → IsRightGroup network new group) where
+  pub cycle_points : AreSamePoints old new
+  cycle_points = points_then old mid new have.points wrote.points
+
+  -- all that holds of the points that stand for themselves, over an equal list of them
+  over_own : (P : List ℕ → Type 0) → P old.own → P new.own
+  over_own P is = subst P (sym cycle_points.own) is
+
+  stays_written : (point : ℕ) → ((place : ℕ) → place < length old.own → slice_index old.own place ≡ point → TakesGiven (drive_at network old.own place)) →
+      kept_tern new.terns point ≡ kept_tern mid.terns point
+  stays_written point each =
+      wrote.others point
+      (subst (λ (own : List ℕ). (place : ℕ) → place < length own → slice_index own place ≡ point → TakesGiven (drive_at network own place)) (sym have.points.own) each)
+
+  has_given : (place : ℕ) → place < length old.own → TakesGiven (drive_at network old.own place) →
+      kept_tern new.terns (slice_index old.own place) ≡ kept_tern given (slice_index old.own place)
+  has_given place l is =
+      let point = slice_index old.own place in
+      stays_written point (λ other m e. subst (λ (n : ℕ). TakesGiven (slice_get network.drives.items n)) (sym e) is)
+      ∙ elim (are.all place l) [
+        | inl (k, m, at) ↦ subst (λ (n : ℕ). kept_tern mid.terns (slice_index old.own n) ≡ kept_tern given (slice_index old.own n)) at (have.values k m)
+        | inr grouped ↦ (let bit = (are.each grouped.number grouped.group grouped.there).bits place grouped.inside in
+            absurd (not_both (drive_at network old.own place) bit.source bit.drive is))
+      ]
+
+  has_stayed : (point : ℕ) → (IsListed old.own point → ⊥) → kept_tern new.terns point ≡ kept_tern old.terns point
+  has_stayed point none =
+      stays_written point (λ place l e. absurd (none (place, l, e)))
+      ∙ have.others point (λ k l e. none (slice_index taken k, (are.takes (slice_index taken k) (k, l, refl)).0, e))
+
+  abbrev cycle_settled : IsSettled network given new.own new.leads old.terns new.terns
+  cycle_settled =
+      settled network new given old.terns lists taken groups fit (points ∙ ap length (sym cycle_points.leads))
+      (groups_by network old.own new.own old.leads new.leads lists lists taken taken groups groups cycle_points.own cycle_points.leads refl refl refl are) right
+      (over_own (λ own. (place : ℕ) → place < length own → TakesGiven (drive_at network own place) →
+      kept_tern new.terns (slice_index own place) ≡ kept_tern given (slice_index own place)) has_given)
+      (over_own (λ own. (point : ℕ) → (IsListed own point → ⊥) → kept_tern new.terns point ≡ kept_tern old.terns point) has_stayed)
+
+  pub cycle_is : IsSettled network given old.own old.leads old.terns new.terns
+  cycle_is =
+      settled_of network given new.own old.own new.leads old.leads old.terns old.terns new.terns new.terns cycle_points.own cycle_points.leads refl refl cycle_settled
+
+  pub changed_shows : ShowsLeast network given old new
+  changed_shows = cycle_shows network given old new fit points cycle_points.leads cycle_points.marks cycle_points.own cycle_is
+
+  pub changed_stays : (asked : Asked) → DiffersInOwn asked old → DiffersInOwn asked new
+  changed_stays asked before = differs_after network given old new fit points cycle_points.leads cycle_points.marks cycle_points.own cycle_is asked before

@@ -1,9 +1,9 @@
 //! Groups of points that are looked at together.
 
-ghost use Rattle.std.specs.Prelude.{◌≡◌, ◌+◌, ◌<◌, ◌≤◌, ℕ, true, length, slice_get, IfSome, MatchBool, OnSome, Some};
+ghost use Rattle.std.specs.Prelude.{◌≡◌, ◌+◌, ◌<◌, ◌≤◌, ℕ, true, length, slice_get, IfSome, OnSome, Some};
 ghost use Rattle.fab_network.specs.Network.{AreFit};
 ghost use Rattle.fab_changes.specs.declared.groups.Group.{Group};
-ghost use Rattle.fab_changes.specs.Changes.{TakesGiven};
+ghost use Rattle.fab_changes.specs.Changes.{takes_given};
 ghost use Rattle.fab_changes.specs.Fanout.{ArePlaces};
 ghost use Rattle.fab_changes.specs.inner.Grouping.{AreBitGroups, AreTaken, AreWatched, BeginBehind, HasBit, IsFanoutOf, IsNext, IsOrderedAt};
 
@@ -45,7 +45,7 @@ pub(crate) fn taken_of(alloc: Global, network: &Network, own: &[u32]) -> Option<
 
 // Whether a point takes what is given to it.
 fn is_taken(network: &Network, point: usize) -> bool
-    ensures { MatchBool result (TakesGiven (slice_get network.now.drives.items point)) (TakesGiven (slice_get network.now.drives.items point) → ⊥) }
+    ensures { result ≡ takes_given (slice_get network.now.drives.items point) }
 {
     matches!(
         network.drives.get(point),

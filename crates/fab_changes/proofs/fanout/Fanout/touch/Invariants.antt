@@ -1,4 +1,4 @@
-use Rattle.std.proofs.Common.{◌≡◌, ℕ, ◌<◌, ⊥, length, slice_index}
+use Rattle.std.proofs.Common.{◌≡◌, ℕ, ◌<◌, length, slice_index}
 use Rattle.fab_changes.specs.Fanout.{IsFresh}
 use Rattle.fab_changes.proofs.fanout.Fanout.touch.Given as goal
 
