@@ -102,7 +102,7 @@ module _ (network : Network) (own : List ℕ) (count : ℕ) (source : Source) (g
   in_one : (place : ℕ) → place ≡ count → IsGrouped more place
   in_one place e = record { number = length groups; group = one; there = get_last groups one; inside = record { low = omega (arith, e); below = omega (arith, e) } }
 
-  pub groups_begun : AreBitGroups network own (count + 1) more
+  groups_begun : AreBitGroups network own (count + 1) more
   groups_begun = record {
     all = λ place l. elim (cases_eq place count) [
       | inl e ↦ inr (in_one place e)
@@ -218,7 +218,7 @@ module _ (network : Network) (own : List ℕ) (count : ℕ) (source : Source) (g
       ];
     }
 
-    pub groups_longer : AreBitGroups network own (count + 1) now
+    groups_longer : AreBitGroups network own (count + 1) now
     groups_longer = subst (AreBitGroups network own (count + 1)) (sym longer.is) set_longer
 
   pub groups_more : (now : List Group) → HasBit count source groups now → AreBitGroups network own (count + 1) now

@@ -39,7 +39,7 @@ module _ (network : Network) (old new : Asked) (lists : Lists) (number : ℕ) (g
   abbrev pub StaysRead : Type 0
   StaysRead = (point : ℕ) → HasReader old.own lists number point → kept_tern new.terns point ≡ kept_tern old.terns point
 
-  drive_before : (place : ℕ) (source : Source) → drive_at network new.own place ≡ Some (Value source) → drive_at network old.own place ≡ Some (Value source)
+  pub drive_before : (place : ℕ) (source : Source) → drive_at network new.own place ≡ Some (Value source) → drive_at network old.own place ≡ Some (Value source)
   drive_before place source drive = ap (λ (own : List ℕ). drive_at network own place) (sym points.own) ∙ drive
 
   -- a bit of the expression has what it had

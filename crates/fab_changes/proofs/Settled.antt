@@ -128,11 +128,11 @@ meet_below unknown y = tt
 
 meet_is : (x y : PlainTern) → IsBelow x y → x ≡ meet x y
 meet_is no no below = refl
-meet_is no yes below = below
-meet_is no unknown below = below
-meet_is yes no below = below
+meet_is no yes below = cc
+meet_is no unknown below = cc
+meet_is yes no below = cc
 meet_is yes yes below = refl
-meet_is yes unknown below = below
+meet_is yes unknown below = cc
 meet_is unknown y below = refl
 
 -- one of two values
@@ -230,17 +230,20 @@ module _ (network : Network) (asked : Asked) (given old : List Tern) (lists : Li
             ∙ sym (ap (start_tern (kept_tern given (own_at place))) value.drive)
       ]
 
+  own_rising : (place : ℕ) → place < length asked.own → IsBelow (kept_tern started (own_at place)) (kept_tern asked.terns (own_at place))
+  own_rising place l =
+      elim (which place l) [
+        | inl is ↦ below_equal (kept_tern started (own_at place)) (kept_tern asked.terns (own_at place))
+            (opened_taken network.drives.items asked.terns asked.own (own_at place) is)
+        | inr value ↦ subst (λ (x : PlainTern). IsBelow x (kept_tern asked.terns (own_at place)))
+            (sym (opened_value network.drives.items asked.terns asked.own value.source (own_at place) (place, l, refl) value.drive)) tt
+      ]
+
   rising_at : (point : ℕ) → IsBelow (kept_tern started point) (kept_tern asked.terns point)
   rising_at point =
       elim (listed_or_not asked.own point) [
+        | inl at ↦ subst (λ (n : ℕ). IsBelow (kept_tern started n) (kept_tern asked.terns n)) at.2 (own_rising at.0 at.1)
         | inr none ↦ below_equal (kept_tern started point) (kept_tern asked.terns point) (opened_other network.drives.items asked.terns asked.own point none)
-        | inl (place, l, is) ↦ subst (λ (n : ℕ). IsBelow (kept_tern started n) (kept_tern asked.terns n)) is
-            (elim (which place l) [
-              | inl takes_it ↦ below_equal (kept_tern started (own_at place)) (kept_tern asked.terns (own_at place))
-                  (opened_taken network.drives.items asked.terns asked.own (own_at place) takes_it)
-              | inr value ↦ subst (λ (x : PlainTern). IsBelow x (kept_tern asked.terns (own_at place)))
-                  (sym (opened_value network.drives.items asked.terns asked.own value.source (own_at place) (place, l, refl) value.drive)) tt
-            ])
       ]
 
   solved_at : (place : ℕ) → place < length asked.own →
@@ -270,19 +273,22 @@ module _ (network : Network) (asked : Asked) (given old : List Tern) (lists : Li
       abbrev group : Group
       group = value.grouped.group
 
+      lead_below : (other : ℕ) → other < length asked.own → IsReader lists other value.grouped.number → IsBelowAt other
+      lead_below other m reads =
+          elim (are.ordered value.grouped.number group value.grouped.there other m reads) [
+            | inl is ↦ taken_below other m is
+            | inr early ↦ before other (omega (arith, early, value.grouped.inside.low)) m
+          ]
+
       read_below : (point : ℕ) → IsWatched asked.own asked.leads lists value.grouped.number point → point < length network.drives.items →
           IsBelow (seen asked.terns asked.leads point) (t point)
       read_below point watched inside =
           let within : point < length asked.leads = omega (arith, inside, points) in
           let lead = slice_index asked.leads point in
           elim (listed_or_not asked.own lead) [
+            | inl at ↦ subst (λ (x : PlainTern). IsBelow (kept_tern asked.terns lead) x) (sym (led point within))
+                (subst (λ (n : ℕ). IsBelow (kept_tern asked.terns n) (t n)) at.2 (lead_below at.0 at.1 (watched at.0 at.1 at.2)))
             | inr none ↦ subst (λ (x : PlainTern). IsBelow x (t point)) (opened_other network.drives.items asked.terns asked.own lead none) (above point within)
-            | inl (other, m, is) ↦ subst (λ (x : PlainTern). IsBelow (kept_tern asked.terns lead) x) (sym (led point within))
-                (subst (λ (n : ℕ). IsBelow (kept_tern asked.terns n) (t n)) is
-                (elim (are.ordered value.grouped.number group value.grouped.there other m (watched other m is)) [
-                  | inl takes_it ↦ taken_below other m takes_it
-                  | inr early ↦ before other (omega (arith, early, value.grouped.inside.low)) m
-                ]))
           ]
 
       value_below : IsBelowAt place
@@ -312,13 +318,13 @@ module _ (network : Network) (asked : Asked) (given old : List Tern) (lists : Li
           | inr value ↦ value_below place m value (λ earlier early. below_all count earlier (omega (arith, early, l)))
         ]
 
-    pub below_point : (point : ℕ) → point < length asked.leads → IsBelow (seen asked.terns asked.leads point) (t point)
+    below_point : (point : ℕ) → point < length asked.leads → IsBelow (seen asked.terns asked.leads point) (t point)
     below_point point within =
         let lead = slice_index asked.leads point in
         elim (listed_or_not asked.own lead) [
+          | inl at ↦ subst (λ (x : PlainTern). IsBelow (kept_tern asked.terns lead) x) (sym (led point within))
+              (subst (λ (n : ℕ). IsBelow (kept_tern asked.terns n) (t n)) at.2 (below_all (length asked.own) at.0 at.1 at.1))
           | inr none ↦ subst (λ (x : PlainTern). IsBelow x (t point)) (opened_other network.drives.items asked.terns asked.own lead none) (above point within)
-          | inl (place, l, is) ↦ subst (λ (x : PlainTern). IsBelow (kept_tern asked.terns lead) x) (sym (led point within))
-              (subst (λ (n : ℕ). IsBelow (kept_tern asked.terns n) (t n)) is (below_all (length asked.own) place l l))
         ]
 
   pub settled : IsSettled network given asked.own asked.leads old asked.terns
@@ -357,7 +363,7 @@ module _ (network : Network) (old mid new : Asked) (given : List Tern) (lists : 
       let point = slice_index old.own place in
       stays_written point (λ other m e. subst (λ (n : ℕ). TakesGiven (slice_get network.drives.items n)) (sym e) is)
       ∙ elim (are.all place l) [
-        | inl (k, m, at) ↦ subst (λ (n : ℕ). kept_tern mid.terns (slice_index old.own n) ≡ kept_tern given (slice_index old.own n)) at (have.values k m)
+        | inl at ↦ subst (λ (n : ℕ). kept_tern mid.terns (slice_index old.own n) ≡ kept_tern given (slice_index old.own n)) at.2 (have.values at.0 at.1)
         | inr grouped ↦ (let bit = (are.each grouped.number grouped.group grouped.there).bits place grouped.inside in
             absurd (not_both (drive_at network old.own place) bit.source bit.drive is))
       ]
