@@ -1,8 +1,9 @@
 mod Lists
+mod Options
 mod Touching
 mod Noting
 mod Grouping
 mod Reading
-mod Looking
+mod Right
 mod Settled
 mod Making

@@ -20,7 +20,7 @@ use Rattle.fab_changes.specs.Changes.{drive_at, AreChangesOf, AreGroups, IsGroup
 use Rattle.fab_changes.specs.Fanout.{ArePlaces, IsFresh, IsOnce, IsReader, IsWatched, Lists, ReadsMore, WatchesTree}
 use Rattle.fab_changes.specs.inner.Grouping.{AreBitGroups, AreTaken, AreWatched, BeginBehind, IsFanoutOf, IsOrderedAt}
 use Rattle.fab_changes.specs.inner.Looking.{HasRoom}
-use Rattle.fab_changes.proofs.Looking.{groups_by}
+use Rattle.fab_changes.proofs.Right.{groups_by}
 use Rattle.fab_changes.proofs.Noting.{tree_more}
 
 -- ---- places
@@ -102,7 +102,7 @@ changes_made network own leads changes are_own once taken bits fanout room order
   groups = groups_by network own asked.own leads asked.leads changes.fanout.readers.items changes.fanout.readers.items changes.taken.items changes.taken.items
       changes.groups.items changes.groups.items same_own same_leads refl refl refl
       (record {
-        own = are_own;
+        unled = are_own;
         once = once;
         takes = taken.takes;
         all = λ place l. elim (bits.all place l) [ inl takes ↦ inl (taken.all place l takes) | inr grouped ↦ inr grouped ];

@@ -67,7 +67,7 @@ watched_more own leads old new reader point more watched place l is = more place
 module _ (One Other : ℕ → Type 0) (turn : (k : ℕ) → One k → Other k) where
   pub each_turned : (tree : Tree) → EachPlace One tree → EachPlace Other tree
   each_turned (Const bits) each = tt
-  each_turned (Bits first count) each k l = turn (first + k) (each k l)
+  each_turned (Bits first count) each = λ k l. turn (first + k) (each k l)
   each_turned (Pick' first width p index) each = (λ k l. turn (first + k) (each.0 k l), each_turned index each.1)
   each_turned (Cat' p low width q high) each = (each_turned low each.0, each_turned high each.1)
   each_turned (Not' p e) each = each_turned e each

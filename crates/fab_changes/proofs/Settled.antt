@@ -28,7 +28,7 @@ use Rattle.fab_changes.specs.declared.groups.Group.{Group}
 use Rattle.fab_changes.specs.Changes.{drive_at, AreGroups, IsGrouped, IsInGroup, IsRightGroup, TakesGiven}
 use Rattle.fab_changes.specs.Fanout.{IsReader, IsWatched, Lists}
 use Rattle.fab_changes.specs.inner.Looking.{AreSamePoints, HasWritten, HaveTaken}
-use Rattle.fab_changes.proofs.Looking.{groups_by, not_both, points_then}
+use Rattle.fab_changes.proofs.Right.{groups_by, not_both, points_then}
 use Rattle.fab_changes.proofs.Reading.{same_source, source_kept}
 
 -- ---- values are opened
@@ -218,7 +218,7 @@ module _ (network : Network) (asked : Asked) (given old : List Tern) (lists : Li
       ]
 
   seen_own : (terns : List Tern) (place : ℕ) → place < length asked.own → seen terns asked.leads (own_at place) ≡ kept_tern terns (own_at place)
-  seen_own terns place l = ap (kept_tern terns) (are.own place l).1
+  seen_own terns place l = ap (kept_tern terns) (are.unled place l).1
 
   starts_at : (place : ℕ) → place < length asked.own →
       kept_tern started (own_at place) ≡ start_tern (kept_tern given (own_at place)) (drive_at network asked.own place)
@@ -265,7 +265,7 @@ module _ (network : Network) (asked : Asked) (given old : List Tern) (lists : Li
     taken_below : (place : ℕ) → place < length asked.own → TakesGiven (drive_at network asked.own place) → IsBelowAt place
     taken_below place l is =
         subst (λ (x : PlainTern). IsBelow x (t (own_at place)))
-        (seen_own started place l ∙ opened_taken network.drives.items asked.terns asked.own (own_at place) is) (above (own_at place) (are.own place l).0)
+        (seen_own started place l ∙ opened_taken network.drives.items asked.terns asked.own (own_at place) is) (above (own_at place) (are.unled place l).0)
 
     -- what a value reads is below
     module _ (place : ℕ) (l : place < length asked.own) (value : IsValue place)

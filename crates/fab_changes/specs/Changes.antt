@@ -58,7 +58,7 @@ pub record IsGrouped (groups : List Group) (place : ℕ) : Type 0 where
 
 -- Each point takes what is given to it or stands in a group. Groups follow one another, and read what takes what is given or stands before them.
 pub record AreGroups (network : Network) (own leads : List ℕ) (lists : Lists) (taken : List ℕ) (groups : List Group) : Type 0 where
-  pub own : AreOwn own leads
+  pub unled : AreOwn own leads
   pub once : IsOnce own
   pub takes : (place : ℕ) → IsListed taken place → (place < length own) × TakesGiven (drive_at network own place)
   pub all : (place : ℕ) → place < length own → IsListed taken place ⊎ IsGrouped groups place

@@ -3,6 +3,7 @@
 ghost use Rattle.std.specs.Prelude.{◌≡◌, ◌+◌, ◌<◌, ◌≤◌, ◌^◌, ℕ, true, false, length, replicate, slice_get, slice_set, IfSome, OnSome, Some};
 ghost use Rattle.fab_compiled.specs.Evaluation.{IsWithin};
 ghost use Rattle.fab_compiled.specs.Trees.{IsMade};
+ghost use Rattle.fab_network.specs.Passes.{IsListed};
 ghost use Rattle.fab_changes.specs.Fanout.{ArePlaces, IsFresh, IsReader, IsWatched, ReadsMore, WatchesTree};
 
 use crate::places::Places;
@@ -145,14 +146,22 @@ impl Fanout {
         ensures fresh { (reader : ℕ) → IsFresh self.new.stale.items reader → IsFresh self.old.stale.items reader }
         ensures touched { (reader : ℕ) → IsReader self.old.readers.items place reader → IsFresh self.new.stale.items reader → ⊥ }
     {
-        let Some(readers) = self.readers.get(place) else {
-            return;
-        };
-        for reader in readers {
-            let reader = *reader as usize;
-            if reader < self.stale.len() {
-                self.stale[reader] = true;
-            }
+        if let Some(readers) = self.readers.get(place) {
+            mark(readers, &mut self.stale);
+        }
+    }
+}
+
+// These readers are stale.
+fn mark(readers: &[u32], stale: &mut [bool])
+    ensures long { length stale.new ≡ length stale.old }
+    ensures fresh { (reader : ℕ) → IsFresh stale.new reader → IsFresh stale.old reader }
+    ensures marked { (reader : ℕ) → IsListed readers.now reader → IsFresh stale.new reader → ⊥ }
+{
+    for reader in readers {
+        let reader = *reader as usize;
+        if reader < stale.len() {
+            stale[reader] = true;
         }
     }
 }

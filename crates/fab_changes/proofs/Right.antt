@@ -21,7 +21,7 @@ use Rattle.fab_changes.specs.declared.fanout.Fanout.{Fanout}
 use Rattle.fab_changes.specs.declared.groups.Group.{Group}
 use Rattle.fab_changes.specs.Changes.{drive_at, takes_given, AreGroups, IsBitOf, IsGroup, IsInGroup, IsRightGroup, TakesGiven}
 use Rattle.fab_changes.specs.Fanout.{HasReader, HasTouched, IsFresh, IsReader, Lists}
-use Rattle.fab_changes.specs.inner.Looking.{AreFound, AreRightFrom, AreSameGroups, AreSamePoints, HasTaken, HasTakenGroup, HasWritten, HaveTaken}
+use Rattle.fab_changes.specs.inner.Looking.{value_tern, AreFound, AreRightFrom, AreSameGroups, AreSamePoints, HasTaken, HasTakenGroup, HasWritten, HaveTaken}
 use Rattle.fab_changes.proofs.Reading.{drive_before, right_at, right_stays, source_stays}
 
 -- ---- points
@@ -44,13 +44,13 @@ taken_set old new point tern l e =
     subst (HasTaken point (plain_tern tern) old) (sym e)
     (record {
       points = record { leads = refl; marks = refl; own = refl; long = length-set old.terns point tern };
-      value = kept_same old.terns point tern l;
+      has = kept_same old.terns point tern l;
       others = λ other n. kept_other old.terns point tern other n;
     })
 
 -- a point has the value already
 pub taken_same : (asked : Asked) (point : ℕ) (value : PlainTern) → kept_tern asked.terns point ≡ value → HasTaken point value asked asked
-taken_same asked point value is = record { points = points_same asked; value = is; others = λ other n. refl }
+taken_same asked point value is = record { points = points_same asked; has = is; others = λ other n. refl }
 
 pub taken_by : (point other : ℕ) (value found : PlainTern) (old new : Asked) → point ≡ other → value ≡ found → HasTaken point value old new → HasTaken other found old new
 taken_by point other value found old new e f taken =
@@ -68,7 +68,7 @@ module _ (group : Group) (found : List Tern) (old mid new : Asked) (place : ℕ)
   values_more : (other : ℕ) → IsInGroup group other → other < place + 1 → kept_tern new.terns (slice_index old.own other) ≡ kept_tern found (other - group.begin)
   values_more other at l =
       elim (cases_eq other place) [
-        | inl e ↦ subst (λ (n : ℕ). kept_tern new.terns (slice_index old.own n) ≡ kept_tern found (n - group.begin)) (sym e) taken.value
+        | inl e ↦ subst (λ (n : ℕ). kept_tern new.terns (slice_index old.own n) ≡ kept_tern found (n - group.begin)) (sym e) taken.has
         | inr n ↦ (let early : other < place = omega (arith, l, n) in
             taken.others (slice_index old.own other) (apart other at early) ∙ before.values other at early)
       ]
@@ -98,7 +98,7 @@ module _ (taken : List ℕ) (count : ℕ) (given : List Tern) (old mid new : Ask
   given_more : (k : ℕ) → k < count + 1 → kept_tern new.terns (at k) ≡ kept_tern given (at k)
   given_more k l =
       elim (cases_eq (at k) (at count)) [
-        | inl e ↦ ap (kept_tern new.terns) e ∙ one.value ∙ ap (kept_tern given) (sym e)
+        | inl e ↦ ap (kept_tern new.terns) e ∙ one.has ∙ ap (kept_tern given) (sym e)
         | inr n ↦ elim (cases_lt k count) [
           | inl early ↦ one.others (at k) n ∙ before.values k early
           | inr after ↦ (let e : k ≡ count = omega (arith, l, after) in absurd (n (ap at e)))
@@ -167,7 +167,8 @@ module _ (network : Network) (old new : Asked) (lists : Lists) (taken : List ℕ
         right_at network old new lists number group fit is wrote.points place inside source drive
         (reads_stay number group there (omega arith))
         (wrote.values place inside inside.below
-        ∙ are_found place inside inside.below source (drive_before network old new lists number group fit is wrote.points place source drive))
+        ∙ are_found place inside inside.below
+        ∙ ap (value_tern network.trees.items (seen old.terns old.leads)) (drive_before network old new lists number group fit is wrote.points place source drive))
 
     -- a group before it
     pub earlier_right : (early : ℕ) (before : Group) → early < number → slice_get groups early ≡ Some before → IsRightGroup network old before →
@@ -225,3 +226,22 @@ module _ (network : Network) (old new : Asked) (lists : Lists) (taken : List ℕ
       let takes = (are.takes (slice_index taken k) (k, l, refl)).1 in
       not_both (drive_at network old.own place) bit.source bit.drive
       (subst (λ (n : ℕ). TakesGiven (slice_get network.drives.items n)) e takes)))
+
+-- ---- values that are found
+
+pub found_none : (network : Network) (asked : Asked) (group : Group) (found : List Tern) → AreFound network asked group group.begin found
+found_none network asked group found place inside l = absurd (omega (arith, inside.low, l))
+
+pub found_more : (network : Network) (asked : Asked) (group : Group) (found : List Tern) (place : ℕ) (tern : Tern) → group.begin ≤ place →
+    place - group.begin < length found →
+    plain_tern tern ≡ value_tern network.trees.items (seen asked.terns asked.leads) (drive_at network asked.own place) →
+    AreFound network asked group place found → AreFound network asked group (place + 1) (slice_set found (place - group.begin) tern)
+found_more network asked group found place tern low room is before other inside l =
+    elim (cases_eq other place) [
+      | inl e ↦ subst
+          (λ (n : ℕ). kept_tern (slice_set found (place - group.begin) tern) (n - group.begin)
+          ≡ value_tern network.trees.items (seen asked.terns asked.leads) (drive_at network asked.own n))
+          (sym e) (kept_same found (place - group.begin) tern room ∙ is)
+      | inr n ↦ (let early : other < place = omega (arith, l, n) in
+          kept_other found (place - group.begin) tern (other - group.begin) (λ e. n (omega (arith, e, inside.low, low, early))) ∙ before other inside early)
+    ]
