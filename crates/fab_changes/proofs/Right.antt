@@ -245,3 +245,14 @@ found_more network asked group found place tern low room is before other inside 
       | inr n ↦ (let early : other < place = omega (arith, l, n) in
           kept_other found (place - group.begin) tern (other - group.begin) (λ e. n (omega (arith, e, inside.low, low, early))) ∙ before other inside early)
     ]
+
+-- ---- one look after another
+
+pub written_then : (network : Network) (old mid new : Asked) → HasWritten network old mid → HasWritten network mid new → HasWritten network old new
+written_then network old mid new one two = record {
+  points = points_then old mid new one.points two.points;
+  others = λ point each.
+      two.others point
+      (subst (λ (own : List ℕ). (place : ℕ) → place < length own → slice_index own place ≡ point → TakesGiven (drive_at network own place)) (sym one.points.own) each)
+      ∙ one.others point each;
+}

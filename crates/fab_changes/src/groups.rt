@@ -70,10 +70,13 @@ fn add_point(network: &Network, own: &[u32], place: usize, groups: &mut Vec<Grou
     requires groups { AreBitGroups network.now own.now place groups.old.items }
     ensures { OnSome result (AreBitGroups network.now own.now (place + 1) groups.new.items) }
 {
-    match network.drives.get(own[place] as usize)? {
-        Drive::Given | Drive::Flop(_, _) => Some(()),
-        Drive::Value(source) => add_bit(u32::try_from(place).ok()?, *source, groups),
-        Drive::Same(_) | Drive::Hold(_, _) => None,
+    let point = own[place] as usize;
+    if is_taken(network, point) {
+        return Some(());
+    }
+    match network.drives.get(point) {
+        Some(Drive::Value(source)) => add_bit(u32::try_from(place).ok()?, *source, groups),
+        Some(Drive::Given | Drive::Flop(_, _) | Drive::Same(_) | Drive::Hold(_, _)) | None => None,
     }
 }
 

@@ -110,9 +110,10 @@ pub(crate) fn take(
     ensures watches { HasTouched demand.old.own demand.old.terns demand.new.terns watches.old watches.new }
 {
     let point = demand.own()[place] as usize;
-    if demand.view().terns[point] != tern {
-        demand.set_own(place, tern);
-        fanout.touch(place);
-        watches.touch(place);
+    if demand.view().terns[point] == tern {
+        return;
     }
+    demand.set_own(place, tern);
+    fanout.touch(place);
+    watches.touch(place);
 }

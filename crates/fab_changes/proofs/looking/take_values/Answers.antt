@@ -1,18 +1,11 @@
-use Rattle.std.proofs.Common.{◌≡◌, ◌-◌, ◌<◌, List, refl, sym, ap, ◌∙◌, subst, arith, slice_index}
+use Rattle.std.proofs.Common.{◌≡◌, ◌-◌, ◌<◌, List, ℕ, refl, sym, ap, ◌∙◌, subst, arith, slice_index}
 use Rattle.fab_ternary.specs.declared.Tern.{Tern}
 use Rattle.fab_ternary.specs.Terns.{plain_tern}
 use Rattle.fab_demand.specs.Asked.{Asked}
 use Rattle.fab_changes.proofs.Lists.{kept_read}
-use Rattle.fab_changes.proofs.Right.{group_more, group_none, taken_by}
-use Rattle.fab_changes.proofs.Touching.{touched_by, touched_none, touched_then}
+use Rattle.fab_changes.proofs.Right.{group_more, taken_by}
+use Rattle.fab_changes.proofs.Touching.{touched_by, touched_then}
 use Rattle.fab_changes.proofs.looking.take_values.Goals as goal
-
-pub loop-place-init : goal.loop-place-init
-loop-place-init c = record {
-  taken = group_none c.args.group c.args.found.now c.args.demand.now;
-  fanout = touched_none c.args.demand.now.own c.args.demand.now.terns c.args.fanout.now;
-  watches = touched_none c.args.demand.now.own c.args.demand.now.terns c.args.watches.now;
-}
 
 pub loop-place-preserved : goal.loop-place-preserved
 loop-place-preserved c =
@@ -25,7 +18,7 @@ loop-place-preserved c =
     record {
       taken = group_more c.args.group c.args.found.now old mid new place (record { low = omega arith; below = omega arith })
           (λ other inside early. c.requires.once other place early (omega (arith, c.loop-place-test.true, c.requires.ends)))
-          (taken_by (slice_index mid.own place) (slice_index old.own place) _ _ mid new (ap (λ (own : List _). slice_index own place) same)
+          (taken_by (slice_index mid.own place) (slice_index old.own place) _ _ mid new (ap (λ (own : List ℕ). slice_index own place) same)
           (kept_read c.args.found.now (place - c.args.group.begin) _ (omega (arith, c.requires.room))) c.take.ensures.taken)
           inv.taken;
       fanout = touched_then old.own old.terns mid.terns new.terns c.args.fanout.now c.loop-place.fanout c.take.new.fanout inv.fanout
