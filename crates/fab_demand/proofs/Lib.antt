@@ -1,9 +1,9 @@
-mod Lists
+pub mod Lists
 mod Growing
 mod Closing
 mod Steps
 mod Waiting
-mod Settling
+pub mod Settling
 mod Keeping
 mod Asking
 mod Finding

@@ -1,6 +1,6 @@
 //! The points that a simulation has to look at.
 
-ghost use Rattle.std.specs.Prelude.{◌≡◌, ◌<◌, ◌≤◌, ◌^◌, ℕ, [], length, IfOk};
+ghost use Rattle.std.specs.Prelude.{◌≡◌, ◌<◌, ◌≤◌, ◌^◌, ℕ, [], length, slice_index, slice_set, IfOk};
 ghost use Rattle.fab_ternary.specs.Terns.{plain_tern};
 ghost use Rattle.fab_compiled.specs.Leading.{PointTerns, IsMarked};
 ghost use Rattle.fab_compiled.specs.Terns.{seen, IsView};
@@ -151,6 +151,15 @@ impl Demand {
             &mut search.readers,
             &mut search.terns,
         );
+    }
+
+    /// The point at a place among those that stand for themselves has another value from now on.
+    pub fn set_own(&mut self, place: usize, tern: Tern)
+        requires { place < length self.old.own }
+        ensures { self.new ≡ record (self.old) { terns = slice_set self.old.terns (slice_index self.old.own place) tern } }
+    {
+        let point = self.search.own[place] as usize;
+        self.search.terns[point] = tern;
     }
 
     /// What is known of the points.

@@ -1,0 +1,3 @@
+pub mod Fanout
+pub mod Changes
+pub mod inner

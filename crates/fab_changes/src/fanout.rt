@@ -1,0 +1,181 @@
+//! Who reads which points.
+
+ghost use Rattle.std.specs.Prelude.{◌≡◌, ◌+◌, ◌<◌, ◌≤◌, ◌^◌, ℕ, true, false, length, replicate, slice_get, slice_set, IfSome, OnSome, Some};
+ghost use Rattle.fab_compiled.specs.Evaluation.{IsWithin};
+ghost use Rattle.fab_compiled.specs.Trees.{IsMade};
+ghost use Rattle.fab_network.specs.Passes.{IsListed};
+ghost use Rattle.fab_changes.specs.Fanout.{ArePlaces, IsFresh, IsReader, IsWatched, ReadsMore, WatchesTree};
+
+use crate::places::Places;
+use fab_compiled::Tree;
+use std::alloc::Global;
+
+/// The readers of points that stand for themselves, and which of them are stale: a reader is stale as soon as a point that it reads has
+/// changed since it was looked at. Readers are numbers from 0 on, and are stale at first.
+#[derive(Drop)]
+pub struct Fanout {
+    /// By the place of a point among those that stand for themselves: its readers.
+    pub readers: Vec<Vec<u32>>,
+    /// By the number of a reader.
+    pub stale: Vec<bool>,
+    /// How many more points of expressions there is room to look at.
+    pub room: usize,
+}
+
+impl Fanout {
+    /// So many stale readers, of so many points, which read nothing yet. There is room for so many points of expressions.
+    pub fn new(alloc: Global, points: usize, readers: usize, room: usize) -> Option<Fanout>
+        ensures { IfSome result (λ fanout. fanout.stale.items ≡ replicate readers true) }
+    {
+        let stale = vec![in alloc; true; readers].ok()?;
+        let mut lists = Vec::with_capacity(alloc, points).ok()?;
+        for _ in 0..points {
+            lists.push(Vec::new(alloc)).ok()?;
+        }
+        Some(Fanout {
+            readers: lists,
+            stale,
+            room,
+        })
+    }
+
+    /// A reader reads all points of an expression. `None` where there is no room or no memory.
+    pub fn note_tree(
+        &mut self,
+        places: &Places,
+        tree: &Tree,
+        first: usize,
+        reader: u32,
+    ) -> Option<()>
+        requires places { ArePlaces places.now }
+        requires made { IsMade tree.now }
+        requires begins { first ≤ length places.now.leads.now }
+        requires inside { IsWithin tree.now first (length places.now.leads.now) }
+        ensures watched { OnSome result (WatchesTree places.now.own.now places.now.leads.now self.new.readers.items reader first tree.now) }
+        ensures more { OnSome result (ReadsMore self.old.readers.items self.new.readers.items) }
+        ensures stale { self.new.stale.items ≡ self.old.stale.items }
+    {
+        self.room = self.room.checked_sub(1)?;
+        match tree {
+            Tree::Const(_) => Some(()),
+            Tree::Bits(place, count) => {
+                self.note_points(places, first, *place as usize, *count as usize, reader)
+            }
+            Tree::Pick(place, width, index) => {
+                let count = 2usize.pow(*width);
+                self.note_points(places, first, *place as usize, count, reader)?;
+                self.note_tree(places, index, first, reader)
+            }
+            Tree::Not(inner) => self.note_tree(places, inner, first, reader),
+            Tree::Cat(left, _, right)
+            | Tree::And(left, right)
+            | Tree::Or(left, right)
+            | Tree::Xor(left, right)
+            | Tree::Equal(_, left, right)
+            | Tree::Minus(_, left, right) => {
+                self.note_tree(places, left, first, reader)?;
+                self.note_tree(places, right, first, reader)
+            }
+            Tree::Cond(test, yes, no) => {
+                self.note_tree(places, test, first, reader)?;
+                self.note_tree(places, yes, first, reader)?;
+                self.note_tree(places, no, first, reader)
+            }
+        }
+    }
+
+    // A reader reads points that follow one another.
+    fn note_points(
+        &mut self,
+        places: &Places,
+        first: usize,
+        place: usize,
+        count: usize,
+        reader: u32,
+    ) -> Option<()>
+        requires places { ArePlaces places.now }
+        requires within { first + (place + count) ≤ length places.now.leads.now }
+        ensures watched { OnSome result ((k : ℕ) → k < count →
+            IsWatched places.now.own.now places.now.leads.now self.new.readers.items reader (first + (place + k))) }
+        ensures more { OnSome result (ReadsMore self.old.readers.items self.new.readers.items) }
+        ensures stale { self.new.stale.items ≡ self.old.stale.items }
+    {
+        self.room = self.room.checked_sub(count)?;
+        for next in 0..count {
+            self.note_point(places, first + (place + next), reader)?;
+        }
+        Some(())
+    }
+
+    // A reader reads the point to which a point is led, if that one stands for itself.
+    fn note_point(&mut self, places: &Places, point: usize, reader: u32) -> Option<()>
+        requires places { ArePlaces places.now }
+        requires within { point < length places.now.leads.now }
+        ensures watched { OnSome result
+            (IsWatched places.now.own.now places.now.leads.now self.new.readers.items reader point) }
+        ensures more { OnSome result (ReadsMore self.old.readers.items self.new.readers.items) }
+        ensures stale { self.new.stale.items ≡ self.old.stale.items }
+    {
+        match places.of_lead(point) {
+            Some(place) => put(&mut self.readers, place as usize, reader),
+            None => Some(()),
+        }
+    }
+
+    /// Whether a reader is stale.
+    pub fn is_stale(&self, reader: usize) -> bool
+        requires within { reader < length self.now.stale.items }
+        ensures { slice_get self.now.stale.items reader ≡ Some result }
+    {
+        self.stale[reader]
+    }
+
+    /// A reader has been looked at.
+    pub fn set_fresh(&mut self, reader: usize)
+        requires within { reader < length self.old.stale.items }
+        ensures readers { self.new.readers.items ≡ self.old.readers.items }
+        ensures stale { self.new.stale.items ≡ slice_set self.old.stale.items reader false }
+    {
+        self.stale[reader] = false;
+    }
+
+    /// The point at a place has changed.
+    pub fn touch(&mut self, place: usize)
+        ensures readers { self.new.readers.items ≡ self.old.readers.items }
+        ensures long { length self.new.stale.items ≡ length self.old.stale.items }
+        ensures fresh { (reader : ℕ) → IsFresh self.new.stale.items reader → IsFresh self.old.stale.items reader }
+        ensures touched { (reader : ℕ) → IsReader self.old.readers.items place reader → IsFresh self.new.stale.items reader → ⊥ }
+    {
+        if let Some(readers) = self.readers.get(place) {
+            mark(readers, &mut self.stale);
+        }
+    }
+}
+
+// These readers are stale.
+fn mark(readers: &[u32], stale: &mut [bool])
+    ensures long { length stale.new ≡ length stale.old }
+    ensures fresh { (reader : ℕ) → IsFresh stale.new reader → IsFresh stale.old reader }
+    ensures marked { (reader : ℕ) → IsListed readers.now reader → IsFresh stale.new reader → ⊥ }
+{
+    for reader in readers {
+        let reader = *reader as usize;
+        if reader < stale.len() {
+            stale[reader] = true;
+        }
+    }
+}
+
+// Puts a reader at the end of the list of a place, unless it stands there.
+fn put(lists: &mut Vec<Vec<u32>>, place: usize, reader: u32) -> Option<()>
+    ensures reads { OnSome result (IsReader lists.new.items place reader) }
+    ensures more { OnSome result (ReadsMore lists.old.items lists.new.items) }
+{
+    if place >= lists.len() {
+        return None;
+    }
+    if lists[place].last().copied() == Some(reader) {
+        return Some(());
+    }
+    lists[place].push(reader).ok()
+}
