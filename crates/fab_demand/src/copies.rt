@@ -13,7 +13,7 @@ ghost use Rattle.fab_demand.specs.Search.{asked_of, left_of, IsSearching};
 ghost use Rattle.fab_demand.specs.inner.Beside.{KnowsMore};
 ghost use Rattle.fab_demand.specs.inner.Copies.{CopiesPoints, IsCopy, IsCopyOf, TellsCopies};
 
-use crate::others::{Bits, bit_of, points_beside};
+use crate::others::{Bits, MANY, bit_of, points_beside};
 use crate::rows::is_unmarked;
 use crate::search::Search;
 use fab_compiled::{Tree, View, eval};
@@ -54,7 +54,8 @@ impl Search {
         copied_by_source(&network.trees, source, &view)
     }
 
-    /// Closes copies that have not been asked for, of which a point is one, as far as that of which they are copies has been asked for.
+    /// Closes the copies behind a point that is one, up to the first one that has to be looked at: that of which it is a copy has not been asked for. Nothing is
+    /// done where many of them have been asked for, so that they are not gone over again and again.
     pub(crate) fn close_copies(&mut self, network: &Network, copies: Copies, point: u32)
         requires points { length network.now.drives.items ≡ length self.old.leads.items }
         requires tells { TellsCopies network.now.trees.items (asked_of self.old) copies }
@@ -63,10 +64,27 @@ impl Search {
         ensures more { AsksMore (asked_of self.old) (asked_of self.new) }
         ensures left { left_of self.new ≤ left_of self.old }
     {
-        let copied = copies.copied;
-        let (start, end) = points_beside(copies.bits, point, copied.low, copied.count);
+        if is_unmarked(point.saturating_add(MANY / 2), &self.marks) {
+            let copied = copies.copied;
+            let (_, end) = points_beside(copies.bits, point, copied.low, copied.count);
+            self.close_copies_between(network, copies, point, end);
+        }
+    }
+
+    // The same between these points.
+    fn close_copies_between(&mut self, network: &Network, copies: Copies, start: u32, end: u32)
+        requires points { length network.now.drives.items ≡ length self.old.leads.items }
+        requires tells { TellsCopies network.now.trees.items (asked_of self.old) copies }
+        requires searching { (clock : Clock) × (given : PointTerns) × IsSearching network.now clock given self.old }
+        ensures searching { (clock : Clock) (given : PointTerns) → IsSearching network.now clock given self.old → IsSearching network.now clock given self.new }
+        ensures more { AsksMore (asked_of self.old) (asked_of self.new) }
+        ensures left { left_of self.new ≤ left_of self.old }
+    {
         for other in start..end {
             self.close_copy(network, copies, other);
+            if is_unmarked(other, &self.marks) {
+                return;
+            }
         }
     }
 

@@ -22,7 +22,7 @@ use fab_network::{Drive, Network, Source, lead_of_source, part_of_source};
 use fab_ternary::Tern;
 
 /// How many bits stand side by side at least, so that they are found together.
-const MANY: u32 = 32;
+pub(crate) const MANY: u32 = 32;
 
 /// A bit of an expression, which may be the data of a latch behind this gate.
 #[derive(Clone, Copy, Debug)]

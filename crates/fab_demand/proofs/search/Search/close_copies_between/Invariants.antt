@@ -4,7 +4,7 @@ use Rattle.fab_network.specs.declared.network.Clock.{Clock}
 use Rattle.fab_demand.specs.Asked.{AsksMore}
 use Rattle.fab_demand.specs.Search.{asked_of, left_of, IsSearching}
 use Rattle.fab_demand.specs.inner.Beside.{KnowsMore}
-use Rattle.fab_demand.proofs.search.Search.close_copies.Given as goal
+use Rattle.fab_demand.proofs.search.Search.close_copies_between.Given as goal
 
 abbrev pub invariant-loop-other : goal.invariant-loop-other
 invariant-loop-other l = record {

@@ -2,7 +2,7 @@ use Rattle.std.proofs.Common.{◌∙◌, sym, arith}
 use Rattle.fab_demand.specs.Search.{asked_of}
 use Rattle.fab_demand.proofs.Asking.{asks_both, asks_same}
 use Rattle.fab_demand.proofs.Copying.{copies_later}
-use Rattle.fab_demand.proofs.search.Search.close_copies.Goals as goal
+use Rattle.fab_demand.proofs.search.Search.close_copies_between.Goals as goal
 
 pub loop-other-init : goal.loop-other-init
 loop-other-init c = record { searching = λ clock given is. is; more = asks_same (asked_of c.args.self.now); left = omega arith; above = λ t above. above }
@@ -27,3 +27,16 @@ loop-other-preserved c = record {
   left = omega (arith, c.close_copy.ensures.left, c.loop-other.invariant.left);
   above = λ t above. c.loop-other.invariant.above t (c.close_copy.ensures.above t above);
 }
+
+-- ---- a copy that has to be looked at
+
+pub returns-then-is_unmarked-clause-searching : goal.returns-then-is_unmarked-clause-searching
+returns-then-is_unmarked-clause-searching c clock given searching =
+    c.close_copy.ensures.searching clock given (c.loop-other.invariant.searching clock given searching)
+
+pub returns-then-is_unmarked-clause-more : goal.returns-then-is_unmarked-clause-more
+returns-then-is_unmarked-clause-more c =
+    asks_both (asked_of c.args.self.now) (asked_of c.loop-other.self) (asked_of c.close_copy.new.self) c.loop-other.invariant.more c.close_copy.ensures.more
+
+pub returns-then-is_unmarked-clause-left : goal.returns-then-is_unmarked-clause-left
+returns-then-is_unmarked-clause-left c = omega (arith, c.close_copy.ensures.left, c.loop-other.invariant.left)
