@@ -83,5 +83,7 @@ returns-in_ok-note_tree-in-Cat-clause-watched t c =
 
 pub returns-in_ok-note_tree-in-Cat-clause-more : goal.returns-in_ok-note_tree-in-Cat-clause-more
 returns-in_ok-note_tree-in-Cat-clause-more t c =
-    let h = c.in-Cat.is in
-    ?
+    on_some c.note_tree-in-Cat-2.result
+    (λ more. reads_then c.args.self.now.readers.items c.note_tree-in-Cat.new.self.readers.items c.note_tree-in-Cat-2.new.self.readers.items
+    c.in_ok-note_tree-in-Cat.ensures.more more)
+    c.note_tree-in-Cat-2.ensures.more
