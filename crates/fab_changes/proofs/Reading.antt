@@ -1,8 +1,7 @@
 -- What a group reads has what it had, and so the group is still right.
-use Rattle.std.proofs.Common.{◌≡◌, ℕ, ◌+◌, ◌<◌, ◌≤◌, List, Option, Some, length, refl, sym, ap, ◌∙◌, subst, get_or, slice_get, slice_index}
+use Rattle.std.proofs.Common.{◌≡◌, ℕ, ◌+◌, List, Option, Some, length, sym, ap, ◌∙◌, subst, get_or, slice_get, slice_index}
 use Rattle.fab_systems_laws.specs.Ternary.{no}
 use Rattle.fab_systems_laws.specs.Ternary.{Tern as PlainTern}
-use Rattle.fab_ternary.specs.declared.Tern.{Tern}
 use Rattle.fab_compiled.specs.declared.tree.Tree.{Tree}
 use Rattle.fab_compiled.specs.Leading.{PointTerns}
 use Rattle.fab_compiled.specs.Terns.{seen}
@@ -16,7 +15,7 @@ use Rattle.fab_network.specs.Network.{source_tern, tern_in, AreFit, IsFitSource}
 use Rattle.fab_network.specs.Passes.{kept_tern}
 use Rattle.fab_demand.specs.Asked.{Asked}
 use Rattle.fab_changes.specs.declared.groups.Group.{Group}
-use Rattle.fab_changes.specs.Changes.{drive_at, IsBitOf, IsGroup, IsInGroup, IsRightGroup}
+use Rattle.fab_changes.specs.Changes.{drive_at, IsGroup, IsInGroup, IsRightGroup}
 use Rattle.fab_changes.specs.Fanout.{HasReader, IsWatched, Lists}
 use Rattle.fab_changes.specs.inner.Looking.{AreSamePoints}
 

@@ -1,5 +1,5 @@
 -- What a look at a group leaves right.
-use Rattle.std.proofs.Common.{◌≡◌, ◌≢◌, ◌⊎◌, ℕ, zero, suc, ◌+◌, ◌-◌, ◌<◌, ◌≤◌, Bool, true, false, List, Option, Some, length, refl, sym, ap, ◌∙◌, subst, inl, inr, arith}
+use Rattle.std.proofs.Common.{◌≡◌, ◌≢◌, ◌⊎◌, ℕ, ◌+◌, ◌-◌, ◌<◌, ◌≤◌, Bool, true, false, List, Option, Some, length, refl, sym, ap, ◌∙◌, subst, inl, inr, arith}
 use Rattle.std.proofs.Common.{slice_get, slice_index, slice_set}
 use Rattle.std.proofs.lemmas.Bool.{cases_eq, cases_lt}
 use Rattle.std.proofs.lemmas.List.{length-set}
@@ -11,18 +11,17 @@ use Rattle.fab_network.specs.declared.network.Drive.{Drive}
 use Rattle.fab_network.specs.declared.network.Drive.TheVariants.{Value}
 use Rattle.fab_network.specs.declared.network.Network.{Network}
 use Rattle.fab_network.specs.declared.network.Source.{Source}
-use Rattle.fab_network.specs.Network.{source_tern, AreFit}
-use Rattle.fab_network.specs.Passes.{kept_tern, IsListed}
+use Rattle.fab_network.specs.Network.{AreFit}
+use Rattle.fab_network.specs.Passes.{kept_tern}
 use Rattle.fab_network.proofs.Kept.{kept_other, kept_same}
 use Rattle.fab_demand.specs.Asked.{Asked}
 use Rattle.fab_demand.proofs.Lists.{get_other}
-use Rattle.fab_changes.specs.declared.changes.Changes.{Changes}
 use Rattle.fab_changes.specs.declared.fanout.Fanout.{Fanout}
 use Rattle.fab_changes.specs.declared.groups.Group.{Group}
-use Rattle.fab_changes.specs.Changes.{drive_at, takes_given, AreGroups, IsBitOf, IsGroup, IsInGroup, IsRightGroup, TakesGiven}
-use Rattle.fab_changes.specs.Fanout.{HasReader, HasTouched, IsFresh, IsReader, Lists}
-use Rattle.fab_changes.specs.inner.Looking.{value_tern, AreFound, AreRightFrom, AreSameGroups, AreSamePoints, HasTaken, HasTakenGroup, HasWritten, HaveTaken}
-use Rattle.fab_changes.proofs.Reading.{drive_before, right_at, right_stays, source_stays}
+use Rattle.fab_changes.specs.Changes.{drive_at, takes_given, AreGroups, IsInGroup, IsRightGroup, TakesGiven}
+use Rattle.fab_changes.specs.Fanout.{HasReader, HasTouched, IsFresh, Lists}
+use Rattle.fab_changes.specs.inner.Looking.{value_tern, AreFound, AreSamePoints, HasTaken, HasTakenGroup, HasWritten, HaveTaken}
+use Rattle.fab_changes.proofs.Reading.{drive_before, right_at, right_stays}
 
 -- ---- points
 

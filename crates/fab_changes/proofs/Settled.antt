@@ -1,10 +1,10 @@
 -- Where all groups are right, all that has been asked for has the values of the least solution.
-use Rattle.std.proofs.Common.{◌≡◌, ◌⊎◌, ℕ, zero, suc, ◌+◌, ◌-◌, ◌<◌, ◌≤◌, List, [], ◌∷◌, None, Option, Some, length, refl, sym, ap, ◌∙◌, subst, inl, inr, arith}
+use Rattle.std.proofs.Common.{◌≡◌, ◌⊎◌, ℕ, zero, suc, ◌+◌, ◌<◌, List, [], ◌∷◌, None, Option, Some, length, refl, sym, ap, ◌∙◌, subst, inl, inr, arith}
 use Rattle.std.proofs.Common.{slice_get, slice_index, slice_set}
 use Rattle.std.proofs.lemmas.Bool.{cases_eq, cases_lt}
 use Rattle.fab_systems_laws.specs.Ternary.{no, yes, unknown, IsBelow}
 use Rattle.fab_systems_laws.specs.Ternary.{Tern as PlainTern}
-use Rattle.fab_systems_laws.proofs.Order.{below_equal, below_self}
+use Rattle.fab_systems_laws.proofs.Order.{below_equal}
 use Rattle.fab_ternary.specs.declared.Tern.{Tern}
 use Rattle.fab_ternary.specs.declared.Tern.TheVariants.{Open}
 use Rattle.fab_compiled.specs.declared.tree.Tree.{Tree}
@@ -16,7 +16,7 @@ use Rattle.fab_network.specs.declared.network.Drive.TheVariants.{Given, Flop, Sa
 use Rattle.fab_network.specs.declared.network.Network.{Network}
 use Rattle.fab_network.specs.declared.network.Source.{Source}
 use Rattle.fab_network.specs.Network.{drive_tern, source_tern, AreFit, IsFitSource}
-use Rattle.fab_network.specs.Passes.{kept_tern, shows, AreLed, AreSolved, IsListed, StaysBelow}
+use Rattle.fab_network.specs.Passes.{kept_tern, shows, AreLed, AreSolved, IsListed}
 use Rattle.fab_network.proofs.Kept.{kept_other}
 use Rattle.fab_network.proofs.Sources.{source_grows}
 use Rattle.fab_demand.specs.Asked.{Asked, DiffersInOwn}
@@ -25,7 +25,7 @@ use Rattle.fab_demand.specs.inner.Cycles.{start_tern, IsSettled}
 use Rattle.fab_demand.proofs.Lists.{listed_or_not}
 use Rattle.fab_demand.proofs.Settling.{cycle_shows, differs_after, settled_of}
 use Rattle.fab_changes.specs.declared.groups.Group.{Group}
-use Rattle.fab_changes.specs.Changes.{drive_at, AreGroups, IsGrouped, IsInGroup, IsRightGroup, TakesGiven}
+use Rattle.fab_changes.specs.Changes.{drive_at, AreGroups, IsGrouped, IsRightGroup, TakesGiven}
 use Rattle.fab_changes.specs.Fanout.{IsReader, IsWatched, Lists}
 use Rattle.fab_changes.specs.inner.Looking.{AreSamePoints, HasWritten, HaveTaken}
 use Rattle.fab_changes.proofs.Right.{groups_by, not_both, points_then}

@@ -1,8 +1,7 @@
 -- Values that have changed, and readers that are stale for that.
-use Rattle.std.proofs.Common.{◌≡◌, ℕ, ◌<◌, Bool, List, length, refl, sym, ap, ◌∙◌, subst, inl, inr, slice_index, slice_set}
+use Rattle.std.proofs.Common.{◌≡◌, ℕ, ◌<◌, List, length, refl, sym, ◌∙◌, subst, inl, inr, slice_index, slice_set}
 use Rattle.std.proofs.lemmas.Bool.{cases_eq}
 use Rattle.fab_ternary.specs.declared.Tern.{Tern}
-use Rattle.fab_network.specs.Passes.{kept_tern}
 use Rattle.fab_network.proofs.Kept.{kept_other}
 use Rattle.fab_changes.specs.declared.fanout.Fanout.{Fanout}
 use Rattle.fab_changes.specs.Fanout.{HasReader, HasTouched, IsFresh, IsReader, Lists}

@@ -1,10 +1,10 @@
-use Rattle.std.proofs.Common.{◌≡◌, ◌+◌, ◌<◌, ◌≤◌, ℕ, List, Some, length, get_or, rules, sym, ap, ◌∙◌, subst, arith, slice_get}
+use Rattle.std.proofs.Common.{◌≡◌, ℕ, List, Some, length, get_or, rules, sym, ap, ◌∙◌, subst, arith, slice_get}
 use Rattle.std.proofs.lemmas.Option.{slice_get-get_or}
 use Rattle.fab_compiled.specs.declared.tree.Tree.{Tree}
 use Rattle.fab_compiled.specs.Evaluation.{IsWithin}
 use Rattle.fab_changes.specs.declared.groups.Group.{Group}
 use Rattle.fab_changes.specs.Fanout.{WatchesTree}
-use Rattle.fab_changes.proofs.Making.{group_fits, watched_one, FitsGroup}
+use Rattle.fab_changes.proofs.Making.{group_fits, watched_one}
 use Rattle.fab_changes.proofs.groups.note_groups.Goals as goal
 
 abbrev none : Group

@@ -1,6 +1,5 @@
-use Rattle.std.proofs.Common.{◌≡◌, ◌-◌, ◌+◌, ◌<◌, ◌≤◌, ℕ, List, length, sym, ap, ◌∙◌, subst, arith, slice_get, slice_index}
+use Rattle.std.proofs.Common.{ℕ, List, length, ap, ◌∙◌, arith, slice_get, slice_index}
 use Rattle.fab_ternary.specs.declared.Tern.{Tern}
-use Rattle.fab_ternary.specs.Terns.{plain_tern}
 use Rattle.fab_compiled.specs.Terns.{seen}
 use Rattle.fab_changes.specs.inner.Looking.{value_tern}
 use Rattle.fab_changes.proofs.Right.{found_more, found_none}

@@ -1,11 +1,10 @@
-use Rattle.std.proofs.Common.{◌≡◌, ◌<◌, List, ℕ, length, rules, refl, sym, ap, ◌∙◌, subst, arith, slice_index, slice_index_or, slice_set}
+use Rattle.std.proofs.Common.{◌≡◌, ◌<◌, List, ℕ, length, rules, refl, sym, ap, ◌∙◌, arith, slice_index, slice_index_or, slice_set}
 use denote.Enum.Bare.{same_true}
 use Rattle.fab_ternary.specs.contracts.Tern.{the_type}
 use Rattle.fab_ternary.specs.declared.Tern.{Tern}
 use Rattle.fab_ternary.specs.Terns.{plain_tern}
 use Rattle.fab_network.specs.Passes.{kept_tern}
 use Rattle.fab_demand.specs.Asked.{Asked}
-use Rattle.fab_changes.specs.inner.Looking.{HasTaken}
 use Rattle.fab_changes.proofs.Lists.{kept_read}
 use Rattle.fab_changes.proofs.Right.{taken_same, taken_set}
 use Rattle.fab_changes.proofs.Touching.{touched_at, touched_by}

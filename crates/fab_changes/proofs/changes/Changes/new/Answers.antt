@@ -1,7 +1,7 @@
-use Rattle.std.proofs.Common.{◌≡◌, ◌+◌, ◌<◌, ◌≤◌, true, ℕ, List, length, rules, sym, ap, ◌∙◌, subst, arith, slice_get}
+use Rattle.std.proofs.Common.{◌≡◌, ◌<◌, true, ℕ, List, length, rules, ap, ◌∙◌, subst, arith, slice_get}
 use Rattle.fab_changes.specs.declared.changes.Changes.{Changes}
 use Rattle.fab_changes.specs.declared.groups.Group.{Group}
-use Rattle.fab_changes.specs.inner.Grouping.{AreBitGroups, AreTaken, IsFanoutOf, IsOrderedAt}
+use Rattle.fab_changes.specs.inner.Grouping.{IsFanoutOf, IsOrderedAt}
 use Rattle.fab_changes.proofs.Making.{changes_made}
 use Rattle.fab_changes.proofs.changes.Changes.new.Goals as goal
 

@@ -1,5 +1,4 @@
-use Rattle.std.proofs.Common.{◌≡◌, ◌<◌, ℕ, List, Some, length, refl, sym, ap, ◌∙◌, subst, arith, slice_get, slice_index}
-use Rattle.fab_ternary.specs.declared.Tern.{Tern}
+use Rattle.std.proofs.Common.{ℕ, List, length, refl, sym, ap, ◌∙◌, subst, arith, slice_get, slice_index}
 use Rattle.fab_compiled.specs.Terns.{seen}
 use Rattle.fab_demand.proofs.Lists.{get_within}
 use Rattle.fab_changes.specs.declared.groups.Group.{Group}

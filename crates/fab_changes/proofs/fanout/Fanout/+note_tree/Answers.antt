@@ -1,6 +1,5 @@
-use Rattle.std.proofs.Common.{◌≡◌, ◌⊎◌, ◌+◌, ◌^◌, ◌<◌, ℕ, rules, sym, ap, ◌∙◌, subst, inl, inr, arith}
-use Rattle.fab_compiled.specs.declared.tree.Tree.{Tree}
-use Rattle.fab_changes.specs.Fanout.{IsWatched, ReadsMore, WatchesTree}
+use Rattle.std.proofs.Common.{◌+◌, rules, sym, subst, arith}
+use Rattle.fab_changes.specs.Fanout.{WatchesTree}
 use Rattle.fab_changes.proofs.Noting.{reads_then, tree_more, watched_more}
 use Rattle.fab_changes.proofs.Options.{on_both, on_some}
 use Rattle.fab_changes.proofs.fanout.Fanout.+note_tree.Goals as goal
