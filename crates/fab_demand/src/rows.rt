@@ -19,12 +19,14 @@ struct Row {
     end: u32,
     /// How many points wait, up to the one that needs them.
     depth: usize,
-    /// Whether they are bits of the same expression as that point, so that each of them needs the others.
+    /// Whether each of them needs the others, through that point.
     ring: bool,
+    /// How many looks there were at points of the row.
+    looks: u32,
 }
 
 impl Row {
-    // Whether the last of so many waiting points needs this row: it has found it, or it is itself a point of a row of its own expression.
+    // Whether the last of so many waiting points needs this row: it has found it, or it is itself a point of the row, in a ring.
     fn serves(self, depth: usize) -> bool {
         self.depth == depth || self.ring && self.depth.saturating_add(1) == depth
     }
@@ -37,7 +39,8 @@ pub(crate) enum Next {
     Ask(u32),
     /// It is looked at.
     Look,
-    /// The same, where it is one of the points of a row.
+    /// The same, where it is one of the points of a row. That is told at the first look, the second, the fourth and so on: what others are known to have may
+    /// be found anew each time, and that takes long.
     LookInRow,
 }
 
@@ -70,6 +73,7 @@ impl Rows {
                 end,
                 depth,
                 ring,
+                looks: 0,
             });
         }
     }
@@ -94,8 +98,10 @@ impl Rows {
         if depth < row.depth {
             return Next::Look;
         }
-        self.push(row);
-        if row.depth.saturating_add(1) == depth {
+        let in_row = row.depth.saturating_add(1) == depth;
+        let looks = row.looks.saturating_add(u32::from(in_row));
+        self.push(Row { looks, ..row });
+        if in_row && looks.is_power_of_two() {
             Next::LookInRow
         } else {
             Next::Look
@@ -114,6 +120,7 @@ impl Rows {
             end: row.end,
             depth,
             ring: row.ring,
+            looks: row.looks,
         });
         Next::Ask(point)
     }
@@ -173,18 +180,22 @@ fn are_alike(first: &Drive, last: &Drive) -> bool {
     }
 }
 
-// Whether a point needs another bit of its own expression, to which no bit of it is led: then each of its bits needs all of them.
+// Whether a point needs one that in turn needs the name in which the point stands, and neither is led to the other: then each bit of the one name needs all
+// bits of both. They may be bits of one name.
 fn is_ring(network: &Network, point: u32, needed: u32) -> bool {
-    match (
-        network.drives.get(point as usize),
-        network.drives.get(needed as usize),
-    ) {
-        (Some(Drive::Value(one)), Some(Drive::Value(other))) => {
-            one.tree == other.tree
-                && one.first == other.first
-                && !source_leads_to(&network.trees, *one, needed)
+    end_by_drive(network, needed, point) > point
+        && !may_lead_to(network, point, needed)
+        && !may_lead_to(network, needed, point)
+}
+
+// Whether the bits of the expression that drives a point may be led to another point.
+fn may_lead_to(network: &Network, point: u32, other: u32) -> bool {
+    match network.drives.get(point as usize) {
+        Some(Drive::Value(source) | Drive::Hold(_, source)) => {
+            source_leads_to(&network.trees, *source, other)
         }
-        _ => false,
+        Some(Drive::Same(same)) => *same == other,
+        Some(Drive::Given | Drive::Flop(_, _)) | None => false,
     }
 }
 
