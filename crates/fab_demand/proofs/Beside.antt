@@ -31,13 +31,13 @@ use Rattle.fab_network.specs.Leading.{bits_of_source}
 use Rattle.fab_demand.specs.Search.{asked_of, HasRoom, IsSearching}
 use Rattle.fab_demand.proofs.Asking.{asks_both, keep_goes_on, know_goes_on, wait_goes_on, GoesOn}
 
-last_there : (xs : List ℕ) (y k : ℕ) → k ≡ length xs → slice_get (xs ++ y ∷ []) k ≡ Some y
+pub last_there : (xs : List ℕ) (y k : ℕ) → k ≡ length xs → slice_get (xs ++ y ∷ []) k ≡ Some y
 last_there [] y zero e = refl
 last_there [] y (suc k) e = absurd (omega (arith, e))
 last_there (x ∷ xs) y zero e = absurd (omega (arith, e))
 last_there (x ∷ xs) y (suc k) e = last_there xs y k (omega (arith, e))
 
-some_same : (a b : Drive) → Some a ≡ Some b → a ≡ b
+pub some_same : (a b : Drive) → Some a ≡ Some b → a ≡ b
 some_same a b e = cc
 
 known_is : (b : Bool) → is_known (known b) ≡ true
@@ -55,7 +55,7 @@ tells_same source part terns other_terns leads other_leads marks other_marks tre
     (subst (λ (xs : List Tern). TellsBits xs leads marks (bits_of_source trees source) part) e tells)))
 
 -- what is told of a gate and of a part stays true where more is known
-gate_later : (trees : List Tree) (old new : Asked) → AsksMore old new → KnowsMore old new → (gate : Option Source) (passes : Bool) →
+pub gate_later : (trees : List Tree) (old new : Asked) → AsksMore old new → KnowsMore old new → (gate : Option Source) (passes : Bool) →
     TellsGate trees old.terns old.leads old.marks gate passes → TellsGate trees new.terns new.leads new.marks gate passes
 gate_later trees old new more above None passes tells = tt
 gate_later trees old new more above (Some gate) passes tells = (
@@ -95,7 +95,7 @@ module _ (trees : List Tree) (clock : Clock) (given : PlainTern) (asked : Asked)
   gate_knows (Some gate) tells is b value = λ later t kept above.
       ap (λ (x : PlainTern). through x (source_tern trees t next) later) (tells.0 is t above) ∙ value t above
 
-  gate_keeps : (gate : Option Source) → TellsGate trees asked.terns asked.leads asked.marks gate passes →
+  pub gate_keeps : (gate : Option Source) → TellsGate trees asked.terns asked.leads asked.marks gate passes →
       ((t u : PointTerns) → AreAbove asked.terns asked.leads t → AreAbove asked.terns asked.leads u → AgreeOnMarked asked.marks t u →
       source_tern trees t next ≡ source_tern trees u next) →
       Finds trees clock given asked.terns asked.leads asked.marks (Some (drive_of gate next)) Own
@@ -103,7 +103,7 @@ module _ (trees : List Tree) (clock : Clock) (given : PlainTern) (asked : Asked)
   gate_keeps (Some gate) tells same = λ later t u kept at_t follow_t at_u follow_u agree.
       ap₂ (λ (x y : PlainTern). through x y later) (tells.1 t u at_t follow_t at_u follow_u agree) (same t u at_t at_u agree)
 
-no_flop : (gate : Option Source) (source own : Source) (clock : Clock) → drive_of gate source ≡ Flop clock own → ⊥
+pub no_flop : (gate : Option Source) (source own : Source) (clock : Clock) → drive_of gate source ≡ Flop clock own → ⊥
 no_flop None source own clock e = cc
 no_flop (Some gate) source own clock e = cc
 

@@ -13,6 +13,7 @@ ghost use Rattle.fab_compiled.specs.Parts.{TellsBits};
 ghost use Rattle.fab_network.specs.Leading.{bits_of_source};
 ghost use Rattle.fab_demand.specs.inner.Beside.{AreAlike, AreFitBits, IsBeside, IsBit, IsBitDrive, IsBitOfPart, IsClosedAs, IsDriveOf, IsInPart, KnowsMore, TellsGate, TellsTogether};
 
+use crate::copies::Copies;
 use crate::rows::is_unmarked;
 use crate::search::Search;
 use fab_base::Memory;
@@ -53,8 +54,22 @@ impl Search {
         let Some(bits) = self.wide_at(network, point) else {
             return;
         };
-        if let Some(together) = self.find_together(network, bits) {
-            self.close_part(network, &together, point);
+        let Some(passes) = self.passes_at(network, bits) else {
+            return;
+        };
+        match self.copied_at(network, bits.source) {
+            Some(copied) => {
+                self.close_copies(
+                    network,
+                    Copies {
+                        bits,
+                        passes,
+                        copied,
+                    },
+                    point,
+                );
+            }
+            None => self.close_beside(network, bits, passes, point),
         }
     }
 
@@ -78,23 +93,33 @@ impl Search {
             || is_bit_of(network, bits, self.waiting())
     }
 
-    // The bits of the part of an expression in which this one stands. None where the gate has to be looked at, or there is no memory.
-    fn find_together(&self, network: &Network, bits: Bits) -> Option<Together>
+    // Whether points have what their bits have, as `Together` says. None where the gate of this bit is known to be 0 or has to be looked at.
+    fn passes_at(&self, network: &Network, bits: Bits) -> Option<bool>
         requires fit { AreFitBits network.now.trees.items (length self.now.leads.items) bits }
         requires whole { IsWhole (asked_of self.now) }
-        ensures { IfSome result (TellsTogether network.now.trees.items (asked_of self.now)) }
+        ensures { IfSome result (TellsGate network.now.trees.items self.now.terns.items self.now.leads.items self.now.marks.items bits.gate) }
     {
         let view = View {
             terns: &self.terns,
             leads: &self.leads,
         };
-        let Some(passes) = gate_passes(&network.trees, bits.gate, &view, &self.marks) else {
-            return None;
-        };
-        let Some(part) = self.part_at(network, bits.source) else {
-            return None;
-        };
-        Some(Together { bits, passes, part })
+        gate_passes(&network.trees, bits.gate, &view, &self.marks)
+    }
+
+    // Closes bits of the part of an expression in which a bit stands, of which a point is one.
+    fn close_beside(&mut self, network: &Network, bits: Bits, passes: bool, point: u32)
+        requires fit { AreFitBits network.now.trees.items (length self.old.leads.items) bits }
+        requires points { length network.now.drives.items ≡ length self.old.leads.items }
+        requires gate { TellsGate network.now.trees.items self.old.terns.items self.old.leads.items self.old.marks.items bits.gate passes }
+        requires searching { (clock : Clock) × (given : PointTerns) × IsSearching network.now clock given self.old }
+        ensures searching { (clock : Clock) (given : PointTerns) → IsSearching network.now clock given self.old → IsSearching network.now clock given self.new }
+        ensures more { AsksMore (asked_of self.old) (asked_of self.new) }
+        ensures left { left_of self.new ≤ left_of self.old }
+    {
+        if let Some(part) = self.part_at(network, bits.source) {
+            let together = Together { bits, passes, part };
+            self.close_part(network, &together, point);
+        }
     }
 
     /// The part of an expression in which the bit of a source stands, where there is memory.
@@ -226,10 +251,8 @@ fn bits_at(network: &Network, point: u32) -> Option<Bits>
     requires fit { AreFit network.now.trees.items network.now.drives.items }
     ensures { IfSome result (AreFitBits network.now.trees.items (length network.now.drives.items)) }
 {
-    match network.drives.get(point as usize) {
-        Some(drive) => bits_of(*drive),
-        None => None,
-    }
+    let drive = network.drives.get(point as usize)?;
+    bits_of(*drive)
 }
 
 // A bit that a drive tells.
@@ -258,23 +281,19 @@ fn is_bit_of(network: &Network, bits: Bits, point: Option<u32>) -> bool {
     }
 }
 
-// Which bit of the same expression as another a point is, behind the same gate, if it is one.
-fn bit_of(network: &Network, bits: Bits, point: u32) -> Option<u32>
+/// Which bit of the same expression as another a point is, behind the same gate, if it is one.
+pub(crate) fn bit_of(network: &Network, bits: Bits, point: u32) -> Option<u32>
     ensures { IfSome result (λ bit. IsBit network.now bits point bit) }
 {
-    match network.drives.get(point as usize) {
-        Some(drive) => bit_in(*drive, bits),
-        None => None,
-    }
+    let drive = network.drives.get(point as usize)?;
+    bit_in(*drive, bits)
 }
 
 // The same of a drive.
 fn bit_in(drive: Drive, bits: Bits) -> Option<u32>
     ensures { IfSome result (λ bit. IsBitDrive drive bits bit) }
 {
-    let Some(found) = bits_of(drive) else {
-        return None;
-    };
+    let found = bits_of(drive)?;
     if are_alike(found, bits) {
         Some(found.source.bit)
     } else {
@@ -310,10 +329,16 @@ fn is_same(one: Source, other: Source) -> bool
 
 // The first point of a part of an expression of which a point is a bit, and behind the last one, where points follow one another as the bits do.
 fn points_of(together: &Together, point: u32) -> (u32, u32) {
-    let zero = point.saturating_sub(together.bits.source.bit);
-    let low = u32::try_from(together.part.low).unwrap_or(u32::MAX);
+    let part = &together.part;
+    points_beside(together.bits, point, part.low, part.bits.len() as u64)
+}
+
+/// The same of so many bits from a low one on.
+pub(crate) fn points_beside(bits: Bits, point: u32, low: u64, count: u64) -> (u32, u32) {
+    let zero = point.saturating_sub(bits.source.bit);
+    let low = u32::try_from(low).unwrap_or(u32::MAX);
     let start = zero.saturating_add(low);
-    let count = u32::try_from(together.part.bits.len()).unwrap_or(u32::MAX);
+    let count = u32::try_from(count).unwrap_or(u32::MAX);
     (start, start.saturating_add(count))
 }
 

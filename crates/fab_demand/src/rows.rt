@@ -59,15 +59,23 @@ impl Rows {
         }
     }
 
-    /// What a look has found that the last of so many waiting points needs, with the rest of the name that it stands in.
-    pub(crate) fn add(&mut self, network: &Network, point: u32, needed: u32, depth: usize) {
+    /// What a look has found that the last of so many waiting points needs, with the rest of the name that it stands in. Told is whether the point before it
+    /// waits.
+    pub(crate) fn add(
+        &mut self,
+        network: &Network,
+        point: u32,
+        needed: u32,
+        depth: usize,
+        waits: bool,
+    ) {
         if !may_begin_row(network, needed) {
             return;
         }
         let end = end_by_drive(network, point, needed);
         let next = needed.saturating_add(1);
         if end.saturating_sub(next) >= MANY {
-            let ring = is_ring(network, point, needed);
+            let ring = is_ring(network, point, needed, waits);
             self.push(Row {
                 next,
                 end,
@@ -180,12 +188,25 @@ fn are_alike(first: &Drive, last: &Drive) -> bool {
     }
 }
 
-// Whether a point needs one that in turn needs the name in which the point stands, and neither is led to the other: then each bit of the one name needs all
-// bits of both. They may be bits of one name.
-fn is_ring(network: &Network, point: u32, needed: u32) -> bool {
-    end_by_drive(network, needed, point) > point
+// Whether a point needs one that in turn needs the name in which the point stands, maybe through other names, and neither is led to the other: then each bit of
+// the one name needs all bits of both. They may be bits of one name. Where a bit of the name that is needed waits already, it waits for this point.
+fn is_ring(network: &Network, point: u32, needed: u32, waits: bool) -> bool {
+    let back = end_by_drive(network, needed, point) > point;
+    (back || waits && follows_bit(network, needed))
         && !may_lead_to(network, point, needed)
         && !may_lead_to(network, needed, point)
+}
+
+// Whether a point and the one before it are bits of one expression.
+fn follows_bit(network: &Network, point: u32) -> bool {
+    let before = point.saturating_sub(1);
+    match (
+        network.drives.get(before as usize),
+        network.drives.get(point as usize),
+    ) {
+        (Some(first), Some(last)) => are_alike(first, last),
+        _ => false,
+    }
 }
 
 // Whether the bits of the expression that drives a point may be led to another point.

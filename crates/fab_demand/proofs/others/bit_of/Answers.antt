@@ -5,10 +5,10 @@ use Rattle.fab_demand.specs.inner.Beside.{IsBit, IsBitDrive}
 use Rattle.fab_demand.proofs.Beside.{some_map}
 use Rattle.fab_demand.proofs.others.bit_of.Goals as goal
 
-pub returns-in-Some : goal.returns-in-Some
-returns-in-Some c =
-    let drive : Drive = c.in-Some.drive.now in
-    let found = c.in-Some.ensures.lookup in
+pub returns : goal.returns
+returns c =
+    let drive : Drive = c.in_ok-drive.drive.now in
+    let found = c.in_ok-drive.ensures.lookup in
     let at : slice_get c.args.network.now.drives.items c.args.point ≡ Some drive =
     ap (λ (drives : List Drive). slice_get drives c.args.point) (sym c.deref.ensures.value)
     ∙ slice_get-get_or c.deref.result.now c.args.point drive found.3.0
