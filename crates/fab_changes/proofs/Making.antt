@@ -51,7 +51,8 @@ ordered_by network own lists groups place readers there behind number group is_t
 
 -- ---- groups watch what they read
 
-pub watched_one : (network : Network) (own leads : List ℕ) (old new : Lists) (count : ℕ) (groups : List Group) (group : Group) (tree : Tree) → slice_get groups count ≡ Some group →
+pub watched_one : (network : Network) (own leads : List ℕ) (old new : Lists) (count : ℕ) (groups : List Group) (group : Group) (tree : Tree) →
+    slice_get groups count ≡ Some group →
     slice_get network.trees.items group.tree ≡ Some tree → ReadsMore old new → WatchesTree own leads new count group.first tree →
     AreWatched network own leads old count groups → AreWatched network own leads new (count + 1) groups
 watched_one network own leads old new count groups group tree there is more watched before number other its l also tree_is =

@@ -20,7 +20,8 @@ use Rattle.fab_changes.specs.Fanout.{HasReader, IsWatched, Lists}
 use Rattle.fab_changes.specs.inner.Looking.{AreSamePoints}
 
 -- A source has the same where all that it reads has the same.
-pub source_kept : (trees : List Tree) (Has : ℕ → Type 0) (t u : PointTerns) (source : Source) (tree : Tree) → slice_get trees source.tree ≡ Some tree → EachPlace Has tree →
+pub source_kept : (trees : List Tree) (Has : ℕ → Type 0) (t u : PointTerns) (source : Source) (tree : Tree) →
+    slice_get trees source.tree ≡ Some tree → EachPlace Has tree →
     ((place : ℕ) → Has place → t (source.first + place) ≡ u (source.first + place)) → source_tern trees t source ≡ source_tern trees u source
 source_kept trees Has t u source tree there reads same =
     ap (λ (o : Option Tree). tern_in o t source.first source.bit) there
@@ -51,8 +52,8 @@ module _ (network : Network) (old new : Asked) (lists : Lists) (number : ℕ) (g
       let tree : source.tree ≡ group.tree = ap (λ (s : Source). s.tree) same ∙ bit.tree in
       let first : group.first ≡ source.first = sym (ap (λ (s : Source). s.first) same ∙ bit.first) in
       let there : slice_get network.trees.items group.tree ≡ Some fits.tree = ap (slice_get network.trees.items) (sym tree) ∙ fits.is in
-      source_kept network.trees.items (λ k. IsWatched old.own old.leads lists number (source.first + k)) (seen old.terns old.leads) (seen new.terns old.leads) source
-      fits.tree fits.is
+      source_kept network.trees.items (λ k. IsWatched old.own old.leads lists number (source.first + k)) (seen old.terns old.leads)
+      (seen new.terns old.leads) source fits.tree fits.is
       (subst (λ (n : ℕ). EachPlace (λ k. IsWatched old.own old.leads lists number (n + k)) fits.tree) first (is.watched fits.tree there))
       (λ k reads. sym (stays (slice_index old.leads (source.first + k)) reads))
 

@@ -51,7 +51,8 @@ taken_set old new point tern l e =
 pub taken_same : (asked : Asked) (point : ℕ) (value : PlainTern) → kept_tern asked.terns point ≡ value → HasTaken point value asked asked
 taken_same asked point value is = record { points = points_same asked; has = is; others = λ other n. refl }
 
-pub taken_by : (point other : ℕ) (value found : PlainTern) (old new : Asked) → point ≡ other → value ≡ found → HasTaken point value old new → HasTaken other found old new
+pub taken_by : (point other : ℕ) (value found : PlainTern) (old new : Asked) → point ≡ other → value ≡ found →
+    HasTaken point value old new → HasTaken other found old new
 taken_by point other value found old new e f taken =
     subst (λ (n : ℕ). HasTaken n found old new) e (subst (λ (x : PlainTern). HasTaken point x old new) f taken)
 
@@ -64,7 +65,8 @@ not_both drive source is takes = let both : true ≡ false = sym takes ∙ ap ta
 module _ (group : Group) (found : List Tern) (old mid new : Asked) (place : ℕ) (inside : IsInGroup group place)
     (apart : (other : ℕ) → IsInGroup group other → other < place → slice_index old.own other ≢ slice_index old.own place)
     (taken : HasTaken (slice_index old.own place) (kept_tern found (place - group.begin)) mid new) (before : HasTakenGroup group place found old mid) where
-  values_more : (other : ℕ) → IsInGroup group other → other < place + 1 → kept_tern new.terns (slice_index old.own other) ≡ kept_tern found (other - group.begin)
+  values_more : (other : ℕ) → IsInGroup group other → other < place + 1 →
+      kept_tern new.terns (slice_index old.own other) ≡ kept_tern found (other - group.begin)
   values_more other at l =
       elim (cases_eq other place) [
         | inl e ↦ subst (λ (n : ℕ). kept_tern new.terns (slice_index old.own n) ≡ kept_tern found (n - group.begin)) (sym e) taken.has
@@ -137,9 +139,12 @@ module _ (network : Network) (old new : Asked) (lists : Lists) (taken : List ℕ
 
   -- ---- what a group takes
 
-  module _ (number : ℕ) (group : Group) (found : List Tern) (there : slice_get groups number ≡ Some group) (wrote : HasTakenGroup group group.end found old new) where
+  module _ (number : ℕ) (group : Group) (found : List Tern) (there : slice_get groups number ≡ Some group)
+      (wrote : HasTakenGroup group group.end found old new) where
     is_value : (place : ℕ) → IsInGroup group place → TakesGiven (drive_at network old.own place) → ⊥
-    is_value place inside takes = let bit = (are.each number group there).bits place inside in not_both (drive_at network old.own place) bit.source bit.drive takes
+    is_value place inside takes =
+        let bit = (are.each number group there).bits place inside in
+        not_both (drive_at network old.own place) bit.source bit.drive takes
 
     pub group_written : HasWritten network old new
     group_written = record {
@@ -167,7 +172,8 @@ module _ (network : Network) (old new : Asked) (lists : Lists) (taken : List ℕ
         (reads_stay number group there (omega arith))
         (wrote.values place inside inside.below
         ∙ are_found place inside inside.below
-        ∙ ap (value_tern network.trees.items (seen old.terns old.leads)) (drive_before network old new lists number group fit is wrote.points place source drive))
+        ∙ ap (value_tern network.trees.items (seen old.terns old.leads))
+        (drive_before network old new lists number group fit is wrote.points place source drive))
 
     -- a group before it
     pub earlier_right : (early : ℕ) (before : Group) → early < number → slice_get groups early ≡ Some before → IsRightGroup network old before →
@@ -252,6 +258,7 @@ written_then network old mid new one two = record {
   points = points_then old mid new one.points two.points;
   others = λ point each.
       two.others point
-      (subst (λ (own : List ℕ). (place : ℕ) → place < length own → slice_index own place ≡ point → TakesGiven (drive_at network own place)) (sym one.points.own) each)
+      (subst (λ (own : List ℕ). (place : ℕ) → place < length own → slice_index own place ≡ point → TakesGiven (drive_at network own place))
+      (sym one.points.own) each)
       ∙ one.others point each;
 }

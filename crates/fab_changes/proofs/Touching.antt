@@ -23,7 +23,8 @@ touched_then own old mid new before between after one two = record {
 }
 
 -- the same values and readers
-pub touched_by : (own other_own : List ℕ) (old new other_old other_new : List Tern) (before after : Fanout) → other_own ≡ own → other_old ≡ old → other_new ≡ new →
+pub touched_by : (own other_own : List ℕ) (old new other_old other_new : List Tern) (before after : Fanout) → other_own ≡ own →
+    other_old ≡ old → other_new ≡ new →
     HasTouched other_own other_old other_new before after → HasTouched own old new before after
 touched_by own other_own old new other_old other_new before after e f g touched =
     subst (λ (xs : List ℕ). HasTouched xs old new before after) e

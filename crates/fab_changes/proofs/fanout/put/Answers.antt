@@ -11,7 +11,8 @@ returns-then-eq-clause-reads c =
     let lists = c.args.lists.now.items in
     let readers = c.index.result.now in
     let inside : c.args.place < length lists = search rules in
-    let there : slice_get lists c.args.place ≡ Some readers = slice_get-get_or lists c.args.place readers inside ∙ ap (λ (v : Vec ℕ Global). Some v) (sym c.index.ensures) in
+    let there : slice_get lists c.args.place ≡ Some readers =
+    slice_get-get_or lists c.args.place readers inside ∙ ap (λ (v : Vec ℕ Global). Some v) (sym c.index.ensures) in
     let is : c.copied.result ≡ Some c.args.reader = search rules in
     let last : slice_get readers.items (length readers.items - 1) ≡ Some c.args.reader =
     ap (λ (xs : List ℕ). slice_get xs (length xs - 1)) (sym c.deref.ensures.value) ∙ sym c.last.ensures.value ∙ sym c.copied.ensures ∙ is in
@@ -39,6 +40,7 @@ returns-clause-more c =
     let lists = c.args.lists.now.items in
     let old = c.index_mut.result.now in
     let inside : c.args.place < length lists = search rules in
-    let there : slice_get lists c.args.place ≡ Some old = slice_get-get_or lists c.args.place old inside ∙ ap (λ (v : Vec ℕ Global). Some v) (sym c.index_mut.ensures.value) in
+    let there : slice_get lists c.args.place ≡ Some old =
+    slice_get-get_or lists c.args.place old inside ∙ ap (λ (v : Vec ℕ Global). Some v) (sym c.index_mut.ensures.value) in
     on_put c.push.result c.ok.result c.push.new.self.items (old.items ++ c.args.reader ∷ []) old.items c.ok.ensures.value c.push.ensures.items
     (λ items. put_more lists c.args.place old c.push.new.self (c.args.reader ∷ []) there items)

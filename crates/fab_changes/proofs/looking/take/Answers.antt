@@ -36,14 +36,15 @@ pub returns-clause-fanout : goal.returns-clause-fanout
 returns-clause-fanout c =
     let old = c.args.demand.now in
     let done = c.touch.ensures in
-    touched_by old.own old.own old.terns c.set_own.new.self.terns old.terns (slice_set old.terns (slice_index old.own c.args.place) c.args.tern) c.args.fanout.now
-    c.touch.new.self refl refl (sym (ap (λ (a : Asked). a.terns) c.set_own.ensures))
+    touched_by old.own old.own old.terns c.set_own.new.self.terns old.terns (slice_set old.terns (slice_index old.own c.args.place) c.args.tern)
+    c.args.fanout.now c.touch.new.self refl refl (sym (ap (λ (a : Asked). a.terns) c.set_own.ensures))
     (touched_at old.own old.terns c.args.place c.args.tern c.args.fanout.now c.touch.new.self c.requires.within done.readers done.long done.fresh done.touched)
 
 pub returns-clause-watches : goal.returns-clause-watches
 returns-clause-watches c =
     let old = c.args.demand.now in
     let done = c.touch-2.ensures in
-    touched_by old.own old.own old.terns c.set_own.new.self.terns old.terns (slice_set old.terns (slice_index old.own c.args.place) c.args.tern) c.args.watches.now
-    c.touch-2.new.self refl refl (sym (ap (λ (a : Asked). a.terns) c.set_own.ensures))
-    (touched_at old.own old.terns c.args.place c.args.tern c.args.watches.now c.touch-2.new.self c.requires.within done.readers done.long done.fresh done.touched)
+    touched_by old.own old.own old.terns c.set_own.new.self.terns old.terns (slice_set old.terns (slice_index old.own c.args.place) c.args.tern)
+    c.args.watches.now c.touch-2.new.self refl refl (sym (ap (λ (a : Asked). a.terns) c.set_own.ensures))
+    (touched_at old.own old.terns c.args.place c.args.tern c.args.watches.now c.touch-2.new.self c.requires.within done.readers done.long done.fresh
+    done.touched)
