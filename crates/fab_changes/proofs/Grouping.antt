@@ -1,9 +1,7 @@
 -- Groups of bits, one place after another.
-use Rattle.std.proofs.Common.{◌≡◌, ◌⊎◌, ℕ, ◌+◌, ◌<◌, ◌≤◌, List, [], ◌∷◌, ◌++◌, Option, Some, length, length-append, refl, sym, ap, ◌∙◌, subst, inl, inr, arith, slice_get}
-use Rattle.std.proofs.Common.{slice_set, slice_index}
-use Rattle.std.proofs.lemmas.Bool.{cases_eq, cases_lt}
-use Rattle.fab_compiled.specs.declared.tree.Tree.{Tree}
-use Rattle.fab_network.specs.declared.network.Drive.{Drive}
+use Rattle.std.proofs.Common.{◌≡◌, ◌⊎◌, ℕ, ◌+◌, ◌<◌, ◌≤◌, List, [], ◌∷◌, ◌++◌, Some, length, refl, sym, ap, ◌∙◌, subst, inl, inr, arith, slice_get}
+use Rattle.std.proofs.Common.{slice_set}
+use Rattle.std.proofs.lemmas.Bool.{cases_eq}
 use Rattle.fab_network.specs.declared.network.Drive.TheVariants.{Value}
 use Rattle.fab_network.specs.declared.network.Network.{Network}
 use Rattle.fab_network.specs.declared.network.Source.{Source}
@@ -37,7 +35,8 @@ taken_more network own count taken takes before = record {
 }
 
 -- and one whose point does not
-pub taken_same : (network : Network) (own : List ℕ) (count : ℕ) (taken : List ℕ) → (TakesGiven (drive_at network own count) → ⊥) → AreTaken network own count taken →
+pub taken_same : (network : Network) (own : List ℕ) (count : ℕ) (taken : List ℕ) → (TakesGiven (drive_at network own count) → ⊥) →
+    AreTaken network own count taken →
     AreTaken network own (count + 1) taken
 taken_same network own count taken none before = record {
   takes = λ place listed. let is = before.takes place listed in (omega (arith, is.0), is.1);
@@ -100,7 +99,12 @@ module _ (network : Network) (own : List ℕ) (count : ℕ) (source : Source) (g
   }
 
   in_one : (place : ℕ) → place ≡ count → IsGrouped more place
-  in_one place e = record { number = length groups; group = one; there = get_last groups one; inside = record { low = omega (arith, e); below = omega (arith, e) } }
+  in_one place e = record {
+    number = length groups;
+    group = one;
+    there = get_last groups one;
+    inside = record { low = omega (arith, e); below = omega (arith, e) };
+  }
 
   groups_begun : AreBitGroups network own (count + 1) more
   groups_begun = record {
@@ -123,7 +127,10 @@ module _ (network : Network) (own : List ℕ) (count : ℕ) (source : Source) (g
     ];
     rises = λ number later group next l there after. elim (get_either groups one later next after) [
       | inl old ↦ (let early : number < length groups = omega (arith, l, get_within groups later next old) in
-          elim (get_either groups one number group there) [ inl first ↦ before.rises number later group next l first old | inr last ↦ absurd (omega (arith, early, last.0)) ])
+          elim (get_either groups one number group there) [
+            | inl first ↦ before.rises number later group next l first old
+            | inr last ↦ absurd (omega (arith, early, last.0))
+          ])
       | inr last ↦ elim (get_either groups one number group there) [
         | inl first ↦ subst (λ (g : Group). group.end ≤ g.begin) (sym last.1) (before.ends number group first)
         | inr both ↦ absurd (omega (arith, l, both.0, last.0))
@@ -162,7 +169,12 @@ module _ (network : Network) (own : List ℕ) (count : ℕ) (source : Source) (g
           | inl e ↦ (let both : Some grouped.group ≡ Some longer.group = sym grouped.there ∙ ap (slice_get groups) e ∙ longer.there in
               let is : grouped.group ≡ longer.group = cc in
               let at : IsInGroup longer.group place = subst (λ (g : Group). IsInGroup g place) is grouped.inside in
-              record { number = longer.last; group = wide; there = there_now; inside = record { low = at.low; below = omega (arith, at.below, longer.next.ends) } })
+              record {
+                number = longer.last;
+                group = wide;
+                there = there_now;
+                inside = record { low = at.low; below = omega (arith, at.below, longer.next.ends) };
+              })
           | inr n ↦ record {
             number = grouped.number;
             group = grouped.group;
@@ -175,7 +187,12 @@ module _ (network : Network) (own : List ℕ) (count : ℕ) (source : Source) (g
     low_last = omega (arith, before.filled longer.last longer.group longer.there, longer.next.ends)
 
     in_wide : (place : ℕ) → place ≡ count → IsGrouped set place
-    in_wide place e = record { number = longer.last; group = wide; there = there_now; inside = record { low = omega (arith, e, low_last); below = omega (arith, e) } }
+    in_wide place e = record {
+      number = longer.last;
+      group = wide;
+      there = there_now;
+      inside = record { low = omega (arith, e, low_last); below = omega (arith, e) };
+    }
 
     bits_wide : (place : ℕ) → IsInGroup wide place → IsBitOf network own wide place
     bits_wide place inside =

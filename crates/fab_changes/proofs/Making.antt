@@ -1,8 +1,7 @@
 -- Places, groups and their readers, as they are made.
-use Rattle.std.proofs.Common.{◌≡◌, ◌⊎◌, ℕ, ◌+◌, ◌<◌, ◌≤◌, Bool, true, false, List, Some, Vec, Global, length, refl, sym, ap, ◌∙◌, subst, inl, inr, arith, get_or, slice_get}
+use Rattle.std.proofs.Common.{◌≡◌, ℕ, ◌+◌, ◌<◌, ◌≤◌, List, Some, Vec, Global, length, refl, sym, ap, ◌∙◌, subst, inl, inr, arith, slice_get}
 use Rattle.std.proofs.Common.{slice_index, slice_set}
-use Rattle.std.proofs.lemmas.Bool.{cases_eq, cases_lt}
-use Rattle.fab_ternary.specs.declared.Tern.{Tern}
+use Rattle.std.proofs.lemmas.Bool.{cases_eq}
 use Rattle.fab_compiled.specs.declared.tree.Tree.{Tree}
 use Rattle.fab_compiled.specs.Evaluation.{IsWithin}
 use Rattle.fab_compiled.specs.Trees.{IsMade}
@@ -11,13 +10,11 @@ use Rattle.fab_network.specs.declared.network.Network.{Network}
 use Rattle.fab_network.specs.Network.{AreFit}
 use Rattle.fab_network.specs.Passes.{AreOwn, IsListed}
 use Rattle.fab_demand.specs.Asked.{Asked}
-use Rattle.fab_demand.proofs.Lists.{get_other, get_same, get_within, index_is}
+use Rattle.fab_demand.proofs.Lists.{get_other, get_same, get_within}
 use Rattle.fab_changes.specs.declared.changes.Changes.{Changes}
-use Rattle.fab_changes.specs.declared.fanout.Fanout.{Fanout}
 use Rattle.fab_changes.specs.declared.groups.Group.{Group}
-use Rattle.fab_changes.specs.declared.places.Places.{Places}
-use Rattle.fab_changes.specs.Changes.{drive_at, AreChangesOf, AreGroups, IsGroup, IsInGroup, TakesGiven}
-use Rattle.fab_changes.specs.Fanout.{ArePlaces, IsFresh, IsOnce, IsReader, IsWatched, Lists, ReadsMore, WatchesTree}
+use Rattle.fab_changes.specs.Changes.{AreChangesOf}
+use Rattle.fab_changes.specs.Fanout.{IsOnce, Lists, ReadsMore, WatchesTree}
 use Rattle.fab_changes.specs.inner.Grouping.{AreBitGroups, AreTaken, AreWatched, BeginBehind, IsFanoutOf, IsOrderedAt}
 use Rattle.fab_changes.specs.inner.Looking.{HasRoom}
 use Rattle.fab_changes.proofs.Right.{groups_by}
@@ -54,7 +51,8 @@ ordered_by network own lists groups place readers there behind number group is_t
 
 -- ---- groups watch what they read
 
-pub watched_one : (network : Network) (own leads : List ℕ) (old new : Lists) (count : ℕ) (groups : List Group) (group : Group) (tree : Tree) → slice_get groups count ≡ Some group →
+pub watched_one : (network : Network) (own leads : List ℕ) (old new : Lists) (count : ℕ) (groups : List Group) (group : Group) (tree : Tree) →
+    slice_get groups count ≡ Some group →
     slice_get network.trees.items group.tree ≡ Some tree → ReadsMore old new → WatchesTree own leads new count group.first tree →
     AreWatched network own leads old count groups → AreWatched network own leads new (count + 1) groups
 watched_one network own leads old new count groups group tree there is more watched before number other its l also tree_is =

@@ -1,12 +1,12 @@
 -- Readers that are noted, and readers that come to be stale.
-use Rattle.std.proofs.Common.{◌≡◌, ℕ, ◌+◌, ◌^◌, ◌<◌, Bool, true, false, List, [], ◌∷◌, ◌++◌, Some, Vec, Global, length, refl, sym, ap, ◌∙◌, subst, inl, inr, arith}
+use Rattle.std.proofs.Common.{◌≡◌, ℕ, ◌+◌, ◌<◌, Bool, true, false, List, ◌++◌, Some, Vec, Global, length, sym, ap, ◌∙◌, subst, inl, inr, arith}
 use Rattle.std.proofs.Common.{zero, suc, replicate, slice_get, slice_index, slice_set}
 use Rattle.std.proofs.lemmas.Bool.{cases_eq}
 use Rattle.std.proofs.lemmas.List.{length-set}
 use Rattle.fab_compiled.specs.declared.tree.Tree.{Tree, Const, Bits, Pick', Cat', Not', And', Or', Xor', Equal', Minus', Cond'}
 use Rattle.fab_compiled.specs.Trees.{EachPlace}
 use Rattle.fab_network.specs.Passes.{IsListed}
-use Rattle.fab_demand.proofs.Lists.{get_other, get_same, get_within, index_is, listed_last, listed_left}
+use Rattle.fab_demand.proofs.Lists.{get_other, get_same, get_within, index_is, listed_left}
 use Rattle.fab_changes.specs.declared.places.Places.{Places}
 use Rattle.fab_changes.specs.Fanout.{ArePlaces, IsFresh, IsReader, IsWatched, Lists, ReadsMore, WatchesTree}
 

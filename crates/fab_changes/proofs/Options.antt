@@ -11,3 +11,7 @@ pub on_put : {A : Type 0} {E : Type 0} {P : Type 0} → (r : Result A E) (o : Op
     items ≡ (if is_ok r then more else none) → (items ≡ more → P) → OnSome o P
 on_put {P = P} (Ok a) o items more none e is turn = subst (λ (x : Option _). OnSome x P) (sym e) (turn is)
 on_put {P = P} (Err a) o items more none e is turn = subst (λ (x : Option _). OnSome x P) (sym e) tt
+
+pub on_both : {A : Type 0} {P : Type 0} {Q : Type 0} {R : Type 0} → (o : Option A) → (P → Q → R) → OnSome o P → OnSome o Q → OnSome o R
+on_both None turn p q = tt
+on_both (Some a) turn p q = turn p q

@@ -1,8 +1,7 @@
 -- What a group reads has what it had, and so the group is still right.
-use Rattle.std.proofs.Common.{◌≡◌, ℕ, ◌+◌, ◌<◌, ◌≤◌, List, Option, Some, length, refl, sym, ap, ◌∙◌, subst, get_or, slice_get, slice_index}
+use Rattle.std.proofs.Common.{◌≡◌, ℕ, ◌+◌, List, Option, Some, length, sym, ap, ◌∙◌, subst, get_or, slice_get, slice_index}
 use Rattle.fab_systems_laws.specs.Ternary.{no}
 use Rattle.fab_systems_laws.specs.Ternary.{Tern as PlainTern}
-use Rattle.fab_ternary.specs.declared.Tern.{Tern}
 use Rattle.fab_compiled.specs.declared.tree.Tree.{Tree}
 use Rattle.fab_compiled.specs.Leading.{PointTerns}
 use Rattle.fab_compiled.specs.Terns.{seen}
@@ -16,12 +15,13 @@ use Rattle.fab_network.specs.Network.{source_tern, tern_in, AreFit, IsFitSource}
 use Rattle.fab_network.specs.Passes.{kept_tern}
 use Rattle.fab_demand.specs.Asked.{Asked}
 use Rattle.fab_changes.specs.declared.groups.Group.{Group}
-use Rattle.fab_changes.specs.Changes.{drive_at, IsBitOf, IsGroup, IsInGroup, IsRightGroup}
+use Rattle.fab_changes.specs.Changes.{drive_at, IsGroup, IsInGroup, IsRightGroup}
 use Rattle.fab_changes.specs.Fanout.{HasReader, IsWatched, Lists}
 use Rattle.fab_changes.specs.inner.Looking.{AreSamePoints}
 
 -- A source has the same where all that it reads has the same.
-pub source_kept : (trees : List Tree) (Has : ℕ → Type 0) (t u : PointTerns) (source : Source) (tree : Tree) → slice_get trees source.tree ≡ Some tree → EachPlace Has tree →
+pub source_kept : (trees : List Tree) (Has : ℕ → Type 0) (t u : PointTerns) (source : Source) (tree : Tree) →
+    slice_get trees source.tree ≡ Some tree → EachPlace Has tree →
     ((place : ℕ) → Has place → t (source.first + place) ≡ u (source.first + place)) → source_tern trees t source ≡ source_tern trees u source
 source_kept trees Has t u source tree there reads same =
     ap (λ (o : Option Tree). tern_in o t source.first source.bit) there
@@ -52,8 +52,8 @@ module _ (network : Network) (old new : Asked) (lists : Lists) (number : ℕ) (g
       let tree : source.tree ≡ group.tree = ap (λ (s : Source). s.tree) same ∙ bit.tree in
       let first : group.first ≡ source.first = sym (ap (λ (s : Source). s.first) same ∙ bit.first) in
       let there : slice_get network.trees.items group.tree ≡ Some fits.tree = ap (slice_get network.trees.items) (sym tree) ∙ fits.is in
-      source_kept network.trees.items (λ k. IsWatched old.own old.leads lists number (source.first + k)) (seen old.terns old.leads) (seen new.terns old.leads) source
-      fits.tree fits.is
+      source_kept network.trees.items (λ k. IsWatched old.own old.leads lists number (source.first + k)) (seen old.terns old.leads)
+      (seen new.terns old.leads) source fits.tree fits.is
       (subst (λ (n : ℕ). EachPlace (λ k. IsWatched old.own old.leads lists number (n + k)) fits.tree) first (is.watched fits.tree there))
       (λ k reads. sym (stays (slice_index old.leads (source.first + k)) reads))
 

@@ -1,5 +1,5 @@
 -- What a look at a group leaves right.
-use Rattle.std.proofs.Common.{◌≡◌, ◌≢◌, ◌⊎◌, ℕ, zero, suc, ◌+◌, ◌-◌, ◌<◌, ◌≤◌, Bool, true, false, List, Option, Some, length, refl, sym, ap, ◌∙◌, subst, inl, inr, arith}
+use Rattle.std.proofs.Common.{◌≡◌, ◌≢◌, ◌⊎◌, ℕ, ◌+◌, ◌-◌, ◌<◌, ◌≤◌, Bool, true, false, List, Option, Some, length, refl, sym, ap, ◌∙◌, subst, inl, inr, arith}
 use Rattle.std.proofs.Common.{slice_get, slice_index, slice_set}
 use Rattle.std.proofs.lemmas.Bool.{cases_eq, cases_lt}
 use Rattle.std.proofs.lemmas.List.{length-set}
@@ -11,18 +11,17 @@ use Rattle.fab_network.specs.declared.network.Drive.{Drive}
 use Rattle.fab_network.specs.declared.network.Drive.TheVariants.{Value}
 use Rattle.fab_network.specs.declared.network.Network.{Network}
 use Rattle.fab_network.specs.declared.network.Source.{Source}
-use Rattle.fab_network.specs.Network.{source_tern, AreFit}
-use Rattle.fab_network.specs.Passes.{kept_tern, IsListed}
+use Rattle.fab_network.specs.Network.{AreFit}
+use Rattle.fab_network.specs.Passes.{kept_tern}
 use Rattle.fab_network.proofs.Kept.{kept_other, kept_same}
 use Rattle.fab_demand.specs.Asked.{Asked}
 use Rattle.fab_demand.proofs.Lists.{get_other}
-use Rattle.fab_changes.specs.declared.changes.Changes.{Changes}
 use Rattle.fab_changes.specs.declared.fanout.Fanout.{Fanout}
 use Rattle.fab_changes.specs.declared.groups.Group.{Group}
-use Rattle.fab_changes.specs.Changes.{drive_at, takes_given, AreGroups, IsBitOf, IsGroup, IsInGroup, IsRightGroup, TakesGiven}
-use Rattle.fab_changes.specs.Fanout.{HasReader, HasTouched, IsFresh, IsReader, Lists}
-use Rattle.fab_changes.specs.inner.Looking.{value_tern, AreFound, AreRightFrom, AreSameGroups, AreSamePoints, HasTaken, HasTakenGroup, HasWritten, HaveTaken}
-use Rattle.fab_changes.proofs.Reading.{drive_before, right_at, right_stays, source_stays}
+use Rattle.fab_changes.specs.Changes.{drive_at, takes_given, AreGroups, IsInGroup, IsRightGroup, TakesGiven}
+use Rattle.fab_changes.specs.Fanout.{HasReader, HasTouched, IsFresh, Lists}
+use Rattle.fab_changes.specs.inner.Looking.{value_tern, AreFound, AreSamePoints, HasTaken, HasTakenGroup, HasWritten, HaveTaken}
+use Rattle.fab_changes.proofs.Reading.{drive_before, right_at, right_stays}
 
 -- ---- points
 
@@ -52,7 +51,8 @@ taken_set old new point tern l e =
 pub taken_same : (asked : Asked) (point : ℕ) (value : PlainTern) → kept_tern asked.terns point ≡ value → HasTaken point value asked asked
 taken_same asked point value is = record { points = points_same asked; has = is; others = λ other n. refl }
 
-pub taken_by : (point other : ℕ) (value found : PlainTern) (old new : Asked) → point ≡ other → value ≡ found → HasTaken point value old new → HasTaken other found old new
+pub taken_by : (point other : ℕ) (value found : PlainTern) (old new : Asked) → point ≡ other → value ≡ found →
+    HasTaken point value old new → HasTaken other found old new
 taken_by point other value found old new e f taken =
     subst (λ (n : ℕ). HasTaken n found old new) e (subst (λ (x : PlainTern). HasTaken point x old new) f taken)
 
@@ -65,7 +65,8 @@ not_both drive source is takes = let both : true ≡ false = sym takes ∙ ap ta
 module _ (group : Group) (found : List Tern) (old mid new : Asked) (place : ℕ) (inside : IsInGroup group place)
     (apart : (other : ℕ) → IsInGroup group other → other < place → slice_index old.own other ≢ slice_index old.own place)
     (taken : HasTaken (slice_index old.own place) (kept_tern found (place - group.begin)) mid new) (before : HasTakenGroup group place found old mid) where
-  values_more : (other : ℕ) → IsInGroup group other → other < place + 1 → kept_tern new.terns (slice_index old.own other) ≡ kept_tern found (other - group.begin)
+  values_more : (other : ℕ) → IsInGroup group other → other < place + 1 →
+      kept_tern new.terns (slice_index old.own other) ≡ kept_tern found (other - group.begin)
   values_more other at l =
       elim (cases_eq other place) [
         | inl e ↦ subst (λ (n : ℕ). kept_tern new.terns (slice_index old.own n) ≡ kept_tern found (n - group.begin)) (sym e) taken.has
@@ -138,9 +139,12 @@ module _ (network : Network) (old new : Asked) (lists : Lists) (taken : List ℕ
 
   -- ---- what a group takes
 
-  module _ (number : ℕ) (group : Group) (found : List Tern) (there : slice_get groups number ≡ Some group) (wrote : HasTakenGroup group group.end found old new) where
+  module _ (number : ℕ) (group : Group) (found : List Tern) (there : slice_get groups number ≡ Some group)
+      (wrote : HasTakenGroup group group.end found old new) where
     is_value : (place : ℕ) → IsInGroup group place → TakesGiven (drive_at network old.own place) → ⊥
-    is_value place inside takes = let bit = (are.each number group there).bits place inside in not_both (drive_at network old.own place) bit.source bit.drive takes
+    is_value place inside takes =
+        let bit = (are.each number group there).bits place inside in
+        not_both (drive_at network old.own place) bit.source bit.drive takes
 
     pub group_written : HasWritten network old new
     group_written = record {
@@ -168,7 +172,8 @@ module _ (network : Network) (old new : Asked) (lists : Lists) (taken : List ℕ
         (reads_stay number group there (omega arith))
         (wrote.values place inside inside.below
         ∙ are_found place inside inside.below
-        ∙ ap (value_tern network.trees.items (seen old.terns old.leads)) (drive_before network old new lists number group fit is wrote.points place source drive))
+        ∙ ap (value_tern network.trees.items (seen old.terns old.leads))
+        (drive_before network old new lists number group fit is wrote.points place source drive))
 
     -- a group before it
     pub earlier_right : (early : ℕ) (before : Group) → early < number → slice_get groups early ≡ Some before → IsRightGroup network old before →
@@ -253,6 +258,7 @@ written_then network old mid new one two = record {
   points = points_then old mid new one.points two.points;
   others = λ point each.
       two.others point
-      (subst (λ (own : List ℕ). (place : ℕ) → place < length own → slice_index own place ≡ point → TakesGiven (drive_at network own place)) (sym one.points.own) each)
+      (subst (λ (own : List ℕ). (place : ℕ) → place < length own → slice_index own place ≡ point → TakesGiven (drive_at network own place))
+      (sym one.points.own) each)
       ∙ one.others point each;
 }

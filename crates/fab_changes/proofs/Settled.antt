@@ -1,10 +1,10 @@
 -- Where all groups are right, all that has been asked for has the values of the least solution.
-use Rattle.std.proofs.Common.{◌≡◌, ◌⊎◌, ℕ, zero, suc, ◌+◌, ◌-◌, ◌<◌, ◌≤◌, List, [], ◌∷◌, None, Option, Some, length, refl, sym, ap, ◌∙◌, subst, inl, inr, arith}
+use Rattle.std.proofs.Common.{◌≡◌, ◌⊎◌, ℕ, zero, suc, ◌+◌, ◌<◌, List, [], ◌∷◌, None, Option, Some, length, refl, sym, ap, ◌∙◌, subst, inl, inr, arith}
 use Rattle.std.proofs.Common.{slice_get, slice_index, slice_set}
 use Rattle.std.proofs.lemmas.Bool.{cases_eq, cases_lt}
 use Rattle.fab_systems_laws.specs.Ternary.{no, yes, unknown, IsBelow}
 use Rattle.fab_systems_laws.specs.Ternary.{Tern as PlainTern}
-use Rattle.fab_systems_laws.proofs.Order.{below_equal, below_self}
+use Rattle.fab_systems_laws.proofs.Order.{below_equal}
 use Rattle.fab_ternary.specs.declared.Tern.{Tern}
 use Rattle.fab_ternary.specs.declared.Tern.TheVariants.{Open}
 use Rattle.fab_compiled.specs.declared.tree.Tree.{Tree}
@@ -16,7 +16,7 @@ use Rattle.fab_network.specs.declared.network.Drive.TheVariants.{Given, Flop, Sa
 use Rattle.fab_network.specs.declared.network.Network.{Network}
 use Rattle.fab_network.specs.declared.network.Source.{Source}
 use Rattle.fab_network.specs.Network.{drive_tern, source_tern, AreFit, IsFitSource}
-use Rattle.fab_network.specs.Passes.{kept_tern, shows, AreLed, AreSolved, IsListed, StaysBelow}
+use Rattle.fab_network.specs.Passes.{kept_tern, shows, AreLed, AreSolved, IsListed}
 use Rattle.fab_network.proofs.Kept.{kept_other}
 use Rattle.fab_network.proofs.Sources.{source_grows}
 use Rattle.fab_demand.specs.Asked.{Asked, DiffersInOwn}
@@ -25,7 +25,7 @@ use Rattle.fab_demand.specs.inner.Cycles.{start_tern, IsSettled}
 use Rattle.fab_demand.proofs.Lists.{listed_or_not}
 use Rattle.fab_demand.proofs.Settling.{cycle_shows, differs_after, settled_of}
 use Rattle.fab_changes.specs.declared.groups.Group.{Group}
-use Rattle.fab_changes.specs.Changes.{drive_at, AreGroups, IsGrouped, IsInGroup, IsRightGroup, TakesGiven}
+use Rattle.fab_changes.specs.Changes.{drive_at, AreGroups, IsGrouped, IsRightGroup, TakesGiven}
 use Rattle.fab_changes.specs.Fanout.{IsReader, IsWatched, Lists}
 use Rattle.fab_changes.specs.inner.Looking.{AreSamePoints, HasWritten, HaveTaken}
 use Rattle.fab_changes.proofs.Right.{groups_by, not_both, points_then}
@@ -52,7 +52,8 @@ set_open (t ∷ terns) zero = refl
 set_open (t ∷ terns) (suc q) = set_open terns q
 
 -- a point that is opened stays so
-open_stays : (drive : Option Drive) (q : ℕ) (terns : List Tern) (point : ℕ) → kept_tern terns point ≡ unknown → kept_tern (open_at drive q terns) point ≡ unknown
+open_stays : (drive : Option Drive) (q : ℕ) (terns : List Tern) (point : ℕ) → kept_tern terns point ≡ unknown →
+    kept_tern (open_at drive q terns) point ≡ unknown
 open_stays None q terns point is = is
 open_stays (Some Given) q terns point is = is
 open_stays (Some (Flop clock next)) q terns point is = is
@@ -250,7 +251,8 @@ module _ (network : Network) (asked : Asked) (given old : List Tern) (lists : Li
       seen asked.terns asked.leads (own_at place) ≡ shows network.trees.items network.drives.items given (seen asked.terns asked.leads) (own_at place)
   solved_at place l =
       elim (which place l) [
-        | inl is ↦ shown_taken network.trees.items (kept_tern given (own_at place)) (seen asked.terns asked.leads) (own_at place) (drive_at network asked.own place) is
+        | inl is ↦ shown_taken network.trees.items (kept_tern given (own_at place)) (seen asked.terns asked.leads) (own_at place)
+            (drive_at network asked.own place) is
         | inr value ↦ seen_own asked.terns place l ∙ value.is
             ∙ sym (ap (drive_tern network.trees.items (kept_tern given (own_at place)) (seen asked.terns asked.leads) (own_at place)) value.drive)
       ]
@@ -301,7 +303,8 @@ module _ (network : Network) (asked : Asked) (given old : List Tern) (lists : Li
           let first : group.first ≡ value.source.first = sym (ap (λ (s : Source). s.first) same ∙ bit.first) in
           let there : slice_get network.trees.items group.tree ≡ Some fits.tree = ap (slice_get network.trees.items) (sym tree) ∙ fits.is in
           let below : IsBelow (source_tern network.trees.items (seen asked.terns asked.leads) value.source) (source_tern network.trees.items t value.source) =
-          source_below network.trees.items (length network.drives.items) (λ k. IsWatched asked.own asked.leads lists value.grouped.number (value.source.first + k))
+          source_below network.trees.items (length network.drives.items)
+          (λ k. IsWatched asked.own asked.leads lists value.grouped.number (value.source.first + k))
           (seen asked.terns asked.leads) t value.source fits.tree fits fits.is
           (subst (λ (n : ℕ). EachPlace (λ k. IsWatched asked.own asked.leads lists value.grouped.number (n + k)) fits.tree) first (is.watched fits.tree there))
           (λ k watched m. read_below (value.source.first + k) watched m) in
@@ -355,7 +358,8 @@ module _ (network : Network) (old mid new : Asked) (given : List Tern) (lists : 
       kept_tern new.terns point ≡ kept_tern mid.terns point
   stays_written point each =
       wrote.others point
-      (subst (λ (own : List ℕ). (place : ℕ) → place < length own → slice_index own place ≡ point → TakesGiven (drive_at network own place)) (sym have.points.own) each)
+      (subst (λ (own : List ℕ). (place : ℕ) → place < length own → slice_index own place ≡ point → TakesGiven (drive_at network own place))
+      (sym have.points.own) each)
 
   has_given : (place : ℕ) → place < length old.own → TakesGiven (drive_at network old.own place) →
       kept_tern new.terns (slice_index old.own place) ≡ kept_tern given (slice_index old.own place)
@@ -383,7 +387,8 @@ module _ (network : Network) (old mid new : Asked) (given : List Tern) (lists : 
 
   pub cycle_is : IsSettled network given old.own old.leads old.terns new.terns
   cycle_is =
-      settled_of network given new.own old.own new.leads old.leads old.terns old.terns new.terns new.terns cycle_points.own cycle_points.leads refl refl cycle_settled
+      settled_of network given new.own old.own new.leads old.leads old.terns old.terns new.terns new.terns cycle_points.own
+      cycle_points.leads refl refl cycle_settled
 
   pub changed_shows : ShowsLeast network given old new
   changed_shows = cycle_shows network given old new fit points cycle_points.leads cycle_points.marks cycle_points.own cycle_is

@@ -1,8 +1,7 @@
 -- Values that have changed, and readers that are stale for that.
-use Rattle.std.proofs.Common.{◌≡◌, ℕ, ◌<◌, Bool, List, length, refl, sym, ap, ◌∙◌, subst, inl, inr, slice_index, slice_set}
+use Rattle.std.proofs.Common.{◌≡◌, ℕ, ◌<◌, List, length, refl, sym, ◌∙◌, subst, inl, inr, slice_index, slice_set}
 use Rattle.std.proofs.lemmas.Bool.{cases_eq}
 use Rattle.fab_ternary.specs.declared.Tern.{Tern}
-use Rattle.fab_network.specs.Passes.{kept_tern}
 use Rattle.fab_network.proofs.Kept.{kept_other}
 use Rattle.fab_changes.specs.declared.fanout.Fanout.{Fanout}
 use Rattle.fab_changes.specs.Fanout.{HasReader, HasTouched, IsFresh, IsReader, Lists}
@@ -24,7 +23,8 @@ touched_then own old mid new before between after one two = record {
 }
 
 -- the same values and readers
-pub touched_by : (own other_own : List ℕ) (old new other_old other_new : List Tern) (before after : Fanout) → other_own ≡ own → other_old ≡ old → other_new ≡ new →
+pub touched_by : (own other_own : List ℕ) (old new other_old other_new : List Tern) (before after : Fanout) → other_own ≡ own →
+    other_old ≡ old → other_new ≡ new →
     HasTouched other_own other_old other_new before after → HasTouched own old new before after
 touched_by own other_own old new other_old other_new before after e f g touched =
     subst (λ (xs : List ℕ). HasTouched xs old new before after) e

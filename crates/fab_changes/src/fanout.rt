@@ -1,6 +1,6 @@
 //! Who reads which points.
 
-ghost use Rattle.std.specs.Prelude.{◌≡◌, ◌+◌, ◌<◌, ◌≤◌, ◌^◌, ℕ, true, false, length, replicate, slice_get, slice_set, IfSome, OnSome, Some};
+ghost use Rattle.std.specs.Prelude.{◌≡◌, ◌+◌, ◌<◌, ◌≤◌, ℕ, true, false, length, replicate, slice_get, slice_set, IfSome, OnSome, Some};
 ghost use Rattle.fab_compiled.specs.Evaluation.{IsWithin};
 ghost use Rattle.fab_compiled.specs.Trees.{IsMade};
 ghost use Rattle.fab_network.specs.Passes.{IsListed};

@@ -1,6 +1,6 @@
 //! Where points stand among those that stand for themselves.
 
-ghost use Rattle.std.specs.Prelude.{◌≡◌, ◌<◌, ◌≤◌, ◌^◌, ℕ, length, slice_index, IfSome, MatchOption};
+ghost use Rattle.std.specs.Prelude.{◌≡◌, ◌<◌, length, slice_index, IfSome, MatchOption};
 ghost use Rattle.fab_network.specs.Passes.{IsListed};
 ghost use Rattle.fab_changes.specs.Fanout.{ArePlaces, IsOnce};
 

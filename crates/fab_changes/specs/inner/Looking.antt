@@ -35,7 +35,8 @@ pub record HasTaken (point : ℕ) (value : PlainTern) (old new : Asked) : Type 0
 -- the points at the first of these places have what is given to them, and all others what they had
 pub record HaveTaken (taken : List ℕ) (count : ℕ) (given : List Tern) (old new : Asked) : Type 0 where
   pub points : AreSamePoints old new
-  pub values : (k : ℕ) → k < count → kept_tern new.terns (slice_index old.own (slice_index taken k)) ≡ kept_tern given (slice_index old.own (slice_index taken k))
+  pub values : (k : ℕ) → k < count → kept_tern new.terns (slice_index old.own (slice_index taken k)) ≡
+      kept_tern given (slice_index old.own (slice_index taken k))
   pub others : (point : ℕ) → ((k : ℕ) → k < count → slice_index old.own (slice_index taken k) ≢ point) → kept_tern new.terns point ≡ kept_tern old.terns point
 
 -- the points of a group below a place have what was found, and all others what they had

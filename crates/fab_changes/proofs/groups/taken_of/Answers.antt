@@ -1,4 +1,4 @@
-use Rattle.std.proofs.Common.{◌≡◌, ◌+◌, ◌++◌, ◌∷◌, [], true, false, List, ℕ, rules, sym, ap, ◌∙◌, subst}
+use Rattle.std.proofs.Common.{◌≡◌, ◌+◌, ◌++◌, ◌∷◌, [], true, false, rules, sym, ◌∙◌, subst}
 use Rattle.fab_changes.specs.Changes.{drive_at, TakesGiven}
 use Rattle.fab_changes.specs.inner.Grouping.{AreTaken}
 use Rattle.fab_changes.proofs.Grouping.{taken_more, taken_same}

@@ -1,6 +1,5 @@
-use Rattle.std.proofs.Common.{◌≡◌, ◌-◌, ◌+◌, ◌<◌, ◌≤◌, ℕ, List, length, sym, ap, ◌∙◌, subst, arith, slice_get, slice_index}
+use Rattle.std.proofs.Common.{ℕ, List, length, ap, ◌∙◌, arith, slice_get, slice_index}
 use Rattle.fab_ternary.specs.declared.Tern.{Tern}
-use Rattle.fab_ternary.specs.Terns.{plain_tern}
 use Rattle.fab_compiled.specs.Terns.{seen}
 use Rattle.fab_changes.specs.inner.Looking.{value_tern}
 use Rattle.fab_changes.proofs.Right.{found_more, found_none}
@@ -9,7 +8,8 @@ use Rattle.fab_changes.proofs.looking.find_values.Goals as goal
 pub loop-place-init : goal.loop-place-init
 loop-place-init c = record {
   found = found_none c.args.network.now c.args.demand.now c.args.group c.args.found.now;
-  shared = c.new-shared.ensures c.args.network.now.trees.items (length c.view-view.result.leads.now) (seen c.view-view.result.terns.now c.view-view.result.leads.now);
+  shared = c.new-shared.ensures c.args.network.now.trees.items (length c.view-view.result.leads.now)
+      (seen c.view-view.result.terns.now c.view-view.result.leads.now);
 }
 
 pub loop-place-preserved : goal.loop-place-preserved

@@ -1,6 +1,4 @@
-use Rattle.std.proofs.Common.{◌≡◌, ◌<◌, List, ℕ, length, refl, sym, ap, ◌∙◌, subst, arith, slice_index, slice_index_or}
-use Rattle.fab_ternary.specs.declared.Tern.{Tern}
-use Rattle.fab_ternary.specs.Terns.{plain_tern}
+use Rattle.std.proofs.Common.{◌≡◌, ◌<◌, List, ℕ, length, refl, sym, ap, ◌∙◌, subst, arith, slice_index}
 use Rattle.fab_network.specs.Passes.{kept_tern}
 use Rattle.fab_changes.proofs.Lists.{kept_read}
 use Rattle.fab_changes.proofs.Right.{taken_by, taken_one}

@@ -1,7 +1,4 @@
-use Rattle.std.proofs.Common.{◌≡◌, ◌-◌, ◌<◌, List, ℕ, refl, sym, ap, ◌∙◌, subst, arith, slice_index}
-use Rattle.fab_ternary.specs.declared.Tern.{Tern}
-use Rattle.fab_ternary.specs.Terns.{plain_tern}
-use Rattle.fab_demand.specs.Asked.{Asked}
+use Rattle.std.proofs.Common.{◌-◌, List, ℕ, refl, ap, arith, slice_index}
 use Rattle.fab_changes.proofs.Lists.{kept_read}
 use Rattle.fab_changes.proofs.Right.{group_more, taken_by}
 use Rattle.fab_changes.proofs.Touching.{touched_by, touched_then}

@@ -1,4 +1,4 @@
-use Rattle.std.proofs.Common.{◌≡◌, ℕ, List, Option, Some, length, slice_get, sym, ap, ◌∙◌, subst}
+use Rattle.std.proofs.Common.{◌≡◌, ℕ, List, Some, length, slice_get, sym, ap, ◌∙◌, subst}
 use Rattle.std.proofs.lemmas.Option.{slice_get-get_or}
 use Rattle.fab_compiled.specs.Leading.{PointTerns}
 use Rattle.fab_compiled.specs.Terns.{seen}
@@ -24,7 +24,8 @@ value-requires-clause-fit c =
 
 pub value-requires-clause-shared : goal.value-requires-clause-shared
 value-requires-clause-shared c =
-    subst (λ (trees : List Tree). IsShared trees (length c.args.view.now.leads.now) (seen c.args.view.now.terns.now c.args.view.now.leads.now) c.args.shared.now)
+    subst (λ (trees : List Tree). IsShared trees (length c.args.view.now.leads.now)
+    (seen c.args.view.now.terns.now c.args.view.now.leads.now) c.args.shared.now)
     (sym c.deref-in-Some-Value.ensures.value) c.requires.shared
 
 pub returns-in-Some-Value-clause-shared : goal.returns-in-Some-Value-clause-shared

@@ -1,5 +1,4 @@
-use Rattle.std.proofs.Common.{◌≡◌, ◌<◌, ℕ, List, Some, length, refl, sym, ap, ◌∙◌, subst, arith, slice_get, slice_index}
-use Rattle.fab_ternary.specs.declared.Tern.{Tern}
+use Rattle.std.proofs.Common.{ℕ, List, length, refl, sym, ap, ◌∙◌, subst, arith, slice_get, slice_index}
 use Rattle.fab_compiled.specs.Terns.{seen}
 use Rattle.fab_demand.proofs.Lists.{get_within}
 use Rattle.fab_changes.specs.declared.groups.Group.{Group}
@@ -70,7 +69,7 @@ returns-clause-shows c =
     changed_shows c.args.network.now old mid new c.args.given.now self.fanout.readers.items taken self.groups.items c.requires.fit c.requires.points
     c.requires.changes.groups have inv.written
     (λ number group there. inv.right.done number group
-    (omega (arith, get_within self.groups.items number group there, c.loop-number-test.false, c.len.ensures))
+    (omega (arith, get_within self.groups.items number group there, c.loop-number-test.false, c.len-number-end.ensures, self.groups.ok))
     (ap (λ (gs : List Group). slice_get gs number) inv.same.groups ∙ there))
 
 pub returns-clause-kept : goal.returns-clause-kept
