@@ -1,5 +1,5 @@
 -- The names that expressions read, by their places among the points of an instance.
-use Rattle.std.proofs.Common.{◌≡◌, ℕ, zero, suc, ◌+◌, ◌-◌, ◌<◌, ◌≤◌, ◌⊎◌, Bool, true, List, [], ◌∷◌, ◌++◌, length, map, length-append, slice_get, slice_set, get_or, Contains, Option, Some, None, Result, Ok, Err, OnOk, refl, sym, ap, ◌∙◌, subst, inl, inr, arith}
+use Rattle.std.proofs.Common.{◌≡◌, ℕ, zero, suc, ◌+◌, ◌-◌, ◌<◌, ◌≤◌, ◌⊎◌, Bool, List, [], ◌∷◌, ◌++◌, length, map, length-append, slice_get, slice_set, get_or, Contains, Option, Some, Result, Ok, Err, OnOk, refl, sym, ap, ◌∙◌, subst, inl, inr, arith}
 use Rattle.std.specs.Prelude.{nat_lt}
 use Rattle.std.proofs.lemmas.Bool.{cases_eq}
 use Rattle.std.proofs.lemmas.List.{length-map, length-set}
@@ -13,7 +13,6 @@ use Rattle.fab_meaning.specs.Reads.{is_declared, mentions}
 use Rattle.fab_values.specs.Declarations.{declarations, found_in}
 use Rattle.fab_equations.specs.Instances.{Instance, instances, points}
 use Rattle.fab_equations.specs.Numbering.{IsInstanceOfNumber, points_before}
-use Rattle.fab_equations.specs.Tables.{IsExpression}
 use Rattle.fab_equations.specs.Equations.{IsPoint, IsSource}
 use Rattle.fab_equations.specs.declared.driver.Source.{Source}
 use Rattle.fab_equations.proofs.Numbering.{same_value, instances_stand}

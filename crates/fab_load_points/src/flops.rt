@@ -1,10 +1,11 @@
 //! The flip-flops of the clock `CLK` that read, for what they take, nothing but what they themselves and the stream lead to.
 
-ghost use Rattle.std.specs.Prelude.{◌≡◌, ◌<◌, ◌≤◌, [], true, IfOk, IfSome, IfNone, OnOk, length};
-ghost use Rattle.fab_syntax.specs.Plain.{plain_text};
+ghost use Rattle.std.specs.Prelude.{◌≡◌, ◌≤◌, List, [], true, IfOk, IfSome, IfNone, OnOk, length};
+ghost use Rattle.fab_syntax.specs.Plain.{PlainModule, plain_text};
 ghost use Rattle.fab_syntax.specs.Sound.{IsSound};
 ghost use Rattle.fab_meaning.specs.Points.{Point};
 ghost use Rattle.fab_equations.specs.Instances.{points};
+ghost use Rattle.fab_equations.specs.Equations.{IsDriven};
 ghost use Rattle.fab_load_points.specs.inner.Causes.{IsStreamOf, StandsFor};
 ghost use Rattle.fab_load_points.specs.inner.Known.{AreKnown};
 ghost use Rattle.fab_load_points.specs.inner.Search.{Scene, IsSearch};
@@ -35,15 +36,17 @@ pub fn closed_search(
     equations: &Equations,
     stream: Stream,
     known: &KnownReads,
+    mut flops: Vec<Flop>,
 ) -> Result<Search, Memory>
     requires sound { IsSound (plain_text equations.now) }
     requires stream { IsStreamOf (plain_text equations.now) stream }
     requires known { AreKnown (plain_text equations.now) known.now }
+    requires flops { AreLoaderFlops (plain_text equations.now) flops.items }
+    requires all { (p : Point) → IsLoaderPoint (plain_text equations.now) p → among (plain_text equations.now) flops.items p ≡ true }
     ensures long { IfOk result (λ search. length search.statuses.items ≡ length (points (plain_text equations.now))) }
     ensures rest { IfOk result (λ search. search.stack.items ≡ []) }
     ensures closed { IfOk result (λ search. IsClosedSearch (plain_text equations.now) search.statuses.items) }
 {
-    let mut flops = loader_flops(alloc, equations, stream)?;
     'rounds: loop {
         let mut search = begin(alloc, equations, &flops)?;
         let mut kept = kept_flops(&mut search, alloc, equations, stream, known, &flops)?;
@@ -55,38 +58,40 @@ pub fn closed_search(
     }
 }
 
-// All flip-flops of the clock `CLK`.
-fn loader_flops(alloc: Global, equations: &Equations, stream: Stream) -> Result<Vec<Flop>, Memory>
+/// All flip-flops of the clock `CLK`. What the expressions read that drive points is noted on the way.
+pub fn loader_flops(
+    alloc: Global,
+    equations: &Equations,
+    stream: Stream,
+    known: &mut KnownReads,
+) -> Result<Vec<Flop>, Memory>
     requires sound { IsSound (plain_text equations.now) }
     requires stream { IsStreamOf (plain_text equations.now) stream }
+    requires known { AreKnown (plain_text equations.now) known.old }
+    ensures known { OnOk result (AreKnown (plain_text equations.now) known.new) }
     ensures flops { IfOk result (λ flops. AreLoaderFlops (plain_text equations.now) flops.items) }
     ensures all { IfOk result (λ flops. (p : Point) → IsLoaderPoint (plain_text equations.now) p → among (plain_text equations.now) flops.items p ≡ true) }
 {
     let mut flops = Vec::new(alloc);
     let mut cursor = Cursor::new();
     for point in 0..equations.points() {
-        if let Some(flop) = loader_flop(equations, stream, &mut cursor, point) {
+        let driver = equations.driver_near(point, &mut cursor);
+        known.note_driver(alloc, equations, driver)?;
+        if let Some(flop) = loader_flop(stream, point, driver) {
             flops.push(flop)?;
         }
     }
     Ok(flops)
 }
 
-// The flip-flop of the clock `CLK` of which this is the first point; none where it is not such a point.
-fn loader_flop(
-    equations: &Equations,
-    stream: Stream,
-    cursor: &mut Cursor,
-    point: u32,
-) -> Option<Flop>
-    requires sound { IsSound (plain_text equations.now) }
-    requires stream { IsStreamOf (plain_text equations.now) stream }
-    requires within { point < length (points (plain_text equations.now)) }
+// The flip-flop of the clock `CLK` of which this is the first point, where this drives it; none where it is not such a point.
+fn loader_flop(stream: Stream, point: u32, driver: Driver) -> Option<Flop>
     ensures name { IfSome result (λ f. f.name ≡ point) }
-    ensures flop { IfSome result (IsLoaderFlop (plain_text equations.now)) }
-    ensures other { IfNone result ((p : Point) → StandsFor (plain_text equations.now) point p → ¬ IsLoaderPoint (plain_text equations.now) p) }
+    ensures flop { IfSome result (λ f. (text : List PlainModule) → IsSound text → IsStreamOf text stream → IsDriven text point driver → IsLoaderFlop text f) }
+    ensures other { IfNone result ((text : List PlainModule) → IsSound text → IsStreamOf text stream → IsDriven text point driver →
+        (p : Point) → StandsFor text point p → ¬ IsLoaderPoint text p) }
 {
-    let Driver::Flop(clock, next) = equations.driver_near(point, cursor) else {
+    let Driver::Flop(clock, next) = driver else {
         return None;
     };
     if next.bit == 0 && stream.clock == Some(clock) {

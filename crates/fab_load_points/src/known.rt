@@ -9,7 +9,7 @@ ghost use Rattle.fab_load_points.specs.inner.Known.{AddsPlaces, AreKnown};
 
 use crate::causes::add_names_of;
 use fab_base::Memory;
-use fab_equations::{Cursor, Driver, Equations, Source};
+use fab_equations::{Driver, Equations, Source};
 use std::alloc::Global;
 
 /// The names that an expression reads: those whose places stand from one index up to another.
@@ -29,23 +29,9 @@ pub struct KnownReads {
     pub places: Vec<u32>,
 }
 
-/// The names that the expressions of a text read, as far as points are driven by them. Each is gone through once, for the first point that it drives.
-pub fn known_reads(alloc: Global, equations: &Equations) -> Result<KnownReads, Memory>
-    requires { IsSound (plain_text equations.now) }
-    ensures { IfOk result (AreKnown (plain_text equations.now)) }
-{
-    let mut known = KnownReads::new(alloc, equations)?;
-    let mut cursor = Cursor::new();
-    for point in 0..equations.points() {
-        let driver = equations.driver_near(point, &mut cursor);
-        known.note_driver(alloc, equations, driver)?;
-    }
-    Ok(known)
-}
-
 impl KnownReads {
-    // Nothing has been looked up.
-    fn new(alloc: Global, equations: &Equations) -> Result<KnownReads, Memory>
+    /// Nothing has been looked up.
+    pub fn new(alloc: Global, equations: &Equations) -> Result<KnownReads, Memory>
         ensures { IfOk result (AreKnown (plain_text equations.now)) }
     {
         Ok(KnownReads {
@@ -54,8 +40,8 @@ impl KnownReads {
         })
     }
 
-    // Looks up what the expressions of a driver read.
-    fn note_driver(
+    /// Looks up what the expressions of a driver read, unless that is known.
+    pub fn note_driver(
         &mut self,
         alloc: Global,
         equations: &Equations,

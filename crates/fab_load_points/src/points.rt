@@ -12,8 +12,8 @@ ghost use Rattle.fab_load_points.specs.inner.Known.{AreKnown};
 ghost use Rattle.fab_load_points.specs.inner.Flops.{IsClosedSearch};
 ghost use Rattle.fab_load_points.specs.inner.Points.{AreMarkedFrom, IsPointMark, bit_driven};
 
-use crate::flops::closed_search;
-use crate::known::{KnownReads, known_reads};
+use crate::flops::{closed_search, loader_flops};
+use crate::known::KnownReads;
 use crate::search::Search;
 use crate::stream::{Stream, carries_words};
 use fab_base::Memory;
@@ -28,8 +28,9 @@ pub fn loading_points(alloc: Global, equations: &Equations) -> Result<Vec<bool>,
         ((slice_get marks.items number ≡ Some true) ↔ IsLoading (plain_text equations.now) p)) }
 {
     let stream = Stream::of(equations);
-    let known = known_reads(alloc, equations)?;
-    let mut search = closed_search(alloc, equations, stream, &known)?;
+    let mut known = KnownReads::new(alloc, equations)?;
+    let flops = loader_flops(alloc, equations, stream, &mut known)?;
+    let mut search = closed_search(alloc, equations, stream, &known, flops)?;
     let mut marks = vec![in alloc; false; equations.points() as usize]?;
     mark_points(&mut search, alloc, equations, stream, &known, &mut marks)?;
     Ok(marks)

@@ -1,11 +1,12 @@
 -- Activations, point by point.
-use Rattle.std.proofs.Common.{◌≡◌, ◌≢◌, ◌⊎◌, ℕ, zero, suc, ◌+◌, ◌<◌, ◌≤◌, Bool, true, false, ◌&&◌, ◌||◌, List, [], ◌∷◌, length, drop, refl, sym, ap, ◌∙◌, subst, inl, inr, arith, slice_set, slice_index}
+use Rattle.std.proofs.Common.{◌≡◌, ◌≢◌, ◌⊎◌, ℕ, zero, suc, ◌+◌, ◌<◌, ◌≤◌, Bool, true, false, not, ◌&&◌, ◌||◌, List, [], ◌∷◌, length, drop, refl, sym, ap, ◌∙◌, subst, inl, inr, arith, slice_set, slice_index}
 use Rattle.std.specs.Prelude.{◌↔◌, IsTrue}
 use Rattle.std.specs.List.{slice_get}
 use Rattle.std.proofs.Math.Seq.{drop-cons}
 use Rattle.std.proofs.lemmas.Bool.{cases_Bool, cases_eq, cases_lt, false≢true, and_parts, or_cases, or_left, or_right, and_from}
 use Rattle.std.proofs.lemmas.List.{length-set}
 use Rattle.fab_ternary.specs.declared.Tern.{Tern}
+use Rattle.fab_ternary.specs.declared.Tern.TheVariants.{No, Yes, Open}
 use Rattle.fab_ternary.specs.Terns.{is_known, plain_tern}
 use Rattle.fab_compiled.specs.Terns.{seen}
 use Rattle.fab_network.specs.declared.network.Network.{Network}
@@ -14,6 +15,7 @@ use Rattle.fab_network.specs.Solved.{asked_by, asked_tern}
 use Rattle.fab_wiring.specs.Given.{given_at}
 use Rattle.fab_stepping.specs.declared.board.Board.{Board}
 use Rattle.fab_stepping.specs.Boards.{given_on, shown_on, IsBoardOf, LeadToThemselves}
+use Rattle.fab_stepping.specs.inner.Known.{AreAllKnown}
 use Rattle.fab_stepping.specs.Activating.{held_by, AreActivated, AreApart, HasChanged, IsActivated, IsHeldAt}
 use Rattle.fab_stepping.proofs.Reading.{written, not_written}
 
@@ -73,6 +75,28 @@ module _ (network : Network) (point : ℕ) (before middle after : Board) (found 
       let value = written before.terns.items after.terns.items point found shown_so within in
       let old : kept_tern middle.terns.items point ≡ kept_tern before.terns.items point = (λ i. kept_tern ((middle_terns i).items) point) in
       (λ e. value ∙ tells.0 e ∙ old, λ e. tells.1 (sym value ∙ e ∙ sym old))
+
+-- ---- boards on which all is known
+
+-- An activation leaves all known where its point is.
+pub still_known : (network : Network) (point : ℕ) (before after : Board) → IsActivated network point before after → AreAllKnown before.terns.items →
+    is_known (kept_tern after.terns.items point) ≡ true → AreAllKnown after.terns.items
+still_known network point before after step all here other l =
+    elim (cases_eq other point) [
+      | inl same ↦ ap (λ (n : ℕ). is_known (kept_tern after.terns.items n)) same ∙ here
+      | inr apart ↦ ap is_known (step.others other apart).shown ∙ all other (omega (arith, l, step.terns_long))
+    ]
+
+pub not_true : (b : Bool) → not b ≡ true → b ≡ false
+not_true true e = absurd (false≢true e)
+not_true false e = refl
+
+-- a value that is not open
+pub known_read : (terns : List Tern) (point : ℕ) (t : Tern) (b : Bool) → b ≡ not (is_known (plain_tern t)) → b ≡ false → plain_tern t ≡ kept_tern terns point →
+    is_known (kept_tern terns point) ≡ true
+known_read terns point No b is f at = ap is_known (sym at)
+known_read terns point Yes b is f at = ap is_known (sym at)
+known_read terns point Open b is f at = absurd (false≢true (sym f ∙ is))
 
 -- ---- activations in an order
 

@@ -1,4 +1,6 @@
 pub mod Reading
+pub mod KnownValues
+pub mod KnownBits
 pub mod Ticking
 pub mod Activated
 pub mod Drawn

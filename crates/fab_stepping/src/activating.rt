@@ -1,18 +1,20 @@
 //! Activations of points.
 
-ghost use Rattle.std.specs.Prelude.{◌≡◌, ◌↔◌, ◌<◌, ◌≤◌, ◌^◌, ◌||◌, ◌&&◌, false, Some, length, slice_set, All, IsTrue};
+ghost use Rattle.std.specs.Prelude.{◌≡◌, ◌↔◌, ◌<◌, ◌≤◌, ◌^◌, ◌||◌, ◌&&◌, false, true, Some, length, slice_set, All, IsTrue};
 ghost use Rattle.fab_ternary.specs.Terns.{is_known, plain_tern};
 ghost use Rattle.fab_compiled.specs.Terns.{seen, IsView};
-ghost use Rattle.fab_network.specs.Network.{AreFit, IsFitDrive};
+ghost use Rattle.fab_network.specs.Network.{source_tern, AreFit, IsFitDrive, IsFitSource};
 ghost use Rattle.fab_network.specs.Passes.{kept_tern};
 ghost use Rattle.fab_network.specs.Solved.{asked_by};
 ghost use Rattle.fab_wiring.specs.Given.{given_at};
-ghost use Rattle.fab_stepping.specs.Boards.{IsBoardOf};
+ghost use Rattle.fab_stepping.specs.Boards.{IsBoardOf, LeadToThemselves};
 ghost use Rattle.fab_stepping.specs.Activating.{AreActivated, AreApart, HasChanged, IsActivated, IsHeldAt};
+ghost use Rattle.fab_stepping.specs.inner.Known.{AreAllKnown};
 
 use crate::board::Board;
+use crate::known_bits::{are_known, known_bit};
 use fab_compiled::{Tree, View, through};
-use fab_network::{Drive, Network, evaluate};
+use fab_network::{Drive, Network, Source, evaluate};
 use fab_ternary::Tern;
 
 impl Board {
@@ -28,25 +30,29 @@ impl Board {
         ensures changed { IsTrue result ↔ HasChanged solution.now self.old self.new }
     {
         let mut changed = false;
+        let mut known = are_known(&self.terns);
         for point in order {
             let point = *point as usize;
-            let moved = self.activate(network, point);
+            let moved = self.activate(network, point, known);
+            known = known && !self.terns[point].is_open();
             changed = noted(changed, moved, solution[point]);
         }
         changed
     }
 
-    // Activates a point, and tells whether it changed.
-    fn activate(&mut self, network: &Network, point: usize) -> bool
+    // Activates a point, and tells whether it changed. It is told where all points are known.
+    fn activate(&mut self, network: &Network, point: usize, known: bool) -> bool
         requires fit { AreFit network.now.trees.items network.now.drives.items }
         requires board { IsBoardOf network.now self.old }
+        requires known { known ≡ true → AreAllKnown self.old.terns.items }
         requires within { point < length network.now.drives.items }
         ensures board { IsBoardOf network.now self.new }
         ensures activated { IsActivated network.now point self.old self.new }
         ensures moved { (result ≡ false) ↔ (kept_tern self.new.terns.items point ≡ kept_tern self.old.terns.items point) }
     {
         let drive = network.drives[point];
-        let found = asked(&network.trees, drive, point, self.held[point], &self.view());
+        let held = self.held[point];
+        let found = asked(&network.trees, drive, point, held, known, &self.view());
         self.hold(drive, point, found);
         self.show(point, found)
     }
@@ -85,9 +91,11 @@ fn noted(changed: bool, moved: bool, known: Tern) -> bool
 }
 
 // What the drive of a point asks of it, where this is held for it.
-fn asked(trees: &[Tree], drive: Drive, point: usize, held: Tern, view: &View) -> Tern
+fn asked(trees: &[Tree], drive: Drive, point: usize, held: Tern, known: bool, view: &View) -> Tern
     requires fit { IsFitDrive trees.now (length view.now.leads.now) drive }
     requires view { IsView view.now.terns.now view.now.leads.now }
+    requires own { LeadToThemselves (length view.now.terns.now) view.now.leads.now }
+    requires known { known ≡ true → AreAllKnown view.now.terns.now }
     requires few { length view.now.leads.now ≤ 2 ^ 32 }
     requires within { point < length view.now.leads.now }
     ensures { plain_tern result ≡ asked_by trees.now (given_at (Some drive) (seen view.now.terns.now view.now.leads.now point) (plain_tern held))
@@ -97,10 +105,27 @@ fn asked(trees: &[Tree], drive: Drive, point: usize, held: Tern, view: &View) ->
         Drive::Given => view.at(point),
         Drive::Flop(_, _) => held,
         Drive::Same(other) => view.at(other as usize),
-        Drive::Value(source) => evaluate(trees, source, view),
+        Drive::Value(source) => source_value(trees, source, known, view),
         Drive::Hold(gate, latched) => {
-            let gate = evaluate(trees, gate, view);
-            through(gate, evaluate(trees, latched, view), held)
+            let gate = source_value(trees, gate, known, view);
+            through(gate, source_value(trees, latched, known, view), held)
         }
     }
+}
+
+// What a source has. It is found faster where all points are known.
+fn source_value(trees: &[Tree], source: Source, known: bool, view: &View) -> Tern
+    requires fit { IsFitSource trees.now (length view.now.leads.now) source }
+    requires view { IsView view.now.terns.now view.now.leads.now }
+    requires few { length view.now.leads.now ≤ 2 ^ 32 }
+    requires own { LeadToThemselves (length view.now.terns.now) view.now.leads.now }
+    requires known { known ≡ true → AreAllKnown view.now.terns.now }
+    ensures { plain_tern result ≡ source_tern trees.now (seen view.now.terns.now view.now.leads.now) source }
+{
+    if !known {
+        return evaluate(trees, source, view);
+    }
+    let tree = &trees[source.tree as usize];
+    let bit = known_bit(tree, u64::from(source.bit), source.first as usize, view);
+    Tern::known(bit)
 }

@@ -4,6 +4,7 @@
 mod activating;
 mod board;
 mod drawing;
+mod known_bits;
 mod solving;
 
 pub use board::{Board, own_leads, take_over};

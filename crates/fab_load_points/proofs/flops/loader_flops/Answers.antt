@@ -19,7 +19,8 @@ loop-point-preserved c =
       | in-Some+in_ok-push w ↦ (let f = w.in-Some.flop in
           let same : now ≡ old ++ f ∷ [] = ap (λ (v : Vec Flop Global). v.items) w.flops-is ∙ w.in_ok-push.ensures.items in
           record {
-            flops = subst (AreLoaderFlops text) (sym same) (more_flops text old f c.loop-point.invariant.flops w.in-Some.ensures.flop);
+            known = c.in_ok-note_driver.ensures;
+            flops = subst (AreLoaderFlops text) (sym same) (more_flops text old f c.loop-point.invariant.flops (w.in-Some.ensures.flop text c.requires.sound c.requires.stream c.driver_near-driver.ensures.drives));
             all = λ number at stands below loader.
                 subst (λ (xs : List Flop). among text xs at ≡ true) (sym same)
                 (elim (cases_eq number c.loop-point.point) [
@@ -29,11 +30,12 @@ loop-point-preserved c =
           })
       | in_default w ↦ (let same : now ≡ old = ap (λ (v : Vec Flop Global). v.items) w.flops-is in
           record {
+            known = c.in_ok-note_driver.ensures;
             flops = subst (AreLoaderFlops text) (sym same) c.loop-point.invariant.flops;
             all = λ number at stands below loader.
                 subst (λ (xs : List Flop). among text xs at ≡ true) (sym same)
                 (elim (cases_eq number c.loop-point.point) [
-                  | inl last ↦ absurd (w.in_default.ensures.other at (subst (λ n. StandsFor text n at) last stands) loader)
+                  | inl last ↦ absurd (w.in_default.ensures.other text c.requires.sound c.requires.stream c.driver_near-driver.ensures.drives at (subst (λ n. StandsFor text n at) last stands) loader)
                   | inr earlier ↦ c.loop-point.invariant.all number at stands (omega (arith, below, earlier)) loader
                 ]);
           })

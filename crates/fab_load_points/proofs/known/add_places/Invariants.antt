@@ -1,4 +1,3 @@
-use Rattle.std.proofs.Common.{◌≤◌}
 use Rattle.fab_load_points.specs.inner.Known.{AddsPlaces}
 use Rattle.fab_load_points.proofs.known.add_places.Given as goal
 
