@@ -2,7 +2,7 @@ use Rattle.std.proofs.Common.{sym, subst, ap}
 use Rattle.fab_ternary.specs.Terns.{plain_tern}
 use Rattle.fab_phases.specs.inner.Ticks.{AreFitLatches}
 use Rattle.fab_phases.proofs.Ticking.{eval_at, run_closed, run_opened}
-use Rattle.fab_phases.proofs.words.take_run.Goals as goal
+use Rattle.fab_phases.proofs.ticks.take_run.Goals as goal
 
 pub take_latches-requires : goal.take_latches-requires
 take_latches-requires c = record {

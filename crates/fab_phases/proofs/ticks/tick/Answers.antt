@@ -5,7 +5,7 @@ use Rattle.fab_phases.specs.declared.loading.Run.{Run}
 use Rattle.fab_phases.proofs.Running.{differs_none}
 use Rattle.fab_phases.proofs.Stepping.{has_ticked}
 use Rattle.fab_phases.proofs.Ticking.{flops_fit, runs_fit}
-use Rattle.fab_phases.proofs.words.tick.Goals as goal
+use Rattle.fab_phases.proofs.ticks.tick.Goals as goal
 
 pub take_flops-requires-clause-points : goal.take_flops-requires-clause-points
 take_flops-requires-clause-points c = c.requires.points ∙ sym (ap length (c.settle.ensures.stays c.args.demand.now (differs_none c.args.demand.now)).leads)

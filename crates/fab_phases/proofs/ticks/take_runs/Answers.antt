@@ -1,7 +1,7 @@
 use Rattle.std.proofs.Common.{length, refl, arith}
 use Rattle.std.proofs.lemmas.Option.{slice_get_read}
 use Rattle.fab_phases.proofs.Ticking.{run_step, runs_done}
-use Rattle.fab_phases.proofs.words.take_runs.Goals as goal
+use Rattle.fab_phases.proofs.ticks.take_runs.Goals as goal
 
 pub take_run-requires-clause-run : goal.take_run-requires-clause-run
 take_run-requires-clause-run c =
