@@ -2,7 +2,6 @@
 use Rattle.std.specs.Prelude.{◌≡◌, ◌⊎◌, ℕ, ◌+◌, ◌<◌, ◌≤◌, List, Option, None, Some, length, slice_get, slice_index}
 use Rattle.fab_compiled.specs.declared.tree.Tree.{Tree}
 use Rattle.fab_compiled.specs.Terns.{seen}
-use Rattle.fab_compiled.specs.Trees.{EachPlace}
 use Rattle.fab_network.specs.declared.network.Drive.{Drive}
 use Rattle.fab_network.specs.declared.network.Drive.TheVariants.{Given, Flop, Same, Value, Hold}
 use Rattle.fab_network.specs.declared.network.Network.{Network}
@@ -11,22 +10,22 @@ use Rattle.fab_network.specs.Network.{source_tern}
 use Rattle.fab_network.specs.Passes.{kept_tern, IsListed}
 use Rattle.fab_demand.specs.Asked.{Asked}
 use Rattle.fab_changes.specs.declared.changes.Changes.{Changes}
-use Rattle.fab_changes.specs.declared.changes.Group.{Group}
+use Rattle.fab_changes.specs.declared.groups.Group.{Group}
 use Rattle.fab_changes.specs.declared.fanout.Fanout.{Fanout}
-use Rattle.fab_changes.specs.Fanout.{IsFresh, IsOnce, IsWatched, WatchesTree}
+use Rattle.fab_changes.specs.Fanout.{IsFresh, IsOnce, IsReader, IsWatched, Lists, WatchesTree}
 
 -- the drive of the point at a place
 abbrev pub drive_at : Network → (own : List ℕ) → (place : ℕ) → Option Drive
 drive_at network own place = slice_get network.drives.items (slice_index own place)
 
 -- an input or a flip-flop: it takes what is given to it
-abbrev pub IsTaken : Option Drive → Type 0
-IsTaken None = ⊥
-IsTaken (Some Given) = Unit {0}
-IsTaken (Some (Flop clock next)) = Unit {0}
-IsTaken (Some (Same other)) = ⊥
-IsTaken (Some (Value source)) = ⊥
-IsTaken (Some (Hold gate latched)) = ⊥
+abbrev pub TakesGiven : Option Drive → Type 0
+TakesGiven None = ⊥
+TakesGiven (Some Given) = Unit {0}
+TakesGiven (Some (Flop clock next)) = Unit {0}
+TakesGiven (Some (Same other)) = ⊥
+TakesGiven (Some (Value source)) = ⊥
+TakesGiven (Some (Hold gate latched)) = ⊥
 
 -- ---- groups
 
@@ -34,44 +33,36 @@ pub record IsInGroup (group : Group) (place : ℕ) : Type 0 where
   pub low : group.begin ≤ place
   pub below : place < group.end
 
--- A point is led to one that takes what is given, or stands before this place, or does not stand for itself.
-abbrev pub ReadsBefore : Network → (own leads : List ℕ) → (begin point : ℕ) → Type 0
-ReadsBefore network own leads begin point =
-    (place : ℕ) → place < length own → slice_index own place ≡ slice_index leads point → IsTaken (drive_at network own place) ⊎ (place < begin)
-
--- a bit of the expression of a group
+-- the point at a place is a bit of the expression of a group
 pub record IsBitOf (network : Network) (own : List ℕ) (group : Group) (place : ℕ) : Type 0 where
   pub source : Source
   pub drive : drive_at network own place ≡ Some (Value source)
   pub tree : source.tree ≡ group.tree
   pub first : source.first ≡ group.first
 
--- Neighbours that are bits of one expression, which reads inputs, flip-flops and what stands before the group. The group watches all that it reads.
-pub record IsGroup (network : Network) (own leads : List ℕ) (fanout : Fanout) (number : ℕ) (group : Group) : Type 0 where
-  pub tree : Tree
-  pub is : slice_get network.trees.items group.tree ≡ Some tree
+-- Neighbours that are bits of one expression. The group watches all points of the expression.
+pub record IsGroup (network : Network) (own leads : List ℕ) (lists : Lists) (number : ℕ) (group : Group) : Type 0 where
   pub ends : group.end ≤ length own
   pub bits : (place : ℕ) → IsInGroup group place → IsBitOf network own group place
-  pub watched : WatchesTree own leads fanout number group.first tree
-  pub before : EachPlace (λ place. ReadsBefore network own leads group.begin (group.first + place)) tree
+  pub watched : (tree : Tree) → slice_get network.trees.items group.tree ≡ Some tree → WatchesTree own leads lists number group.first tree
 
--- the place stands in a group
+-- a place stands in one of the groups
 pub record IsGrouped (groups : List Group) (place : ℕ) : Type 0 where
   pub number : ℕ
   pub group : Group
   pub there : slice_get groups number ≡ Some group
   pub inside : IsInGroup group place
 
--- Each point takes what is given or stands in a group, and groups follow one another.
-pub record AreGroups (network : Network) (own leads : List ℕ) (changes : Changes) : Type 0 where
+-- Each point takes what is given to it or stands in a group. Groups follow one another, and read what takes what is given or stands before them.
+pub record AreGroups (network : Network) (own leads : List ℕ) (lists : Lists) (taken : List ℕ) (groups : List Group) : Type 0 where
   pub once : IsOnce own
-  pub taken : (place : ℕ) → IsListed changes.taken.items place → (place < length own) × IsTaken (drive_at network own place)
-  pub all : (place : ℕ) → place < length own → (IsListed changes.taken.items place × IsTaken (drive_at network own place)) ⊎ IsGrouped changes.groups.items place
-  pub groups : (number : ℕ) (group : Group) → slice_get changes.groups.items number ≡ Some group → IsGroup network own leads changes.fanout number group
-  pub rises : (number later : ℕ) (group next : Group) → number < later → slice_get changes.groups.items number ≡ Some group →
-      slice_get changes.groups.items later ≡ Some next → group.end ≤ next.begin
-  pub long : length changes.fanout.stale.items ≡ length changes.groups.items
-  pub room : (number : ℕ) (group : Group) → slice_get changes.groups.items number ≡ Some group → group.end ≤ group.begin + length changes.found.items
+  pub takes : (place : ℕ) → IsListed taken place → (place < length own) × TakesGiven (drive_at network own place)
+  pub all : (place : ℕ) → place < length own → IsListed taken place ⊎ IsGrouped groups place
+  pub each : (number : ℕ) (group : Group) → slice_get groups number ≡ Some group → IsGroup network own leads lists number group
+  pub rises : (number later : ℕ) (group next : Group) → number < later → slice_get groups number ≡ Some group →
+      slice_get groups later ≡ Some next → group.end ≤ next.begin
+  pub ordered : (number : ℕ) (group : Group) → slice_get groups number ≡ Some group → (place : ℕ) → place < length own →
+      IsReader lists place number → TakesGiven (drive_at network own place) ⊎ (place < group.begin)
 
 -- ---- values
 
@@ -87,13 +78,15 @@ IsRightGroup network asked group = (place : ℕ) → IsInGroup group place → I
 
 -- The groups are those of what has been asked for, and what is kept for a group is right unless it is stale.
 pub record AreChangesOf (network : Network) (asked : Asked) (changes : Changes) : Type 0 where
-  pub groups : AreGroups network asked.own asked.leads changes
-  pub right : (number : ℕ) (group : Group) → slice_get changes.groups.items number ≡ Some group → IsFresh changes.fanout number →
+  pub groups : AreGroups network asked.own asked.leads changes.fanout.readers.items changes.taken.items changes.groups.items
+  pub long : length changes.fanout.stale.items ≡ length changes.groups.items
+  pub room : (number : ℕ) (group : Group) → slice_get changes.groups.items number ≡ Some group → group.end ≤ group.begin + length changes.found.items
+  pub right : (number : ℕ) (group : Group) → slice_get changes.groups.items number ≡ Some group → IsFresh changes.fanout.stale.items number →
       IsRightGroup network asked group
 
 -- ---- what others watch
 
 -- A reader that is not stale was not stale before, and all that it watches has what it had.
 pub record HasKept (old new : Asked) (before : Fanout) (reader : ℕ) : Type 0 where
-  pub fresh : IsFresh before reader
-  pub same : (point : ℕ) → IsWatched old.own old.leads before reader point → seen new.terns new.leads point ≡ seen old.terns old.leads point
+  pub fresh : IsFresh before.stale.items reader
+  pub same : (point : ℕ) → IsWatched old.own old.leads before.readers.items reader point → seen new.terns new.leads point ≡ seen old.terns old.leads point

@@ -1,5 +1,5 @@
 -- Who reads which points.
-use Rattle.std.specs.Prelude.{◌≡◌, ◌≢◌, ℕ, ◌+◌, ◌<◌, false, List, Some, Vec, Global, length, slice_get, slice_index}
+use Rattle.std.specs.Prelude.{◌≡◌, ◌≢◌, ℕ, ◌+◌, ◌<◌, Bool, false, List, Some, Vec, Global, length, slice_get, slice_index}
 use Rattle.fab_ternary.specs.declared.Tern.{Tern}
 use Rattle.fab_compiled.specs.declared.tree.Tree.{Tree}
 use Rattle.fab_compiled.specs.Trees.{EachPlace}
@@ -19,35 +19,42 @@ pub record ArePlaces (places : Places) : Type 0 where
 
 -- ---- readers
 
+-- the readers of points, by the places of these
+abbrev pub Lists : Type 0
+Lists = List (Vec ℕ Global)
+
 -- a reader of the point at this place
-pub record IsReader (fanout : Fanout) (place reader : ℕ) : Type 0 where
+pub record IsReader (lists : Lists) (place reader : ℕ) : Type 0 where
   pub readers : Vec ℕ Global
-  pub there : slice_get fanout.readers.items place ≡ Some readers
+  pub there : slice_get lists place ≡ Some readers
   pub listed : IsListed readers.items reader
 
--- A reader watches a point: where the one to which it is led stands for itself, it reads that one.
-abbrev pub IsWatched : (own leads : List ℕ) → Fanout → (reader point : ℕ) → Type 0
-IsWatched own leads fanout reader point =
-    (place : ℕ) → place < length own → slice_index own place ≡ slice_index leads point → IsReader fanout place reader
+-- If this point stands for itself, it has this reader.
+abbrev pub HasReader : (own : List ℕ) → Lists → (reader point : ℕ) → Type 0
+HasReader own lists reader point = (place : ℕ) → place < length own → slice_index own place ≡ point → IsReader lists place reader
+
+-- A reader watches a point: it reads the one to which this is led.
+abbrev pub IsWatched : (own leads : List ℕ) → Lists → (reader point : ℕ) → Type 0
+IsWatched own leads lists reader point = HasReader own lists reader (slice_index leads point)
 
 -- the same of all points of an expression
-abbrev pub WatchesTree : (own leads : List ℕ) → Fanout → (reader first : ℕ) → Tree → Type 0
-WatchesTree own leads fanout reader first tree = EachPlace (λ place. IsWatched own leads fanout reader (first + place)) tree
+abbrev pub WatchesTree : (own leads : List ℕ) → Lists → (reader first : ℕ) → Tree → Type 0
+WatchesTree own leads lists reader first tree = EachPlace (λ place. IsWatched own leads lists reader (first + place)) tree
 
 -- Readers stay readers.
-abbrev pub ReadsMore : (old new : Fanout) → Type 0
+abbrev pub ReadsMore : (old new : Lists) → Type 0
 ReadsMore old new = (place reader : ℕ) → IsReader old place reader → IsReader new place reader
 
 -- ---- changes
 
 -- nothing has changed that this reader reads since it was looked at
-abbrev pub IsFresh : Fanout → (reader : ℕ) → Type 0
-IsFresh fanout reader = slice_get fanout.stale.items reader ≡ Some false
+abbrev pub IsFresh : (stale : List Bool) → (reader : ℕ) → Type 0
+IsFresh stale reader = slice_get stale reader ≡ Some false
 
 -- Values of points have changed from old to new, and readers of those that differ are stale.
 pub record HasTouched (own : List ℕ) (old new : List Tern) (before after : Fanout) : Type 0 where
   pub readers : after.readers.items ≡ before.readers.items
   pub long : length after.stale.items ≡ length before.stale.items
-  pub fresh : (reader : ℕ) → IsFresh after reader → IsFresh before reader
-  pub same : (reader : ℕ) → IsFresh after reader → (place : ℕ) → place < length own → IsReader before place reader →
-      kept_tern new (slice_index own place) ≡ kept_tern old (slice_index own place)
+  pub fresh : (reader : ℕ) → IsFresh after.stale.items reader → IsFresh before.stale.items reader
+  pub same : (reader : ℕ) → IsFresh after.stale.items reader → (point : ℕ) → HasReader own before.readers.items reader point →
+      kept_tern new point ≡ kept_tern old point

@@ -1,2 +1,3 @@
 pub mod Fanout
 pub mod Changes
+pub mod inner

@@ -1,31 +1,22 @@
 //! Values of points that stand for themselves, looked at again where something has changed that they read.
 
-ghost use Rattle.std.specs.Prelude.{◌≡◌, ◌<◌, ◌≤◌, ◌^◌, ℕ, length, IfSome};
+ghost use Rattle.std.specs.Prelude.{◌≡◌, ◌+◌, ◌<◌, ℕ, length, IfSome};
 ghost use Rattle.fab_network.specs.Network.{AreFit};
+ghost use Rattle.fab_network.specs.Passes.{IsListed};
 ghost use Rattle.fab_demand.specs.Asked.{Asked, DiffersInOwn};
 ghost use Rattle.fab_demand.specs.Demand.{ShowsLeast};
-ghost use Rattle.fab_changes.specs.Changes.{AreChangesOf, HasKept};
-ghost use Rattle.fab_changes.specs.Fanout.{ArePlaces, IsFresh};
+ghost use Rattle.fab_changes.specs.Changes.{AreChangesOf, AreGroups, HasKept};
+ghost use Rattle.fab_changes.specs.Fanout.{ArePlaces, HasTouched, IsFresh, IsOnce};
+ghost use Rattle.fab_changes.specs.inner.Looking.{AreRightFrom, AreSameGroups, HasRoom, HasWritten, HaveTaken};
 
 use crate::fanout::Fanout;
+use crate::groups::{Group, are_ordered, fanout_of, groups_of, longest, taken_of};
+use crate::looking::{find_values, take, take_values};
 use crate::places::Places;
 use fab_demand::Demand;
 use fab_network::Network;
 use fab_ternary::Tern;
 use std::alloc::Global;
-
-/// Neighbours among the points that stand for themselves, which are bits of one expression.
-#[derive(Clone, Copy, Debug)]
-pub struct Group {
-    /// The place of the first.
-    pub begin: u32,
-    /// The place behind the last.
-    pub end: u32,
-    /// The number of the tree of the expression.
-    pub tree: u32,
-    /// The first point of its instance.
-    pub first: u32,
-}
 
 /// What is looked at again of the points of a demand that stand for themselves: where one of them changes, the groups that read it are stale.
 #[derive(Drop)]
@@ -41,21 +32,40 @@ pub struct Changes {
 }
 
 impl Changes {
-    /// The groups of a demand, all stale. `None` where a point reads itself or what stands behind it, where a latch stands for itself, where
-    /// expressions are read so often that it does not pay, and where there is no memory.
+    /// The groups of a demand, all stale. `None` where a point reads itself or what stands behind it, where a latch or a copy of a point stands
+    /// for itself, where expressions are read so often that it does not pay, and where there is no memory.
     pub fn new(alloc: Global, network: &Network, places: &Places) -> Option<Changes>
         requires fit { AreFit network.now.trees.items network.now.drives.items }
         requires points { length network.now.drives.items ≡ length places.now.leads.now }
         requires places { ArePlaces places.now }
+        requires once { IsOnce places.now.own.now }
         ensures { IfSome result (λ changes. (asked : Asked) → asked.own ≡ places.now.own.now → asked.leads ≡ places.now.leads.now →
             AreChangesOf network.now asked changes) }
     {
-        todo
+        let taken = taken_of(alloc, network, places.own)?;
+        let groups = groups_of(alloc, network, places.own)?;
+        let found = vec![in alloc; Tern::Open; longest(&groups)].ok()?;
+        let fanout = fanout_of(alloc, network, places, &groups)?;
+        if !are_ordered(network, places.own, &groups, &fanout) {
+            return None;
+        }
+        Some(Changes {
+            taken,
+            groups,
+            fanout,
+            found,
+        })
     }
 
     /// The values of a cycle, as `Demand::settle` finds them: points that stand for themselves take what is given to them now, and are
     /// settled. The readers of points that change come to be stale, those of `watches` too.
-    pub fn settle(&mut self, network: &Network, given: &[Tern], demand: &mut Demand, watches: &mut Fanout)
+    pub fn settle(
+        &mut self,
+        network: &Network,
+        given: &[Tern],
+        demand: &mut Demand,
+        watches: &mut Fanout,
+    )
         requires fit { AreFit network.now.trees.items network.now.drives.items }
         requires points { length network.now.drives.items ≡ length demand.old.leads }
         requires given { length given.now ≡ length demand.old.leads }
@@ -65,8 +75,56 @@ impl Changes {
         ensures shows { ShowsLeast network.now given.now demand.old demand.new }
         ensures readers { watches.new.readers.items ≡ watches.old.readers.items }
         ensures long { length watches.new.stale.items ≡ length watches.old.stale.items }
-        ensures kept { (reader : ℕ) → IsFresh watches.new reader → HasKept demand.old demand.new watches.old reader }
+        ensures kept { (reader : ℕ) → IsFresh watches.new.stale.items reader → HasKept demand.old demand.new watches.old reader }
     {
-        todo
+        self.take_given(given, demand, watches);
+        for number in 0..self.groups.len() {
+            self.settle_group(network, number, demand, watches);
+        }
+    }
+
+    // Inputs and flip-flops take what is given to them.
+    fn take_given(&mut self, given: &[Tern], demand: &mut Demand, watches: &mut Fanout)
+        requires given { length given.now ≡ length demand.old.leads }
+        requires taken { (place : ℕ) → IsListed self.old.taken.items place → place < length demand.old.own }
+        ensures same { AreSameGroups self.old self.new }
+        ensures taken { HaveTaken self.old.taken.items (length self.old.taken.items) given.now demand.old demand.new }
+        ensures fanout { HasTouched demand.old.own demand.old.terns demand.new.terns self.old.fanout self.new.fanout }
+        ensures watches { HasTouched demand.old.own demand.old.terns demand.new.terns watches.old watches.new }
+    {
+        for place in &self.taken {
+            let place = *place as usize;
+            let point = demand.own()[place] as usize;
+            take(place, given[point], demand, &mut self.fanout, watches);
+        }
+    }
+
+    // A group is looked at if it is stale.
+    fn settle_group(
+        &mut self,
+        network: &Network,
+        number: usize,
+        demand: &mut Demand,
+        watches: &mut Fanout,
+    )
+        requires fit { AreFit network.now.trees.items network.now.drives.items }
+        requires points { length network.now.drives.items ≡ length demand.old.leads }
+        requires within { number < length self.old.groups.items }
+        requires groups { AreGroups network.now demand.old.own demand.old.leads self.old.fanout.readers.items self.old.taken.items self.old.groups.items }
+        requires long { length self.old.fanout.stale.items ≡ length self.old.groups.items }
+        requires room { HasRoom self.old.groups.items self.old.found.items }
+        requires right { AreRightFrom network.now demand.old self.old number }
+        ensures same { AreSameGroups self.old self.new }
+        ensures right { AreRightFrom network.now demand.new self.new (number + 1) }
+        ensures written { HasWritten network.now demand.old demand.new }
+        ensures watches { HasTouched demand.old.own demand.old.terns demand.new.terns watches.old watches.new }
+    {
+        if !self.fanout.is_stale(number) {
+            return;
+        }
+        self.fanout.set_fresh(number);
+        let group = self.groups[number];
+        find_values(network, group, demand, &mut self.found);
+        take_values(group, &self.found, demand, &mut self.fanout, watches);
     }
 }

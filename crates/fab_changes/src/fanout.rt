@@ -1,9 +1,9 @@
 //! Who reads which points.
 
-ghost use Rattle.std.specs.Prelude.{◌≡◌, ◌≢◌, ◌<◌, ◌≤◌, ◌^◌, ℕ, true, false, length, replicate, slice_get, slice_set, IfSome, OnSome, Some};
+ghost use Rattle.std.specs.Prelude.{◌≡◌, ◌+◌, ◌<◌, ◌≤◌, ◌^◌, ℕ, true, false, length, replicate, slice_get, slice_set, IfSome, OnSome, Some};
 ghost use Rattle.fab_compiled.specs.Evaluation.{IsWithin};
 ghost use Rattle.fab_compiled.specs.Trees.{IsMade};
-ghost use Rattle.fab_changes.specs.Fanout.{ArePlaces, IsFresh, IsReader, ReadsMore, WatchesTree};
+ghost use Rattle.fab_changes.specs.Fanout.{ArePlaces, IsFresh, IsReader, IsWatched, ReadsMore, WatchesTree};
 
 use crate::places::Places;
 use fab_compiled::Tree;
@@ -39,16 +39,90 @@ impl Fanout {
     }
 
     /// A reader reads all points of an expression. `None` where there is no room or no memory.
-    pub fn note_tree(&mut self, places: &Places, tree: &Tree, first: usize, reader: u32) -> Option<()>
+    pub fn note_tree(
+        &mut self,
+        places: &Places,
+        tree: &Tree,
+        first: usize,
+        reader: u32,
+    ) -> Option<()>
         requires places { ArePlaces places.now }
         requires made { IsMade tree.now }
         requires begins { first ≤ length places.now.leads.now }
         requires inside { IsWithin tree.now first (length places.now.leads.now) }
-        ensures watched { OnSome result (WatchesTree places.now.own.now places.now.leads.now self.new reader first tree.now) }
-        ensures more { ReadsMore self.old self.new }
+        ensures watched { OnSome result (WatchesTree places.now.own.now places.now.leads.now self.new.readers.items reader first tree.now) }
+        ensures more { ReadsMore self.old.readers.items self.new.readers.items }
         ensures stale { self.new.stale.items ≡ self.old.stale.items }
     {
-        todo
+        self.room = self.room.checked_sub(1)?;
+        match tree {
+            Tree::Const(_) => Some(()),
+            Tree::Bits(place, count) => {
+                self.note_points(places, first, *place as usize, *count as usize, reader)
+            }
+            Tree::Pick(place, width, index) => {
+                let count = 2usize.pow(*width);
+                self.note_points(places, first, *place as usize, count, reader)?;
+                self.note_tree(places, index, first, reader)
+            }
+            Tree::Not(inner) => self.note_tree(places, inner, first, reader),
+            Tree::Cat(left, _, right)
+            | Tree::And(left, right)
+            | Tree::Or(left, right)
+            | Tree::Xor(left, right)
+            | Tree::Equal(_, left, right)
+            | Tree::Minus(_, left, right) => {
+                self.note_tree(places, left, first, reader)?;
+                self.note_tree(places, right, first, reader)
+            }
+            Tree::Cond(test, yes, no) => {
+                self.note_tree(places, test, first, reader)?;
+                self.note_tree(places, yes, first, reader)?;
+                self.note_tree(places, no, first, reader)
+            }
+        }
+    }
+
+    // A reader reads points that follow one another.
+    fn note_points(
+        &mut self,
+        places: &Places,
+        first: usize,
+        place: usize,
+        count: usize,
+        reader: u32,
+    ) -> Option<()>
+        requires places { ArePlaces places.now }
+        requires within { first + (place + count) ≤ length places.now.leads.now }
+        ensures watched { OnSome result ((k : ℕ) → k < count →
+            IsWatched places.now.own.now places.now.leads.now self.new.readers.items reader (first + (place + k))) }
+        ensures more { ReadsMore self.old.readers.items self.new.readers.items }
+        ensures stale { self.new.stale.items ≡ self.old.stale.items }
+    {
+        self.room = self.room.checked_sub(count)?;
+        for next in 0..count {
+            self.note_point(places, first + (place + next), reader)?;
+        }
+        Some(())
+    }
+
+    // A reader reads the point to which a point is led, if that one stands for itself. It is not noted twice in a row.
+    fn note_point(&mut self, places: &Places, point: usize, reader: u32) -> Option<()>
+        requires places { ArePlaces places.now }
+        requires within { point < length places.now.leads.now }
+        ensures watched { OnSome result
+            (IsWatched places.now.own.now places.now.leads.now self.new.readers.items reader point) }
+        ensures more { ReadsMore self.old.readers.items self.new.readers.items }
+        ensures stale { self.new.stale.items ≡ self.old.stale.items }
+    {
+        let Some(place) = places.of_lead(point) else {
+            return Some(());
+        };
+        let readers = self.readers.get_mut(place as usize)?;
+        if readers.last().copied() == Some(reader) {
+            return Some(());
+        }
+        readers.push(reader).ok()
     }
 
     /// Whether a reader is stale.
@@ -72,8 +146,8 @@ impl Fanout {
     pub fn touch(&mut self, place: usize)
         ensures readers { self.new.readers.items ≡ self.old.readers.items }
         ensures long { length self.new.stale.items ≡ length self.old.stale.items }
-        ensures fresh { (reader : ℕ) → IsFresh self.new reader → IsFresh self.old reader }
-        ensures touched { (reader : ℕ) → IsReader self.old place reader → IsFresh self.new reader → ⊥ }
+        ensures fresh { (reader : ℕ) → IsFresh self.new.stale.items reader → IsFresh self.old.stale.items reader }
+        ensures touched { (reader : ℕ) → IsReader self.old.readers.items place reader → IsFresh self.new.stale.items reader → ⊥ }
     {
         let Some(readers) = self.readers.get(place) else {
             return;

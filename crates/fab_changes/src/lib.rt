@@ -3,8 +3,11 @@
 
 mod changes;
 mod fanout;
+mod groups;
+mod looking;
 mod places;
 
 pub use changes::Changes;
 pub use fanout::Fanout;
+pub use groups::Group;
 pub use places::Places;

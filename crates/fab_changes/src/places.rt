@@ -29,8 +29,8 @@ impl<'d> Places<'d> {
         let view = demand.view();
         let own = demand.own();
         let mut places = vec![in alloc; 0; view.leads.len()].ok()?;
-        for (place, point) in own.iter().enumerate() {
-            places[*point as usize] = u32::try_from(place).ok()?;
+        for place in 0..own.len() {
+            places[own[place] as usize] = u32::try_from(place).ok()?;
         }
         Some(Places {
             own,

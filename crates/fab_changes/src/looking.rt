@@ -1,0 +1,74 @@
+//! A group is looked at, and its points take what is found.
+
+ghost use Rattle.std.specs.Prelude.{◌≡◌, ◌+◌, ◌<◌, ◌≤◌, length, slice_index};
+ghost use Rattle.fab_ternary.specs.Terns.{plain_tern};
+ghost use Rattle.fab_network.specs.Network.{AreFit};
+ghost use Rattle.fab_changes.specs.Fanout.{HasTouched, IsOnce};
+ghost use Rattle.fab_changes.specs.inner.Looking.{AreFound, HasTaken, HasTakenGroup};
+
+use crate::fanout::Fanout;
+use crate::groups::Group;
+use fab_demand::Demand;
+use fab_network::{Drive, Network, Shared};
+use fab_ternary::Tern;
+
+// Finds the values of a group.
+pub(crate) fn find_values(network: &Network, group: Group, demand: &Demand, found: &mut [Tern])
+    requires fit { AreFit network.now.trees.items network.now.drives.items }
+    requires points { length network.now.drives.items ≡ length demand.now.leads }
+    requires ends { group.end ≤ length demand.now.own }
+    requires room { group.end ≤ group.begin + length found.old }
+    ensures long { length found.new ≡ length found.old }
+    ensures found { AreFound network.now demand.now group group.end found.new }
+{
+    let view = demand.view();
+    let own = demand.own();
+    let mut shared = Shared::new(*network.trees.allocator());
+    for place in group.begin..group.end {
+        if let Some(Drive::Value(source)) = network.drives.get(own[place as usize] as usize) {
+            found[(place - group.begin) as usize] = shared.value(&network.trees, *source, &view);
+        }
+    }
+}
+
+// The points of a group take what is found.
+pub(crate) fn take_values(
+    group: Group,
+    found: &[Tern],
+    demand: &mut Demand,
+    fanout: &mut Fanout,
+    watches: &mut Fanout,
+)
+    requires ends { group.end ≤ length demand.old.own }
+    requires once { IsOnce demand.old.own }
+    requires room { group.end ≤ group.begin + length found.now }
+    ensures taken { HasTakenGroup group group.end found.now demand.old demand.new }
+    ensures fanout { HasTouched demand.old.own demand.old.terns demand.new.terns fanout.old fanout.new }
+    ensures watches { HasTouched demand.old.own demand.old.terns demand.new.terns watches.old watches.new }
+{
+    for place in group.begin..group.end {
+        let tern = found[(place - group.begin) as usize];
+        take(place as usize, tern, demand, fanout, watches);
+    }
+}
+
+// The point at a place takes a value. Where it had another one, its readers are stale.
+pub(crate) fn take(
+    place: usize,
+    tern: Tern,
+    demand: &mut Demand,
+    fanout: &mut Fanout,
+    watches: &mut Fanout,
+)
+    requires within { place < length demand.old.own }
+    ensures taken { HasTaken (slice_index demand.old.own place) (plain_tern tern) demand.old demand.new }
+    ensures fanout { HasTouched demand.old.own demand.old.terns demand.new.terns fanout.old fanout.new }
+    ensures watches { HasTouched demand.old.own demand.old.terns demand.new.terns watches.old watches.new }
+{
+    let point = demand.own()[place] as usize;
+    if demand.view().terns[point] != tern {
+        demand.set_own(place, tern);
+        fanout.touch(place);
+        watches.touch(place);
+    }
+}
