@@ -1,7 +1,7 @@
 -- What enables are while points change that they read, or while one of them is found to be 0.
 use Rattle.std.proofs.Common.{◌≡◌, ℕ, zero, suc, ◌+◌, ◌^◌, ◌<◌, false, List, [], ◌∷◌, length, Option, None, Some, refl, sym, ap, ◌∙◌, subst, inl, inr, arith, slice_set}
 use Rattle.std.specs.List.{slice_get}
-use Rattle.std.specs.Prelude.{Bool, true, replicate, slice_index, Vec, Global}
+use Rattle.std.specs.Prelude.{Bool, true, replicate}
 use Rattle.std.proofs.lemmas.Bool.{cases_eq}
 use Rattle.fab_systems_laws.specs.Ternary.{no, yes, Tern as PlainTern}
 use Rattle.fab_ternary_laws.specs.Operators.{tern_at, one_of}
@@ -17,7 +17,7 @@ use Rattle.fab_network.specs.Network.{source_tern, tern_in}
 use Rattle.fab_demand.specs.Asked.{Asked, DiffersInOwn}
 use Rattle.fab_changes.specs.declared.fanout.Fanout.{Fanout}
 use Rattle.fab_changes.specs.Changes.{HasKept}
-use Rattle.fab_changes.specs.Fanout.{IsFresh, IsReader, IsWatched, ReadsMore, WatchesTree}
+use Rattle.fab_changes.specs.Fanout.{IsFresh, IsWatched, Lists, ReadsMore, WatchesTree}
 use Rattle.fab_phases.specs.Lists.{Each}
 use Rattle.fab_phases.specs.inner.Enables.{enable_tern, test_tern, AreEnables, AreNewlyWatched, AreWatched, IsFitEnable, Watches, WatchesTest, WatchesWhole}
 use Rattle.fab_phases.specs.declared.enables.Enable.{Enable}
@@ -41,7 +41,7 @@ each_place P Q more (Equal' width p a q b) each = (each_place P Q more a each.0,
 each_place P Q more (Minus' width p a q b) each = (each_place P Q more a each.0, each_place P Q more b each.1)
 each_place P Q more (Cond' p c q a r b) each = (each_place P Q more c each.0, each_place P Q more a each.1, each_place P Q more b each.2)
 
-module _ (own leads : List ℕ) (old new : Fanout) (more : ReadsMore old new) (number : ℕ) where
+module _ (own leads : List ℕ) (old new : Lists) (more : ReadsMore old new) (number : ℕ) where
   tree_more : (first : ℕ) (tree : Tree) → WatchesTree own leads old number first tree → WatchesTree own leads new number first tree
   tree_more first tree each =
       each_place (λ place. IsWatched own leads old number (first + place)) (λ place. IsWatched own leads new number (first + place))
@@ -61,32 +61,25 @@ module _ (own leads : List ℕ) (old new : Fanout) (more : ReadsMore old new) (n
   watches_more network (Test source) each = test_more source.first (slice_get network.trees.items source.tree) each
   watches_more network (Gate source) each = whole_more source.first (slice_get network.trees.items source.tree) each
 
-pub reads_same : (old new : Fanout) → new.readers.items ≡ old.readers.items → ReadsMore old new
-reads_same old new same place reader is = record {
-  readers = is.readers;
-  there = ap (λ (lists : List (Vec ℕ Global)). slice_get lists place) same ∙ is.there;
-  listed = is.listed;
-}
-
 -- ---- what is the same where all that is watched is
 
-module _ (own leads : List ℕ) (watches : Fanout) (number : ℕ) (t u : PointTerns) (same : (point : ℕ) → IsWatched own leads watches number point → t point ≡ u point) where
-  tree_kept : (first : ℕ) (tree : Tree) → WatchesTree own leads watches number first tree →
+module _ (own leads : List ℕ) (lists : Lists) (number : ℕ) (t u : PointTerns) (same : (point : ℕ) → IsWatched own leads lists number point → t point ≡ u point) where
+  tree_kept : (first : ℕ) (tree : Tree) → WatchesTree own leads lists number first tree →
       tree_value (λ place. t (first + place)) tree ≡ tree_value (λ place. u (first + place)) tree
   tree_kept first tree each =
-      tree_same (λ place. IsWatched own leads watches number (first + place)) (λ place. t (first + place)) (λ place. u (first + place))
+      tree_same (λ place. IsWatched own leads lists number (first + place)) (λ place. t (first + place)) (λ place. u (first + place))
       (λ k watched. same (first + k) watched) tree each
 
-  test_kept : (first : ℕ) (tree : Option Tree) → WatchesTest own leads watches number first tree → test_tern tree t first ≡ test_tern tree u first
+  test_kept : (first : ℕ) (tree : Option Tree) → WatchesTest own leads lists number first tree → test_tern tree t first ≡ test_tern tree u first
   test_kept first None each = refl
   test_kept first (Some (Cond' p c q a r b)) each = ap (λ (ts : List PlainTern). tern_at ts 0) (tree_kept first c each)
   test_kept first (Some tree) each = refl
 
-  whole_kept : (first bit : ℕ) (tree : Option Tree) → WatchesWhole own leads watches number first tree → tern_in tree t first bit ≡ tern_in tree u first bit
+  whole_kept : (first bit : ℕ) (tree : Option Tree) → WatchesWhole own leads lists number first tree → tern_in tree t first bit ≡ tern_in tree u first bit
   whole_kept first bit None each = refl
   whole_kept first bit (Some tree) each = ap (λ (ts : List PlainTern). tern_at ts bit) (tree_kept first tree each)
 
-  pub enable_kept : (network : Network) (enable : Enable) → Watches network own leads watches number enable →
+  pub enable_kept : (network : Network) (enable : Enable) → Watches network own leads lists number enable →
       enable_tern network.trees.items t enable ≡ enable_tern network.trees.items u enable
   enable_kept network Always each = refl
   enable_kept network (Test source) each = test_kept source.first (slice_get network.trees.items source.tree) each
@@ -96,17 +89,17 @@ module _ (own leads : List ℕ) (watches : Fanout) (number : ℕ) (t u : PointTe
 
 pub enables_settled : (network : Network) (old new : Asked) (enables : List Enable) (before after : Fanout) → DiffersInOwn old new →
     after.readers.items ≡ before.readers.items → length after.stale.items ≡ length before.stale.items →
-    ((reader : ℕ) → IsFresh after reader → HasKept old new before reader) → AreEnables network old enables before → AreEnables network new enables after
+    ((reader : ℕ) → IsFresh after.stale.items reader → HasKept old new before reader) → AreEnables network old enables before → AreEnables network new enables after
 enables_settled network old new enables before after differs same long kept are = record {
   fit = are.fit;
   long = long ∙ are.long;
   watched = λ number enable at.
-      subst (λ (own : List ℕ). Watches network own new.leads after number enable) (sym differs.own)
-      (subst (λ (leads : List ℕ). Watches network old.own leads after number enable) (sym differs.leads)
-      (watches_more old.own old.leads before after (reads_same before after same) number network enable (are.watched number enable at)));
+      subst (λ (lists : Lists). Watches network new.own new.leads lists number enable) (sym same)
+      (subst (λ (own : List ℕ). Watches network own new.leads before.readers.items number enable) (sym differs.own)
+      (subst (λ (leads : List ℕ). Watches network old.own leads before.readers.items number enable) (sym differs.leads) (are.watched number enable at)));
   closed = λ number enable at fresh.
       let has = kept number fresh in
-      enable_kept old.own old.leads before number (seen new.terns new.leads) (seen old.terns old.leads) has.same network enable (are.watched number enable at)
+      enable_kept old.own old.leads before.readers.items number (seen new.terns new.leads) (seen old.terns old.leads) has.same network enable (are.watched number enable at)
       ∙ are.closed number enable at has.fresh;
 }
 
@@ -131,8 +124,7 @@ pub enables_fresh : (network : Network) (demand : Asked) (enables : List Enable)
 enables_fresh network demand enables before after number enable at zero_now same stale are = record {
   fit = are.fit;
   long = ap length stale ∙ set_long before.stale.items number false ∙ are.long;
-  watched = λ k other there.
-      watches_more demand.own demand.leads before after (reads_same before after same) k network other (are.watched k other there);
+  watched = subst (AreWatched network demand.own demand.leads enables) (sym same) are.watched;
   closed = λ k other there fresh.
       elim (cases_eq k number) [
         | inl e ↦
@@ -152,7 +144,7 @@ all_stale zero k e = cc
 all_stale (suc count) zero e = cc
 all_stale (suc count) (suc k) e = all_stale count k e
 
-pub newly_stale : (watches : Fanout) (count : ℕ) → watches.stale.items ≡ replicate count true → (number : ℕ) → IsFresh watches number → ⊥
+pub newly_stale : (watches : Fanout) (count : ℕ) → watches.stale.items ≡ replicate count true → (number : ℕ) → IsFresh watches.stale.items number → ⊥
 newly_stale watches count stale number fresh = all_stale count number (ap (λ (stales : List Bool). slice_get stales number) (sym stale) ∙ fresh)
 
 pub enables_new : (network : Network) (demand : Asked) (enables : List Enable) (watches : Fanout) (own leads : List ℕ) → own ≡ demand.own → leads ≡ demand.leads →
@@ -160,7 +152,7 @@ pub enables_new : (network : Network) (demand : Asked) (enables : List Enable) (
 enables_new network demand enables watches own leads same_own same_leads fit new = record {
   fit = fit;
   long = new.long;
-  watched = subst (λ (os : List ℕ). AreWatched network os demand.leads enables watches) same_own
-      (subst (λ (ls : List ℕ). AreWatched network own ls enables watches) same_leads new.watched);
+  watched = subst (λ (os : List ℕ). AreWatched network os demand.leads enables watches.readers.items) same_own
+      (subst (λ (ls : List ℕ). AreWatched network own ls enables watches.readers.items) same_leads new.watched);
   closed = λ number enable at fresh. absurd (new.stale number fresh);
 }

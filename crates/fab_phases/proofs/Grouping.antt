@@ -2,7 +2,7 @@
 use Rattle.std.proofs.Common.{◌≡◌, ◌⊎◌, ℕ, zero, suc, ◌+◌, ◌<◌, ◌≤◌, Bool, List, [], ◌∷◌, ◌++◌, append_assoc, append-nil, length, Option, None, Some, refl, sym, ap, ◌∙◌, subst, inl, inr, arith}
 use Rattle.std.specs.List.{slice_get}
 use Rattle.std.specs.Prelude.{slice_index}
-use Rattle.std.proofs.lemmas.Bool.{cases_lt}
+use Rattle.std.proofs.lemmas.Option.{get_or_from_slice_get}
 use Rattle.fab_systems_laws.specs.Ternary.{no, yes, Tern as PlainTern}
 use Rattle.fab_ternary_laws.specs.Operators.{tern_at, one_of}
 use Rattle.fab_ternary.specs.declared.Tern.{Tern}
@@ -22,7 +22,7 @@ use Rattle.fab_phases.specs.Lists.{Each, HasOne}
 use Rattle.fab_phases.specs.Loading.{AreFlops, IsLoadedFlop}
 use Rattle.fab_phases.specs.Words.{IsLeft}
 use Rattle.fab_phases.specs.inner.Enables.{enable_tern, test_tern, AreAmong, AreGroups, AreHolding, AreInGroups, HasBack, Holds, IsAlike, IsGroupOf, IsHolding, IsInGroups, IsLedBack, LeavesFlopsOf, LeavesGroup, LeavesGroups, TakesOwn}
-use Rattle.fab_phases.specs.inner.Ticks.{AreFitFlops, AreOnWay, IsSet, LeavesFlops, LeavesPoints, Tick}
+use Rattle.fab_phases.specs.inner.Ticks.{AreFitFlops, AreOnWay, IsFitFlop, IsSet, LeavesFlops, LeavesPoints, Tick}
 use Rattle.fab_phases.specs.declared.enables.Enable.{Enable}
 use Rattle.fab_phases.specs.declared.enables.Enable.TheVariants.{Always, Test}
 use Rattle.fab_phases.specs.declared.groups.Group.{Group}
@@ -111,7 +111,6 @@ groups_none network asked all = record {
 -- flip-flops of the middle stand among all
 middle_among : (before front after : List LoadedFlop) → AreAmong front (before ++ front ++ after)
 middle_among before front after place flop e =
-    let whole : before ++ front ++ after ≡ before ++ front ++ after = refl in
     (length before + place, flop, get_left (before ++ front) after (length before + place) flop (get_right before front place flop e), refl)
 
 pub groups_more : (network : Network) (asked : Asked) (all rest front after : List LoadedFlop) (groups : List Group) (group : Group) → AreFitFlops network all →
@@ -121,7 +120,7 @@ groups_more network asked all rest front after groups group fits so_far parts is
     so_far.parts ∙ ap (λ (xs : List LoadedFlop). so_far.front ++ xs) parts ∙ sym (append_assoc so_far.front front after) in
     let among : AreAmong front all = subst (λ (xs : List LoadedFlop). AreAmong front xs) (sym whole) (middle_among so_far.front front after) in
     let fit : AreFitFlops network front =
-    λ k flop e. let one = among k flop e in subst (λ (f : LoadedFlop). _) one.3 (fits one.0 one.1 one.2) in
+    λ k flop e. let one = among k flop e in subst (IsFitFlop network) one.3 (fits one.0 one.1 one.2) in
     let here : AreInGroups (groups ++ group ∷ []) front =
     λ k flop e. one_last (λ (g : Group). HasOne g.flops.items (λ (f : LoadedFlop). f.point ≡ flop.point)) groups group
     (k, flop, ap (λ (xs : List LoadedFlop). slice_get xs k) is.flops ∙ e, refl) in
@@ -150,7 +149,7 @@ groups_all network asked all groups so_far = subst (AreInGroups groups) (sym (so
 pub rest_fit : (network : Network) (asked : Asked) (all rest : List LoadedFlop) (groups : List Group) → AreGroupsSoFar network asked all rest groups →
     AreFitFlops network all → AreFitFlops network rest
 rest_fit network asked all rest groups so_far fits =
-    each_right _ so_far.front rest (subst (AreFitFlops network) so_far.parts fits)
+    each_right (IsFitFlop network) so_far.front rest (subst (AreFitFlops network) so_far.parts fits)
 
 -- ---- what a tick leaves in a group
 
@@ -163,7 +162,7 @@ flop_held network tick demand enable flop held shows differs is holds closed way
     let takes = holds (seen demand.terns demand.leads) closed in
     let marked : IsMarked tick.asked.marks takes.back = subst (λ (marks : List Bool). IsMarked marks takes.back) differs.marks takes.led.marked in
     let led : slice_get tick.asked.leads takes.back ≡ Some flop.point = ap (λ (leads : List ℕ). slice_get leads takes.back) (sym differs.leads) ∙ takes.led.led in
-    let lead : slice_index tick.asked.leads takes.back ≡ flop.point = index_of tick.asked.leads takes.back flop.point led in
+    let lead : slice_index tick.asked.leads takes.back ≡ flop.point = get_or_from_slice_get tick.asked.leads takes.back flop.point 0 led in
     let before : source_tern network.trees.items tick.t flop.next ≡ tick.before flop.point =
     sym (shows.sources flop.next is.ready.asked_for) ∙ takes.is ∙ shows.points takes.back marked ∙ tick.possible.follows takes.back marked ∙ ap tick.t lead
     ∙ tick.flops flop.point flop.next is.is in
@@ -233,3 +232,14 @@ groups_leave network asked demand flops groups old new are all leaves tick shows
       stay = left.stay;
       left = λ q one. left.left q (subst (IsInGroups groups) one.3 (all one.0 one.1 one.2));
     }
+
+-- ---- what is kept from word to word
+
+-- flip-flops that are taken whatever their enables are
+pub flops_leave : (network : Network) (flops : List LoadedFlop) (demand : Asked) (old new : List Tern) → LeavesFlops network flops demand old new →
+    LeavesFlopsOf network flops demand old new
+flops_leave network flops demand old new leaves tick shows differs are way = leaves tick shows are way
+
+pub groups_same : (network : Network) (old new : Asked) (flops : List LoadedFlop) (groups : List Group) → DiffersInOwn old new → AreGroups network old flops groups →
+    AreGroups network new flops groups
+groups_same network old new flops groups differs are = record { holding = holding_same network old new groups differs are.holding; among = are.among }

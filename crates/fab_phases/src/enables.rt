@@ -88,8 +88,8 @@ pub fn watch(
     requires places { ArePlaces places.now }
     requires points { length network.now.drives.items ≡ length places.now.leads.now }
     requires fit { IsFitEnable network.now enable }
-    ensures watched { OnSome result (Watches network.now places.now.own.now places.now.leads.now watches.new number enable) }
-    ensures more { ReadsMore watches.old watches.new }
+    ensures watched { OnSome result (Watches network.now places.now.own.now places.now.leads.now watches.new.readers.items number enable) }
+    ensures more { ReadsMore watches.old.readers.items watches.new.readers.items }
     ensures stale { watches.new.stale.items ≡ watches.old.stale.items }
 {
     match enable {
@@ -112,8 +112,8 @@ fn watch_test(
 ) -> Option<()>
     requires places { ArePlaces places.now }
     requires fit { IsFitSource trees.now (length places.now.leads.now) source }
-    ensures watched { OnSome result (WatchesTest places.now.own.now places.now.leads.now watches.new number source.first (slice_get trees.now source.tree)) }
-    ensures more { ReadsMore watches.old watches.new }
+    ensures watched { OnSome result (WatchesTest places.now.own.now places.now.leads.now watches.new.readers.items number source.first (slice_get trees.now source.tree)) }
+    ensures more { ReadsMore watches.old.readers.items watches.new.readers.items }
     ensures stale { watches.new.stale.items ≡ watches.old.stale.items }
 {
     match trees.get(source.tree as usize) {

@@ -15,7 +15,7 @@ use Rattle.fab_demand.specs.Asked.{Asked, DiffersInOwn}
 use Rattle.fab_demand.specs.Demand.{Shows}
 use Rattle.fab_changes.specs.declared.fanout.Fanout.{Fanout}
 use Rattle.fab_changes.specs.Changes.{AreChangesOf}
-use Rattle.fab_changes.specs.Fanout.{IsFresh, IsWatched, WatchesTree}
+use Rattle.fab_changes.specs.Fanout.{IsFresh, Lists, WatchesTree}
 use Rattle.fab_phases.specs.Lists.{Each, HasOne}
 use Rattle.fab_phases.specs.Loading.{AreFlops}
 use Rattle.fab_phases.specs.inner.Ticks.{AreFitFlops, AreOnWay, IsFit, LeavesPoints, Tick}
@@ -53,39 +53,39 @@ IsEnabled network demand enables number value =
 -- ---- what is watched of them
 
 -- all points of the test of a choice
-abbrev pub WatchesTest : (own leads : List ℕ) → Fanout → (number first : ℕ) → Option Tree → Type 0
-WatchesTest own leads watches number first None = Unit {0}
-WatchesTest own leads watches number first (Some (Cond' p c q a r b)) = WatchesTree own leads watches number first c
-WatchesTest own leads watches number first (Some tree) = Unit {0}
+abbrev pub WatchesTest : (own leads : List ℕ) → Lists → (number first : ℕ) → Option Tree → Type 0
+WatchesTest own leads lists number first None = Unit {0}
+WatchesTest own leads lists number first (Some (Cond' p c q a r b)) = WatchesTree own leads lists number first c
+WatchesTest own leads lists number first (Some tree) = Unit {0}
 
 -- all points of an expression
-abbrev pub WatchesWhole : (own leads : List ℕ) → Fanout → (number first : ℕ) → Option Tree → Type 0
-WatchesWhole own leads watches number first None = Unit {0}
-WatchesWhole own leads watches number first (Some tree) = WatchesTree own leads watches number first tree
+abbrev pub WatchesWhole : (own leads : List ℕ) → Lists → (number first : ℕ) → Option Tree → Type 0
+WatchesWhole own leads lists number first None = Unit {0}
+WatchesWhole own leads lists number first (Some tree) = WatchesTree own leads lists number first tree
 
 -- all points that an enable reads
-abbrev pub Watches : Network → (own leads : List ℕ) → Fanout → (number : ℕ) → Enable → Type 0
-Watches network own leads watches number Always = Unit {0}
-Watches network own leads watches number (Test source) = WatchesTest own leads watches number source.first (slice_get network.trees.items source.tree)
-Watches network own leads watches number (Gate source) = WatchesWhole own leads watches number source.first (slice_get network.trees.items source.tree)
+abbrev pub Watches : Network → (own leads : List ℕ) → Lists → (number : ℕ) → Enable → Type 0
+Watches network own leads lists number Always = Unit {0}
+Watches network own leads lists number (Test source) = WatchesTest own leads lists number source.first (slice_get network.trees.items source.tree)
+Watches network own leads lists number (Gate source) = WatchesWhole own leads lists number source.first (slice_get network.trees.items source.tree)
 
 -- Each enable is watched under its number.
-abbrev pub AreWatched : Network → (own leads : List ℕ) → List Enable → Fanout → Type 0
-AreWatched network own leads enables watches =
-    (number : ℕ) (enable : Enable) → slice_get enables number ≡ Some enable → Watches network own leads watches number enable
+abbrev pub AreWatched : Network → (own leads : List ℕ) → List Enable → Lists → Type 0
+AreWatched network own leads enables lists =
+    (number : ℕ) (enable : Enable) → slice_get enables number ≡ Some enable → Watches network own leads lists number enable
 
 -- All are stale at first.
 pub record AreNewlyWatched (network : Network) (own leads : List ℕ) (enables : List Enable) (watches : Fanout) : Type 0 where
   pub long : length watches.stale.items ≡ length enables
-  pub watched : AreWatched network own leads enables watches
-  pub stale : (number : ℕ) → IsFresh watches number → ⊥
+  pub watched : AreWatched network own leads enables watches.readers.items
+  pub stale : (number : ℕ) → IsFresh watches.stale.items number → ⊥
 
 -- Each enable is watched, and is 0 unless it is stale.
 pub record AreEnables (network : Network) (demand : Asked) (enables : List Enable) (watches : Fanout) : Type 0 where
   pub fit : Each enables (IsFitEnable network)
   pub long : length watches.stale.items ≡ length enables
-  pub watched : AreWatched network demand.own demand.leads enables watches
-  pub closed : (number : ℕ) (enable : Enable) → slice_get enables number ≡ Some enable → IsFresh watches number →
+  pub watched : AreWatched network demand.own demand.leads enables watches.readers.items
+  pub closed : (number : ℕ) (enable : Enable) → slice_get enables number ≡ Some enable → IsFresh watches.stale.items number →
       enable_tern network.trees.items (seen demand.terns demand.leads) enable ≡ no
 
 -- ---- groups
