@@ -2,6 +2,7 @@
 use Rattle.std.proofs.Common.{◌≡◌, ◌⊎◌, ℕ, zero, suc, ◌+◌, ◌<◌, ◌≤◌, Bool, List, [], ◌∷◌, ◌++◌, append_assoc, append-nil, length, Option, None, Some, refl, sym, ap, ◌∙◌, subst, inl, inr, arith}
 use Rattle.std.specs.List.{slice_get}
 use Rattle.std.specs.Prelude.{slice_index}
+use Rattle.std.proofs.lemmas.Bool.{cases_lt}
 use Rattle.std.proofs.lemmas.Option.{get_or_from_slice_get}
 use Rattle.fab_systems_laws.specs.Ternary.{no, yes, Tern as PlainTern}
 use Rattle.fab_ternary_laws.specs.Operators.{tern_at, one_of}
@@ -32,6 +33,19 @@ use Rattle.fab_phases.proofs.Gathered.{below}
 use Rattle.fab_phases.proofs.Lists.{each_both, each_left, each_more, each_right, get_left, get_right, one_last, one_left}
 use Rattle.fab_phases.proofs.Ticking.{below_all, below_more}
 use Rattle.fab_phases.proofs.Writing.{HasBelow, flop_set, leaves_both}
+
+-- ---- items of the first places
+
+pub each_below_more : {X : Type 0} (xs : List X) (count : ℕ) (here : X) (P : X → Type 0) → slice_get xs count ≡ Some here → P here →
+    ((place : ℕ) (x : X) → place < count → slice_get xs place ≡ Some x → P x) → (place : ℕ) (x : X) → place < count + 1 → slice_get xs place ≡ Some x → P x
+each_below_more xs count here P at holds before place x less e =
+    elim (below count place less) [
+      | inl l ↦ before place x l e
+      | inr same ↦
+          let both : Some here ≡ Some x = sym at ∙ ap (slice_get xs) (sym same) ∙ e in
+          let is : here ≡ x = cc in
+          subst P is holds
+    ]
 
 -- ---- when a flip-flop takes what it has
 
@@ -73,6 +87,31 @@ alike_holds network asked next flop alike holds t closed =
 
 pub always_holds : (network : Network) (asked : Asked) (flop : LoadedFlop) → Holds network asked Always flop
 always_holds network asked flop t closed = absurd (yes≢no closed)
+
+-- one flip-flop more
+pub alike_more : (next : Source) (flops : List LoadedFlop) (count : ℕ) (here : LoadedFlop) → slice_get flops count ≡ Some here → IsAlike here.next next →
+    ((place : ℕ) (flop : LoadedFlop) → place < count → slice_get flops place ≡ Some flop → IsAlike flop.next next) →
+    (place : ℕ) (flop : LoadedFlop) → place < count + 1 → slice_get flops place ≡ Some flop → IsAlike flop.next next
+alike_more next flops count here at alike before = each_below_more flops count here (λ (flop : LoadedFlop). IsAlike flop.next next) at alike before
+
+pub held_more : (network : Network) (asked : Asked) (next : Source) (flops : List LoadedFlop) (count : ℕ) (here : LoadedFlop) → slice_get flops count ≡ Some here →
+    Holds network asked (Test next) here →
+    ((place : ℕ) (flop : LoadedFlop) → place < count → slice_get flops place ≡ Some flop → Holds network asked (Test next) flop) →
+    (place : ℕ) (flop : LoadedFlop) → place < count + 1 → slice_get flops place ≡ Some flop → Holds network asked (Test next) flop
+held_more network asked next flops count here at holds before = each_below_more flops count here (Holds network asked (Test next)) at holds before
+
+-- where a flip-flop takes no bit of an expression, it is not the one that takes this bit
+pub first_differs : (flops : List LoadedFlop) (place : ℕ) (here first : LoadedFlop) (next : Source) → slice_get flops place ≡ Some here → slice_get flops 0 ≡ Some first →
+    first.next ≡ next → (here.next ≡ next → ⊥) → 0 < place
+first_differs flops place here first next at at_first same apart =
+    elim (cases_lt 0 place) [
+      | inl l ↦ l
+      | inr g ↦
+          let none : place ≡ 0 = omega arith in
+          let both : Some here ≡ Some first = sym at ∙ ap (slice_get flops) none ∙ at_first in
+          let is : here ≡ first = cc in
+          absurd (apart (ap (λ (flop : LoadedFlop). flop.next) is ∙ same))
+    ]
 
 -- what holds by what has been asked for holds by what is kept then
 led_same : (old new : Asked) (back point : ℕ) → DiffersInOwn old new → IsLedBack old back point → IsLedBack new back point

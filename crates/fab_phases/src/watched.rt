@@ -68,10 +68,7 @@ pub fn watching_of(
 fn enables_of(alloc: Global, groups: &[Group], runs: &[Run]) -> Result<Vec<Enable>, Memory>
     ensures { IfOk result (λ enables. AreEnablesOf groups.now runs.now enables.items) }
 {
-    let mut enables = Vec::new(alloc);
-    for group in groups {
-        enables.push(group.enable)?;
-    }
+    let mut enables: Vec<Enable> = groups.iter().map(|group| group.enable).collect(alloc)?;
     for run in runs {
         enables.push(Enable::Gate(run.gate))?;
     }

@@ -1,5 +1,5 @@
 -- What lets flip-flops and latches take new values, and what is watched of it.
-use Rattle.std.specs.Prelude.{◌≡◌, ℕ, ◌+◌, ◌-◌, ◌⊎◌, ◌<◌, ◌≤◌, List, Option, None, Some, length, slice_get, slice_index}
+use Rattle.std.specs.Prelude.{◌≡◌, ℕ, ◌+◌, ◌-◌, ◌<◌, ◌≤◌, ◌++◌, List, Option, None, Some, length, map, slice_get}
 use Rattle.fab_systems_laws.specs.Ternary.{no, yes, unknown}
 use Rattle.fab_systems_laws.specs.Ternary.{Tern as PlainTern}
 use Rattle.fab_ternary.specs.declared.Tern.{Tern}
@@ -162,11 +162,9 @@ pub record EnableRuns (runs : List Run) (enables : List Enable) : Type 0 where
   pub room : length runs ≤ length enables
   pub gates : (place : ℕ) (run : Run) → slice_get runs place ≡ Some run → slice_get enables (length enables - length runs + place) ≡ Some (Gate run.gate)
 
-pub record AreEnablesOf (groups : List Group) (runs : List Run) (enables : List Enable) : Type 0 where
-  pub groups : EnableGroups groups enables
-  pub runs : EnableRuns runs enables
-  pub only : (number : ℕ) (enable : Enable) → slice_get enables number ≡ Some enable →
-      HasOne groups (λ (group : Group). group.enable ≡ enable) ⊎ HasOne runs (λ (run : Run). Gate run.gate ≡ enable)
+-- the enables of groups, and behind them those of runs
+abbrev pub AreEnablesOf : List Group → List Run → List Enable → Type 0
+AreEnablesOf groups runs enables = enables ≡ map (λ (group : Group). group.enable) groups ++ map (λ (run : Run). Gate run.gate) runs
 
 -- ---- what is kept from word to word
 

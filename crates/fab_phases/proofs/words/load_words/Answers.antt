@@ -9,6 +9,7 @@ pub loop-word-preserved : goal.loop-word-preserved
 loop-word-preserved c = record {
   points = c.load_word.ensures.points ∙ c.loop-word.invariant.points;
   loading = λ loads at. c.load_word.ensures.loading loads (c.loop-word.invariant.loading loads at);
+  watching = c.load_word.ensures.watching;
   steps = λ loads at.
       let words = c.args.words.now in
       let word = get_or words c.loop-word.word-index 0 in
@@ -18,3 +19,6 @@ loop-word-preserved c = record {
       (steps_more c.args.network.now loads c.args.first (map word_bits before) (word_bits word) (kept_tern c.args.given.now) (kept_tern c.loop-word.given)
       (kept_tern c.load_word.new.given) (c.loop-word.invariant.steps loads at) (c.load_word.ensures.step loads (c.loop-word.invariant.loading loads at)));
 }
+
+pub watching_of-watching-requires-clause-loading : goal.watching_of-watching-requires-clause-loading
+watching_of-watching-requires-clause-loading c = (c.requires.loading.0, c.args.first, 32, c.args.given.now, c.requires.loading.1)
