@@ -26,6 +26,9 @@ use Rattle.fab_phases.specs.declared.enables.Enable.TheVariants.{Always, Gate, T
 pub yes≢no : yes ≡ no → ⊥
 yes≢no e = cc
 
+abbrev pub no_enable : Enable
+no_enable = Always
+
 -- ---- what is watched stays watched
 
 each_place : (P Q : ℕ → Type 0) → ((k : ℕ) → P k → Q k) → (tree : Tree) → EachPlace P tree → EachPlace Q tree

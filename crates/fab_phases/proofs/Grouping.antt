@@ -162,7 +162,7 @@ groups_more network asked all rest front after groups group fits so_far parts is
     λ k flop e. let one = among k flop e in subst (IsFitFlop network) one.3 (fits one.0 one.1 one.2) in
     let here : AreInGroups (groups ++ group ∷ []) front =
     λ k flop e. one_last (λ (g : Group). HasOne g.flops.items (λ (f : LoadedFlop). f.point ≡ flop.point)) groups group
-    (k, flop, ap (λ (xs : List LoadedFlop). slice_get xs k) is.flops ∙ e, refl) in
+    (k, flop, ap (λ (xs : List LoadedFlop). slice_get xs k) is.is ∙ e, refl) in
     let before : AreInGroups (groups ++ group ∷ []) so_far.front =
     λ k flop e. one_left (λ (g : Group). HasOne g.flops.items (λ (f : LoadedFlop). f.point ≡ flop.point)) groups (group ∷ []) (so_far.in_groups k flop e) in
     record {
@@ -173,11 +173,11 @@ groups_more network asked all rest front after groups group fits so_far parts is
         holding = each_more (IsHolding network asked) groups group so_far.are.holding
             (record {
               enable = is.enable;
-              flops = subst (AreFitFlops network) (sym is.flops) fit;
-              holds = subst (λ (xs : List LoadedFlop). Each xs (Holds network asked group.enable)) (sym is.flops) is.holds;
+              flops = subst (AreFitFlops network) (sym is.is) fit;
+              holds = subst (λ (xs : List LoadedFlop). Each xs (Holds network asked group.enable)) (sym is.is) is.holds;
             });
         among = each_more (λ (g : Group). AreAmong g.flops.items all) groups group so_far.are.among
-            (subst (λ (xs : List LoadedFlop). AreAmong xs all) (sym is.flops) among);
+            (subst (λ (xs : List LoadedFlop). AreAmong xs all) (sym is.is) among);
       };
     }
 

@@ -41,12 +41,13 @@ pub fn enabled(
     if !watches.is_stale(number) {
         return Tern::No;
     }
-    let value = value_of(network, enables[number], &demand.view());
-    match value {
-        Tern::No => watches.set_fresh(number),
-        Tern::Yes | Tern::Open => {}
+    match value_of(network, enables[number], &demand.view()) {
+        Tern::No => {
+            watches.set_fresh(number);
+            Tern::No
+        }
+        value => value,
     }
-    value
 }
 
 // The value of an enable.

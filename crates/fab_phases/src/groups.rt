@@ -82,12 +82,7 @@ fn group_of(
 }
 
 // What lets flip-flops take bits of the same expression as this one: its test, if each of them takes what it has where the test is 0.
-fn enable_of(
-    network: &Network,
-    demand: &Demand,
-    next: Source,
-    flops: &[LoadedFlop],
-) -> Enable
+fn enable_of(network: &Network, demand: &Demand, next: Source, flops: &[LoadedFlop]) -> Enable
     requires next { IsFit network.now next }
     requires alike { Each flops.now (λ flop. IsAlike flop.next next) }
     ensures fit { IsFitEnable network.now result }

@@ -61,13 +61,7 @@ fn take_runs(network: &Network, runs: &[Run], demand: &Demand, given: &mut [Tern
 }
 
 /// The latches of a run whose gate has this value.
-pub fn take_run(
-    network: &Network,
-    gate: Tern,
-    run: &Run,
-    demand: &Demand,
-    given: &mut [Tern],
-)
+pub fn take_run(network: &Network, gate: Tern, run: &Run, demand: &Demand, given: &mut [Tern])
     requires points { length network.now.drives.items ≡ length demand.now.leads }
     requires given { length given.old ≡ length demand.now.leads }
     requires run { IsFitRun network.now run.now }

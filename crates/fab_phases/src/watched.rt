@@ -9,8 +9,8 @@ ghost use Rattle.fab_changes.specs.Fanout.{ArePlaces};
 ghost use Rattle.fab_phases.specs.Lists.{Each};
 ghost use Rattle.fab_phases.specs.Loading.{IsSolvable};
 ghost use Rattle.fab_phases.specs.Words.{IsLoadingAt};
-ghost use Rattle.fab_phases.specs.inner.Enables.{enable_tern, AreEnables, AreEnablesOf, AreHolding, AreNewlyWatched, EnableGroups, EnableRuns, IsFitEnable, IsHolding, IsWatching};
-ghost use Rattle.fab_phases.specs.inner.Ticks.{AreFitRuns, IsLoadTick, LeavesGroup, LeavesGroups, LeavesRuns};
+ghost use Rattle.fab_phases.specs.inner.Enables.{enable_tern, AreEnables, AreEnablesOf, AreHolding, AreNewlyWatched, EnableGroups, EnableRuns, IsFitEnable, IsHolding, IsWatching, LeavesGroup, LeavesGroups};
+ghost use Rattle.fab_phases.specs.inner.Ticks.{AreFitRuns, IsLoadTick, LeavesRuns};
 
 use crate::enables::{Enable, enabled, watch};
 use crate::groups::{Group, groups_of};
@@ -91,8 +91,8 @@ fn watches_of(
     let room = points.saturating_mul(MOST_READ);
     let mut watches = Fanout::new(alloc, points, enables.len(), room)?;
     for (number, enable) in enables.iter().enumerate() {
-        let number = u32::try_from(number).ok()?;
-        watch(network, places, *enable, number, &mut watches)?;
+        let reader = u32::try_from(number).ok()?;
+        watch(network, places, *enable, reader, &mut watches)?;
     }
     Some(watches)
 }
@@ -151,13 +151,7 @@ fn take_groups(
 }
 
 // The flip-flops of a group whose enable has this value.
-fn take_group(
-    network: &Network,
-    enable: Tern,
-    group: &Group,
-    demand: &Demand,
-    given: &mut [Tern],
-)
+fn take_group(network: &Network, enable: Tern, group: &Group, demand: &Demand, given: &mut [Tern])
     requires points { length network.now.drives.items ≡ length demand.now.leads }
     requires given { length given.old ≡ length demand.now.leads }
     requires group { IsHolding network.now demand.now group.now }

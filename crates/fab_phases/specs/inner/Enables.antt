@@ -132,7 +132,7 @@ AreHolding network asked groups = Each groups (IsHolding network asked)
 -- a group of these flip-flops
 pub record IsGroupOf (network : Network) (asked : Asked) (flops : List LoadedFlop) (group : Group) : Type 0 where
   pub enable : IsFitEnable network group.enable
-  pub flops : group.flops.items ≡ flops
+  pub is : group.flops.items ≡ flops
   pub holds : Each flops (Holds network asked group.enable)
 
 -- each of these flip-flops stands among those

@@ -1,9 +1,9 @@
-use Rattle.std.proofs.Common.{List, Some, sym, ap, ◌∙◌, subst, arith}
+use Rattle.std.proofs.Common.{◌≡◌, List, Some, sym, ap, ◌∙◌, subst, arith}
 use Rattle.std.specs.List.{slice_get}
 use Rattle.std.proofs.lemmas.Option.{slice_get_within}
 use Rattle.fab_phases.specs.declared.groups.Group.{Group}
 use Rattle.fab_phases.specs.declared.loading.LoadedFlop.{LoadedFlop}
-use Rattle.fab_phases.proofs.Grouping.{AreGroupsSoFar, groups_all, groups_more, groups_none, rest_fit}
+use Rattle.fab_phases.proofs.Grouping.{AreGroupsSoFar, groups_more, rest_fit}
 use Rattle.fab_phases.proofs.Lists.{get_left}
 use Rattle.fab_phases.proofs.groups.groups_of.Goals as goal
 
@@ -20,9 +20,6 @@ group_of-requires-clause-alike c place flop at =
     let there : slice_get c.groups.rest.now place ≡ Some flop =
     ap (λ (flops : List LoadedFlop). slice_get flops place) c.split_at.ensures.by_index.0 ∙ get_left front c.split_at.result.1.now place flop at in
     c.together-count.ensures.front place flop (omega (arith, c.split_at.ensures.front_len)) there
-
-pub groups-init : goal.groups-init
-groups-init c = groups_none c.args.network.now c.args.demand.now c.args.flops.now
 
 pub groups-preserved : goal.groups-preserved
 groups-preserved c =

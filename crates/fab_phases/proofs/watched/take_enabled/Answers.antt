@@ -11,22 +11,22 @@ enabled-gate-requires-clause-within c =
 
 pub take_run-requires-clause-run : goal.take_run-requires-clause-run
 take_run-requires-clause-run c =
-    let run = c.loop-place-item.result in
+    let run = c.index-runs-place.result in
     c.requires.runs c.loop-place.place run
-    (slice_get_read c.args.runs.now (length c.args.runs.now) c.loop-place.place run refl c.loop-place-test.true c.loop-place-item.is)
+    (slice_get_read c.args.runs.now (length c.args.runs.now) c.loop-place.place run refl c.loop-place-test.true c.index-runs-place.is)
 
 pub take_run-requires-clause-gate : goal.take_run-requires-clause-gate
 take_run-requires-clause-gate c =
-    let run = c.loop-place-item.result in
-    let at = slice_get_read c.args.runs.now (length c.args.runs.now) c.loop-place.place run refl c.loop-place-test.true c.loop-place-item.is in
+    let run = c.index-runs-place.result in
+    let at = slice_get_read c.args.runs.now (length c.args.runs.now) c.loop-place.place run refl c.loop-place-test.true c.index-runs-place.is in
     c.enabled-gate.ensures.value (Gate run.gate) (c.requires.of.gates c.loop-place.place run at)
 
 pub loop-place-preserved : goal.loop-place-preserved
 loop-place-preserved c =
-    let run = c.loop-place-item.result in
+    let run = c.index-runs-place.result in
     record {
       leaves = run_step c.args.network.now c.args.runs.now c.args.demand.now c.loop-place.place c.args.given.now c.loop-place.given c.take_run.new.given run
-          (slice_get_read c.args.runs.now (length c.args.runs.now) c.loop-place.place run refl c.loop-place-test.true c.loop-place-item.is)
+          (slice_get_read c.args.runs.now (length c.args.runs.now) c.loop-place.place run refl c.loop-place-test.true c.index-runs-place.is)
           c.take_run.ensures c.loop-place.invariant.leaves;
       enables = c.enabled-gate.ensures.enables;
     }
