@@ -22,6 +22,7 @@ use Rattle.fab_phases.specs.Lists.{Each}
 use Rattle.fab_phases.specs.inner.Enables.{enable_tern, test_tern, AreEnables, AreNewlyWatched, AreWatched, IsFitEnable, Watches, WatchesTest, WatchesWhole}
 use Rattle.fab_phases.specs.declared.enables.Enable.{Enable}
 use Rattle.fab_phases.specs.declared.enables.Enable.TheVariants.{Always, Gate, Test}
+use Rattle.fab_phases.proofs.Gathered.{below}
 
 pub yes≢no : yes ≡ no → ⊥
 yes≢no e = cc
@@ -63,6 +64,20 @@ module _ (own leads : List ℕ) (old new : Lists) (more : ReadsMore old new) (nu
   watches_more network Always each = tt
   watches_more network (Test source) each = test_more source.first (slice_get network.trees.items source.tree) each
   watches_more network (Gate source) each = whole_more source.first (slice_get network.trees.items source.tree) each
+
+-- one enable more
+pub watched_more : (network : Network) (own leads : List ℕ) (enables : List Enable) (old new : Lists) (count : ℕ) (here : Enable) → slice_get enables count ≡ Some here →
+    ReadsMore old new → Watches network own leads new count here →
+    ((number : ℕ) (enable : Enable) → number < count → slice_get enables number ≡ Some enable → Watches network own leads old number enable) →
+    (number : ℕ) (enable : Enable) → number < count + 1 → slice_get enables number ≡ Some enable → Watches network own leads new number enable
+watched_more network own leads enables old new count here at more watched before number enable less e =
+    elim (below count number less) [
+      | inl l ↦ watches_more own leads old new more number network enable (before number enable l e)
+      | inr same ↦
+          let both : Some here ≡ Some enable = sym at ∙ ap (slice_get enables) (sym same) ∙ e in
+          let is : here ≡ enable = cc in
+          subst (Watches network own leads new number) is (subst (λ (n : ℕ). Watches network own leads new n here) (sym same) watched)
+    ]
 
 -- ---- what is the same where all that is watched is
 

@@ -1,12 +1,14 @@
 -- What is watched while words are loaded.
 use Rattle.std.proofs.Common.{◌≡◌, ◌⊎◌, ℕ, zero, suc, ◌+◌, ◌-◌, ◌<◌, ◌≤◌, List, [], ◌∷◌, ◌++◌, map, length, Some, refl, sym, ap, ◌∙◌, subst, inl, inr, arith, length-append}
 use Rattle.std.specs.List.{slice_get}
+use Rattle.std.specs.Prelude.{Result, Ok, Err, IfOk}
+use Rattle.std.specs.Result.{result_ok}
 use Rattle.std.proofs.lemmas.List.{length-map}
 use Rattle.fab_network.specs.declared.network.Network.{Network}
 use Rattle.fab_demand.specs.Asked.{Asked, DiffersInOwn}
 use Rattle.fab_changes.specs.Changes.{AreChangesOf}
 use Rattle.fab_phases.specs.Lists.{Each}
-use Rattle.fab_phases.specs.inner.Enables.{AreEnables, AreEnablesOf, AreGroups, AreHolding, AreInGroups, EnableGroups, EnableRuns, IsFitEnable, IsWatching}
+use Rattle.fab_phases.specs.inner.Enables.{AreEnables, AreEnablesOf, AreGroups, AreHolding, AreInGroups, AreNewlyWatched, EnableGroups, EnableRuns, IsFitEnable, IsWatching}
 use Rattle.fab_phases.specs.inner.Ticks.{AreFitRuns}
 use Rattle.fab_phases.specs.declared.enables.Enable.{Enable}
 use Rattle.fab_phases.specs.declared.enables.Enable.TheVariants.{Gate}
@@ -14,6 +16,7 @@ use Rattle.fab_phases.specs.declared.groups.Group.{Group}
 use Rattle.fab_phases.specs.declared.loading.Loading.{Loading}
 use Rattle.fab_phases.specs.declared.loading.Run.{Run}
 use Rattle.fab_phases.specs.declared.watched.Watching.{Watching}
+use Rattle.fab_phases.proofs.Enabling.{enables_new}
 use Rattle.fab_phases.proofs.Grouping.{groups_same}
 use Rattle.fab_phases.proofs.Lists.{get_left, get_mapped, get_of_mapped, get_parts, get_right}
 
@@ -61,6 +64,27 @@ enables_fit network asked groups runs enables are holding fit number enable at =
           let one = get_of_mapped (λ (r : Run). Gate r.gate) runs behind.0 enable behind.2 in
           subst (IsFitEnable network) one.2 (fit behind.0 one.0 one.1).gate
     ]
+
+-- ---- at first
+
+-- what holds of a result that is kept as an option
+pub kept_ok : {A E : Type 0} (P : A → Type 0) (result : Result A E) (value : A) → Some value ≡ result_ok result → IfOk result P → P value
+kept_ok P (Ok a) value e holds = let same : a ≡ value = cc in subst P same holds
+kept_ok P (Err x) value e holds = absurd (cc)
+
+pub watching_made : (network : Network) (loading : Loading) (asked : Asked) (watching : Watching) (own leads : List ℕ) → AreFitRuns network loading.runs.items →
+    own ≡ asked.own → leads ≡ asked.leads → AreGroups network asked loading.flops.items watching.groups.items →
+    AreInGroups watching.groups.items loading.flops.items → AreEnablesOf watching.groups.items loading.runs.items watching.enables.items →
+    ((given : Asked) → given.own ≡ own → given.leads ≡ leads → AreChangesOf network given watching.changes) →
+    AreNewlyWatched network own leads watching.enables.items watching.watches → IsWatching network loading asked watching
+watching_made network loading asked watching own leads fit same_own same_leads groups all of changes watched = record {
+  groups = groups;
+  all = all;
+  of = of;
+  changes = changes asked (sym same_own) (sym same_leads);
+  enables = enables_new network asked watching.enables.items watching.watches own leads same_own same_leads
+      (enables_fit network asked watching.groups.items loading.runs.items watching.enables.items of groups.holding fit) watched;
+}
 
 -- ---- behind a tick
 

@@ -1,6 +1,6 @@
 //! Words are loaded where only that is looked at again which reads what has changed.
 
-ghost use Rattle.std.specs.Prelude.{◌≡◌, ◌+◌, ◌<◌, ◌≤◌, ℕ, Bool, List, length, IfOk, IfSome};
+ghost use Rattle.std.specs.Prelude.{◌≡◌, ◌+◌, ◌<◌, ◌≤◌, ℕ, Bool, List, length, map, IfOk, IfSome};
 ghost use Rattle.fab_ternary.specs.Terns.{plain_tern};
 ghost use Rattle.fab_compiled.specs.Terns.{seen};
 ghost use Rattle.fab_network.specs.Network.{AreFit};
@@ -68,10 +68,18 @@ pub fn watching_of(
 fn enables_of(alloc: Global, groups: &[Group], runs: &[Run]) -> Result<Vec<Enable>, Memory>
     ensures { IfOk result (λ enables. AreEnablesOf groups.now runs.now enables.items) }
 {
-    let mut enables: Vec<Enable> = groups.iter().map(|group| group.enable).collect(alloc)?;
+    let mut enables = group_enables(alloc, groups)?;
     for run in runs {
         enables.push(Enable::Gate(run.gate))?;
     }
+    Ok(enables)
+}
+
+// The enables of groups.
+fn group_enables(alloc: Global, groups: &[Group]) -> Result<Vec<Enable>, Memory>
+    ensures { IfOk result (λ enables. enables.items ≡ map (λ (group : Group). group.enable) groups.now) }
+{
+    let enables = groups.iter().map(|group| group.enable).collect(alloc)?;
     Ok(enables)
 }
 
@@ -87,12 +95,14 @@ fn watches_of(
     requires fit { Each enables.now (IsFitEnable network.now) }
     ensures { IfSome result (λ watches. AreNewlyWatched network.now places.now.own.now places.now.leads.now enables.now watches) }
 {
+    if enables.len() > u32::MAX as usize {
+        return None;
+    }
     let points = places.own.len();
     let room = points.saturating_mul(MOST_READ);
     let mut watches = Fanout::new(alloc, points, enables.len(), room)?;
     for (number, enable) in enables.iter().enumerate() {
-        let reader = u32::try_from(number).ok()?;
-        watch(network, places, *enable, reader, &mut watches)?;
+        watch(network, places, *enable, number as u32, &mut watches)?;
     }
     Some(watches)
 }
