@@ -1,19 +1,17 @@
 -- What enables are while points change that they read, or while one of them is found to be 0.
-use Rattle.std.proofs.Common.{◌≡◌, ℕ, zero, suc, ◌+◌, ◌^◌, ◌<◌, false, List, [], ◌∷◌, length, Option, None, Some, refl, sym, ap, ◌∙◌, subst, inl, inr, arith, slice_set}
+use Rattle.std.proofs.Common.{◌≡◌, ℕ, zero, suc, ◌+◌, ◌<◌, false, List, [], ◌∷◌, length, Option, None, Some, refl, sym, ap, ◌∙◌, subst, inl, inr, slice_set}
 use Rattle.std.specs.List.{slice_get}
 use Rattle.std.specs.Prelude.{Bool, true, replicate}
 use Rattle.std.proofs.lemmas.Bool.{cases_eq}
 use Rattle.fab_systems_laws.specs.Ternary.{no, yes, Tern as PlainTern}
-use Rattle.fab_ternary_laws.specs.Operators.{tern_at, one_of}
+use Rattle.fab_ternary_laws.specs.Operators.{tern_at}
 use Rattle.fab_compiled.specs.declared.tree.Tree.{Tree, Const, Bits, Pick', Cat', Not', And', Or', Xor', Equal', Minus', Cond'}
-use Rattle.fab_compiled.specs.Leading.{PointTerns, bit_under}
+use Rattle.fab_compiled.specs.Leading.{PointTerns}
 use Rattle.fab_compiled.specs.Terns.{seen}
 use Rattle.fab_compiled.specs.Trees.{tree_value, EachPlace}
-use Rattle.fab_compiled.proofs.Bits.{first_at}
 use Rattle.fab_compiled.proofs.TreesGrow.{tree_same}
 use Rattle.fab_network.specs.declared.network.Network.{Network}
-use Rattle.fab_network.specs.declared.network.Source.{Source}
-use Rattle.fab_network.specs.Network.{source_tern, tern_in}
+use Rattle.fab_network.specs.Network.{tern_in}
 use Rattle.fab_demand.specs.Asked.{Asked, DiffersInOwn}
 use Rattle.fab_changes.specs.declared.fanout.Fanout.{Fanout}
 use Rattle.fab_changes.specs.Changes.{HasKept}

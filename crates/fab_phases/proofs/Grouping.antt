@@ -1,14 +1,14 @@
 -- Groups of flip-flops: when they hold what they have, and what a tick leaves in them.
-use Rattle.std.proofs.Common.{◌≡◌, ◌⊎◌, ℕ, zero, suc, ◌+◌, ◌<◌, ◌≤◌, Bool, List, [], ◌∷◌, ◌++◌, append_assoc, append-nil, length, Option, None, Some, refl, sym, ap, ◌∙◌, subst, inl, inr, arith}
+use Rattle.std.proofs.Common.{◌≡◌, ◌⊎◌, ℕ, ◌+◌, ◌<◌, ◌≤◌, Bool, List, [], ◌∷◌, ◌++◌, append_assoc, append-nil, length, Option, Some, refl, sym, ap, ◌∙◌, subst, inl, inr, arith}
 use Rattle.std.specs.List.{slice_get}
 use Rattle.std.specs.Prelude.{slice_index}
 use Rattle.std.proofs.lemmas.Bool.{cases_lt}
 use Rattle.std.proofs.lemmas.Option.{get_or_from_slice_get}
-use Rattle.fab_systems_laws.specs.Ternary.{no, yes, Tern as PlainTern}
+use Rattle.fab_systems_laws.specs.Ternary.{no, Tern as PlainTern}
 use Rattle.fab_ternary_laws.specs.Operators.{tern_at, one_of}
 use Rattle.fab_ternary.specs.declared.Tern.{Tern}
 use Rattle.fab_compiled.specs.declared.tree.Tree.{Tree, Bits, Cond'}
-use Rattle.fab_compiled.specs.Leading.{PointTerns, bit_under, IsMarked}
+use Rattle.fab_compiled.specs.Leading.{IsMarked}
 use Rattle.fab_compiled.specs.Terns.{seen}
 use Rattle.fab_compiled.specs.Trees.{tree_value}
 use Rattle.fab_compiled.proofs.Bits.{first_at}
@@ -22,7 +22,7 @@ use Rattle.fab_demand.specs.Demand.{Shows}
 use Rattle.fab_phases.specs.Lists.{Each, HasOne}
 use Rattle.fab_phases.specs.Loading.{AreFlops, IsLoadedFlop}
 use Rattle.fab_phases.specs.Words.{IsLeft}
-use Rattle.fab_phases.specs.inner.Enables.{enable_tern, test_tern, AreAmong, AreGroups, AreHolding, AreInGroups, HasBack, Holds, IsAlike, IsGroupOf, IsHolding, IsInGroups, IsLedBack, LeavesFlopsOf, LeavesGroup, LeavesGroups, TakesOwn}
+use Rattle.fab_phases.specs.inner.Enables.{enable_tern, test_tern, AreAmong, AreGroups, AreHolding, AreInGroups, HasBack, Holds, IsAlike, IsGroupOf, IsHolding, IsInGroups, IsLedBack, LeavesFlopsOf, LeavesGroup, LeavesGroups}
 use Rattle.fab_phases.specs.inner.Ticks.{AreFitFlops, AreOnWay, IsFitFlop, IsSet, LeavesFlops, LeavesPoints, Tick}
 use Rattle.fab_phases.specs.declared.enables.Enable.{Enable}
 use Rattle.fab_phases.specs.declared.enables.Enable.TheVariants.{Always, Test}
@@ -30,7 +30,7 @@ use Rattle.fab_phases.specs.declared.groups.Group.{Group}
 use Rattle.fab_phases.specs.declared.loading.LoadedFlop.{LoadedFlop}
 use Rattle.fab_phases.proofs.Enabling.{yes≢no}
 use Rattle.fab_phases.proofs.Gathered.{below}
-use Rattle.fab_phases.proofs.Lists.{each_both, each_left, each_more, each_right, get_left, get_right, one_last, one_left}
+use Rattle.fab_phases.proofs.Lists.{each_both, each_more, each_right, get_left, get_right, one_last, one_left}
 use Rattle.fab_phases.proofs.Ticking.{below_all, below_more}
 use Rattle.fab_phases.proofs.Writing.{HasBelow, flop_set, leaves_both}
 

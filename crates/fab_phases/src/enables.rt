@@ -113,7 +113,8 @@ fn watch_test(
 ) -> Option<()>
     requires places { ArePlaces places.now }
     requires fit { IsFitSource trees.now (length places.now.leads.now) source }
-    ensures watched { OnSome result (WatchesTest places.now.own.now places.now.leads.now watches.new.readers.items number source.first (slice_get trees.now source.tree)) }
+    ensures watched { OnSome result
+        (WatchesTest places.now.own.now places.now.leads.now watches.new.readers.items number source.first (slice_get trees.now source.tree)) }
     ensures more { ReadsMore watches.old.readers.items watches.new.readers.items }
     ensures stale { watches.new.stale.items ≡ watches.old.stale.items }
 {

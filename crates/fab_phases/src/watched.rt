@@ -48,7 +48,8 @@ pub fn watching_of(
 ) -> Option<Watching>
     requires fit { AreFit network.now.trees.items network.now.drives.items }
     requires points { length network.now.drives.items ≡ length demand.now.leads }
-    requires loading { (loads : List Bool) × (first : ℕ) × (width : ℕ) × (given : List Tern) × IsLoadingAt network.now loading.now loads first width demand.now given }
+    requires loading { (loads : List Bool) × (first : ℕ) × (width : ℕ) × (given : List Tern) ×
+        IsLoadingAt network.now loading.now loads first width demand.now given }
     ensures { IfSome result (IsWatching network.now loading.now demand.now) }
 {
     let groups = groups_of(alloc, network, demand, &loading.flops).ok()?;

@@ -7,7 +7,6 @@ use Rattle.fab_ternary.specs.Terns.{plain_tern}
 use Rattle.fab_compiled.specs.declared.tree.Tree.{Tree, Cond'}
 use Rattle.fab_compiled.specs.Leading.{PointTerns, bit_under, IsMarked}
 use Rattle.fab_compiled.specs.Terns.{seen}
-use Rattle.fab_compiled.specs.Trees.{EachPlace}
 use Rattle.fab_network.specs.declared.network.Network.{Network}
 use Rattle.fab_network.specs.declared.network.Source.{Source}
 use Rattle.fab_network.specs.Network.{source_tern}

@@ -1,4 +1,4 @@
-use Rattle.std.proofs.Common.{◌≡◌, ℕ, ◌<◌, List, length, sym, ap, ◌∙◌, subst, arith, get_or}
+use Rattle.std.proofs.Common.{◌≡◌, ℕ, ◌<◌, List, length, sym, ap, subst, arith, get_or}
 use Rattle.fab_ternary.specs.declared.Tern.TheVariants.{No}
 use Rattle.fab_ternary.specs.Terns.{plain_tern}
 use Rattle.fab_compiled.specs.Terns.{seen}

@@ -1,7 +1,6 @@
 use Rattle.std.proofs.Common.{sym, ap, ◌∙◌, Some, arith, get_or}
 use Rattle.std.proofs.lemmas.Option.{slice_get-get_or}
-use Rattle.fab_ternary.specs.Terns.{plain_tern}
-use Rattle.fab_phases.proofs.Enabling.{enables_fresh, no_enable}
+use Rattle.fab_phases.proofs.Enabling.{no_enable}
 use Rattle.fab_phases.proofs.enables.enabled.Goals as goal
 
 pub is_stale-requires : goal.is_stale-requires

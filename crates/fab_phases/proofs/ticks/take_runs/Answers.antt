@@ -1,7 +1,7 @@
 use Rattle.std.proofs.Common.{length, refl, arith}
 use Rattle.std.proofs.lemmas.Option.{slice_get_read}
 use Rattle.fab_ternary.specs.Terns.{plain_tern}
-use Rattle.fab_phases.proofs.Ticking.{eval_at, fit_at, run_step, runs_done}
+use Rattle.fab_phases.proofs.Ticking.{eval_at, run_step, runs_done}
 use Rattle.fab_phases.proofs.ticks.take_runs.Goals as goal
 
 pub take_run-requires-clause-run : goal.take_run-requires-clause-run

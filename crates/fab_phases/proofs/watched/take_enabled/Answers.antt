@@ -1,5 +1,5 @@
 use Rattle.std.proofs.Common.{length, refl, arith}
-use Rattle.std.proofs.lemmas.Option.{slice_get_read, slice_get_within}
+use Rattle.std.proofs.lemmas.Option.{slice_get_read}
 use Rattle.fab_phases.specs.declared.enables.Enable.TheVariants.{Gate}
 use Rattle.fab_phases.proofs.Ticking.{run_step, runs_done}
 use Rattle.fab_phases.proofs.watched.take_enabled.Goals as goal

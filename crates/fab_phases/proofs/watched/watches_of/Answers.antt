@@ -1,8 +1,7 @@
-use Rattle.std.proofs.Common.{◌≡◌, ℕ, length, ap, ◌∙◌, sym, subst, arith, get_or}
+use Rattle.std.proofs.Common.{length, ap, ◌∙◌, arith, get_or}
 use Rattle.std.proofs.lemmas.List.{length-replicate}
 use Rattle.std.proofs.lemmas.Option.{slice_get-get_or, slice_get_within}
 use Rattle.std.specs.Prelude.{true}
-use Rattle.fab_phases.specs.inner.Enables.{Watches}
 use Rattle.fab_phases.proofs.Enabling.{newly_stale, no_enable, watched_more}
 use Rattle.fab_phases.proofs.watched.watches_of.Goals as goal
 

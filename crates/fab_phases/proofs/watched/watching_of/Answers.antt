@@ -1,5 +1,4 @@
-use Rattle.std.proofs.Common.{◌≡◌, ℕ, List, Vec, Global, sym, ap, ◌∙◌, subst}
-use Rattle.std.specs.Prelude.{IfOk}
+use Rattle.std.proofs.Common.{List, Vec, Global, sym, subst}
 use Rattle.fab_phases.specs.Lists.{Each}
 use Rattle.fab_phases.specs.inner.Enables.{AreEnablesOf, AreGroups, AreInGroups, AreNewlyWatched, IsFitEnable}
 use Rattle.fab_phases.specs.inner.Ticks.{AreFitFlops}
