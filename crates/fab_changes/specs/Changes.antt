@@ -1,5 +1,5 @@
 -- Groups of points that are looked at together, each when something has changed that it reads.
-use Rattle.std.specs.Prelude.{◌≡◌, ◌⊎◌, ℕ, ◌+◌, ◌<◌, ◌≤◌, List, Option, None, Some, length, slice_get, slice_index}
+use Rattle.std.specs.Prelude.{◌≡◌, ◌⊎◌, ℕ, ◌+◌, ◌<◌, ◌≤◌, Bool, true, false, List, Option, None, Some, length, slice_get, slice_index}
 use Rattle.fab_compiled.specs.declared.tree.Tree.{Tree}
 use Rattle.fab_compiled.specs.Terns.{seen}
 use Rattle.fab_network.specs.declared.network.Drive.{Drive}
@@ -7,7 +7,7 @@ use Rattle.fab_network.specs.declared.network.Drive.TheVariants.{Given, Flop, Sa
 use Rattle.fab_network.specs.declared.network.Network.{Network}
 use Rattle.fab_network.specs.declared.network.Source.{Source}
 use Rattle.fab_network.specs.Network.{source_tern}
-use Rattle.fab_network.specs.Passes.{kept_tern, IsListed}
+use Rattle.fab_network.specs.Passes.{kept_tern, AreOwn, IsListed}
 use Rattle.fab_demand.specs.Asked.{Asked}
 use Rattle.fab_changes.specs.declared.changes.Changes.{Changes}
 use Rattle.fab_changes.specs.declared.groups.Group.{Group}
@@ -19,13 +19,16 @@ abbrev pub drive_at : Network → (own : List ℕ) → (place : ℕ) → Option 
 drive_at network own place = slice_get network.drives.items (slice_index own place)
 
 -- an input or a flip-flop: it takes what is given to it
+abbrev pub takes_given : Option Drive → Bool
+takes_given None = false
+takes_given (Some Given) = true
+takes_given (Some (Flop clock next)) = true
+takes_given (Some (Same other)) = false
+takes_given (Some (Value source)) = false
+takes_given (Some (Hold gate latched)) = false
+
 abbrev pub TakesGiven : Option Drive → Type 0
-TakesGiven None = ⊥
-TakesGiven (Some Given) = Unit {0}
-TakesGiven (Some (Flop clock next)) = Unit {0}
-TakesGiven (Some (Same other)) = ⊥
-TakesGiven (Some (Value source)) = ⊥
-TakesGiven (Some (Hold gate latched)) = ⊥
+TakesGiven drive = takes_given drive ≡ true
 
 -- ---- groups
 
@@ -55,6 +58,7 @@ pub record IsGrouped (groups : List Group) (place : ℕ) : Type 0 where
 
 -- Each point takes what is given to it or stands in a group. Groups follow one another, and read what takes what is given or stands before them.
 pub record AreGroups (network : Network) (own leads : List ℕ) (lists : Lists) (taken : List ℕ) (groups : List Group) : Type 0 where
+  pub unled : AreOwn own leads
   pub once : IsOnce own
   pub takes : (place : ℕ) → IsListed taken place → (place < length own) × TakesGiven (drive_at network own place)
   pub all : (place : ℕ) → place < length own → IsListed taken place ⊎ IsGrouped groups place

@@ -1,9 +1,10 @@
 -- Who reads which points.
-use Rattle.std.specs.Prelude.{◌≡◌, ◌≢◌, ℕ, ◌+◌, ◌<◌, Bool, false, List, Some, Vec, Global, length, slice_get, slice_index}
+use Rattle.std.specs.Prelude.{◌≡◌, ◌≢◌, ℕ, ◌+◌, ◌<◌, Bool, false, List, Some, Vec, length, slice_get, slice_index}
+use Rattle.std.specs.Global.{Global}
 use Rattle.fab_ternary.specs.declared.Tern.{Tern}
 use Rattle.fab_compiled.specs.declared.tree.Tree.{Tree}
 use Rattle.fab_compiled.specs.Trees.{EachPlace}
-use Rattle.fab_network.specs.Passes.{kept_tern, IsListed}
+use Rattle.fab_network.specs.Passes.{kept_tern, AreOwn, IsListed}
 use Rattle.fab_changes.specs.declared.fanout.Fanout.{Fanout}
 use Rattle.fab_changes.specs.declared.places.Places.{Places}
 
@@ -13,6 +14,7 @@ IsOnce own = (place later : ℕ) → place < later → later < length own → sl
 
 -- the place of each point that stands for itself is found by its number
 pub record ArePlaces (places : Places) : Type 0 where
+  pub own : AreOwn places.own.now places.leads.now
   pub long : length places.places.items ≡ length places.leads.now
   pub inside : (point : ℕ) → point < length places.leads.now → slice_index places.leads.now point < length places.leads.now
   pub found : (place : ℕ) → place < length places.own.now → slice_get places.places.items (slice_index places.own.now place) ≡ Some place

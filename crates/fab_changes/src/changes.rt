@@ -2,16 +2,15 @@
 
 ghost use Rattle.std.specs.Prelude.{◌≡◌, ◌+◌, ◌<◌, ℕ, length, IfSome};
 ghost use Rattle.fab_network.specs.Network.{AreFit};
-ghost use Rattle.fab_network.specs.Passes.{IsListed};
 ghost use Rattle.fab_demand.specs.Asked.{Asked, DiffersInOwn};
 ghost use Rattle.fab_demand.specs.Demand.{ShowsLeast};
 ghost use Rattle.fab_changes.specs.Changes.{AreChangesOf, AreGroups, HasKept};
 ghost use Rattle.fab_changes.specs.Fanout.{ArePlaces, HasTouched, IsFresh, IsOnce};
-ghost use Rattle.fab_changes.specs.inner.Looking.{AreRightFrom, AreSameGroups, HasRoom, HasWritten, HaveTaken};
+ghost use Rattle.fab_changes.specs.inner.Looking.{AreRightFrom, AreSameGroups, HasRoom, HasWritten};
 
 use crate::fanout::Fanout;
 use crate::groups::{Group, are_ordered, fanout_of, groups_of, longest, taken_of};
-use crate::looking::{find_values, take, take_values};
+use crate::looking::{find_values, take_given, take_values};
 use crate::places::Places;
 use fab_demand::Demand;
 use fab_network::Network;
@@ -77,25 +76,9 @@ impl Changes {
         ensures long { length watches.new.stale.items ≡ length watches.old.stale.items }
         ensures kept { (reader : ℕ) → IsFresh watches.new.stale.items reader → HasKept demand.old demand.new watches.old reader }
     {
-        self.take_given(given, demand, watches);
+        take_given(&self.taken, given, demand, &mut self.fanout, watches);
         for number in 0..self.groups.len() {
             self.settle_group(network, number, demand, watches);
-        }
-    }
-
-    // Inputs and flip-flops take what is given to them.
-    fn take_given(&mut self, given: &[Tern], demand: &mut Demand, watches: &mut Fanout)
-        requires given { length given.now ≡ length demand.old.leads }
-        requires taken { (place : ℕ) → IsListed self.old.taken.items place → place < length demand.old.own }
-        ensures same { AreSameGroups self.old self.new }
-        ensures taken { HaveTaken self.old.taken.items (length self.old.taken.items) given.now demand.old demand.new }
-        ensures fanout { HasTouched demand.old.own demand.old.terns demand.new.terns self.old.fanout self.new.fanout }
-        ensures watches { HasTouched demand.old.own demand.old.terns demand.new.terns watches.old watches.new }
-    {
-        for place in &self.taken {
-            let place = *place as usize;
-            let point = demand.own()[place] as usize;
-            take(place, given[point], demand, &mut self.fanout, watches);
         }
     }
 

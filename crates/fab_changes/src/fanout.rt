@@ -3,6 +3,7 @@
 ghost use Rattle.std.specs.Prelude.{◌≡◌, ◌+◌, ◌<◌, ◌≤◌, ◌^◌, ℕ, true, false, length, replicate, slice_get, slice_set, IfSome, OnSome, Some};
 ghost use Rattle.fab_compiled.specs.Evaluation.{IsWithin};
 ghost use Rattle.fab_compiled.specs.Trees.{IsMade};
+ghost use Rattle.fab_network.specs.Passes.{IsListed};
 ghost use Rattle.fab_changes.specs.Fanout.{ArePlaces, IsFresh, IsReader, IsWatched, ReadsMore, WatchesTree};
 
 use crate::places::Places;
@@ -51,7 +52,7 @@ impl Fanout {
         requires begins { first ≤ length places.now.leads.now }
         requires inside { IsWithin tree.now first (length places.now.leads.now) }
         ensures watched { OnSome result (WatchesTree places.now.own.now places.now.leads.now self.new.readers.items reader first tree.now) }
-        ensures more { ReadsMore self.old.readers.items self.new.readers.items }
+        ensures more { OnSome result (ReadsMore self.old.readers.items self.new.readers.items) }
         ensures stale { self.new.stale.items ≡ self.old.stale.items }
     {
         self.room = self.room.checked_sub(1)?;
@@ -96,7 +97,7 @@ impl Fanout {
         requires within { first + (place + count) ≤ length places.now.leads.now }
         ensures watched { OnSome result ((k : ℕ) → k < count →
             IsWatched places.now.own.now places.now.leads.now self.new.readers.items reader (first + (place + k))) }
-        ensures more { ReadsMore self.old.readers.items self.new.readers.items }
+        ensures more { OnSome result (ReadsMore self.old.readers.items self.new.readers.items) }
         ensures stale { self.new.stale.items ≡ self.old.stale.items }
     {
         self.room = self.room.checked_sub(count)?;
@@ -106,23 +107,19 @@ impl Fanout {
         Some(())
     }
 
-    // A reader reads the point to which a point is led, if that one stands for itself. It is not noted twice in a row.
+    // A reader reads the point to which a point is led, if that one stands for itself.
     fn note_point(&mut self, places: &Places, point: usize, reader: u32) -> Option<()>
         requires places { ArePlaces places.now }
         requires within { point < length places.now.leads.now }
         ensures watched { OnSome result
             (IsWatched places.now.own.now places.now.leads.now self.new.readers.items reader point) }
-        ensures more { ReadsMore self.old.readers.items self.new.readers.items }
+        ensures more { OnSome result (ReadsMore self.old.readers.items self.new.readers.items) }
         ensures stale { self.new.stale.items ≡ self.old.stale.items }
     {
-        let Some(place) = places.of_lead(point) else {
-            return Some(());
-        };
-        let readers = self.readers.get_mut(place as usize)?;
-        if readers.last().copied() == Some(reader) {
-            return Some(());
+        match places.of_lead(point) {
+            Some(place) => put(&mut self.readers, place as usize, reader),
+            None => Some(()),
         }
-        readers.push(reader).ok()
     }
 
     /// Whether a reader is stale.
@@ -149,13 +146,36 @@ impl Fanout {
         ensures fresh { (reader : ℕ) → IsFresh self.new.stale.items reader → IsFresh self.old.stale.items reader }
         ensures touched { (reader : ℕ) → IsReader self.old.readers.items place reader → IsFresh self.new.stale.items reader → ⊥ }
     {
-        let Some(readers) = self.readers.get(place) else {
-            return;
-        };
-        for reader in readers {
-            if let Some(stale) = self.stale.get_mut(*reader as usize) {
-                *stale = true;
-            }
+        if let Some(readers) = self.readers.get(place) {
+            mark(readers, &mut self.stale);
         }
     }
+}
+
+// These readers are stale.
+fn mark(readers: &[u32], stale: &mut [bool])
+    ensures long { length stale.new ≡ length stale.old }
+    ensures fresh { (reader : ℕ) → IsFresh stale.new reader → IsFresh stale.old reader }
+    ensures marked { (reader : ℕ) → IsListed readers.now reader → IsFresh stale.new reader → ⊥ }
+{
+    for reader in readers {
+        let reader = *reader as usize;
+        if reader < stale.len() {
+            stale[reader] = true;
+        }
+    }
+}
+
+// Puts a reader at the end of the list of a place, unless it stands there.
+fn put(lists: &mut Vec<Vec<u32>>, place: usize, reader: u32) -> Option<()>
+    ensures reads { OnSome result (IsReader lists.new.items place reader) }
+    ensures more { OnSome result (ReadsMore lists.old.items lists.new.items) }
+{
+    if place >= lists.len() {
+        return None;
+    }
+    if lists[place].last().copied() == Some(reader) {
+        return Some(());
+    }
+    lists[place].push(reader).ok()
 }

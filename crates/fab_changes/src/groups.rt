@@ -1,9 +1,9 @@
 //! Groups of points that are looked at together.
 
-ghost use Rattle.std.specs.Prelude.{◌≡◌, ◌+◌, ◌<◌, ◌≤◌, ℕ, true, length, slice_get, IfSome, MatchBool, OnSome, Some};
+ghost use Rattle.std.specs.Prelude.{◌≡◌, ◌+◌, ◌<◌, ◌≤◌, ℕ, true, length, slice_get, IfSome, OnSome, Some};
 ghost use Rattle.fab_network.specs.Network.{AreFit};
 ghost use Rattle.fab_changes.specs.declared.groups.Group.{Group};
-ghost use Rattle.fab_changes.specs.Changes.{TakesGiven};
+ghost use Rattle.fab_changes.specs.Changes.{takes_given};
 ghost use Rattle.fab_changes.specs.Fanout.{ArePlaces};
 ghost use Rattle.fab_changes.specs.inner.Grouping.{AreBitGroups, AreTaken, AreWatched, BeginBehind, HasBit, IsFanoutOf, IsNext, IsOrderedAt};
 
@@ -45,7 +45,7 @@ pub(crate) fn taken_of(alloc: Global, network: &Network, own: &[u32]) -> Option<
 
 // Whether a point takes what is given to it.
 fn is_taken(network: &Network, point: usize) -> bool
-    ensures { MatchBool result (TakesGiven (slice_get network.now.drives.items point)) (TakesGiven (slice_get network.now.drives.items point) → ⊥) }
+    ensures { result ≡ takes_given (slice_get network.now.drives.items point) }
 {
     matches!(
         network.drives.get(point),
@@ -70,10 +70,13 @@ fn add_point(network: &Network, own: &[u32], place: usize, groups: &mut Vec<Grou
     requires groups { AreBitGroups network.now own.now place groups.old.items }
     ensures { OnSome result (AreBitGroups network.now own.now (place + 1) groups.new.items) }
 {
-    match network.drives.get(own[place] as usize)? {
-        Drive::Given | Drive::Flop(_, _) => Some(()),
-        Drive::Value(source) => add_bit(u32::try_from(place).ok()?, *source, groups),
-        Drive::Same(_) | Drive::Hold(_, _) => None,
+    let point = own[place] as usize;
+    if is_taken(network, point) {
+        return Some(());
+    }
+    match network.drives.get(point) {
+        Some(Drive::Value(source)) => add_bit(u32::try_from(place).ok()?, *source, groups),
+        Some(Drive::Given | Drive::Flop(_, _) | Drive::Same(_) | Drive::Hold(_, _)) | None => None,
     }
 }
 

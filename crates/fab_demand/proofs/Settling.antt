@@ -275,7 +275,7 @@ module _ (network : Network) (held : List Tern) (old now : Asked) (fit : AreFit 
     (points : length network.drives.items ≡ length old.leads)
     (leads : now.leads ≡ old.leads) (marks : now.marks ≡ old.marks) (own : now.own ≡ old.own)
     (settled : IsSettled network held old.own old.leads old.terns now.terns) where
-  differs_after : (asked : Asked) → DiffersInOwn asked old → DiffersInOwn asked now
+  pub differs_after : (asked : Asked) → DiffersInOwn asked old → DiffersInOwn asked now
   differs_after asked before = record {
     leads = leads ∙ before.leads;
     marks = marks ∙ before.marks;

@@ -156,7 +156,7 @@ impl Demand {
     /// The point at a place among those that stand for themselves has another value from now on.
     pub fn set_own(&mut self, place: usize, tern: Tern)
         requires { place < length self.old.own }
-        ensures { self.new ≡ record self.old { terns = slice_set self.old.terns (slice_index self.old.own place) tern } }
+        ensures { self.new ≡ record (self.old) { terns = slice_set self.old.terns (slice_index self.old.own place) tern } }
     {
         let point = self.search.own[place] as usize;
         self.search.terns[point] = tern;

@@ -1,13 +1,16 @@
 -- What looks at groups do.
-use Rattle.std.specs.Prelude.{◌≡◌, ◌≢◌, ℕ, ◌+◌, ◌-◌, ◌<◌, ◌≤◌, List, Some, length, slice_get, slice_index}
+use Rattle.std.specs.Prelude.{◌≡◌, ◌≢◌, ℕ, ◌+◌, ◌-◌, ◌<◌, ◌≤◌, List, Option, None, Some, length, slice_get, slice_index}
+use Rattle.fab_systems_laws.specs.Ternary.{unknown}
 use Rattle.fab_systems_laws.specs.Ternary.{Tern as PlainTern}
 use Rattle.fab_ternary.specs.declared.Tern.{Tern}
+use Rattle.fab_compiled.specs.declared.tree.Tree.{Tree}
+use Rattle.fab_compiled.specs.Leading.{PointTerns}
 use Rattle.fab_compiled.specs.Terns.{seen}
-use Rattle.fab_network.specs.declared.network.Drive.TheVariants.{Value}
+use Rattle.fab_network.specs.declared.network.Drive.{Drive}
+use Rattle.fab_network.specs.declared.network.Drive.TheVariants.{Given, Flop, Same, Value, Hold}
 use Rattle.fab_network.specs.declared.network.Network.{Network}
-use Rattle.fab_network.specs.declared.network.Source.{Source}
 use Rattle.fab_network.specs.Network.{source_tern}
-use Rattle.fab_network.specs.Passes.{kept_tern, IsListed}
+use Rattle.fab_network.specs.Passes.{kept_tern}
 use Rattle.fab_demand.specs.Asked.{Asked}
 use Rattle.fab_changes.specs.declared.changes.Changes.{Changes}
 use Rattle.fab_changes.specs.declared.groups.Group.{Group}
@@ -26,7 +29,7 @@ pub record AreSamePoints (old new : Asked) : Type 0 where
 -- a point has this value now, and all others what they had
 pub record HasTaken (point : ℕ) (value : PlainTern) (old new : Asked) : Type 0 where
   pub points : AreSamePoints old new
-  pub value : kept_tern new.terns point ≡ value
+  pub has : kept_tern new.terns point ≡ value
   pub others : (other : ℕ) → other ≢ point → kept_tern new.terns other ≡ kept_tern old.terns other
 
 -- the points at the first of these places have what is given to them, and all others what they had
@@ -41,11 +44,20 @@ pub record HasTakenGroup (group : Group) (count : ℕ) (found : List Tern) (old 
   pub values : (place : ℕ) → IsInGroup group place → place < count → kept_tern new.terns (slice_index old.own place) ≡ kept_tern found (place - group.begin)
   pub others : (point : ℕ) → ((place : ℕ) → IsInGroup group place → slice_index old.own place ≢ point) → kept_tern new.terns point ≡ kept_tern old.terns point
 
+-- what the expression of a drive has; nothing is known where there is none
+abbrev pub value_tern : List Tree → PointTerns → Option Drive → PlainTern
+value_tern trees t None = unknown
+value_tern trees t (Some Given) = unknown
+value_tern trees t (Some (Flop clock next)) = unknown
+value_tern trees t (Some (Same other)) = unknown
+value_tern trees t (Some (Value source)) = source_tern trees t source
+value_tern trees t (Some (Hold gate latched)) = unknown
+
 -- what was found for the points of a group below a place is what their expression has
 abbrev pub AreFound : Network → Asked → Group → (count : ℕ) → (found : List Tern) → Type 0
 AreFound network asked group count found =
-    (place : ℕ) → IsInGroup group place → place < count → (source : Source) → drive_at network asked.own place ≡ Some (Value source) →
-    kept_tern found (place - group.begin) ≡ source_tern network.trees.items (seen asked.terns asked.leads) source
+    (place : ℕ) → IsInGroup group place → place < count →
+    kept_tern found (place - group.begin) ≡ value_tern network.trees.items (seen asked.terns asked.leads) (drive_at network asked.own place)
 
 -- Points that take what is given to them, and those that do not stand for themselves, have what they had.
 pub record HasWritten (network : Network) (old new : Asked) : Type 0 where

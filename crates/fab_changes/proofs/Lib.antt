@@ -1,0 +1,9 @@
+mod Lists
+mod Options
+mod Touching
+mod Noting
+mod Grouping
+mod Reading
+mod Right
+mod Settled
+mod Making
