@@ -90,7 +90,7 @@ pub fn watch(
     requires points { length network.now.drives.items ≡ length places.now.leads.now }
     requires fit { IsFitEnable network.now enable }
     ensures watched { OnSome result (Watches network.now places.now.own.now places.now.leads.now watches.new.readers.items number enable) }
-    ensures more { ReadsMore watches.old.readers.items watches.new.readers.items }
+    ensures more { OnSome result (ReadsMore watches.old.readers.items watches.new.readers.items) }
     ensures stale { watches.new.stale.items ≡ watches.old.stale.items }
 {
     match enable {
@@ -115,7 +115,7 @@ fn watch_test(
     requires fit { IsFitSource trees.now (length places.now.leads.now) source }
     ensures watched { OnSome result
         (WatchesTest places.now.own.now places.now.leads.now watches.new.readers.items number source.first (slice_get trees.now source.tree)) }
-    ensures more { ReadsMore watches.old.readers.items watches.new.readers.items }
+    ensures more { OnSome result (ReadsMore watches.old.readers.items watches.new.readers.items) }
     ensures stale { watches.new.stale.items ≡ watches.old.stale.items }
 {
     match trees.get(source.tree as usize) {

@@ -12,7 +12,7 @@ loop-number-preserved c =
     record {
       stale = c.watch.ensures.stale ∙ c.loop-number.invariant.stale;
       so_far = watched_more c.args.network.now c.args.places.now.own.now c.args.places.now.leads.now c.args.enables.now c.loop-number.watches.readers.items
-          c.watch.new.watches.readers.items k here (slice_get-get_or c.args.enables.now k no_enable c.loop-number-test.true) c.watch.ensures.more
+          c.watch.new.watches.readers.items k here (slice_get-get_or c.args.enables.now k no_enable c.loop-number-test.true) c.in_ok-watch.ensures.more
           c.in_ok-watch.ensures.watched c.loop-number.invariant.so_far;
     }
 
