@@ -1,5 +1,5 @@
 -- Compiled expressions, form by form.
-use Rattle.std.proofs.Common.{◌≡◌, ℕ, zero, suc, ◌+◌, ◌-◌, ◌^◌, ◌<◌, ◌≤◌, Bool, List, [], ◌∷◌, ◌++◌, length, map, take, drop, get_or, slice_range, Option, Some, Result, Ok, Err, IfOk, refl, sym, ap, ap₂, ◌∙◌, subst, arith}
+use Rattle.std.proofs.Common.{◌≡◌, ℕ, zero, suc, ◌+◌, ◌-◌, ◌^◌, ◌<◌, ◌≤◌, Bool, List, [], ◌∷◌, length, map, take, drop, get_or, slice_range, Option, Some, Result, Ok, Err, IfOk, refl, sym, ap, ap₂, ◌∙◌, subst, arith}
 use Rattle.fab_syntax.specs.declared.tree.Op.{Op}
 use Rattle.fab_syntax.specs.declared.tree.Op.TheVariants as ops
 use Rattle.fab_syntax.specs.declared.tree.Expr.{Expr}
@@ -16,7 +16,7 @@ use Rattle.fab_equations.proofs.Located.{found_within}
 use Rattle.fab_compiled.specs.declared.tree.Tree.{Tree, Const, Bits, Pick', Cat', Not', And', Or', Xor', Equal', Minus', Cond'}
 use Rattle.fab_compiled.specs.declared.compiler.Place.{Place}
 use Rattle.fab_compiled.specs.Trees.{tree_value, tree_width, IsMade, IsBelowPlace}
-use Rattle.fab_compiled.specs.Compiling.{local_terns, named_terns, IsCompiled, AreCompiled, IsPlaceOf, tree_is_constant, IsJoined, IsOperation}
+use Rattle.fab_compiled.specs.Compiling.{local_terns, named_terns, IsCompiled, AreCompiled, IsPlaceOf, tree_is_constant, IsOperation}
 
 -- ---- parts of names
 

@@ -1,11 +1,12 @@
 -- Entries of tables whose entries are at places one stride from the next.
-use Rattle.std.proofs.Common.{◌≡◌, ℕ, zero, suc, ◌+◌, ◌*◌, ◌^◌, ◌<◌, ◌≤◌, List, ◌∷◌, length, map, refl, sym, ap, ap₂, ◌∙◌, subst, arith, pow-suc}
+use Rattle.std.proofs.Common.{◌≡◌, ℕ, zero, suc, ◌+◌, ◌*◌, ◌^◌, ◌<◌, ◌≤◌, false, List, ◌∷◌, length, map, refl, sym, ap, ap₂, ◌∙◌, subst, arith, pow-suc}
 use Rattle.std.proofs.Math.Nat.{mul-le-mul_left}
+use Rattle.std.proofs.lemmas.Bool.{false≢true}
 use Rattle.std.proofs.lemmas.Nat.{pow_pos}
 use Rattle.fab_systems_laws.specs.Ternary.{Tern, no, yes, unknown}
 use Rattle.fab_ternary.specs.declared.Tern.{Tern as Kept}
 use Rattle.fab_ternary.specs.declared.Tern.TheVariants.{No, Yes, Open}
-use Rattle.fab_ternary.specs.Terns.{plain_tern}
+use Rattle.fab_ternary.specs.Terns.{plain_tern, is_known}
 use Rattle.fab_solutions_laws.specs.fab_ternary_laws_Operators.{agreed, evens, odds, entry}
 use Rattle.fab_solutions_laws.specs.fab_ternary_laws_Shown.{first_terns}
 
@@ -61,6 +62,16 @@ entries_odd size first stride count h = let e : stride * 2 ^ suc size ≡ 2 * st
 
 -- ---- an index bit by bit, as it is kept
 
+pub open_is : (t : Tern) → is_known t ≡ false → t ≡ unknown
+open_is no e = absurd (false≢true (sym e))
+open_is yes e = absurd (false≢true (sym e))
+open_is unknown e = refl
+
+agreed_open : (t : Tern) → agreed unknown t ≡ unknown
+agreed_open no = refl
+agreed_open yes = refl
+agreed_open unknown = refl
+
 pub entries_room : (size first stride count : ℕ) → first + stride * 2 ^ suc size < count + stride → first + stride < count
 entries_room size first stride count h =
     let one : 1 ≤ 2 ^ size = omega (arith, pow_pos size) in
@@ -92,3 +103,9 @@ module _ (index : List Kept) (bit : Kept) (rest : List Kept) (is : index ≡ bit
     open_entry e =
         sym (split_entry ∙ ap (λ (b : Kept). entry (table at (suc (length rest)) first stride) (plain_tern b ∷ map plain_tern rest)) e
         ∙ entry_open at (length rest) first stride (map plain_tern rest))
+
+    pub open_half : bit ≡ Open → entry (table at (length rest) first (2 * stride)) (map plain_tern rest) ≡ unknown →
+        unknown ≡ entry (table at (length index) first stride) (map plain_tern index)
+    open_half e none =
+        let odd = entry (table at (length rest) (first + stride) (2 * stride)) (map plain_tern rest) in
+        sym (agreed_open odd) ∙ ap (λ (t : Tern). agreed t odd) (sym none) ∙ open_entry e

@@ -1,5 +1,5 @@
 -- Parts of a concatenation that are joined, group by group.
-use Rattle.std.proofs.Common.{◌≡◌, ℕ, ◌+◌, List, [], ◌∷◌, ◌++◌, length, sym, ap, ap₂, ◌∙◌, refl, subst, arith, append_assoc}
+use Rattle.std.proofs.Common.{◌≡◌, ℕ, List, [], ◌∷◌, ◌++◌, length, sym, ap, ap₂, ◌∙◌, refl, subst, arith, append_assoc}
 use Rattle.std.proofs.lemmas.List.{append-nil}
 use Rattle.fab_syntax.specs.Plain.{PlainExpr, PlainExprs, none, more}
 use Rattle.fab_values.specs.Declarations.{Declaration, bits_of}

@@ -65,7 +65,7 @@ no_leads terns leads first c a b bit made begins inside e t above =
 
 -- ---- the forms of an expression
 
-index_is : (xs : List ℕ) (k r : ℕ) → slice_get xs k ≡ Some r → slice_index xs k ≡ r
+pub index_is : (xs : List ℕ) (k r : ℕ) → slice_get xs k ≡ Some r → slice_index xs k ≡ r
 index_is [] k r e = cc
 index_is (x ∷ xs) zero r e = cc
 index_is (x ∷ xs) (suc k) r e = index_is xs k r e

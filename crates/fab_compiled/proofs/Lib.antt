@@ -1,6 +1,7 @@
 pub mod Lengths
 pub mod Bits
 pub mod Entries
+pub mod Numbered
 pub mod TreesGrow
 pub mod Leading
 pub mod Telling

@@ -1,23 +1,29 @@
 -- What an entry depends on that an index picks of a table.
-use Rattle.std.proofs.Common.{◌≡◌, ℕ, suc, ◌+◌, ◌-◌, ◌*◌, ◌^◌, ◌<◌, ◌≤◌, Bool, false, List, [], ◌∷◌, ◌++◌, length, drop, slice_get, Option, None, Some, MatchOption, refl, sym, ap, ap₂, ◌∙◌, subst, arith}
+use Rattle.std.proofs.Common.{◌≡◌, ℕ, suc, ◌+◌, ◌-◌, ◌*◌, ◌^◌, ◌<◌, ◌≤◌, Bool, true, false, List, [], ◌∷◌, ◌++◌, length, map, drop, slice_get, Option, None, Some, MatchOption, refl, sym, ap, ap₂, ◌∙◌, subst, arith}
 use Rattle.std.proofs.lemmas.List.{drop_more, length-drop}
 use Rattle.std.proofs.Math.ListN.{drop_of_length-le}
-use Rattle.fab_systems_laws.specs.Ternary.{no, yes, unknown, Tern as PlainTern}
+use Rattle.fab_systems_laws.specs.Ternary.{no, yes, unknown, known, Tern as PlainTern}
 use Rattle.fab_solutions_laws.specs.fab_ternary_laws_Operators.{tern_at, agreed, evens, odds, entry}
 use Rattle.fab_solutions_laws.specs.fab_ternary_laws_Shown.{first_terns}
+use Rattle.fab_solutions_laws.specs.Laws.{AreUnder}
 use Rattle.fab_ternary.specs.declared.Tern.{Tern}
 use Rattle.fab_compiled.specs.declared.leads.Lead.{Lead}
 use Rattle.fab_compiled.specs.declared.leads.Lead.TheVariants.{Known, Point, Own, Unmarked}
 use Rattle.fab_compiled.specs.declared.picks.Table.{Table}
 use Rattle.fab_compiled.specs.declared.tree.Tree.{Tree, Bits}
 use Rattle.fab_compiled.specs.Trees.{tree_value, tree_width, IsMade}
-use Rattle.fab_compiled.specs.Leading.{PointTerns, AreAbove, AreMarked, IsMarked, RangeIsMarked, bit_under, TellsBit}
+use Rattle.fab_compiled.specs.Terns.{seen}
+use Rattle.fab_compiled.specs.Evaluation.{value_seen, IsWithin}
+use Rattle.fab_compiled.specs.Leading.{PointTerns, AreAbove, AreMarked, IsMarked, PointLeads, RangeIsMarked, bit_under, TellsBit}
+use Rattle.fab_compiled.specs.inner.Indices.{IsNumberBelow}
 use Rattle.fab_compiled.specs.inner.Picks.{entries, evens_of, odds_of, index_under, picked, AreSame, IsAlike, IsPickedAlike, IsTableBelow, PickLeads}
 use Rattle.fab_compiled.proofs.Bits.{first_at}
 use Rattle.fab_compiled.proofs.Entries.{table, even_entries, odd_entries, entry_no, entry_yes, entry_open, entries_even, entries_odd, entries_room}
-use Rattle.fab_compiled.proofs.Evaluated.{table_is, low_of, high_of}
+use Rattle.fab_compiled.proofs.Evaluated.{table_is, low_of, high_of, wide_at}
 use Rattle.fab_compiled.proofs.Lengths.{value_length}
-use Rattle.fab_compiled.proofs.TreesGrow.{same_first, tree_same}
+use Rattle.fab_compiled.proofs.TreesGrow.{same_first, tree_grows, tree_same}
+use Rattle.fab_compiled.proofs.Leading.{index_is}
+use Rattle.fab_compiled.proofs.Numbered.{picked_is}
 
 -- what follows where no point is found that is not marked
 pub none_then : {P Q : Type 0} → (marks : List Bool) → (P → Q) → (o : Option ℕ) → MatchOption o P (λ point. slice_get marks point ≡ Some false) →
@@ -142,6 +148,12 @@ module _ (terns : List Tern) (leads : List ℕ) (marks : List Bool) (it : Table)
   behind t some =
       length-drop (bit + 1) (index_under t first index) ∙ omega (arith, some, bits, value_length (λ place. t (first + place)) index made)
 
+  -- where all of the index is marked
+  pub marked_picked : AreMarked marks first index → IsPickedAlike terns leads marks it first index bit
+  marked_picked all t u above over agree same =
+      ap₂ (λ es ts. entry es (drop bit ts)) same
+      (tree_same (λ place. IsMarked marks (first + place)) (λ place. t (first + place)) (λ place. u (first + place)) (λ k m. agree (first + k) m) index all)
+
   pub last_picked : it.size ≡ 0 → IsPickedAlike terns leads marks it first index bit
   last_picked none t u above over agree same =
       let end : (s : PointTerns) → drop bit (index_under s first index) ≡ [] =
@@ -184,14 +196,56 @@ own_pick terns leads marks first place width index range alike t u above over ag
     same_first (2 ^ width) (λ k. t (first + (place + k))) (λ k. u (first + (place + k))) (λ k l. agree (first + (place + k)) (range k l)) in
     ap (λ ts. entry ts (index_under t first index)) (sym (is t)) ∙ alike t u above over agree (is t ∙ same ∙ sym (is u)) ∙ ap (λ ts. entry ts (index_under u first index)) (is u)
 
+-- an index that is known stays so
+known_stays : (bits : List Bool) (ts : List PlainTern) → AreUnder (map known bits) ts → ts ≡ map known bits
+known_stays [] [] h = refl
+known_stays [] (t ∷ ts) h = absurd h
+known_stays (b ∷ bits) [] h = absurd h
+known_stays (false ∷ bits) (t ∷ ts) h = ap₂ (λ x xs. x ∷ xs) (sym h.0) (known_stays bits ts h.1)
+known_stays (true ∷ bits) (t ∷ ts) h = ap₂ (λ x xs. x ∷ xs) (sym h.0) (known_stays bits ts h.1)
+
+-- the entry at a number is what its point has
+module _ (terns : List Tern) (leads : List ℕ) (marks : List Bool) (first place width : ℕ) (index : Tree) (number : ℕ)
+    (made : IsMade index) (begins : first ≤ length leads) (inside : IsWithin index first (length leads)) (wide : tree_width index ≡ width)
+    (is : IsNumberBelow (value_seen terns leads first index) 0 number) where
+  index_stays : (t : PointTerns) → AreAbove terns leads t → index_under t first index ≡ value_seen terns leads first index
+  index_stays t above =
+      known_stays is.0 (index_under t first index)
+      (subst (λ (ts : List PlainTern). AreUnder ts (index_under t first index)) is.1
+      (tree_grows (length leads - first) (λ k. seen terns leads (first + k)) (λ k. t (first + k)) (λ k l. above (first + k) (omega (arith, l, begins))) index made inside))
+      ∙ sym is.1
+
+  entry_is : (t : PointTerns) → AreAbove terns leads t → picked t first place width index ≡ t (first + place + number)
+  entry_is t above =
+      let g : (k : ℕ) → t (first + (place + k)) ≡ t (first + place + k) = λ k. ap t (omega arith) in
+      (λ j. entry (first_terns (2 ^ width) (λ k. g k j)) (index_stays t above j))
+      ∙ sym (picked_is t (value_seen terns leads first index) width (first + place) number (wide_at terns leads first index made ∙ wide) is)
+
+  pub followed_pick : (lead : Lead) → PointLeads leads marks (first + place + number) lead → PickLeads terns leads marks first place width index lead
+  followed_pick (Known b) h = absurd h
+  followed_pick Own h = absurd h
+  followed_pick (Unmarked point) h = h
+  followed_pick (Point lead) h = (
+    λ t above follow. entry_is t above ∙ follow (first + place + number) h.0 ∙ ap t (index_is leads (first + place + number) lead h.1),
+    (first + place + number, h.0, index_is leads (first + place + number) lead h.1),
+  )
+
+-- what is told of an entry is true of the expression that picks it
+module _ (first place width bit : ℕ) (tree index : Tree) where
+  abbrev IsPick : Type 0
+  IsPick = (at : ℕ → PlainTern) → tree_value at tree ≡ entry (first_terns (2 ^ width) (λ k. at (place + k))) (tree_value at index) ∷ []
+
+  picked_bit : IsPick → bit < 1 → (t : PointTerns) → bit_under t first tree bit ≡ picked t first place width index
+  picked_bit is l t =
+      let e : bit ≡ 0 = omega (arith, l) in
+      ap (λ ts. tern_at ts bit) (is (λ k. t (first + k))) ∙ ap (tern_at (picked t first place width index ∷ [])) e
+
 pub pick_leads : (terns : List Tern) (leads : List ℕ) (marks : List Bool) (first place width bit : ℕ) (tree index : Tree) →
     ((at : ℕ → PlainTern) → tree_value at tree ≡ entry (first_terns (2 ^ width) (λ k. at (place + k))) (tree_value at index) ∷ []) → bit < 1 →
     (lead : Lead) → PickLeads terns leads marks first place width index lead → TellsBit terns leads marks first tree bit lead
 pick_leads terns leads marks first place width bit tree index is l (Known b) h = absurd h
-pick_leads terns leads marks first place width bit tree index is l (Point lead) h = absurd h
+pick_leads terns leads marks first place width bit tree index is l (Point lead) h =
+    (λ t above follow. picked_bit first place width bit tree index is l t ∙ h.0 t above follow, h.1)
 pick_leads terns leads marks first place width bit tree index is l Own h = λ t u above over agree.
-    let e : bit ≡ 0 = omega (arith, l) in
-    let value : (s : PointTerns) → bit_under s first tree bit ≡ picked s first place width index =
-    λ s. ap (λ ts. tern_at ts bit) (is (λ place. s (first + place))) ∙ ap (tern_at (picked s first place width index ∷ [])) e in
-    value t ∙ h t u above over agree ∙ sym (value u)
+    picked_bit first place width bit tree index is l t ∙ h t u above over agree ∙ sym (picked_bit first place width bit tree index is l u)
 pick_leads terns leads marks first place width bit tree index is l (Unmarked point) h = h

@@ -1,4 +1,5 @@
 -- What only contracts inside the crate cite: how its code keeps and counts. No call that it hands on rests on these files.
 pub mod Picks
+pub mod Indices
 pub mod Pairs
 pub mod Joining

@@ -10,6 +10,7 @@ ghost use Rattle.fab_compiled.specs.Terns.{seen, IsView};
 ghost use Rattle.fab_compiled.specs.Trees.{tree_width, IsMade};
 ghost use Rattle.fab_compiled.specs.Evaluation.{all_known, known_bits, value_seen, operands_same, operands_difference, operands_width, IsWithin};
 
+use crate::indices::known_index;
 use crate::operators::{agreed, both, differs, either, inverse};
 use crate::tree::Tree;
 use crate::view::View;
@@ -36,8 +37,7 @@ pub fn eval(tree: &Tree, bit: u64, first: usize, view: &View) -> Tern
         Tree::Const(bits) => constant_bit(bits, bit),
         Tree::Bits(place, _) => view.at(first + *place as usize + bit as usize),
         Tree::Pick(place, width, index) => {
-            let bits = index_bits(index, *width, first, view);
-            entry(&bits[..*width as usize], first + *place as usize, 1, view)
+            picked(index, *width, first + *place as usize, first, view)
         }
         Tree::Cat(low, width, high) => {
             if bit < *width {
@@ -82,6 +82,29 @@ fn constant_bit(bits: &[bool], bit: u64) -> Tern
     }
 }
 
+// The entry that an index picks of a table whose entries are points that follow one another, of which the first is given.
+#[cycle(value)]
+fn picked(index: &Tree, width: u32, table: usize, first: usize, view: &View) -> Tern
+    requires made { IsMade index.now }
+    requires view { IsView view.now.terns.now view.now.leads.now }
+    requires few { length view.now.leads.now ≤ 2 ^ 32 }
+    requires begins { first ≤ length view.now.leads.now }
+    requires inside { IsWithin index.now first (length view.now.leads.now) }
+    requires width { tree_width index.now ≡ width }
+    requires small { width ≤ 32 }
+    requires table { table + 2 ^ width ≤ length view.now.leads.now }
+    ensures { plain_tern result ≡ entry_of (first_terns (2 ^ width) (λ k. seen view.now.terns.now view.now.leads.now (table + k)))
+        (value_seen view.now.terns.now view.now.leads.now first index.now) }
+{
+    match known_index(index, 0, first, view) {
+        Some(number) => view.at(table + number as usize),
+        None => {
+            let bits = index_bits(index, width, first, view);
+            entry(&bits[..width as usize], table, 1, view)
+        }
+    }
+}
+
 // The bits of an index, the least significant first, and zeros behind them.
 #[cycle(value)]
 fn index_bits(index: &Tree, width: u32, first: usize, view: &View) -> [Tern; MOST_INDEX_BITS]
@@ -101,7 +124,8 @@ fn index_bits(index: &Tree, width: u32, first: usize, view: &View) -> [Tern; MOS
     bits
 }
 
-// The entry at an index of a table whose entries are points, of which the first is given, and how far each is behind the one before it.
+// The entry at an index of a table whose entries are points, of which the first is given, and how far each is behind the one before it. Where nothing is
+// known of one entry that an open bit may pick, the others do not matter.
 pub(crate) fn entry(index: &[Tern], first: usize, stride: usize, view: &View) -> Tern
     requires leads { IsView view.now.terns.now view.now.leads.now }
     requires small { length view.now.leads.now ≤ 2 ^ 32 }
@@ -116,6 +140,9 @@ pub(crate) fn entry(index: &[Tern], first: usize, stride: usize, view: &View) ->
         Tern::Yes => entry(rest, first + stride, 2 * stride, view),
         Tern::Open => {
             let even = entry(rest, first, 2 * stride, view);
+            if even.is_open() {
+                return Tern::Open;
+            }
             agreed(even, entry(rest, first + stride, 2 * stride, view))
         }
     }

@@ -8,7 +8,8 @@ ghost use Rattle.fab_compiled.specs.Leading.{TellsBit, OwnLeads, PointLeads};
 ghost use Rattle.fab_compiled.specs.inner.Picks.{PickLeads};
 
 use crate::evaluation::eval;
-use crate::marking::{unmarked, unmarked_of};
+use crate::indices::known_index;
+use crate::marking::{is_marked, unmarked, unmarked_of};
 use crate::picks::{Table, unmarked_index};
 use crate::tree::Tree;
 use crate::view::View;
@@ -77,8 +78,9 @@ fn lead_of(tree: &Tree, bit: u64, first: usize, view: &View, marks: &[bool]) -> 
     }
 }
 
-// Where an entry leads that an index picks. It stands for itself as soon as the table is marked, and all of the index on which it depends as far as
-// the entries are known: an input that the loaded table does not look at is not asked for.
+// Where an entry leads that an index picks. Where the index is known, that is where the entry leads. Else it stands for itself as soon as the table is
+// marked, and all of the index on which it depends as far as the entries are known: an input that the loaded table does not look at is not asked for.
+// The entries are looked at only where some of the index is not marked.
 fn pick_lead(
     place: u32,
     width: u32,
@@ -97,8 +99,14 @@ fn pick_lead(
     requires marks { length marks.now ≡ length view.now.leads.now }
     ensures { PickLeads view.now.terns.now view.now.leads.now marks.now first place width index.now result }
 {
+    if let Some(number) = known_index(index, 0, first, view) {
+        return lead_of_point(first + place as usize + number as usize, view, marks);
+    }
     if let Some(point) = unmarked_of(first, place as usize, 2usize.pow(width), marks) {
         return Lead::Unmarked(point);
+    }
+    if is_marked(index, first, marks) {
+        return Lead::Own;
     }
     let table = Table {
         first: first + place as usize,

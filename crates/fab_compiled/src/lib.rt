@@ -3,6 +3,7 @@
 
 mod compiler;
 mod evaluation;
+mod indices;
 pub mod laws;
 mod leads;
 mod marking;

@@ -1,6 +1,6 @@
 //! Points that are not marked.
 
-ghost use Rattle.std.specs.Prelude.{◌≡◌, ◌+◌, ◌^◌, ◌<◌, ◌≤◌, false, length, slice_get, MatchOption, Some};
+ghost use Rattle.std.specs.Prelude.{◌≡◌, ◌+◌, ◌^◌, ◌<◌, ◌≤◌, false, true, length, slice_get, MatchOption, Some};
 ghost use Rattle.fab_compiled.specs.Trees.{tree_width, IsMade};
 ghost use Rattle.fab_compiled.specs.Evaluation.{IsWithin};
 ghost use Rattle.fab_compiled.specs.Leading.{AreMarked, RangeIsMarked};
@@ -42,6 +42,20 @@ pub(crate) fn unmarked(tree: &Tree, first: usize, marks: &[bool]) -> Option<u32>
                 None => unmarked(no, first, marks),
             },
         },
+    }
+}
+
+/// Whether all points of an expression are marked.
+pub(crate) fn is_marked(tree: &Tree, first: usize, marks: &[bool]) -> bool
+    requires made { IsMade tree.now }
+    requires begins { first ≤ length marks.now }
+    requires inside { IsWithin tree.now first (length marks.now) }
+    requires small { length marks.now ≤ 2 ^ 32 }
+    ensures { result ≡ true → AreMarked marks.now first tree.now }
+{
+    match unmarked(tree, first, marks) {
+        Some(_) => false,
+        None => true,
     }
 }
 

@@ -1,15 +1,15 @@
 //! Parts of an expression: bits that follow one another and rest on the same points.
 
-ghost use Rattle.std.specs.Prelude.{◌≡◌, ◌+◌, ◌^◌, ◌<◌, ◌≤◌, [], false, true, length, map, IfOk};
+ghost use Rattle.std.specs.Prelude.{◌≡◌, ◌+◌, ◌^◌, ◌<◌, ◌≤◌, [], length, map, IfOk};
 ghost use Rattle.fab_ternary.specs.Terns.{plain_tern};
 ghost use Rattle.fab_compiled.specs.Terns.{IsView};
 ghost use Rattle.fab_compiled.specs.Trees.{tree_width, IsMade};
 ghost use Rattle.fab_compiled.specs.Evaluation.{IsWithin};
-ghost use Rattle.fab_compiled.specs.Leading.{bit_under, AreMarked, PointTerns};
+ghost use Rattle.fab_compiled.specs.Leading.{bit_under};
 ghost use Rattle.fab_compiled.specs.Parts.{TellsBits};
 
 use crate::evaluation::eval;
-use crate::marking::unmarked;
+use crate::marking::is_marked;
 use crate::tree::Tree;
 use crate::view::View;
 use crate::whole_values::whole;
@@ -113,20 +113,6 @@ fn all_bits(
         bits,
         marked,
     })
-}
-
-// Whether all points of an expression are marked.
-fn is_marked(tree: &Tree, first: usize, marks: &[bool]) -> bool
-    requires made { IsMade tree.now }
-    requires begins { first ≤ length marks.now }
-    requires inside { IsWithin tree.now first (length marks.now) }
-    requires small { length marks.now ≤ 2 ^ 32 }
-    ensures { result ≡ true → AreMarked marks.now first tree.now }
-{
-    match unmarked(tree, first, marks) {
-        Some(_) => false,
-        None => true,
-    }
 }
 
 // A part without bits.

@@ -1,7 +1,7 @@
 -- Forms of points that stand for themselves.
-use Rattle.std.proofs.Common.{◌≡◌, ℕ, ◌<◌, Bool, true, false, List, length, Option, Some, refl, sym, ap, ◌∙◌, subst, inl, inr, arith, slice_get, slice_index}
+use Rattle.std.proofs.Common.{◌≡◌, ℕ, Bool, List, length, Some, refl, sym, ap, ◌∙◌, subst, inl, inr, arith, slice_index}
 use Rattle.std.proofs.lemmas.Bool.{false≢true}
-use Rattle.fab_systems_laws.specs.Ternary.{unknown, Tern as PlainTern}
+use Rattle.fab_systems_laws.specs.Ternary.{unknown}
 use Rattle.fab_ternary.specs.declared.Tern.{Tern}
 use Rattle.fab_ternary.specs.Terns.{is_known}
 use Rattle.fab_compiled.specs.declared.tree.Tree.{Tree}
@@ -12,7 +12,7 @@ use Rattle.fab_network.specs.declared.forms.Form.TheVariants.{Shows, Takes, Driv
 use Rattle.fab_network.specs.declared.network.Drive.{Drive}
 use Rattle.fab_network.specs.declared.network.Network.{Network}
 use Rattle.fab_network.specs.Forms.{AreForms, HasForms, IsFormBy}
-use Rattle.fab_network.specs.Passes.{kept_tern, AreOwn, IsListed}
+use Rattle.fab_network.specs.Passes.{kept_tern, AreOwn}
 use Rattle.fab_network.specs.Tables.{IsFixed}
 use Rattle.fab_network.proofs.Forming.{forms_stay}
 use Rattle.fab_demand.specs.Asked.{Asked, DiffersInOwn}

@@ -12,3 +12,5 @@ mod Blank
 mod Starting
 mod Formed
 mod Beside
+mod Copied
+mod Copying

@@ -2,3 +2,4 @@
 pub mod Looking
 pub mod Cycles
 pub mod Beside
+pub mod Copies

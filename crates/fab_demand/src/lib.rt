@@ -1,6 +1,7 @@
 //! The points that a simulation has to look at: all that is asked for, and what it needs, led as far as what is known decides it.
 #![tactic(auto)]
 
+mod copies;
 mod cycles;
 mod demand;
 pub mod laws;

@@ -1,26 +1,44 @@
 //! Other bits of an expression, beside one that a look has found.
 
-ghost use Rattle.std.specs.Prelude.{◌≡◌, ◌<◌, ◌≤◌, false, length, slice_get, IfSome};
+ghost use Rattle.std.specs.Prelude.{◌≡◌, ◌<◌, ◌≤◌, ◌^◌, true, false, length, slice_get, IfOk, IfSome, Some};
 ghost use Rattle.fab_systems_laws.specs.Ternary.{unknown, known as known_tern};
 ghost use Rattle.fab_ternary.specs.Terns.{plain_tern};
 ghost use Rattle.fab_compiled.specs.Leading.{PointTerns};
+ghost use Rattle.fab_compiled.specs.Terns.{IsView};
 ghost use Rattle.fab_network.specs.declared.network.Clock.{Clock};
 ghost use Rattle.fab_network.specs.Network.{AreFit, IsFitSource};
-ghost use Rattle.fab_demand.specs.Asked.{AsksMore};
+ghost use Rattle.fab_demand.specs.Asked.{AsksMore, IsWhole};
 ghost use Rattle.fab_demand.specs.Search.{asked_of, left_of, Closes, HasRoom, IsSearching};
 ghost use Rattle.fab_compiled.specs.Parts.{TellsBits};
 ghost use Rattle.fab_network.specs.Leading.{bits_of_source};
-ghost use Rattle.fab_demand.specs.inner.Beside.{IsBeside, IsBit, IsBitOfPart, IsClosedAs, IsInPart, KnowsMore};
+ghost use Rattle.fab_demand.specs.inner.Beside.{AreAlike, AreFitBits, IsBeside, IsBit, IsBitDrive, IsBitOfPart, IsClosedAs, IsDriveOf, IsInPart, KnowsMore, TellsGate, TellsTogether};
 
+use crate::copies::Copies;
 use crate::rows::is_unmarked;
 use crate::search::Search;
 use fab_base::Memory;
-use fab_compiled::{Part, View};
-use fab_network::{Drive, Network, Source, part_of_source};
+use fab_compiled::{Lead, Part, Tree, View};
+use fab_network::{Drive, Network, Source, lead_of_source, part_of_source};
 use fab_ternary::Tern;
 
 /// How many bits stand side by side at least, so that they are found together.
 const MANY: u32 = 32;
+
+/// A bit of an expression, which may be the data of a latch behind this gate.
+#[derive(Clone, Copy, Debug)]
+pub struct Bits {
+    pub source: Source,
+    pub gate: Option<Source>,
+}
+
+/// What is found of bits together.
+#[derive(Drop)]
+pub struct Together {
+    pub bits: Bits,
+    /// Whether points have what their bits have: there is no gate, or it is known to be 1. Else the gate depends on points that have been asked for.
+    pub passes: bool,
+    pub part: Part,
+}
 
 impl Search {
     /// Closes other bits of the expression of a point without a look, as far as they are known or depend on points alone that have been asked for: those that
@@ -33,57 +51,111 @@ impl Search {
         ensures more { AsksMore (asked_of self.old) (asked_of self.new) }
         ensures left { left_of self.new ≤ left_of self.old }
     {
-        let Some(source) = self.wide_at(network, point) else {
+        let Some(bits) = self.wide_at(network, point) else {
             return;
         };
-        let alloc = *self.stack.allocator();
-        let view = View {
-            terns: &self.terns,
-            leads: &self.leads,
+        let Some(passes) = self.passes_at(network, bits) else {
+            return;
         };
-        match part_of_source(alloc, &network.trees, source, &view, &self.marks) {
-            Ok(part) => self.close_part(network, source, &part, point),
-            Err(Memory) => {}
+        match self.copied_at(network, bits.source) {
+            Some(copied) => {
+                self.close_copies(
+                    network,
+                    Copies {
+                        bits,
+                        passes,
+                        copied,
+                    },
+                    point,
+                );
+            }
+            None => self.close_beside(network, bits, passes, point),
         }
     }
 
-    // The expression of which a point is one of many bits, if others of them have not been asked for or wait.
-    fn wide_at(&self, network: &Network, point: u32) -> Option<Source>
+    // A bit that a point is, if there are many of the same expression, and others of them have not been asked for or wait.
+    fn wide_at(&self, network: &Network, point: u32) -> Option<Bits>
         requires fit { AreFit network.now.trees.items network.now.drives.items }
-        ensures { IfSome result (λ source. IsFitSource network.now.trees.items (length network.now.drives.items) source) }
+        ensures { IfSome result (AreFitBits network.now.trees.items (length network.now.drives.items)) }
     {
-        let source = value_at(network, point)?;
-        if self.has_beside(network, source, point) {
-            Some(source)
+        let bits = bits_at(network, point)?;
+        if self.has_beside(network, bits, point) {
+            Some(bits)
         } else {
             None
         }
     }
 
     // Whether half as many points before or behind a point there is a bit of the same expression that has not been asked for, or one waits last.
-    fn has_beside(&self, network: &Network, source: Source, point: u32) -> bool {
-        is_beside(network, source, point.saturating_add(MANY / 2), &self.marks)
-            || is_beside(network, source, point.saturating_sub(MANY / 2), &self.marks)
-            || is_bit_of(network, source, self.waiting())
+    fn has_beside(&self, network: &Network, bits: Bits, point: u32) -> bool {
+        is_beside(network, bits, point.saturating_add(MANY / 2), &self.marks)
+            || is_beside(network, bits, point.saturating_sub(MANY / 2), &self.marks)
+            || is_bit_of(network, bits, self.waiting())
     }
 
-    // Closes bits of a part of an expression, of which a point is one bit.
-    fn close_part(&mut self, network: &Network, source: Source, part: &Part, point: u32)
+    // Whether points have what their bits have, as `Together` says. None where the gate of this bit is known to be 0 or has to be looked at.
+    fn passes_at(&self, network: &Network, bits: Bits) -> Option<bool>
+        requires fit { AreFitBits network.now.trees.items (length self.now.leads.items) bits }
+        requires whole { IsWhole (asked_of self.now) }
+        ensures { IfSome result (TellsGate network.now.trees.items self.now.terns.items self.now.leads.items self.now.marks.items bits.gate) }
+    {
+        let view = View {
+            terns: &self.terns,
+            leads: &self.leads,
+        };
+        gate_passes(&network.trees, bits.gate, &view, &self.marks)
+    }
+
+    // Closes bits of the part of an expression in which a bit stands, of which a point is one.
+    fn close_beside(&mut self, network: &Network, bits: Bits, passes: bool, point: u32)
+        requires fit { AreFitBits network.now.trees.items (length self.old.leads.items) bits }
         requires points { length network.now.drives.items ≡ length self.old.leads.items }
-        requires tells { TellsBits self.old.terns.items self.old.leads.items self.old.marks.items (bits_of_source network.now.trees.items source) part.now }
+        requires gate { TellsGate network.now.trees.items self.old.terns.items self.old.leads.items self.old.marks.items bits.gate passes }
         requires searching { (clock : Clock) × (given : PointTerns) × IsSearching network.now clock given self.old }
         ensures searching { (clock : Clock) (given : PointTerns) → IsSearching network.now clock given self.old → IsSearching network.now clock given self.new }
         ensures more { AsksMore (asked_of self.old) (asked_of self.new) }
         ensures left { left_of self.new ≤ left_of self.old }
     {
-        self.close_waiting(network, source, part);
-        self.close_row(network, source, part, points_of(source, part, point));
+        if let Some(part) = self.part_at(network, bits.source) {
+            let together = Together { bits, passes, part };
+            self.close_part(network, &together, point);
+        }
+    }
+
+    /// The part of an expression in which the bit of a source stands, where there is memory.
+    pub(crate) fn part_at(&self, network: &Network, source: Source) -> Option<Part>
+        requires fit { IsFitSource network.now.trees.items (length self.now.leads.items) source }
+        requires whole { IsWhole (asked_of self.now) }
+        ensures { IfSome result (TellsBits self.now.terns.items self.now.leads.items self.now.marks.items (bits_of_source network.now.trees.items source)) }
+    {
+        let alloc = *self.stack.allocator();
+        let view = View {
+            terns: &self.terns,
+            leads: &self.leads,
+        };
+        match part_of_source(alloc, &network.trees, source, &view, &self.marks) {
+            Ok(part) => Some(part),
+            Err(Memory) => None,
+        }
+    }
+
+    // Closes bits of a part of an expression, of which a point is one bit.
+    fn close_part(&mut self, network: &Network, together: &Together, point: u32)
+        requires points { length network.now.drives.items ≡ length self.old.leads.items }
+        requires tells { TellsTogether network.now.trees.items (asked_of self.old) together.now }
+        requires searching { (clock : Clock) × (given : PointTerns) × IsSearching network.now clock given self.old }
+        ensures searching { (clock : Clock) (given : PointTerns) → IsSearching network.now clock given self.old → IsSearching network.now clock given self.new }
+        ensures more { AsksMore (asked_of self.old) (asked_of self.new) }
+        ensures left { left_of self.new ≤ left_of self.old }
+    {
+        self.close_waiting(network, together);
+        self.close_row(network, together, points_of(together, point));
     }
 
     // Closes the points that wait last, as far as they are bits of a part.
-    fn close_waiting(&mut self, network: &Network, source: Source, part: &Part)
+    fn close_waiting(&mut self, network: &Network, together: &Together)
         requires points { length network.now.drives.items ≡ length self.old.leads.items }
-        requires tells { TellsBits self.old.terns.items self.old.leads.items self.old.marks.items (bits_of_source network.now.trees.items source) part.now }
+        requires tells { TellsTogether network.now.trees.items (asked_of self.old) together.now }
         requires searching { (clock : Clock) × (given : PointTerns) × IsSearching network.now clock given self.old }
         ensures searching { (clock : Clock) (given : PointTerns) → IsSearching network.now clock given self.old → IsSearching network.now clock given self.new }
         ensures more { AsksMore (asked_of self.old) (asked_of self.new) }
@@ -91,7 +163,7 @@ impl Search {
         ensures above { KnowsMore (asked_of self.old) (asked_of self.new) }
     {
         'waiting: while let Some(last) = self.waiting() {
-            let Some(found) = found_at(network, source, part, last) else {
+            let Some(found) = found_at(network, together, last) else {
                 return;
             };
             self.close_as(last, found);
@@ -99,9 +171,9 @@ impl Search {
     }
 
     // Closes bits of a part between these points.
-    fn close_row(&mut self, network: &Network, source: Source, part: &Part, row: (u32, u32))
+    fn close_row(&mut self, network: &Network, together: &Together, row: (u32, u32))
         requires points { length network.now.drives.items ≡ length self.old.leads.items }
-        requires tells { TellsBits self.old.terns.items self.old.leads.items self.old.marks.items (bits_of_source network.now.trees.items source) part.now }
+        requires tells { TellsTogether network.now.trees.items (asked_of self.old) together.now }
         requires searching { (clock : Clock) × (given : PointTerns) × IsSearching network.now clock given self.old }
         ensures searching { (clock : Clock) (given : PointTerns) → IsSearching network.now clock given self.old → IsSearching network.now clock given self.new }
         ensures more { AsksMore (asked_of self.old) (asked_of self.new) }
@@ -109,21 +181,21 @@ impl Search {
     {
         let (start, end) = row;
         for other in start..end {
-            self.close_other(network, source, part, other);
+            self.close_other(network, together, other);
         }
     }
 
     // Closes a bit, unless it has been asked for or has to be looked at.
-    fn close_other(&mut self, network: &Network, source: Source, part: &Part, other: u32)
+    fn close_other(&mut self, network: &Network, together: &Together, other: u32)
         requires points { length network.now.drives.items ≡ length self.old.leads.items }
-        requires tells { TellsBits self.old.terns.items self.old.leads.items self.old.marks.items (bits_of_source network.now.trees.items source) part.now }
+        requires tells { TellsTogether network.now.trees.items (asked_of self.old) together.now }
         requires searching { (clock : Clock) × (given : PointTerns) × IsSearching network.now clock given self.old }
         ensures searching { (clock : Clock) (given : PointTerns) → IsSearching network.now clock given self.old → IsSearching network.now clock given self.new }
         ensures more { AsksMore (asked_of self.old) (asked_of self.new) }
         ensures left { left_of self.new ≤ left_of self.old }
         ensures above { KnowsMore (asked_of self.old) (asked_of self.new) }
     {
-        if let Some(found) = found_beside(network, source, part, other, &self.marks) {
+        if let Some(found) = found_beside(network, together, other, &self.marks) {
             self.wait(other);
             self.close_as(other, found);
         }
@@ -144,82 +216,162 @@ impl Search {
     }
 }
 
-// The expression of which a point is a bit.
-fn value_at(network: &Network, point: u32) -> Option<Source>
-    requires fit { AreFit network.now.trees.items network.now.drives.items }
-    ensures { IfSome result (λ source. IsFitSource network.now.trees.items (length network.now.drives.items) source) }
+// Whether a gate is known to be 1, or depends on points that have been asked for. None where it is known to be 0 or needs a point more.
+fn gate_passes(trees: &[Tree], gate: Option<Source>, view: &View, marks: &[bool]) -> Option<bool>
+    requires fit { IfSome gate (IsFitSource trees.now (length view.now.leads.now)) }
+    requires view { IsView view.now.terns.now view.now.leads.now }
+    requires few { length view.now.leads.now ≤ 2 ^ 32 }
+    requires marks { length marks.now ≡ length view.now.leads.now }
+    ensures { IfSome result (TellsGate trees.now view.now.terns.now view.now.leads.now marks.now gate) }
 {
-    match network.drives.get(point as usize) {
-        Some(Drive::Value(source)) => Some(*source),
-        _ => None,
+    match gate {
+        Some(source) => source_passes(trees, source, view, marks),
+        None => Some(true),
     }
 }
 
-// Whether a point is a bit of the expression of a source and has not been asked for.
-fn is_beside(network: &Network, source: Source, point: u32, marks: &[bool]) -> bool {
-    is_unmarked(point, marks) && is_bit_of(network, source, Some(point))
+// The same of a gate that there is.
+fn source_passes(trees: &[Tree], gate: Source, view: &View, marks: &[bool]) -> Option<bool>
+    requires fit { IsFitSource trees.now (length view.now.leads.now) gate }
+    requires view { IsView view.now.terns.now view.now.leads.now }
+    requires few { length view.now.leads.now ≤ 2 ^ 32 }
+    requires marks { length marks.now ≡ length view.now.leads.now }
+    ensures { IfSome result (TellsGate trees.now view.now.terns.now view.now.leads.now marks.now (Some gate)) }
+{
+    match lead_of_source(trees, gate, view, marks) {
+        Lead::Known(true) => Some(true),
+        Lead::Point(_) => Some(false),
+        Lead::Own => Some(false),
+        Lead::Known(false) | Lead::Unmarked(_) => None,
+    }
 }
 
-fn is_bit_of(network: &Network, source: Source, point: Option<u32>) -> bool {
+// A bit that a point is.
+fn bits_at(network: &Network, point: u32) -> Option<Bits>
+    requires fit { AreFit network.now.trees.items network.now.drives.items }
+    ensures { IfSome result (AreFitBits network.now.trees.items (length network.now.drives.items)) }
+{
+    let drive = network.drives.get(point as usize)?;
+    bits_of(*drive)
+}
+
+// A bit that a drive tells.
+fn bits_of(drive: Drive) -> Option<Bits>
+    ensures { IfSome result (IsDriveOf drive) }
+{
+    match drive {
+        Drive::Value(source) => Some(Bits { source, gate: None }),
+        Drive::Hold(gate, source) => Some(Bits {
+            source,
+            gate: Some(gate),
+        }),
+        Drive::Given | Drive::Flop(_, _) | Drive::Same(_) => None,
+    }
+}
+
+// Whether a point is a bit of the same expression as another and has not been asked for.
+fn is_beside(network: &Network, bits: Bits, point: u32, marks: &[bool]) -> bool {
+    is_unmarked(point, marks) && is_bit_of(network, bits, Some(point))
+}
+
+fn is_bit_of(network: &Network, bits: Bits, point: Option<u32>) -> bool {
     match point {
-        Some(point) => bit_of(network, source, point).is_some(),
+        Some(point) => bit_of(network, bits, point).is_some(),
         None => false,
     }
 }
 
-// Which bit of the expression of a source a point is, if it is one.
-fn bit_of(network: &Network, source: Source, point: u32) -> Option<u32>
-    ensures { IfSome result (λ bit. IsBit network.now source point bit) }
+/// Which bit of the same expression as another a point is, behind the same gate, if it is one.
+pub(crate) fn bit_of(network: &Network, bits: Bits, point: u32) -> Option<u32>
+    ensures { IfSome result (λ bit. IsBit network.now bits point bit) }
 {
-    match network.drives.get(point as usize) {
-        Some(Drive::Value(next)) if next.tree == source.tree && next.first == source.first => {
-            Some(next.bit)
-        }
-        _ => None,
-    }
+    let drive = network.drives.get(point as usize)?;
+    bit_in(*drive, bits)
 }
 
-// The first point of a part of an expression of which a point is a bit, and behind the last one, where points follow one another as the bits do.
-fn points_of(source: Source, part: &Part, point: u32) -> (u32, u32) {
-    let zero = point.saturating_sub(source.bit);
-    let start = zero.saturating_add(u32::try_from(part.low).unwrap_or(u32::MAX));
-    let count = u32::try_from(part.bits.len()).unwrap_or(u32::MAX);
-    (start, start.saturating_add(count))
-}
-
-// What a part tells of a point that is a bit of its expression and has not been asked for.
-fn found_beside(
-    network: &Network,
-    source: Source,
-    part: &Part,
-    point: u32,
-    marks: &[bool],
-) -> Option<Tern>
-    ensures { IfSome result (λ found. IsBeside network.now source part.now marks.now point found) }
+// The same of a drive.
+fn bit_in(drive: Drive, bits: Bits) -> Option<u32>
+    ensures { IfSome result (λ bit. IsBitDrive drive bits bit) }
 {
-    if is_unmarked(point, marks) {
-        found_at(network, source, part, point)
+    let found = bits_of(drive)?;
+    if are_alike(found, bits) {
+        Some(found.source.bit)
     } else {
         None
     }
 }
 
-// What a part tells of a point, if it is a bit of its expression and that is enough.
-fn found_at(network: &Network, source: Source, part: &Part, point: u32) -> Option<Tern>
-    ensures { IfSome result (λ found. IsBitOfPart network.now source part.now point found) }
+// Whether two bits are of one expression, behind the same gate if there is one.
+fn are_alike(found: Bits, bits: Bits) -> bool
+    ensures { result ≡ true → AreAlike found bits }
 {
-    let bit = bit_of(network, source, point)?;
-    found_in(part, bit)
+    found.source.tree == bits.source.tree
+        && found.source.first == bits.source.first
+        && are_same(found.gate, bits.gate)
 }
 
-// What a part tells of a bit, if that is enough.
-fn found_in(part: &Part, bit: u32) -> Option<Tern>
-    ensures { IfSome result (λ found. IsInPart part.now bit found) }
+// Whether two gates are the same, or there are none.
+fn are_same(gate: Option<Source>, other: Option<Source>) -> bool
+    ensures { result ≡ true → gate ≡ other }
 {
+    match (gate, other) {
+        (Some(one), Some(two)) => is_same(one, two),
+        (None, None) => true,
+        (Some(_), None) | (None, Some(_)) => false,
+    }
+}
+
+fn is_same(one: Source, other: Source) -> bool
+    ensures { result ≡ true → one ≡ other }
+{
+    one.tree == other.tree && one.first == other.first && one.bit == other.bit
+}
+
+// The first point of a part of an expression of which a point is a bit, and behind the last one, where points follow one another as the bits do.
+fn points_of(together: &Together, point: u32) -> (u32, u32) {
+    let part = &together.part;
+    points_beside(together.bits, point, part.low, part.bits.len() as u64)
+}
+
+/// The same of so many bits from a low one on.
+pub(crate) fn points_beside(bits: Bits, point: u32, low: u64, count: u64) -> (u32, u32) {
+    let zero = point.saturating_sub(bits.source.bit);
+    let low = u32::try_from(low).unwrap_or(u32::MAX);
+    let start = zero.saturating_add(low);
+    let count = u32::try_from(count).unwrap_or(u32::MAX);
+    (start, start.saturating_add(count))
+}
+
+// What is told of a point that is such a bit and has not been asked for.
+fn found_beside(network: &Network, together: &Together, point: u32, marks: &[bool]) -> Option<Tern>
+    ensures { IfSome result (λ found. IsBeside network.now together.now marks.now point found) }
+{
+    if is_unmarked(point, marks) {
+        found_at(network, together, point)
+    } else {
+        None
+    }
+}
+
+// What is told of a point, if it is such a bit and that is enough.
+fn found_at(network: &Network, together: &Together, point: u32) -> Option<Tern>
+    ensures { IfSome result (λ found. IsBitOfPart network.now together.now point found) }
+{
+    let bit = bit_of(network, together.bits, point)?;
+    found_in(together, bit)
+}
+
+// What is told of a bit, if that is enough: what is known of it where it passes the gate, or that it stands for itself.
+fn found_in(together: &Together, bit: u32) -> Option<Tern>
+    ensures { IfSome result (λ found. IsInPart together.now bit found) }
+{
+    let part = &together.part;
     let place = u64::from(bit).checked_sub(part.low)?;
     let found = *part.bits.get(place as usize)?;
-    if part.marked || !found.is_open() {
+    if together.passes && !found.is_open() {
         Some(found)
+    } else if part.marked {
+        Some(Tern::Open)
     } else {
         None
     }

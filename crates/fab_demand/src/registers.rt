@@ -10,8 +10,8 @@ ghost use Rattle.fab_demand.specs.Search.{asked_of, IsResting, IsSearching};
 ghost use Rattle.fab_demand.specs.inner.Beside.{IsInSpan, IsSpanAsked, IsSpanOf};
 
 use crate::search::Search;
-use fab_compiled::{Part, View};
-use fab_network::{Clock, Drive, Network, Source, part_of_source};
+use fab_compiled::Part;
+use fab_network::{Clock, Drive, Network, Source};
 use fab_ternary::Tern;
 
 /// Bits of an expression that follow one another, where all that they need has been asked for.
@@ -88,14 +88,13 @@ impl Search {
         if !takes_bit_beside(network, source, point) {
             return None;
         }
-        let alloc = *self.stack.allocator();
-        let view = View {
-            terns: &self.terns,
-            leads: &self.leads,
+        let Some(part) = self.part_at(network, source) else {
+            return None;
         };
-        match part_of_source(alloc, &network.trees, source, &view, &self.marks) {
-            Ok(part) if part.marked => Some(all_of(source, &part)),
-            _ => None,
+        if part.marked {
+            Some(all_of(source, &part))
+        } else {
+            None
         }
     }
 }

@@ -19,12 +19,14 @@ struct Row {
     end: u32,
     /// How many points wait, up to the one that needs them.
     depth: usize,
-    /// Whether they are bits of the same expression as that point, so that each of them needs the others.
+    /// Whether each of them needs the others, through that point.
     ring: bool,
+    /// How many looks there were at points of the row.
+    looks: u32,
 }
 
 impl Row {
-    // Whether the last of so many waiting points needs this row: it has found it, or it is itself a point of a row of its own expression.
+    // Whether the last of so many waiting points needs this row: it has found it, or it is itself a point of the row, in a ring.
     fn serves(self, depth: usize) -> bool {
         self.depth == depth || self.ring && self.depth.saturating_add(1) == depth
     }
@@ -37,7 +39,8 @@ pub(crate) enum Next {
     Ask(u32),
     /// It is looked at.
     Look,
-    /// The same, where it is one of the points of a row.
+    /// The same, where it is one of the points of a row. That is told at the first look, the second, the fourth and so on: what others are known to have may
+    /// be found anew each time, and that takes long.
     LookInRow,
 }
 
@@ -56,20 +59,29 @@ impl Rows {
         }
     }
 
-    /// What a look has found that the last of so many waiting points needs, with the rest of the name that it stands in.
-    pub(crate) fn add(&mut self, network: &Network, point: u32, needed: u32, depth: usize) {
+    /// What a look has found that the last of so many waiting points needs, with the rest of the name that it stands in. Told is whether the point before it
+    /// waits.
+    pub(crate) fn add(
+        &mut self,
+        network: &Network,
+        point: u32,
+        needed: u32,
+        depth: usize,
+        waits: bool,
+    ) {
         if !may_begin_row(network, needed) {
             return;
         }
         let end = end_by_drive(network, point, needed);
         let next = needed.saturating_add(1);
         if end.saturating_sub(next) >= MANY {
-            let ring = is_ring(network, point, needed);
+            let ring = is_ring(network, point, needed, waits);
             self.push(Row {
                 next,
                 end,
                 depth,
                 ring,
+                looks: 0,
             });
         }
     }
@@ -94,8 +106,10 @@ impl Rows {
         if depth < row.depth {
             return Next::Look;
         }
-        self.push(row);
-        if row.depth.saturating_add(1) == depth {
+        let in_row = row.depth.saturating_add(1) == depth;
+        let looks = row.looks.saturating_add(u32::from(in_row));
+        self.push(Row { looks, ..row });
+        if in_row && looks.is_power_of_two() {
             Next::LookInRow
         } else {
             Next::Look
@@ -114,6 +128,7 @@ impl Rows {
             end: row.end,
             depth,
             ring: row.ring,
+            looks: row.looks,
         });
         Next::Ask(point)
     }
@@ -173,18 +188,35 @@ fn are_alike(first: &Drive, last: &Drive) -> bool {
     }
 }
 
-// Whether a point needs another bit of its own expression, to which no bit of it is led: then each of its bits needs all of them.
-fn is_ring(network: &Network, point: u32, needed: u32) -> bool {
+// Whether a point needs one that in turn needs the name in which the point stands, maybe through other names, and neither is led to the other: then each bit of
+// the one name needs all bits of both. They may be bits of one name. Where a bit of the name that is needed waits already, it waits for this point.
+fn is_ring(network: &Network, point: u32, needed: u32, waits: bool) -> bool {
+    let back = end_by_drive(network, needed, point) > point;
+    (back || waits && follows_bit(network, needed))
+        && !may_lead_to(network, point, needed)
+        && !may_lead_to(network, needed, point)
+}
+
+// Whether a point and the one before it are bits of one expression.
+fn follows_bit(network: &Network, point: u32) -> bool {
+    let before = point.saturating_sub(1);
     match (
+        network.drives.get(before as usize),
         network.drives.get(point as usize),
-        network.drives.get(needed as usize),
     ) {
-        (Some(Drive::Value(one)), Some(Drive::Value(other))) => {
-            one.tree == other.tree
-                && one.first == other.first
-                && !source_leads_to(&network.trees, *one, needed)
-        }
+        (Some(first), Some(last)) => are_alike(first, last),
         _ => false,
+    }
+}
+
+// Whether the bits of the expression that drives a point may be led to another point.
+fn may_lead_to(network: &Network, point: u32, other: u32) -> bool {
+    match network.drives.get(point as usize) {
+        Some(Drive::Value(source) | Drive::Hold(_, source)) => {
+            source_leads_to(&network.trees, *source, other)
+        }
+        Some(Drive::Same(same)) => *same == other,
+        Some(Drive::Given | Drive::Flop(_, _)) | None => false,
     }
 }
 

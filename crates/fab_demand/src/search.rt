@@ -80,6 +80,17 @@ impl Search {
         self.stack.last().copied()
     }
 
+    // Whether a point waits.
+    fn is_waiting(&self, point: u32) -> bool {
+        match (
+            self.marks.get(point as usize),
+            self.done.get(point as usize),
+        ) {
+            (Some(mark), Some(done)) => *mark && !*done,
+            _ => false,
+        }
+    }
+
     /// Asks for a point.
     pub(crate) fn wait(&mut self, point: u32)
         requires room { HasRoom self.old }
@@ -195,7 +206,8 @@ impl Search {
         };
         match look(network, clock, given, point as usize, &view, &self.marks) {
             Lead::Unmarked(needed) => {
-                rows.add(network, point, needed, self.stack.len());
+                let waits = self.is_waiting(needed.saturating_sub(1));
+                rows.add(network, point, needed, self.stack.len(), waits);
                 self.wait(needed);
             }
             Lead::Known(bit) => self.know(point, bit),
@@ -204,8 +216,8 @@ impl Search {
         }
     }
 
-    // Leads a point to another, or lets it stand for itself in a ring.
-    fn follow(&mut self, point: u32, other: u32)
+    /// Leads a point to another, or lets it stand for itself in a ring.
+    pub(crate) fn follow(&mut self, point: u32, other: u32)
         requires room { HasRoom self.old }
         requires done { slice_get self.old.done.items point ≡ Some false }
         requires within { point < length self.old.leads.items }

@@ -1,4 +1,5 @@
 pub mod Names
+pub mod Places
 pub mod Bits
 pub mod Reading
 pub mod Statuses

@@ -1,5 +1,6 @@
 -- What only contracts inside the crate cite: how its code keeps and counts. No call that it hands on rests on these files.
 pub mod Causes
+pub mod Known
 pub mod Search
 pub mod Flops
 pub mod Points

@@ -10,10 +10,12 @@ ghost use Rattle.fab_equations.specs.Instances.{Instance, instances, points};
 ghost use Rattle.fab_equations.specs.Numbering.{IsInstanceOfNumber};
 ghost use Rattle.fab_equations.specs.Equations.{IsSource};
 ghost use Rattle.fab_load_points.specs.inner.Causes.{AddsNames, AreReads, IsCause, IsWithin, StandsFor};
+ghost use Rattle.fab_load_points.specs.inner.Known.{AreKnown};
 
+use crate::known::{KnownReads, add_places};
 use crate::stream::first_point;
 use fab_base::{Memory, Name};
-use fab_equations::{Driver, Equations, Source};
+use fab_equations::{Cursor, Driver, Equations, Source};
 use fab_syntax::Expr;
 use std::alloc::Global;
 
@@ -28,16 +30,23 @@ pub enum Cause {
     Reads(Vec<u32>),
 }
 
-/// What decides the bits of a name, which is given by its first point.
-pub fn cause_of(alloc: Global, equations: &Equations, name: u32) -> Result<Cause, Memory>
+/// What decides the bits of a name, which is given by its first point. It is looked up from where the cursor stands, which then stands there.
+pub fn cause_of(
+    alloc: Global,
+    equations: &Equations,
+    known: &KnownReads,
+    cursor: &mut Cursor,
+    name: u32,
+) -> Result<Cause, Memory>
     requires sound { IsSound (plain_text equations.now) }
+    requires known { AreKnown (plain_text equations.now) known.now }
     requires within { name < length (points (plain_text equations.now)) }
     ensures within { IfOk result (IsWithin (length (points (plain_text equations.now)))) }
     ensures cause { IfOk result (λ cause. (p : Point) (d : MeantDriver) → StandsFor (plain_text equations.now) name p → Drives (plain_text equations.now) p d →
         IsCause (plain_text equations.now) d cause) }
 {
     let mut reads = Vec::new(alloc);
-    match equations.driver(name) {
+    match equations.driver_near(name, cursor) {
         Driver::Outside => Ok(Cause::Input),
         Driver::Flop(_, _) => Ok(Cause::Register),
         Driver::Same(other) => {
@@ -45,12 +54,12 @@ pub fn cause_of(alloc: Global, equations: &Equations, name: u32) -> Result<Cause
             Ok(Cause::Reads(reads))
         }
         Driver::Value(source) => {
-            add_source(equations, source, &mut reads)?;
+            add_source(equations, known, source, &mut reads)?;
             Ok(Cause::Reads(reads))
         }
         Driver::Hold(gate, latched) => {
-            add_source(equations, gate, &mut reads)?;
-            add_source(equations, latched, &mut reads)?;
+            add_source(equations, known, gate, &mut reads)?;
+            add_source(equations, known, latched, &mut reads)?;
             Ok(Cause::Reads(reads))
         }
     }
@@ -60,20 +69,50 @@ pub fn cause_of(alloc: Global, equations: &Equations, name: u32) -> Result<Cause
 pub fn source_reads(
     alloc: Global,
     equations: &Equations,
+    known: &KnownReads,
     source: Source,
 ) -> Result<Vec<u32>, Memory>
     requires sound { IsSound (plain_text equations.now) }
+    requires known { AreKnown (plain_text equations.now) known.now }
     requires source { (path : Path) × (e : PlainExpr) × IsSource (plain_text equations.now) source path e }
     ensures { IfOk result (λ reads. (path : Path) (e : PlainExpr) → IsSource (plain_text equations.now) source path e →
         AreReads (plain_text equations.now) (expression_reads (plain_text equations.now) path e) reads.items) }
 {
     let mut reads = Vec::new(alloc);
-    add_source(equations, source, &mut reads)?;
+    add_source(equations, known, source, &mut reads)?;
     Ok(reads)
 }
 
-// Adds the names that a source reads.
-fn add_source(equations: &Equations, source: Source, reads: &mut Vec<u32>) -> Result<(), Memory>
+// Adds the names that a source reads. Mostly they are known from another instance of the module.
+fn add_source(
+    equations: &Equations,
+    known: &KnownReads,
+    source: Source,
+    reads: &mut Vec<u32>,
+) -> Result<(), Memory>
+    requires sound { IsSound (plain_text equations.now) }
+    requires known { AreKnown (plain_text equations.now) known.now }
+    requires source { (path : Path) × (e : PlainExpr) × IsSource (plain_text equations.now) source path e }
+    ensures { OnOk result ((path : Path) (e : PlainExpr) → IsSource (plain_text equations.now) source path e →
+        AddsNames (plain_text equations.now) path (mentions e) reads.old.items reads.new.items) }
+{
+    // All numbers of points fit 32 bits.
+    let _points = equations.points();
+    match known.find(equations.module_of(source.instance), source.expr) {
+        Some(known_reads) => {
+            let first = equations.points_of(source.instance).start;
+            add_places(&known.places, known_reads, first, reads)
+        }
+        None => add_names_of(equations, source, reads),
+    }
+}
+
+/// Adds the names that a source reads, by looking each of them up.
+pub fn add_names_of(
+    equations: &Equations,
+    source: Source,
+    reads: &mut Vec<u32>,
+) -> Result<(), Memory>
     requires sound { IsSound (plain_text equations.now) }
     requires source { (path : Path) × (e : PlainExpr) × IsSource (plain_text equations.now) source path e }
     ensures { OnOk result ((path : Path) (e : PlainExpr) → IsSource (plain_text equations.now) source path e →

@@ -6,10 +6,12 @@ ghost use Rattle.fab_syntax.specs.Sound.{IsSound};
 ghost use Rattle.fab_meaning.specs.Points.{Point};
 ghost use Rattle.fab_equations.specs.Instances.{points};
 ghost use Rattle.fab_load_points.specs.inner.Causes.{IsStreamOf, StandsFor};
+ghost use Rattle.fab_load_points.specs.inner.Known.{AreKnown};
 ghost use Rattle.fab_load_points.specs.inner.Search.{Scene, IsSearch};
 ghost use Rattle.fab_load_points.specs.inner.Flops.{among, AreBegun, AreLoaderFlops, HoldsClosed, IsClosedSearch, IsLoaderFlop, IsLoaderPoint, Looks};
 
 use crate::causes::source_reads;
+use crate::known::KnownReads;
 use crate::search::{Search, Status};
 use crate::stream::Stream;
 use fab_base::Memory;
@@ -28,9 +30,15 @@ pub struct Flop {
 /// Flip-flops that read something else leave, in rounds, until none leaves. A round looks once at each name that those read that are left. One that leaves is
 /// outside at once for those behind it; another round finds those before it that read it, and goes the other way. So there is one round where none leaves, and
 /// there are few where flip-flops that read each other stand in some order. A text that is made to be hostile can cost a round for every second one that leaves.
-pub fn closed_search(alloc: Global, equations: &Equations, stream: Stream) -> Result<Search, Memory>
+pub fn closed_search(
+    alloc: Global,
+    equations: &Equations,
+    stream: Stream,
+    known: &KnownReads,
+) -> Result<Search, Memory>
     requires sound { IsSound (plain_text equations.now) }
     requires stream { IsStreamOf (plain_text equations.now) stream }
+    requires known { AreKnown (plain_text equations.now) known.now }
     ensures long { IfOk result (λ search. length search.statuses.items ≡ length (points (plain_text equations.now))) }
     ensures rest { IfOk result (λ search. search.stack.items ≡ []) }
     ensures closed { IfOk result (λ search. IsClosedSearch (plain_text equations.now) search.statuses.items) }
@@ -38,7 +46,7 @@ pub fn closed_search(alloc: Global, equations: &Equations, stream: Stream) -> Re
     let mut flops = loader_flops(alloc, equations, stream)?;
     'rounds: loop {
         let mut search = begin(alloc, equations, &flops)?;
-        let mut kept = kept_flops(&mut search, alloc, equations, stream, &flops)?;
+        let mut kept = kept_flops(&mut search, alloc, equations, stream, known, &flops)?;
         if kept.len() == flops.len() {
             return Ok(search);
         }
@@ -102,6 +110,7 @@ fn begin(alloc: Global, equations: &Equations, flops: &[Flop]) -> Result<Search,
     Ok(Search {
         statuses,
         stack: Vec::new(alloc),
+        cursor: Cursor::new(),
     })
 }
 
@@ -111,10 +120,12 @@ fn kept_flops(
     alloc: Global,
     equations: &Equations,
     stream: Stream,
+    known: &KnownReads,
     flops: &[Flop],
 ) -> Result<Vec<Flop>, Memory>
     requires sound { IsSound (plain_text equations.now) }
     requires stream { IsStreamOf (plain_text equations.now) stream }
+    requires known { AreKnown (plain_text equations.now) known.now }
     requires flops { AreLoaderFlops (plain_text equations.now) flops.now }
     requires long { length search.old.statuses.items ≡ length (points (plain_text equations.now)) }
     requires rest { search.old.stack.items ≡ [] }
@@ -129,7 +140,7 @@ fn kept_flops(
 {
     let mut kept = Vec::new(alloc);
     for flop in flops {
-        if stays(search, alloc, equations, stream, *flop)? {
+        if stays(search, alloc, equations, stream, known, *flop)? {
             kept.push(*flop)?;
         } else {
             search.statuses[flop.name as usize] = Status::Outside;
@@ -144,10 +155,12 @@ fn stays(
     alloc: Global,
     equations: &Equations,
     stream: Stream,
+    known: &KnownReads,
     flop: Flop,
 ) -> Result<bool, Memory>
     requires sound { IsSound (plain_text equations.now) }
     requires stream { IsStreamOf (plain_text equations.now) stream }
+    requires known { AreKnown (plain_text equations.now) known.now }
     requires flop { IsLoaderFlop (plain_text equations.now) flop }
     requires long { length search.old.statuses.items ≡ length (points (plain_text equations.now)) }
     requires rest { search.old.stack.items ≡ [] }
@@ -157,9 +170,9 @@ fn stays(
         IsSearch (plain_text equations.now) scene search.old.statuses.items [] →
         IsSearch (plain_text equations.now) scene search.new.statuses.items [] × Looks (plain_text equations.now) scene.all scene.left flop stays) }
 {
-    let reads = source_reads(alloc, equations, flop.next)?;
+    let reads = source_reads(alloc, equations, known, flop.next)?;
     for read in &reads {
-        if !search.is_inside(alloc, equations, stream, *read)? {
+        if !search.is_inside(alloc, equations, stream, known, *read)? {
             return Ok(false);
         }
     }

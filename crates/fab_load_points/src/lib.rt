@@ -3,6 +3,7 @@
 
 mod causes;
 mod flops;
+mod known;
 mod points;
 mod registers;
 mod search;

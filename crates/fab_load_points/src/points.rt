@@ -8,10 +8,12 @@ ghost use Rattle.fab_meaning.specs.Loading.{IsLoading};
 ghost use Rattle.fab_equations.specs.Instances.{points};
 ghost use Rattle.fab_equations.specs.Equations.{IsDriven, IsPoint};
 ghost use Rattle.fab_load_points.specs.inner.Causes.{IsStreamOf};
+ghost use Rattle.fab_load_points.specs.inner.Known.{AreKnown};
 ghost use Rattle.fab_load_points.specs.inner.Flops.{IsClosedSearch};
 ghost use Rattle.fab_load_points.specs.inner.Points.{AreMarkedFrom, IsPointMark, bit_driven};
 
 use crate::flops::closed_search;
+use crate::known::{KnownReads, known_reads};
 use crate::search::Search;
 use crate::stream::{Stream, carries_words};
 use fab_base::Memory;
@@ -26,9 +28,10 @@ pub fn loading_points(alloc: Global, equations: &Equations) -> Result<Vec<bool>,
         ((slice_get marks.items number ≡ Some true) ↔ IsLoading (plain_text equations.now) p)) }
 {
     let stream = Stream::of(equations);
-    let mut search = closed_search(alloc, equations, stream)?;
+    let known = known_reads(alloc, equations)?;
+    let mut search = closed_search(alloc, equations, stream, &known)?;
     let mut marks = vec![in alloc; false; equations.points() as usize]?;
-    mark_points(&mut search, alloc, equations, stream, &mut marks)?;
+    mark_points(&mut search, alloc, equations, stream, &known, &mut marks)?;
     Ok(marks)
 }
 
@@ -38,10 +41,12 @@ fn mark_points(
     alloc: Global,
     equations: &Equations,
     stream: Stream,
+    known: &KnownReads,
     marks: &mut [bool],
 ) -> Result<(), Memory>
     requires sound { IsSound (plain_text equations.now) }
     requires stream { IsStreamOf (plain_text equations.now) stream }
+    requires known { AreKnown (plain_text equations.now) known.now }
     requires long { length search.old.statuses.items ≡ length (points (plain_text equations.now)) }
     requires rest { search.old.stack.items ≡ [] }
     requires closed { IsClosedSearch (plain_text equations.now) search.old.statuses.items }
@@ -50,7 +55,16 @@ fn mark_points(
 {
     let mut cursor = Cursor::new();
     for point in (0..equations.points()).rev() {
-        let mark = mark_of(search, alloc, equations, stream, marks, &mut cursor, point)?;
+        let mark = mark_of(
+            search,
+            alloc,
+            equations,
+            stream,
+            known,
+            marks,
+            &mut cursor,
+            point,
+        )?;
         marks[point as usize] = mark;
     }
     Ok(())
@@ -62,12 +76,14 @@ fn mark_of(
     alloc: Global,
     equations: &Equations,
     stream: Stream,
+    known: &KnownReads,
     marks: &[bool],
     cursor: &mut Cursor,
     point: u32,
 ) -> Result<bool, Memory>
     requires sound { IsSound (plain_text equations.now) }
     requires stream { IsStreamOf (plain_text equations.now) stream }
+    requires known { AreKnown (plain_text equations.now) known.now }
     requires long { length search.old.statuses.items ≡ length (points (plain_text equations.now)) }
     requires rest { search.old.stack.items ≡ [] }
     requires within { point < length (points (plain_text equations.now)) }
@@ -81,7 +97,7 @@ fn mark_of(
 {
     let driver = equations.driver_near(point, cursor);
     match driven_bit(driver) {
-        Some(bit) => search.is_inside(alloc, equations, stream, point - bit),
+        Some(bit) => search.is_inside(alloc, equations, stream, known, point - bit),
         None => Ok(given_mark(equations, marks, point, driver)),
     }
 }

@@ -6,12 +6,14 @@ ghost use Rattle.fab_syntax.specs.Sound.{IsSound};
 ghost use Rattle.fab_meaning.specs.Points.{Point};
 ghost use Rattle.fab_equations.specs.Instances.{points};
 ghost use Rattle.fab_load_points.specs.inner.Causes.{IsStreamOf, StandsFor};
+ghost use Rattle.fab_load_points.specs.inner.Known.{AreKnown};
 ghost use Rattle.fab_load_points.specs.inner.Search.{Scene, AreBelow, IsSearch, given_up, entered, with_next, new_count, told, Opens};
 
 use crate::causes::{Cause, cause_of};
+use crate::known::KnownReads;
 use crate::stream::Stream;
 use fab_base::Memory;
-use fab_equations::Equations;
+use fab_equations::{Cursor, Equations};
 use std::alloc::Global;
 
 /// What is known of a name.
@@ -42,6 +44,8 @@ pub enum Visit {
 pub struct Search {
     pub statuses: Vec<Status>,
     pub stack: Vec<Visit>,
+    /// Where the name stands that was looked up last: most names are read by one of their own instance.
+    pub cursor: Cursor,
 }
 
 impl Search {
@@ -51,10 +55,12 @@ impl Search {
         alloc: Global,
         equations: &Equations,
         stream: Stream,
+        known: &KnownReads,
         name: u32,
     ) -> Result<bool, Memory>
         requires sound { IsSound (plain_text equations.now) }
         requires stream { IsStreamOf (plain_text equations.now) stream }
+        requires known { AreKnown (plain_text equations.now) known.now }
         requires long { length self.old.statuses.items ≡ length (points (plain_text equations.now)) }
         requires rest { self.old.stack.items ≡ [] }
         requires name { name < length (points (plain_text equations.now)) }
@@ -64,7 +70,7 @@ impl Search {
             IsSearch (plain_text equations.now) scene self.old.statuses.items [] →
             IsSearch (plain_text equations.now) scene self.new.statuses.items [] × (slice_get self.new.statuses.items name ≡ Some (told inside))) }
     {
-        self.look(alloc, equations, stream, name)?;
+        self.look(alloc, equations, stream, known, name)?;
         match self.statuses[name as usize] {
             Status::Inside => Ok(true),
             Status::New | Status::Waiting | Status::Outside => Ok(false),
@@ -77,10 +83,12 @@ impl Search {
         alloc: Global,
         equations: &Equations,
         stream: Stream,
+        known: &KnownReads,
         name: u32,
     ) -> Result<(), Memory>
         requires sound { IsSound (plain_text equations.now) }
         requires stream { IsStreamOf (plain_text equations.now) stream }
+        requires known { AreKnown (plain_text equations.now) known.now }
         requires long { length self.old.statuses.items ≡ length (points (plain_text equations.now)) }
         requires rest { self.old.stack.items ≡ [] }
         requires name { name < length (points (plain_text equations.now)) }
@@ -92,17 +100,24 @@ impl Search {
     {
         match self.statuses[name as usize] {
             Status::New => {
-                self.open(alloc, equations, stream, name)?;
-                self.run(alloc, equations, stream)
+                self.open(alloc, equations, stream, known, name)?;
+                self.run(alloc, equations, stream, known)
             }
             Status::Waiting | Status::Inside | Status::Outside => Ok(()),
         }
     }
 
     // Makes all visits.
-    fn run(&mut self, alloc: Global, equations: &Equations, stream: Stream) -> Result<(), Memory>
+    fn run(
+        &mut self,
+        alloc: Global,
+        equations: &Equations,
+        stream: Stream,
+        known: &KnownReads,
+    ) -> Result<(), Memory>
         requires sound { IsSound (plain_text equations.now) }
         requires stream { IsStreamOf (plain_text equations.now) stream }
+        requires known { AreKnown (plain_text equations.now) known.now }
         requires long { length self.old.statuses.items ≡ length (points (plain_text equations.now)) }
         requires within { AreBelow (length self.old.statuses.items) (reverse self.old.stack.items) }
         ensures long { OnOk result (length self.new.statuses.items ≡ length self.old.statuses.items) }
@@ -113,7 +128,7 @@ impl Search {
             IsSearch (plain_text equations.now) scene self.new.statuses.items []) }
     {
         while let Some(name) = self.next_new() {
-            self.open(alloc, equations, stream, name)?;
+            self.open(alloc, equations, stream, known, name)?;
         }
         Ok(())
     }
@@ -149,10 +164,12 @@ impl Search {
         alloc: Global,
         equations: &Equations,
         stream: Stream,
+        known: &KnownReads,
         name: u32,
     ) -> Result<(), Memory>
         requires sound { IsSound (plain_text equations.now) }
         requires stream { IsStreamOf (plain_text equations.now) stream }
+        requires known { AreKnown (plain_text equations.now) known.now }
         requires long { length self.old.statuses.items ≡ length (points (plain_text equations.now)) }
         requires within { AreBelow (length self.old.statuses.items) (reverse self.old.stack.items) }
         requires new { slice_get self.old.statuses.items name ≡ Some Status.New }
@@ -163,7 +180,7 @@ impl Search {
             IsSearch (plain_text equations.now) scene self.old.statuses.items (Visit.Enter name ∷ reverse self.old.stack.items) →
             IsSearch (plain_text equations.now) scene self.new.statuses.items (reverse self.new.stack.items)) }
     {
-        match cause_of(alloc, equations, name)? {
+        match cause_of(alloc, equations, known, &mut self.cursor, name)? {
             Cause::Input => self.settle(name, stream.has(name)),
             // The flip-flops that are left are inside from the start.
             Cause::Register => self.settle(name, false),

@@ -1,16 +1,16 @@
 -- Tables, entry by entry.
-use Rattle.std.proofs.Common.{◌≡◌, ◌⊎◌, ℕ, zero, suc, ◌+◌, ◌*◌, ◌/◌, ◌%◌, ◌<◌, ◌≤◌, Bool, true, false, not, List, length, Option, Some, refl, sym, ap, ◌∙◌, subst, inl, inr, arith, get_or, set, slice_set, slice_get, slice_index}
-use Rattle.std.proofs.lemmas.Bool.{cases_eq, cases_lt}
+use Rattle.std.proofs.Common.{◌≡◌, ◌⊎◌, ℕ, zero, suc, ◌+◌, ◌*◌, ◌/◌, ◌%◌, ◌<◌, Bool, List, length, Option, Some, refl, sym, ap, ◌∙◌, subst, inl, inr, arith, get_or, slice_set, slice_get, slice_index}
+use Rattle.std.proofs.lemmas.Bool.{cases_eq}
 use Rattle.std.proofs.lemmas.List.{length-set, get_or-set_same, get_or-set_other}
-use Rattle.std.proofs.lemmas.Option.{slice_get-get_or, slice_get_within}
+use Rattle.std.proofs.lemmas.Option.{slice_get-get_or}
 use Rattle.fab_systems_laws.specs.Ternary.{no, yes, unknown}
 use Rattle.fab_systems_laws.specs.Ternary.{Tern as PlainTern}
 use Rattle.fab_ternary.specs.declared.Tern.{Tern}
 use Rattle.fab_ternary.specs.declared.Tern.TheVariants.{No}
-use Rattle.fab_ternary.specs.Terns.{plain_tern, is_known}
+use Rattle.fab_ternary.specs.Terns.{plain_tern}
 use Rattle.fab_compiled.specs.declared.tree.Tree.{Tree}
 use Rattle.fab_compiled.specs.Leading.{PointTerns}
-use Rattle.fab_compiled.specs.Terns.{seen, tern_or_unknown}
+use Rattle.fab_compiled.specs.Terns.{seen}
 use Rattle.fab_compiled.proofs.TreesGrow.{tree_same}
 use Rattle.fab_network.specs.declared.network.Source.{Source}
 use Rattle.fab_network.specs.declared.tables.Inputs.{Inputs}
@@ -220,6 +220,15 @@ module _ (trees : List Tree) (leads : List ℕ) (marks : List Bool) (base : List
         | inl e ↦ subst (λ (n : ℕ). IsOf n (get_or (slice_set entries place entry) n No)) (sym e)
             (subst (IsOf place) (sym (get_or-set_same entries place entry No room)) is)
         | inr n ↦ subst (IsOf k) (sym (get_or-set_other entries place k entry No n)) (before k (omega (arith, l, n)))
+      ]
+
+  -- an entry that no values of the inputs pick
+  pub entries_passed : (entries : List Tern) (place : ℕ) (values : Values) → AreDigits place values → ((t : PointTerns) → AreKept t inputs values → ⊥) →
+      ((k : ℕ) → k < place → IsOf k (get_or entries k No)) → (k : ℕ) → k < place + 1 → IsOf k (get_or entries k No)
+  entries_passed entries place values digits none before k l =
+      elim (cases_eq k place) [
+        | inl e ↦ λ now stays at. absurd (none (kept_tern now) (digits_kept inputs (kept_tern now) place values (at ∙ e) digits))
+        | inr n ↦ before k (omega (arith, l, n))
       ]
 
   -- all entries

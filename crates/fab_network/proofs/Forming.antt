@@ -1,12 +1,11 @@
 -- Forms of points, and what they tell.
-use Rattle.std.proofs.Common.{◌≡◌, ◌⊎◌, ℕ, zero, suc, ◌+◌, ◌<◌, ◌≤◌, Bool, true, false, List, [], ◌∷◌, ◌++◌, length, length-append, Option, None, Some, refl, sym, ap, ◌∙◌, subst, inl, inr, arith, slice_get, slice_index, if◌then◌else◌}
+use Rattle.std.proofs.Common.{◌≡◌, ◌⊎◌, ℕ, zero, suc, ◌+◌, ◌<◌, Bool, false, List, [], ◌∷◌, ◌++◌, length, length-append, Option, None, Some, refl, sym, ap, ◌∙◌, subst, inl, inr, slice_get, slice_index}
 use Rattle.std.proofs.lemmas.Bool.{false≢true}
 use Rattle.fab_systems_laws.specs.Ternary.{Tern as PlainTern}
 use Rattle.fab_ternary.specs.declared.Tern.{Tern}
 use Rattle.fab_ternary.specs.Terns.{plain_tern, is_known}
-use Rattle.fab_compiled.proofs.fab_equations_Numbering.{same_value, some_there}
+use Rattle.fab_compiled.proofs.fab_equations_Numbering.{some_there}
 use Rattle.fab_compiled.specs.declared.tree.Tree.{Tree}
-use Rattle.fab_compiled.specs.Leading.{PointTerns}
 use Rattle.fab_compiled.specs.Terns.{seen}
 use Rattle.fab_network.specs.declared.forms.Form.{Form}
 use Rattle.fab_network.specs.declared.forms.Form.TheVariants.{Shows, Takes, Driven}
@@ -17,7 +16,7 @@ use Rattle.fab_network.specs.declared.network.Source.{Source}
 use Rattle.fab_network.specs.declared.tables.Table.{Table}
 use Rattle.fab_network.specs.Network.{drive_tern, shown_tern, source_tern}
 use Rattle.fab_network.specs.Passes.{kept_tern, IsListed}
-use Rattle.fab_network.specs.Tables.{entry_place, AreInside, IsFixed, IsTable, StayFixed}
+use Rattle.fab_network.specs.Tables.{entry_place, IsFixed, IsTable}
 use Rattle.fab_network.specs.Forms.{AreForms, HasForm, HasForms, IsForm, IsFormBy}
 
 -- ---- where other values are kept that are the same

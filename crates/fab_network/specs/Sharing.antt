@@ -7,6 +7,7 @@ use Rattle.fab_compiled.specs.declared.tree.Tree.{Tree}
 use Rattle.fab_compiled.specs.Leading.{PointTerns}
 use Rattle.fab_network.specs.declared.network.Source.{Source}
 use Rattle.fab_network.specs.declared.sharing.Shared.{Shared}
+use Rattle.fab_network.specs.declared.sharing.KeptValues.{KeptValues}
 use Rattle.fab_network.specs.Network.{source_tern, IsFitSource}
 
 -- A bit that is kept is below what its source has, and is that as long as nothing has come to be known since.
@@ -20,3 +21,8 @@ abbrev pub IsShared : List Tree → (count : ℕ) → PointTerns → Shared → 
 IsShared trees count t shared =
     (bit : ℕ) (kept : Tern) → slice_get shared.bits.items bit ≡ Some kept →
     IsKeptBit trees count t shared.exact (record { tree = shared.tree; first = shared.first; bit = bit }) kept
+
+-- the same of what a pass keeps
+pub record AreShared (trees : List Tree) (count : ℕ) (t : PointTerns) (values : KeptValues) : Type 0 where
+  pub points : IsShared trees count t values.points
+  pub gates : IsShared trees count t values.gates

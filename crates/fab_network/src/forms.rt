@@ -6,13 +6,17 @@ ghost use Rattle.fab_compiled.specs.Terns.{seen, IsView};
 ghost use Rattle.fab_network.specs.Forms.{AreForms, HasForm, IsForm, IsFormBy};
 ghost use Rattle.fab_network.specs.Network.{shown_tern, AreFit, IsFitDrive, IsFitSource};
 ghost use Rattle.fab_network.specs.Passes.{kept_tern, EachListed};
-ghost use Rattle.fab_network.specs.Sharing.{IsShared};
+ghost use Rattle.fab_network.specs.Sharing.{AreShared};
 
 use crate::network::{Clock, Drive, Network, Source, shown};
-use crate::sharing::Shared;
+use crate::sharing::KeptValues;
 use crate::tables::{Table, table_of};
 use fab_compiled::{Tree, View};
 use fab_ternary::Tern;
+
+/// The most forms that are kept, each of a hundred bytes. Designs have fewer points that stand for themselves; where a text has more, the rest are
+/// found by their drives.
+const MOST_FORMS: usize = 1 << 18;
 
 /// How a point that stands for itself is found in a run.
 #[derive(Clone, Copy)]
@@ -26,7 +30,7 @@ pub enum Form {
 }
 
 /// The forms of points, in their order. They are right as long as the points that vary are these: those that have been asked for and are open now.
-/// Where memory is refused the rest of the points has none. All points have again what they had before.
+/// Where memory is refused, or they are too many, the rest of the points has none. All points have again what they had before.
 pub fn forms_of(
     network: &Network,
     order: &[u32],
@@ -47,6 +51,9 @@ pub fn forms_of(
 {
     forms.clear();
     for point in order {
+        if forms.len() >= MOST_FORMS {
+            return;
+        }
         let form = form_of(network, *point as usize, leads, marks, terns);
         if !add(forms, form) {
             return;
@@ -112,7 +119,7 @@ pub(crate) fn shown_by_form(
     point: usize,
     held: Tern,
     form: &Form,
-    shared: &mut Shared,
+    shared: &mut KeptValues,
     view: &View,
 ) -> Tern
     requires fit { AreFit network.now.trees.items network.now.drives.items }
@@ -122,8 +129,8 @@ pub(crate) fn shown_by_form(
     requires small { length view.now.leads.now ≤ 2 ^ 32 }
     requires within { point < length view.now.leads.now }
     requires form { HasForm network.now.trees.items network.now.drives.items view.now.leads.now view.now.terns.now point form.now }
-    requires shared { IsShared network.now.trees.items (length view.now.leads.now) (seen view.now.terns.now view.now.leads.now) shared.old }
-    ensures shared { IsShared network.now.trees.items (length view.now.leads.now) (seen view.now.terns.now view.now.leads.now) shared.new }
+    requires shared { AreShared network.now.trees.items (length view.now.leads.now) (seen view.now.terns.now view.now.leads.now) shared.old }
+    ensures shared { AreShared network.now.trees.items (length view.now.leads.now) (seen view.now.terns.now view.now.leads.now) shared.new }
     ensures value { plain_tern result ≡ shown_tern network.now.trees.items network.now.drives.items (plain_tern held) (seen view.now.terns.now view.now.leads.now) point }
 {
     match form {

@@ -13,6 +13,9 @@ use fab_ternary::Tern;
 /// How many points and bits of constants an expression may have of which a table is made, since it is evaluated for each entry.
 const MOST_PLACES: u64 = 64;
 
+/// How many places more a bit of an operand of `==` or `-` takes: each evaluation goes through both operands, and takes memory for them.
+const OPERAND_PLACES: u64 = 4;
+
 /// No point is an input.
 const NONE: Inputs = Inputs {
     first: u32::MAX,
@@ -86,9 +89,11 @@ fn room_behind(tree: &Tree, room: u64) -> Option<u64> {
         Tree::Cat(left, _, right)
         | Tree::And(left, right)
         | Tree::Or(left, right)
-        | Tree::Xor(left, right)
-        | Tree::Equal(_, left, right)
-        | Tree::Minus(_, left, right) => room_behind(right, room_behind(left, room)?),
+        | Tree::Xor(left, right) => room_behind(right, room_behind(left, room)?),
+        Tree::Equal(width, left, right) | Tree::Minus(width, left, right) => {
+            let behind = room.checked_sub(width.checked_mul(OPERAND_PLACES)?)?;
+            room_behind(right, room_behind(left, behind)?)
+        }
         Tree::Cond(test, yes, no) => {
             let behind = room_behind(yes, room_behind(test, room)?)?;
             room_behind(no, behind)

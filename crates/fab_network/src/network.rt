@@ -4,9 +4,9 @@ ghost use Rattle.std.specs.Prelude.{◌≡◌, ◌<◌, ◌≤◌, ◌^◌, Some
 ghost use Rattle.fab_ternary.specs.Terns.{plain_tern};
 ghost use Rattle.fab_compiled.specs.Terns.{seen, IsView};
 ghost use Rattle.fab_network.specs.Network.{drive_tern, source_tern, shown_tern, AreFit, IsFitDrive, IsFitSource};
-ghost use Rattle.fab_network.specs.Sharing.{IsShared};
+ghost use Rattle.fab_network.specs.Sharing.{AreShared};
 
-use crate::sharing::Shared;
+use crate::sharing::KeptValues;
 use fab_compiled::{Tree, View, eval, through};
 use fab_ternary::Tern;
 
@@ -68,7 +68,7 @@ pub(crate) fn shown(
     network: &Network,
     point: usize,
     held: Tern,
-    shared: &mut Shared,
+    shared: &mut KeptValues,
     view: &View,
 ) -> Tern
     requires fit { AreFit network.now.trees.items network.now.drives.items }
@@ -76,8 +76,8 @@ pub(crate) fn shown(
     requires view { IsView view.now.terns.now view.now.leads.now }
     requires small { length view.now.leads.now ≤ 2 ^ 32 }
     requires within { point < length view.now.leads.now }
-    requires shared { IsShared network.now.trees.items (length view.now.leads.now) (seen view.now.terns.now view.now.leads.now) shared.old }
-    ensures shared { IsShared network.now.trees.items (length view.now.leads.now) (seen view.now.terns.now view.now.leads.now) shared.new }
+    requires shared { AreShared network.now.trees.items (length view.now.leads.now) (seen view.now.terns.now view.now.leads.now) shared.old }
+    ensures shared { AreShared network.now.trees.items (length view.now.leads.now) (seen view.now.terns.now view.now.leads.now) shared.new }
     ensures value { plain_tern result ≡ shown_tern network.now.trees.items network.now.drives.items (plain_tern held) (seen view.now.terns.now view.now.leads.now) point }
 {
     match network.drives.get(point) {
@@ -92,24 +92,24 @@ fn shown_by(
     drive: Drive,
     point: usize,
     held: Tern,
-    shared: &mut Shared,
+    shared: &mut KeptValues,
     view: &View,
 ) -> Tern
     requires fit { IsFitDrive trees.now (length view.now.leads.now) drive }
     requires view { IsView view.now.terns.now view.now.leads.now }
     requires small { length view.now.leads.now ≤ 2 ^ 32 }
     requires within { point < length view.now.leads.now }
-    requires shared { IsShared trees.now (length view.now.leads.now) (seen view.now.terns.now view.now.leads.now) shared.old }
-    ensures shared { IsShared trees.now (length view.now.leads.now) (seen view.now.terns.now view.now.leads.now) shared.new }
+    requires shared { AreShared trees.now (length view.now.leads.now) (seen view.now.terns.now view.now.leads.now) shared.old }
+    ensures shared { AreShared trees.now (length view.now.leads.now) (seen view.now.terns.now view.now.leads.now) shared.new }
     ensures value { plain_tern result ≡ drive_tern trees.now (plain_tern held) (seen view.now.terns.now view.now.leads.now) point (Some drive) }
 {
     match drive {
         Drive::Given | Drive::Flop(_, _) => view.at(point),
         Drive::Same(other) => view.at(other as usize),
-        Drive::Value(source) => shared.value(trees, source, view),
+        Drive::Value(source) => shared.points.value(trees, source, view),
         Drive::Hold(gate, latched) => {
-            let gate = evaluate(trees, gate, view);
-            through(gate, shared.value(trees, latched, view), held)
+            let gate = shared.gates.value(trees, gate, view);
+            through(gate, shared.points.value(trees, latched, view), held)
         }
     }
 }

@@ -6,12 +6,12 @@ ghost use Rattle.fab_compiled.specs.Terns.{seen, IsView};
 ghost use Rattle.fab_network.specs.Forms.{HasForms};
 ghost use Rattle.fab_network.specs.Network.{shown_tern, AreFit};
 ghost use Rattle.fab_network.specs.Passes.{changed_after, kept_tern, unsettled_after, AreBacked, AreOwn, AreRising, AreSolved, IsFurther, IsListed, IsPassed, IsVisit, StaysBelow};
-ghost use Rattle.fab_network.specs.Sharing.{IsShared};
+ghost use Rattle.fab_network.specs.Sharing.{AreShared};
 
 use crate::forms::{Form, shown_by_form};
 use crate::network::{Network, shown};
 use crate::readers::Readers;
-use crate::sharing::Shared;
+use crate::sharing::KeptValues;
 use fab_compiled::View;
 use fab_ternary::Tern;
 
@@ -140,7 +140,7 @@ fn pass_over(
         changed: false,
         unsettled: false,
     };
-    let mut shared = Shared::new(*network.trees.allocator());
+    let mut shared = KeptValues::new(*network.trees.allocator());
     for place in 0..order.len() {
         let found = look_at(
             network,
@@ -165,7 +165,7 @@ fn look_at(
     leads: &[u32],
     forms: &[Form],
     place: usize,
-    shared: &mut Shared,
+    shared: &mut KeptValues,
     terns: &mut [Tern],
 ) -> Visit
     requires fit { AreFit network.now.trees.items network.now.drives.items }
@@ -177,8 +177,8 @@ fn look_at(
     requires own { AreOwn order.now leads.now }
     requires within { place < length order.now }
     requires forms { HasForms network.now.trees.items network.now.drives.items order.now leads.now terns.old forms.now }
-    requires shared { IsShared network.now.trees.items (length leads.now) (seen terns.old leads.now) shared.old }
-    ensures shared { IsShared network.now.trees.items (length leads.now) (seen terns.new leads.now) shared.new }
+    requires shared { AreShared network.now.trees.items (length leads.now) (seen terns.old leads.now) shared.old }
+    ensures shared { AreShared network.now.trees.items (length leads.now) (seen terns.new leads.now) shared.new }
     ensures visit { IsVisit (record { trees = network.now.trees.items; drives = network.now.drives.items; held = held.now; order = order.now; leads = leads.now })
         (slice_index order.now place) terns.old terns.new result }
 {
@@ -203,7 +203,7 @@ fn shown_at(
     held: Tern,
     forms: &[Form],
     place: usize,
-    shared: &mut Shared,
+    shared: &mut KeptValues,
     view: &View,
 ) -> Tern
     requires fit { AreFit network.now.trees.items network.now.drives.items }
@@ -214,8 +214,8 @@ fn shown_at(
     requires own { AreOwn order.now view.now.leads.now }
     requires within { place < length order.now }
     requires forms { HasForms network.now.trees.items network.now.drives.items order.now view.now.leads.now view.now.terns.now forms.now }
-    requires shared { IsShared network.now.trees.items (length view.now.leads.now) (seen view.now.terns.now view.now.leads.now) shared.old }
-    ensures shared { IsShared network.now.trees.items (length view.now.leads.now) (seen view.now.terns.now view.now.leads.now) shared.new }
+    requires shared { AreShared network.now.trees.items (length view.now.leads.now) (seen view.now.terns.now view.now.leads.now) shared.old }
+    ensures shared { AreShared network.now.trees.items (length view.now.leads.now) (seen view.now.terns.now view.now.leads.now) shared.new }
     ensures value { plain_tern result ≡ shown_tern network.now.trees.items network.now.drives.items (plain_tern held) (seen view.now.terns.now view.now.leads.now)
         (slice_index order.now place) }
 {
@@ -381,7 +381,7 @@ fn look_at_reader(
     if place >= order.len() {
         return;
     }
-    let mut shared = Shared::new(*network.trees.allocator());
+    let mut shared = KeptValues::new(*network.trees.allocator());
     let found = look_at(
         network,
         order,

@@ -7,7 +7,7 @@ ghost use Rattle.fab_compiled.specs.declared.tree.Tree.{Tree};
 ghost use Rattle.fab_compiled.specs.Leading.{PointTerns};
 ghost use Rattle.fab_compiled.specs.Terns.{seen, IsView};
 ghost use Rattle.fab_network.specs.Network.{source_tern, IsFitSource};
-ghost use Rattle.fab_network.specs.Sharing.{IsShared};
+ghost use Rattle.fab_network.specs.Sharing.{AreShared, IsShared};
 
 use crate::network::{Source, evaluate};
 use fab_base::Memory;
@@ -29,6 +29,8 @@ pub struct Shared {
     pub alone: bool,
     /// Its bits, or none.
     pub bits: Vec<Tern>,
+    /// How many looks there were at bits that were open when they were found, behind something that has come to be known since.
+    pub stale: u32,
 }
 
 impl Shared {
@@ -42,6 +44,7 @@ impl Shared {
             exact: false,
             alone: false,
             bits: Vec::new(alloc),
+            stale: 0,
         }
     }
 
@@ -60,6 +63,9 @@ impl Shared {
         }
         if let Some(bit) = self.kept(source.bit) {
             return bit;
+        }
+        if !self.is_due() {
+            return evaluate(trees, source, view);
         }
         self.find(trees, source, view);
         match self.kept(source.bit) {
@@ -84,6 +90,21 @@ impl Shared {
         self.first = source.first;
         self.alone = false;
         self.bits.clear();
+        self.stale = 0;
+    }
+
+    // Whether all bits are found now. Where they were before, and more has come to be known since, that is so at the first look, the second, the fourth
+    // and so on: in a loop through a difference something may come to be known between any two looks.
+    fn is_due(&mut self) -> bool
+        ensures tree { self.new.tree ≡ self.old.tree }
+        ensures first { self.new.first ≡ self.old.first }
+        ensures shared { (trees : List Tree) (count : ℕ) (t : PointTerns) → IsShared trees count t self.old → IsShared trees count t self.new }
+    {
+        if self.exact || self.bits.is_empty() {
+            return true;
+        }
+        self.stale = self.stale.saturating_add(1);
+        self.stale.is_power_of_two()
     }
 
     // Finds all bits of the expression, where that is faster than each alone.
@@ -134,11 +155,40 @@ impl Shared {
     }
 }
 
-// Whether bits of an expression rest on the same work: on what lower bits of a difference borrow, or on a test that is more than a point.
+/// What a pass keeps of expressions: of those of points, and of gates, since latches that follow one another may have one gate.
+#[derive(Drop)]
+pub struct KeptValues {
+    pub points: Shared,
+    pub gates: Shared,
+}
+
+impl KeptValues {
+    /// Nothing has been looked at.
+    pub(crate) fn new(alloc: Global) -> KeptValues
+        ensures { (trees : List Tree) (count : ℕ) (t : PointTerns) → AreShared trees count t result }
+    {
+        KeptValues {
+            points: Shared::new(alloc),
+            gates: Shared::new(alloc),
+        }
+    }
+
+    /// More may be known of points from now on.
+    pub(crate) fn note_change(&mut self)
+        ensures { (trees : List Tree) (count : ℕ) (t u : PointTerns) → ((point : ℕ) → point < count → IsBelow (t point) (u point)) →
+            AreShared trees count t self.old → AreShared trees count u self.new }
+    {
+        self.points.note_change();
+        self.gates.note_change();
+    }
+}
+
+// Whether bits of an expression rest on the same work: on what lower bits of a difference borrow, or on a test that is more than a point; and a bit
+// that takes long and may be asked for many times, as a gate.
 fn shares(tree: &Tree) -> bool {
     match tree {
-        Tree::Const(_) | Tree::Bits(_, _) | Tree::Pick(_, _, _) | Tree::Equal(_, _, _) => false,
-        Tree::Minus(_, _, _) => true,
+        Tree::Const(_) | Tree::Bits(_, _) | Tree::Pick(_, _, _) => false,
+        Tree::Equal(_, _, _) | Tree::Minus(_, _, _) => true,
         Tree::Not(inner) => shares(inner),
         Tree::Cat(left, _, right)
         | Tree::And(left, right)

@@ -1,7 +1,8 @@
 //! Tables of the values that a bit of an expression has by those of a few points.
 
-ghost use Rattle.std.specs.Prelude.{◌≡◌, ◌<◌, ◌≤◌, ◌^◌, ℕ, Some, length, slice_get, IfSome};
+ghost use Rattle.std.specs.Prelude.{◌≡◌, ◌<◌, ◌≤◌, ◌^◌, ℕ, false, Some, length, slice_get, IfSome};
 ghost use Rattle.fab_ternary.specs.Terns.{plain_tern};
+ghost use Rattle.fab_compiled.specs.Leading.{PointTerns};
 ghost use Rattle.fab_compiled.specs.Terns.{IsView};
 ghost use Rattle.fab_network.specs.Network.{IsFitSource};
 ghost use Rattle.fab_network.specs.Passes.{kept_tern};
@@ -78,6 +79,19 @@ impl Inputs {
         }
     }
 
+    // Whether the inputs may have these values: an input that stands again has one value.
+    fn may_have(self, values: Values) -> bool
+        ensures { result ≡ false → (t : PointTerns) → AreKept t self values → ⊥ }
+    {
+        if !agree(self.first, values.first, self.second, values.second) {
+            return false;
+        }
+        if !agree(self.second, values.second, self.third, values.third) {
+            return false;
+        }
+        agree(self.third, values.third, self.fourth, values.fourth)
+    }
+
     // Gives values to the inputs.
     fn put(self, values: Values, terns: &mut [Tern])
         requires inside { AreInside (length terns.old) self }
@@ -90,8 +104,15 @@ impl Inputs {
     }
 }
 
+// Whether two inputs may have these values.
+fn agree(point: u32, value: Tern, other: u32, given: Tern) -> bool
+    ensures { result ≡ false → (t : PointTerns) → plain_tern value ≡ t point → plain_tern given ≡ t other → ⊥ }
+{
+    point != other || digit(value) == digit(given)
+}
+
 /// The table of a source, where it is small and reads no more than four points that vary: those that have been asked for and are open. All points
-/// have again what they had before.
+/// have again what they had before. Entries that no values of the inputs pick are not found: with one input there are three, and not 81.
 pub(crate) fn table_of(
     trees: &[Tree],
     source: Source,
@@ -112,7 +133,11 @@ pub(crate) fn table_of(
     let kept = inputs.values(terns);
     let mut entries = [Tern::Open; ENTRIES];
     for place in 0..ENTRIES {
-        inputs.put(values_at(place), terns);
+        let values = values_at(place);
+        if !inputs.may_have(values) {
+            continue;
+        }
+        inputs.put(values, terns);
         entries[place] = evaluate(trees, source, &View { terns, leads });
     }
     inputs.put(kept, terns);

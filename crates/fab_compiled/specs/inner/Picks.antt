@@ -9,7 +9,7 @@ use Rattle.fab_compiled.specs.declared.leads.Lead.TheVariants.{Known, Point, Own
 use Rattle.fab_compiled.specs.declared.picks.Table.{Table}
 use Rattle.fab_compiled.specs.declared.tree.Tree.{Tree}
 use Rattle.fab_compiled.specs.Trees.{tree_value}
-use Rattle.fab_compiled.specs.Leading.{PointTerns, AreAbove, AgreeOnMarked, bit_under}
+use Rattle.fab_compiled.specs.Leading.{PointTerns, AreAbove, AgreeOnMarked, FollowLeads, IsLedTo, bit_under}
 
 -- ---- tables
 
@@ -57,7 +57,8 @@ picked t first place width index = entry (first_terns (2 ^ width) (λ k. t (firs
 -- what is told of it
 abbrev pub PickLeads : List Tern → List ℕ → (marks : List Bool) → (first place width : ℕ) → (index : Tree) → Lead → Type 0
 PickLeads terns leads marks first place width index (Known b) = ⊥
-PickLeads terns leads marks first place width index (Point lead) = ⊥
+PickLeads terns leads marks first place width index (Point lead) =
+    ((t : PointTerns) → AreAbove terns leads t → FollowLeads leads marks t → picked t first place width index ≡ t lead) × IsLedTo leads marks lead
 PickLeads terns leads marks first place width index Own =
     (t u : PointTerns) → AreAbove terns leads t → AreAbove terns leads u → AgreeOnMarked marks t u → picked t first place width index ≡ picked u first place width index
 PickLeads terns leads marks first place width index (Unmarked point) = slice_get marks point ≡ Some false

@@ -13,6 +13,7 @@ use Rattle.fab_compiled.specs.Trees.{tree_width, IsMade}
 use Rattle.fab_compiled.specs.Evaluation.{all_known, known_bits, value_seen, operands_difference, operands_width}
 use Rattle.fab_compiled.proofs.Bits.{first_at, all_from, kept_are}
 use Rattle.fab_compiled.proofs.Evaluated.{not_at, each_of, low_of, high_of, one_of_at, minus_unknown, minus_by_unknown, minus_known, wide_at, long_at, operands_long, lent_long, set_bits, same_none, same_step}
+use Rattle.fab_compiled.proofs.Numbered.{picked_is, whole_small}
 use Rattle.fab_compiled.proofs.evaluation.+value.Goals as goal
 use Rattle.fab_compiled.proofs.evaluation.+value.Goals.{difference_bit-then-not-knows-via-then-not-knows, difference_bit-then-not-knows-via-else-not-knows+then-not-knows-2, difference_bit-then-minuend-subtrahend, difference_bit-else-minuend-subtrahend}
 
@@ -177,6 +178,36 @@ eval-returns-in-Open t c =
     ∙ ap₂ agreed (c.eval-in-Open.ensures ∙ ap (λ (x : Tree). tern_at (value x) c.args.bit) c.deref-in-Open.ensures)
     (c.eval-in-Open-2.ensures ∙ ap (λ (x : Tree). tern_at (value x) c.args.bit) c.deref-in-Open-2.ensures)
     ∙ one_of_at (tern_at (value test) 0) (value left) (value right) (value c.args.tree.now) c.args.bit (ap value c.in-Cond.is) none long.0 long.1
+
+-- ---- the entry that an index picks
+
+pub picked-overflow_add-table : goal.picked-overflow_add-table
+picked-overflow_add-table t c =
+    let long = wide_at c.args.view.now.terns.now c.args.view.now.leads.now c.args.first c.args.index.now c.requires.made ∙ c.requires.width in
+    omega (
+      arith,
+      whole_small (seen c.args.view.now.terns.now c.args.view.now.leads.now) (value_seen c.args.view.now.terns.now c.args.view.now.leads.now c.args.first c.args.index.now)
+          c.args.width c.args.table c.in-Some.number long c.in-Some.ensures,
+      c.requires.table,
+      c.requires.few,
+    )
+
+pub picked-at-requires-clause-within : goal.picked-at-requires-clause-within
+picked-at-requires-clause-within t c =
+    let long = wide_at c.args.view.now.terns.now c.args.view.now.leads.now c.args.first c.args.index.now c.requires.made ∙ c.requires.width in
+    omega (
+      arith,
+      whole_small (seen c.args.view.now.terns.now c.args.view.now.leads.now) (value_seen c.args.view.now.terns.now c.args.view.now.leads.now c.args.first c.args.index.now)
+          c.args.width c.args.table c.in-Some.number long c.in-Some.ensures,
+      c.requires.table,
+    )
+
+pub picked-returns-in-Some : goal.picked-returns-in-Some
+picked-returns-in-Some t c =
+    let long = wide_at c.args.view.now.terns.now c.args.view.now.leads.now c.args.first c.args.index.now c.requires.made ∙ c.requires.width in
+    c.at.ensures
+    ∙ picked_is (seen c.args.view.now.terns.now c.args.view.now.leads.now) (value_seen c.args.view.now.terns.now c.args.view.now.leads.now c.args.first c.args.index.now)
+    c.args.width c.args.table c.in-Some.number long c.in-Some.ensures
 
 -- ---- the bits of an index, and of operands
 

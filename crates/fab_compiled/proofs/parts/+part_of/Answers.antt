@@ -1,5 +1,4 @@
-use Rattle.std.proofs.Common.{◌≡◌, ℕ, ◌+◌, ◌≤◌, List, length, sym, ap, ◌∙◌, subst}
-use Rattle.fab_systems_laws.specs.Ternary.{Tern}
+use Rattle.std.proofs.Common.{◌≡◌, ℕ, ◌+◌, ◌≤◌, length, sym, ap, ◌∙◌, subst}
 use Rattle.fab_solutions_laws.specs.fab_ternary_laws_Operators.{tern_at}
 use Rattle.fab_compiled.specs.declared.parts.Part.{Part}
 use Rattle.fab_compiled.specs.declared.tree.Tree.{Tree}

@@ -1,4 +1,4 @@
-use Rattle.std.proofs.Common.{length, not, ap, ◌∙◌, inl, inr, arith}
+use Rattle.std.proofs.Common.{not, ap, ◌∙◌, inl, inr, arith}
 use Rattle.std.proofs.lemmas.Bool.{cases_eq}
 use Rattle.std.proofs.lemmas.List.{length-map}
 use Rattle.fab_solutions_laws.specs.fab_ternary_laws_Operators.{tern_at}

@@ -1,4 +1,4 @@
-use Rattle.std.proofs.Common.{◌≡◌, ◌++◌, [], ◌∷◌, Bool, List, ap, ◌∙◌, if◌then◌else◌}
+use Rattle.std.proofs.Common.{◌≡◌, ◌++◌, [], ◌∷◌, Bool, ap, ◌∙◌, if◌then◌else◌}
 use Rattle.fab_network.specs.declared.forms.Form.{Form}
 use Rattle.fab_network.proofs.Forming.{forms_more}
 use Rattle.fab_network.proofs.forms.forms_of.Goals as goal

@@ -6,17 +6,17 @@ use Rattle.fab_compiled.specs.Terns.{seen}
 use Rattle.fab_compiled.specs.declared.tree.Tree.{Tree}
 use Rattle.fab_network.specs.declared.network.Drive.{Drive}
 use Rattle.fab_network.specs.Network.{drive_tern}
-use Rattle.fab_network.specs.Sharing.{IsShared}
+use Rattle.fab_network.specs.Sharing.{AreShared}
 use Rattle.fab_network.proofs.network.shown.Goals as goal
 
 pub shown_by-requires-clause-shared : goal.shown_by-requires-clause-shared
 shown_by-requires-clause-shared c =
-    subst (λ (trees : List Tree). IsShared trees (length c.args.view.now.leads.now) (seen c.args.view.now.terns.now c.args.view.now.leads.now) c.args.shared.now)
+    subst (λ (trees : List Tree). AreShared trees (length c.args.view.now.leads.now) (seen c.args.view.now.terns.now c.args.view.now.leads.now) c.args.shared.now)
     (sym c.deref-in-Some.ensures.value) c.requires.shared
 
 pub returns-in-Some-clause-shared : goal.returns-in-Some-clause-shared
 returns-in-Some-clause-shared c =
-    subst (λ (trees : List Tree). IsShared trees (length c.args.view.now.leads.now) (seen c.args.view.now.terns.now c.args.view.now.leads.now) c.shown_by.new.shared)
+    subst (λ (trees : List Tree). AreShared trees (length c.args.view.now.leads.now) (seen c.args.view.now.terns.now c.args.view.now.leads.now) c.shown_by.new.shared)
     c.deref-in-Some.ensures.value c.shown_by.ensures.shared
 
 pub returns-in-Some-clause-value : goal.returns-in-Some-clause-value

@@ -1,7 +1,6 @@
-use Rattle.std.proofs.Common.{◌≡◌, ℕ, Option, Some, length, sym, ap, ◌∙◌, subst}
+use Rattle.std.proofs.Common.{◌≡◌, ℕ, Option, Some, sym, ◌∙◌, subst}
 use Rattle.std.specs.Prelude.{IfSome}
 use Rattle.fab_network.specs.declared.network.Drive.TheVariants.{Flop}
-use Rattle.fab_network.specs.declared.network.Source.{Source}
 use Rattle.fab_network.specs.Network.{IsFitSource}
 use Rattle.fab_demand.specs.declared.registers.Span.{Span}
 use Rattle.fab_demand.specs.Search.{asked_of}

@@ -10,8 +10,8 @@ use Rattle.fab_demand.proofs.search.Search.close_other.Goals as goal
 goes_on : (c : goal.After-close_as) (clock : Clock) (given : PointTerns) → IsSearching c.args.network.now clock given c.args.self.now →
     GoesOn c.args.network.now clock given c.args.self.now c.close_as.new.self
 goes_on c clock given searching =
-    let beside = subst (λ (marks : List Bool). IsBeside c.args.network.now c.args.source c.args.part.now marks c.args.other c.in-Some.found) c.deref.ensures.value c.in-Some.ensures in
-    other_goes_on c.args.network.now clock given c.args.self.now c.wait.new.self c.close_as.new.self searching c.requires.points c.args.source c.args.part.now c.requires.tells
+    let beside = subst (λ (marks : List Bool). IsBeside c.args.network.now c.args.together.now marks c.args.other c.in-Some.found) c.deref.ensures.value c.in-Some.ensures in
+    other_goes_on c.args.network.now clock given c.args.self.now c.wait.new.self c.close_as.new.self searching c.requires.points c.args.together.now c.requires.tells
     c.args.other c.in-Some.found beside c.wait.ensures.asked c.wait.ensures.done c.wait.ensures.stack c.wait.ensures.room c.close_as.ensures
 
 pub returns-in-Some-clause-searching : goal.returns-in-Some-clause-searching

@@ -1,6 +1,5 @@
 use Rattle.std.proofs.Common.{◌∙◌, sym, arith}
 use Rattle.fab_demand.specs.Search.{asked_of}
-use Rattle.fab_network.specs.Leading.{bits_of_source}
 use Rattle.fab_demand.proofs.Asking.{asks_both}
 use Rattle.fab_demand.proofs.Beside.{tells_later}
 use Rattle.fab_demand.proofs.search.Search.close_part.Goals as goal
@@ -10,7 +9,7 @@ close_row-requires-clause-points c = c.requires.points ∙ sym c.close_waiting.e
 
 pub close_row-requires-clause-tells : goal.close_row-requires-clause-tells
 close_row-requires-clause-tells c =
-    tells_later (bits_of_source c.args.network.now.trees.items c.args.source) c.args.part.now (asked_of c.args.self.now) (asked_of c.close_waiting.new.self)
+    tells_later c.args.network.now.trees.items c.args.together.now (asked_of c.args.self.now) (asked_of c.close_waiting.new.self)
     c.close_waiting.ensures.more c.close_waiting.ensures.above c.requires.tells
 
 pub close_row-requires-clause-searching : goal.close_row-requires-clause-searching

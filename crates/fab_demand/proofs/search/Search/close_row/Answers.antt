@@ -1,6 +1,5 @@
 use Rattle.std.proofs.Common.{◌∙◌, sym, arith}
 use Rattle.fab_demand.specs.Search.{asked_of}
-use Rattle.fab_network.specs.Leading.{bits_of_source}
 use Rattle.fab_demand.proofs.Asking.{asks_both, asks_same}
 use Rattle.fab_demand.proofs.Beside.{tells_later}
 use Rattle.fab_demand.proofs.search.Search.close_row.Goals as goal
@@ -13,7 +12,7 @@ close_other-requires-clause-points c = c.requires.points ∙ sym c.loop-other.in
 
 pub close_other-requires-clause-tells : goal.close_other-requires-clause-tells
 close_other-requires-clause-tells c =
-    tells_later (bits_of_source c.args.network.now.trees.items c.args.source) c.args.part.now (asked_of c.args.self.now) (asked_of c.loop-other.self)
+    tells_later c.args.network.now.trees.items c.args.together.now (asked_of c.args.self.now) (asked_of c.loop-other.self)
     c.loop-other.invariant.more c.loop-other.invariant.above c.requires.tells
 
 pub close_other-requires-clause-searching : goal.close_other-requires-clause-searching

@@ -2,7 +2,6 @@ use Rattle.std.proofs.Common.{◌∙◌, sym, arith}
 use Rattle.fab_compiled.specs.Leading.{PointTerns}
 use Rattle.fab_network.specs.declared.network.Clock.{Clock}
 use Rattle.fab_demand.specs.Search.{asked_of, IsSearching}
-use Rattle.fab_network.specs.Leading.{bits_of_source}
 use Rattle.fab_demand.proofs.Asking.{asks_both, asks_same, top, top_inside, GoesOn}
 use Rattle.fab_demand.proofs.Beside.{last_goes_on, tells_later}
 use Rattle.fab_demand.proofs.search.Search.close_waiting.Goals as goal
@@ -32,9 +31,8 @@ close_as-requires-clause-within c =
 goes_on : (c : goal.After-close_as) (clock : Clock) (given : PointTerns) → IsSearching c.args.network.now clock given c.waiting.self →
     GoesOn c.args.network.now clock given c.waiting.self c.close_as.new.self
 goes_on c clock given searching =
-    last_goes_on c.args.network.now clock given c.waiting.self c.close_as.new.self searching (c.requires.points ∙ sym c.waiting.invariant.more.long) c.args.source
-    c.args.part.now
-    (tells_later (bits_of_source c.args.network.now.trees.items c.args.source) c.args.part.now (asked_of c.args.self.now) (asked_of c.waiting.self)
+    last_goes_on c.args.network.now clock given c.waiting.self c.close_as.new.self searching (c.requires.points ∙ sym c.waiting.invariant.more.long) c.args.together.now
+    (tells_later c.args.network.now.trees.items c.args.together.now (asked_of c.args.self.now) (asked_of c.waiting.self)
     c.waiting.invariant.more c.waiting.invariant.above c.requires.tells)
     c.in-Some.last (sym c.in-Some.ensures) c.in-Some-found_at.found c.in-Some-found_at.ensures c.close_as.ensures
 

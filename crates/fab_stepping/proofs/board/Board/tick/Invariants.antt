@@ -1,5 +1,4 @@
 use Rattle.std.proofs.Common.{length}
-use Rattle.fab_compiled.specs.Terns.{seen}
 use Rattle.fab_network.specs.Sharing.{IsShared}
 use Rattle.fab_stepping.specs.Boards.{shown_on}
 use Rattle.fab_stepping.proofs.Ticking.{TickedSoFar}
