@@ -5,6 +5,9 @@ pub mod Writing
 pub mod Ticking
 pub mod Offering
 pub mod Telling
+pub mod Enabling
+pub mod Grouping
+pub mod Watching
 pub mod Stepping
 pub mod Shifting
 pub mod Chained

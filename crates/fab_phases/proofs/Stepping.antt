@@ -23,7 +23,8 @@ use Rattle.fab_demand.specs.Demand.{IsAsked, IsKept, IsKeptBy, ShowsLeast}
 use Rattle.fab_phases.specs.Lists.{HasOne}
 use Rattle.fab_phases.specs.Loading.{AreLoading, IsInRuns}
 use Rattle.fab_phases.specs.Words.{AreLoadSteps, IsLeft, IsLoadingAt, IsLoadStep, IsOffered, word_bits}
-use Rattle.fab_phases.specs.inner.Ticks.{AreOnWay, IsLoadTick, IsSet, LeavesFlops, LeavesPoints, LeavesRuns, Tick}
+use Rattle.fab_phases.specs.inner.Enables.{LeavesFlopsOf}
+use Rattle.fab_phases.specs.inner.Ticks.{AreOnWay, IsLoadTick, IsSet, LeavesPoints, LeavesRuns, Tick}
 use Rattle.fab_phases.specs.declared.loading.Loading.{Loading}
 
 -- ---- what is given while a piece is offered
@@ -79,6 +80,8 @@ tick_of network base asked loads given t is_asked kept solves = record {
   before = given;
   t = t;
   possible = is_asked.sound given t kept solves;
+  flops = λ point next drives.
+      solves point (slice_get_within network.drives.items point (Flop Loader next) drives) ∙ ap (asked_by network.trees.items (given point) t) drives;
   latches = latch_solved network given t solves;
 }
 
@@ -157,13 +160,13 @@ pub record HasTicked (network : Network) (loading : Loading) (loads : List Bool)
 pub has_ticked : (network : Network) (loading : Loading) (loads : List Bool) (first width : ℕ) (demand after : Asked) (one two new : List Tern) →
     ((given : PointTerns) → (t : PointTerns) × IsLeast network.trees.items network.drives.items given t) → IsLoadingAt network loading loads first width demand one →
     ((asked : Asked) → DiffersInOwn asked demand → DiffersInOwn asked after) → ShowsLeast network one demand after →
-    LeavesFlops network loading.flops.items after one two → LeavesRuns network loading.runs.items after two new → HasTicked network loading loads first width after one new
+    LeavesFlopsOf network loading.flops.items after one two → LeavesRuns network loading.runs.items after two new → HasTicked network loading loads first width after one new
 unfolding tick_of
 has_ticked network loading loads first width demand after one two new solvable at stays shows flops runs =
     let solved = solvable (kept_tern one) in
     let tick = tick_of network at.base at.asked loads (kept_tern one) solved.0 at.is_asked at.kept solved.1.solves in
     let shown = shows Loader at.base at.asked at.is_asked at.differs (kept_tern one) solved.0 at.kept (λ p listed. refl) solved.1 in
-    let first_left = flops tick shown at.gathered.flops (λ p. inl refl) in
+    let first_left = flops tick shown (stays at.asked at.differs) at.gathered.flops (λ p. inl refl) in
     let then_left = runs tick shown at.gathered.runs first_left.on_way in
     record {
       loading_at = record {

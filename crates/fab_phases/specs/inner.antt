@@ -2,3 +2,4 @@
 pub mod Chain
 pub mod Gathering
 pub mod Ticks
+pub mod Enables

@@ -3,8 +3,12 @@
 
 mod chain;
 mod cycles;
+mod enables;
 mod gathering;
+mod groups;
 mod loading;
+mod ticks;
+mod watched;
 mod words;
 
 pub use cycles::{ask_for_run, cycle, feed, open};

@@ -1,23 +1,24 @@
 //! How words are loaded, whole or bit by bit.
 
-ghost use Rattle.std.specs.Prelude.{◌≡◌, ◌+◌, ◌<◌, ◌≤◌, ℕ, [], ◌∷◌, Bool, List, length, map, IsTrue, Some};
+ghost use Rattle.std.specs.Prelude.{◌≡◌, ◌+◌, ◌<◌, ◌≤◌, ℕ, [], ◌∷◌, Bool, List, length, map, IfSome, IsTrue, Some};
 ghost use Rattle.std.specs.List.{flat_map};
 ghost use Rattle.fab_meaning.specs.Loading.{single_bits};
-ghost use Rattle.fab_ternary.specs.Terns.{plain_tern};
 ghost use Rattle.fab_network.specs.Network.{AreFit};
 ghost use Rattle.fab_network.specs.Passes.{kept_tern};
 ghost use Rattle.fab_phases.specs.Loading.{IsSolvable};
 ghost use Rattle.fab_phases.specs.Words.{AreLoadSteps, IsLoadingAt, IsLoadStep, IsOffered, word_bits};
-ghost use Rattle.fab_phases.specs.inner.Ticks.{AreFitFlops, AreFitLatches, AreFitRuns, IsFitRun, IsLoadTick, LeavesFlops, LeavesLatches, LeavesRun, LeavesRuns};
+ghost use Rattle.fab_phases.specs.inner.Enables.{IsWatching};
 
 use crate::chain::move_chain;
-use crate::loading::{Latch, LoadedFlop, Loading, Run};
-use fab_compiled::through;
+use crate::loading::Loading;
+use crate::ticks::tick;
+use crate::watched::{Watching, tick_watched, watching_of};
 use fab_demand::Demand;
-use fab_network::{Network, Shared, evaluate};
+use fab_network::Network;
 use fab_ternary::Tern;
 
-/// Loads words one by one. Inputs take the bits of a word, from the first of their points on.
+/// Loads words one by one, and looks after each only at what reads something that has changed. Inputs take the bits of a word, from the
+/// first of their points on.
 pub fn load_words(
     network: &Network,
     loading: &Loading,
@@ -35,8 +36,9 @@ pub fn load_words(
     ensures steps { (loads : List Bool) → IsLoadingAt network.now loading.now loads first 32 demand.old given.old →
         AreLoadSteps network.now loads first (map word_bits words.now) (kept_tern given.old) (kept_tern given.new) }
 {
+    let mut watching = watching_of(*network.trees.allocator(), network, loading, demand);
     for word in words {
-        load_word(network, loading, first, *word, demand, given);
+        load_word(network, loading, first, *word, &mut watching, demand, given);
     }
 }
 
@@ -46,6 +48,7 @@ fn load_word(
     loading: &Loading,
     first: u32,
     word: u32,
+    watching: &mut Option<Watching>,
     demand: &mut Demand,
     given: &mut [Tern],
 )
@@ -54,14 +57,19 @@ fn load_word(
     requires points { length network.now.drives.items ≡ length demand.old.leads }
     requires given { length given.old ≡ length demand.old.leads }
     requires loading { (loads : List Bool) × IsLoadingAt network.now loading.now loads first 32 demand.old given.old }
+    requires watching { IfSome watching.old (IsWatching network.now loading.now demand.old) }
     ensures points { length demand.new.leads ≡ length demand.old.leads }
     ensures loading { (loads : List Bool) → IsLoadingAt network.now loading.now loads first 32 demand.old given.old →
         IsLoadingAt network.now loading.now loads first 32 demand.new given.new }
     ensures step { (loads : List Bool) → IsLoadingAt network.now loading.now loads first 32 demand.old given.old →
         IsLoadStep network.now loads first (word_bits word) (kept_tern given.old) (kept_tern given.new) }
+    ensures watching { IfSome watching.new (IsWatching network.now loading.now demand.new) }
 {
     offer(first, word, given);
-    tick(network, loading, demand, given);
+    match watching {
+        Some(watching) => tick_watched(network, loading, watching, demand, given),
+        None => tick(network, loading, demand, given),
+    }
 }
 
 /// Loads words bit by bit, each with its last bit first. An input of one point takes the bits. A chain behind it is moved by all bits at once,
@@ -172,86 +180,4 @@ pub fn offer_bit(point: u32, bit: bool, given: &mut [Tern])
     ensures { IsOffered point (bit ∷ []) (kept_tern given.old) (kept_tern given.new) }
 {
     given[point as usize] = Tern::known(bit);
-}
-
-// ---- a tick
-
-// A tick of the loader's clock, while a piece is offered.
-fn tick(network: &Network, loading: &Loading, demand: &mut Demand, given: &mut [Tern])
-    requires fit { AreFit network.now.trees.items network.now.drives.items }
-    requires solvable { IsSolvable network.now }
-    requires points { length network.now.drives.items ≡ length demand.old.leads }
-    requires given { length given.old ≡ length demand.old.leads }
-    requires loading { (loads : List Bool) × (first : ℕ) × (width : ℕ) × IsLoadingAt network.now loading.now loads first width demand.old given.old }
-    ensures points { length demand.new.leads ≡ length demand.old.leads }
-    ensures loading { (loads : List Bool) (first width : ℕ) → IsLoadingAt network.now loading.now loads first width demand.old given.old →
-        IsLoadingAt network.now loading.now loads first width demand.new given.new }
-    ensures ticks { (loads : List Bool) (first width : ℕ) → IsLoadingAt network.now loading.now loads first width demand.old given.old →
-        IsLoadTick network.now loads (kept_tern given.old) (kept_tern given.new) }
-{
-    demand.settle(network, given);
-    take_flops(network, &loading.flops, demand, given);
-    take_runs(network, &loading.runs, demand, given);
-}
-
-// Flip-flops take their next values.
-fn take_flops(network: &Network, flops: &[LoadedFlop], demand: &Demand, given: &mut [Tern])
-    requires points { length network.now.drives.items ≡ length demand.now.leads }
-    requires given { length given.old ≡ length demand.now.leads }
-    requires flops { AreFitFlops network.now flops.now }
-    ensures { LeavesFlops network.now flops.now demand.now given.old given.new }
-{
-    let view = demand.view();
-    let mut shared = Shared::new(*network.trees.allocator());
-    for flop in flops {
-        given[flop.point as usize] = shared.value(&network.trees, flop.next, &view);
-    }
-}
-
-// Latches take what their points have. Where a gate is 0, they hold what they held.
-fn take_runs(network: &Network, runs: &[Run], demand: &Demand, given: &mut [Tern])
-    requires points { length network.now.drives.items ≡ length demand.now.leads }
-    requires given { length given.old ≡ length demand.now.leads }
-    requires runs { AreFitRuns network.now runs.now }
-    ensures { LeavesRuns network.now runs.now demand.now given.old given.new }
-{
-    for run in runs {
-        take_run(network, run, demand, given);
-    }
-}
-
-// The latches of a run.
-fn take_run(network: &Network, run: &Run, demand: &Demand, given: &mut [Tern])
-    requires points { length network.now.drives.items ≡ length demand.now.leads }
-    requires given { length given.old ≡ length demand.now.leads }
-    requires run { IsFitRun network.now run.now }
-    ensures { LeavesRun network.now run.now demand.now given.old given.new }
-{
-    let gate = evaluate(&network.trees, run.gate, &demand.view());
-    match gate {
-        Tern::No => {}
-        Tern::Yes | Tern::Open => take_latches(network, gate, &run.latches, demand, given),
-    }
-}
-
-// Latches with a gate of this value.
-fn take_latches(
-    network: &Network,
-    gate: Tern,
-    latches: &[Latch],
-    demand: &Demand,
-    given: &mut [Tern],
-)
-    requires points { length network.now.drives.items ≡ length demand.now.leads }
-    requires given { length given.old ≡ length demand.now.leads }
-    requires latches { AreFitLatches network.now latches.now }
-    ensures { LeavesLatches network.now (plain_tern gate) latches.now demand.now given.old given.new }
-{
-    let view = demand.view();
-    let mut shared = Shared::new(*network.trees.allocator());
-    for latch in latches {
-        let point = latch.point as usize;
-        let latched = shared.value(&network.trees, latch.latched, &view);
-        given[point] = through(gate, latched, given[point]);
-    }
 }

@@ -55,6 +55,8 @@ pub record Tick (network : Network) : Type 0 where
   pub before : PointTerns
   pub t : PointTerns
   pub possible : IsPossible asked t
+  -- a flip-flop has what it held
+  pub flops : (point : ℕ) (next : Source) → slice_get network.drives.items point ≡ Some (Flop Loader next) → t point ≡ before point
   -- a latch has its data, or what it held before
   pub latches : (point : ℕ) (gate latched : Source) → slice_get network.drives.items point ≡ Some (Hold gate latched) →
       t point ≡ through (source_tern network.trees.items t gate) (source_tern network.trees.items t latched) (before point)

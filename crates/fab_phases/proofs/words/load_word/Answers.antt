@@ -23,14 +23,37 @@ tick-requires-clause-loading c =
           (word_long c.args.word) c.offer.ensures c.requires.loading.1,
     )
 
-pub returns-clause-loading : goal.returns-clause-loading
-returns-clause-loading c loads at =
+pub tick_watched-requires-clause-loading : goal.tick_watched-requires-clause-loading
+tick_watched-requires-clause-loading c =
+    let loads = c.requires.loading.0 in (
+      loads,
+      c.args.first,
+      32,
+      still_loading c.args.network.now c.args.loading.now loads c.args.first 32 (word_bits c.args.word) c.args.demand.now c.args.given.now c.offer.new.given
+          (word_long c.args.word) c.offer.ensures c.requires.loading.1,
+    )
+
+pub returns-in-Some-clause-loading : goal.returns-in-Some-clause-loading
+returns-in-Some-clause-loading c loads at =
+    c.tick_watched.ensures.loading loads c.args.first 32
+    (still_loading c.args.network.now c.args.loading.now loads c.args.first 32 (word_bits c.args.word) c.args.demand.now c.args.given.now c.offer.new.given
+    (word_long c.args.word) c.offer.ensures at)
+
+pub returns-in-Some-clause-step : goal.returns-in-Some-clause-step
+returns-in-Some-clause-step c loads at =
+    step_of c.args.network.now loads c.args.first (word_bits c.args.word) (kept_tern c.args.given.now) (kept_tern c.offer.new.given) (kept_tern c.tick_watched.new.given) c.offer.ensures
+    (c.tick_watched.ensures.ticks loads c.args.first 32
+    (still_loading c.args.network.now c.args.loading.now loads c.args.first 32 (word_bits c.args.word) c.args.demand.now c.args.given.now c.offer.new.given
+    (word_long c.args.word) c.offer.ensures at))
+
+pub returns-in-None-clause-loading : goal.returns-in-None-clause-loading
+returns-in-None-clause-loading c loads at =
     c.tick.ensures.loading loads c.args.first 32
     (still_loading c.args.network.now c.args.loading.now loads c.args.first 32 (word_bits c.args.word) c.args.demand.now c.args.given.now c.offer.new.given
     (word_long c.args.word) c.offer.ensures at)
 
-pub returns-clause-step : goal.returns-clause-step
-returns-clause-step c loads at =
+pub returns-in-None-clause-step : goal.returns-in-None-clause-step
+returns-in-None-clause-step c loads at =
     step_of c.args.network.now loads c.args.first (word_bits c.args.word) (kept_tern c.args.given.now) (kept_tern c.offer.new.given) (kept_tern c.tick.new.given) c.offer.ensures
     (c.tick.ensures.ticks loads c.args.first 32
     (still_loading c.args.network.now c.args.loading.now loads c.args.first 32 (word_bits c.args.word) c.args.demand.now c.args.given.now c.offer.new.given

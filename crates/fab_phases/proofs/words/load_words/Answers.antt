@@ -1,5 +1,5 @@
-use Rattle.std.proofs.Common.{◌∙◌, Bool, List, ap, map, sym, subst, take, get_or}
-use Rattle.std.proofs.lemmas.List.{take_more}
+use Rattle.std.proofs.Common.{◌∙◌, ℕ, Bool, List, arith, ap, map, sym, subst, take, get_or}
+use Rattle.std.proofs.lemmas.List.{take_all, take_more}
 use Rattle.fab_network.specs.Passes.{kept_tern}
 use Rattle.fab_phases.specs.Words.{AreLoadSteps, word_bits}
 use Rattle.fab_phases.proofs.Stepping.{steps_more, words_more}
@@ -9,6 +9,7 @@ pub loop-word-preserved : goal.loop-word-preserved
 loop-word-preserved c = record {
   points = c.load_word.ensures.points ∙ c.loop-word.invariant.points;
   loading = λ loads at. c.load_word.ensures.loading loads (c.loop-word.invariant.loading loads at);
+  watching = c.load_word.ensures.watching;
   steps = λ loads at.
       let words = c.args.words.now in
       let word = get_or words c.loop-word.word-index 0 in
@@ -18,3 +19,11 @@ loop-word-preserved c = record {
       (steps_more c.args.network.now loads c.args.first (map word_bits before) (word_bits word) (kept_tern c.args.given.now) (kept_tern c.loop-word.given)
       (kept_tern c.load_word.new.given) (c.loop-word.invariant.steps loads at) (c.load_word.ensures.step loads (c.loop-word.invariant.loading loads at)));
 }
+
+pub watching_of-watching-requires-clause-loading : goal.watching_of-watching-requires-clause-loading
+watching_of-watching-requires-clause-loading c = (c.requires.loading.0, c.args.first, 32, c.args.given.now, c.requires.loading.1)
+
+pub returns-clause-steps : goal.returns-clause-steps
+returns-clause-steps c loads at =
+    subst (λ (words : List ℕ). AreLoadSteps c.args.network.now loads c.args.first (map word_bits words) (kept_tern c.args.given.now) (kept_tern c.loop-word.given))
+    (take_all c.loop-word.word-index c.args.words.now (omega arith)) (c.loop-word.invariant.steps loads at)

@@ -5,7 +5,7 @@ use Rattle.fab_compiled.specs.Terns.{seen}
 use Rattle.fab_compiled.specs.declared.tree.Tree.{Tree}
 use Rattle.fab_network.specs.Sharing.{IsShared}
 use Rattle.fab_phases.proofs.Ticking.{eval_at, fit_at, flop_step, flops_done, no_flop}
-use Rattle.fab_phases.proofs.words.take_flops.Goals as goal
+use Rattle.fab_phases.proofs.ticks.take_flops.Goals as goal
 
 pub value-requires-clause-fit : goal.value-requires-clause-fit
 value-requires-clause-fit c =

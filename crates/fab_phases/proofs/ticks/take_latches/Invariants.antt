@@ -3,7 +3,7 @@ use Rattle.fab_compiled.specs.Terns.{seen}
 use Rattle.fab_ternary.specs.Terns.{plain_tern}
 use Rattle.fab_network.specs.Sharing.{IsShared}
 use Rattle.fab_phases.proofs.Ticking.{LatchesSoFar}
-use Rattle.fab_phases.proofs.words.take_latches.Given as goal
+use Rattle.fab_phases.proofs.ticks.take_latches.Given as goal
 
 abbrev pub invariant-loop-latch : goal.invariant-loop-latch
 invariant-loop-latch l = record {

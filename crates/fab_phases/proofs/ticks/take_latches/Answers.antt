@@ -8,7 +8,7 @@ use Rattle.fab_compiled.specs.Terns.{seen}
 use Rattle.fab_compiled.specs.declared.tree.Tree.{Tree}
 use Rattle.fab_network.specs.Sharing.{IsShared}
 use Rattle.fab_phases.proofs.Ticking.{eval_at, fit_at, kept_get, latch_step, latches_done, no_latch}
-use Rattle.fab_phases.proofs.words.take_latches.Goals as goal
+use Rattle.fab_phases.proofs.ticks.take_latches.Goals as goal
 
 pub value-latched-requires-clause-fit : goal.value-latched-requires-clause-fit
 value-latched-requires-clause-fit c =

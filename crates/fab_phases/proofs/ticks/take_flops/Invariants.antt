@@ -2,7 +2,7 @@ use Rattle.std.proofs.Common.{length}
 use Rattle.fab_compiled.specs.Terns.{seen}
 use Rattle.fab_network.specs.Sharing.{IsShared}
 use Rattle.fab_phases.proofs.Ticking.{FlopsSoFar}
-use Rattle.fab_phases.proofs.words.take_flops.Given as goal
+use Rattle.fab_phases.proofs.ticks.take_flops.Given as goal
 
 abbrev pub invariant-loop-flop : goal.invariant-loop-flop
 invariant-loop-flop l = record {

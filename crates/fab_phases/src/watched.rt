@@ -1,0 +1,200 @@
+//! Words are loaded where only that is looked at again which reads what has changed.
+
+ghost use Rattle.std.specs.Prelude.{◌≡◌, ◌+◌, ◌<◌, ◌≤◌, ℕ, Bool, List, length, map, IfOk, IfSome};
+ghost use Rattle.fab_ternary.specs.Terns.{plain_tern};
+ghost use Rattle.fab_compiled.specs.Terns.{seen};
+ghost use Rattle.fab_network.specs.Network.{AreFit};
+ghost use Rattle.fab_network.specs.Passes.{kept_tern};
+ghost use Rattle.fab_changes.specs.Fanout.{ArePlaces};
+ghost use Rattle.fab_phases.specs.Lists.{Each};
+ghost use Rattle.fab_phases.specs.Loading.{IsSolvable};
+ghost use Rattle.fab_phases.specs.Words.{IsLoadingAt};
+ghost use Rattle.fab_phases.specs.inner.Enables.{enable_tern, AreEnables, AreEnablesOf, AreHolding, AreNewlyWatched, EnableGroups, EnableRuns, IsFitEnable, IsHolding, IsWatching, LeavesGroup, LeavesGroups};
+ghost use Rattle.fab_phases.specs.inner.Ticks.{AreFitRuns, IsLoadTick, LeavesRuns};
+
+use crate::enables::{Enable, enabled, watch};
+use crate::groups::{Group, groups_of};
+use crate::loading::{Loading, Run};
+use crate::ticks::{take_flops, take_run};
+use fab_base::Memory;
+use fab_changes::{Changes, Fanout, Places};
+use fab_demand::Demand;
+use fab_network::Network;
+use fab_ternary::Tern;
+use std::alloc::Global;
+
+/// How many points of expressions may be watched for each point that stands for itself.
+const MOST_READ: usize = 16;
+
+/// What is looked at again after a word: the points that stand for themselves, and the enables of the flip-flops and latches that loading sets.
+#[derive(Drop)]
+pub struct Watching {
+    pub groups: Vec<Group>,
+    /// Those of the groups, and behind them those of the runs of latches.
+    pub enables: Vec<Enable>,
+    pub changes: Changes,
+    /// The readers are the enables.
+    pub watches: Fanout,
+}
+
+// ---- what is watched
+
+/// What is to be watched while words are loaded. `None` where it does not pay, or there is no memory.
+pub fn watching_of(
+    alloc: Global,
+    network: &Network,
+    loading: &Loading,
+    demand: &Demand,
+) -> Option<Watching>
+    requires fit { AreFit network.now.trees.items network.now.drives.items }
+    requires points { length network.now.drives.items ≡ length demand.now.leads }
+    requires loading { (loads : List Bool) × (first : ℕ) × (width : ℕ) × (given : List Tern) ×
+        IsLoadingAt network.now loading.now loads first width demand.now given }
+    ensures { IfSome result (IsWatching network.now loading.now demand.now) }
+{
+    let groups = groups_of(alloc, network, demand, &loading.flops).ok()?;
+    let enables = enables_of(alloc, &groups, &loading.runs).ok()?;
+    let places = Places::new(alloc, demand)?;
+    let changes = Changes::new(alloc, network, &places)?;
+    let watches = watches_of(alloc, network, &places, &enables)?;
+    Some(Watching {
+        groups,
+        enables,
+        changes,
+        watches,
+    })
+}
+
+// The enables of groups, and behind them those of runs.
+fn enables_of(alloc: Global, groups: &[Group], runs: &[Run]) -> Result<Vec<Enable>, Memory>
+    ensures { IfOk result (λ enables. AreEnablesOf groups.now runs.now enables.items) }
+{
+    let mut enables = group_enables(alloc, groups)?;
+    for run in runs {
+        enables.push(Enable::Gate(run.gate))?;
+    }
+    Ok(enables)
+}
+
+// The enables of groups.
+fn group_enables(alloc: Global, groups: &[Group]) -> Result<Vec<Enable>, Memory>
+    ensures { IfOk result (λ enables. enables.items ≡ map (λ (group : Group). group.enable) groups.now) }
+{
+    let enables = groups.iter().map(|group| group.enable).collect(alloc)?;
+    Ok(enables)
+}
+
+// Watches all points that enables read. They are stale at first.
+fn watches_of(
+    alloc: Global,
+    network: &Network,
+    places: &Places,
+    enables: &[Enable],
+) -> Option<Fanout>
+    requires places { ArePlaces places.now }
+    requires points { length network.now.drives.items ≡ length places.now.leads.now }
+    requires fit { Each enables.now (IsFitEnable network.now) }
+    ensures { IfSome result (λ watches. AreNewlyWatched network.now places.now.own.now places.now.leads.now enables.now watches) }
+{
+    if enables.len() > u32::MAX as usize {
+        return None;
+    }
+    let points = places.own.len();
+    let room = points.saturating_mul(MOST_READ);
+    let mut watches = Fanout::new(alloc, points, enables.len(), room)?;
+    for (number, enable) in enables.iter().enumerate() {
+        watch(network, places, *enable, number as u32, &mut watches)?;
+    }
+    Some(watches)
+}
+
+// ---- a tick
+
+/// A tick of the loader's clock, while a piece is offered.
+pub fn tick_watched(
+    network: &Network,
+    loading: &Loading,
+    watching: &mut Watching,
+    demand: &mut Demand,
+    given: &mut [Tern],
+)
+    requires fit { AreFit network.now.trees.items network.now.drives.items }
+    requires solvable { IsSolvable network.now }
+    requires points { length network.now.drives.items ≡ length demand.old.leads }
+    requires given { length given.old ≡ length demand.old.leads }
+    requires loading { (loads : List Bool) × (first : ℕ) × (width : ℕ) × IsLoadingAt network.now loading.now loads first width demand.old given.old }
+    requires watching { IsWatching network.now loading.now demand.old watching.old }
+    ensures points { length demand.new.leads ≡ length demand.old.leads }
+    ensures loading { (loads : List Bool) (first width : ℕ) → IsLoadingAt network.now loading.now loads first width demand.old given.old →
+        IsLoadingAt network.now loading.now loads first width demand.new given.new }
+    ensures ticks { (loads : List Bool) (first width : ℕ) → IsLoadingAt network.now loading.now loads first width demand.old given.old →
+        IsLoadTick network.now loads (kept_tern given.old) (kept_tern given.new) }
+    ensures watching { IsWatching network.now loading.now demand.new watching.new }
+{
+    let watches = &mut watching.watches;
+    let enables = &watching.enables;
+    watching.changes.settle(network, given, demand, watches);
+    take_groups(network, &watching.groups, enables, demand, watches, given);
+    take_enabled(network, &loading.runs, enables, demand, watches, given);
+}
+
+// Flip-flops take their next values, group by group.
+fn take_groups(
+    network: &Network,
+    groups: &[Group],
+    enables: &[Enable],
+    demand: &Demand,
+    watches: &mut Fanout,
+    given: &mut [Tern],
+)
+    requires points { length network.now.drives.items ≡ length demand.now.leads }
+    requires given { length given.old ≡ length demand.now.leads }
+    requires groups { AreHolding network.now demand.now groups.now }
+    requires of { EnableGroups groups.now enables.now }
+    requires enables { AreEnables network.now demand.now enables.now watches.old }
+    ensures leaves { LeavesGroups network.now groups.now demand.now given.old given.new }
+    ensures enables { AreEnables network.now demand.now enables.now watches.new }
+{
+    for (number, group) in groups.iter().enumerate() {
+        let enable = enabled(network, enables, number, demand, watches);
+        take_group(network, enable, group, demand, given);
+    }
+}
+
+// The flip-flops of a group whose enable has this value.
+fn take_group(network: &Network, enable: Tern, group: &Group, demand: &Demand, given: &mut [Tern])
+    requires points { length network.now.drives.items ≡ length demand.now.leads }
+    requires given { length given.old ≡ length demand.now.leads }
+    requires group { IsHolding network.now demand.now group.now }
+    requires enable { plain_tern enable ≡ enable_tern network.now.trees.items (seen demand.now.terns demand.now.leads) group.now.enable }
+    ensures { LeavesGroup network.now group.now demand.now given.old given.new }
+{
+    match enable {
+        Tern::No => {}
+        Tern::Yes | Tern::Open => take_flops(network, &group.flops, demand, given),
+    }
+}
+
+// Latches take what their points have, run by run.
+fn take_enabled(
+    network: &Network,
+    runs: &[Run],
+    enables: &[Enable],
+    demand: &Demand,
+    watches: &mut Fanout,
+    given: &mut [Tern],
+)
+    requires points { length network.now.drives.items ≡ length demand.now.leads }
+    requires given { length given.old ≡ length demand.now.leads }
+    requires runs { AreFitRuns network.now runs.now }
+    requires of { EnableRuns runs.now enables.now }
+    requires enables { AreEnables network.now demand.now enables.now watches.old }
+    ensures leaves { LeavesRuns network.now runs.now demand.now given.old given.new }
+    ensures enables { AreEnables network.now demand.now enables.now watches.new }
+{
+    let before = enables.len() - runs.len();
+    for (place, run) in runs.iter().enumerate() {
+        let gate = enabled(network, enables, before + place, demand, watches);
+        take_run(network, gate, run, demand, given);
+    }
+}
