@@ -5,12 +5,10 @@ ghost use Rattle.std.specs.Prelude.{◌≡◌, ◌<◌, ◌≤◌, ◌^◌, ℕ,
 ghost use Rattle.fab_syntax.specs.declared.tree.Op.TheVariants as ops;
 ghost use Rattle.fab_meaning.specs.Value.{bit_at};
 ghost use Rattle.fab_systems_laws.specs.Ternary.{known as known_tern};
-ghost use Rattle.fab_ternary.specs.Terns.{is_known};
 ghost use Rattle.fab_ternary_laws.specs.Operators.{same_terns, tern_at, tern_operated};
 ghost use Rattle.fab_compiled.specs.Terns.{IsView};
 ghost use Rattle.fab_compiled.specs.Trees.{tree_width, IsMade};
 ghost use Rattle.fab_compiled.specs.Evaluation.{value_seen, IsWithin};
-ghost use Rattle.fab_network.specs.Passes.{kept_tern};
 ghost use Rattle.fab_stepping.specs.Boards.{LeadToThemselves};
 ghost use Rattle.fab_stepping.specs.inner.Known.{bits_seen, AreAllKnown, IsLastApart};
 
@@ -43,34 +41,15 @@ pub(crate) fn known_bit(tree: &Tree, bit: u64, first: usize, view: &View) -> boo
         }
         Tree::Not(inner) => !known_bit(inner, bit, first, view),
         Tree::And(left, right) => {
-            let left = known_bit(left, bit, first, view);
-            let right = known_bit(right, bit, first, view);
-            left && right
+            known_bit(left, bit, first, view) & known_bit(right, bit, first, view)
         }
         Tree::Or(left, right) => {
-            let left = known_bit(left, bit, first, view);
-            let right = known_bit(right, bit, first, view);
-            left || right
+            known_bit(left, bit, first, view) | known_bit(right, bit, first, view)
         }
         Tree::Xor(left, right) => {
-            let left = known_bit(left, bit, first, view);
-            let right = known_bit(right, bit, first, view);
-            left != right
+            known_bit(left, bit, first, view) ^ known_bit(right, bit, first, view)
         }
-        Tree::Equal(width, left, right) => {
-            if are_light(left, right) {
-                is_same(left, right, *width, first, view)
-            } else {
-                is_one(tree, bit, first, view)
-            }
-        }
-        Tree::Minus(width, left, right) => {
-            if are_light(left, right) {
-                difference_bit(left, right, *width, bit, first, view)
-            } else {
-                is_one(tree, bit, first, view)
-            }
-        }
+        Tree::Equal(_, _, _) | Tree::Minus(_, _, _) => compared_bit(tree, bit, first, view),
         Tree::Cond(test, yes, no) => {
             if known_bit(test, 0, first, view) {
                 known_bit(yes, bit, first, view)
@@ -78,6 +57,29 @@ pub(crate) fn known_bit(tree: &Tree, bit: u64, first: usize, view: &View) -> boo
                 known_bit(no, bit, first, view)
             }
         }
+    }
+}
+
+// A bit of an equality or a difference, or of another expression.
+fn compared_bit(tree: &Tree, bit: u64, first: usize, view: &View) -> bool
+    requires made { IsMade tree.now }
+    requires view { IsView view.now.terns.now view.now.leads.now }
+    requires few { length view.now.leads.now ≤ 2 ^ 32 }
+    requires own { LeadToThemselves (length view.now.terns.now) view.now.leads.now }
+    requires known { AreAllKnown view.now.terns.now }
+    requires begins { first ≤ length view.now.leads.now }
+    requires inside { IsWithin tree.now first (length view.now.leads.now) }
+    requires within { bit < tree_width tree.now }
+    ensures { known_tern result ≡ tern_at (value_seen view.now.terns.now view.now.leads.now first tree.now) bit }
+{
+    match tree {
+        Tree::Equal(width, left, right) if are_light(left, right) => {
+            is_same(left, right, *width, first, view)
+        }
+        Tree::Minus(width, left, right) if are_light(left, right) => {
+            difference_bit(left, right, *width, bit, first, view)
+        }
+        _ => is_one(tree, bit, first, view),
     }
 }
 

@@ -1,5 +1,4 @@
-use Rattle.std.proofs.Common.{◌≡◌, ◌-◌, ◌<◌, ◌&&◌, ◌||◌, Bool, sym, ap, ap₂, ◌∙◌, subst, arith}
-use Rattle.fab_systems_laws.specs.Ternary.{known}
+use Rattle.std.proofs.Common.{◌≡◌, ◌-◌, ◌<◌, ap, ap₂, ◌∙◌, subst, arith}
 use Rattle.fab_ternary_laws.specs.Operators.{tern_at, inverse, both, either, differs}
 use Rattle.fab_compiled.specs.declared.tree.Tree.{Tree}
 use Rattle.fab_compiled.specs.Trees.{tree_width, IsMade}
@@ -41,8 +40,8 @@ returns-in-Not t c =
     ∙ ap inverse (c.known_bit-in-Not.ensures ∙ ap (λ (x : Tree). tern_at (value x) c.args.bit) c.deref-in-Not.ensures)
     ∙ not_at (value inner) (value c.args.tree.now) c.args.bit (ap value c.in-Not.is) (long_at terns leads c.args.first c.args.tree.now c.args.bit c.requires.made c.requires.within)
 
-pub returns-then-left : goal.returns-then-left
-returns-then-left t c =
+pub returns-in-And : goal.returns-in-And
+returns-in-And t c =
     let terns = c.args.view.now.terns.now in
     let leads = c.args.view.now.leads.now in
     let value = value_seen terns leads c.args.first in
@@ -51,30 +50,13 @@ returns-then-left t c =
     let made : (tree_width left ≡ tree_width right) × IsMade left × IsMade right = subst IsMade c.in-And.is c.requires.made in
     let within : c.args.bit < tree_width left = subst (λ (x : Tree). c.args.bit < tree_width x) c.in-And.is c.requires.within in
     let long = operands_long terns leads c.args.first left right c.args.bit made.0 made.1 made.2 within in
-    ap (λ (b : Bool). known (b && c.known_bit-right.result)) (sym c.if-left.true)
-    ∙ both_is c.known_bit-left.result c.known_bit-right.result
-    ∙ ap₂ both (c.known_bit-left.ensures ∙ ap (λ (x : Tree). tern_at (value x) c.args.bit) c.deref-in-And.ensures)
-    (c.known_bit-right.ensures ∙ ap (λ (x : Tree). tern_at (value x) c.args.bit) c.deref-in-And-2.ensures)
+    both_is c.known_bit-in-And.result c.known_bit-in-And-2.result
+    ∙ ap₂ both (c.known_bit-in-And.ensures ∙ ap (λ (x : Tree). tern_at (value x) c.args.bit) c.deref-in-And.ensures)
+    (c.known_bit-in-And-2.ensures ∙ ap (λ (x : Tree). tern_at (value x) c.args.bit) c.deref-in-And-2.ensures)
     ∙ each_of both (value left) (value right) (value c.args.tree.now) c.args.bit (ap value c.in-And.is) long.0 long.1
 
-pub returns-else-left : goal.returns-else-left
-returns-else-left t c =
-    let terns = c.args.view.now.terns.now in
-    let leads = c.args.view.now.leads.now in
-    let value = value_seen terns leads c.args.first in
-    let left = c.in-And.left.value in
-    let right = c.in-And.right.value in
-    let made : (tree_width left ≡ tree_width right) × IsMade left × IsMade right = subst IsMade c.in-And.is c.requires.made in
-    let within : c.args.bit < tree_width left = subst (λ (x : Tree). c.args.bit < tree_width x) c.in-And.is c.requires.within in
-    let long = operands_long terns leads c.args.first left right c.args.bit made.0 made.1 made.2 within in
-    ap known c.if-left.false ∙ ap (λ (b : Bool). known (b && c.known_bit-right.result)) (sym c.if-left.false)
-    ∙ both_is c.known_bit-left.result c.known_bit-right.result
-    ∙ ap₂ both (c.known_bit-left.ensures ∙ ap (λ (x : Tree). tern_at (value x) c.args.bit) c.deref-in-And.ensures)
-    (c.known_bit-right.ensures ∙ ap (λ (x : Tree). tern_at (value x) c.args.bit) c.deref-in-And-2.ensures)
-    ∙ each_of both (value left) (value right) (value c.args.tree.now) c.args.bit (ap value c.in-And.is) long.0 long.1
-
-pub returns-then-left-2 : goal.returns-then-left-2
-returns-then-left-2 t c =
+pub returns-in-Or : goal.returns-in-Or
+returns-in-Or t c =
     let terns = c.args.view.now.terns.now in
     let leads = c.args.view.now.leads.now in
     let value = value_seen terns leads c.args.first in
@@ -83,26 +65,9 @@ returns-then-left-2 t c =
     let made : (tree_width left ≡ tree_width right) × IsMade left × IsMade right = subst IsMade c.in-Or.is c.requires.made in
     let within : c.args.bit < tree_width left = subst (λ (x : Tree). c.args.bit < tree_width x) c.in-Or.is c.requires.within in
     let long = operands_long terns leads c.args.first left right c.args.bit made.0 made.1 made.2 within in
-    ap known c.if-left-2.true ∙ ap (λ (b : Bool). known (b || c.known_bit-right-in-Or.result)) (sym c.if-left-2.true)
-    ∙ either_is c.known_bit-left-in-Or.result c.known_bit-right-in-Or.result
-    ∙ ap₂ either (c.known_bit-left-in-Or.ensures ∙ ap (λ (x : Tree). tern_at (value x) c.args.bit) c.deref-in-Or.ensures)
-    (c.known_bit-right-in-Or.ensures ∙ ap (λ (x : Tree). tern_at (value x) c.args.bit) c.deref-in-Or-2.ensures)
-    ∙ each_of either (value left) (value right) (value c.args.tree.now) c.args.bit (ap value c.in-Or.is) long.0 long.1
-
-pub returns-else-left-2 : goal.returns-else-left-2
-returns-else-left-2 t c =
-    let terns = c.args.view.now.terns.now in
-    let leads = c.args.view.now.leads.now in
-    let value = value_seen terns leads c.args.first in
-    let left = c.in-Or.left.value in
-    let right = c.in-Or.right.value in
-    let made : (tree_width left ≡ tree_width right) × IsMade left × IsMade right = subst IsMade c.in-Or.is c.requires.made in
-    let within : c.args.bit < tree_width left = subst (λ (x : Tree). c.args.bit < tree_width x) c.in-Or.is c.requires.within in
-    let long = operands_long terns leads c.args.first left right c.args.bit made.0 made.1 made.2 within in
-    ap (λ (b : Bool). known (b || c.known_bit-right-in-Or.result)) (sym c.if-left-2.false)
-    ∙ either_is c.known_bit-left-in-Or.result c.known_bit-right-in-Or.result
-    ∙ ap₂ either (c.known_bit-left-in-Or.ensures ∙ ap (λ (x : Tree). tern_at (value x) c.args.bit) c.deref-in-Or.ensures)
-    (c.known_bit-right-in-Or.ensures ∙ ap (λ (x : Tree). tern_at (value x) c.args.bit) c.deref-in-Or-2.ensures)
+    either_is c.known_bit-in-Or.result c.known_bit-in-Or-2.result
+    ∙ ap₂ either (c.known_bit-in-Or.ensures ∙ ap (λ (x : Tree). tern_at (value x) c.args.bit) c.deref-in-Or.ensures)
+    (c.known_bit-in-Or-2.ensures ∙ ap (λ (x : Tree). tern_at (value x) c.args.bit) c.deref-in-Or-2.ensures)
     ∙ each_of either (value left) (value right) (value c.args.tree.now) c.args.bit (ap value c.in-Or.is) long.0 long.1
 
 pub returns-in-Xor : goal.returns-in-Xor
@@ -115,22 +80,12 @@ returns-in-Xor t c =
     let made : (tree_width left ≡ tree_width right) × IsMade left × IsMade right = subst IsMade c.in-Xor.is c.requires.made in
     let within : c.args.bit < tree_width left = subst (λ (x : Tree). c.args.bit < tree_width x) c.in-Xor.is c.requires.within in
     let long = operands_long terns leads c.args.first left right c.args.bit made.0 made.1 made.2 within in
-    differs_is c.known_bit-left-in-Xor.result c.known_bit-right-in-Xor.result
-    ∙ ap₂ differs (c.known_bit-left-in-Xor.ensures ∙ ap (λ (x : Tree). tern_at (value x) c.args.bit) c.deref-in-Xor.ensures)
-    (c.known_bit-right-in-Xor.ensures ∙ ap (λ (x : Tree). tern_at (value x) c.args.bit) c.deref-in-Xor-2.ensures)
+    differs_is c.known_bit-in-Xor.result c.known_bit-in-Xor-2.result
+    ∙ ap₂ differs (c.known_bit-in-Xor.ensures ∙ ap (λ (x : Tree). tern_at (value x) c.args.bit) c.deref-in-Xor.ensures)
+    (c.known_bit-in-Xor-2.ensures ∙ ap (λ (x : Tree). tern_at (value x) c.args.bit) c.deref-in-Xor-2.ensures)
     ∙ each_of differs (value left) (value right) (value c.args.tree.now) c.args.bit (ap value c.in-Xor.is) long.0 long.1
-
-pub returns-else-are_light : goal.returns-else-are_light
-returns-else-are_light t c =
-    bit_is c.args.view.now.terns.now c.args.view.now.leads.now c.requires.own c.requires.known c.args.first c.requires.begins c.args.tree.now c.requires.inside c.args.bit
-    c.is_one.result c.is_one.ensures
-
-pub returns-else-are_light-2 : goal.returns-else-are_light-2
-returns-else-are_light-2 t c =
-    bit_is c.args.view.now.terns.now c.args.view.now.leads.now c.requires.own c.requires.known c.args.first c.requires.begins c.args.tree.now c.requires.inside c.args.bit
-    c.is_one-else-are_light-2.result c.is_one-else-are_light-2.ensures
 
 pub returns-in-Const : goal.returns-in-Const
 returns-in-Const t c =
     bit_is c.args.view.now.terns.now c.args.view.now.leads.now c.requires.own c.requires.known c.args.first c.requires.begins c.args.tree.now c.requires.inside c.args.bit
-    c.is_one-in-Const.result c.is_one-in-Const.ensures
+    c.is_one.result c.is_one.ensures
