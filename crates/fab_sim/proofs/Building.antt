@@ -46,6 +46,7 @@ use Rattle.fab_state_points.specs.Standing.{StandsAt, data_shape, data_width, fi
 use Rattle.fab_state_points.specs.declared.points.Stream.{Stream}
 use Rattle.fab_state_points.specs.declared.points.StatePoints.{StatePoints}
 use Rattle.fab_sim.specs.Making.{AreLoads, IsGivenFirst}
+use Rattle.fab_sim.specs.inner.Made.{stored_by}
 use Rattle.fab_sim.specs.inner.Starting.{AreFilled}
 
 -- ---- what is given at first
@@ -192,6 +193,44 @@ register_loads text all registers all_long marked long stored others =
     (λ number p d is drives holds.
     let same = stored number p d is drives holds in
     let exact = marked number p is in (λ e. exact.0 (sym same ∙ e), λ loading. same ∙ exact.1 loading)) others
+
+-- the mark of a flip-flop and of a latch is that of its point
+stored_mark : (text : List PlainModule) (trees : List Tree) (d : Driver) (drive : Drive) → IsDriveOf text trees d drive → IsStored d → (load : Bool) → stored_by drive load ≡ load
+stored_mark text trees (flop path clock next bit) (Flop kind source) of holds load = refl
+stored_mark text trees (hold path gate e bit) (Hold opens latched) of holds load = refl
+stored_mark text trees outside drive of holds load = absurd holds
+stored_mark text trees (copy other) drive of holds load = absurd holds
+stored_mark text trees (bit_of path e bit) drive of holds load = absurd holds
+stored_mark text trees d drive of holds load = absurd of
+
+-- all others have none
+free_mark : (text : List PlainModule) (trees : List Tree) (d : Driver) (drive : Drive) → IsDriveOf text trees d drive → (IsStored d → ⊥) → (load : Bool) →
+    stored_by drive load ≡ false
+free_mark text trees outside Given of free load = refl
+free_mark text trees (copy other) (Same number) of free load = refl
+free_mark text trees (bit_of path e bit) (Value source) of free load = refl
+free_mark text trees (flop path clock next bit) drive of free load = absurd (free tt)
+free_mark text trees (hold path gate e bit) drive of free load = absurd (free tt)
+free_mark text trees d drive of free load = absurd of
+
+module _ (text : List PlainModule) (trees : List Tree) (drives : List Drive) (wired : AreDrives text trees drives) (loads registers : List Bool)
+    (long : length loads ≡ length (text_points text))
+    (marks : (number : ℕ) (drive : Drive) (load : Bool) → slice_get drives number ≡ Some drive → slice_get loads number ≡ Some load →
+    slice_get registers number ≡ Some (stored_by drive load)) where
+  load_of : (number : ℕ) (p : Point) → IsPoint text number p → (load : Bool) × (slice_get loads number ≡ Some load)
+  load_of number p is = some_there loads number (omega (arith, long, slice_get_within (text_points text) number p is))
+
+  pub stored_marks : (number : ℕ) (p : Point) (d : Driver) → IsPoint text number p → Drives text p d → IsStored d → slice_get registers number ≡ slice_get loads number
+  stored_marks number p d is driven holds =
+      let w = wired number p d is driven in
+      let load = load_of number p is in
+      marks number w.drive load.0 w.is load.1 ∙ ap (λ (b : Bool). Some b) (stored_mark text trees d w.drive w.of holds load.0) ∙ sym load.1
+
+  pub free_marks : (number : ℕ) (p : Point) (d : Driver) → IsPoint text number p → Drives text p d → ¬ IsStored d → slice_get registers number ≡ Some false
+  free_marks number p d is driven free =
+      let w = wired number p d is driven in
+      let load = load_of number p is in
+      marks number w.drive load.0 w.is load.1 ∙ ap (λ (b : Bool). Some b) (free_mark text trees d w.drive w.of free load.0)
 
 -- ---- what is written back
 

@@ -9,6 +9,7 @@ use Rattle.fab_load_points.proofs.Marking.{push_at, push_last}
 use Rattle.fab_load_points.proofs.Statuses.{set_there}
 use Rattle.fab_network.specs.declared.network.Drive.{Drive}
 use Rattle.fab_phases.specs.Cycles.{IsIn}
+use Rattle.fab_sim.specs.inner.Made.{stored_by}
 use Rattle.fab_sim.specs.inner.Rooms.{free_by, IsUnmarked}
 
 -- ---- marks that are taken away
@@ -54,14 +55,15 @@ unmarked_all points count old now all so_far = record {
 
 -- ---- marks that are set
 
-abbrev pub MarkedSoFar : (drives : List Drive) (loads : List Bool) (count : ℕ) → List Bool → Type 0
-MarkedSoFar drives loads count free =
-    (point : ℕ) (drive : Drive) (load : Bool) → point < count → slice_get drives point ≡ Some drive → slice_get loads point ≡ Some load → slice_get free point ≡ Some (free_by drive load)
+-- the marks of the first points, by their drives and by whether they are loading points
+abbrev MarkedBy : (by : Drive → Bool → Bool) → (drives : List Drive) (loads : List Bool) (count : ℕ) → List Bool → Type 0
+MarkedBy by drives loads count marks =
+    (point : ℕ) (drive : Drive) (load : Bool) → point < count → slice_get drives point ≡ Some drive → slice_get loads point ≡ Some load → slice_get marks point ≡ Some (by drive load)
 
-pub marked_more : (drives : List Drive) (loads : List Bool) (count : ℕ) (old new : List Bool) (drive : Drive) (load mark : Bool) → new ≡ old ++ mark ∷ [] → length old ≡ count →
-    slice_get drives count ≡ Some drive → slice_get loads count ≡ Some load → mark ≡ free_by drive load → MarkedSoFar drives loads count old →
-    MarkedSoFar drives loads (count + 1) new
-marked_more drives loads count old new drive load mark is long at loads_at value so_far point d l less e f =
+more_marked : (by : Drive → Bool → Bool) (drives : List Drive) (loads : List Bool) (count : ℕ) (old new : List Bool) (drive : Drive) (load mark : Bool) → new ≡ old ++ mark ∷ [] →
+    length old ≡ count → slice_get drives count ≡ Some drive → slice_get loads count ≡ Some load → mark ≡ by drive load → MarkedBy by drives loads count old →
+    MarkedBy by drives loads (count + 1) new
+more_marked by drives loads count old new drive load mark is long at loads_at value so_far point d l less e f =
     elim (cases_lt point count) [
       | inl before ↦ ap (λ (xs : List Bool). slice_get xs point) is ∙ push_at old mark point (omega (arith, before, long)) ∙ so_far point d l before e f
       | inr past ↦
@@ -71,5 +73,24 @@ marked_more drives loads count old new drive load mark is long at loads_at value
           let loads_same : Some load ≡ Some l = sym loads_at ∙ ap (slice_get loads) (sym last) ∙ f in
           let load_is : load ≡ l = cc in
           ap (λ (xs : List Bool). slice_get xs point) is ∙ ap (slice_get (old ++ mark ∷ [])) (last ∙ sym long) ∙ push_last old mark
-          ∙ ap (λ (b : Bool). Some b) (value ∙ (λ i. free_by (drive_is i) (load_is i)))
+          ∙ ap (λ (b : Bool). Some b) (value ∙ (λ i. by (drive_is i) (load_is i)))
     ]
+
+abbrev pub MarkedSoFar : (drives : List Drive) (loads : List Bool) (count : ℕ) → List Bool → Type 0
+MarkedSoFar drives loads count free =
+    (point : ℕ) (drive : Drive) (load : Bool) → point < count → slice_get drives point ≡ Some drive → slice_get loads point ≡ Some load → slice_get free point ≡ Some (free_by drive load)
+
+pub marked_more : (drives : List Drive) (loads : List Bool) (count : ℕ) (old new : List Bool) (drive : Drive) (load mark : Bool) → new ≡ old ++ mark ∷ [] → length old ≡ count →
+    slice_get drives count ≡ Some drive → slice_get loads count ≡ Some load → mark ≡ free_by drive load → MarkedSoFar drives loads count old →
+    MarkedSoFar drives loads (count + 1) new
+marked_more = more_marked free_by
+
+-- the same of flip-flops and latches
+abbrev pub StoredSoFar : (drives : List Drive) (loads : List Bool) (count : ℕ) → List Bool → Type 0
+StoredSoFar drives loads count registers =
+    (point : ℕ) (drive : Drive) (load : Bool) → point < count → slice_get drives point ≡ Some drive → slice_get loads point ≡ Some load → slice_get registers point ≡ Some (stored_by drive load)
+
+pub stored_more : (drives : List Drive) (loads : List Bool) (count : ℕ) (old new : List Bool) (drive : Drive) (load mark : Bool) → new ≡ old ++ mark ∷ [] → length old ≡ count →
+    slice_get drives count ≡ Some drive → slice_get loads count ≡ Some load → mark ≡ stored_by drive load → StoredSoFar drives loads count old →
+    StoredSoFar drives loads (count + 1) new
+stored_more = more_marked stored_by

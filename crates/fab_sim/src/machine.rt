@@ -11,12 +11,12 @@ ghost use Rattle.fab_state_points.specs.Standing.{IsRefusedState};
 ghost use Rattle.fab_ordering_laws.specs.fab_simulation_laws_Simulation.{IsCycle, IsLoaded, with_registers};
 ghost use Rattle.fab_sim.specs.Once.{StandsOnce};
 
-use crate::making::{clock_of, machine_of, values_of};
+use crate::making::{clock_of, machine_of, registers_of, values_of};
 use crate::starting::{load_stream, set_out};
 use fab_base::{Fault, Name};
 use fab_demand::Demand;
 use fab_equations::Equations;
-use fab_load_points::{loading_points, registers_among};
+use fab_load_points::loading_points;
 use fab_meaning::laws::points_of_sound_texts_have_one_driver;
 use fab_network::{Form, Network};
 use fab_ordering_laws::loading_is_known;
@@ -75,7 +75,7 @@ impl Machine {
         let values = values_of(alloc, &state.ffs)?;
         let network = network_of(alloc, equations)?;
         let loads = loading_points(alloc, equations)?;
-        let registers = registers_among(alloc, equations, &loads)?;
+        let registers = registers_of(alloc, &network, &loads)?;
         let clock = clock_of(equations);
         let count = equations.points() as usize;
         let machine = machine_of(

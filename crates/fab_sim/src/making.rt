@@ -1,16 +1,17 @@
 //! How a machine is made.
 
-ghost use Rattle.std.specs.Prelude.{◌≡◌, ◌+◌, ◌<◌, ◌≤◌, ◌^◌, ℕ, Some, length, map, slice_get, IfOk};
+ghost use Rattle.std.specs.Prelude.{◌≡◌, ◌+◌, ◌<◌, ◌≤◌, ◌^◌, ℕ, Bool, Some, length, map, slice_get, IfOk};
 ghost use Rattle.fab_syntax.specs.Plain.{plain_text};
 ghost use Rattle.fab_meaning.specs.Runs.{user_clock_name};
 ghost use Rattle.fab_equations.specs.Equations.{HasNoDot};
 ghost use Rattle.fab_network.specs.Network.{AreFit};
 ghost use Rattle.fab_network.specs.Passes.{kept_tern};
+ghost use Rattle.fab_network.specs.declared.network.Drive.{Drive as PlainDrive};
 ghost use Rattle.fab_network.specs.declared.network.Drive.TheVariants.{Given};
 ghost use Rattle.fab_wiring.specs.Clocks.{IsClockAt};
 ghost use Rattle.fab_state_points.specs.Standing.{data_width, first_data};
 ghost use Rattle.fab_sim.specs.Making.{IsGivenFirst};
-ghost use Rattle.fab_sim.specs.inner.Made.{IsMadeOf};
+ghost use Rattle.fab_sim.specs.inner.Made.{stored_by, IsMadeOf};
 
 use crate::machine::Machine;
 use crate::starting::fill;
@@ -19,7 +20,7 @@ use fab_demand::Demand;
 use fab_demand::laws::given_is_kept;
 use fab_equations::Equations;
 use fab_fabric::Site;
-use fab_network::Network;
+use fab_network::{Drive, Network};
 use fab_phases::loading_of;
 use fab_state_points::{StatePoints, Stream};
 use fab_ternary::Tern;
@@ -34,6 +35,30 @@ pub fn values_of(alloc: Global, ffs: &[(Site, bool)]) -> Result<Vec<bool>, Memor
         values.push(*value)?;
     }
     Ok(values)
+}
+
+/// The flip-flops and the latches among marked points.
+pub fn registers_of(alloc: Global, network: &Network, loads: &[bool]) -> Result<Vec<bool>, Memory>
+    requires { length loads.now ≡ length network.now.drives.items }
+    ensures long { IfOk result (λ registers. length registers.items ≡ length network.now.drives.items) }
+    ensures marks { IfOk result (λ registers. (point : ℕ) (drive : PlainDrive) (load : Bool) → slice_get network.now.drives.items point ≡ Some drive →
+        slice_get loads.now point ≡ Some load → slice_get registers.items point ≡ Some (stored_by drive load)) }
+{
+    let mut registers = Vec::with_capacity(alloc, loads.len())?;
+    for (point, drive) in network.drives.iter().enumerate() {
+        registers.push(register_mark(*drive, loads[point]))?;
+    }
+    Ok(registers)
+}
+
+// The mark of a point, if it is a flip-flop or a latch.
+fn register_mark(drive: Drive, load: bool) -> bool
+    ensures { result ≡ stored_by drive load }
+{
+    match drive {
+        Drive::Flop(_, _) | Drive::Hold(_, _) => load,
+        Drive::Given | Drive::Same(_) | Drive::Value(_) => false,
+    }
 }
 
 /// The point of `UserCLK`, where the top has it.
