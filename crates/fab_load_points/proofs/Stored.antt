@@ -3,7 +3,7 @@ use Rattle.std.proofs.Common.{◌≡◌, ℕ, Bool, true, false, List, [], Optio
 use Rattle.fab_syntax.specs.Declarations.{module_named, is_input_of}
 use Rattle.fab_syntax.specs.Plain.{PlainExpr, PlainItem, wire, reg, assign, latch, clocked, instance, PlainModule}
 use Rattle.fab_syntax.specs.Sound.{IsSound}
-use Rattle.fab_meaning.specs.Points.{Path, Point, point, outside, copy, bit_of, flop, hold, JoinDrives, ItemDrives, Drives, Driver as MeantDriver, IsStored}
+use Rattle.fab_meaning.specs.Points.{Path, Point, point, outside, copy, bit_of, flop, hold, JoinDrives, ItemDrives, Drives, Driver as MeantDriver}
 use Rattle.fab_meaning.specs.Runs.{clock_of, clock_name}
 use Rattle.fab_equations.specs.Equations.{IsPoint, IsDriven, Means}
 use Rattle.fab_equations.proofs.Numbering.{same_value}
@@ -13,7 +13,6 @@ use Rattle.fab_equations.specs.declared.driver.Driver.TheVariants as by_number
 use Rattle.fab_load_points.specs.inner.Causes.{StandsFor, IsFirstOf}
 use Rattle.fab_load_points.specs.inner.Flops.{IsLoaderPoint}
 use Rattle.fab_load_points.specs.inner.Points.{bit_driven}
-use Rattle.fab_load_points.specs.inner.Registers.{stored_mark}
 use Rattle.fab_load_points.proofs.Reading.{means_so}
 use Rattle.fab_load_points.proofs.Streams.{first_known}
 
@@ -93,15 +92,3 @@ module _ (text : List PlainModule) (sound : IsSound text) (number : ℕ) where
       at_driver (by_number.Value source) d m own bit e = let same : source.bit ≡ bit = cc in sym same ∙ subst (λ x. HasBit x p.bit) m.3 own
       at_driver (by_number.Flop clock next) d m own bit e = let same : next.bit ≡ bit = cc in sym same ∙ subst (λ x. HasBit x p.bit) m.5 own
       at_driver (by_number.Hold gate latched) d m own bit e = let same : latched.bit ≡ bit = cc in sym same ∙ subst (λ x. HasBit x p.bit) m.6 own
-
-  -- the mark of a flip-flop or a latch is kept, and that of another point is none
-  pub stored_kept : (mark : Bool) (driver : Driver) → IsDriven text number driver → (p : Point) (d : MeantDriver) → IsPoint text number p → Drives text p d →
-      (IsStored d → stored_mark mark driver ≡ mark) × (¬ IsStored d → stored_mark mark driver ≡ false)
-  stored_kept mark driver driven p d is drives = by driver (means_so text sound number driver p d driven is drives)
-    where
-      by : (driver : Driver) → Means text driver d → (IsStored d → stored_mark mark driver ≡ mark) × (¬ IsStored d → stored_mark mark driver ≡ false)
-      by by_number.Outside m = (λ stored. absurd (subst IsStored m stored), λ other. refl)
-      by (by_number.Same other) m = (λ stored. absurd (subst IsStored m.2 stored), λ not. refl)
-      by (by_number.Value source) m = (λ stored. absurd (subst IsStored m.3 stored), λ not. refl)
-      by (by_number.Flop clock next) m = (λ stored. refl, λ not. absurd (not (subst IsStored (sym m.5) tt)))
-      by (by_number.Hold gate latched) m = (λ stored. refl, λ not. absurd (not (subst IsStored (sym m.6) tt)))

@@ -4,4 +4,3 @@ pub mod Known
 pub mod Search
 pub mod Flops
 pub mod Points
-pub mod Registers

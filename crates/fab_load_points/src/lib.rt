@@ -5,9 +5,7 @@ mod causes;
 mod flops;
 mod known;
 mod points;
-mod registers;
 mod search;
 mod stream;
 
 pub use points::loading_points;
-pub use registers::{loading_registers, registers_among};
