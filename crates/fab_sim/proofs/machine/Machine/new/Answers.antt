@@ -22,8 +22,8 @@ machine_of-requires-clause-carrier c bit less =
     let network = c.in_ok-network.ensures in
     data_given (plain_text c.args.equations.now) c.in_ok-network.network c.args.state.now c.in_ok-points.points network.drives points.stands bit less
 
-pub registers_of-registers-requires : goal.registers_of-registers-requires
-registers_of-registers-requires c = ap length c.deref-2.ensures.value ∙ c.in_ok-loads.ensures.long ∙ sym c.in_ok-network.ensures.long
+pub registers_of-requires : goal.registers_of-requires
+registers_of-requires c = ap length c.deref-2.ensures.value ∙ c.in_ok-loads.ensures.long ∙ sym c.in_ok-network.ensures.long
 
 pub returns-clause-made : goal.returns-clause-made
 returns-clause-made c =
