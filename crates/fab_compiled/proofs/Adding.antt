@@ -1,13 +1,17 @@
 -- Lists of bits that stand at the end of another one.
-use Rattle.std.proofs.Common.{◌≡◌, ℕ, zero, suc, ◌+◌, ◌-◌, ◌≤◌, List, [], ◌∷◌, ◌++◌, length, length-append, map, take, drop, Result, Ok, Err, OnOk, refl, sym, ap, ap₂, ◌∙◌, arith, append_assoc}
+use Rattle.std.proofs.Common.{◌≡◌, ℕ, zero, suc, ◌+◌, ◌-◌, ◌≤◌, List, [], ◌∷◌, ◌++◌, length, length-append, map, take, drop, Result, Ok, Err, OnOk, refl, sym, ap, ap₂, ◌∙◌, subst, arith, append_assoc}
 use Rattle.std.proofs.Math.Seq.{take-append_seam, take-append-add, take-length, drop-append_seam, drop-append-add}
 use Rattle.std.proofs.lemmas.List.{drop-map, length-drop, length-map, length-take-le, map-append, take-append-le, take-map}
 use Rattle.fab_systems_laws.specs.Ternary.{Tern}
 use Rattle.fab_solutions_laws.specs.fab_ternary_laws_Operators.{tern_at}
 use Rattle.fab_ternary.specs.declared.Tern.{Tern as Kept}
 use Rattle.fab_ternary.specs.Terns.{plain_tern}
+use Rattle.fab_compiled.specs.declared.tree.Tree.{Tree}
+use Rattle.fab_compiled.specs.Trees.{tree_width, IsMade}
+use Rattle.fab_compiled.specs.Evaluation.{value_seen, IsWithin}
 use Rattle.fab_compiled.specs.inner.Pairs.{AreLast}
 use Rattle.fab_compiled.proofs.Bits.{high_at}
+use Rattle.fab_compiled.proofs.Evaluated.{lent_long}
 use Rattle.fab_compiled.proofs.Written.{plain}
 
 -- ---- parts of lists
@@ -129,6 +133,41 @@ module _ (old new lent : List Kept) (ts : List Tern) (low : ℕ) (same : lent �
 -- lists of the same bits are as long as each other
 pub as_long : (xs ys : List Kept) → plain xs ≡ plain ys → length xs ≡ length ys
 as_long xs ys e = sym (length-map xs plain_tern) ∙ ap length e ∙ length-map ys plain_tern
+
+-- the bits of two operands, as they are lent
+module _ (terns : List Kept) (leads : List ℕ) (first : ℕ) (l r lent other : Tree) (is : lent ≡ l) (is_other : other ≡ r) (same : tree_width l ≡ tree_width r)
+    (made : IsMade l) (made_other : IsMade r) where
+  pub lent_wide : length (value_seen terns leads first lent) ≡ tree_width lent
+  lent_wide = lent_long terns leads first lent l (tree_width lent) is (sym (ap tree_width is)) made
+
+  pub other_wide : length (value_seen terns leads first other) ≡ tree_width lent
+  other_wide = lent_long terns leads first other r (tree_width lent) is_other (sym same ∙ sym (ap tree_width is)) made_other
+
+  -- they stand at the end of a list
+  module _ (old new : List Kept) (low middle : ℕ) (at : low ≡ length old) (half : middle ≡ length old + tree_width lent)
+      (grown : plain new ≡ plain old ++ (value_seen terns leads first lent ++ value_seen terns leads first other)) where
+    pub operands_last : AreLast low middle (plain old) (value_seen terns leads first lent) (value_seen terns leads first other) (plain new)
+    operands_last =
+        are_last old new (value_seen terns leads first lent) (value_seen terns leads first other) low middle (tree_width lent) grown at half lent_wide other_wide
+
+    pub operands_long : middle + (middle - low) ≡ length new
+    operands_long =
+        halves_long old new (value_seen terns leads first lent) (value_seen terns leads first other) low middle (tree_width lent) grown at half lent_wide other_wide
+
+  -- what is made of them is what is made of the operands themselves
+  pub operands_are : (f : List Tern → List Tern → List Tern) →
+      f (value_seen terns leads first lent) (value_seen terns leads first other) ≡ f (value_seen terns leads first l) (value_seen terns leads first r)
+  operands_are f = (λ j. f (value_seen terns leads first (is j)) (value_seen terns leads first (is_other j)))
+
+  -- they may be looked at, as parts of an expression
+  pub lent_made : IsMade lent
+  lent_made = subst IsMade (sym is) made
+
+  pub other_made : IsMade other
+  other_made = subst IsMade (sym is_other) made_other
+
+pub lent_within : (lent tree : Tree) (first count : ℕ) → lent ≡ tree → IsWithin tree first count → IsWithin lent first count
+lent_within lent tree first count is h = subst (λ (x : Tree). IsWithin x first count) (sym is) h
 
 -- what holds where a call went well
 pub on_ok : {X E P Q : Type 0} (r : Result X E) → (P → Q) → OnOk r P → OnOk r Q

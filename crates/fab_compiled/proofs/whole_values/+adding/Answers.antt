@@ -10,201 +10,10 @@ use Rattle.fab_compiled.specs.Terns.{seen}
 use Rattle.fab_compiled.specs.Trees.{tree_width, IsMade}
 use Rattle.fab_compiled.specs.Evaluation.{value_seen, IsWithin}
 use Rattle.fab_compiled.proofs.Evaluated.{lent_long, table_is, wide_at}
-use Rattle.fab_compiled.proofs.Adding.{added_long, are_last, as_long, behind_long, behind_plain, first_behind, front_plain, halves_long, laid_behind, on_ok}
+use Rattle.fab_compiled.proofs.Adding.{added_long, as_long, behind_long, behind_plain, first_behind, front_plain, laid_behind, lent_within, on_ok, operands_are, operands_last, operands_long}
 use Rattle.fab_compiled.proofs.Sizes.{tree_size}
 use Rattle.fab_compiled.proofs.Written.{plain}
 use Rattle.fab_compiled.proofs.whole_values.+adding.Goals as goal
-
--- ---- two expressions
-
-pub add_both-returns-clause-middle : goal.add_both-returns-clause-middle
-add_both-returns-clause-middle t c =
-    let ts = value_seen c.args.view.now.terns.now c.args.view.now.leads.now c.args.first c.args.left.now in
-    omega (
-      arith,
-      c.len-middle.ensures,
-      added_long c.args.bits.now.items c.add_whole.new.bits.items ts c.in_ok-add_whole.ensures,
-      wide_at c.args.view.now.terns.now c.args.view.now.leads.now c.args.first c.args.left.now c.requires.left,
-    )
-
--- ---- operators
-
-pub add_whole-pair_last-requires-clause-middle : goal.add_whole-pair_last-requires-clause-middle
-add_whole-pair_last-requires-clause-middle t c =
-    let terns = c.args.view.now.terns.now in
-    let leads = c.args.view.now.leads.now in
-    let value = value_seen terns leads c.args.first in
-    let l = c.in-And.left.value in
-    let r = c.in-And.right.value in
-    let lent = c.deref-in-And.result.now in
-    let other = c.deref-in-And-2.result.now in
-    let made : (tree_width l ≡ tree_width r) × IsMade l × IsMade r = subst IsMade c.in-And.is c.requires.made in
-    let wide : tree_width lent ≡ tree_width l = ap tree_width c.deref-in-And.ensures in
-    let long : length (value lent) ≡ tree_width lent = lent_long terns leads c.args.first lent l (tree_width lent) c.deref-in-And.ensures (sym wide) made.1 in
-    let long_other : length (value other) ≡ tree_width lent =
-    lent_long terns leads c.args.first other r (tree_width lent) c.deref-in-And-2.ensures (sym (made.0) ∙ sym wide) made.2 in
-    halves_long c.args.bits.now.items c.add_both-in-And.new.bits.items (value lent) (value other) c.len-low.result c.in_ok-middle-in-And.middle
-    (tree_width lent) c.in_ok-middle-in-And.ensures.bits (omega (arith, c.len-low.ensures)) c.in_ok-middle-in-And.ensures.middle long long_other
-
-pub add_whole-returns-in_ok-middle-in-And : goal.add_whole-returns-in_ok-middle-in-And
-add_whole-returns-in_ok-middle-in-And t c =
-    let terns = c.args.view.now.terns.now in
-    let leads = c.args.view.now.leads.now in
-    let value = value_seen terns leads c.args.first in
-    let l = c.in-And.left.value in
-    let r = c.in-And.right.value in
-    let lent = c.deref-in-And.result.now in
-    let other = c.deref-in-And-2.result.now in
-    let made : (tree_width l ≡ tree_width r) × IsMade l × IsMade r = subst IsMade c.in-And.is c.requires.made in
-    let wide : tree_width lent ≡ tree_width l = ap tree_width c.deref-in-And.ensures in
-    let long : length (value lent) ≡ tree_width lent = lent_long terns leads c.args.first lent l (tree_width lent) c.deref-in-And.ensures (sym wide) made.1 in
-    let long_other : length (value other) ≡ tree_width lent =
-    lent_long terns leads c.args.first other r (tree_width lent) c.deref-in-And-2.ensures (sym (made.0) ∙ sym wide) made.2 in
-    c.pair_last.ensures (plain c.args.bits.now.items) (value lent) (value other) (are_last c.args.bits.now.items c.add_both-in-And.new.bits.items (value lent) (value other) c.len-low.result c.in_ok-middle-in-And.middle
-    (tree_width lent) c.in_ok-middle-in-And.ensures.bits (omega (arith, c.len-low.ensures)) c.in_ok-middle-in-And.ensures.middle long long_other)
-    ∙ ap (λ ts. plain c.args.bits.now.items ++ ts) ((λ j. each_tern both (value (c.deref-in-And.ensures j)) (value (c.deref-in-And-2.ensures j))) ∙ sym (ap value c.in-And.is))
-
-pub add_whole-pair_last-requires-in-Or-clause-middle : goal.add_whole-pair_last-requires-in-Or-clause-middle
-add_whole-pair_last-requires-in-Or-clause-middle t c =
-    let terns = c.args.view.now.terns.now in
-    let leads = c.args.view.now.leads.now in
-    let value = value_seen terns leads c.args.first in
-    let l = c.in-Or.left.value in
-    let r = c.in-Or.right.value in
-    let lent = c.deref-in-Or.result.now in
-    let other = c.deref-in-Or-2.result.now in
-    let made : (tree_width l ≡ tree_width r) × IsMade l × IsMade r = subst IsMade c.in-Or.is c.requires.made in
-    let wide : tree_width lent ≡ tree_width l = ap tree_width c.deref-in-Or.ensures in
-    let long : length (value lent) ≡ tree_width lent = lent_long terns leads c.args.first lent l (tree_width lent) c.deref-in-Or.ensures (sym wide) made.1 in
-    let long_other : length (value other) ≡ tree_width lent =
-    lent_long terns leads c.args.first other r (tree_width lent) c.deref-in-Or-2.ensures (sym (made.0) ∙ sym wide) made.2 in
-    halves_long c.args.bits.now.items c.add_both-in-Or.new.bits.items (value lent) (value other) c.len-low.result c.in_ok-middle-in-Or.middle
-    (tree_width lent) c.in_ok-middle-in-Or.ensures.bits (omega (arith, c.len-low.ensures)) c.in_ok-middle-in-Or.ensures.middle long long_other
-
-pub add_whole-returns-in_ok-middle-in-Or : goal.add_whole-returns-in_ok-middle-in-Or
-add_whole-returns-in_ok-middle-in-Or t c =
-    let terns = c.args.view.now.terns.now in
-    let leads = c.args.view.now.leads.now in
-    let value = value_seen terns leads c.args.first in
-    let l = c.in-Or.left.value in
-    let r = c.in-Or.right.value in
-    let lent = c.deref-in-Or.result.now in
-    let other = c.deref-in-Or-2.result.now in
-    let made : (tree_width l ≡ tree_width r) × IsMade l × IsMade r = subst IsMade c.in-Or.is c.requires.made in
-    let wide : tree_width lent ≡ tree_width l = ap tree_width c.deref-in-Or.ensures in
-    let long : length (value lent) ≡ tree_width lent = lent_long terns leads c.args.first lent l (tree_width lent) c.deref-in-Or.ensures (sym wide) made.1 in
-    let long_other : length (value other) ≡ tree_width lent =
-    lent_long terns leads c.args.first other r (tree_width lent) c.deref-in-Or-2.ensures (sym (made.0) ∙ sym wide) made.2 in
-    c.pair_last-in-Or.ensures (plain c.args.bits.now.items) (value lent) (value other) (are_last c.args.bits.now.items c.add_both-in-Or.new.bits.items (value lent) (value other) c.len-low.result c.in_ok-middle-in-Or.middle
-    (tree_width lent) c.in_ok-middle-in-Or.ensures.bits (omega (arith, c.len-low.ensures)) c.in_ok-middle-in-Or.ensures.middle long long_other)
-    ∙ ap (λ ts. plain c.args.bits.now.items ++ ts) ((λ j. each_tern either (value (c.deref-in-Or.ensures j)) (value (c.deref-in-Or-2.ensures j))) ∙ sym (ap value c.in-Or.is))
-
-pub add_whole-pair_last-requires-in-Xor-clause-middle : goal.add_whole-pair_last-requires-in-Xor-clause-middle
-add_whole-pair_last-requires-in-Xor-clause-middle t c =
-    let terns = c.args.view.now.terns.now in
-    let leads = c.args.view.now.leads.now in
-    let value = value_seen terns leads c.args.first in
-    let l = c.in-Xor.left.value in
-    let r = c.in-Xor.right.value in
-    let lent = c.deref-in-Xor.result.now in
-    let other = c.deref-in-Xor-2.result.now in
-    let made : (tree_width l ≡ tree_width r) × IsMade l × IsMade r = subst IsMade c.in-Xor.is c.requires.made in
-    let wide : tree_width lent ≡ tree_width l = ap tree_width c.deref-in-Xor.ensures in
-    let long : length (value lent) ≡ tree_width lent = lent_long terns leads c.args.first lent l (tree_width lent) c.deref-in-Xor.ensures (sym wide) made.1 in
-    let long_other : length (value other) ≡ tree_width lent =
-    lent_long terns leads c.args.first other r (tree_width lent) c.deref-in-Xor-2.ensures (sym (made.0) ∙ sym wide) made.2 in
-    halves_long c.args.bits.now.items c.add_both-in-Xor.new.bits.items (value lent) (value other) c.len-low.result c.in_ok-middle-in-Xor.middle
-    (tree_width lent) c.in_ok-middle-in-Xor.ensures.bits (omega (arith, c.len-low.ensures)) c.in_ok-middle-in-Xor.ensures.middle long long_other
-
-pub add_whole-returns-in_ok-middle-in-Xor : goal.add_whole-returns-in_ok-middle-in-Xor
-add_whole-returns-in_ok-middle-in-Xor t c =
-    let terns = c.args.view.now.terns.now in
-    let leads = c.args.view.now.leads.now in
-    let value = value_seen terns leads c.args.first in
-    let l = c.in-Xor.left.value in
-    let r = c.in-Xor.right.value in
-    let lent = c.deref-in-Xor.result.now in
-    let other = c.deref-in-Xor-2.result.now in
-    let made : (tree_width l ≡ tree_width r) × IsMade l × IsMade r = subst IsMade c.in-Xor.is c.requires.made in
-    let wide : tree_width lent ≡ tree_width l = ap tree_width c.deref-in-Xor.ensures in
-    let long : length (value lent) ≡ tree_width lent = lent_long terns leads c.args.first lent l (tree_width lent) c.deref-in-Xor.ensures (sym wide) made.1 in
-    let long_other : length (value other) ≡ tree_width lent =
-    lent_long terns leads c.args.first other r (tree_width lent) c.deref-in-Xor-2.ensures (sym (made.0) ∙ sym wide) made.2 in
-    c.pair_last-in-Xor.ensures (plain c.args.bits.now.items) (value lent) (value other) (are_last c.args.bits.now.items c.add_both-in-Xor.new.bits.items (value lent) (value other) c.len-low.result c.in_ok-middle-in-Xor.middle
-    (tree_width lent) c.in_ok-middle-in-Xor.ensures.bits (omega (arith, c.len-low.ensures)) c.in_ok-middle-in-Xor.ensures.middle long long_other)
-    ∙ ap (λ ts. plain c.args.bits.now.items ++ ts) ((λ j. each_tern differs (value (c.deref-in-Xor.ensures j)) (value (c.deref-in-Xor-2.ensures j))) ∙ sym (ap value c.in-Xor.is))
-
-pub add_whole-compare_last-requires-clause-middle : goal.add_whole-compare_last-requires-clause-middle
-add_whole-compare_last-requires-clause-middle t c =
-    let terns = c.args.view.now.terns.now in
-    let leads = c.args.view.now.leads.now in
-    let value = value_seen terns leads c.args.first in
-    let l = c.in-Equal.left.value in
-    let r = c.in-Equal.right.value in
-    let lent = c.deref-in-Equal.result.now in
-    let other = c.deref-in-Equal-2.result.now in
-    let made : (tree_width l ≡ c.in-Equal.field-0) × (tree_width r ≡ c.in-Equal.field-0) × IsMade l × IsMade r = subst IsMade c.in-Equal.is c.requires.made in
-    let wide : tree_width lent ≡ tree_width l = ap tree_width c.deref-in-Equal.ensures in
-    let long : length (value lent) ≡ tree_width lent = lent_long terns leads c.args.first lent l (tree_width lent) c.deref-in-Equal.ensures (sym wide) made.2 in
-    let long_other : length (value other) ≡ tree_width lent =
-    lent_long terns leads c.args.first other r (tree_width lent) c.deref-in-Equal-2.ensures (sym (made.0 ∙ sym made.1) ∙ sym wide) made.3 in
-    halves_long c.args.bits.now.items c.add_both-in-Equal.new.bits.items (value lent) (value other) c.len-low.result c.in_ok-middle-in-Equal.middle
-    (tree_width lent) c.in_ok-middle-in-Equal.ensures.bits (omega (arith, c.len-low.ensures)) c.in_ok-middle-in-Equal.ensures.middle long long_other
-
-pub add_whole-returns-in_ok-middle-in-Equal : goal.add_whole-returns-in_ok-middle-in-Equal
-add_whole-returns-in_ok-middle-in-Equal t c =
-    let terns = c.args.view.now.terns.now in
-    let leads = c.args.view.now.leads.now in
-    let value = value_seen terns leads c.args.first in
-    let l = c.in-Equal.left.value in
-    let r = c.in-Equal.right.value in
-    let lent = c.deref-in-Equal.result.now in
-    let other = c.deref-in-Equal-2.result.now in
-    let made : (tree_width l ≡ c.in-Equal.field-0) × (tree_width r ≡ c.in-Equal.field-0) × IsMade l × IsMade r = subst IsMade c.in-Equal.is c.requires.made in
-    let wide : tree_width lent ≡ tree_width l = ap tree_width c.deref-in-Equal.ensures in
-    let long : length (value lent) ≡ tree_width lent = lent_long terns leads c.args.first lent l (tree_width lent) c.deref-in-Equal.ensures (sym wide) made.2 in
-    let long_other : length (value other) ≡ tree_width lent =
-    lent_long terns leads c.args.first other r (tree_width lent) c.deref-in-Equal-2.ensures (sym (made.0 ∙ sym made.1) ∙ sym wide) made.3 in
-    on_ok c.compare_last.result
-    (λ done. done (plain c.args.bits.now.items) (value lent) (value other) (are_last c.args.bits.now.items c.add_both-in-Equal.new.bits.items (value lent) (value other) c.len-low.result c.in_ok-middle-in-Equal.middle
-    (tree_width lent) c.in_ok-middle-in-Equal.ensures.bits (omega (arith, c.len-low.ensures)) c.in_ok-middle-in-Equal.ensures.middle long long_other)
-    ∙ ap (λ ts. plain c.args.bits.now.items ++ ts) ((λ j. same_terns (value (c.deref-in-Equal.ensures j)) (value (c.deref-in-Equal-2.ensures j)) ∷ []) ∙ sym (ap value c.in-Equal.is)))
-    c.compare_last.ensures
-
-pub add_whole-subtract_last-requires-clause-middle : goal.add_whole-subtract_last-requires-clause-middle
-add_whole-subtract_last-requires-clause-middle t c =
-    let terns = c.args.view.now.terns.now in
-    let leads = c.args.view.now.leads.now in
-    let value = value_seen terns leads c.args.first in
-    let l = c.in-Minus.left.value in
-    let r = c.in-Minus.right.value in
-    let lent = c.deref-in-Minus.result.now in
-    let other = c.deref-in-Minus-2.result.now in
-    let made : (tree_width l ≡ c.in-Minus.field-0) × (tree_width r ≡ c.in-Minus.field-0) × IsMade l × IsMade r = subst IsMade c.in-Minus.is c.requires.made in
-    let wide : tree_width lent ≡ tree_width l = ap tree_width c.deref-in-Minus.ensures in
-    let long : length (value lent) ≡ tree_width lent = lent_long terns leads c.args.first lent l (tree_width lent) c.deref-in-Minus.ensures (sym wide) made.2 in
-    let long_other : length (value other) ≡ tree_width lent =
-    lent_long terns leads c.args.first other r (tree_width lent) c.deref-in-Minus-2.ensures (sym (made.0 ∙ sym made.1) ∙ sym wide) made.3 in
-    halves_long c.args.bits.now.items c.add_both-in-Minus.new.bits.items (value lent) (value other) c.len-low.result c.in_ok-middle-in-Minus.middle
-    (tree_width lent) c.in_ok-middle-in-Minus.ensures.bits (omega (arith, c.len-low.ensures)) c.in_ok-middle-in-Minus.ensures.middle long long_other
-
-pub add_whole-returns-in_ok-middle-in-Minus : goal.add_whole-returns-in_ok-middle-in-Minus
-add_whole-returns-in_ok-middle-in-Minus t c =
-    let terns = c.args.view.now.terns.now in
-    let leads = c.args.view.now.leads.now in
-    let value = value_seen terns leads c.args.first in
-    let l = c.in-Minus.left.value in
-    let r = c.in-Minus.right.value in
-    let lent = c.deref-in-Minus.result.now in
-    let other = c.deref-in-Minus-2.result.now in
-    let made : (tree_width l ≡ c.in-Minus.field-0) × (tree_width r ≡ c.in-Minus.field-0) × IsMade l × IsMade r = subst IsMade c.in-Minus.is c.requires.made in
-    let wide : tree_width lent ≡ tree_width l = ap tree_width c.deref-in-Minus.ensures in
-    let long : length (value lent) ≡ tree_width lent = lent_long terns leads c.args.first lent l (tree_width lent) c.deref-in-Minus.ensures (sym wide) made.2 in
-    let long_other : length (value other) ≡ tree_width lent =
-    lent_long terns leads c.args.first other r (tree_width lent) c.deref-in-Minus-2.ensures (sym (made.0 ∙ sym made.1) ∙ sym wide) made.3 in
-    c.subtract_last.ensures (plain c.args.bits.now.items) (value lent) (value other) (are_last c.args.bits.now.items c.add_both-in-Minus.new.bits.items (value lent) (value other) c.len-low.result c.in_ok-middle-in-Minus.middle
-    (tree_width lent) c.in_ok-middle-in-Minus.ensures.bits (omega (arith, c.len-low.ensures)) c.in_ok-middle-in-Minus.ensures.middle long long_other)
-    ∙ ap (λ ts. plain c.args.bits.now.items ++ ts) ((λ j. tern_operated ops.Minus (value (c.deref-in-Minus.ensures j)) (value (c.deref-in-Minus-2.ensures j))) ∙ sym (ap value c.in-Minus.is))
 
 -- ---- operands are parts of the expression
 
@@ -229,7 +38,7 @@ add_whole-add_whole-requires t c =
       omega (arith, c.decreases, ap tree_size c.in-Pick.is, ap tree_size c.deref-in-Pick.ensures),
       (
         subst IsMade (sym c.deref-in-Pick.ensures) made.2,
-        (c.requires.view, (c.requires.few, (c.requires.begins, subst (λ (x : Tree). IsWithin x c.args.first count) (sym c.deref-in-Pick.ensures) inside.1))),
+        (c.requires.view, (c.requires.few, (c.requires.begins, lent_within c.deref-in-Pick.result.now part c.args.first count c.deref-in-Pick.ensures inside.1))),
       ),
     )
 
@@ -242,43 +51,52 @@ add_whole-add_whole-requires-in-Not t c =
       omega (arith, c.decreases, ap tree_size c.in-Not.is, ap tree_size c.deref-in-Not.ensures),
       (
         subst IsMade (sym c.deref-in-Not.ensures) made,
-        (c.requires.view, (c.requires.few, (c.requires.begins, subst (λ (x : Tree). IsWithin x c.args.first count) (sym c.deref-in-Not.ensures) inside))),
+        (c.requires.view, (c.requires.few, (c.requires.begins, lent_within c.deref-in-Not.result.now part c.args.first count c.deref-in-Not.ensures inside))),
       ),
     )
 
 pub add_whole-add_whole-requires-in-Cond : goal.add_whole-add_whole-requires-in-Cond
 add_whole-add_whole-requires-in-Cond t c =
     let count = length c.args.view.now.leads.now in
-    let made : (tree_width c.in-Cond.test.value ≡ 1) × (tree_width c.in-Cond.yes.value ≡ tree_width c.in-Cond.no.value) × IsMade c.in-Cond.test.value × IsMade c.in-Cond.yes.value × IsMade c.in-Cond.no.value = subst IsMade c.in-Cond.is c.requires.made in
+    let test = c.in-Cond.test.value in
+    let yes = c.in-Cond.yes.value in
+    let no = c.in-Cond.no.value in
+    let made : (tree_width test ≡ 1) × (tree_width yes ≡ tree_width no) × IsMade test × IsMade yes × IsMade no = subst IsMade c.in-Cond.is c.requires.made in
     let inside = subst (λ (x : Tree). IsWithin x c.args.first count) c.in-Cond.is c.requires.inside in (
       omega (arith, c.decreases, ap tree_size c.in-Cond.is, ap tree_size c.deref-in-Cond.ensures),
       (
         subst IsMade (sym c.deref-in-Cond.ensures) made.2,
-        (c.requires.view, (c.requires.few, (c.requires.begins, subst (λ (x : Tree). IsWithin x c.args.first count) (sym c.deref-in-Cond.ensures) inside.0))),
+        (c.requires.view, (c.requires.few, (c.requires.begins, lent_within c.deref-in-Cond.result.now test c.args.first count c.deref-in-Cond.ensures inside.0))),
       ),
     )
 
 pub add_whole-add_whole-requires-in-Yes : goal.add_whole-add_whole-requires-in-Yes
 add_whole-add_whole-requires-in-Yes t c =
     let count = length c.args.view.now.leads.now in
-    let made : (tree_width c.in-Cond.test.value ≡ 1) × (tree_width c.in-Cond.yes.value ≡ tree_width c.in-Cond.no.value) × IsMade c.in-Cond.test.value × IsMade c.in-Cond.yes.value × IsMade c.in-Cond.no.value = subst IsMade c.in-Cond.is c.requires.made in
+    let test = c.in-Cond.test.value in
+    let yes = c.in-Cond.yes.value in
+    let no = c.in-Cond.no.value in
+    let made : (tree_width test ≡ 1) × (tree_width yes ≡ tree_width no) × IsMade test × IsMade yes × IsMade no = subst IsMade c.in-Cond.is c.requires.made in
     let inside = subst (λ (x : Tree). IsWithin x c.args.first count) c.in-Cond.is c.requires.inside in (
       omega (arith, c.decreases, ap tree_size c.in-Cond.is, ap tree_size c.deref-in-Yes.ensures),
       (
         subst IsMade (sym c.deref-in-Yes.ensures) made.3,
-        (c.requires.view, (c.requires.few, (c.requires.begins, subst (λ (x : Tree). IsWithin x c.args.first count) (sym c.deref-in-Yes.ensures) inside.1))),
+        (c.requires.view, (c.requires.few, (c.requires.begins, lent_within c.deref-in-Yes.result.now yes c.args.first count c.deref-in-Yes.ensures inside.1))),
       ),
     )
 
 pub add_whole-add_whole-requires-in-No : goal.add_whole-add_whole-requires-in-No
 add_whole-add_whole-requires-in-No t c =
     let count = length c.args.view.now.leads.now in
-    let made : (tree_width c.in-Cond.test.value ≡ 1) × (tree_width c.in-Cond.yes.value ≡ tree_width c.in-Cond.no.value) × IsMade c.in-Cond.test.value × IsMade c.in-Cond.yes.value × IsMade c.in-Cond.no.value = subst IsMade c.in-Cond.is c.requires.made in
+    let test = c.in-Cond.test.value in
+    let yes = c.in-Cond.yes.value in
+    let no = c.in-Cond.no.value in
+    let made : (tree_width test ≡ 1) × (tree_width yes ≡ tree_width no) × IsMade test × IsMade yes × IsMade no = subst IsMade c.in-Cond.is c.requires.made in
     let inside = subst (λ (x : Tree). IsWithin x c.args.first count) c.in-Cond.is c.requires.inside in (
       omega (arith, c.decreases, ap tree_size c.in-Cond.is, ap tree_size c.deref-in-No.ensures),
       (
         subst IsMade (sym c.deref-in-No.ensures) made.4,
-        (c.requires.view, (c.requires.few, (c.requires.begins, subst (λ (x : Tree). IsWithin x c.args.first count) (sym c.deref-in-No.ensures) inside.2))),
+        (c.requires.view, (c.requires.few, (c.requires.begins, lent_within c.deref-in-No.result.now no c.args.first count c.deref-in-No.ensures inside.2))),
       ),
     )
 
@@ -286,204 +104,236 @@ pub add_whole-add_both-requires : goal.add_whole-add_both-requires
 add_whole-add_both-requires t c =
     let l = c.in-Cat.left.value in
     let r = c.in-Cat.right.value in
-    let count = length c.args.view.now.leads.now in
     let made : (tree_width l ≡ c.in-Cat.field-1) × IsMade l × IsMade r = subst IsMade c.in-Cat.is c.requires.made in
-    let inside : IsWithin l c.args.first count × IsWithin r c.args.first count = subst (λ (x : Tree). IsWithin x c.args.first count) c.in-Cat.is c.requires.inside in (
+    let count = length c.args.view.now.leads.now in
+    let inside = subst (λ (x : Tree). IsWithin x c.args.first count) c.in-Cat.is c.requires.inside in
+    let one = lent_within c.deref-in-Cat.result.now l c.args.first count c.deref-in-Cat.ensures inside.0 in
+    let two = lent_within c.deref-in-Cat-2.result.now r c.args.first count c.deref-in-Cat-2.ensures inside.1 in
+    let lent = subst IsMade (sym c.deref-in-Cat.ensures) made.1 in
+    let other = subst IsMade (sym c.deref-in-Cat-2.ensures) made.2 in (
       omega (arith, c.decreases, ap tree_size c.in-Cat.is, ap tree_size c.deref-in-Cat.ensures, ap tree_size c.deref-in-Cat-2.ensures),
-      (
-        subst IsMade (sym c.deref-in-Cat.ensures) made.1,
-        (
-          subst IsMade (sym c.deref-in-Cat-2.ensures) made.2,
-          (
-            c.requires.view,
-            (
-              c.requires.few,
-              (
-                c.requires.begins,
-                (
-                  subst (λ (x : Tree). IsWithin x c.args.first count) (sym c.deref-in-Cat.ensures) inside.0,
-                  subst (λ (x : Tree). IsWithin x c.args.first count) (sym c.deref-in-Cat-2.ensures) inside.1,
-                ),
-              ),
-            ),
-          ),
-        ),
-      ),
+      (lent, (other, (c.requires.view, (c.requires.few, (c.requires.begins, (one, two)))))),
     )
 
 pub add_whole-add_both-requires-in-And : goal.add_whole-add_both-requires-in-And
 add_whole-add_both-requires-in-And t c =
     let l = c.in-And.left.value in
     let r = c.in-And.right.value in
-    let count = length c.args.view.now.leads.now in
     let made : (tree_width l ≡ tree_width r) × IsMade l × IsMade r = subst IsMade c.in-And.is c.requires.made in
-    let inside : IsWithin l c.args.first count × IsWithin r c.args.first count = subst (λ (x : Tree). IsWithin x c.args.first count) c.in-And.is c.requires.inside in (
+    let count = length c.args.view.now.leads.now in
+    let inside = subst (λ (x : Tree). IsWithin x c.args.first count) c.in-And.is c.requires.inside in
+    let one = lent_within c.deref-in-And.result.now l c.args.first count c.deref-in-And.ensures inside.0 in
+    let two = lent_within c.deref-in-And-2.result.now r c.args.first count c.deref-in-And-2.ensures inside.1 in
+    let lent = subst IsMade (sym c.deref-in-And.ensures) made.1 in
+    let other = subst IsMade (sym c.deref-in-And-2.ensures) made.2 in (
       omega (arith, c.decreases, ap tree_size c.in-And.is, ap tree_size c.deref-in-And.ensures, ap tree_size c.deref-in-And-2.ensures),
-      (
-        subst IsMade (sym c.deref-in-And.ensures) made.1,
-        (
-          subst IsMade (sym c.deref-in-And-2.ensures) made.2,
-          (
-            c.requires.view,
-            (
-              c.requires.few,
-              (
-                c.requires.begins,
-                (
-                  subst (λ (x : Tree). IsWithin x c.args.first count) (sym c.deref-in-And.ensures) inside.0,
-                  subst (λ (x : Tree). IsWithin x c.args.first count) (sym c.deref-in-And-2.ensures) inside.1,
-                ),
-              ),
-            ),
-          ),
-        ),
-      ),
+      (lent, (other, (c.requires.view, (c.requires.few, (c.requires.begins, (one, two)))))),
     )
 
 pub add_whole-add_both-requires-in-Or : goal.add_whole-add_both-requires-in-Or
 add_whole-add_both-requires-in-Or t c =
     let l = c.in-Or.left.value in
     let r = c.in-Or.right.value in
-    let count = length c.args.view.now.leads.now in
     let made : (tree_width l ≡ tree_width r) × IsMade l × IsMade r = subst IsMade c.in-Or.is c.requires.made in
-    let inside : IsWithin l c.args.first count × IsWithin r c.args.first count = subst (λ (x : Tree). IsWithin x c.args.first count) c.in-Or.is c.requires.inside in (
+    let count = length c.args.view.now.leads.now in
+    let inside = subst (λ (x : Tree). IsWithin x c.args.first count) c.in-Or.is c.requires.inside in
+    let one = lent_within c.deref-in-Or.result.now l c.args.first count c.deref-in-Or.ensures inside.0 in
+    let two = lent_within c.deref-in-Or-2.result.now r c.args.first count c.deref-in-Or-2.ensures inside.1 in
+    let lent = subst IsMade (sym c.deref-in-Or.ensures) made.1 in
+    let other = subst IsMade (sym c.deref-in-Or-2.ensures) made.2 in (
       omega (arith, c.decreases, ap tree_size c.in-Or.is, ap tree_size c.deref-in-Or.ensures, ap tree_size c.deref-in-Or-2.ensures),
-      (
-        subst IsMade (sym c.deref-in-Or.ensures) made.1,
-        (
-          subst IsMade (sym c.deref-in-Or-2.ensures) made.2,
-          (
-            c.requires.view,
-            (
-              c.requires.few,
-              (
-                c.requires.begins,
-                (
-                  subst (λ (x : Tree). IsWithin x c.args.first count) (sym c.deref-in-Or.ensures) inside.0,
-                  subst (λ (x : Tree). IsWithin x c.args.first count) (sym c.deref-in-Or-2.ensures) inside.1,
-                ),
-              ),
-            ),
-          ),
-        ),
-      ),
+      (lent, (other, (c.requires.view, (c.requires.few, (c.requires.begins, (one, two)))))),
     )
 
 pub add_whole-add_both-requires-in-Xor : goal.add_whole-add_both-requires-in-Xor
 add_whole-add_both-requires-in-Xor t c =
     let l = c.in-Xor.left.value in
     let r = c.in-Xor.right.value in
-    let count = length c.args.view.now.leads.now in
     let made : (tree_width l ≡ tree_width r) × IsMade l × IsMade r = subst IsMade c.in-Xor.is c.requires.made in
-    let inside : IsWithin l c.args.first count × IsWithin r c.args.first count = subst (λ (x : Tree). IsWithin x c.args.first count) c.in-Xor.is c.requires.inside in (
+    let count = length c.args.view.now.leads.now in
+    let inside = subst (λ (x : Tree). IsWithin x c.args.first count) c.in-Xor.is c.requires.inside in
+    let one = lent_within c.deref-in-Xor.result.now l c.args.first count c.deref-in-Xor.ensures inside.0 in
+    let two = lent_within c.deref-in-Xor-2.result.now r c.args.first count c.deref-in-Xor-2.ensures inside.1 in
+    let lent = subst IsMade (sym c.deref-in-Xor.ensures) made.1 in
+    let other = subst IsMade (sym c.deref-in-Xor-2.ensures) made.2 in (
       omega (arith, c.decreases, ap tree_size c.in-Xor.is, ap tree_size c.deref-in-Xor.ensures, ap tree_size c.deref-in-Xor-2.ensures),
-      (
-        subst IsMade (sym c.deref-in-Xor.ensures) made.1,
-        (
-          subst IsMade (sym c.deref-in-Xor-2.ensures) made.2,
-          (
-            c.requires.view,
-            (
-              c.requires.few,
-              (
-                c.requires.begins,
-                (
-                  subst (λ (x : Tree). IsWithin x c.args.first count) (sym c.deref-in-Xor.ensures) inside.0,
-                  subst (λ (x : Tree). IsWithin x c.args.first count) (sym c.deref-in-Xor-2.ensures) inside.1,
-                ),
-              ),
-            ),
-          ),
-        ),
-      ),
+      (lent, (other, (c.requires.view, (c.requires.few, (c.requires.begins, (one, two)))))),
     )
 
 pub add_whole-add_both-requires-in-Equal : goal.add_whole-add_both-requires-in-Equal
 add_whole-add_both-requires-in-Equal t c =
     let l = c.in-Equal.left.value in
     let r = c.in-Equal.right.value in
-    let count = length c.args.view.now.leads.now in
     let made : (tree_width l ≡ c.in-Equal.field-0) × (tree_width r ≡ c.in-Equal.field-0) × IsMade l × IsMade r = subst IsMade c.in-Equal.is c.requires.made in
-    let inside : IsWithin l c.args.first count × IsWithin r c.args.first count = subst (λ (x : Tree). IsWithin x c.args.first count) c.in-Equal.is c.requires.inside in (
+    let count = length c.args.view.now.leads.now in
+    let inside = subst (λ (x : Tree). IsWithin x c.args.first count) c.in-Equal.is c.requires.inside in
+    let one = lent_within c.deref-in-Equal.result.now l c.args.first count c.deref-in-Equal.ensures inside.0 in
+    let two = lent_within c.deref-in-Equal-2.result.now r c.args.first count c.deref-in-Equal-2.ensures inside.1 in
+    let lent = subst IsMade (sym c.deref-in-Equal.ensures) made.2 in
+    let other = subst IsMade (sym c.deref-in-Equal-2.ensures) made.3 in (
       omega (arith, c.decreases, ap tree_size c.in-Equal.is, ap tree_size c.deref-in-Equal.ensures, ap tree_size c.deref-in-Equal-2.ensures),
-      (
-        subst IsMade (sym c.deref-in-Equal.ensures) made.2,
-        (
-          subst IsMade (sym c.deref-in-Equal-2.ensures) made.3,
-          (
-            c.requires.view,
-            (
-              c.requires.few,
-              (
-                c.requires.begins,
-                (
-                  subst (λ (x : Tree). IsWithin x c.args.first count) (sym c.deref-in-Equal.ensures) inside.0,
-                  subst (λ (x : Tree). IsWithin x c.args.first count) (sym c.deref-in-Equal-2.ensures) inside.1,
-                ),
-              ),
-            ),
-          ),
-        ),
-      ),
+      (lent, (other, (c.requires.view, (c.requires.few, (c.requires.begins, (one, two)))))),
     )
 
 pub add_whole-add_both-requires-in-Minus : goal.add_whole-add_both-requires-in-Minus
 add_whole-add_both-requires-in-Minus t c =
     let l = c.in-Minus.left.value in
     let r = c.in-Minus.right.value in
-    let count = length c.args.view.now.leads.now in
     let made : (tree_width l ≡ c.in-Minus.field-0) × (tree_width r ≡ c.in-Minus.field-0) × IsMade l × IsMade r = subst IsMade c.in-Minus.is c.requires.made in
-    let inside : IsWithin l c.args.first count × IsWithin r c.args.first count = subst (λ (x : Tree). IsWithin x c.args.first count) c.in-Minus.is c.requires.inside in (
+    let count = length c.args.view.now.leads.now in
+    let inside = subst (λ (x : Tree). IsWithin x c.args.first count) c.in-Minus.is c.requires.inside in
+    let one = lent_within c.deref-in-Minus.result.now l c.args.first count c.deref-in-Minus.ensures inside.0 in
+    let two = lent_within c.deref-in-Minus-2.result.now r c.args.first count c.deref-in-Minus-2.ensures inside.1 in
+    let lent = subst IsMade (sym c.deref-in-Minus.ensures) made.2 in
+    let other = subst IsMade (sym c.deref-in-Minus-2.ensures) made.3 in (
       omega (arith, c.decreases, ap tree_size c.in-Minus.is, ap tree_size c.deref-in-Minus.ensures, ap tree_size c.deref-in-Minus-2.ensures),
-      (
-        subst IsMade (sym c.deref-in-Minus.ensures) made.2,
-        (
-          subst IsMade (sym c.deref-in-Minus-2.ensures) made.3,
-          (
-            c.requires.view,
-            (
-              c.requires.few,
-              (
-                c.requires.begins,
-                (
-                  subst (λ (x : Tree). IsWithin x c.args.first count) (sym c.deref-in-Minus.ensures) inside.0,
-                  subst (λ (x : Tree). IsWithin x c.args.first count) (sym c.deref-in-Minus-2.ensures) inside.1,
-                ),
-              ),
-            ),
-          ),
-        ),
-      ),
+      (lent, (other, (c.requires.view, (c.requires.few, (c.requires.begins, (one, two)))))),
     )
 
 pub add_whole-add_both-requires-in-Open : goal.add_whole-add_both-requires-in-Open
 add_whole-add_both-requires-in-Open t c =
     let l = c.in-Cond.yes.value in
     let r = c.in-Cond.no.value in
+    let test = c.in-Cond.test.value in
+    let made : (tree_width test ≡ 1) × (tree_width l ≡ tree_width r) × IsMade test × IsMade l × IsMade r = subst IsMade c.in-Cond.is c.requires.made in
     let count = length c.args.view.now.leads.now in
-    let made : (tree_width c.in-Cond.test.value ≡ 1) × (tree_width l ≡ tree_width r) × IsMade c.in-Cond.test.value × IsMade l × IsMade r = subst IsMade c.in-Cond.is c.requires.made in
-    let inside = subst (λ (x : Tree). IsWithin x c.args.first count) c.in-Cond.is c.requires.inside in (
+    let inside = subst (λ (x : Tree). IsWithin x c.args.first count) c.in-Cond.is c.requires.inside in
+    let one = lent_within c.deref-in-Open.result.now l c.args.first count c.deref-in-Open.ensures inside.1 in
+    let two = lent_within c.deref-in-Open-2.result.now r c.args.first count c.deref-in-Open-2.ensures inside.2 in
+    let lent = subst IsMade (sym c.deref-in-Open.ensures) made.3 in
+    let other = subst IsMade (sym c.deref-in-Open-2.ensures) made.4 in (
       omega (arith, c.decreases, ap tree_size c.in-Cond.is, ap tree_size c.deref-in-Open.ensures, ap tree_size c.deref-in-Open-2.ensures),
-      (
-        subst IsMade (sym c.deref-in-Open.ensures) made.3,
-        (
-          subst IsMade (sym c.deref-in-Open-2.ensures) made.4,
-          (
-            c.requires.view,
-            (
-              c.requires.few,
-              (
-                c.requires.begins,
-                (
-                  subst (λ (x : Tree). IsWithin x c.args.first count) (sym c.deref-in-Open.ensures) inside.1,
-                  subst (λ (x : Tree). IsWithin x c.args.first count) (sym c.deref-in-Open-2.ensures) inside.2,
-                ),
-              ),
-            ),
-          ),
-        ),
-      ),
+      (lent, (other, (c.requires.view, (c.requires.few, (c.requires.begins, (one, two)))))),
     )
+
+pub add_both-returns-clause-middle : goal.add_both-returns-clause-middle
+add_both-returns-clause-middle t c =
+    let ts = value_seen c.args.view.now.terns.now c.args.view.now.leads.now c.args.first c.args.left.now in
+    omega (
+      arith,
+      c.len-middle.ensures,
+      added_long c.args.bits.now.items c.add_whole.new.bits.items ts c.in_ok-add_whole.ensures,
+      wide_at c.args.view.now.terns.now c.args.view.now.leads.now c.args.first c.args.left.now c.requires.left,
+    )
+
+-- ---- operators
+
+pub add_whole-pair_last-requires-clause-middle : goal.add_whole-pair_last-requires-clause-middle
+add_whole-pair_last-requires-clause-middle t c =
+    let l = c.in-And.left.value in
+    let r = c.in-And.right.value in
+    let made : (tree_width l ≡ tree_width r) × IsMade l × IsMade r = subst IsMade c.in-And.is c.requires.made in
+    operands_long c.args.view.now.terns.now c.args.view.now.leads.now c.args.first l r c.deref-in-And.result.now c.deref-in-And-2.result.now
+    c.deref-in-And.ensures c.deref-in-And-2.ensures made.0 made.1 made.2 c.args.bits.now.items c.add_both-in-And.new.bits.items c.len-low.result
+    c.in_ok-middle-in-And.middle (omega (arith, c.len-low.ensures)) c.in_ok-middle-in-And.ensures.middle c.in_ok-middle-in-And.ensures.bits
+
+pub add_whole-returns-in_ok-middle-in-And : goal.add_whole-returns-in_ok-middle-in-And
+add_whole-returns-in_ok-middle-in-And t c =
+    let value = value_seen c.args.view.now.terns.now c.args.view.now.leads.now c.args.first in
+    let l = c.in-And.left.value in
+    let r = c.in-And.right.value in
+    let made : (tree_width l ≡ tree_width r) × IsMade l × IsMade r = subst IsMade c.in-And.is c.requires.made in
+    let last = operands_last c.args.view.now.terns.now c.args.view.now.leads.now c.args.first l r c.deref-in-And.result.now c.deref-in-And-2.result.now
+    c.deref-in-And.ensures c.deref-in-And-2.ensures made.0 made.1 made.2 c.args.bits.now.items c.add_both-in-And.new.bits.items c.len-low.result
+    c.in_ok-middle-in-And.middle (omega (arith, c.len-low.ensures)) c.in_ok-middle-in-And.ensures.middle c.in_ok-middle-in-And.ensures.bits in
+    c.pair_last.ensures (plain c.args.bits.now.items) (value c.deref-in-And.result.now) (value c.deref-in-And-2.result.now) last
+    ∙ ap (λ ts. plain c.args.bits.now.items ++ ts) (operands_are c.args.view.now.terns.now c.args.view.now.leads.now c.args.first l r c.deref-in-And.result.now c.deref-in-And-2.result.now
+    c.deref-in-And.ensures c.deref-in-And-2.ensures made.0 made.1 made.2
+    (each_tern both) ∙ sym (ap value c.in-And.is))
+
+pub add_whole-pair_last-requires-in-Or-clause-middle : goal.add_whole-pair_last-requires-in-Or-clause-middle
+add_whole-pair_last-requires-in-Or-clause-middle t c =
+    let l = c.in-Or.left.value in
+    let r = c.in-Or.right.value in
+    let made : (tree_width l ≡ tree_width r) × IsMade l × IsMade r = subst IsMade c.in-Or.is c.requires.made in
+    operands_long c.args.view.now.terns.now c.args.view.now.leads.now c.args.first l r c.deref-in-Or.result.now c.deref-in-Or-2.result.now
+    c.deref-in-Or.ensures c.deref-in-Or-2.ensures made.0 made.1 made.2 c.args.bits.now.items c.add_both-in-Or.new.bits.items c.len-low.result
+    c.in_ok-middle-in-Or.middle (omega (arith, c.len-low.ensures)) c.in_ok-middle-in-Or.ensures.middle c.in_ok-middle-in-Or.ensures.bits
+
+pub add_whole-returns-in_ok-middle-in-Or : goal.add_whole-returns-in_ok-middle-in-Or
+add_whole-returns-in_ok-middle-in-Or t c =
+    let value = value_seen c.args.view.now.terns.now c.args.view.now.leads.now c.args.first in
+    let l = c.in-Or.left.value in
+    let r = c.in-Or.right.value in
+    let made : (tree_width l ≡ tree_width r) × IsMade l × IsMade r = subst IsMade c.in-Or.is c.requires.made in
+    let last = operands_last c.args.view.now.terns.now c.args.view.now.leads.now c.args.first l r c.deref-in-Or.result.now c.deref-in-Or-2.result.now
+    c.deref-in-Or.ensures c.deref-in-Or-2.ensures made.0 made.1 made.2 c.args.bits.now.items c.add_both-in-Or.new.bits.items c.len-low.result
+    c.in_ok-middle-in-Or.middle (omega (arith, c.len-low.ensures)) c.in_ok-middle-in-Or.ensures.middle c.in_ok-middle-in-Or.ensures.bits in
+    c.pair_last-in-Or.ensures (plain c.args.bits.now.items) (value c.deref-in-Or.result.now) (value c.deref-in-Or-2.result.now) last
+    ∙ ap (λ ts. plain c.args.bits.now.items ++ ts) (operands_are c.args.view.now.terns.now c.args.view.now.leads.now c.args.first l r c.deref-in-Or.result.now c.deref-in-Or-2.result.now
+    c.deref-in-Or.ensures c.deref-in-Or-2.ensures made.0 made.1 made.2
+    (each_tern either) ∙ sym (ap value c.in-Or.is))
+
+pub add_whole-pair_last-requires-in-Xor-clause-middle : goal.add_whole-pair_last-requires-in-Xor-clause-middle
+add_whole-pair_last-requires-in-Xor-clause-middle t c =
+    let l = c.in-Xor.left.value in
+    let r = c.in-Xor.right.value in
+    let made : (tree_width l ≡ tree_width r) × IsMade l × IsMade r = subst IsMade c.in-Xor.is c.requires.made in
+    operands_long c.args.view.now.terns.now c.args.view.now.leads.now c.args.first l r c.deref-in-Xor.result.now c.deref-in-Xor-2.result.now
+    c.deref-in-Xor.ensures c.deref-in-Xor-2.ensures made.0 made.1 made.2 c.args.bits.now.items c.add_both-in-Xor.new.bits.items c.len-low.result
+    c.in_ok-middle-in-Xor.middle (omega (arith, c.len-low.ensures)) c.in_ok-middle-in-Xor.ensures.middle c.in_ok-middle-in-Xor.ensures.bits
+
+pub add_whole-returns-in_ok-middle-in-Xor : goal.add_whole-returns-in_ok-middle-in-Xor
+add_whole-returns-in_ok-middle-in-Xor t c =
+    let value = value_seen c.args.view.now.terns.now c.args.view.now.leads.now c.args.first in
+    let l = c.in-Xor.left.value in
+    let r = c.in-Xor.right.value in
+    let made : (tree_width l ≡ tree_width r) × IsMade l × IsMade r = subst IsMade c.in-Xor.is c.requires.made in
+    let last = operands_last c.args.view.now.terns.now c.args.view.now.leads.now c.args.first l r c.deref-in-Xor.result.now c.deref-in-Xor-2.result.now
+    c.deref-in-Xor.ensures c.deref-in-Xor-2.ensures made.0 made.1 made.2 c.args.bits.now.items c.add_both-in-Xor.new.bits.items c.len-low.result
+    c.in_ok-middle-in-Xor.middle (omega (arith, c.len-low.ensures)) c.in_ok-middle-in-Xor.ensures.middle c.in_ok-middle-in-Xor.ensures.bits in
+    c.pair_last-in-Xor.ensures (plain c.args.bits.now.items) (value c.deref-in-Xor.result.now) (value c.deref-in-Xor-2.result.now) last
+    ∙ ap (λ ts. plain c.args.bits.now.items ++ ts) (operands_are c.args.view.now.terns.now c.args.view.now.leads.now c.args.first l r c.deref-in-Xor.result.now c.deref-in-Xor-2.result.now
+    c.deref-in-Xor.ensures c.deref-in-Xor-2.ensures made.0 made.1 made.2
+    (each_tern differs) ∙ sym (ap value c.in-Xor.is))
+
+pub add_whole-compare_last-requires-clause-middle : goal.add_whole-compare_last-requires-clause-middle
+add_whole-compare_last-requires-clause-middle t c =
+    let l = c.in-Equal.left.value in
+    let r = c.in-Equal.right.value in
+    let made : (tree_width l ≡ c.in-Equal.field-0) × (tree_width r ≡ c.in-Equal.field-0) × IsMade l × IsMade r = subst IsMade c.in-Equal.is c.requires.made in
+    operands_long c.args.view.now.terns.now c.args.view.now.leads.now c.args.first l r c.deref-in-Equal.result.now c.deref-in-Equal-2.result.now
+    c.deref-in-Equal.ensures c.deref-in-Equal-2.ensures (made.0 ∙ sym made.1) made.2 made.3 c.args.bits.now.items c.add_both-in-Equal.new.bits.items c.len-low.result
+    c.in_ok-middle-in-Equal.middle (omega (arith, c.len-low.ensures)) c.in_ok-middle-in-Equal.ensures.middle c.in_ok-middle-in-Equal.ensures.bits
+
+pub add_whole-returns-in_ok-middle-in-Equal : goal.add_whole-returns-in_ok-middle-in-Equal
+add_whole-returns-in_ok-middle-in-Equal t c =
+    let value = value_seen c.args.view.now.terns.now c.args.view.now.leads.now c.args.first in
+    let l = c.in-Equal.left.value in
+    let r = c.in-Equal.right.value in
+    let made : (tree_width l ≡ c.in-Equal.field-0) × (tree_width r ≡ c.in-Equal.field-0) × IsMade l × IsMade r = subst IsMade c.in-Equal.is c.requires.made in
+    let last = operands_last c.args.view.now.terns.now c.args.view.now.leads.now c.args.first l r c.deref-in-Equal.result.now c.deref-in-Equal-2.result.now
+    c.deref-in-Equal.ensures c.deref-in-Equal-2.ensures (made.0 ∙ sym made.1) made.2 made.3 c.args.bits.now.items c.add_both-in-Equal.new.bits.items c.len-low.result
+    c.in_ok-middle-in-Equal.middle (omega (arith, c.len-low.ensures)) c.in_ok-middle-in-Equal.ensures.middle c.in_ok-middle-in-Equal.ensures.bits in
+    on_ok c.compare_last.result
+    (λ done. done (plain c.args.bits.now.items) (value c.deref-in-Equal.result.now) (value c.deref-in-Equal-2.result.now) last
+    ∙ ap (λ ts. plain c.args.bits.now.items ++ ts) (operands_are c.args.view.now.terns.now c.args.view.now.leads.now c.args.first l r c.deref-in-Equal.result.now c.deref-in-Equal-2.result.now
+    c.deref-in-Equal.ensures c.deref-in-Equal-2.ensures (made.0 ∙ sym made.1) made.2 made.3
+    (λ xs ys. same_terns xs ys ∷ []) ∙ sym (ap value c.in-Equal.is)))
+    c.compare_last.ensures
+
+pub add_whole-subtract_last-requires-clause-middle : goal.add_whole-subtract_last-requires-clause-middle
+add_whole-subtract_last-requires-clause-middle t c =
+    let l = c.in-Minus.left.value in
+    let r = c.in-Minus.right.value in
+    let made : (tree_width l ≡ c.in-Minus.field-0) × (tree_width r ≡ c.in-Minus.field-0) × IsMade l × IsMade r = subst IsMade c.in-Minus.is c.requires.made in
+    operands_long c.args.view.now.terns.now c.args.view.now.leads.now c.args.first l r c.deref-in-Minus.result.now c.deref-in-Minus-2.result.now
+    c.deref-in-Minus.ensures c.deref-in-Minus-2.ensures (made.0 ∙ sym made.1) made.2 made.3 c.args.bits.now.items c.add_both-in-Minus.new.bits.items c.len-low.result
+    c.in_ok-middle-in-Minus.middle (omega (arith, c.len-low.ensures)) c.in_ok-middle-in-Minus.ensures.middle c.in_ok-middle-in-Minus.ensures.bits
+
+pub add_whole-returns-in_ok-middle-in-Minus : goal.add_whole-returns-in_ok-middle-in-Minus
+add_whole-returns-in_ok-middle-in-Minus t c =
+    let value = value_seen c.args.view.now.terns.now c.args.view.now.leads.now c.args.first in
+    let l = c.in-Minus.left.value in
+    let r = c.in-Minus.right.value in
+    let made : (tree_width l ≡ c.in-Minus.field-0) × (tree_width r ≡ c.in-Minus.field-0) × IsMade l × IsMade r = subst IsMade c.in-Minus.is c.requires.made in
+    let last = operands_last c.args.view.now.terns.now c.args.view.now.leads.now c.args.first l r c.deref-in-Minus.result.now c.deref-in-Minus-2.result.now
+    c.deref-in-Minus.ensures c.deref-in-Minus-2.ensures (made.0 ∙ sym made.1) made.2 made.3 c.args.bits.now.items c.add_both-in-Minus.new.bits.items c.len-low.result
+    c.in_ok-middle-in-Minus.middle (omega (arith, c.len-low.ensures)) c.in_ok-middle-in-Minus.ensures.middle c.in_ok-middle-in-Minus.ensures.bits in
+    c.subtract_last.ensures (plain c.args.bits.now.items) (value c.deref-in-Minus.result.now) (value c.deref-in-Minus-2.result.now) last
+    ∙ ap (λ ts. plain c.args.bits.now.items ++ ts) (operands_are c.args.view.now.terns.now c.args.view.now.leads.now c.args.first l r c.deref-in-Minus.result.now c.deref-in-Minus-2.result.now
+    c.deref-in-Minus.ensures c.deref-in-Minus-2.ensures (made.0 ∙ sym made.1) made.2 made.3
+    (tern_operated ops.Minus) ∙ sym (ap value c.in-Minus.is))
 
 -- ---- tables
 
@@ -552,19 +402,18 @@ add_whole-returns-in_ok-add_whole-in-Not t c =
 
 pub add_whole-returns-in-Yes : goal.add_whole-returns-in-Yes
 add_whole-returns-in-Yes t c =
-    let terns = c.args.view.now.terns.now in
-    let leads = c.args.view.now.leads.now in
-    let value = value_seen terns leads c.args.first in
+    let value = value_seen c.args.view.now.terns.now c.args.view.now.leads.now c.args.first in
     let old = c.args.bits.now.items in
     let new = c.add_whole-in-Cond.new.bits.items in
-    let lent_test = c.deref-in-Cond.result.now in
     let at : c.len-low.result ≡ length old = omega (arith, c.len-low.ensures) in
     let cut : plain c.truncate.new.self.items ≡ plain old =
     ap plain c.truncate.ensures.items
-    ∙ front_plain old new c.deref-in-Cond-2.result.now (value lent_test) c.len-low.result c.deref-in-Cond-2.ensures.value c.in_ok-add_whole-in-Cond.ensures at in
+    ∙ front_plain old new c.deref-in-Cond-2.result.now (value c.deref-in-Cond.result.now) c.len-low.result c.deref-in-Cond-2.ensures.value
+    c.in_ok-add_whole-in-Cond.ensures at in
     let test_is : yes ≡ tern_at (value c.in-Cond.test.value) 0 =
     c.in-Yes.ensures
-    ∙ first_behind old new c.deref-in-Cond-2.result.now (value lent_test) c.len-low.result c.deref-in-Cond-2.ensures.value c.in_ok-add_whole-in-Cond.ensures at
+    ∙ first_behind old new c.deref-in-Cond-2.result.now (value c.deref-in-Cond.result.now) c.len-low.result c.deref-in-Cond-2.ensures.value
+    c.in_ok-add_whole-in-Cond.ensures at
     ∙ ap (λ (x : Tree). tern_at (value x) 0) c.deref-in-Cond.ensures in
     on_ok c.add_whole-in-Yes.result
     (λ is. is ∙ ap₂ (λ xs ts. xs ++ ts) cut
@@ -573,19 +422,18 @@ add_whole-returns-in-Yes t c =
 
 pub add_whole-returns-in-No : goal.add_whole-returns-in-No
 add_whole-returns-in-No t c =
-    let terns = c.args.view.now.terns.now in
-    let leads = c.args.view.now.leads.now in
-    let value = value_seen terns leads c.args.first in
+    let value = value_seen c.args.view.now.terns.now c.args.view.now.leads.now c.args.first in
     let old = c.args.bits.now.items in
     let new = c.add_whole-in-Cond.new.bits.items in
-    let lent_test = c.deref-in-Cond.result.now in
     let at : c.len-low.result ≡ length old = omega (arith, c.len-low.ensures) in
     let cut : plain c.truncate.new.self.items ≡ plain old =
     ap plain c.truncate.ensures.items
-    ∙ front_plain old new c.deref-in-Cond-2.result.now (value lent_test) c.len-low.result c.deref-in-Cond-2.ensures.value c.in_ok-add_whole-in-Cond.ensures at in
+    ∙ front_plain old new c.deref-in-Cond-2.result.now (value c.deref-in-Cond.result.now) c.len-low.result c.deref-in-Cond-2.ensures.value
+    c.in_ok-add_whole-in-Cond.ensures at in
     let test_is : no ≡ tern_at (value c.in-Cond.test.value) 0 =
     c.in-No.ensures
-    ∙ first_behind old new c.deref-in-Cond-2.result.now (value lent_test) c.len-low.result c.deref-in-Cond-2.ensures.value c.in_ok-add_whole-in-Cond.ensures at
+    ∙ first_behind old new c.deref-in-Cond-2.result.now (value c.deref-in-Cond.result.now) c.len-low.result c.deref-in-Cond-2.ensures.value
+    c.in_ok-add_whole-in-Cond.ensures at
     ∙ ap (λ (x : Tree). tern_at (value x) 0) c.deref-in-Cond.ensures in
     on_ok c.add_whole-in-No.result
     (λ is. is ∙ ap₂ (λ xs ts. xs ++ ts) cut
@@ -594,57 +442,46 @@ add_whole-returns-in-No t c =
 
 pub add_whole-pair_last-requires-in-Open-clause-middle : goal.add_whole-pair_last-requires-in-Open-clause-middle
 add_whole-pair_last-requires-in-Open-clause-middle t c =
-    let terns = c.args.view.now.terns.now in
-    let leads = c.args.view.now.leads.now in
-    let value = value_seen terns leads c.args.first in
+    let value = value_seen c.args.view.now.terns.now c.args.view.now.leads.now c.args.first in
     let old = c.args.bits.now.items in
     let new = c.add_whole-in-Cond.new.bits.items in
-    let lent_test = c.deref-in-Cond.result.now in
     let at : c.len-low.result ≡ length old = omega (arith, c.len-low.ensures) in
     let cut : plain c.truncate.new.self.items ≡ plain old =
     ap plain c.truncate.ensures.items
-    ∙ front_plain old new c.deref-in-Cond-2.result.now (value lent_test) c.len-low.result c.deref-in-Cond-2.ensures.value c.in_ok-add_whole-in-Cond.ensures at in
+    ∙ front_plain old new c.deref-in-Cond-2.result.now (value c.deref-in-Cond.result.now) c.len-low.result c.deref-in-Cond-2.ensures.value
+    c.in_ok-add_whole-in-Cond.ensures at in
     let l = c.in-Cond.yes.value in
     let r = c.in-Cond.no.value in
-    let lent = c.deref-in-Open.result.now in
-    let other = c.deref-in-Open-2.result.now in
-    let made : (tree_width c.in-Cond.test.value ≡ 1) × (tree_width l ≡ tree_width r) × IsMade c.in-Cond.test.value × IsMade l × IsMade r =
-    subst IsMade c.in-Cond.is c.requires.made in
-    let wide : tree_width lent ≡ tree_width l = ap tree_width c.deref-in-Open.ensures in
-    let long : length (value lent) ≡ tree_width lent = lent_long terns leads c.args.first lent l (tree_width lent) c.deref-in-Open.ensures (sym wide) made.3 in
-    let long_other : length (value other) ≡ tree_width lent =
-    lent_long terns leads c.args.first other r (tree_width lent) c.deref-in-Open-2.ensures (sym made.1 ∙ sym wide) made.4 in
-    halves_long c.truncate.new.self.items c.add_both-in-Open.new.bits.items (value lent) (value other) c.len-low.result c.in_ok-middle-in-Open.middle
-    (tree_width lent) c.in_ok-middle-in-Open.ensures.bits (at ∙ sym (as_long c.truncate.new.self.items old cut)) c.in_ok-middle-in-Open.ensures.middle long long_other
+    let test = c.in-Cond.test.value in
+    let made : (tree_width test ≡ 1) × (tree_width l ≡ tree_width r) × IsMade test × IsMade l × IsMade r = subst IsMade c.in-Cond.is c.requires.made in
+    operands_long c.args.view.now.terns.now c.args.view.now.leads.now c.args.first l r c.deref-in-Open.result.now c.deref-in-Open-2.result.now
+    c.deref-in-Open.ensures c.deref-in-Open-2.ensures made.1 made.3 made.4 c.truncate.new.self.items c.add_both-in-Open.new.bits.items c.len-low.result
+    c.in_ok-middle-in-Open.middle (at ∙ sym (as_long c.truncate.new.self.items old cut)) c.in_ok-middle-in-Open.ensures.middle c.in_ok-middle-in-Open.ensures.bits
 
 pub add_whole-returns-in_ok-middle-in-Open : goal.add_whole-returns-in_ok-middle-in-Open
 add_whole-returns-in_ok-middle-in-Open t c =
-    let terns = c.args.view.now.terns.now in
-    let leads = c.args.view.now.leads.now in
-    let value = value_seen terns leads c.args.first in
+    let value = value_seen c.args.view.now.terns.now c.args.view.now.leads.now c.args.first in
     let old = c.args.bits.now.items in
     let new = c.add_whole-in-Cond.new.bits.items in
-    let lent_test = c.deref-in-Cond.result.now in
     let at : c.len-low.result ≡ length old = omega (arith, c.len-low.ensures) in
     let cut : plain c.truncate.new.self.items ≡ plain old =
     ap plain c.truncate.ensures.items
-    ∙ front_plain old new c.deref-in-Cond-2.result.now (value lent_test) c.len-low.result c.deref-in-Cond-2.ensures.value c.in_ok-add_whole-in-Cond.ensures at in
+    ∙ front_plain old new c.deref-in-Cond-2.result.now (value c.deref-in-Cond.result.now) c.len-low.result c.deref-in-Cond-2.ensures.value
+    c.in_ok-add_whole-in-Cond.ensures at in
     let test_is : unknown ≡ tern_at (value c.in-Cond.test.value) 0 =
     c.in-Open.ensures
-    ∙ first_behind old new c.deref-in-Cond-2.result.now (value lent_test) c.len-low.result c.deref-in-Cond-2.ensures.value c.in_ok-add_whole-in-Cond.ensures at
+    ∙ first_behind old new c.deref-in-Cond-2.result.now (value c.deref-in-Cond.result.now) c.len-low.result c.deref-in-Cond-2.ensures.value
+    c.in_ok-add_whole-in-Cond.ensures at
     ∙ ap (λ (x : Tree). tern_at (value x) 0) c.deref-in-Cond.ensures in
     let l = c.in-Cond.yes.value in
     let r = c.in-Cond.no.value in
-    let lent = c.deref-in-Open.result.now in
-    let other = c.deref-in-Open-2.result.now in
-    let made : (tree_width c.in-Cond.test.value ≡ 1) × (tree_width l ≡ tree_width r) × IsMade c.in-Cond.test.value × IsMade l × IsMade r =
-    subst IsMade c.in-Cond.is c.requires.made in
-    let wide : tree_width lent ≡ tree_width l = ap tree_width c.deref-in-Open.ensures in
-    let long : length (value lent) ≡ tree_width lent = lent_long terns leads c.args.first lent l (tree_width lent) c.deref-in-Open.ensures (sym wide) made.3 in
-    let long_other : length (value other) ≡ tree_width lent =
-    lent_long terns leads c.args.first other r (tree_width lent) c.deref-in-Open-2.ensures (sym made.1 ∙ sym wide) made.4 in
-    c.pair_last-in-Open.ensures (plain c.truncate.new.self.items) (value lent) (value other) (are_last c.truncate.new.self.items c.add_both-in-Open.new.bits.items (value lent) (value other) c.len-low.result c.in_ok-middle-in-Open.middle
-    (tree_width lent) c.in_ok-middle-in-Open.ensures.bits (at ∙ sym (as_long c.truncate.new.self.items old cut)) c.in_ok-middle-in-Open.ensures.middle long long_other)
+    let test = c.in-Cond.test.value in
+    let made : (tree_width test ≡ 1) × (tree_width l ≡ tree_width r) × IsMade test × IsMade l × IsMade r = subst IsMade c.in-Cond.is c.requires.made in
+    let last = operands_last c.args.view.now.terns.now c.args.view.now.leads.now c.args.first l r c.deref-in-Open.result.now c.deref-in-Open-2.result.now
+    c.deref-in-Open.ensures c.deref-in-Open-2.ensures made.1 made.3 made.4 c.truncate.new.self.items c.add_both-in-Open.new.bits.items c.len-low.result
+    c.in_ok-middle-in-Open.middle (at ∙ sym (as_long c.truncate.new.self.items old cut)) c.in_ok-middle-in-Open.ensures.middle c.in_ok-middle-in-Open.ensures.bits in
+    c.pair_last-in-Open.ensures (plain c.truncate.new.self.items) (value c.deref-in-Open.result.now) (value c.deref-in-Open-2.result.now) last
     ∙ ap₂ (λ xs ts. xs ++ ts) cut
-    ((λ j. each_tern agreed (value (c.deref-in-Open.ensures j)) (value (c.deref-in-Open-2.ensures j)))
+    (operands_are c.args.view.now.terns.now c.args.view.now.leads.now c.args.first l r c.deref-in-Open.result.now c.deref-in-Open-2.result.now
+    c.deref-in-Open.ensures c.deref-in-Open-2.ensures made.1 made.3 made.4 (each_tern agreed)
     ∙ ap (λ s. one_of s (value l) (value r)) test_is ∙ sym (ap value c.in-Cond.is))
