@@ -88,8 +88,22 @@ fn is_open_point(point: usize, view: &View) -> bool {
     matches!(view.terns.get(*lead as usize), Some(Tern::Open))
 }
 
-/// All bits of the value of an expression, the least significant one first, over the points of an instance, of which the first is given.
-pub fn whole(alloc: Global, tree: &Tree, first: usize, view: &View) -> Result<Vec<Tern>, Memory>
+/// All bits of the value of an expression, the least significant one first, over the points of an instance, of which the first is given. They take the place
+/// of what the list has, so that one list serves for many. Where memory is refused, nothing is said of the list.
+pub fn whole_into(tree: &Tree, first: usize, view: &View, bits: &mut Vec<Tern>) -> Result<(), Memory>
+    requires made { IsMade tree.now }
+    requires view { IsView view.now.terns.now view.now.leads.now }
+    requires few { length view.now.leads.now ≤ 2 ^ 32 }
+    requires begins { first ≤ length view.now.leads.now }
+    requires inside { IsWithin tree.now first (length view.now.leads.now) }
+    ensures { OnOk result (map plain_tern bits.new.items ≡ value_seen view.now.terns.now view.now.leads.now first tree.now) }
+{
+    bits.clear();
+    add_whole(tree, first, view, bits)
+}
+
+/// The same in a list of its own.
+pub(crate) fn whole(alloc: Global, tree: &Tree, first: usize, view: &View) -> Result<Vec<Tern>, Memory>
     requires made { IsMade tree.now }
     requires view { IsView view.now.terns.now view.now.leads.now }
     requires few { length view.now.leads.now ≤ 2 ^ 32 }
