@@ -90,7 +90,12 @@ fn is_open_point(point: usize, view: &View) -> bool {
 
 /// All bits of the value of an expression, the least significant one first, over the points of an instance, of which the first is given. They take the place
 /// of what the list has, so that one list serves for many. Where memory is refused, nothing is said of the list.
-pub fn whole_into(tree: &Tree, first: usize, view: &View, bits: &mut Vec<Tern>) -> Result<(), Memory>
+pub fn whole_into(
+    tree: &Tree,
+    first: usize,
+    view: &View,
+    bits: &mut Vec<Tern>,
+) -> Result<(), Memory>
     requires made { IsMade tree.now }
     requires view { IsView view.now.terns.now view.now.leads.now }
     requires few { length view.now.leads.now ≤ 2 ^ 32 }
@@ -103,7 +108,12 @@ pub fn whole_into(tree: &Tree, first: usize, view: &View, bits: &mut Vec<Tern>) 
 }
 
 /// The same in a list of its own.
-pub(crate) fn whole(alloc: Global, tree: &Tree, first: usize, view: &View) -> Result<Vec<Tern>, Memory>
+pub(crate) fn whole(
+    alloc: Global,
+    tree: &Tree,
+    first: usize,
+    view: &View,
+) -> Result<Vec<Tern>, Memory>
     requires made { IsMade tree.now }
     requires view { IsView view.now.terns.now view.now.leads.now }
     requires few { length view.now.leads.now ≤ 2 ^ 32 }

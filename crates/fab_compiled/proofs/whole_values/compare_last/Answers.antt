@@ -1,4 +1,4 @@
-use Rattle.std.proofs.Common.{◌≡◌, ◌-◌, ◌++◌, ◌∷◌, [], take, drop, length, map, ap, ap₂, ◌∙◌}
+use Rattle.std.proofs.Common.{◌-◌, ◌++◌, ◌∷◌, [], take, drop, length, ap, ap₂, ◌∙◌}
 use Rattle.std.proofs.lemmas.List.{map-append}
 use Rattle.fab_solutions_laws.specs.fab_ternary_laws_Operators.{same_terns}
 use Rattle.fab_ternary.specs.Terns.{plain_tern}
