@@ -1,10 +1,11 @@
 -- Lists of bits that stand at the end of another one.
-use Rattle.std.proofs.Common.{◌≡◌, ℕ, zero, suc, ◌+◌, ◌-◌, ◌≤◌, List, [], ◌∷◌, ◌++◌, length, length-append, take, drop, Result, Ok, Err, OnOk, refl, sym, ap, ap₂, ◌∙◌, subst, arith, append_assoc}
+use Rattle.std.proofs.Common.{◌≡◌, ℕ, zero, suc, ◌+◌, ◌-◌, ◌≤◌, List, [], ◌∷◌, ◌++◌, length, length-append, replicate, take, drop, Result, Ok, Err, OnOk, refl, sym, ap, ap₂, ◌∙◌, subst, arith, append_assoc}
 use Rattle.std.proofs.Math.Seq.{take-append_seam, take-append-add, take-length, drop-append_seam, drop-append-add}
-use Rattle.std.proofs.lemmas.List.{drop-map, length-drop, length-map, length-take-le, map-append, take-append-le, take-map}
+use Rattle.std.proofs.lemmas.List.{drop-map, length-drop, length-map, length-replicate, length-take-le, map-append, take_all, take-append-le, take-map}
 use Rattle.fab_systems_laws.specs.Ternary.{Tern}
 use Rattle.fab_solutions_laws.specs.fab_ternary_laws_Operators.{tern_at}
 use Rattle.fab_ternary.specs.declared.Tern.{Tern as Kept}
+use Rattle.fab_ternary.specs.declared.Tern.TheVariants.{No}
 use Rattle.fab_ternary.specs.Terns.{plain_tern}
 use Rattle.fab_compiled.specs.declared.tree.Tree.{Tree}
 use Rattle.fab_compiled.specs.Trees.{tree_width, IsMade}
@@ -129,6 +130,21 @@ module _ (old new lent : List Kept) (ts : List Tern) (low : ℕ) (same : lent �
       ∙ ap (λ zs. take low new ++ zs) (ap (take (length ys)) (append_assoc ys post rest) ∙ take-append_seam ys (post ++ rest)))
       ∙ map-append plain_tern (take low new) ys
       ∙ ap (λ xs. xs ++ plain ys) front_plain
+
+-- a list with room behind it for so many bits, which are written there
+module _ (old new lent : List Kept) (low count had : ℕ) (at : low ≡ length old) (all : had ≡ length old) (is : new ≡ take (low + count) old ++ replicate (low + count - had) No)
+    (same : lent ≡ new) where
+  grown : plain new ≡ plain old ++ plain (replicate count No)
+  grown =
+      let left : low + count - had ≡ count = omega (arith, at, all) in
+      ap plain (is ∙ ap₂ (λ xs n. xs ++ replicate n No) (take_all (low + count) old (omega (arith, at))) left) ∙ map-append plain_tern old (replicate count No)
+
+  pub room_long : length (take (length lent - low) (drop low lent)) ≡ count
+  room_long = behind_long old new lent (plain (replicate count No)) low same grown at ∙ length-map (replicate count No) plain_tern ∙ length-replicate count No
+
+  pub room_laid : (n : ℕ) (ys post rest : List Kept) → n ≡ length new → length ys ≡ length (take (length lent - low) (drop low lent)) →
+      plain (take n ((take low lent ++ (ys ++ post)) ++ rest)) ≡ plain old ++ plain ys
+  room_laid = laid_behind old new lent (plain (replicate count No)) low same grown at
 
 -- lists of the same bits are as long as each other
 pub as_long : (xs ys : List Kept) → plain xs ≡ plain ys → length xs ≡ length ys

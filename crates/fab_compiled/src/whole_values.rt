@@ -287,11 +287,20 @@ fn end_in(low: usize, bit: Tern, bits: &mut Vec<Tern>) -> Result<(), Memory>
 fn add_constant(constant: &[bool], bits: &mut Vec<Tern>) -> Result<(), Memory>
     ensures { OnOk result (map plain_tern bits.new.items ≡ map plain_tern bits.old.items ++ map known_tern constant.now) }
 {
-    bits.reserve(constant.len())?;
-    for bit in constant {
-        bits.push(Tern::known(*bit))?;
-    }
+    let low = bits.len();
+    bits.resize(low + constant.len(), Tern::No)?;
+    write_constant(constant, &mut bits[low..]);
     Ok(())
+}
+
+// Writes the bits of a constant in the place of those of a list.
+fn write_constant(constant: &[bool], bits: &mut [Tern])
+    requires { length bits.old ≡ length constant.now }
+    ensures { map plain_tern bits.new ≡ map known_tern constant.now }
+{
+    for place in 0..bits.len() {
+        bits[place] = Tern::known(constant[place]);
+    }
 }
 
 // Adds what points have that follow one another.
