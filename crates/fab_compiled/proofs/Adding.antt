@@ -175,13 +175,6 @@ module _ (terns : List Kept) (leads : List ℕ) (first : ℕ) (l r lent other : 
       f (value_seen terns leads first lent) (value_seen terns leads first other) ≡ f (value_seen terns leads first l) (value_seen terns leads first r)
   operands_are f = (λ j. f (value_seen terns leads first (is j)) (value_seen terns leads first (is_other j)))
 
-  -- they may be looked at, as parts of an expression
-  pub lent_made : IsMade lent
-  lent_made = subst IsMade (sym is) made
-
-  pub other_made : IsMade other
-  other_made = subst IsMade (sym is_other) made_other
-
 pub lent_within : (lent tree : Tree) (first count : ℕ) → lent ≡ tree → IsWithin tree first count → IsWithin lent first count
 lent_within lent tree first count is h = subst (λ (x : Tree). IsWithin x first count) (sym is) h
 

@@ -7,7 +7,7 @@ use Rattle.fab_bits.specs.Bits.{number, digits, other_bit}
 use Rattle.fab_solutions_laws.specs.fab_meaning_Value.{operated, bit_at}
 use Rattle.fab_syntax.specs.declared.tree.Op.TheVariants as ops
 use Rattle.fab_values.proofs.Evaluated.{borrow_at, bit_difference}
-use Rattle.fab_systems_laws.specs.Ternary.{Tern, no, yes, unknown, known}
+use Rattle.fab_systems_laws.specs.Ternary.{Tern, yes, unknown, known}
 use Rattle.fab_solutions_laws.specs.fab_ternary_laws_Operators.{tern_at, inverse, both, differs, agreed, each_tern, same_terns, bools, minus_of, tern_operated, one_of}
 use Rattle.fab_solutions_laws.specs.fab_ternary_laws_Shown.{first_terns}
 use Rattle.fab_solutions_laws.proofs.fab_ternary_laws_Known.{known_at}
@@ -41,12 +41,6 @@ pub one_of_at : (test : Tern) (ts us vs : List Tern) (bit : ℕ) → vs ≡ one_
     agreed (tern_at ts bit) (tern_at us bit) ≡ tern_at vs bit
 one_of_at test ts us vs bit is none l e =
     sym (ap (λ (xs : List Tern). tern_at xs bit) is ∙ ap (λ (t : Tern). tern_at (one_of t ts us) bit) none ∙ each_at agreed ts us bit l e)
-
-pub yes_at : (test : Tern) (ts us vs : List Tern) (bit : ℕ) → vs ≡ one_of test ts us → test ≡ yes → tern_at ts bit ≡ tern_at vs bit
-yes_at test ts us vs bit is e = sym (ap (λ (xs : List Tern). tern_at xs bit) is ∙ ap (λ (t : Tern). tern_at (one_of t ts us) bit) e)
-
-pub no_at : (test : Tern) (ts us vs : List Tern) (bit : ℕ) → vs ≡ one_of test ts us → test ≡ no → tern_at us bit ≡ tern_at vs bit
-no_at test ts us vs bit is e = sym (ap (λ (xs : List Tern). tern_at xs bit) is ∙ ap (λ (t : Tern). tern_at (one_of t ts us) bit) e)
 
 pub single_at : (t : Tern) (ts : List Tern) (bit : ℕ) → ts ≡ t ∷ [] → bit < 1 → t ≡ tern_at ts bit
 single_at t ts bit is l = let e : bit ≡ 0 = omega arith in sym (ap (λ (xs : List Tern). tern_at xs bit) is ∙ ap (tern_at (t ∷ [])) e)

@@ -42,13 +42,6 @@ module _ (terns : List Tern) (leads : List ℕ) (marks : List Bool) where
         same t above k within ∙ tells.depends (sym marked ∙ m) k within t u above over agree ∙ sym (same u over k within);
   }
 
-  -- a part without bits
-  pub none_tells : (value : PointTerns → (bit : ℕ) → PlainTern) (part : Part) → part.bits.items ≡ [] → TellsBits terns leads marks value part
-  none_tells value part none = record {
-    below = λ k bit e. absurd (let l : k < length part.bits.items = there part.bits.items k bit e in omega (arith, l, ap length none));
-    depends = λ m k l. absurd (omega (arith, l, ap length none));
-  }
-
   module _ (first : ℕ) where
     abbrev bits_under : Tree → PointTerns → (bit : ℕ) → PlainTern
     bits_under tree t bit = bit_under t first tree bit

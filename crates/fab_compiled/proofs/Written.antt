@@ -1,13 +1,12 @@
 -- Lists of bits that are written place by place.
-use Rattle.std.proofs.Common.{◌≡◌, ℕ, zero, suc, ◌+◌, ◌<◌, ◌≤◌, List, [], ◌∷◌, ◌++◌, length, map, take, refl, sym, ap, ap₂, ◌∙◌, inl, inr, arith, set, get_or, slice_get, Bool, true, false, not, ◌&&◌, Option, Some, None, Result, Ok, Err, IfOk}
+use Rattle.std.proofs.Common.{◌≡◌, ℕ, zero, suc, ◌+◌, ◌<◌, ◌≤◌, List, [], ◌∷◌, length, map, refl, sym, ap, ap₂, ◌∙◌, inl, inr, arith, set, get_or, slice_get, Bool, true, false, not, ◌&&◌, Option, Some, None}
 use Rattle.std.proofs.lemmas.Bool.{cases_eq}
 use Rattle.std.proofs.lemmas.Bool.{cases_Bool, false≢true}
 use Rattle.std.proofs.lemmas.List.{length-map}
 use Rattle.std.proofs.lemmas.Option.{slice_get_within}
 use Rattle.fab_syntax.specs.declared.tree.Op.TheVariants as ops
-use Rattle.fab_systems_laws.specs.Ternary.{Tern, no, yes, unknown, known}
+use Rattle.fab_systems_laws.specs.Ternary.{Tern, no, yes, unknown}
 use Rattle.fab_solutions_laws.specs.fab_ternary_laws_Operators.{tern_at, bools, minus_of, tern_operated}
-use Rattle.fab_solutions_laws.specs.fab_ternary_laws_Shown.{first_terns}
 use Rattle.fab_ternary.specs.declared.Tern.{Tern as Kept}
 use Rattle.fab_ternary.specs.declared.Tern.TheVariants.{No}
 use Rattle.fab_ternary.specs.Terns.{plain_tern, is_known}
@@ -74,39 +73,6 @@ one_done place done old bits bit part within is = record {
 pub all_done : (place : ℕ) (done old now : List Tern) → IsPartly place done old now → length old ≤ place → length done ≡ length old → now ≡ done
 all_done place done old now part past same = bits_same now done (part.long ∙ sym same) (λ k l. part.before k (omega (arith, l, past, same)))
 
--- ---- lists that grow at their end
-
-pub pushed : (bits new : List Kept) (bit : Kept) → new ≡ bits ++ bit ∷ [] → plain new ≡ plain bits ++ plain_tern bit ∷ []
-pushed bits new bit is = ap plain is ∙ joined_plain bits (bit ∷ [])
-  where
-    joined_plain : (xs ys : List Kept) → plain (xs ++ ys) ≡ plain xs ++ plain ys
-    joined_plain [] ys = refl
-    joined_plain (x ∷ xs) ys = ap (λ ts. plain_tern x ∷ ts) (joined_plain xs ys)
-
-pub first_more : (n : ℕ) (f : ℕ → Tern) → first_terns (n + 1) f ≡ first_terns n f ++ f n ∷ []
-first_more zero f = refl
-first_more (suc n) f =
-    let e : suc n + 1 ≡ suc (n + 1) = omega arith in
-    ap (λ m. first_terns m f) e ∙ ap (λ ts. f 0 ∷ ts) (first_more n (λ k. f (suc k)))
-
-pub known_more : (bits : List Bool) (i : ℕ) → i < length bits → map known (take (i + 1) bits) ≡ map known (take i bits) ++ known (get_or bits i false) ∷ []
-known_more [] i l = absurd (omega arith)
-known_more (b ∷ bits) zero l = refl
-known_more (b ∷ bits) (suc i) l =
-    let e : suc i + 1 ≡ suc (i + 1) = omega arith in
-    ap (λ n. map known (take n (b ∷ bits))) e ∙ ap (λ ts. known b ∷ ts) (known_more bits i (omega arith))
-
-pub take_whole : (bits : List Bool) (n : ℕ) → length bits ≤ n → take n bits ≡ bits
-take_whole [] zero l = refl
-take_whole [] (suc n) l = refl
-take_whole (b ∷ bits) zero l = absurd (omega arith)
-take_whole (b ∷ bits) (suc n) l = ap (λ xs. b ∷ xs) (take_whole bits n (omega arith))
-
--- what holds of what is made in one way
-pub carried : {X E : Type 0} (r : Result X E) (P Q : X → Type 0) → ((x : X) → P x → Q x) → IfOk r P → IfOk r Q
-carried (Ok x) P Q f h = f x h
-carried (Err e) P Q f h = tt
-
 -- ---- what is known
 
 pub tells_known : (t : Tern) (b : Bool) → b ≡ not (is_known t) → b ≡ false → is_known t ≡ true
@@ -151,16 +117,3 @@ pub whole_bit : (terns : List Kept) (leads : List ℕ) (first : ℕ) (tree : Tre
 whole_bit terns leads first tree bits made is bit kept at =
     let long : length bits ≡ tree_width tree = sym (length-map bits plain_tern) ∙ ap length is ∙ value_length (λ place. seen terns leads (first + place)) tree made in
     (omega (arith, long, slice_get_within bits bit kept at), bit_kept bits bit kept at ∙ ap (λ (ts : List Tern). tern_at ts bit) is)
-
-pub whole_long : (terns : List Kept) (leads : List ℕ) (first : ℕ) (tree lent : Tree) (bits : List Kept) → lent ≡ tree → IsMade tree → plain bits ≡ value_seen terns leads first lent →
-    length bits ≡ tree_width tree
-whole_long terns leads first tree lent bits same made is =
-    sym (length-map bits plain_tern) ∙ ap length is ∙ ap (λ (x : Tree). length (value_seen terns leads first x)) same ∙ value_length (λ place. seen terns leads (first + place)) tree made
-
--- operands of as many bits
-pub wholes_long : (terns : List Kept) (leads : List ℕ) (first : ℕ) (left right lent_left lent_right : Tree) (bits others : List Kept) →
-    lent_left ≡ left → lent_right ≡ right → IsMade left → IsMade right → tree_width left ≡ tree_width right →
-    plain bits ≡ value_seen terns leads first lent_left → plain others ≡ value_seen terns leads first lent_right → length bits ≡ length others
-wholes_long terns leads first left right lent_left lent_right bits others same_left same_right made_left made_right same is_left is_right =
-    whole_long terns leads first left lent_left bits same_left made_left is_left ∙ same
-    ∙ sym (whole_long terns leads first right lent_right others same_right made_right is_right)
