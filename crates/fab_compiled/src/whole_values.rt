@@ -308,11 +308,24 @@ fn add_points(
     ensures { OnOk result (map plain_tern bits.new.items ≡ map plain_tern bits.old.items ++
         first_terns count (λ k. seen view.now.terns.now view.now.leads.now (first + (place + k)))) }
 {
-    bits.reserve(count)?;
-    for next in 0..count {
-        bits.push(view.at(first + (place + next)))?;
-    }
+    let low = bits.len();
+    bits.resize(low + count, Tern::No)?;
+    read_points(first, place, view, &mut bits[low..]);
     Ok(())
+}
+
+// Writes what points have that follow one another, one in each place of a list. The view is copied first: what is lent would be read anew for each bit,
+// since a write might have changed it, as far as the compiler knows.
+fn read_points(first: usize, place: usize, view: &View, bits: &mut [Tern])
+    requires view { IsView view.now.terns.now view.now.leads.now }
+    requires few { length view.now.leads.now ≤ 2 ^ 32 }
+    requires inside { first + (place + length bits.old) ≤ length view.now.leads.now }
+    ensures { map plain_tern bits.new ≡ first_terns (length bits.old) (λ k. seen view.now.terns.now view.now.leads.now (first + (place + k))) }
+{
+    let copy = *view;
+    for next in 0..bits.len() {
+        bits[next] = copy.at(first + (place + next));
+    }
 }
 
 // A bit of a list; there are none past the end.
@@ -346,8 +359,22 @@ fn pair(pairing: Pairing, left: Tern, right: Tern) -> Tern
     }
 }
 
-// Two lists in one, place by place.
+// Two lists in one, place by place. Each pairing is named here, so that there is a loop for each, which asks for none.
 fn pair_up(pairing: Pairing, left: &mut [Tern], right: &[Tern])
+    requires { length left.old ≡ length right.now }
+    ensures { map plain_tern left.new ≡ each_tern (by pairing) (map plain_tern left.old) (map plain_tern right.now) }
+{
+    match pairing {
+        Pairing::Both => pair_each(Pairing::Both, left, right),
+        Pairing::Either => pair_each(Pairing::Either, left, right),
+        Pairing::Differs => pair_each(Pairing::Differs, left, right),
+        Pairing::Agreed => pair_each(Pairing::Agreed, left, right),
+    }
+}
+
+// The same by one pairing.
+#[inline(always)]
+fn pair_each(pairing: Pairing, left: &mut [Tern], right: &[Tern])
     requires { length left.old ≡ length right.now }
     ensures { map plain_tern left.new ≡ each_tern (by pairing) (map plain_tern left.old) (map plain_tern right.now) }
 {
