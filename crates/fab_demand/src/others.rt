@@ -14,8 +14,8 @@ ghost use Rattle.fab_network.specs.Leading.{bits_of_source};
 ghost use Rattle.fab_demand.specs.inner.Beside.{AreAlike, AreFitBits, IsBeside, IsBit, IsBitDrive, IsBitOfPart, IsClosedAs, IsDriveOf, IsInPart, KnowsMore, TellsGate, TellsTogether};
 
 use crate::copies::Copies;
-use crate::rows::is_unmarked;
 use crate::search::Search;
+use fab_ahead::is_unmarked;
 use fab_base::Memory;
 use fab_compiled::{Lead, Part, Tree, View};
 use fab_network::{Drive, Network, Source, lead_of_source, part_of_source};

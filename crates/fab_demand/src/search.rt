@@ -12,7 +12,7 @@ ghost use Rattle.fab_demand.specs.Asked.{AsksMore, IsSourceAsked, IsWhole};
 ghost use Rattle.fab_demand.specs.Search.{asked_of, left_of, Closes, HasRoom, IsBlank, IsKeeping, IsResting, IsSearching};
 
 use crate::look::look;
-use crate::rows::{Next, Rows, end_of_rest};
+use fab_ahead::{Next, Rows, end_of_rest};
 use fab_base::Memory;
 use fab_compiled::{Lead, View};
 use fab_network::{Clock, Network, Readers, Source, lead_of_source};
