@@ -26,9 +26,7 @@ fn are_alike(first: &Drive, last: &Drive) -> bool {
         (Drive::Same(one), Drive::Same(other)) => one.saturating_add(MANY) == *other,
         (Drive::Value(one), Drive::Value(other))
         | (Drive::Flop(_, one), Drive::Flop(_, other))
-        | (Drive::Hold(_, one), Drive::Hold(_, other)) => {
-            one.tree == other.tree && one.first == other.first
-        }
+        | (Drive::Hold(_, one), Drive::Hold(_, other)) => one.is_beside(*other),
         _ => false,
     }
 }

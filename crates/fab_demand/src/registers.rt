@@ -150,9 +150,7 @@ fn takes_bit_beside(network: &Network, source: Source, point: u32) -> bool {
 
 fn takes_bit(network: &Network, source: Source, point: u32) -> bool {
     match network.drives.get(point as usize) {
-        Some(Drive::Flop(_, next)) => {
-            next.bit != source.bit && next.tree == source.tree && next.first == source.first
-        }
+        Some(Drive::Flop(_, next)) => next.bit != source.bit && next.is_beside(source),
         _ => false,
     }
 }

@@ -9,7 +9,7 @@ use Rattle.fab_network.specs.declared.network.Drive.{Drive}
 use Rattle.fab_network.specs.declared.network.Drive.TheVariants.{Value, Hold}
 use Rattle.fab_network.specs.declared.network.Network.{Network}
 use Rattle.fab_network.specs.declared.network.Source.{Source}
-use Rattle.fab_network.specs.Network.{source_tern, IsFitSource}
+use Rattle.fab_network.specs.Network.{source_tern, AreBeside, IsFitSource}
 use Rattle.fab_demand.specs.declared.others.Bits.{Bits}
 use Rattle.fab_demand.specs.declared.others.Together.{Together}
 use Rattle.fab_demand.specs.declared.registers.Span.{Span}
@@ -41,8 +41,7 @@ IsDriveOf drive bits = drive ≡ drive_of bits.gate bits.source
 
 -- bits of one expression, behind the same gate
 pub record AreAlike (found bits : Bits) : Type 0 where
-  pub tree : found.source.tree ≡ bits.source.tree
-  pub first : found.source.first ≡ bits.source.first
+  pub beside : AreBeside found.source bits.source
   pub gate : found.gate ≡ bits.gate
 
 -- a drive tells this bit of the expression of another, behind the same gate
