@@ -3,8 +3,9 @@
 ghost use Rattle.std.specs.Prelude.{◌≡◌, true, false, slice_get, IfSome, Some};
 ghost use Rattle.fab_ahead.specs.Rows.{AsksUnmarked};
 
+use crate::looks::Looks;
 use crate::names::{MANY, end_by_drive, is_ring, may_begin_row};
-use fab_network::Network;
+use fab_network::{Drive, Network};
 use std::alloc::Global;
 
 /// Points that follow one another and that a waiting point needs.
@@ -42,10 +43,12 @@ pub enum Next {
 }
 
 /// The rows of points that wait. They are a help for speed: any point may be asked for, so what a search finds does not depend on them. Without
-/// them an expression over a name of many bits would be looked at anew for each bit that is asked for.
+/// them an expression over a name of many bits would be looked at anew for each bit that is asked for. Looks at bits of expressions are counted too, where
+/// others ask for them one by one.
 #[derive(Drop)]
 pub struct Rows {
     rows: Vec<Row>,
+    looks: Looks,
 }
 
 impl Rows {
@@ -53,7 +56,19 @@ impl Rows {
     pub fn new(alloc: Global) -> Rows {
         Rows {
             rows: Vec::new(alloc),
+            looks: Looks::new(),
         }
+    }
+
+    /// No point waits any more. What has been counted stays.
+    pub fn end(&mut self) {
+        self.rows.clear();
+    }
+
+    /// Nothing has been counted, and no point waits.
+    pub fn clear(&mut self) {
+        self.rows.clear();
+        self.looks = Looks::new();
     }
 
     /// What a look has found that the last of so many waiting points needs, with the rest of the name that it stands in. Told is whether the point before it
@@ -121,6 +136,17 @@ impl Rows {
             looks: row.looks,
         });
         Next::Ask(point)
+    }
+
+    /// A look has found what this point has or to which one it is led. Told is whether bits beside it are to be found with it, so that not each of them is
+    /// looked at.
+    pub fn are_others_due(&mut self, network: &Network, point: u32) -> bool {
+        match network.drives.get(point as usize) {
+            Some(Drive::Value(source) | Drive::Hold(_, source)) => {
+                self.looks.is_due(&network.trees, *source)
+            }
+            Some(Drive::Given | Drive::Flop(_, _) | Drive::Same(_)) | None => false,
+        }
     }
 
     // One more row, where there is memory.
