@@ -1,39 +1,41 @@
-//! How often bits of an expression were looked at one by one.
+//! How many looks there were at bits of an expression, or at a point.
 
 use fab_compiled::Tree;
 use fab_network::Source;
 
-/// Of how many expressions looks are counted at a time.
+/// Of how many expressions or points looks are counted at a time.
 const PLACES: u32 = 64;
 
 /// At how many looks at bits of an expression all of them are found together for the first time. Fewer looks take not much longer than that.
 const FEWEST: u32 = 32;
 
-/// How many looks there were at bits of an expression over the points of an instance.
-#[derive(Clone, Copy, Debug)]
-struct Count {
-    tree: u32,
-    first: u32,
-    looks: u32,
+/// What is looked at.
+#[derive(Clone, Copy, Debug, PartialEq, Eq)]
+pub(crate) enum Subject {
+    /// Bits of the expression of this number, over the points of an instance, of which the first is given.
+    Expression(u32, u32),
+    /// This point.
+    Point(u32),
 }
 
-impl Count {
-    // The count behind one more look. Another expression takes the place of this one.
-    fn with_look(self, source: Source) -> Count {
-        let before = if self.tree == source.tree && self.first == source.first {
-            self.looks
-        } else {
-            0
-        };
-        Count {
-            tree: source.tree,
-            first: source.first,
-            looks: before.saturating_add(1),
+impl Subject {
+    // The place of its count.
+    fn place(self) -> u32 {
+        match self {
+            Subject::Expression(tree, first) => tree.wrapping_add(first) % PLACES,
+            Subject::Point(point) => point % PLACES,
         }
     }
 }
 
-/// Looks at bits of some expressions, by places that an expression has for itself as long as no other needs it.
+/// How many looks there were.
+#[derive(Clone, Copy, Debug)]
+struct Count {
+    subject: Subject,
+    looks: u32,
+}
+
+/// Looks at some expressions and points, by places that each has for itself as long as no other needs it.
 #[derive(Drop)]
 pub(crate) struct Looks {
     counts: [Count; PLACES as usize],
@@ -43,8 +45,7 @@ impl Looks {
     /// Nothing has been looked at.
     pub(crate) fn new() -> Looks {
         let none = Count {
-            tree: 0,
-            first: 0,
+            subject: Subject::Point(0),
             looks: 0,
         };
         Looks {
@@ -52,15 +53,26 @@ impl Looks {
         }
     }
 
+    /// How many looks there were with this one.
+    pub(crate) fn count(&mut self, subject: Subject) -> u32 {
+        let Some(count) = self.counts.get_mut(subject.place() as usize) else {
+            return 0;
+        };
+        let before = if count.subject == subject {
+            count.looks
+        } else {
+            0
+        };
+        let looks = before.saturating_add(1);
+        *count = Count { subject, looks };
+        looks
+    }
+
     /// One more look at the bit of a source. Told is whether all bits of its expression are to be found now: at the look of this number, at twice as many and
     /// so on, if they rest on the same work.
     pub(crate) fn is_due(&mut self, trees: &[Tree], source: Source) -> bool {
-        let place = source.tree.wrapping_add(source.first) % PLACES;
-        let Some(count) = self.counts.get_mut(place as usize) else {
-            return false;
-        };
-        *count = count.with_look(source);
-        count.looks >= FEWEST && count.looks.is_power_of_two() && is_shared(trees, source)
+        let looks = self.count(Subject::Expression(source.tree, source.first));
+        looks >= FEWEST && looks.is_power_of_two() && is_shared(trees, source)
     }
 }
 

@@ -208,7 +208,8 @@ impl Search {
         match look(network, clock, given, point as usize, &view, &self.marks) {
             Lead::Unmarked(needed) => {
                 let waits = self.is_waiting(needed.saturating_sub(1));
-                rows.add(network, point, needed, self.stack.len(), waits);
+                let depth = self.stack.len();
+                rows.add(network, point, needed, depth, waits, &self.marks);
                 self.wait(needed);
             }
             Lead::Known(bit) => self.know(point, bit),
