@@ -20,6 +20,9 @@ const MANY_STEPS: u32 = 8;
 // where all are, a quarter of it.
 const BITS_FOR_A_LOOK: u64 = 16;
 
+// How many bits may stand in a list at once, a byte each. A long chain of operators over a wide name would take gigabytes, and bits alone take nothing.
+const MOST_BITS: u64 = 1 << 26;
+
 impl Plan {
     // The plan for an expression, if there is none yet.
     pub(crate) fn decided(self, tree: Option<&Tree>) -> Plan {
@@ -39,7 +42,11 @@ fn plan_of(tree: &Tree) -> Plan {
     if steps(tree) < MANY_STEPS {
         return Plan::Never;
     }
-    let looks = width(tree) / BITS_FOR_A_LOOK;
+    let room = room_of(tree);
+    if room.most > MOST_BITS {
+        return Plan::Never;
+    }
+    let looks = room.bits / BITS_FOR_A_LOOK;
     Plan::After(u32::try_from(looks).unwrap_or(u32::MAX).max(1))
 }
 
@@ -92,17 +99,64 @@ fn steps(tree: &Tree) -> u32 {
     }
 }
 
-// How many bits an expression has.
-fn width(tree: &Tree) -> u64 {
+// What an expression as a whole takes of a list.
+#[derive(Clone, Copy)]
+struct Room {
+    // How many bits it has.
+    bits: u64,
+    // How many stand in the list at most, while bits of left operands wait for those of right ones.
+    most: u64,
+}
+
+fn room_of(tree: &Tree) -> Room {
     match tree {
-        Tree::Const(bits) => bits.len() as u64,
-        Tree::Bits(_, count) => u64::from(*count),
-        Tree::Pick(_, _, _) | Tree::Equal(_, _, _) => 1,
-        Tree::Cat(_, low, high) => width(high).saturating_add(*low),
-        Tree::Minus(bits, _, _) => *bits,
-        Tree::Not(left) | Tree::And(left, _) | Tree::Or(left, _) | Tree::Xor(left, _) => width(
-            left,
-        ),
-        Tree::Cond(_, yes, _) => width(yes),
+        Tree::Const(bits) => filled(bits.len() as u64),
+        Tree::Bits(_, count) => filled(u64::from(*count)),
+        Tree::Pick(_, _, index) => one_of(room_of(index)),
+        Tree::Not(inner) => room_of(inner),
+        Tree::Equal(_, left, right) => one_of(joined(room_of(left), room_of(right))),
+        Tree::Cat(left, _, right) => joined(room_of(left), room_of(right)),
+        Tree::And(left, right)
+        | Tree::Or(left, right)
+        | Tree::Xor(left, right)
+        | Tree::Minus(_, left, right) => paired(room_of(left), room_of(right)),
+        Tree::Cond(test, yes, no) => behind(room_of(test), paired(room_of(yes), room_of(no))),
+    }
+}
+
+// The room of bits that are there at once.
+fn filled(bits: u64) -> Room {
+    Room { bits, most: bits }
+}
+
+// The room where one bit is found out of all.
+fn one_of(all: Room) -> Room {
+    Room {
+        bits: 1,
+        most: all.most,
+    }
+}
+
+// The room of a value behind another one.
+fn joined(left: Room, right: Room) -> Room {
+    Room {
+        bits: left.bits.saturating_add(right.bits),
+        most: left.most.max(left.bits.saturating_add(right.most)),
+    }
+}
+
+// The room where two values make one, bit by bit.
+fn paired(left: Room, right: Room) -> Room {
+    Room {
+        bits: left.bits,
+        most: joined(left, right).most,
+    }
+}
+
+// The room of a value that is found when a test has been taken out of the list.
+fn behind(test: Room, value: Room) -> Room {
+    Room {
+        bits: value.bits,
+        most: test.most.max(value.most),
     }
 }
