@@ -83,14 +83,14 @@ IsRightGroup network asked group = (place : ℕ) → IsInGroup group place → I
 -- The groups are those of what has been asked for, and what is kept for a group is right unless it is stale.
 pub record AreChangesOf (network : Network) (asked : Asked) (changes : Changes) : Type 0 where
   pub groups : AreGroups network asked.own asked.leads changes.fanout.readers.items changes.taken.items changes.groups.items
-  pub long : length changes.fanout.stale.items ≡ length changes.groups.items
+  pub long : length changes.fanout.stale ≡ length changes.groups.items
   pub room : (number : ℕ) (group : Group) → slice_get changes.groups.items number ≡ Some group → group.end ≤ group.begin + length changes.found.items
-  pub right : (number : ℕ) (group : Group) → slice_get changes.groups.items number ≡ Some group → IsFresh changes.fanout.stale.items number →
+  pub right : (number : ℕ) (group : Group) → slice_get changes.groups.items number ≡ Some group → IsFresh changes.fanout.stale number →
       IsRightGroup network asked group
 
 -- ---- what others watch
 
 -- A reader that is not stale was not stale before, and all that it watches has what it had.
 pub record HasKept (old new : Asked) (before : Fanout) (reader : ℕ) : Type 0 where
-  pub fresh : IsFresh before.stale.items reader
+  pub fresh : IsFresh before.stale reader
   pub same : (point : ℕ) → IsWatched old.own old.leads before.readers.items reader point → seen new.terns new.leads point ≡ seen old.terns old.leads point

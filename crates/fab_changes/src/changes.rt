@@ -73,8 +73,8 @@ impl Changes {
         ensures stays { (asked : Asked) → DiffersInOwn asked demand.old → DiffersInOwn asked demand.new }
         ensures shows { ShowsLeast network.now given.now demand.old demand.new }
         ensures readers { watches.new.readers.items ≡ watches.old.readers.items }
-        ensures long { length watches.new.stale.items ≡ length watches.old.stale.items }
-        ensures kept { (reader : ℕ) → IsFresh watches.new.stale.items reader → HasKept demand.old demand.new watches.old reader }
+        ensures long { length watches.new.stale ≡ length watches.old.stale }
+        ensures kept { (reader : ℕ) → IsFresh watches.new.stale reader → HasKept demand.old demand.new watches.old reader }
     {
         take_given(&self.taken, given, demand, &mut self.fanout, watches);
         for number in 0..self.groups.len() {
@@ -94,7 +94,7 @@ impl Changes {
         requires points { length network.now.drives.items ≡ length demand.old.leads }
         requires within { number < length self.old.groups.items }
         requires groups { AreGroups network.now demand.old.own demand.old.leads self.old.fanout.readers.items self.old.taken.items self.old.groups.items }
-        requires long { length self.old.fanout.stale.items ≡ length self.old.groups.items }
+        requires long { length self.old.fanout.stale ≡ length self.old.groups.items }
         requires room { HasRoom self.old.groups.items self.old.found.items }
         requires right { AreRightFrom network.now demand.old self.old number }
         ensures same { AreSameGroups self.old self.new }

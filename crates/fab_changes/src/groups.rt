@@ -150,7 +150,7 @@ fn note_groups(
     requires places { ArePlaces places.now }
     requires groups { AreBitGroups network.now places.now.own.now (length places.now.own.now) groups.now }
     ensures watched { OnSome result (AreWatched network.now places.now.own.now places.now.leads.now fanout.new.readers.items (length groups.now) groups.now) }
-    ensures stale { fanout.new.stale.items ≡ fanout.old.stale.items }
+    ensures stale { fanout.new.stale ≡ fanout.old.stale }
 {
     for number in 0..groups.len() {
         let group = groups[number];

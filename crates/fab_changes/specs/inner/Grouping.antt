@@ -66,5 +66,5 @@ BeginBehind place readers groups = (number : ℕ) (group : Group) → IsListed r
 -- the fan-out of groups that are all stale
 pub record IsFanoutOf (network : Network) (own leads : List ℕ) (groups : List Group) (fanout : Fanout) : Type 0 where
   pub watched : AreWatched network own leads fanout.readers.items (length groups) groups
-  pub long : length fanout.stale.items ≡ length groups
-  pub stale : (reader : ℕ) → IsFresh fanout.stale.items reader → ⊥
+  pub long : length fanout.stale ≡ length groups
+  pub stale : (reader : ℕ) → IsFresh fanout.stale reader → ⊥
