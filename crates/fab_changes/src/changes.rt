@@ -1,6 +1,6 @@
 //! Values of points that stand for themselves, looked at again where something has changed that they read.
 
-ghost use Rattle.std.specs.Prelude.{◌≡◌, ◌+◌, ◌<◌, ◌^◌, ℕ, length, IfSome};
+ghost use Rattle.std.specs.Prelude.{◌≡◌, ◌⊎◌, ◌+◌, ◌<◌, ◌^◌, ℕ, true, length, IfSome};
 ghost use Rattle.fab_network.specs.Network.{AreFit};
 ghost use Rattle.fab_network.specs.Passes.{AreOwn, IsListed};
 ghost use Rattle.fab_demand.specs.Asked.{Asked, DiffersInOwn};
@@ -122,10 +122,23 @@ impl Changes {
         ensures waits { WaitsAt self.new point }
         ensures more { (other : ℕ) → WaitsAt self.old other → WaitsAt self.new other }
     {
-        if let Some(behind) = self.places.get(point).copied() {
-            if behind > 0 && self.waiting.push(behind - 1).is_err() {
-                self.all_wait = true;
-            }
+        match self.places.get(point).copied() {
+            Some(0) | None => {}
+            Some(behind) => self.wait(behind - 1),
+        }
+    }
+
+    // The input or flip-flop at a place waits.
+    fn wait(&mut self, place: u32)
+        ensures same { self.new ≡ record (self.old) { waiting = self.new.waiting; all_wait = self.new.all_wait } }
+        ensures all { self.old.all_wait ≡ true → self.new.all_wait ≡ true }
+        ensures waits { (self.new.all_wait ≡ true) ⊎ IsListed self.new.waiting.items place }
+        ensures more { (other : ℕ) → IsListed self.old.waiting.items other → IsListed self.new.waiting.items other }
+        ensures among { (other : ℕ) → IsListed self.new.waiting.items other → IsListed self.old.waiting.items other ⊎ (other ≡ place) }
+    {
+        match self.waiting.push(place) {
+            Ok(()) => {}
+            Err(_) => self.all_wait = true,
         }
     }
 

@@ -19,6 +19,8 @@ settle_group-requires c =
     let self = c.loop-number.self in
     let next = c.next_stale.ensures in
     record {
+      fit = c.requires.fit;
+      points = c.requires.points ∙ ap length (sym inv.written.points.leads);
       within = omega (arith, next.within, inv.same.long, c.requires.long, ap length inv.same.groups);
       groups = groups_after c.args.network.now c.args.demand.now c.loop-number.demand c.args.self.now self inv.written.points inv.same c.requires.groups;
       long = inv.same.long ∙ c.requires.long ∙ sym (ap length inv.same.groups);
