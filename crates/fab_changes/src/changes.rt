@@ -122,9 +122,12 @@ impl Changes {
         ensures waits { WaitsAt self.new point }
         ensures more { (other : ℕ) → WaitsAt self.old other → WaitsAt self.new other }
     {
-        match self.places.get(point).copied() {
-            Some(0) | None => {}
-            Some(behind) => self.wait(behind - 1),
+        if point >= self.places.len() {
+            return;
+        }
+        let behind = self.places[point];
+        if behind > 0 {
+            self.wait(behind - 1);
         }
     }
 

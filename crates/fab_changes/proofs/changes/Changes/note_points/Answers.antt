@@ -22,3 +22,6 @@ loop-next-preserved c =
       ];
       more = λ other waits. noted.more other (inv.more other waits);
     }
+
+pub returns-clause-waits : goal.returns-clause-waits
+returns-clause-waits c k l = c.loop-next.invariant.waits k (omega (arith, l, c.loop-next-test.false))

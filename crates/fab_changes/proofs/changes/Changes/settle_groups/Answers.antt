@@ -17,7 +17,7 @@ pub settle_group-requires : goal.settle_group-requires
 settle_group-requires c =
     let inv = c.loop-number.invariant in
     let self = c.loop-number.self in
-    let next = c.next_stale.ensures in
+    let next = c.in-Some.ensures in
     record {
       fit = c.requires.fit;
       points = c.requires.points ∙ ap length (sym inv.written.points.leads);
