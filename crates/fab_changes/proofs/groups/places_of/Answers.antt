@@ -24,7 +24,7 @@ loop-place-preserved c =
     let items = c.loop-place.by_point.items in
     let within : place < length own = c.requires.within place (index, c.loop-place-test.true, refl) in
     let room : slice_index own place < length items = omega (arith, (c.requires.places.own place within).0, inv.long) in
-    let behind : c.in_ok-behind.behind ≡ place + 1 = ? in
+    let behind : c.in_ok-behind.behind ≡ place + 1 = c.in_ok-behind.ensures.1 in
     record {
       long = length-set items (slice_index own place) c.in_ok-behind.behind ∙ inv.long;
       placed = subst (λ (n : ℕ). ArePlacedBy own taken (index + 1) (slice_set items (slice_index own place) n)) (sym behind)
