@@ -1,5 +1,5 @@
 -- A cycle: what waits is taken, and stale groups are looked at.
-use Rattle.std.proofs.Common.{◌≡◌, ℕ, ◌+◌, ◌<◌, ◌≤◌, List, [], Some, length, refl, sym, ap, ◌∙◌, subst, inl, inr, arith, slice_get, slice_index}
+use Rattle.std.proofs.Common.{◌≡◌, ℕ, ◌+◌, ◌≤◌, List, [], length, sym, ap, ◌∙◌, subst, inl, inr, arith, slice_get, slice_index}
 use Rattle.std.proofs.lemmas.Bool.{cases_lt}
 use Rattle.fab_network.specs.declared.network.Network.{Network}
 use Rattle.fab_network.specs.Passes.{IsListed}
@@ -8,7 +8,7 @@ use Rattle.fab_demand.proofs.Lists.{get_within}
 use Rattle.fab_changes.specs.declared.changes.Changes.{Changes}
 use Rattle.fab_changes.specs.declared.groups.Group.{Group}
 use Rattle.fab_changes.specs.Changes.{AreChangesOf, AreGroups, AreWaiting}
-use Rattle.fab_changes.specs.Fanout.{AreFresh, Lists}
+use Rattle.fab_changes.specs.Fanout.{AreFresh}
 use Rattle.fab_changes.specs.inner.Looking.{AreRightFrom, AreSameGroups, AreSamePoints, HasRoom}
 use Rattle.fab_changes.proofs.Right.{groups_by}
 

@@ -1,5 +1,5 @@
 -- Inputs and flip-flops that wait to be taken.
-use Rattle.std.proofs.Common.{◌≡◌, ◌≢◌, ◌⊎◌, ℕ, zero, suc, ◌+◌, ◌<◌, true, false, List, Option, None, Some, length, replicate, refl, sym, ap, ◌∙◌, subst, inl, inr, arith}
+use Rattle.std.proofs.Common.{◌≡◌, ◌⊎◌, ℕ, zero, suc, ◌+◌, ◌<◌, true, false, List, Option, None, Some, length, replicate, refl, sym, ap, ◌∙◌, subst, inl, inr, arith}
 use Rattle.std.proofs.Common.{slice_get, slice_index, slice_set}
 use Rattle.std.proofs.lemmas.Bool.{cases_eq, cases_lt}
 use Rattle.fab_ternary.specs.declared.Tern.{Tern}
@@ -129,7 +129,7 @@ module _ (changes : Changes) (given : List Tern) (old mid : Asked) (are : AreWai
       have.others (point_of place) (λ k l e.
       let other = slice_index changes.waiting.items k in
       let found : Some (other + 1) ≡ Some (place + 1) = sym (are.found other (are.among other (k, l, refl))) ∙ ap (slice_get changes.places.items) e
-          ∙ are.found place at in
+      ∙ are.found place at in
       let behind : other + 1 ≡ place + 1 = cc in
       none (k, l, omega (arith, behind)))
 
@@ -160,7 +160,7 @@ module _ (network : Network) (old new : Asked) (given : List Tern) (lists : List
     (are : AreGroups network old.own old.leads lists before.taken.items groups) (waiting : AreWaiting old.own before)
     (same : after.places.items ≡ before.places.items)
     (taken : (place : ℕ) → place < length old.own → TakesGiven (drive_at network old.own place) →
-        kept_tern new.terns (slice_index old.own place) ≡ kept_tern given (slice_index old.own place)) where
+    kept_tern new.terns (slice_index old.own place) ≡ kept_tern given (slice_index old.own place)) where
   given_at : (point : ℕ) (behind : Option ℕ) → slice_get after.places.items point ≡ behind →
       WaitsAt after point ⊎ (kept_tern new.terns point ≡ kept_tern given point)
   given_at point None e = inl (inr (λ place is. let both : None ≡ Some (place + 1) = sym e ∙ is in cc))

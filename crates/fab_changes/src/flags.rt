@@ -20,7 +20,6 @@ pub struct Flags {
 
 impl Model for Flags {
     ghost use Rattle.std.specs.Prelude.{Bool, List};
-
     ghost use Rattle.fab_changes.specs.Flags.{AreBlocks};
 
     ghost Value = { List Bool };

@@ -87,8 +87,8 @@ returns-clause-kept c reader fresh =
     let taken = c.take_waiting.ensures in
     let done = c.settle_groups.ensures in
     let both = touched_then old.own old.terns mid.terns new.terns c.args.watches.now c.take_waiting.new.watches c.settle_groups.new.watches taken.watches
-        (touched_by old.own mid.own mid.terns new.terns mid.terns new.terns c.take_waiting.new.watches c.settle_groups.new.watches taken.taken.points.own
-        refl refl done.watches) in
+    (touched_by old.own mid.own mid.terns new.terns mid.terns new.terns c.take_waiting.new.watches c.settle_groups.new.watches taken.taken.points.own
+    refl refl done.watches) in
     record {
       fresh = both.fresh reader fresh;
       same = λ point watched.

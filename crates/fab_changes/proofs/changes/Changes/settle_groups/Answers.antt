@@ -1,4 +1,4 @@
-use Rattle.std.proofs.Common.{◌≡◌, ◌<◌, length, refl, sym, ap, ◌∙◌, subst, arith}
+use Rattle.std.proofs.Common.{length, refl, sym, ap, ◌∙◌, arith}
 use Rattle.fab_changes.proofs.Cycle.{groups_after, right_passed, room_after}
 use Rattle.fab_changes.proofs.Right.{points_same, written_then}
 use Rattle.fab_changes.proofs.Touching.{touched_by, touched_none, touched_then}
