@@ -73,8 +73,13 @@ pub record AreSameGroups (old new : Changes) : Type 0 where
   pub taken : new.taken.items ≡ old.taken.items
   pub groups : new.groups.items ≡ old.groups.items
   pub lists : new.fanout.readers.items ≡ old.fanout.readers.items
-  pub long : length new.fanout.stale.items ≡ length old.fanout.stale.items
+  pub long : length new.fanout.stale ≡ length old.fanout.stale
   pub room : length new.found.items ≡ length old.found.items
+
+-- What waits stays so.
+pub record IsSameWaiting (old new : Changes) : Type 0 where
+  pub places : new.places.items ≡ old.places.items
+  pub waiting : new.waiting.items ≡ old.waiting.items
 
 -- there is room for each group
 abbrev pub HasRoom : List Group → (found : List Tern) → Type 0
@@ -83,5 +88,5 @@ HasRoom groups found = (number : ℕ) (group : Group) → slice_get groups numbe
 -- Groups before this number are right, and so are all others that are not stale.
 pub record AreRightFrom (network : Network) (asked : Asked) (changes : Changes) (count : ℕ) : Type 0 where
   pub done : (number : ℕ) (group : Group) → number < count → slice_get changes.groups.items number ≡ Some group → IsRightGroup network asked group
-  pub rest : (number : ℕ) (group : Group) → slice_get changes.groups.items number ≡ Some group → IsFresh changes.fanout.stale.items number →
+  pub rest : (number : ℕ) (group : Group) → slice_get changes.groups.items number ≡ Some group → IsFresh changes.fanout.stale number →
       IsRightGroup network asked group
