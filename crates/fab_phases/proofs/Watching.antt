@@ -8,11 +8,11 @@ use Rattle.fab_network.specs.declared.network.Network.{Network}
 use Rattle.fab_demand.specs.Asked.{Asked, DiffersInOwn}
 use Rattle.fab_changes.specs.Changes.{AreChangesOf}
 use Rattle.fab_phases.specs.Lists.{Each}
-use Rattle.fab_phases.specs.inner.Enables.{AreEnables, AreEnablesOf, AreGroups, AreHolding, AreInGroups, AreNewlyWatched, EnableGroups, EnableRuns, IsFitEnable, IsWatching}
+use Rattle.fab_phases.specs.inner.Enables.{AreEnables, AreEnablesOf, AreFlopGroups, AreHolding, AreInFlopGroups, AreNewlyWatched, EnableGroups, EnableRuns, IsFitEnable, IsWatching}
 use Rattle.fab_phases.specs.inner.Ticks.{AreFitRuns}
 use Rattle.fab_phases.specs.declared.enables.Enable.{Enable}
 use Rattle.fab_phases.specs.declared.enables.Enable.TheVariants.{Gate}
-use Rattle.fab_phases.specs.declared.groups.Group.{Group}
+use Rattle.fab_phases.specs.declared.flop_groups.FlopGroup.{FlopGroup}
 use Rattle.fab_phases.specs.declared.loading.Loading.{Loading}
 use Rattle.fab_phases.specs.declared.loading.Run.{Run}
 use Rattle.fab_phases.specs.declared.watched.Watching.{Watching}
@@ -22,43 +22,43 @@ use Rattle.fab_phases.proofs.Lists.{get_left, get_mapped, get_of_mapped, get_par
 
 -- ---- the enables of groups and runs
 
-abbrev of_groups : List Group → List Enable
-of_groups groups = map (λ (group : Group). group.enable) groups
+abbrev of_groups : List FlopGroup → List Enable
+of_groups groups = map (λ (group : FlopGroup). group.enable) groups
 
 abbrev of_runs : List Run → List Enable
 of_runs runs = map (λ (run : Run). Gate run.gate) runs
 
-pub enable_groups : (groups : List Group) (runs : List Run) (enables : List Enable) → AreEnablesOf groups runs enables → EnableGroups groups enables
+pub enable_groups : (groups : List FlopGroup) (runs : List Run) (enables : List Enable) → AreEnablesOf groups runs enables → EnableGroups groups enables
 enable_groups groups runs enables are place group at =
     ap (λ (es : List Enable). slice_get es place) are
-    ∙ get_left (of_groups groups) (of_runs runs) place group.enable (get_mapped (λ (g : Group). g.enable) groups place group at)
+    ∙ get_left (of_groups groups) (of_runs runs) place group.enable (get_mapped (λ (g : FlopGroup). g.enable) groups place group at)
 
-enables_long : (groups : List Group) (runs : List Run) (enables : List Enable) → AreEnablesOf groups runs enables → length enables ≡ length groups + length runs
+enables_long : (groups : List FlopGroup) (runs : List Run) (enables : List Enable) → AreEnablesOf groups runs enables → length enables ≡ length groups + length runs
 enables_long groups runs enables are =
-    let first = length-map groups (λ (g : Group). g.enable) in
+    let first = length-map groups (λ (g : FlopGroup). g.enable) in
     let then = length-map runs (λ (run : Run). Gate run.gate) in
     let both = length-append (of_groups groups) (of_runs runs) in
     let all = ap length are in
     omega (arith, first, then, both, all)
 
-pub enable_runs : (groups : List Group) (runs : List Run) (enables : List Enable) → AreEnablesOf groups runs enables → EnableRuns runs enables
+pub enable_runs : (groups : List FlopGroup) (runs : List Run) (enables : List Enable) → AreEnablesOf groups runs enables → EnableRuns runs enables
 enable_runs groups runs enables are =
     let long = enables_long groups runs enables are in
     record {
       room = omega (arith, long);
       gates = λ place run at.
-          let first = length-map groups (λ (g : Group). g.enable) in
+          let first = length-map groups (λ (g : FlopGroup). g.enable) in
           let there : length enables - length runs + place ≡ length (of_groups groups) + place = omega (arith, long, first) in
           ap (slice_get enables) there ∙ ap (λ (es : List Enable). slice_get es (length (of_groups groups) + place)) are
           ∙ get_right (of_groups groups) (of_runs runs) place (Gate run.gate) (get_mapped (λ (r : Run). Gate r.gate) runs place run at);
     }
 
-pub enables_fit : (network : Network) (asked : Asked) (groups : List Group) (runs : List Run) (enables : List Enable) → AreEnablesOf groups runs enables →
+pub enables_fit : (network : Network) (asked : Asked) (groups : List FlopGroup) (runs : List Run) (enables : List Enable) → AreEnablesOf groups runs enables →
     AreHolding network asked groups → AreFitRuns network runs → Each enables (IsFitEnable network)
 enables_fit network asked groups runs enables are holding fit number enable at =
     elim (get_parts (of_groups groups) (of_runs runs) number enable (ap (λ (es : List Enable). slice_get es number) (sym are) ∙ at)) [
       | inl here ↦
-          let one = get_of_mapped (λ (g : Group). g.enable) groups number enable here in
+          let one = get_of_mapped (λ (g : FlopGroup). g.enable) groups number enable here in
           subst (IsFitEnable network) one.2 (holding number one.0 one.1).enable
       | inr behind ↦
           let one = get_of_mapped (λ (r : Run). Gate r.gate) runs behind.0 enable behind.2 in
@@ -73,8 +73,8 @@ kept_ok P (Ok a) value e holds = let same : a ≡ value = cc in subst P same hol
 kept_ok P (Err x) value e holds = absurd (cc)
 
 pub watching_made : (network : Network) (loading : Loading) (asked : Asked) (watching : Watching) (own leads : List ℕ) → AreFitRuns network loading.runs.items →
-    own ≡ asked.own → leads ≡ asked.leads → AreGroups network asked loading.flops.items watching.groups.items →
-    AreInGroups watching.groups.items loading.flops.items → AreEnablesOf watching.groups.items loading.runs.items watching.enables.items →
+    own ≡ asked.own → leads ≡ asked.leads → AreFlopGroups network asked loading.flops.items watching.groups.items →
+    AreInFlopGroups watching.groups.items loading.flops.items → AreEnablesOf watching.groups.items loading.runs.items watching.enables.items →
     ((given : Asked) → given.own ≡ own → given.leads ≡ leads → AreChangesOf network given watching.changes) →
     AreNewlyWatched network own leads watching.enables.items watching.watches → IsWatching network loading asked watching
 watching_made network loading asked watching own leads fit same_own same_leads groups all of changes watched = record {
@@ -92,9 +92,9 @@ pub watching_ticked : (network : Network) (loading : Loading) (old new : Asked) 
     after.groups.items ≡ before.groups.items → after.enables.items ≡ before.enables.items → AreChangesOf network new after.changes →
     AreEnables network new after.enables.items after.watches → IsWatching network loading new after
 watching_ticked network loading old new before after differs is same_groups same_enables changes enables = record {
-  groups = subst (AreGroups network new loading.flops.items) (sym same_groups) (groups_same network old new loading.flops.items before.groups.items differs is.groups);
-  all = subst (λ (groups : List Group). AreInGroups groups loading.flops.items) (sym same_groups) is.all;
-  of = subst (λ (groups : List Group). AreEnablesOf groups loading.runs.items after.enables.items) (sym same_groups)
+  groups = subst (AreFlopGroups network new loading.flops.items) (sym same_groups) (groups_same network old new loading.flops.items before.groups.items differs is.groups);
+  all = subst (λ (groups : List FlopGroup). AreInFlopGroups groups loading.flops.items) (sym same_groups) is.all;
+  of = subst (λ (groups : List FlopGroup). AreEnablesOf groups loading.runs.items after.enables.items) (sym same_groups)
       (subst (AreEnablesOf before.groups.items loading.runs.items) (sym same_enables) is.of);
   changes = changes;
   enables = enables;

@@ -13,7 +13,7 @@ ghost use Rattle.fab_phases.specs.inner.Enables.{enable_tern, AreEnables, AreEna
 ghost use Rattle.fab_phases.specs.inner.Ticks.{AreFitRuns, IsLoadTick, LeavesRuns};
 
 use crate::enables::{Enable, enabled, watch};
-use crate::groups::{Group, groups_of};
+use crate::flop_groups::{FlopGroup, groups_of};
 use crate::loading::{Loading, Run};
 use crate::ticks::{take_flops, take_run};
 use fab_base::Memory;
@@ -29,7 +29,7 @@ const MOST_READ: usize = 16;
 /// What is looked at again after a word: the points that stand for themselves, and the enables of the flip-flops and latches that loading sets.
 #[derive(Drop)]
 pub struct Watching {
-    pub groups: Vec<Group>,
+    pub groups: Vec<FlopGroup>,
     /// Those of the groups, and behind them those of the runs of latches.
     pub enables: Vec<Enable>,
     pub changes: Changes,
@@ -66,7 +66,7 @@ pub fn watching_of(
 }
 
 // The enables of groups, and behind them those of runs.
-fn enables_of(alloc: Global, groups: &[Group], runs: &[Run]) -> Result<Vec<Enable>, Memory>
+fn enables_of(alloc: Global, groups: &[FlopGroup], runs: &[Run]) -> Result<Vec<Enable>, Memory>
     ensures { IfOk result (λ enables. AreEnablesOf groups.now runs.now enables.items) }
 {
     let mut enables = group_enables(alloc, groups)?;
@@ -77,8 +77,8 @@ fn enables_of(alloc: Global, groups: &[Group], runs: &[Run]) -> Result<Vec<Enabl
 }
 
 // The enables of groups.
-fn group_enables(alloc: Global, groups: &[Group]) -> Result<Vec<Enable>, Memory>
-    ensures { IfOk result (λ enables. enables.items ≡ map (λ (group : Group). group.enable) groups.now) }
+fn group_enables(alloc: Global, groups: &[FlopGroup]) -> Result<Vec<Enable>, Memory>
+    ensures { IfOk result (λ enables. enables.items ≡ map (λ (group : FlopGroup). group.enable) groups.now) }
 {
     let enables = groups.iter().map(|group| group.enable).collect(alloc)?;
     Ok(enables)
@@ -141,7 +141,7 @@ pub fn tick_watched(
 // Flip-flops take their next values, group by group.
 fn take_groups(
     network: &Network,
-    groups: &[Group],
+    groups: &[FlopGroup],
     enables: &[Enable],
     demand: &Demand,
     watches: &mut Fanout,
@@ -162,7 +162,13 @@ fn take_groups(
 }
 
 // The flip-flops of a group whose enable has this value.
-fn take_group(network: &Network, enable: Tern, group: &Group, demand: &Demand, given: &mut [Tern])
+fn take_group(
+    network: &Network,
+    enable: Tern,
+    group: &FlopGroup,
+    demand: &Demand,
+    given: &mut [Tern],
+)
     requires points { length network.now.drives.items ≡ length demand.now.leads }
     requires given { length given.old ≡ length demand.now.leads }
     requires group { IsHolding network.now demand.now group.now }

@@ -20,7 +20,7 @@ use Rattle.fab_phases.specs.Loading.{AreFlops}
 use Rattle.fab_phases.specs.inner.Ticks.{AreFitFlops, AreOnWay, IsFit, LeavesPoints, Tick}
 use Rattle.fab_phases.specs.declared.enables.Enable.{Enable}
 use Rattle.fab_phases.specs.declared.enables.Enable.TheVariants.{Always, Gate, Test}
-use Rattle.fab_phases.specs.declared.groups.Group.{Group}
+use Rattle.fab_phases.specs.declared.flop_groups.FlopGroup.{FlopGroup}
 use Rattle.fab_phases.specs.declared.loading.LoadedFlop.{LoadedFlop}
 use Rattle.fab_phases.specs.declared.loading.Loading.{Loading}
 use Rattle.fab_phases.specs.declared.loading.Run.{Run}
@@ -120,16 +120,16 @@ pub record TakesOwn (network : Network) (asked : Asked) (flop : LoadedFlop) (t :
 abbrev pub Holds : Network → Asked → Enable → LoadedFlop → Type 0
 Holds network asked enable flop = (t : PointTerns) → enable_tern network.trees.items t enable ≡ no → TakesOwn network asked flop t
 
-pub record IsHolding (network : Network) (asked : Asked) (group : Group) : Type 0 where
+pub record IsHolding (network : Network) (asked : Asked) (group : FlopGroup) : Type 0 where
   pub enable : IsFitEnable network group.enable
   pub flops : AreFitFlops network group.flops.items
   pub holds : Each group.flops.items (Holds network asked group.enable)
 
-abbrev pub AreHolding : Network → Asked → List Group → Type 0
+abbrev pub AreHolding : Network → Asked → List FlopGroup → Type 0
 AreHolding network asked groups = Each groups (IsHolding network asked)
 
 -- a group of these flip-flops
-pub record IsGroupOf (network : Network) (asked : Asked) (flops : List LoadedFlop) (group : Group) : Type 0 where
+pub record IsFlopGroupOf (network : Network) (asked : Asked) (flops : List LoadedFlop) (group : FlopGroup) : Type 0 where
   pub enable : IsFitEnable network group.enable
   pub is : group.flops.items ≡ flops
   pub holds : Each flops (Holds network asked group.enable)
@@ -139,22 +139,22 @@ abbrev pub AreAmong : (these those : List LoadedFlop) → Type 0
 AreAmong these those = Each these (λ flop. HasOne those (λ other. other ≡ flop))
 
 -- groups of some of these flip-flops
-pub record AreGroups (network : Network) (asked : Asked) (flops : List LoadedFlop) (groups : List Group) : Type 0 where
+pub record AreFlopGroups (network : Network) (asked : Asked) (flops : List LoadedFlop) (groups : List FlopGroup) : Type 0 where
   pub holding : AreHolding network asked groups
-  pub among : Each groups (λ (group : Group). AreAmong group.flops.items flops)
+  pub among : Each groups (λ (group : FlopGroup). AreAmong group.flops.items flops)
 
 -- a flip-flop stands in one of the groups
-abbrev pub IsInGroups : List Group → (point : ℕ) → Type 0
-IsInGroups groups point = HasOne groups (λ (group : Group). HasOne group.flops.items (λ (flop : LoadedFlop). flop.point ≡ point))
+abbrev pub IsInFlopGroups : List FlopGroup → (point : ℕ) → Type 0
+IsInFlopGroups groups point = HasOne groups (λ (group : FlopGroup). HasOne group.flops.items (λ (flop : LoadedFlop). flop.point ≡ point))
 
-abbrev pub AreInGroups : List Group → List LoadedFlop → Type 0
-AreInGroups groups flops = Each flops (λ flop. IsInGroups groups flop.point)
+abbrev pub AreInFlopGroups : List FlopGroup → List LoadedFlop → Type 0
+AreInFlopGroups groups flops = Each flops (λ flop. IsInFlopGroups groups flop.point)
 
 -- ---- the enables of both
 
 -- the first enables are those of groups
-abbrev pub EnableGroups : List Group → List Enable → Type 0
-EnableGroups groups enables = (place : ℕ) (group : Group) → slice_get groups place ≡ Some group → slice_get enables place ≡ Some group.enable
+abbrev pub EnableGroups : List FlopGroup → List Enable → Type 0
+EnableGroups groups enables = (place : ℕ) (group : FlopGroup) → slice_get groups place ≡ Some group → slice_get enables place ≡ Some group.enable
 
 -- the last enables are those of runs
 pub record EnableRuns (runs : List Run) (enables : List Enable) : Type 0 where
@@ -162,14 +162,14 @@ pub record EnableRuns (runs : List Run) (enables : List Enable) : Type 0 where
   pub gates : (place : ℕ) (run : Run) → slice_get runs place ≡ Some run → slice_get enables (length enables - length runs + place) ≡ Some (Gate run.gate)
 
 -- the enables of groups, and behind them those of runs
-abbrev pub AreEnablesOf : List Group → List Run → List Enable → Type 0
-AreEnablesOf groups runs enables = enables ≡ map (λ (group : Group). group.enable) groups ++ map (λ (run : Run). Gate run.gate) runs
+abbrev pub AreEnablesOf : List FlopGroup → List Run → List Enable → Type 0
+AreEnablesOf groups runs enables = enables ≡ map (λ (group : FlopGroup). group.enable) groups ++ map (λ (run : Run). Gate run.gate) runs
 
 -- ---- what is kept from word to word
 
 pub record IsWatching (network : Network) (loading : Loading) (demand : Asked) (watching : Watching) : Type 0 where
-  pub groups : AreGroups network demand loading.flops.items watching.groups.items
-  pub all : AreInGroups watching.groups.items loading.flops.items
+  pub groups : AreFlopGroups network demand loading.flops.items watching.groups.items
+  pub all : AreInFlopGroups watching.groups.items loading.flops.items
   pub of : AreEnablesOf watching.groups.items loading.runs.items watching.enables.items
   pub changes : AreChangesOf network demand watching.changes
   pub enables : AreEnables network demand watching.enables.items watching.watches
@@ -177,16 +177,16 @@ pub record IsWatching (network : Network) (loading : Loading) (demand : Asked) (
 -- ---- what is written
 
 -- What each step does: for each tick whose values the demand shows.
-abbrev pub LeavesGroup : (network : Network) → Group → (demand : Asked) → (old new : List Tern) → Type 0
+abbrev pub LeavesGroup : (network : Network) → FlopGroup → (demand : Asked) → (old new : List Tern) → Type 0
 LeavesGroup network group demand old new =
     (tick : Tick network) → Shows network tick.asked demand tick.t → DiffersInOwn tick.asked demand → AreFlops network tick.asked tick.loads group.flops.items →
     AreOnWay network tick old → LeavesPoints network tick (λ point. HasOne group.flops.items (λ flop. flop.point ≡ point)) old new
 
-abbrev pub LeavesGroups : (network : Network) → List Group → (demand : Asked) → (old new : List Tern) → Type 0
+abbrev pub LeavesGroups : (network : Network) → List FlopGroup → (demand : Asked) → (old new : List Tern) → Type 0
 LeavesGroups network groups demand old new =
     (tick : Tick network) → Shows network tick.asked demand tick.t → DiffersInOwn tick.asked demand →
-    Each groups (λ (group : Group). AreFlops network tick.asked tick.loads group.flops.items) → AreOnWay network tick old →
-    LeavesPoints network tick (IsInGroups groups) old new
+    Each groups (λ (group : FlopGroup). AreFlops network tick.asked tick.loads group.flops.items) → AreOnWay network tick old →
+    LeavesPoints network tick (IsInFlopGroups groups) old new
 
 -- the same of all flip-flops
 abbrev pub LeavesFlopsOf : (network : Network) → List LoadedFlop → (demand : Asked) → (old new : List Tern) → Type 0

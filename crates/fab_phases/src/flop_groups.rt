@@ -3,7 +3,7 @@
 ghost use Rattle.std.specs.Prelude.{◌≡◌, ◌<◌, ◌≤◌, length, slice_get, IfOk, IsTrue, Some};
 ghost use Rattle.fab_phases.specs.Lists.{Each};
 ghost use Rattle.fab_phases.specs.declared.enables.Enable.TheVariants.{Test};
-ghost use Rattle.fab_phases.specs.inner.Enables.{AreGroups, AreInGroups, HasBack, Holds, IsAlike, IsAlikeUpTo, IsFitEnable, IsGroupOf, IsLedBack};
+ghost use Rattle.fab_phases.specs.inner.Enables.{AreFlopGroups, AreInFlopGroups, HasBack, Holds, IsAlike, IsAlikeUpTo, IsFitEnable, IsFlopGroupOf, IsLedBack};
 ghost use Rattle.fab_phases.specs.inner.Ticks.{AreFitFlops, IsFit};
 
 use crate::enables::Enable;
@@ -17,7 +17,7 @@ use std::alloc::Global;
 /// Neighbours among the flip-flops that loading sets whose next values are bits of one expression. They hold what they have where their
 /// enable is 0.
 #[derive(Drop)]
-pub struct Group {
+pub struct FlopGroup {
     pub enable: Enable,
     pub flops: Vec<LoadedFlop>,
 }
@@ -28,10 +28,10 @@ pub fn groups_of(
     network: &Network,
     demand: &Demand,
     flops: &[LoadedFlop],
-) -> Result<Vec<Group>, Memory>
+) -> Result<Vec<FlopGroup>, Memory>
     requires flops { AreFitFlops network.now flops.now }
-    ensures groups { IfOk result (λ groups. AreGroups network.now demand.now flops.now groups.items) }
-    ensures all { IfOk result (λ groups. AreInGroups groups.items flops.now) }
+    ensures groups { IfOk result (λ groups. AreFlopGroups network.now demand.now flops.now groups.items) }
+    ensures all { IfOk result (λ groups. AreInFlopGroups groups.items flops.now) }
 {
     let mut groups = Vec::new(alloc);
     let mut rest = flops;
@@ -71,14 +71,14 @@ fn group_of(
     demand: &Demand,
     next: Source,
     flops: &[LoadedFlop],
-) -> Result<Group, Memory>
+) -> Result<FlopGroup, Memory>
     requires next { IsFit network.now next }
     requires alike { Each flops.now (λ flop. IsAlike flop.next next) }
-    ensures { IfOk result (λ group. IsGroupOf network.now demand.now flops.now group) }
+    ensures { IfOk result (λ group. IsFlopGroupOf network.now demand.now flops.now group) }
 {
     let enable = enable_of(network, demand, next, flops);
     let flops = flops.iter().map(|flop| *flop).collect(alloc)?;
-    Ok(Group { enable, flops })
+    Ok(FlopGroup { enable, flops })
 }
 
 // What lets flip-flops take bits of the same expression as this one: its test, if each of them takes what it has where the test is 0.

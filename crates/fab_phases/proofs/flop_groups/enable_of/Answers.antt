@@ -2,7 +2,7 @@ use Rattle.std.proofs.Common.{arith, get_or}
 use Rattle.std.proofs.lemmas.Option.{slice_get-get_or, slice_get_within}
 use Rattle.fab_phases.proofs.Grouping.{alike_holds, always_holds, held_more}
 use Rattle.fab_phases.proofs.Ticking.{no_flop}
-use Rattle.fab_phases.proofs.groups.enable_of.Goals as goal
+use Rattle.fab_phases.proofs.flop_groups.enable_of.Goals as goal
 
 pub returns-then-not-is_held-clause-holds : goal.returns-then-not-is_held-clause-holds
 returns-then-not-is_held-clause-holds c place flop at = always_holds c.args.network.now c.args.demand.now flop

@@ -3,7 +3,7 @@ use Rattle.std.proofs.lemmas.Bool.{false≢true}
 use Rattle.std.proofs.lemmas.Option.{slice_get-get_or, slice_get_within}
 use Rattle.fab_phases.proofs.Grouping.{alike_more, first_differs}
 use Rattle.fab_phases.proofs.Ticking.{no_flop}
-use Rattle.fab_phases.proofs.groups.together.Goals as goal
+use Rattle.fab_phases.proofs.flop_groups.together.Goals as goal
 
 pub returns-then-not-is_alike : goal.returns-then-not-is_alike
 returns-then-not-is_alike c =
