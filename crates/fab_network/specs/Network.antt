@@ -30,6 +30,11 @@ drive_tern trees held t point (Some (Hold gate latched)) = through (source_tern 
 abbrev pub shown_tern : List Tree → List Drive → (held : Tern) → PointTerns → (point : ℕ) → Tern
 shown_tern trees drives held t point = drive_tern trees held t point (slice_get drives point)
 
+-- two bits of one expression
+pub record AreBeside (one other : Source) : Type 0 where
+  pub tree : one.tree ≡ other.tree
+  pub first : one.first ≡ other.first
+
 -- a bit of an expression whose points are below a number
 pub record IsFitSource (trees : List Tree) (count : ℕ) (source : Source) : Type 0 where
   pub tree : Tree

@@ -1,9 +1,9 @@
 //! What points show, by numbers.
 
-ghost use Rattle.std.specs.Prelude.{◌≡◌, ◌<◌, ◌≤◌, ◌^◌, Some, length};
+ghost use Rattle.std.specs.Prelude.{◌≡◌, ◌<◌, ◌≤◌, ◌^◌, true, Some, length};
 ghost use Rattle.fab_ternary.specs.Terns.{plain_tern};
 ghost use Rattle.fab_compiled.specs.Terns.{seen, IsView};
-ghost use Rattle.fab_network.specs.Network.{drive_tern, source_tern, shown_tern, AreFit, IsFitDrive, IsFitSource};
+ghost use Rattle.fab_network.specs.Network.{drive_tern, source_tern, shown_tern, AreBeside, AreFit, IsFitDrive, IsFitSource};
 ghost use Rattle.fab_network.specs.Sharing.{AreShared};
 
 use crate::sharing::KeptValues;
@@ -16,6 +16,16 @@ pub struct Source {
     pub tree: u32,
     pub first: u32,
     pub bit: u32,
+}
+
+impl Source {
+    /// Whether this and another are bits of one expression, of the same instance.
+    pub fn is_beside(self, other: Source) -> bool
+        ensures beside { result ≡ true → AreBeside self other }
+        ensures found { AreBeside self other → result ≡ true }
+    {
+        self.tree == other.tree && self.first == other.first
+    }
 }
 
 /// The clock of a flip-flop, as an input of the top.

@@ -58,7 +58,7 @@ impl Shared {
         ensures shared { IsShared trees.now (length view.now.leads.now) (seen view.now.terns.now view.now.leads.now) self.new }
     {
         if self.tree != source.tree || self.first != source.first {
-            self.turn_to(source);
+            self.turn_to(source.tree, source.first);
             return evaluate(trees, source, view);
         }
         if let Some(bit) = self.kept(source.bit) {
@@ -82,12 +82,20 @@ impl Shared {
         self.exact = false;
     }
 
-    // Another expression is looked at.
-    fn turn_to(&mut self, source: Source)
+    /// Nothing has been looked at, as after `new`. The room of the list stays, for the expressions that are looked at from now on.
+    pub fn forget(&mut self)
         ensures { (trees : List Tree) (count : ℕ) (t : PointTerns) → IsShared trees count t self.new }
     {
-        self.tree = source.tree;
-        self.first = source.first;
+        self.turn_to(u32::MAX, 0);
+    }
+
+    // Another expression is looked at.
+    fn turn_to(&mut self, tree: u32, first: u32)
+        ensures { (trees : List Tree) (count : ℕ) (t : PointTerns) → IsShared trees count t self.new }
+    {
+        self.tree = tree;
+        self.first = first;
+        self.exact = false;
         self.alone = false;
         self.bits.clear();
         self.stale = 0;
