@@ -15,14 +15,14 @@ use Rattle.fab_compiled.proofs.Bits.{first_at}
 use Rattle.fab_network.specs.declared.network.Clock.TheVariants.{Loader}
 use Rattle.fab_network.specs.declared.network.Network.{Network}
 use Rattle.fab_network.specs.declared.network.Source.{Source}
-use Rattle.fab_network.specs.Network.{source_tern, tern_in}
+use Rattle.fab_network.specs.Network.{source_tern, tern_in, AreBeside}
 use Rattle.fab_network.specs.Passes.{kept_tern}
 use Rattle.fab_demand.specs.Asked.{Asked, DiffersInOwn}
 use Rattle.fab_demand.specs.Demand.{Shows}
 use Rattle.fab_phases.specs.Lists.{Each, HasOne}
 use Rattle.fab_phases.specs.Loading.{AreFlops, IsLoadedFlop}
 use Rattle.fab_phases.specs.Words.{IsLeft}
-use Rattle.fab_phases.specs.inner.Enables.{enable_tern, test_tern, AreAmong, AreFlopGroups, AreHolding, AreInFlopGroups, HasBack, Holds, IsAlike, IsFlopGroupOf, IsHolding, IsInFlopGroups, IsLedBack, LeavesFlopsOf, LeavesGroup, LeavesGroups}
+use Rattle.fab_phases.specs.inner.Enables.{enable_tern, test_tern, AreAmong, AreFlopGroups, AreHolding, AreInFlopGroups, HasBack, Holds, IsFlopGroupOf, IsHolding, IsInFlopGroups, IsLedBack, LeavesFlopsOf, LeavesGroup, LeavesGroups}
 use Rattle.fab_phases.specs.inner.Ticks.{AreFitFlops, AreOnWay, IsFitFlop, IsSet, LeavesFlops, LeavesPoints, Tick}
 use Rattle.fab_phases.specs.declared.enables.Enable.{Enable}
 use Rattle.fab_phases.specs.declared.enables.Enable.TheVariants.{Always, Test}
@@ -78,21 +78,21 @@ choice_holds network asked flop p q r test yes_branch no_branch at has t closed 
     }
 
 -- bits of one expression have one test
-pub alike_holds : (network : Network) (asked : Asked) (next : Source) (flop : LoadedFlop) → IsAlike flop.next next → Holds network asked (Test flop.next) flop →
+pub beside_holds : (network : Network) (asked : Asked) (next : Source) (flop : LoadedFlop) → AreBeside flop.next next → Holds network asked (Test flop.next) flop →
     Holds network asked (Test next) flop
-alike_holds network asked next flop alike holds t closed =
+beside_holds network asked next flop beside holds t closed =
     holds t
-    (ap (λ (tree : ℕ). test_tern (slice_get network.trees.items tree) t flop.next.first) alike.0
-    ∙ ap (λ (first : ℕ). test_tern (slice_get network.trees.items next.tree) t first) alike.1 ∙ closed)
+    (ap (λ (tree : ℕ). test_tern (slice_get network.trees.items tree) t flop.next.first) beside.tree
+    ∙ ap (λ (first : ℕ). test_tern (slice_get network.trees.items next.tree) t first) beside.first ∙ closed)
 
 pub always_holds : (network : Network) (asked : Asked) (flop : LoadedFlop) → Holds network asked Always flop
 always_holds network asked flop t closed = absurd (yes≢no closed)
 
 -- one flip-flop more
-pub alike_more : (next : Source) (flops : List LoadedFlop) (count : ℕ) (here : LoadedFlop) → slice_get flops count ≡ Some here → IsAlike here.next next →
-    ((place : ℕ) (flop : LoadedFlop) → place < count → slice_get flops place ≡ Some flop → IsAlike flop.next next) →
-    (place : ℕ) (flop : LoadedFlop) → place < count + 1 → slice_get flops place ≡ Some flop → IsAlike flop.next next
-alike_more next flops count here at alike before = each_below_more flops count here (λ (flop : LoadedFlop). IsAlike flop.next next) at alike before
+pub beside_more : (next : Source) (flops : List LoadedFlop) (count : ℕ) (here : LoadedFlop) → slice_get flops count ≡ Some here → AreBeside here.next next →
+    ((place : ℕ) (flop : LoadedFlop) → place < count → slice_get flops place ≡ Some flop → AreBeside flop.next next) →
+    (place : ℕ) (flop : LoadedFlop) → place < count + 1 → slice_get flops place ≡ Some flop → AreBeside flop.next next
+beside_more next flops count here at beside before = each_below_more flops count here (λ (flop : LoadedFlop). AreBeside flop.next next) at beside before
 
 pub held_more : (network : Network) (asked : Asked) (next : Source) (flops : List LoadedFlop) (count : ℕ) (here : LoadedFlop) → slice_get flops count ≡ Some here →
     Holds network asked (Test next) here →

@@ -1,9 +1,10 @@
 //! Flip-flops in groups that take new values together.
 
 ghost use Rattle.std.specs.Prelude.{◌≡◌, ◌<◌, ◌≤◌, length, slice_get, IfOk, IsTrue, Some};
+ghost use Rattle.fab_network.specs.Network.{AreBeside};
 ghost use Rattle.fab_phases.specs.Lists.{Each};
 ghost use Rattle.fab_phases.specs.declared.enables.Enable.TheVariants.{Test};
-ghost use Rattle.fab_phases.specs.inner.Enables.{AreFlopGroups, AreInFlopGroups, HasBack, Holds, IsAlike, IsAlikeUpTo, IsFitEnable, IsFlopGroupOf, IsLedBack};
+ghost use Rattle.fab_phases.specs.inner.Enables.{AreBesideUpTo, AreFlopGroups, AreInFlopGroups, HasBack, Holds, IsFitEnable, IsFlopGroupOf, IsLedBack};
 ghost use Rattle.fab_phases.specs.inner.Ticks.{AreFitFlops, IsFit};
 
 use crate::enables::Enable;
@@ -46,22 +47,14 @@ pub fn groups_of(
 
 // How many flip-flops at the front take bits of the same expression as this one.
 fn together(next: Source, flops: &[LoadedFlop]) -> usize
-    ensures { IsAlikeUpTo next flops.now result }
+    ensures { AreBesideUpTo next flops.now result }
 {
     for (place, flop) in flops.iter().enumerate() {
-        if !is_alike(flop.next, next) {
+        if !flop.next.is_beside(next) {
             return place;
         }
     }
     flops.len()
-}
-
-// Whether two bits are those of one expression.
-fn is_alike(one: Source, other: Source) -> bool
-    ensures alike { IsTrue result → IsAlike one other }
-    ensures same { one ≡ other → IsTrue result }
-{
-    one.tree == other.tree && one.first == other.first
 }
 
 // The group of flip-flops that take bits of the same expression as this one.
@@ -73,7 +66,7 @@ fn group_of(
     flops: &[LoadedFlop],
 ) -> Result<FlopGroup, Memory>
     requires next { IsFit network.now next }
-    requires alike { Each flops.now (λ flop. IsAlike flop.next next) }
+    requires beside { Each flops.now (λ flop. AreBeside flop.next next) }
     ensures { IfOk result (λ group. IsFlopGroupOf network.now demand.now flops.now group) }
 {
     let enable = enable_of(network, demand, next, flops);
@@ -84,7 +77,7 @@ fn group_of(
 // What lets flip-flops take bits of the same expression as this one: its test, if each of them takes what it has where the test is 0.
 fn enable_of(network: &Network, demand: &Demand, next: Source, flops: &[LoadedFlop]) -> Enable
     requires next { IsFit network.now next }
-    requires alike { Each flops.now (λ flop. IsAlike flop.next next) }
+    requires beside { Each flops.now (λ flop. AreBeside flop.next next) }
     ensures fit { IsFitEnable network.now result }
     ensures holds { Each flops.now (Holds network.now demand.now result) }
 {

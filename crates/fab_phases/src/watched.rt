@@ -19,7 +19,7 @@ use crate::ticks::{take_flops, take_run};
 use fab_base::Memory;
 use fab_changes::{Changes, Fanout, Places};
 use fab_demand::Demand;
-use fab_network::Network;
+use fab_network::{Network, Shared};
 use fab_ternary::Tern;
 use std::alloc::Global;
 
@@ -110,11 +110,12 @@ fn watches_of(
 
 // ---- a tick
 
-/// A tick of the loader's clock, while a piece is offered.
+/// A tick of the loader's clock, while a piece is offered. Of `shared` only its room is used.
 pub fn tick_watched(
     network: &Network,
     loading: &Loading,
     watching: &mut Watching,
+    shared: &mut Shared,
     demand: &mut Demand,
     given: &mut [Tern],
 )
@@ -134,8 +135,24 @@ pub fn tick_watched(
     let watches = &mut watching.watches;
     let enables = &watching.enables;
     watching.changes.settle(network, given, demand, watches);
-    take_groups(network, &watching.groups, enables, demand, watches, given);
-    take_enabled(network, &loading.runs, enables, demand, watches, given);
+    take_groups(
+        network,
+        &watching.groups,
+        enables,
+        demand,
+        watches,
+        shared,
+        given,
+    );
+    take_enabled(
+        network,
+        &loading.runs,
+        enables,
+        demand,
+        watches,
+        shared,
+        given,
+    );
 }
 
 // Flip-flops take their next values, group by group.
@@ -145,6 +162,7 @@ fn take_groups(
     enables: &[Enable],
     demand: &Demand,
     watches: &mut Fanout,
+    shared: &mut Shared,
     given: &mut [Tern],
 )
     requires points { length network.now.drives.items ≡ length demand.now.leads }
@@ -157,7 +175,7 @@ fn take_groups(
 {
     for (number, group) in groups.iter().enumerate() {
         let enable = enabled(network, enables, number, demand, watches);
-        take_group(network, enable, group, demand, given);
+        take_group(network, enable, group, demand, shared, given);
     }
 }
 
@@ -167,6 +185,7 @@ fn take_group(
     enable: Tern,
     group: &FlopGroup,
     demand: &Demand,
+    shared: &mut Shared,
     given: &mut [Tern],
 )
     requires points { length network.now.drives.items ≡ length demand.now.leads }
@@ -177,7 +196,7 @@ fn take_group(
 {
     match enable {
         Tern::No => {}
-        Tern::Yes | Tern::Open => take_flops(network, &group.flops, demand, given),
+        Tern::Yes | Tern::Open => take_flops(network, &group.flops, demand, shared, given),
     }
 }
 
@@ -188,6 +207,7 @@ fn take_enabled(
     enables: &[Enable],
     demand: &Demand,
     watches: &mut Fanout,
+    shared: &mut Shared,
     given: &mut [Tern],
 )
     requires points { length network.now.drives.items ≡ length demand.now.leads }
@@ -201,6 +221,6 @@ fn take_enabled(
     let before = enables.len() - runs.len();
     for (place, run) in runs.iter().enumerate() {
         let gate = enabled(network, enables, before + place, demand, watches);
-        take_run(network, gate, run, demand, given);
+        take_run(network, gate, run, demand, shared, given);
     }
 }

@@ -9,7 +9,7 @@ use Rattle.fab_compiled.specs.Leading.{PointTerns, bit_under, IsMarked}
 use Rattle.fab_compiled.specs.Terns.{seen}
 use Rattle.fab_network.specs.declared.network.Network.{Network}
 use Rattle.fab_network.specs.declared.network.Source.{Source}
-use Rattle.fab_network.specs.Network.{source_tern}
+use Rattle.fab_network.specs.Network.{source_tern, AreBeside}
 use Rattle.fab_demand.specs.Asked.{Asked, DiffersInOwn}
 use Rattle.fab_demand.specs.Demand.{Shows}
 use Rattle.fab_changes.specs.declared.fanout.Fanout.{Fanout}
@@ -89,14 +89,10 @@ pub record AreEnables (network : Network) (demand : Asked) (enables : List Enabl
 
 -- ---- groups
 
--- bits of one expression
-abbrev pub IsAlike : (one other : Source) → Type 0
-IsAlike one other = (one.tree ≡ other.tree) × (one.first ≡ other.first)
-
 -- so many at the front are bits of the same expression as this one, and the first one is if it is this one
-pub record IsAlikeUpTo (next : Source) (flops : List LoadedFlop) (count : ℕ) : Type 0 where
+pub record AreBesideUpTo (next : Source) (flops : List LoadedFlop) (count : ℕ) : Type 0 where
   pub within : count ≤ length flops
-  pub front : (place : ℕ) (flop : LoadedFlop) → place < count → slice_get flops place ≡ Some flop → IsAlike flop.next next
+  pub front : (place : ℕ) (flop : LoadedFlop) → place < count → slice_get flops place ≡ Some flop → AreBeside flop.next next
   pub first : (flop : LoadedFlop) → slice_get flops 0 ≡ Some flop → flop.next ≡ next → 0 < count
 
 -- a point that has been asked for is led to this one

@@ -13,8 +13,8 @@ group_of-requires-clause-next c =
     let first = c.in-Some.ensures in
     (fits 0 c.in-Some.first.now (sym first.value)).next
 
-pub group_of-requires-clause-alike : goal.group_of-requires-clause-alike
-group_of-requires-clause-alike c place flop at =
+pub group_of-requires-clause-beside : goal.group_of-requires-clause-beside
+group_of-requires-clause-beside c place flop at =
     let front = c.split_at.result.0.now in
     let less = slice_get_within front place flop at in
     let there : slice_get c.groups.rest.now place ≡ Some flop =

@@ -28,7 +28,7 @@ bounds-given-flop c =
 pub loop-flop-init : goal.loop-flop-init
 loop-flop-init c = record {
   left = λ tick shows are way. record { on_way = way; stay = λ point is. is; left = λ point has. absurd (omega (arith, has.2)) };
-  shared = c.new-shared.ensures c.args.network.now.trees.items (length c.view-view.result.leads.now) (seen c.view-view.result.terns.now c.view-view.result.leads.now);
+  shared = c.forget.ensures c.args.network.now.trees.items (length c.view-view.result.leads.now) (seen c.view-view.result.terns.now c.view-view.result.leads.now);
 }
 
 pub loop-flop-preserved : goal.loop-flop-preserved

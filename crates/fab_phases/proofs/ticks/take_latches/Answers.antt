@@ -37,7 +37,7 @@ bounds-given-point c =
 pub loop-latch-init : goal.loop-latch-init
 loop-latch-init c = record {
   left = λ tick shows opens opened are way. record { on_way = way; stay = λ point is. is; left = λ point has. absurd (omega (arith, has.2)) };
-  shared = c.new-shared.ensures c.args.network.now.trees.items (length c.view-view.result.leads.now) (seen c.view-view.result.terns.now c.view-view.result.leads.now);
+  shared = c.forget.ensures c.args.network.now.trees.items (length c.view-view.result.leads.now) (seen c.view-view.result.terns.now c.view-view.result.leads.now);
 }
 
 pub loop-latch-preserved : goal.loop-latch-preserved
