@@ -195,11 +195,11 @@ module _ (network : Network) (old new : Asked) (lists : Lists) (taken : List ℕ
 
     -- ---- all groups
 
-    pub all_right : (old_stale : List Bool) (before after : Fanout) → before.readers.items ≡ lists → before.stale.items ≡ slice_set old_stale number false →
+    pub all_right : (old_stale : List Bool) (before after : Fanout) → before.readers.items ≡ lists → before.stale ≡ slice_set old_stale number false →
         HasTouched old.own old.terns new.terns before after → AreFound network old group group.end found →
         ((early : ℕ) (other : Group) → early < number → slice_get groups early ≡ Some other → IsRightGroup network old other) →
         ((later : ℕ) (other : Group) → slice_get groups later ≡ Some other → IsFresh old_stale later → IsRightGroup network old other) →
-        (at : ℕ) (other : Group) → (at < number + 1) ⊎ IsFresh after.stale.items at → slice_get groups at ≡ Some other → IsRightGroup network new other
+        (at : ℕ) (other : Group) → (at < number + 1) ⊎ IsFresh after.stale at → slice_get groups at ≡ Some other → IsRightGroup network new other
     all_right old_stale before after same_lists marked touched are_found done rest at other which first =
         elim (cases_lt at number) [
           | inl l ↦ earlier_right at other l first (done at other l first)
@@ -207,7 +207,7 @@ module _ (network : Network) (old new : Asked) (lists : Lists) (taken : List ℕ
             | inl e ↦ (let both : Some group ≡ Some other = sym there ∙ ap (slice_get groups) (sym e) ∙ first in
                 let same : group ≡ other = cc in
                 subst (IsRightGroup network new) same (group_right are_found))
-            | inr n ↦ (let fresh : IsFresh after.stale.items at = elim which [ inl l ↦ absurd (omega (arith, l, m, n)) | inr is ↦ is ] in
+            | inr n ↦ (let fresh : IsFresh after.stale at = elim which [ inl l ↦ absurd (omega (arith, l, m, n)) | inr is ↦ is ] in
                 let was : IsFresh old_stale at =
                 sym (get_other old_stale number false at n) ∙ ap (λ (xs : List Bool). slice_get xs at) (sym marked) ∙ touched.fresh at fresh in
                 later_right at other (omega (arith, m, n)) first
@@ -220,8 +220,8 @@ module _ (network : Network) (old new : Asked) (lists : Lists) (taken : List ℕ
 
   pub given_right : (given : List Tern) (before after : Fanout) → before.readers.items ≡ lists →
       HaveTaken taken (length taken) given old new → HasTouched old.own old.terns new.terns before after →
-      ((number : ℕ) (group : Group) → slice_get groups number ≡ Some group → IsFresh before.stale.items number → IsRightGroup network old group) →
-      (number : ℕ) (group : Group) → slice_get groups number ≡ Some group → IsFresh after.stale.items number → IsRightGroup network new group
+      ((number : ℕ) (group : Group) → slice_get groups number ≡ Some group → IsFresh before.stale number → IsRightGroup network old group) →
+      (number : ℕ) (group : Group) → slice_get groups number ≡ Some group → IsFresh after.stale number → IsRightGroup network new group
   given_right given before after same_lists have touched right number group there fresh =
       let is = are.each number group there in
       right_stays network old new lists number group fit is have.points (right number group there (touched.fresh number fresh))

@@ -33,9 +33,9 @@ touched_by own other_own old new other_old other_new before after e f g touched 
 
 -- the point at a place has another value, and its readers are stale
 pub touched_at : (own : List ℕ) (old : List Tern) (place : ℕ) (tern : Tern) (before after : Fanout) → place < length own →
-    after.readers.items ≡ before.readers.items → length after.stale.items ≡ length before.stale.items →
-    ((reader : ℕ) → IsFresh after.stale.items reader → IsFresh before.stale.items reader) →
-    ((reader : ℕ) → IsReader before.readers.items place reader → IsFresh after.stale.items reader → ⊥) →
+    after.readers.items ≡ before.readers.items → length after.stale ≡ length before.stale →
+    ((reader : ℕ) → IsFresh after.stale reader → IsFresh before.stale reader) →
+    ((reader : ℕ) → IsReader before.readers.items place reader → IsFresh after.stale reader → ⊥) →
     HasTouched own old (slice_set old (slice_index own place) tern) before after
 touched_at own old place tern before after l readers long fresh touched = record {
   readers = readers;

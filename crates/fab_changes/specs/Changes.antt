@@ -1,5 +1,6 @@
 -- Groups of points that are looked at together, each when something has changed that it reads.
 use Rattle.std.specs.Prelude.{◌≡◌, ◌⊎◌, ℕ, ◌+◌, ◌<◌, ◌≤◌, Bool, true, false, List, Option, None, Some, length, slice_get, slice_index}
+use Rattle.fab_ternary.specs.declared.Tern.{Tern}
 use Rattle.fab_compiled.specs.declared.tree.Tree.{Tree}
 use Rattle.fab_compiled.specs.Terns.{seen}
 use Rattle.fab_network.specs.declared.network.Drive.{Drive}
@@ -68,6 +69,23 @@ pub record AreGroups (network : Network) (own leads : List ℕ) (lists : Lists) 
   pub ordered : (number : ℕ) (group : Group) → slice_get groups number ≡ Some group → (place : ℕ) → place < length own →
       IsReader lists place number → TakesGiven (drive_at network own place) ⊎ (place < group.begin)
 
+-- ---- what is given
+
+-- Inputs and flip-flops are found by their points, and those that wait are among them.
+pub record AreWaiting (own : List ℕ) (changes : Changes) : Type 0 where
+  pub found : (place : ℕ) → IsListed changes.taken.items place → slice_get changes.places.items (slice_index own place) ≡ Some (place + 1)
+  pub placed : (point place : ℕ) → slice_get changes.places.items point ≡ Some (place + 1) → IsListed changes.taken.items place × (slice_index own place ≡ point)
+  pub among : (place : ℕ) → IsListed changes.waiting.items place → IsListed changes.taken.items place
+
+-- This point, if it is an input or a flip-flop that stands for itself, is taken when changes are settled next.
+abbrev pub WaitsAt : Changes → (point : ℕ) → Type 0
+WaitsAt changes point =
+    (changes.all_wait ≡ true) ⊎ ((place : ℕ) → slice_get changes.places.items point ≡ Some (place + 1) → IsListed changes.waiting.items place)
+
+-- Each point has what is given to it, unless it waits.
+abbrev pub HasGiven : (terns given : List Tern) → Changes → Type 0
+HasGiven terns given changes = (point : ℕ) → WaitsAt changes point ⊎ (kept_tern terns point ≡ kept_tern given point)
+
 -- ---- values
 
 -- the point at a place has what its expression has
@@ -83,14 +101,15 @@ IsRightGroup network asked group = (place : ℕ) → IsInGroup group place → I
 -- The groups are those of what has been asked for, and what is kept for a group is right unless it is stale.
 pub record AreChangesOf (network : Network) (asked : Asked) (changes : Changes) : Type 0 where
   pub groups : AreGroups network asked.own asked.leads changes.fanout.readers.items changes.taken.items changes.groups.items
-  pub long : length changes.fanout.stale.items ≡ length changes.groups.items
+  pub waiting : AreWaiting asked.own changes
+  pub long : length changes.fanout.stale ≡ length changes.groups.items
   pub room : (number : ℕ) (group : Group) → slice_get changes.groups.items number ≡ Some group → group.end ≤ group.begin + length changes.found.items
-  pub right : (number : ℕ) (group : Group) → slice_get changes.groups.items number ≡ Some group → IsFresh changes.fanout.stale.items number →
+  pub right : (number : ℕ) (group : Group) → slice_get changes.groups.items number ≡ Some group → IsFresh changes.fanout.stale number →
       IsRightGroup network asked group
 
 -- ---- what others watch
 
 -- A reader that is not stale was not stale before, and all that it watches has what it had.
 pub record HasKept (old new : Asked) (before : Fanout) (reader : ℕ) : Type 0 where
-  pub fresh : IsFresh before.stale.items reader
+  pub fresh : IsFresh before.stale reader
   pub same : (point : ℕ) → IsWatched old.own old.leads before.readers.items reader point → seen new.terns new.leads point ≡ seen old.terns old.leads point

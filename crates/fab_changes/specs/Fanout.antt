@@ -1,5 +1,5 @@
 -- Who reads which points.
-use Rattle.std.specs.Prelude.{◌≡◌, ◌≢◌, ℕ, ◌+◌, ◌<◌, Bool, false, List, Some, Vec, length, slice_get, slice_index}
+use Rattle.std.specs.Prelude.{◌≡◌, ◌≢◌, ℕ, ◌+◌, ◌<◌, ◌≤◌, Bool, true, false, List, Some, Vec, length, slice_get, slice_index}
 use Rattle.std.specs.Global.{Global}
 use Rattle.fab_ternary.specs.declared.Tern.{Tern}
 use Rattle.fab_compiled.specs.declared.tree.Tree.{Tree}
@@ -53,10 +53,21 @@ ReadsMore old new = (place reader : ℕ) → IsReader old place reader → IsRea
 abbrev pub IsFresh : (stale : List Bool) → (reader : ℕ) → Type 0
 IsFresh stale reader = slice_get stale reader ≡ Some false
 
+-- the same of all readers from one number up to another
+abbrev pub AreFresh : (stale : List Bool) → (from end : ℕ) → Type 0
+AreFresh stale from end = (reader : ℕ) → from ≤ reader → reader < end → IsFresh stale reader
+
+-- the first stale reader from a number on
+pub record IsNextStale (flags : List Bool) (from reader : ℕ) : Type 0 where
+  pub low : from ≤ reader
+  pub within : reader < length flags
+  pub stale : slice_get flags reader ≡ Some true
+  pub passed : AreFresh flags from reader
+
 -- Values of points have changed from old to new, and readers of those that differ are stale.
 pub record HasTouched (own : List ℕ) (old new : List Tern) (before after : Fanout) : Type 0 where
   pub readers : after.readers.items ≡ before.readers.items
-  pub long : length after.stale.items ≡ length before.stale.items
-  pub fresh : (reader : ℕ) → IsFresh after.stale.items reader → IsFresh before.stale.items reader
-  pub same : (reader : ℕ) → IsFresh after.stale.items reader → (point : ℕ) → HasReader own before.readers.items reader point →
+  pub long : length after.stale ≡ length before.stale
+  pub fresh : (reader : ℕ) → IsFresh after.stale reader → IsFresh before.stale reader
+  pub same : (reader : ℕ) → IsFresh after.stale reader → (point : ℕ) → HasReader own before.readers.items reader point →
       kept_tern new point ≡ kept_tern old point

@@ -1,15 +1,16 @@
 //! Values of points that stand for themselves, looked at again where something has changed that they read.
 
-ghost use Rattle.std.specs.Prelude.{◌≡◌, ◌+◌, ◌<◌, ℕ, length, IfSome};
+ghost use Rattle.std.specs.Prelude.{◌≡◌, ◌+◌, ◌<◌, ◌^◌, ℕ, length, IfSome};
 ghost use Rattle.fab_network.specs.Network.{AreFit};
+ghost use Rattle.fab_network.specs.Passes.{AreOwn, IsListed};
 ghost use Rattle.fab_demand.specs.Asked.{Asked, DiffersInOwn};
 ghost use Rattle.fab_demand.specs.Demand.{ShowsLeast};
-ghost use Rattle.fab_changes.specs.Changes.{AreChangesOf, AreGroups, HasKept};
+ghost use Rattle.fab_changes.specs.Changes.{AreChangesOf, AreGroups, AreWaiting, HasGiven, HasKept, WaitsAt};
 ghost use Rattle.fab_changes.specs.Fanout.{ArePlaces, HasTouched, IsFresh, IsOnce};
-ghost use Rattle.fab_changes.specs.inner.Looking.{AreRightFrom, AreSameGroups, HasRoom, HasWritten};
+ghost use Rattle.fab_changes.specs.inner.Looking.{AreRightFrom, AreSameGroups, HasRoom, HasWritten, HaveTaken, IsTaken};
 
 use crate::fanout::Fanout;
-use crate::groups::{Group, are_ordered, fanout_of, groups_of, longest, taken_of};
+use crate::groups::{Group, are_ordered, fanout_of, groups_of, longest, places_of, taken_of};
 use crate::looking::{find_values, take_given, take_values};
 use crate::places::Places;
 use fab_demand::Demand;
@@ -22,6 +23,12 @@ use std::alloc::Global;
 pub struct Changes {
     /// The places of inputs and flip-flops.
     pub taken: Vec<u32>,
+    /// By the number of a point: one more than its place, for an input or a flip-flop that stands for itself, and 0 for all others.
+    pub places: Vec<u32>,
+    /// The places of inputs and flip-flops to which another value has been given since they were taken last.
+    pub waiting: Vec<u32>,
+    /// Whether all inputs and flip-flops are to be taken: at first, and where there was no memory for one that waits.
+    pub all_wait: bool,
     /// The other points. Each group reads inputs, flip-flops and groups before it alone.
     pub groups: Vec<Group>,
     /// The readers are the groups.
@@ -38,10 +45,12 @@ impl Changes {
         requires points { length network.now.drives.items ≡ length places.now.leads.now }
         requires places { ArePlaces places.now }
         requires once { IsOnce places.now.own.now }
-        ensures { IfSome result (λ changes. (asked : Asked) → asked.own ≡ places.now.own.now → asked.leads ≡ places.now.leads.now →
+        ensures changes { IfSome result (λ changes. (asked : Asked) → asked.own ≡ places.now.own.now → asked.leads ≡ places.now.leads.now →
             AreChangesOf network.now asked changes) }
+        ensures waits { IfSome result (λ changes. (point : ℕ) → WaitsAt changes point) }
     {
         let taken = taken_of(alloc, network, places.own)?;
+        let by_point = places_of(alloc, places, &taken)?;
         let groups = groups_of(alloc, network, places.own)?;
         let found = vec![in alloc; Tern::Open; longest(&groups)].ok()?;
         let fanout = fanout_of(alloc, network, places, &groups)?;
@@ -50,6 +59,9 @@ impl Changes {
         }
         Some(Changes {
             taken,
+            places: by_point,
+            waiting: Vec::new(alloc),
+            all_wait: true,
             groups,
             fanout,
             found,
@@ -57,7 +69,8 @@ impl Changes {
     }
 
     /// The values of a cycle, as `Demand::settle` finds them: points that stand for themselves take what is given to them now, and are
-    /// settled. The readers of points that change come to be stale, those of `watches` too.
+    /// settled. Of inputs and flip-flops only those are looked at whose value has been noted since, by `note_given` or `note_points`. The
+    /// readers of points that change come to be stale, those of `watches` too.
     pub fn settle(
         &mut self,
         network: &Network,
@@ -69,16 +82,66 @@ impl Changes {
         requires points { length network.now.drives.items ≡ length demand.old.leads }
         requires given { length given.now ≡ length demand.old.leads }
         requires changes { AreChangesOf network.now demand.old self.old }
+        requires has { HasGiven demand.old.terns given.now self.old }
         ensures changes { AreChangesOf network.now demand.new self.new }
+        ensures has { HasGiven demand.new.terns given.now self.new }
         ensures stays { (asked : Asked) → DiffersInOwn asked demand.old → DiffersInOwn asked demand.new }
         ensures shows { ShowsLeast network.now given.now demand.old demand.new }
         ensures readers { watches.new.readers.items ≡ watches.old.readers.items }
-        ensures long { length watches.new.stale.items ≡ length watches.old.stale.items }
-        ensures kept { (reader : ℕ) → IsFresh watches.new.stale.items reader → HasKept demand.old demand.new watches.old reader }
+        ensures long { length watches.new.stale ≡ length watches.old.stale }
+        ensures kept { (reader : ℕ) → IsFresh watches.new.stale reader → HasKept demand.old demand.new watches.old reader }
     {
-        take_given(&self.taken, given, demand, &mut self.fanout, watches);
-        for number in 0..self.groups.len() {
+        self.take_waiting(given, demand, watches);
+        let mut from = 0;
+        while let Some(number) = self.fanout.next_stale(from) {
             self.settle_group(network, number, demand, watches);
+            from = number + 1;
+        }
+    }
+
+    // The inputs and flip-flops that wait take what is given to them.
+    fn take_waiting(&mut self, given: &[Tern], demand: &mut Demand, watches: &mut Fanout)
+        requires given { length given.now ≡ length demand.old.leads }
+        requires own { AreOwn demand.old.own demand.old.leads }
+        requires within { (place : ℕ) → IsListed self.old.taken.items place → place < length demand.old.own }
+        requires waiting { AreWaiting demand.old.own self.old }
+        requires has { HasGiven demand.old.terns given.now self.old }
+        ensures taken { HaveTaken self.old.taken.items (length self.old.taken.items) given.now demand.old demand.new }
+        ensures same { IsTaken self.old self.new }
+        ensures fanout { HasTouched demand.old.own demand.old.terns demand.new.terns self.old.fanout self.new.fanout }
+        ensures watches { HasTouched demand.old.own demand.old.terns demand.new.terns watches.old watches.new }
+    {
+        if self.all_wait {
+            take_given(&self.taken, given, demand, &mut self.fanout, watches);
+        } else {
+            take_given(&self.waiting, given, demand, &mut self.fanout, watches);
+        }
+        self.waiting.clear();
+        self.all_wait = false;
+    }
+
+    /// Another value is given to a point. If it takes what is given to it, it does so at the next `settle`.
+    pub fn note_given(&mut self, point: usize)
+        ensures changes { (network : Network) (asked : Asked) → AreChangesOf network asked self.old → AreChangesOf network asked self.new }
+        ensures waits { WaitsAt self.new point }
+        ensures more { (other : ℕ) → WaitsAt self.old other → WaitsAt self.new other }
+    {
+        if let Some(behind) = self.places.get(point).copied() {
+            if behind > 0 && self.waiting.push(behind - 1).is_err() {
+                self.all_wait = true;
+            }
+        }
+    }
+
+    /// The same of so many points that follow one another.
+    pub fn note_points(&mut self, first: usize, count: usize)
+        requires { first + count < 2 ^ 64 }
+        ensures changes { (network : Network) (asked : Asked) → AreChangesOf network asked self.old → AreChangesOf network asked self.new }
+        ensures waits { (k : ℕ) → k < count → WaitsAt self.new (first + k) }
+        ensures more { (other : ℕ) → WaitsAt self.old other → WaitsAt self.new other }
+    {
+        for next in 0..count {
+            self.note_given(first + next);
         }
     }
 
@@ -94,7 +157,7 @@ impl Changes {
         requires points { length network.now.drives.items ≡ length demand.old.leads }
         requires within { number < length self.old.groups.items }
         requires groups { AreGroups network.now demand.old.own demand.old.leads self.old.fanout.readers.items self.old.taken.items self.old.groups.items }
-        requires long { length self.old.fanout.stale.items ≡ length self.old.groups.items }
+        requires long { length self.old.fanout.stale ≡ length self.old.groups.items }
         requires room { HasRoom self.old.groups.items self.old.found.items }
         requires right { AreRightFrom network.now demand.old self.old number }
         ensures same { AreSameGroups self.old self.new }

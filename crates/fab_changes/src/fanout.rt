@@ -1,11 +1,12 @@
 //! Who reads which points.
 
-ghost use Rattle.std.specs.Prelude.{◌≡◌, ◌+◌, ◌<◌, ◌≤◌, ℕ, true, false, length, replicate, slice_get, slice_set, IfSome, OnSome, Some};
+ghost use Rattle.std.specs.Prelude.{◌≡◌, ◌+◌, ◌<◌, ◌≤◌, ℕ, true, false, length, replicate, slice_get, slice_set, IfSome, MatchOption, OnSome, Some};
 ghost use Rattle.fab_compiled.specs.Evaluation.{IsWithin};
 ghost use Rattle.fab_compiled.specs.Trees.{IsMade};
 ghost use Rattle.fab_network.specs.Passes.{IsListed};
-ghost use Rattle.fab_changes.specs.Fanout.{ArePlaces, IsFresh, IsReader, IsWatched, ReadsMore, WatchesTree};
+ghost use Rattle.fab_changes.specs.Fanout.{AreFresh, ArePlaces, IsFresh, IsNextStale, IsReader, IsWatched, ReadsMore, WatchesTree};
 
+use crate::flags::Flags;
 use crate::places::Places;
 use fab_compiled::Tree;
 use std::alloc::Global;
@@ -17,7 +18,7 @@ pub struct Fanout {
     /// By the place of a point among those that stand for themselves: its readers.
     pub readers: Vec<Vec<u32>>,
     /// By the number of a reader.
-    pub stale: Vec<bool>,
+    pub stale: Flags,
     /// How many more points of expressions there is room to look at.
     pub room: usize,
 }
@@ -25,9 +26,9 @@ pub struct Fanout {
 impl Fanout {
     /// So many stale readers, of so many points, which read nothing yet. There is room for so many points of expressions.
     pub fn new(alloc: Global, points: usize, readers: usize, room: usize) -> Option<Fanout>
-        ensures { IfSome result (λ fanout. fanout.stale.items ≡ replicate readers true) }
+        ensures { IfSome result (λ fanout. fanout.stale ≡ replicate readers true) }
     {
-        let stale = vec![in alloc; true; readers].ok()?;
+        let stale = Flags::all_set(alloc, readers)?;
         let mut lists = Vec::with_capacity(alloc, points).ok()?;
         for _ in 0..points {
             lists.push(Vec::new(alloc)).ok()?;
@@ -53,7 +54,7 @@ impl Fanout {
         requires inside { IsWithin tree.now first (length places.now.leads.now) }
         ensures watched { OnSome result (WatchesTree places.now.own.now places.now.leads.now self.new.readers.items reader first tree.now) }
         ensures more { OnSome result (ReadsMore self.old.readers.items self.new.readers.items) }
-        ensures stale { self.new.stale.items ≡ self.old.stale.items }
+        ensures stale { self.new.stale ≡ self.old.stale }
     {
         self.room = self.room.checked_sub(1)?;
         match tree {
@@ -98,7 +99,7 @@ impl Fanout {
         ensures watched { OnSome result ((k : ℕ) → k < count →
             IsWatched places.now.own.now places.now.leads.now self.new.readers.items reader (first + (place + k))) }
         ensures more { OnSome result (ReadsMore self.old.readers.items self.new.readers.items) }
-        ensures stale { self.new.stale.items ≡ self.old.stale.items }
+        ensures stale { self.new.stale ≡ self.old.stale }
     {
         self.room = self.room.checked_sub(count)?;
         for next in 0..count {
@@ -114,7 +115,7 @@ impl Fanout {
         ensures watched { OnSome result
             (IsWatched places.now.own.now places.now.leads.now self.new.readers.items reader point) }
         ensures more { OnSome result (ReadsMore self.old.readers.items self.new.readers.items) }
-        ensures stale { self.new.stale.items ≡ self.old.stale.items }
+        ensures stale { self.new.stale ≡ self.old.stale }
     {
         match places.of_lead(point) {
             Some(place) => put(&mut self.readers, place as usize, reader),
@@ -124,27 +125,34 @@ impl Fanout {
 
     /// Whether a reader is stale.
     pub fn is_stale(&self, reader: usize) -> bool
-        requires within { reader < length self.now.stale.items }
-        ensures { slice_get self.now.stale.items reader ≡ Some result }
+        requires within { reader < length self.now.stale }
+        ensures { slice_get self.now.stale reader ≡ Some result }
     {
-        self.stale[reader]
+        self.stale.is_set(reader)
+    }
+
+    /// The first stale reader from a number on. Where few readers are stale, it takes a small part of the time of a look at each.
+    pub fn next_stale(&self, from: usize) -> Option<usize>
+        ensures { MatchOption result (AreFresh self.now.stale from (length self.now.stale)) (IsNextStale self.now.stale from) }
+    {
+        self.stale.next_set(from)
     }
 
     /// A reader has been looked at.
     pub fn set_fresh(&mut self, reader: usize)
-        requires within { reader < length self.old.stale.items }
+        requires within { reader < length self.old.stale }
         ensures readers { self.new.readers.items ≡ self.old.readers.items }
-        ensures stale { self.new.stale.items ≡ slice_set self.old.stale.items reader false }
+        ensures stale { self.new.stale ≡ slice_set self.old.stale reader false }
     {
-        self.stale[reader] = false;
+        self.stale.clear(reader);
     }
 
     /// The point at a place has changed.
     pub fn touch(&mut self, place: usize)
         ensures readers { self.new.readers.items ≡ self.old.readers.items }
-        ensures long { length self.new.stale.items ≡ length self.old.stale.items }
-        ensures fresh { (reader : ℕ) → IsFresh self.new.stale.items reader → IsFresh self.old.stale.items reader }
-        ensures touched { (reader : ℕ) → IsReader self.old.readers.items place reader → IsFresh self.new.stale.items reader → ⊥ }
+        ensures long { length self.new.stale ≡ length self.old.stale }
+        ensures fresh { (reader : ℕ) → IsFresh self.new.stale reader → IsFresh self.old.stale reader }
+        ensures touched { (reader : ℕ) → IsReader self.old.readers.items place reader → IsFresh self.new.stale reader → ⊥ }
     {
         if let Some(readers) = self.readers.get(place) {
             mark(readers, &mut self.stale);
@@ -153,7 +161,7 @@ impl Fanout {
 }
 
 // These readers are stale.
-fn mark(readers: &[u32], stale: &mut [bool])
+fn mark(readers: &[u32], stale: &mut Flags)
     ensures long { length stale.new ≡ length stale.old }
     ensures fresh { (reader : ℕ) → IsFresh stale.new reader → IsFresh stale.old reader }
     ensures marked { (reader : ℕ) → IsListed readers.now reader → IsFresh stale.new reader → ⊥ }
@@ -161,7 +169,7 @@ fn mark(readers: &[u32], stale: &mut [bool])
     for reader in readers {
         let reader = *reader as usize;
         if reader < stale.len() {
-            stale[reader] = true;
+            stale.set(reader);
         }
     }
 }

@@ -2,10 +2,11 @@
 
 ghost use Rattle.std.specs.Prelude.{◌≡◌, ◌+◌, ◌<◌, ◌≤◌, ℕ, true, length, slice_get, IfSome, OnSome, Some};
 ghost use Rattle.fab_network.specs.Network.{AreFit};
+ghost use Rattle.fab_network.specs.Passes.{IsListed};
 ghost use Rattle.fab_changes.specs.declared.groups.Group.{Group};
 ghost use Rattle.fab_changes.specs.Changes.{takes_given};
-ghost use Rattle.fab_changes.specs.Fanout.{ArePlaces};
-ghost use Rattle.fab_changes.specs.inner.Grouping.{AreBitGroups, AreTaken, AreWatched, BeginBehind, HasBit, IsFanoutOf, IsNext, IsOrderedAt};
+ghost use Rattle.fab_changes.specs.Fanout.{ArePlaces, IsOnce};
+ghost use Rattle.fab_changes.specs.inner.Grouping.{AreBitGroups, ArePlacedBy, AreTaken, AreWatched, BeginBehind, HasBit, IsFanoutOf, IsNext, IsOrderedAt};
 
 use crate::fanout::Fanout;
 use crate::places::Places;
@@ -41,6 +42,21 @@ pub(crate) fn taken_of(alloc: Global, network: &Network, own: &[u32]) -> Option<
         }
     }
     Some(taken)
+}
+
+// By the number of a point: one more than its place if it is one of these, and 0 if it is not.
+pub(crate) fn places_of(alloc: Global, places: &Places, taken: &[u32]) -> Option<Vec<u32>>
+    requires places { ArePlaces places.now }
+    requires once { IsOnce places.now.own.now }
+    requires within { (place : ℕ) → IsListed taken.now place → place < length places.now.own.now }
+    ensures { IfSome result (λ by_point. ArePlacedBy places.now.own.now taken.now (length taken.now) by_point.items) }
+{
+    let mut by_point = vec![in alloc; 0; places.leads.len()].ok()?;
+    for place in taken {
+        let point = places.own[*place as usize] as usize;
+        by_point[point] = place.checked_add(1)?;
+    }
+    Some(by_point)
 }
 
 // Whether a point takes what is given to it.
@@ -150,7 +166,7 @@ fn note_groups(
     requires places { ArePlaces places.now }
     requires groups { AreBitGroups network.now places.now.own.now (length places.now.own.now) groups.now }
     ensures watched { OnSome result (AreWatched network.now places.now.own.now places.now.leads.now fanout.new.readers.items (length groups.now) groups.now) }
-    ensures stale { fanout.new.stale.items ≡ fanout.old.stale.items }
+    ensures stale { fanout.new.stale ≡ fanout.old.stale }
 {
     for number in 0..groups.len() {
         let group = groups[number];

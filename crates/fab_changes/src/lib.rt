@@ -3,11 +3,13 @@
 
 mod changes;
 mod fanout;
+mod flags;
 mod groups;
 mod looking;
 mod places;
 
 pub use changes::Changes;
 pub use fanout::Fanout;
+pub use flags::Flags;
 pub use groups::Group;
 pub use places::Places;

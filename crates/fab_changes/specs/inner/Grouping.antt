@@ -14,6 +14,11 @@ pub record AreTaken (network : Network) (own : List ℕ) (count : ℕ) (taken : 
   pub takes : (place : ℕ) → IsListed taken place → (place < count) × TakesGiven (drive_at network own place)
   pub all : (place : ℕ) → place < count → TakesGiven (drive_at network own place) → IsListed taken place
 
+-- By the number of a point: one more than its place, for the first of these places, and 0 or nothing for all others.
+pub record ArePlacedBy (own taken : List ℕ) (count : ℕ) (places : List ℕ) : Type 0 where
+  pub found : (k : ℕ) → k < count → slice_get places (slice_index own (slice_index taken k)) ≡ Some (slice_index taken k + 1)
+  pub placed : (point place : ℕ) → slice_get places point ≡ Some (place + 1) → IsListed taken place × (slice_index own place ≡ point)
+
 -- Below a count each place is one of an input or a flip-flop, or stands in a group of bits of one expression. Groups follow one another.
 pub record AreBitGroups (network : Network) (own : List ℕ) (count : ℕ) (groups : List Group) : Type 0 where
   pub all : (place : ℕ) → place < count → TakesGiven (drive_at network own place) ⊎ IsGrouped groups place
@@ -66,5 +71,5 @@ BeginBehind place readers groups = (number : ℕ) (group : Group) → IsListed r
 -- the fan-out of groups that are all stale
 pub record IsFanoutOf (network : Network) (own leads : List ℕ) (groups : List Group) (fanout : Fanout) : Type 0 where
   pub watched : AreWatched network own leads fanout.readers.items (length groups) groups
-  pub long : length fanout.stale.items ≡ length groups
-  pub stale : (reader : ℕ) → IsFresh fanout.stale.items reader → ⊥
+  pub long : length fanout.stale ≡ length groups
+  pub stale : (reader : ℕ) → IsFresh fanout.stale reader → ⊥

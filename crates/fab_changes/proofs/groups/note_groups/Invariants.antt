@@ -6,5 +6,5 @@ use Rattle.fab_changes.proofs.groups.note_groups.Given as goal
 abbrev pub invariant-loop-number : goal.invariant-loop-number
 invariant-loop-number l = record {
   watched : AreWatched l.network l.places.own.now l.places.leads.now l.fanout.readers.items l.number l.groups;
-  stale : l.fanout.stale.items ≡ l.fn.fanout.stale.items;
+  stale : l.fanout.stale ≡ l.fn.fanout.stale;
 }

@@ -22,10 +22,10 @@ returns-clause-right c =
     let same : c.deref.result.now ≡ found = c.deref.ensures.value ∙ with_items_is self.found found (c.find_values.ensures.long ∙ c.deref_mut.ensures.len) in
     let wrote : HasTakenGroup group group.end found old new =
     subst (λ (xs : List Tern). HasTakenGroup group group.end xs old new) same c.take_values.ensures.taken in
-    let right : (at : ℕ) (other : Group) → (at < c.args.number + 1) ⊎ IsFresh c.take_values.new.fanout.stale.items at → slice_get groups at ≡ Some other →
+    let right : (at : ℕ) (other : Group) → (at < c.args.number + 1) ⊎ IsFresh c.take_values.new.fanout.stale at → slice_get groups at ≡ Some other →
     IsRightGroup c.args.network.now new other =
     all_right c.args.network.now old new self.fanout.readers.items self.taken.items groups c.requires.fit c.requires.groups c.args.number group found there
-    wrote self.fanout.stale.items c.set_fresh.new.self c.take_values.new.fanout c.set_fresh.ensures.readers
+    wrote self.fanout.stale c.set_fresh.new.self c.take_values.new.fanout c.set_fresh.ensures.readers
     c.set_fresh.ensures.stale c.take_values.ensures.fanout c.find_values.ensures.found c.requires.right.done c.requires.right.rest in
     record {
       done = λ at other l first. right at other (inl l) first;
