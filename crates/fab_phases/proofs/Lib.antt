@@ -7,6 +7,7 @@ pub mod Offering
 pub mod Telling
 pub mod Enabling
 pub mod Grouping
+pub mod Passing
 pub mod Watching
 pub mod Stepping
 pub mod Shifting

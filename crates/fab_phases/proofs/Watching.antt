@@ -28,11 +28,6 @@ of_groups groups = map (λ (group : FlopGroup). group.enable) groups
 abbrev of_runs : List Run → List Enable
 of_runs runs = map (λ (run : Run). Gate run.gate) runs
 
-pub enable_groups : (groups : List FlopGroup) (runs : List Run) (enables : List Enable) → AreEnablesOf groups runs enables → EnableGroups groups enables
-enable_groups groups runs enables are place group at =
-    ap (λ (es : List Enable). slice_get es place) are
-    ∙ get_left (of_groups groups) (of_runs runs) place group.enable (get_mapped (λ (g : FlopGroup). g.enable) groups place group at)
-
 enables_long : (groups : List FlopGroup) (runs : List Run) (enables : List Enable) → AreEnablesOf groups runs enables → length enables ≡ length groups + length runs
 enables_long groups runs enables are =
     let first = length-map groups (λ (g : FlopGroup). g.enable) in
@@ -40,6 +35,16 @@ enables_long groups runs enables are =
     let both = length-append (of_groups groups) (of_runs runs) in
     let all = ap length are in
     omega (arith, first, then, both, all)
+
+pub enable_groups : (groups : List FlopGroup) (runs : List Run) (enables : List Enable) → AreEnablesOf groups runs enables → EnableGroups groups enables
+enable_groups groups runs enables are =
+    let long = enables_long groups runs enables are in
+    record {
+      room = omega (arith, long);
+      enables = λ place group at.
+          ap (λ (es : List Enable). slice_get es place) are
+          ∙ get_left (of_groups groups) (of_runs runs) place group.enable (get_mapped (λ (g : FlopGroup). g.enable) groups place group at);
+    }
 
 pub enable_runs : (groups : List FlopGroup) (runs : List Run) (enables : List Enable) → AreEnablesOf groups runs enables → EnableRuns runs enables
 enable_runs groups runs enables are =

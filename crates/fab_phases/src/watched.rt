@@ -12,7 +12,7 @@ ghost use Rattle.fab_phases.specs.Words.{IsLoadingAt};
 ghost use Rattle.fab_phases.specs.inner.Enables.{enable_tern, AreEnables, AreEnablesOf, AreHolding, AreNewlyWatched, EnableGroups, EnableRuns, IsFitEnable, IsHolding, IsWatching, LeavesGroup, LeavesGroups};
 ghost use Rattle.fab_phases.specs.inner.Ticks.{AreFitRuns, IsLoadTick, LeavesRuns};
 
-use crate::enables::{Enable, enabled, watch};
+use crate::enables::{Enable, next_enabled, watch};
 use crate::flop_groups::{FlopGroup, groups_of};
 use crate::loading::{Loading, Run};
 use crate::ticks::{take_flops, take_run};
@@ -155,7 +155,7 @@ pub fn tick_watched(
     );
 }
 
-// Flip-flops take their next values, group by group.
+// Flip-flops take their next values, group by group. Groups whose enables are 0 are passed over.
 fn take_groups(
     network: &Network,
     groups: &[FlopGroup],
@@ -173,34 +173,21 @@ fn take_groups(
     ensures leaves { LeavesGroups network.now groups.now demand.now given.old given.new }
     ensures enables { AreEnables network.now demand.now enables.now watches.new }
 {
-    for (number, group) in groups.iter().enumerate() {
-        let enable = enabled(network, enables, number, demand, watches);
-        take_group(network, enable, group, demand, shared, given);
+    let mut from = 0;
+    'groups: while let Some((number, _)) = next_enabled(
+        network,
+        enables,
+        from,
+        groups.len(),
+        demand,
+        watches,
+    ) {
+        take_flops(network, &groups[number].flops, demand, shared, given);
+        from = number + 1;
     }
 }
 
-// The flip-flops of a group whose enable has this value.
-fn take_group(
-    network: &Network,
-    enable: Tern,
-    group: &FlopGroup,
-    demand: &Demand,
-    shared: &mut Shared,
-    given: &mut [Tern],
-)
-    requires points { length network.now.drives.items ≡ length demand.now.leads }
-    requires given { length given.old ≡ length demand.now.leads }
-    requires group { IsHolding network.now demand.now group.now }
-    requires enable { plain_tern enable ≡ enable_tern network.now.trees.items (seen demand.now.terns demand.now.leads) group.now.enable }
-    ensures { LeavesGroup network.now group.now demand.now given.old given.new }
-{
-    match enable {
-        Tern::No => {}
-        Tern::Yes | Tern::Open => take_flops(network, &group.flops, demand, shared, given),
-    }
-}
-
-// Latches take what their points have, run by run.
+// Latches take what their points have, run by run. Runs whose gates are 0 are passed over.
 fn take_enabled(
     network: &Network,
     runs: &[Run],
@@ -219,8 +206,17 @@ fn take_enabled(
     ensures enables { AreEnables network.now demand.now enables.now watches.new }
 {
     let before = enables.len() - runs.len();
-    for (place, run) in runs.iter().enumerate() {
-        let gate = enabled(network, enables, before + place, demand, watches);
+    let mut from = before;
+    'runs: while let Some((number, gate)) = next_enabled(
+        network,
+        enables,
+        from,
+        enables.len(),
+        demand,
+        watches,
+    ) {
+        let run = &runs[number - before];
         take_run(network, gate, run, demand, shared, given);
+        from = number + 1;
     }
 }

@@ -3,6 +3,7 @@ use Rattle.std.specs.Prelude.{◌≡◌, ℕ, ◌+◌, ◌-◌, ◌<◌, ◌≤�
 use Rattle.fab_systems_laws.specs.Ternary.{no, yes, unknown}
 use Rattle.fab_systems_laws.specs.Ternary.{Tern as PlainTern}
 use Rattle.fab_ternary.specs.declared.Tern.{Tern}
+use Rattle.fab_ternary.specs.declared.Tern.TheVariants.{No}
 use Rattle.fab_ternary.specs.Terns.{plain_tern}
 use Rattle.fab_compiled.specs.declared.tree.Tree.{Tree, Cond'}
 use Rattle.fab_compiled.specs.Leading.{PointTerns, bit_under, IsMarked}
@@ -49,6 +50,17 @@ abbrev pub IsEnabled : Network → (demand : Asked) → List Enable → (number 
 IsEnabled network demand enables number value =
     (enable : Enable) → slice_get enables number ≡ Some enable → plain_tern value ≡ enable_tern network.trees.items (seen demand.terns demand.leads) enable
 
+-- the enables from one number up to another are 0
+abbrev pub AreClosed : Network → (demand : Asked) → List Enable → (from end : ℕ) → Type 0
+AreClosed network demand enables from end = (number : ℕ) → from ≤ number → number < end → IsEnabled network demand enables number No
+
+-- the first enable from one number up to another that may be something else
+pub record IsNextEnabled (network : Network) (demand : Asked) (enables : List Enable) (from end number : ℕ) (value : Tern) : Type 0 where
+  pub low : from ≤ number
+  pub within : number < end
+  pub passed : AreClosed network demand enables from number
+  pub value : IsEnabled network demand enables number value
+
 -- ---- what is watched of them
 
 -- all points of the test of a choice
@@ -75,16 +87,16 @@ AreWatched network own leads enables lists =
 
 -- All are stale at first.
 pub record AreNewlyWatched (network : Network) (own leads : List ℕ) (enables : List Enable) (watches : Fanout) : Type 0 where
-  pub long : length watches.stale.items ≡ length enables
+  pub long : length watches.stale ≡ length enables
   pub watched : AreWatched network own leads enables watches.readers.items
-  pub stale : (number : ℕ) → IsFresh watches.stale.items number → ⊥
+  pub stale : (number : ℕ) → IsFresh watches.stale number → ⊥
 
 -- Each enable is watched, and is 0 unless it is stale.
 pub record AreEnables (network : Network) (demand : Asked) (enables : List Enable) (watches : Fanout) : Type 0 where
   pub fit : Each enables (IsFitEnable network)
-  pub long : length watches.stale.items ≡ length enables
+  pub long : length watches.stale ≡ length enables
   pub watched : AreWatched network demand.own demand.leads enables watches.readers.items
-  pub closed : (number : ℕ) (enable : Enable) → slice_get enables number ≡ Some enable → IsFresh watches.stale.items number →
+  pub closed : (number : ℕ) (enable : Enable) → slice_get enables number ≡ Some enable → IsFresh watches.stale number →
       enable_tern network.trees.items (seen demand.terns demand.leads) enable ≡ no
 
 -- ---- groups
@@ -149,8 +161,9 @@ AreInFlopGroups groups flops = Each flops (λ flop. IsInFlopGroups groups flop.p
 -- ---- the enables of both
 
 -- the first enables are those of groups
-abbrev pub EnableGroups : List FlopGroup → List Enable → Type 0
-EnableGroups groups enables = (place : ℕ) (group : FlopGroup) → slice_get groups place ≡ Some group → slice_get enables place ≡ Some group.enable
+pub record EnableGroups (groups : List FlopGroup) (enables : List Enable) : Type 0 where
+  pub room : length groups ≤ length enables
+  pub enables : (place : ℕ) (group : FlopGroup) → slice_get groups place ≡ Some group → slice_get enables place ≡ Some group.enable
 
 -- the last enables are those of runs
 pub record EnableRuns (runs : List Run) (enables : List Enable) : Type 0 where
