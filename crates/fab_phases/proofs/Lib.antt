@@ -8,8 +8,8 @@ pub mod Telling
 pub mod Enabling
 pub mod Grouping
 pub mod Passing
-pub mod Watching
 pub mod Stepping
+pub mod Watching
 pub mod Shifting
 pub mod Chained
 pub mod Running

@@ -7,7 +7,7 @@ ghost use Rattle.fab_network.specs.Network.{source_tern, AreFit};
 ghost use Rattle.fab_network.specs.Passes.{kept_tern};
 ghost use Rattle.fab_phases.specs.Loading.{IsSolvable};
 ghost use Rattle.fab_phases.specs.Words.{IsLoadingAt};
-ghost use Rattle.fab_phases.specs.inner.Ticks.{AreFitFlops, AreFitLatches, AreFitRuns, IsFitRun, IsLoadTick, LeavesFlops, LeavesLatches, LeavesRun, LeavesRuns};
+ghost use Rattle.fab_phases.specs.inner.Ticks.{AreFitFlops, AreFitLatches, AreFitRuns, IsFitRun, IsLoadTick, LeavesFlops, LeavesLatches, LeavesRun, LeavesRuns, WritesFlops, WritesLatches};
 
 use crate::loading::{Latch, LoadedFlop, Loading, Run};
 use fab_compiled::through;
@@ -50,7 +50,8 @@ pub fn take_flops(
     requires points { length network.now.drives.items ≡ length demand.now.leads }
     requires given { length given.old ≡ length demand.now.leads }
     requires flops { AreFitFlops network.now flops.now }
-    ensures { LeavesFlops network.now flops.now demand.now given.old given.new }
+    ensures leaves { LeavesFlops network.now flops.now demand.now given.old given.new }
+    ensures writes { WritesFlops flops.now given.old given.new }
 {
     let view = demand.view();
     shared.forget();
@@ -91,7 +92,8 @@ pub fn take_run(
     requires given { length given.old ≡ length demand.now.leads }
     requires run { IsFitRun network.now run.now }
     requires gate { plain_tern gate ≡ source_tern network.now.trees.items (seen demand.now.terns demand.now.leads) run.now.gate }
-    ensures { LeavesRun network.now run.now demand.now given.old given.new }
+    ensures leaves { LeavesRun network.now run.now demand.now given.old given.new }
+    ensures writes { WritesLatches run.now.latches.items given.old given.new }
 {
     match gate {
         Tern::No => {}
@@ -111,7 +113,8 @@ fn take_latches(
     requires points { length network.now.drives.items ≡ length demand.now.leads }
     requires given { length given.old ≡ length demand.now.leads }
     requires latches { AreFitLatches network.now latches.now }
-    ensures { LeavesLatches network.now (plain_tern gate) latches.now demand.now given.old given.new }
+    ensures leaves { LeavesLatches network.now (plain_tern gate) latches.now demand.now given.old given.new }
+    ensures writes { WritesLatches latches.now given.old given.new }
 {
     let view = demand.view();
     shared.forget();

@@ -1,20 +1,20 @@
 //! Words are loaded where only that is looked at again which reads what has changed.
 
 ghost use Rattle.std.specs.Prelude.{◌≡◌, ◌+◌, ◌<◌, ◌≤◌, ℕ, Bool, List, length, map, IfOk, IfSome};
-ghost use Rattle.fab_ternary.specs.Terns.{plain_tern};
-ghost use Rattle.fab_compiled.specs.Terns.{seen};
 ghost use Rattle.fab_network.specs.Network.{AreFit};
 ghost use Rattle.fab_network.specs.Passes.{kept_tern};
+ghost use Rattle.fab_demand.specs.Asked.{Asked};
+ghost use Rattle.fab_changes.specs.Changes.{AreChangesOf, HasGiven, WaitsAt};
 ghost use Rattle.fab_changes.specs.Fanout.{ArePlaces};
 ghost use Rattle.fab_phases.specs.Lists.{Each};
-ghost use Rattle.fab_phases.specs.Loading.{IsSolvable};
+ghost use Rattle.fab_phases.specs.Loading.{IsInRuns, IsSolvable};
 ghost use Rattle.fab_phases.specs.Words.{IsLoadingAt};
-ghost use Rattle.fab_phases.specs.inner.Enables.{enable_tern, AreEnables, AreEnablesOf, AreHolding, AreNewlyWatched, EnableGroups, EnableRuns, IsFitEnable, IsHolding, IsWatching, LeavesGroup, LeavesGroups};
-ghost use Rattle.fab_phases.specs.inner.Ticks.{AreFitRuns, IsLoadTick, LeavesRuns};
+ghost use Rattle.fab_phases.specs.inner.Enables.{AreEnables, AreEnablesOf, AreHolding, AreNewlyWatched, EnableGroups, EnableRuns, IsFitEnable, IsWatching, LeavesGroups};
+ghost use Rattle.fab_phases.specs.inner.Ticks.{AreFitRuns, IsLoadTick, LeavesRuns, WritesOnly};
 
 use crate::enables::{Enable, next_enabled, watch};
 use crate::flop_groups::{FlopGroup, groups_of};
-use crate::loading::{Loading, Run};
+use crate::loading::{LoadedFlop, Loading, Run};
 use crate::ticks::{take_flops, take_run};
 use fab_base::Memory;
 use fab_changes::{Changes, Fanout, Places};
@@ -50,7 +50,7 @@ pub fn watching_of(
     requires points { length network.now.drives.items ≡ length demand.now.leads }
     requires loading { (loads : List Bool) × (first : ℕ) × (width : ℕ) × (given : List Tern) ×
         IsLoadingAt network.now loading.now loads first width demand.now given }
-    ensures { IfSome result (IsWatching network.now loading.now demand.now) }
+    ensures { IfSome result (λ watching. (given : List Tern) → IsWatching network.now loading.now demand.now given watching) }
 {
     let groups = groups_of(alloc, network, demand, &loading.flops).ok()?;
     let enables = enables_of(alloc, &groups, &loading.runs).ok()?;
@@ -124,23 +124,25 @@ pub fn tick_watched(
     requires points { length network.now.drives.items ≡ length demand.old.leads }
     requires given { length given.old ≡ length demand.old.leads }
     requires loading { (loads : List Bool) × (first : ℕ) × (width : ℕ) × IsLoadingAt network.now loading.now loads first width demand.old given.old }
-    requires watching { IsWatching network.now loading.now demand.old watching.old }
+    requires watching { IsWatching network.now loading.now demand.old given.old watching.old }
     ensures points { length demand.new.leads ≡ length demand.old.leads }
     ensures loading { (loads : List Bool) (first width : ℕ) → IsLoadingAt network.now loading.now loads first width demand.old given.old →
         IsLoadingAt network.now loading.now loads first width demand.new given.new }
     ensures ticks { (loads : List Bool) (first width : ℕ) → IsLoadingAt network.now loading.now loads first width demand.old given.old →
         IsLoadTick network.now loads (kept_tern given.old) (kept_tern given.new) }
-    ensures watching { IsWatching network.now loading.now demand.new watching.new }
+    ensures watching { IsWatching network.now loading.now demand.new given.new watching.new }
 {
     let watches = &mut watching.watches;
+    let changes = &mut watching.changes;
     let enables = &watching.enables;
-    watching.changes.settle(network, given, demand, watches);
+    changes.settle(network, given, demand, watches);
     take_groups(
         network,
         &watching.groups,
         enables,
         demand,
         watches,
+        changes,
         shared,
         given,
     );
@@ -162,6 +164,7 @@ fn take_groups(
     enables: &[Enable],
     demand: &Demand,
     watches: &mut Fanout,
+    changes: &mut Changes,
     shared: &mut Shared,
     given: &mut [Tern],
 )
@@ -170,8 +173,11 @@ fn take_groups(
     requires groups { AreHolding network.now demand.now groups.now }
     requires of { EnableGroups groups.now enables.now }
     requires enables { AreEnables network.now demand.now enables.now watches.old }
+    requires noted { HasGiven demand.now.terns given.old changes.old }
     ensures leaves { LeavesGroups network.now groups.now demand.now given.old given.new }
     ensures enables { AreEnables network.now demand.now enables.now watches.new }
+    ensures noted { HasGiven demand.now.terns given.new changes.new }
+    ensures changes { AreChangesOf network.now demand.now changes.old → AreChangesOf network.now demand.now changes.new }
 {
     let mut from = 0;
     'groups: while let Some((number, _)) = next_enabled(
@@ -182,8 +188,21 @@ fn take_groups(
         demand,
         watches,
     ) {
-        take_flops(network, &groups[number].flops, demand, shared, given);
+        let flops = &groups[number].flops;
+        note_flops(flops, changes);
+        take_flops(network, flops, demand, shared, given);
         from = number + 1;
+    }
+}
+
+// Other values are given to flip-flops.
+fn note_flops(flops: &[LoadedFlop], changes: &mut Changes)
+    ensures changes { (network : Network) (asked : Asked) → AreChangesOf network asked changes.old → AreChangesOf network asked changes.new }
+    ensures waits { Each flops.now (λ flop. WaitsAt changes.new flop.point) }
+    ensures more { (point : ℕ) → WaitsAt changes.old point → WaitsAt changes.new point }
+{
+    for flop in flops {
+        changes.note_given(flop.point as usize);
     }
 }
 
@@ -203,6 +222,7 @@ fn take_enabled(
     requires of { EnableRuns runs.now enables.now }
     requires enables { AreEnables network.now demand.now enables.now watches.old }
     ensures leaves { LeavesRuns network.now runs.now demand.now given.old given.new }
+    ensures writes { WritesOnly (IsInRuns runs.now) given.old given.new }
     ensures enables { AreEnables network.now demand.now enables.now watches.new }
 {
     let before = enables.len() - runs.len();

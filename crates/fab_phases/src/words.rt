@@ -69,17 +69,20 @@ fn load_word(
     requires points { length network.now.drives.items ≡ length demand.old.leads }
     requires given { length given.old ≡ length demand.old.leads }
     requires loading { (loads : List Bool) × IsLoadingAt network.now loading.now loads first 32 demand.old given.old }
-    requires watching { IfSome watching.old (IsWatching network.now loading.now demand.old) }
+    requires watching { IfSome watching.old (IsWatching network.now loading.now demand.old given.old) }
     ensures points { length demand.new.leads ≡ length demand.old.leads }
     ensures loading { (loads : List Bool) → IsLoadingAt network.now loading.now loads first 32 demand.old given.old →
         IsLoadingAt network.now loading.now loads first 32 demand.new given.new }
     ensures step { (loads : List Bool) → IsLoadingAt network.now loading.now loads first 32 demand.old given.old →
         IsLoadStep network.now loads first (word_bits word) (kept_tern given.old) (kept_tern given.new) }
-    ensures watching { IfSome watching.new (IsWatching network.now loading.now demand.new) }
+    ensures watching { IfSome watching.new (IsWatching network.now loading.now demand.new given.new) }
 {
     offer(first, word, given);
     match watching {
-        Some(watching) => tick_watched(network, loading, watching, shared, demand, given),
+        Some(watching) => {
+            watching.changes.note_points(first as usize, 32);
+            tick_watched(network, loading, watching, shared, demand, given);
+        }
         None => tick(network, loading, shared, demand, given),
     }
 }

@@ -14,7 +14,7 @@ use Rattle.fab_network.specs.Network.{source_tern, AreBeside}
 use Rattle.fab_demand.specs.Asked.{Asked, DiffersInOwn}
 use Rattle.fab_demand.specs.Demand.{Shows}
 use Rattle.fab_changes.specs.declared.fanout.Fanout.{Fanout}
-use Rattle.fab_changes.specs.Changes.{AreChangesOf}
+use Rattle.fab_changes.specs.Changes.{AreChangesOf, HasGiven}
 use Rattle.fab_changes.specs.Fanout.{IsFresh, Lists, WatchesTree}
 use Rattle.fab_phases.specs.Lists.{Each, HasOne}
 use Rattle.fab_phases.specs.Loading.{AreFlops}
@@ -176,11 +176,12 @@ AreEnablesOf groups runs enables = enables ≡ map (λ (group : FlopGroup). grou
 
 -- ---- what is kept from word to word
 
-pub record IsWatching (network : Network) (loading : Loading) (demand : Asked) (watching : Watching) : Type 0 where
+pub record IsWatching (network : Network) (loading : Loading) (demand : Asked) (given : List Tern) (watching : Watching) : Type 0 where
   pub groups : AreFlopGroups network demand loading.flops.items watching.groups.items
   pub all : AreInFlopGroups watching.groups.items loading.flops.items
   pub of : AreEnablesOf watching.groups.items loading.runs.items watching.enables.items
   pub changes : AreChangesOf network demand watching.changes
+  pub noted : HasGiven demand.terns given watching.changes
   pub enables : AreEnables network demand watching.enables.items watching.watches
 
 -- ---- what is written

@@ -1,8 +1,12 @@
-use Rattle.std.proofs.Common.{◌-◌, length, refl, arith}
+use Rattle.std.proofs.Common.{◌≡◌, ◌-◌, length, refl, inr, arith}
 use Rattle.std.proofs.lemmas.Option.{slice_get_read}
+use Rattle.fab_phases.specs.Lists.{HasOne}
+use Rattle.fab_phases.specs.Loading.{IsInRuns}
 use Rattle.fab_phases.specs.declared.enables.Enable.TheVariants.{Gate}
+use Rattle.fab_phases.specs.declared.loading.Latch.{Latch}
 use Rattle.fab_phases.proofs.Passing.{gate_at, runs_more, runs_passed}
 use Rattle.fab_phases.proofs.Ticking.{runs_done}
+use Rattle.fab_phases.proofs.Writing.{writes_both}
 use Rattle.fab_phases.proofs.watched.take_enabled.Goals as goal
 
 pub underflow_sub-before : goal.underflow_sub-before
@@ -14,6 +18,7 @@ runs-init c = record {
   within = omega arith;
   leaves = λ tick shows are way. record { on_way = way; stay = λ point is. is; left = λ point has. absurd (omega (arith, has.2)) };
   enables = c.requires.enables;
+  writes = λ point. inr refl;
 }
 
 pub underflow_sub-run : goal.underflow_sub-run
@@ -56,10 +61,12 @@ runs-preserved c =
       low = omega (arith, next.low, c.runs.invariant.low);
       within = omega (arith, next.within);
       leaves = runs_more c.args.network.now c.args.runs.now c.args.enables.now c.args.demand.now c.in-Some.number c.args.given.now c.runs.given c.take_run.new.given run
-          (omega (arith, next.low, c.runs.invariant.low)) at c.take_run.ensures
+          (omega (arith, next.low, c.runs.invariant.low)) at c.take_run.ensures.leaves
           (runs_passed c.args.network.now c.args.runs.now c.args.enables.now c.args.demand.now c.runs.from c.in-Some.number c.args.given.now c.runs.given
           c.requires.of c.runs.invariant.low next.passed c.runs.invariant.leaves);
       enables = c.next_enabled.ensures.enables;
+      writes = writes_both (IsInRuns c.args.runs.now) (λ point. HasOne run.latches.items (λ (latch : Latch). latch.point ≡ point)) c.args.given.now c.runs.given
+          c.take_run.new.given c.runs.invariant.writes c.take_run.ensures.writes (λ point one. (place, run, at, one));
     }
 
 pub runs-decreases : goal.runs-decreases

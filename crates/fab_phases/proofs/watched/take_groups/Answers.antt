@@ -3,6 +3,7 @@ use Rattle.std.proofs.lemmas.Option.{slice_get_read}
 use Rattle.fab_phases.specs.inner.Ticks.{AreFitFlops}
 use Rattle.fab_phases.proofs.Grouping.{group_opened, group_step, groups_done, groups_start}
 use Rattle.fab_phases.proofs.Passing.{groups_passed}
+use Rattle.fab_phases.proofs.Watching.{flops_noted}
 use Rattle.fab_phases.proofs.watched.take_groups.Goals as goal
 
 pub groups-init : goal.groups-init
@@ -10,6 +11,8 @@ groups-init c = record {
   within = omega arith;
   leaves = groups_start c.args.network.now c.args.groups.now c.args.demand.now c.args.given.now;
   enables = c.requires.enables;
+  noted = c.requires.noted;
+  changes = λ are. are;
 }
 
 pub next_enabled-requires-clause-end : goal.next_enabled-requires-clause-end
@@ -35,10 +38,13 @@ groups-preserved c =
     record {
       within = omega (arith, next.within);
       leaves = group_step c.args.network.now c.args.groups.now c.args.demand.now c.in-Some.number c.args.given.now c.groups.given c.take_flops.new.given group at
-          (group_opened c.args.network.now c.args.demand.now group c.deref.result.now c.groups.given c.take_flops.new.given c.deref.ensures.value c.take_flops.ensures)
+          (group_opened c.args.network.now c.args.demand.now group c.deref.result.now c.groups.given c.take_flops.new.given c.deref.ensures.value c.take_flops.ensures.leaves)
           (groups_passed c.args.network.now c.args.groups.now c.args.enables.now c.args.demand.now c.groups.from c.in-Some.number c.args.given.now c.groups.given
           c.requires.groups c.requires.of next.passed c.groups.invariant.leaves);
       enables = c.next_enabled.ensures.enables;
+      noted = flops_noted c.args.demand.now.terns c.deref.result.now c.groups.given c.take_flops.new.given c.groups.changes c.note_flops.new.changes
+          c.groups.invariant.noted c.note_flops.ensures.more c.note_flops.ensures.waits c.take_flops.ensures.writes;
+      changes = λ are. c.note_flops.ensures.changes c.args.network.now c.args.demand.now (c.groups.invariant.changes are);
     }
 
 pub groups-decreases : goal.groups-decreases

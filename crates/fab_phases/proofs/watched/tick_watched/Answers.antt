@@ -1,6 +1,7 @@
 use Rattle.std.proofs.Common.{◌≡◌, length, List, refl, sym, ap, ◌∙◌, subst, arith}
 use Rattle.fab_phases.specs.inner.Enables.{AreEnables, AreHolding, EnableGroups, EnableRuns, LeavesGroups}
-use Rattle.fab_phases.specs.inner.Ticks.{AreFitRuns, LeavesRuns}
+use Rattle.fab_phases.specs.inner.Ticks.{AreFitRuns, LeavesRuns, WritesOnly}
+use Rattle.fab_phases.specs.Loading.{IsInRuns}
 use Rattle.fab_phases.specs.declared.enables.Enable.{Enable}
 use Rattle.fab_phases.specs.declared.flop_groups.FlopGroup.{FlopGroup}
 use Rattle.fab_phases.specs.declared.loading.Run.{Run}
@@ -9,7 +10,7 @@ use Rattle.fab_phases.proofs.Grouping.{groups_leave, holding_same}
 use Rattle.fab_phases.proofs.Running.{differs_none}
 use Rattle.fab_phases.proofs.Stepping.{has_ticked}
 use Rattle.fab_phases.proofs.Ticking.{runs_fit}
-use Rattle.fab_phases.proofs.Watching.{enable_groups, enable_runs, watching_ticked}
+use Rattle.fab_phases.proofs.Watching.{enable_groups, enable_runs, runs_noted, watching_ticked}
 use Rattle.fab_phases.proofs.watched.tick_watched.Goals as goal
 
 pub take_groups-requires-clause-points : goal.take_groups-requires-clause-points
@@ -94,8 +95,14 @@ returns-clause-ticks c loads first width at =
 
 pub returns-clause-watching : goal.returns-clause-watching
 returns-clause-watching c =
-    watching_ticked c.args.network.now c.args.loading.now c.args.demand.now c.settle.new.demand c.args.watching.now
-    (record c.args.watching.now { changes = c.settle.new.self; watches = c.take_enabled.new.watches })
-    (c.settle.ensures.stays c.args.demand.now (differs_none c.args.demand.now)) c.requires.watching refl refl c.settle.ensures.changes
-    (subst (λ (enables : List Enable). AreEnables c.args.network.now c.settle.new.demand enables c.take_enabled.new.watches) c.deref-4.ensures.value
-    c.take_enabled.ensures.enables)
+    let at = c.requires.loading.3 in
+    let after = c.settle.new.demand in
+    let runs = c.args.loading.now.runs.items in
+    let changes = c.take_groups.ensures.changes c.settle.ensures.changes in
+    let writes = subst (λ (rs : List Run). WritesOnly (IsInRuns rs) c.take_groups.new.given c.take_enabled.new.given) c.deref-3.ensures.value c.take_enabled.ensures.writes in
+    watching_ticked c.args.network.now c.args.loading.now c.args.demand.now after c.args.given.now c.take_enabled.new.given c.args.watching.now
+    (record c.args.watching.now { changes = c.take_groups.new.changes; watches = c.take_enabled.new.watches })
+    (c.settle.ensures.stays c.args.demand.now (differs_none c.args.demand.now)) c.requires.watching refl refl changes
+    (runs_noted c.args.network.now at.asked after c.requires.loading.0 runs c.take_groups.new.given c.take_enabled.new.given c.take_groups.new.changes at.gathered.runs
+    changes c.take_groups.ensures.noted writes)
+    (subst (λ (enables : List Enable). AreEnables c.args.network.now after enables c.take_enabled.new.watches) c.deref-4.ensures.value c.take_enabled.ensures.enables)

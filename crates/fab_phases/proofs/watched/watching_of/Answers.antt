@@ -65,4 +65,4 @@ returns c =
     (record { groups = c.in_ok-groups.groups; enables = c.in_ok-enables.enables; changes = c.in_ok-changes.changes; watches = c.in_ok-watches.watches }) own leads
     (runs_fit network at.asked c.requires.loading.0 c.args.loading.now at.gathered) c.in_ok-places.ensures.own c.in_ok-places.ensures.leads
     (subst (λ (fs : List LoadedFlop). AreFlopGroups network asked fs groups) c.deref.ensures.value made)
-    (subst (AreInFlopGroups groups) c.deref.ensures.value all) of_items c.in_ok-changes.ensures watched
+    (subst (AreInFlopGroups groups) c.deref.ensures.value all) of_items c.in_ok-changes.ensures.changes c.in_ok-changes.ensures.waits watched
