@@ -1,6 +1,6 @@
 //! Flags of which few are set.
 
-ghost use Rattle.std.specs.Prelude.{◌≡◌, ◌<◌, ◌≤◌, ◌/◌, ℕ, true, false, length, replicate, slice_get, slice_set, IfSome, MatchOption, Some};
+ghost use Rattle.std.specs.Prelude.{◌≡◌, ◌+◌, ◌*◌, ◌/◌, ◌^◌, ◌<◌, ◌≤◌, ℕ, true, false, length, replicate, slice_get, slice_set, IfSome, MatchOption, Some};
 ghost use Rattle.fab_changes.specs.Fanout.{AreFresh, IsFresh, IsNextStale};
 
 use std::alloc::Global;
@@ -92,6 +92,7 @@ impl Flags {
 // The next flag that may be set, behind one that is not: the one behind it, or the first behind its block where that has none.
 fn behind(number: usize, blocks: &[bool]) -> usize
     requires within { number / 32 < length blocks.now }
+    requires small { number + 32 < 2 ^ 64 }
     ensures later { number < result }
     ensures passed { (other : ℕ) → number < other → other < result → IsFresh blocks.now (other / 32) }
 {
