@@ -54,7 +54,7 @@ groups_passed network groups enables demand from end old now holding of closed s
           elim (cases_lt has.0 from) [
             | inl l ↦ before.left q (has.0, group, l, has.3, has.4)
             | inr g ↦
-                let value = closed has.0 g has.2 group.enable (of.enables has.0 group has.3) in
+                let value = closed has.0 g has.2 group.enable (of.each has.0 group has.3) in
                 let left =
                 group_closed network demand group now (holding has.0 group has.3) (sym value) tick shows differs (are has.0 group has.3) before.on_way in
                 left.left q has.4

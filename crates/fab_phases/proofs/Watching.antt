@@ -51,7 +51,7 @@ enable_groups groups runs enables are =
     let long = enables_long groups runs enables are in
     record {
       room = omega (arith, long);
-      enables = λ place group at.
+      each = λ place group at.
           ap (λ (es : List Enable). slice_get es place) are
           ∙ get_left (of_groups groups) (of_runs runs) place group.enable (get_mapped (λ (g : FlopGroup). g.enable) groups place group at);
     }

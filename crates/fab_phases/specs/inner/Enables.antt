@@ -55,11 +55,11 @@ abbrev pub AreClosed : Network → (demand : Asked) → List Enable → (from en
 AreClosed network demand enables from end = (number : ℕ) → from ≤ number → number < end → IsEnabled network demand enables number No
 
 -- the first enable from one number up to another that may be something else
-pub record IsNextEnabled (network : Network) (demand : Asked) (enables : List Enable) (from end number : ℕ) (value : Tern) : Type 0 where
+pub record IsNextEnabled (network : Network) (demand : Asked) (enables : List Enable) (from end number : ℕ) (found : Tern) : Type 0 where
   pub low : from ≤ number
   pub within : number < end
   pub passed : AreClosed network demand enables from number
-  pub value : IsEnabled network demand enables number value
+  pub value : IsEnabled network demand enables number found
 
 -- ---- what is watched of them
 
@@ -163,7 +163,7 @@ AreInFlopGroups groups flops = Each flops (λ flop. IsInFlopGroups groups flop.p
 -- the first enables are those of groups
 pub record EnableGroups (groups : List FlopGroup) (enables : List Enable) : Type 0 where
   pub room : length groups ≤ length enables
-  pub enables : (place : ℕ) (group : FlopGroup) → slice_get groups place ≡ Some group → slice_get enables place ≡ Some group.enable
+  pub each : (place : ℕ) (group : FlopGroup) → slice_get groups place ≡ Some group → slice_get enables place ≡ Some group.enable
 
 -- the last enables are those of runs
 pub record EnableRuns (runs : List Run) (enables : List Enable) : Type 0 where
