@@ -33,13 +33,13 @@ enables-preserved c =
       enables = c.look.ensures.enables;
     }
 
-pub enables-decreases : goal.enables-decreases
-enables-decreases c =
+pub enables-smaller : goal.enables-smaller
+enables-smaller c =
     let next = rw c.in-Some.is at c.next_stale.ensures in
     omega (arith, next.low, next.within, c.enables.invariant.enables.long)
 
-pub returns-in-value-clause-next : goal.returns-in-value-clause-next
-returns-in-value-clause-next c =
+pub returns-in_default-look-clause-next : goal.returns-in_default-look-clause-next
+returns-in_default-look-clause-next c =
     let next = rw c.in-Some.is at c.next_stale.ensures in
     record {
       low = omega (arith, next.low, c.enables.invariant.low);

@@ -1,4 +1,4 @@
-use Rattle.std.proofs.Common.{◌≡◌, ◌-◌, length, refl, inr, arith}
+use Rattle.std.proofs.Common.{◌≡◌, ◌-◌, ◌<◌, length, refl, inr, arith}
 use Rattle.std.proofs.lemmas.Option.{slice_get_read}
 use Rattle.fab_phases.specs.Lists.{HasOne}
 use Rattle.fab_phases.specs.Loading.{IsInRuns}
@@ -9,8 +9,8 @@ use Rattle.fab_phases.proofs.Ticking.{runs_done}
 use Rattle.fab_phases.proofs.Writing.{writes_both}
 use Rattle.fab_phases.proofs.watched.take_enabled.Goals as goal
 
-pub underflow_sub-before : goal.underflow_sub-before
-underflow_sub-before c = c.requires.of.room
+pub overflow_sub-before : goal.overflow_sub-before
+overflow_sub-before c = c.requires.of.room
 
 pub runs-init : goal.runs-init
 runs-init c = record {
@@ -21,13 +21,13 @@ runs-init c = record {
   writes = λ point. inr refl;
 }
 
-pub underflow_sub-run : goal.underflow_sub-run
-underflow_sub-run c =
+pub overflow_sub-run : goal.overflow_sub-run
+overflow_sub-run c =
     let next = rw c.in-Some.is at c.next_enabled.ensures.next in
     omega (arith, next.low, c.runs.invariant.low)
 
-pub bounds-run : goal.bounds-run
-bounds-run c =
+pub bounds-runs-number : goal.bounds-runs-number
+bounds-runs-number c =
     let next = rw c.in-Some.is at c.next_enabled.ensures.next in
     let room = c.requires.of.room in
     omega (arith, next.low, next.within, c.runs.invariant.low, room)
@@ -37,17 +37,19 @@ take_run-requires-clause-run c =
     let next = rw c.in-Some.is at c.next_enabled.ensures.next in
     let room = c.requires.of.room in
     let place = c.in-Some.number - (length c.args.enables.now - length c.args.runs.now) in
-    c.requires.runs place c.index-run.result
-    (slice_get_read c.args.runs.now (length c.args.runs.now) place c.index-run.result refl (omega (arith, next.low, next.within, c.runs.invariant.low, room))
-    c.index-run.is)
+    let run = c.index-runs-number.result in
+    let less : place < length c.args.runs.now = omega (arith, next.low, next.within, c.runs.invariant.low, room) in
+    let at = slice_get_read c.args.runs.now (length c.args.runs.now) place run refl less c.index-runs-number.is in
+    c.requires.runs place run at
 
 pub take_run-requires-clause-gate : goal.take_run-requires-clause-gate
 take_run-requires-clause-gate c =
     let next = rw c.in-Some.is at c.next_enabled.ensures.next in
     let room = c.requires.of.room in
     let place = c.in-Some.number - (length c.args.enables.now - length c.args.runs.now) in
-    let run = c.index-run.result in
-    let at = slice_get_read c.args.runs.now (length c.args.runs.now) place run refl (omega (arith, next.low, next.within, c.runs.invariant.low, room)) c.index-run.is in
+    let run = c.index-runs-number.result in
+    let less : place < length c.args.runs.now = omega (arith, next.low, next.within, c.runs.invariant.low, room) in
+    let at = slice_get_read c.args.runs.now (length c.args.runs.now) place run refl less c.index-runs-number.is in
     next.value (Gate run.gate) (gate_at c.args.runs.now c.args.enables.now c.in-Some.number run c.requires.of (omega (arith, next.low, c.runs.invariant.low)) at)
 
 pub runs-preserved : goal.runs-preserved
@@ -55,8 +57,9 @@ runs-preserved c =
     let next = rw c.in-Some.is at c.next_enabled.ensures.next in
     let room = c.requires.of.room in
     let place = c.in-Some.number - (length c.args.enables.now - length c.args.runs.now) in
-    let run = c.index-run.result in
-    let at = slice_get_read c.args.runs.now (length c.args.runs.now) place run refl (omega (arith, next.low, next.within, c.runs.invariant.low, room)) c.index-run.is in
+    let run = c.index-runs-number.result in
+    let less : place < length c.args.runs.now = omega (arith, next.low, next.within, c.runs.invariant.low, room) in
+    let at = slice_get_read c.args.runs.now (length c.args.runs.now) place run refl less c.index-runs-number.is in
     record {
       low = omega (arith, next.low, c.runs.invariant.low);
       within = omega (arith, next.within);
@@ -69,8 +72,8 @@ runs-preserved c =
           c.take_run.new.given c.runs.invariant.writes c.take_run.ensures.writes (λ point one. (place, run, at, one));
     }
 
-pub runs-decreases : goal.runs-decreases
-runs-decreases c =
+pub runs-smaller : goal.runs-smaller
+runs-smaller c =
     let next = rw c.in-Some.is at c.next_enabled.ensures.next in
     omega (arith, next.low, next.within)
 

@@ -1,6 +1,9 @@
-use Rattle.std.proofs.Common.{length, refl, sym, subst, arith}
-use Rattle.std.proofs.lemmas.Option.{slice_get_read}
-use Rattle.fab_phases.specs.inner.Ticks.{AreFitFlops}
+use Rattle.std.proofs.Common.{List, length, sym, subst, arith, get_or}
+use Rattle.std.proofs.lemmas.Option.{slice_get-get_or}
+use Rattle.fab_changes.specs.Changes.{WaitsAt}
+use Rattle.fab_phases.specs.Lists.{Each}
+use Rattle.fab_phases.specs.inner.Ticks.{AreFitFlops, WritesFlops}
+use Rattle.fab_phases.specs.declared.loading.LoadedFlop.{LoadedFlop}
 use Rattle.fab_phases.proofs.Grouping.{group_opened, group_step, groups_done, groups_start}
 use Rattle.fab_phases.proofs.Passing.{groups_passed}
 use Rattle.fab_phases.proofs.Watching.{flops_noted}
@@ -26,29 +29,33 @@ bounds-groups-number c =
 pub take_flops-requires-clause-flops : goal.take_flops-requires-clause-flops
 take_flops-requires-clause-flops c =
     let next = rw c.in-Some.is at c.next_enabled.ensures.next in
-    let group = c.index-groups-number.result in
-    let at = slice_get_read c.args.groups.now (length c.args.groups.now) c.in-Some.number group refl next.within c.index-groups-number.is in
-    subst (AreFitFlops c.args.network.now) (sym c.deref.ensures.value) (c.requires.groups c.in-Some.number group at).flops
+    let group = get_or c.args.groups.now c.in-Some.number c.index-groups-number.result in
+    let at = slice_get-get_or c.args.groups.now c.in-Some.number c.index-groups-number.result next.within in
+    subst (AreFitFlops c.args.network.now) (sym c.deref-in-Some.ensures.value) (c.requires.groups c.in-Some.number group at).flops
 
 pub groups-preserved : goal.groups-preserved
 groups-preserved c =
     let next = rw c.in-Some.is at c.next_enabled.ensures.next in
-    let group = c.index-groups-number.result in
-    let at = slice_get_read c.args.groups.now (length c.args.groups.now) c.in-Some.number group refl next.within c.index-groups-number.is in
+    let group = get_or c.args.groups.now c.in-Some.number c.index-groups-number.result in
+    let at = slice_get-get_or c.args.groups.now c.in-Some.number c.index-groups-number.result next.within in
     record {
       within = omega (arith, next.within);
       leaves = group_step c.args.network.now c.args.groups.now c.args.demand.now c.in-Some.number c.args.given.now c.groups.given c.take_flops.new.given group at
-          (group_opened c.args.network.now c.args.demand.now group c.deref.result.now c.groups.given c.take_flops.new.given c.deref.ensures.value c.take_flops.ensures.leaves)
+          (group_opened c.args.network.now c.args.demand.now group c.deref-in-Some.result.now c.groups.given c.take_flops.new.given c.deref-in-Some.ensures.value
+          c.take_flops.ensures.leaves)
           (groups_passed c.args.network.now c.args.groups.now c.args.enables.now c.args.demand.now c.groups.from c.in-Some.number c.args.given.now c.groups.given
           c.requires.groups c.requires.of next.passed c.groups.invariant.leaves);
       enables = c.next_enabled.ensures.enables;
-      noted = flops_noted c.args.demand.now.terns c.deref.result.now c.groups.given c.take_flops.new.given c.groups.changes c.note_flops.new.changes
-          c.groups.invariant.noted c.note_flops.ensures.more c.note_flops.ensures.waits c.take_flops.ensures.writes;
+      noted = flops_noted c.args.demand.now.terns group.flops.items c.groups.given c.take_flops.new.given c.groups.changes c.note_flops.new.changes
+          c.groups.invariant.noted c.note_flops.ensures.more
+          (subst (λ (flops : List LoadedFlop). Each flops (λ (flop : LoadedFlop). WaitsAt c.note_flops.new.changes flop.point)) c.deref.ensures.value
+          c.note_flops.ensures.waits)
+          (subst (λ (flops : List LoadedFlop). WritesFlops flops c.groups.given c.take_flops.new.given) c.deref-in-Some.ensures.value c.take_flops.ensures.writes);
       changes = λ are. c.note_flops.ensures.changes c.args.network.now c.args.demand.now (c.groups.invariant.changes are);
     }
 
-pub groups-decreases : goal.groups-decreases
-groups-decreases c =
+pub groups-smaller : goal.groups-smaller
+groups-smaller c =
     let next = rw c.in-Some.is at c.next_enabled.ensures.next in
     omega (arith, next.low, next.within)
 
