@@ -11,6 +11,8 @@ pub mod Joining
 pub mod Placed
 pub mod Evaluated
 pub mod Written
+pub mod Adding
+pub mod Sizes
 pub use Rattle.fab_equations.proofs.Numbering as fab_equations_Numbering
 pub use Rattle.fab_solutions_laws.proofs.Demanded as fab_solutions_laws_Demanded
 pub use Rattle.fab_solutions_laws.proofs.Orders as fab_solutions_laws_Orders

@@ -21,4 +21,4 @@ pub use operators::through;
 pub use parts::{Part, part_of};
 pub use tree::Tree;
 pub use view::View;
-pub use whole_values::whole;
+pub use whole_values::whole_into;

@@ -1,9 +1,10 @@
-//! Operators of bits that may be unknown.
+//! Operators of bits that may be unknown. They test each bit by itself, and match on no pair: tests become arithmetic without a jump, so that a loop over
+//! many bits takes some of them at once.
 
 ghost use Rattle.std.specs.Prelude.{◌≡◌};
 ghost use Rattle.fab_solutions_laws.specs.fab_ternary_laws_Operators.{inverse as inverse_of, both as both_of, either as either_of, differs as differs_of, agreed as agreed_of};
 ghost use Rattle.fab_solutions_laws.specs.fab_ternary_laws_Shown.{through as through_of};
-ghost use Rattle.fab_ternary.specs.Terns.{plain_tern};
+ghost use Rattle.fab_ternary.specs.Terns.{is_one, plain_tern};
 
 use fab_ternary::Tern;
 
@@ -11,10 +12,10 @@ use fab_ternary::Tern;
 pub(crate) fn inverse(bit: Tern) -> Tern
     ensures { plain_tern result ≡ inverse_of (plain_tern bit) }
 {
-    match bit {
-        Tern::No => Tern::Yes,
-        Tern::Yes => Tern::No,
-        Tern::Open => Tern::Open,
+    if bit.is_open() {
+        Tern::Open
+    } else {
+        Tern::known(!bit.is_yes())
     }
 }
 
@@ -22,10 +23,13 @@ pub(crate) fn inverse(bit: Tern) -> Tern
 pub(crate) fn both(left: Tern, right: Tern) -> Tern
     ensures { plain_tern result ≡ both_of (plain_tern left) (plain_tern right) }
 {
-    match (left, right) {
-        (Tern::No, _) | (_, Tern::No) => Tern::No,
-        (Tern::Yes, Tern::Yes) => Tern::Yes,
-        (Tern::Open, _) | (_, Tern::Open) => Tern::Open,
+    if is_no(left) || is_no(right) {
+        return Tern::No;
+    }
+    if left.is_yes() && right.is_yes() {
+        Tern::Yes
+    } else {
+        Tern::Open
     }
 }
 
@@ -33,10 +37,13 @@ pub(crate) fn both(left: Tern, right: Tern) -> Tern
 pub(crate) fn either(left: Tern, right: Tern) -> Tern
     ensures { plain_tern result ≡ either_of (plain_tern left) (plain_tern right) }
 {
-    match (left, right) {
-        (Tern::Yes, _) | (_, Tern::Yes) => Tern::Yes,
-        (Tern::No, Tern::No) => Tern::No,
-        (Tern::Open, _) | (_, Tern::Open) => Tern::Open,
+    if left.is_yes() || right.is_yes() {
+        return Tern::Yes;
+    }
+    if is_no(left) && is_no(right) {
+        Tern::No
+    } else {
+        Tern::Open
     }
 }
 
@@ -44,21 +51,33 @@ pub(crate) fn either(left: Tern, right: Tern) -> Tern
 pub(crate) fn differs(left: Tern, right: Tern) -> Tern
     ensures { plain_tern result ≡ differs_of (plain_tern left) (plain_tern right) }
 {
-    match left {
-        Tern::No => right,
-        Tern::Yes => inverse(right),
-        Tern::Open => Tern::Open,
+    if left.is_open() || right.is_open() {
+        return Tern::Open;
     }
+    Tern::known(left.is_yes() ^ right.is_yes())
 }
 
 /// What both are, where they are known and agree.
 pub(crate) fn agreed(left: Tern, right: Tern) -> Tern
     ensures { plain_tern result ≡ agreed_of (plain_tern left) (plain_tern right) }
 {
-    match (left, right) {
-        (Tern::No, Tern::No) => Tern::No,
-        (Tern::Yes, Tern::Yes) => Tern::Yes,
-        _ => Tern::Open,
+    if is_no(left) && is_no(right) {
+        return Tern::No;
+    }
+    if left.is_yes() && right.is_yes() {
+        Tern::Yes
+    } else {
+        Tern::Open
+    }
+}
+
+// Whether a bit is 0.
+fn is_no(bit: Tern) -> bool
+    ensures { result ≡ is_one (inverse_of (plain_tern bit)) }
+{
+    match bit {
+        Tern::No => true,
+        Tern::Yes | Tern::Open => false,
     }
 }
 

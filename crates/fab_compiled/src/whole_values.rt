@@ -1,15 +1,16 @@
 //! The value of a compiled expression as a whole: each bit of its operands is found once, and what is borrowed is carried from bit to bit.
 
-ghost use Rattle.std.specs.Prelude.{◌≡◌, ◌+◌, ◌*◌, ◌^◌, ◌<◌, ◌≤◌, ◌∷◌, ◌++◌, ◌&&◌, [], false, true, length, map, IfOk, IfSome};
+ghost use Rattle.std.specs.Prelude.{◌-◌, ◌≡◌, ◌+◌, ◌*◌, ◌^◌, ◌<◌, ◌≤◌, ◌∷◌, ◌++◌, ◌&&◌, List, [], false, true, drop, length, map, take, IfOk, IfSome, OnOk};
 ghost use Rattle.fab_syntax.specs.declared.tree.Op.TheVariants as ops;
 ghost use Rattle.fab_systems_laws.specs.Ternary.{known as known_tern};
+ghost use Rattle.fab_systems_laws.specs.Ternary.{Tern as PlainTern};
 ghost use Rattle.fab_solutions_laws.specs.fab_ternary_laws_Operators.{each_tern, same_terns, tern_at, tern_operated, inverse as inverse_of};
 ghost use Rattle.fab_solutions_laws.specs.fab_ternary_laws_Shown.{first_terns};
 ghost use Rattle.fab_ternary.specs.Terns.{plain_tern};
 ghost use Rattle.fab_compiled.specs.Terns.{seen, IsView};
 ghost use Rattle.fab_compiled.specs.Trees.{tree_width, IsMade};
 ghost use Rattle.fab_compiled.specs.Evaluation.{all_known, value_seen, IsWithin};
-ghost use Rattle.fab_compiled.specs.inner.Pairs.{by};
+ghost use Rattle.fab_compiled.specs.inner.Pairs.{by, AreLast};
 
 use crate::evaluation::entry;
 use crate::operators::{agreed, both, differs, either, inverse};
@@ -87,9 +88,32 @@ fn is_open_point(point: usize, view: &View) -> bool {
     matches!(view.terns.get(*lead as usize), Some(Tern::Open))
 }
 
-/// All bits of the value of an expression, the least significant one first, over the points of an instance, of which the first is given.
-#[cycle(whole)]
-pub fn whole(alloc: Global, tree: &Tree, first: usize, view: &View) -> Result<Vec<Tern>, Memory>
+/// All bits of the value of an expression, the least significant one first, over the points of an instance, of which the first is given. They take the place
+/// of what the list has, so that one list serves for many. Where memory is refused, nothing is said of the list.
+pub fn whole_into(
+    tree: &Tree,
+    first: usize,
+    view: &View,
+    bits: &mut Vec<Tern>,
+) -> Result<(), Memory>
+    requires made { IsMade tree.now }
+    requires view { IsView view.now.terns.now view.now.leads.now }
+    requires few { length view.now.leads.now ≤ 2 ^ 32 }
+    requires begins { first ≤ length view.now.leads.now }
+    requires inside { IsWithin tree.now first (length view.now.leads.now) }
+    ensures { OnOk result (map plain_tern bits.new.items ≡ value_seen view.now.terns.now view.now.leads.now first tree.now) }
+{
+    bits.clear();
+    add_whole(tree, first, view, bits)
+}
+
+/// The same in a list of its own.
+pub(crate) fn whole(
+    alloc: Global,
+    tree: &Tree,
+    first: usize,
+    view: &View,
+) -> Result<Vec<Tern>, Memory>
     requires made { IsMade tree.now }
     requires view { IsView view.now.terns.now view.now.leads.now }
     requires few { length view.now.leads.now ≤ 2 ^ 32 }
@@ -97,119 +121,211 @@ pub fn whole(alloc: Global, tree: &Tree, first: usize, view: &View) -> Result<Ve
     requires inside { IsWithin tree.now first (length view.now.leads.now) }
     ensures { IfOk result (λ bits. map plain_tern bits.items ≡ value_seen view.now.terns.now view.now.leads.now first tree.now) }
 {
+    let mut bits = Vec::new(alloc);
+    add_whole(tree, first, view, &mut bits)?;
+    Ok(bits)
+}
+
+// The same behind the bits of a list. Bits of operands wait there one behind the other, so that one list serves for all of them.
+#[cycle(adding)]
+fn add_whole(tree: &Tree, first: usize, view: &View, bits: &mut Vec<Tern>) -> Result<(), Memory>
+    requires made { IsMade tree.now }
+    requires view { IsView view.now.terns.now view.now.leads.now }
+    requires few { length view.now.leads.now ≤ 2 ^ 32 }
+    requires begins { first ≤ length view.now.leads.now }
+    requires inside { IsWithin tree.now first (length view.now.leads.now) }
+    ensures { OnOk result (map plain_tern bits.new.items ≡ map plain_tern bits.old.items ++ value_seen view.now.terns.now view.now.leads.now first tree.now) }
+{
+    let low = bits.len();
     match tree {
-        Tree::Const(bits) => constants(alloc, bits),
-        Tree::Bits(place, count) => points(alloc, first, *place as usize, *count as usize, view),
-        Tree::Pick(place, _, index) => {
-            let index = whole(alloc, index, first, view)?;
-            single(alloc, entry(&index, first + *place as usize, 1, view))
+        Tree::Const(constant) => add_constant(constant, bits),
+        Tree::Bits(place, count) => {
+            add_points(first, *place as usize, *count as usize, view, bits)
         }
-        Tree::Cat(low, _, high) => {
-            let low = whole(alloc, low, first, view)?;
-            joined(low, whole(alloc, high, first, view)?)
+        Tree::Pick(place, _, index) => {
+            add_whole(index, first, view, bits)?;
+            let found = entry(&bits[low..], first + *place as usize, 1, view);
+            end_in(low, found, bits)
+        }
+        Tree::Cat(left, _, right) => {
+            add_both(left, right, first, view, bits)?;
+            Ok(())
         }
         Tree::Not(inner) => {
-            let mut bits = whole(alloc, inner, first, view)?;
-            invert(&mut bits);
-            Ok(bits)
+            add_whole(inner, first, view, bits)?;
+            invert(&mut bits[low..]);
+            Ok(())
         }
         Tree::And(left, right) => {
-            let left = whole(alloc, left, first, view)?;
-            let right = whole(alloc, right, first, view)?;
-            Ok(paired(Pairing::Both, left, right))
+            let middle = add_both(left, right, first, view, bits)?;
+            pair_last(Pairing::Both, low, middle, bits);
+            Ok(())
         }
         Tree::Or(left, right) => {
-            let left = whole(alloc, left, first, view)?;
-            let right = whole(alloc, right, first, view)?;
-            Ok(paired(Pairing::Either, left, right))
+            let middle = add_both(left, right, first, view, bits)?;
+            pair_last(Pairing::Either, low, middle, bits);
+            Ok(())
         }
         Tree::Xor(left, right) => {
-            let left = whole(alloc, left, first, view)?;
-            let right = whole(alloc, right, first, view)?;
-            Ok(paired(Pairing::Differs, left, right))
+            let middle = add_both(left, right, first, view, bits)?;
+            pair_last(Pairing::Differs, low, middle, bits);
+            Ok(())
         }
         Tree::Equal(_, left, right) => {
-            let left = whole(alloc, left, first, view)?;
-            let right = whole(alloc, right, first, view)?;
-            single(alloc, equality(left, right))
+            let middle = add_both(left, right, first, view, bits)?;
+            compare_last(low, middle, bits)
         }
         Tree::Minus(_, left, right) => {
-            let left = whole(alloc, left, first, view)?;
-            let right = whole(alloc, right, first, view)?;
-            Ok(difference(left, right))
+            let middle = add_both(left, right, first, view, bits)?;
+            subtract_last(low, middle, bits);
+            Ok(())
         }
         Tree::Cond(test, yes, no) => {
-            let test = whole(alloc, test, first, view)?;
-            match bit_of(&test, 0) {
-                Tern::Yes => whole(alloc, yes, first, view),
-                Tern::No => whole(alloc, no, first, view),
+            add_whole(test, first, view, bits)?;
+            let test = bit_of(bits, low);
+            bits.truncate(low);
+            match test {
+                Tern::Yes => add_whole(yes, first, view, bits),
+                Tern::No => add_whole(no, first, view, bits),
                 Tern::Open => {
-                    let yes = whole(alloc, yes, first, view)?;
-                    let no = whole(alloc, no, first, view)?;
-                    Ok(paired(Pairing::Agreed, yes, no))
+                    let middle = add_both(yes, no, first, view, bits)?;
+                    pair_last(Pairing::Agreed, low, middle, bits);
+                    Ok(())
                 }
             }
         }
     }
 }
 
-// Two values in one, bit by bit.
-fn paired(pairing: Pairing, left: Vec<Tern>, right: Vec<Tern>) -> Vec<Tern>
-    requires { length left.items ≡ length right.items }
-    ensures { map plain_tern result.items ≡ each_tern (by pairing) (map plain_tern left.items) (map plain_tern right.items) }
+// The same of two expressions, and where the bits of the second begin.
+#[cycle(adding)]
+fn add_both(
+    left: &Tree,
+    right: &Tree,
+    first: usize,
+    view: &View,
+    bits: &mut Vec<Tern>,
+) -> Result<usize, Memory>
+    requires left { IsMade left.now }
+    requires right { IsMade right.now }
+    requires view { IsView view.now.terns.now view.now.leads.now }
+    requires few { length view.now.leads.now ≤ 2 ^ 32 }
+    requires begins { first ≤ length view.now.leads.now }
+    requires left_inside { IsWithin left.now first (length view.now.leads.now) }
+    requires right_inside { IsWithin right.now first (length view.now.leads.now) }
+    ensures bits { IfOk result (λ middle. map plain_tern bits.new.items ≡ map plain_tern bits.old.items ++
+        (value_seen view.now.terns.now view.now.leads.now first left.now ++ value_seen view.now.terns.now view.now.leads.now first right.now)) }
+    ensures middle { IfOk result (λ middle. middle ≡ length bits.old.items + tree_width left.now) }
 {
-    let mut bits = left;
-    pair_up(pairing, &mut bits, &right);
-    bits
+    add_whole(left, first, view, bits)?;
+    let middle = bits.len();
+    add_whole(right, first, view, bits)?;
+    Ok(middle)
 }
 
-// The bits of a constant.
-fn constants(alloc: Global, bits: &[bool]) -> Result<Vec<Tern>, Memory>
-    ensures { IfOk result (λ made. map plain_tern made.items ≡ map known_tern bits.now) }
+// Two lists at the end of another in one, bit by bit: the first stands from a place on, and the second from the middle on.
+fn pair_last(pairing: Pairing, low: usize, middle: usize, bits: &mut Vec<Tern>)
+    requires low { low ≤ middle }
+    requires middle { middle + (middle - low) ≡ length bits.old.items }
+    ensures { (before left right : List PlainTern) → AreLast low middle before left right (map plain_tern bits.old.items) →
+        map plain_tern bits.new.items ≡ before ++ each_tern (by pairing) left right }
 {
-    let mut terns = Vec::with_capacity(alloc, bits.len())?;
-    for bit in bits {
-        terns.push(Tern::known(*bit))?;
+    pair_halves(pairing, middle - low, &mut bits[low..]);
+    bits.truncate(middle);
+}
+
+// Two lists of so many bits that stand one behind the other in one, in the place of the first.
+fn pair_halves(pairing: Pairing, width: usize, halves: &mut [Tern])
+    requires { width + width ≡ length halves.old }
+    ensures { map plain_tern (take width halves.new) ≡ each_tern (by pairing) (map plain_tern (take width halves.old)) (map plain_tern (drop width halves.old)) }
+{
+    let (left, right) = halves.split_at_mut(width);
+    pair_up(pairing, left, right);
+}
+
+// The difference of two such lists.
+fn subtract_last(low: usize, middle: usize, bits: &mut Vec<Tern>)
+    requires low { low ≤ middle }
+    requires middle { middle + (middle - low) ≡ length bits.old.items }
+    ensures { (before left right : List PlainTern) → AreLast low middle before left right (map plain_tern bits.old.items) →
+        map plain_tern bits.new.items ≡ before ++ tern_operated ops.Minus left right }
+{
+    subtract_halves(middle - low, &mut bits[low..]);
+    bits.truncate(middle);
+}
+
+// The same of lists that stand alone.
+fn subtract_halves(width: usize, halves: &mut [Tern])
+    requires { width + width ≡ length halves.old }
+    ensures { map plain_tern (take width halves.new) ≡ tern_operated ops.Minus (map plain_tern (take width halves.old)) (map plain_tern (drop width halves.old)) }
+{
+    let (left, right) = halves.split_at_mut(width);
+    subtract(left, right);
+}
+
+// Whether two such lists are the same.
+fn compare_last(low: usize, middle: usize, bits: &mut Vec<Tern>) -> Result<(), Memory>
+    requires low { low ≤ middle }
+    requires middle { middle + (middle - low) ≡ length bits.old.items }
+    ensures { OnOk result ((before left right : List PlainTern) → AreLast low middle before left right (map plain_tern bits.old.items) →
+        map plain_tern bits.new.items ≡ before ++ same_terns left right ∷ []) }
+{
+    let same = same_bits(&bits[low..middle], &bits[middle..]);
+    end_in(low, same, bits)
+}
+
+// One bit in the place of all from a place on.
+fn end_in(low: usize, bit: Tern, bits: &mut Vec<Tern>) -> Result<(), Memory>
+    ensures { OnOk result (bits.new.items ≡ take low bits.old.items ++ bit ∷ []) }
+{
+    bits.truncate(low);
+    bits.push(bit)?;
+    Ok(())
+}
+
+// Adds the bits of a constant.
+fn add_constant(constant: &[bool], bits: &mut Vec<Tern>) -> Result<(), Memory>
+    ensures { OnOk result (map plain_tern bits.new.items ≡ map plain_tern bits.old.items ++ map known_tern constant.now) }
+{
+    bits.reserve(constant.len())?;
+    for bit in constant {
+        bits.push(Tern::known(*bit))?;
     }
-    Ok(terns)
+    Ok(())
 }
 
-// What points have that follow one another.
-fn points(
-    alloc: Global,
+// Adds what points have that follow one another.
+fn add_points(
     first: usize,
     place: usize,
     count: usize,
     view: &View,
-) -> Result<Vec<Tern>, Memory>
+    bits: &mut Vec<Tern>,
+) -> Result<(), Memory>
     requires view { IsView view.now.terns.now view.now.leads.now }
     requires few { length view.now.leads.now ≤ 2 ^ 32 }
     requires inside { first + (place + count) ≤ length view.now.leads.now }
-    ensures { IfOk result (λ made. map plain_tern made.items ≡ first_terns count (λ k. seen view.now.terns.now view.now.leads.now (first + (place + k)))) }
+    ensures { OnOk result (map plain_tern bits.new.items ≡ map plain_tern bits.old.items ++
+        first_terns count (λ k. seen view.now.terns.now view.now.leads.now (first + (place + k)))) }
 {
-    let mut terns = Vec::with_capacity(alloc, count)?;
-    for next in 0..count {
-        terns.push(view.at(first + (place + next)))?;
+    let low = bits.len();
+    bits.resize(low + count, Tern::No)?;
+    read_points(first, place, view, &mut bits[low..]);
+    Ok(())
+}
+
+// Writes what points have that follow one another, one in each place of a list. The view is copied first: what is lent would be read anew for each bit,
+// since a write might have changed it, as far as the compiler knows.
+fn read_points(first: usize, place: usize, view: &View, bits: &mut [Tern])
+    requires view { IsView view.now.terns.now view.now.leads.now }
+    requires few { length view.now.leads.now ≤ 2 ^ 32 }
+    requires inside { first + (place + length bits.old) ≤ length view.now.leads.now }
+    ensures { map plain_tern bits.new ≡ first_terns (length bits.old) (λ k. seen view.now.terns.now view.now.leads.now (first + (place + k))) }
+{
+    let copy = *view;
+    for next in 0..bits.len() {
+        bits[next] = copy.at(first + (place + next));
     }
-    Ok(terns)
-}
-
-// One bit.
-fn single(alloc: Global, bit: Tern) -> Result<Vec<Tern>, Memory>
-    ensures { IfOk result (λ made. made.items ≡ bit ∷ []) }
-{
-    let mut bits = Vec::with_capacity(alloc, 1)?;
-    bits.push(bit)?;
-    Ok(bits)
-}
-
-// The less significant part, and the more significant one behind it.
-fn joined(low: Vec<Tern>, high: Vec<Tern>) -> Result<Vec<Tern>, Memory>
-    ensures { IfOk result (λ made. made.items ≡ low.items ++ high.items) }
-{
-    let mut bits = low;
-    bits.extend_from_slice(&high)?;
-    Ok(bits)
 }
 
 // A bit of a list; there are none past the end.
@@ -243,22 +359,28 @@ fn pair(pairing: Pairing, left: Tern, right: Tern) -> Tern
     }
 }
 
-// Two lists in one, place by place.
+// Two lists in one, place by place. Each pairing is named here, so that there is a loop for each, which asks for none.
 fn pair_up(pairing: Pairing, left: &mut [Tern], right: &[Tern])
+    requires { length left.old ≡ length right.now }
+    ensures { map plain_tern left.new ≡ each_tern (by pairing) (map plain_tern left.old) (map plain_tern right.now) }
+{
+    match pairing {
+        Pairing::Both => pair_each(Pairing::Both, left, right),
+        Pairing::Either => pair_each(Pairing::Either, left, right),
+        Pairing::Differs => pair_each(Pairing::Differs, left, right),
+        Pairing::Agreed => pair_each(Pairing::Agreed, left, right),
+    }
+}
+
+// The same by one pairing.
+#[inline(always)]
+fn pair_each(pairing: Pairing, left: &mut [Tern], right: &[Tern])
     requires { length left.old ≡ length right.now }
     ensures { map plain_tern left.new ≡ each_tern (by pairing) (map plain_tern left.old) (map plain_tern right.now) }
 {
     for place in 0..left.len() {
         left[place] = pair(pairing, left[place], right[place]);
     }
-}
-
-// Whether two values are the same.
-fn equality(left: Vec<Tern>, right: Vec<Tern>) -> Tern
-    requires { length left.items ≡ length right.items }
-    ensures { plain_tern result ≡ same_terns (map plain_tern left.items) (map plain_tern right.items) }
-{
-    same_bits(&left, &right)
 }
 
 // Whether two lists are the same: 0 where two known bits differ, and 1 where all are known and agree.
@@ -274,16 +396,6 @@ fn same_bits(left: &[Tern], right: &[Tern]) -> Tern
         all = both(inverse(apart), all);
     }
     all
-}
-
-// A difference.
-fn difference(left: Vec<Tern>, right: Vec<Tern>) -> Vec<Tern>
-    requires { length left.items ≡ length right.items }
-    ensures { map plain_tern result.items ≡ tern_operated ops.Minus (map plain_tern left.items) (map plain_tern right.items) }
-{
-    let mut bits = left;
-    subtract(&mut bits, &right);
-    bits
 }
 
 // A difference, in the place of the minuend. Nothing is known of it where a bit of either side is not known.

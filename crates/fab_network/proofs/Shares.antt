@@ -87,15 +87,14 @@ read_there [] k x y is read = cc
 read_there (z ∷ xs) zero x y is read = ap Some (sym read)
 read_there (z ∷ xs) (suc k) x y is read = read_there xs k x y is read
 
--- bits that have just been found
-pub found_shared : (trees : List Tree) (terns : List Tern) (leads : List ℕ) (source : Source) (tree : Tree) (shared : Shared) →
-    IsFitSource trees (length leads) source → slice_get trees source.tree ≡ Some tree →
-    map plain_tern shared.bits.items ≡ value_seen terns leads source.first tree →
-    shared.exact ≡ true → shared.tree ≡ source.tree → shared.first ≡ source.first → IsShared trees (length leads) (seen terns leads) shared
-found_shared trees terns leads source tree shared fit there value exact same_tree same_first bit kept at =
+-- bits that have just been found, under the numbers that are kept
+pub found_shared : (trees : List Tree) (terns : List Tern) (leads : List ℕ) (source : Source) (tree : Tree) (number first : ℕ) (bits : List Tern) →
+    IsFitSource trees (length leads) source → slice_get trees source.tree ≡ Some tree → map plain_tern bits ≡ value_seen terns leads source.first tree →
+    number ≡ source.tree → first ≡ source.first → (bit : ℕ) (kept : Tern) → slice_get bits bit ≡ Some kept →
+    IsKeptBit trees (length leads) (seen terns leads) true (record { tree = number; first = first; bit = bit }) kept
+found_shared trees terns leads source tree number first bits fit there value same_tree same_first bit kept at =
     let here : Source = record { tree = source.tree; first = source.first; bit = bit } in
-    let this : Source = record { tree = shared.tree; first = shared.first; bit = bit } in
+    let this : Source = record { tree = number; first = first; bit = bit } in
     let same : here ≡ this = (λ j. record { tree = sym same_tree j; first = sym same_first j; bit = bit }) in
-    subst (λ (b : Bool). IsKeptBit trees (length leads) (seen terns leads) b this kept) (sym exact)
-    (subst (λ (s : Source). IsKeptBit trees (length leads) (seen terns leads) true s kept) same
-    (found_bits trees terns leads source tree shared.bits.items fit there value bit kept at))
+    subst (λ (s : Source). IsKeptBit trees (length leads) (seen terns leads) true s kept) same
+    (found_bits trees terns leads source tree bits fit there value bit kept at)

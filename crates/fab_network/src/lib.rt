@@ -6,6 +6,7 @@ mod inputs;
 mod leading;
 mod network;
 mod passes;
+mod plans;
 mod readers;
 mod sharing;
 mod tables;

@@ -10,13 +10,14 @@ ghost use Rattle.fab_network.specs.Network.{source_tern, IsFitSource};
 ghost use Rattle.fab_network.specs.Sharing.{AreShared, IsShared};
 
 use crate::network::{Source, evaluate};
+use crate::plans::Plan;
 use fab_base::Memory;
-use fab_compiled::{Tree, View, whole};
+use fab_compiled::{Tree, View, whole_into};
 use fab_ternary::Tern;
 use std::alloc::Global;
 
-/// The expression that was looked at last, and all bits of its value as soon as a second one is asked for: so the operands of `-` are gone
-/// through once for all bits of a difference that follow one another. Where there is no memory, each bit is evaluated alone.
+/// The expression that was looked at last, and all bits of its value as soon as more are asked for: so the operands of `-` are gone through once for all
+/// bits of a difference that follow one another, and those of a wide expression in one walk. Where there is no memory, each bit is evaluated alone.
 #[derive(Drop)]
 pub struct Shared {
     /// The number of its tree.
@@ -25,12 +26,13 @@ pub struct Shared {
     pub first: u32,
     /// Whether nothing has come to be known of points since the bits were found. What was known then is right in any case.
     pub exact: bool,
-    /// Whether each bit is evaluated alone, because that takes no longer or because there is no memory.
-    pub alone: bool,
+    /// When its bits are found together.
+    pub plan: Plan,
     /// Its bits, or none.
     pub bits: Vec<Tern>,
-    /// How many looks there were at bits that were open when they were found, behind something that has come to be known since.
-    pub stale: u32,
+    /// How many looks there were at bits that are not kept: before any was found, or open when they were found, behind something that has come to be
+    /// known since.
+    pub open_looks: u32,
 }
 
 impl Shared {
@@ -42,9 +44,9 @@ impl Shared {
             tree: u32::MAX,
             first: 0,
             exact: false,
-            alone: false,
+            plan: Plan::Undecided,
             bits: Vec::new(alloc),
-            stale: 0,
+            open_looks: 0,
         }
     }
 
@@ -64,7 +66,7 @@ impl Shared {
         if let Some(bit) = self.kept(source.bit) {
             return bit;
         }
-        if !self.is_due() {
+        if !self.is_due(trees) {
             return evaluate(trees, source, view);
         }
         self.find(trees, source, view);
@@ -95,27 +97,31 @@ impl Shared {
     {
         self.tree = tree;
         self.first = first;
-        self.exact = false;
-        self.alone = false;
+        self.plan = Plan::Undecided;
         self.bits.clear();
-        self.stale = 0;
+        self.open_looks = 0;
     }
 
-    // Whether all bits are found now. Where they were before, and more has come to be known since, that is so at the first look, the second, the fourth
-    // and so on: in a loop through a difference something may come to be known between any two looks.
-    fn is_due(&mut self) -> bool
+    // Whether all bits are found now: after as many looks as the plan says, twice as many and so on. In a loop through a difference something may come to
+    // be known between any two looks, and each time all open bits have to be found anew.
+    fn is_due(&mut self, trees: &[Tree]) -> bool
         ensures tree { self.new.tree ≡ self.old.tree }
         ensures first { self.new.first ≡ self.old.first }
         ensures shared { (trees : List Tree) (count : ℕ) (t : PointTerns) → IsShared trees count t self.old → IsShared trees count t self.new }
     {
-        if self.exact || self.bits.is_empty() {
-            return true;
+        self.plan = self.plan.decided(trees.get(self.tree as usize));
+        let Plan::After(looks) = self.plan else {
+            return false;
+        };
+        self.open_looks = self.open_looks.saturating_add(1);
+        if self.open_looks < looks {
+            return false;
         }
-        self.stale = self.stale.saturating_add(1);
-        self.stale.is_power_of_two()
+        self.plan = Plan::After(looks.saturating_mul(2));
+        true
     }
 
-    // Finds all bits of the expression, where that is faster than each alone.
+    // Finds all bits of the expression.
     fn find(&mut self, trees: &[Tree], source: Source, view: &View)
         requires fit { IsFitSource trees.now (length view.now.leads.now) source }
         requires view { IsView view.now.terns.now view.now.leads.now }
@@ -128,25 +134,20 @@ impl Shared {
         ensures shared { IsShared trees.now (length view.now.leads.now) (seen view.now.terns.now view.now.leads.now) self.new }
     {
         let tree = &trees[source.tree as usize];
-        if self.alone || !shares(tree) {
-            self.alone = true;
-            return;
-        }
-        match whole(*self.bits.allocator(), tree, source.first as usize, view) {
-            Ok(bits) => self.keep(bits),
-            Err(Memory) => self.alone = true,
+        match whole_into(tree, source.first as usize, view, &mut self.bits) {
+            Ok(()) => self.exact = true,
+            Err(Memory) => self.give_up(),
         }
     }
 
-    // Keeps bits that have just been found.
-    fn keep(&mut self, bits: Vec<Tern>)
+    // There is no memory for all bits: each is evaluated alone from now on.
+    fn give_up(&mut self)
         ensures tree { self.new.tree ≡ self.old.tree }
         ensures first { self.new.first ≡ self.old.first }
-        ensures exact { self.new.exact ≡ true }
-        ensures bits { self.new.bits.items ≡ bits.items }
+        ensures shared { (trees : List Tree) (count : ℕ) (t : PointTerns) → IsShared trees count t self.new }
     {
-        self.bits = bits;
-        self.exact = true;
+        self.bits.clear();
+        self.plan = Plan::Never;
     }
 
     // A bit that is kept, if it is right.
@@ -188,34 +189,5 @@ impl KeptValues {
     {
         self.points.note_change();
         self.gates.note_change();
-    }
-}
-
-// Whether bits of an expression rest on the same work: on what lower bits of a difference borrow, or on a test that is more than a point; and a bit
-// that takes long and may be asked for many times, as a gate.
-fn shares(tree: &Tree) -> bool {
-    match tree {
-        Tree::Const(_) | Tree::Bits(_, _) | Tree::Pick(_, _, _) => false,
-        Tree::Equal(_, _, _) | Tree::Minus(_, _, _) => true,
-        Tree::Not(inner) => shares(inner),
-        Tree::Cat(left, _, right)
-        | Tree::And(left, right)
-        | Tree::Or(left, right)
-        | Tree::Xor(left, right) => shares(left) || shares(right),
-        Tree::Cond(test, yes, no) => takes_long(test) || shares(yes) || shares(no),
-    }
-}
-
-// Whether a bit of an expression takes longer than a few points.
-fn takes_long(tree: &Tree) -> bool {
-    match tree {
-        Tree::Const(_) | Tree::Bits(_, _) => false,
-        Tree::Pick(_, _, _) | Tree::Equal(_, _, _) | Tree::Minus(_, _, _) => true,
-        Tree::Not(inner) => takes_long(inner),
-        Tree::Cat(left, _, right)
-        | Tree::And(left, right)
-        | Tree::Or(left, right)
-        | Tree::Xor(left, right) => takes_long(left) || takes_long(right),
-        Tree::Cond(test, yes, no) => takes_long(test) || takes_long(yes) || takes_long(no),
     }
 }

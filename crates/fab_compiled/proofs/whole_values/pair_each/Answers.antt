@@ -6,7 +6,7 @@ use Rattle.fab_compiled.specs.inner.Pairs.{by}
 use Rattle.fab_compiled.proofs.Bits.{each_at}
 use Rattle.fab_compiled.proofs.Lengths.{length_each}
 use Rattle.fab_compiled.proofs.Written.{plain, none_done, one_done, all_done, read}
-use Rattle.fab_compiled.proofs.whole_values.pair_up.Goals as goal
+use Rattle.fab_compiled.proofs.whole_values.pair_each.Goals as goal
 
 pub loop-place-init : goal.loop-place-init
 loop-place-init c = none_done (each_tern (by c.args.pairing) (plain c.args.left.now) (plain c.args.right.now)) (plain c.args.left.now)
