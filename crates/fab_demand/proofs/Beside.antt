@@ -193,7 +193,7 @@ drive_fits trees count drive bits fit is = fit_bits trees count bits.gate bits.s
 -- a drive of a bit of the same expression as another
 pub bit_is : (drive : Drive) (found bits : Bits) → IsDriveOf drive found → AreAlike found bits → IsBitDrive drive bits found.source.bit
 bit_is drive found bits is alike =
-    is ∙ (λ j. drive_of (alike.gate j) (record { tree = alike.tree j; first = alike.first j; bit = found.source.bit }))
+    is ∙ (λ j. drive_of (alike.gate j) (record { tree = alike.beside.tree j; first = alike.beside.first j; bit = found.source.bit }))
 
 pub some_map : {A : Type 0} (r : Option A) (P R : A → Type 0) → IfSome r P → ((v : A) → P v → R v) → IfSome r R
 some_map None P R p f = tt

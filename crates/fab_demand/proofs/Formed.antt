@@ -12,7 +12,7 @@ use Rattle.fab_network.specs.declared.forms.Form.TheVariants.{Shows, Takes, Driv
 use Rattle.fab_network.specs.declared.network.Drive.{Drive}
 use Rattle.fab_network.specs.declared.network.Network.{Network}
 use Rattle.fab_network.specs.Forms.{AreForms, HasForms, IsFormBy}
-use Rattle.fab_network.specs.Passes.{kept_tern, AreOwn}
+use Rattle.fab_network.specs.Passes.{kept_tern, AreOwn, IsListed}
 use Rattle.fab_network.specs.Tables.{IsFixed}
 use Rattle.fab_network.proofs.Forming.{forms_stay}
 use Rattle.fab_demand.specs.Asked.{Asked, DiffersInOwn}
@@ -66,6 +66,18 @@ module _ (old new : Asked) (leads : new.leads ≡ old.leads) (marks : new.marks 
     own = own ∙ before.own;
     others = λ q none. same q ∙ before.others q none;
   }
+
+-- a cycle changes nothing but what is kept for points that stand for themselves
+pub settled_differs : (network : Network) (held : List Tern) (old new : Asked) → new.leads ≡ old.leads → new.marks ≡ old.marks → new.own ≡ old.own →
+    IsSettled network held old.own old.leads old.terns new.terns → (asked : Asked) → DiffersInOwn asked old → DiffersInOwn asked new
+settled_differs network held old new leads marks own settled asked before = record {
+  leads = leads ∙ before.leads;
+  marks = marks ∙ before.marks;
+  own = own ∙ before.own;
+  others = λ q none.
+      let apart : IsListed old.own q → ⊥ = λ listed. none (subst (λ (xs : List ℕ). IsListed xs q) before.own listed) in
+      settled.kept_then q apart ∙ settled.kept_first q apart ∙ before.others q none;
+}
 
 -- forms stay right from cycle to cycle
 pub formed_on : (network : Network) (held : List Tern) (old : Asked) (own leads : List ℕ) (terns : List Tern) (forms : List Form) →

@@ -14,8 +14,8 @@ ghost use Rattle.fab_demand.specs.inner.Beside.{KnowsMore};
 ghost use Rattle.fab_demand.specs.inner.Copies.{CopiesPoints, IsCopy, IsCopyOf, TellsCopies};
 
 use crate::others::{Bits, MANY, bit_of, points_beside};
-use crate::rows::is_unmarked;
 use crate::search::Search;
+use fab_ahead::is_unmarked;
 use fab_compiled::{Tree, View, eval};
 use fab_network::{Network, Source};
 use fab_ternary::Tern;

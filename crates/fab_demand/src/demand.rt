@@ -12,6 +12,7 @@ ghost use Rattle.fab_demand.specs.Demand.{AreFormsOf, AreOpen, AreRegistersAsked
 
 use crate::cycles::settle_anew;
 use crate::search::Search;
+use fab_ahead::Rows;
 use fab_base::Memory;
 use fab_compiled::View;
 use fab_network::{Clock, Form, Network, Source, forms_of};
@@ -26,6 +27,7 @@ use std::marker::Model;
 #[derive(Drop)]
 pub struct Demand {
     search: Search,
+    rows: Rows,
 }
 
 impl Model for Demand {
@@ -48,7 +50,8 @@ impl Demand {
         ensures clear { IfOk result (λ demand. IsClear demand) }
     {
         let search = Search::new(alloc, points)?;
-        Ok(Demand { search })
+        let rows = Rows::new(alloc);
+        Ok(Demand { search, rows })
     }
 
     /// Nothing is asked for any more.
@@ -57,6 +60,7 @@ impl Demand {
         ensures clear { IsClear self.new }
     {
         self.search.clear();
+        self.rows.clear();
     }
 
     /// Asks for a point, and for all that it needs. What is given here of an input, a flip-flop or a latch is what is known of it
@@ -71,7 +75,8 @@ impl Demand {
         ensures more { AsksMore self.old self.new }
         ensures marked { IsMarked self.new.marks point }
     {
-        self.search.ask(network, clock, given, point);
+        self.search
+            .ask(network, clock, given, &mut self.rows, point);
     }
 
     /// Asks for all that the bit of an expression needs.
@@ -85,7 +90,8 @@ impl Demand {
         ensures more { AsksMore self.old self.new }
         ensures source { IsSourceAsked network.now.trees.items self.new source }
     {
-        self.search.ask_source(network, clock, given, source);
+        self.search
+            .ask_source(network, clock, given, &mut self.rows, source);
     }
 
     /// Asks for the next values of all flip-flops of this clock that have been asked for, and of those that come to be asked for by that.
@@ -98,7 +104,8 @@ impl Demand {
         ensures more { AsksMore self.old self.new }
         ensures registers { AreRegistersAsked network.now clock self.new }
     {
-        self.search.ask_registers(network, clock, given);
+        self.search
+            .ask_registers(network, clock, given, &mut self.rows);
     }
 
     /// The forms of the points that stand for themselves, for cycles from now on. Nothing is known of these points yet.

@@ -8,7 +8,6 @@ pub mod laws;
 mod look;
 mod others;
 mod registers;
-mod rows;
 mod search;
 
 pub use demand::Demand;

@@ -14,8 +14,8 @@ ghost use Rattle.fab_network.specs.Leading.{bits_of_source};
 ghost use Rattle.fab_demand.specs.inner.Beside.{AreAlike, AreFitBits, IsBeside, IsBit, IsBitDrive, IsBitOfPart, IsClosedAs, IsDriveOf, IsInPart, KnowsMore, TellsGate, TellsTogether};
 
 use crate::copies::Copies;
-use crate::rows::is_unmarked;
 use crate::search::Search;
+use fab_ahead::is_unmarked;
 use fab_base::Memory;
 use fab_compiled::{Lead, Part, Tree, View};
 use fab_network::{Drive, Network, Source, lead_of_source, part_of_source};
@@ -305,9 +305,7 @@ fn bit_in(drive: Drive, bits: Bits) -> Option<u32>
 fn are_alike(found: Bits, bits: Bits) -> bool
     ensures { result ≡ true → AreAlike found bits }
 {
-    found.source.tree == bits.source.tree
-        && found.source.first == bits.source.first
-        && are_same(found.gate, bits.gate)
+    found.source.is_beside(bits.source) && are_same(found.gate, bits.gate)
 }
 
 // Whether two gates are the same, or there are none.
@@ -315,16 +313,10 @@ fn are_same(gate: Option<Source>, other: Option<Source>) -> bool
     ensures { result ≡ true → gate ≡ other }
 {
     match (gate, other) {
-        (Some(one), Some(two)) => is_same(one, two),
+        (Some(one), Some(two)) => one == two,
         (None, None) => true,
         (Some(_), None) | (None, Some(_)) => false,
     }
-}
-
-fn is_same(one: Source, other: Source) -> bool
-    ensures { result ≡ true → one ≡ other }
-{
-    one.tree == other.tree && one.first == other.first && one.bit == other.bit
 }
 
 // The first point of a part of an expression of which a point is a bit, and behind the last one, where points follow one another as the bits do.

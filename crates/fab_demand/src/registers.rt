@@ -10,6 +10,7 @@ ghost use Rattle.fab_demand.specs.Search.{asked_of, IsResting, IsSearching};
 ghost use Rattle.fab_demand.specs.inner.Beside.{IsInSpan, IsSpanAsked, IsSpanOf};
 
 use crate::search::Search;
+use fab_ahead::Rows;
 use fab_compiled::Part;
 use fab_network::{Clock, Drive, Network, Source};
 use fab_ternary::Tern;
@@ -27,7 +28,13 @@ pub struct Span {
 
 impl Search {
     /// Asks for the next values of flip-flops of this clock that stand for themselves. The list of them grows while it is gone along.
-    pub(crate) fn ask_registers(&mut self, network: &Network, clock: Clock, given: &[Tern])
+    pub(crate) fn ask_registers(
+        &mut self,
+        network: &Network,
+        clock: Clock,
+        given: &[Tern],
+        rows: &mut Rows,
+    )
         requires fit { AreFit network.now.trees.items network.now.drives.items }
         requires points { length network.now.drives.items ≡ length self.old.leads.items }
         requires given { length given.now ≡ length self.old.leads.items }
@@ -42,7 +49,7 @@ impl Search {
         let mut asked = None;
         'registers: while place < self.own.len() {
             let point = self.own[place];
-            asked = self.ask_register(network, clock, given, point, asked);
+            asked = self.ask_register(network, clock, given, rows, point, asked);
             place += 1;
         }
     }
@@ -54,6 +61,7 @@ impl Search {
         network: &Network,
         clock: Clock,
         given: &[Tern],
+        rows: &mut Rows,
         point: u32,
         asked: Option<Span>,
     ) -> Option<Span>
@@ -75,7 +83,7 @@ impl Search {
         if is_in(asked, next) {
             return asked;
         }
-        self.ask_source(network, clock, given, next);
+        self.ask_source(network, clock, given, rows, next);
         self.span_of(network, next, point)
     }
 
@@ -150,9 +158,7 @@ fn takes_bit_beside(network: &Network, source: Source, point: u32) -> bool {
 
 fn takes_bit(network: &Network, source: Source, point: u32) -> bool {
     match network.drives.get(point as usize) {
-        Some(Drive::Flop(_, next)) => {
-            next.bit != source.bit && next.tree == source.tree && next.first == source.first
-        }
+        Some(Drive::Flop(_, next)) => next.bit != source.bit && next.is_beside(source),
         _ => false,
     }
 }

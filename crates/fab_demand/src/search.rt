@@ -12,7 +12,7 @@ ghost use Rattle.fab_demand.specs.Asked.{AsksMore, IsSourceAsked, IsWhole};
 ghost use Rattle.fab_demand.specs.Search.{asked_of, left_of, Closes, HasRoom, IsBlank, IsKeeping, IsResting, IsSearching};
 
 use crate::look::look;
-use crate::rows::{Next, Rows, end_of_rest};
+use fab_ahead::{Next, Rows, end_of_rest};
 use fab_base::Memory;
 use fab_compiled::{Lead, View};
 use fab_network::{Clock, Network, Readers, Source, lead_of_source};
@@ -152,7 +152,7 @@ impl Search {
     }
 
     // One step for the last point that waits: what its row tells is asked for without a look. Others beside it are closed with it where it stands for itself,
-    // and in a row in any case, since there are many then.
+    // where many of them have been looked at, and in a row in any case, since there are many then.
     fn go_by(
         &mut self,
         network: &Network,
@@ -176,7 +176,8 @@ impl Search {
             Next::Ask(needed) => self.wait(needed),
             Next::Look => {
                 self.step(network, clock, given, rows, point);
-                if own < self.own.len() {
+                let is_closed = self.stack.len() < depth;
+                if own < self.own.len() || is_closed && rows.are_others_due(network, point) {
                     self.close_others(network, point);
                 }
             }
@@ -207,7 +208,8 @@ impl Search {
         match look(network, clock, given, point as usize, &view, &self.marks) {
             Lead::Unmarked(needed) => {
                 let waits = self.is_waiting(needed.saturating_sub(1));
-                rows.add(network, point, needed, self.stack.len(), waits);
+                let depth = self.stack.len();
+                rows.add(network, point, needed, depth, waits, &self.marks);
                 self.wait(needed);
             }
             Lead::Known(bit) => self.know(point, bit),
@@ -235,7 +237,14 @@ impl Search {
     }
 
     /// Asks for a point, and for all that it needs.
-    pub(crate) fn ask(&mut self, network: &Network, clock: Clock, given: &[Tern], point: u32)
+    pub(crate) fn ask(
+        &mut self,
+        network: &Network,
+        clock: Clock,
+        given: &[Tern],
+        rows: &mut Rows,
+        point: u32,
+    )
         requires fit { AreFit network.now.trees.items network.now.drives.items }
         requires points { length network.now.drives.items ≡ length self.old.leads.items }
         requires given { length given.now ≡ length self.old.leads.items }
@@ -251,11 +260,11 @@ impl Search {
             return;
         }
         self.wait(point);
-        self.go_on(network, clock, given);
+        self.go_on(network, clock, given, rows);
     }
 
     // Goes on until no point waits.
-    fn go_on(&mut self, network: &Network, clock: Clock, given: &[Tern])
+    fn go_on(&mut self, network: &Network, clock: Clock, given: &[Tern], rows: &mut Rows)
         requires fit { AreFit network.now.trees.items network.now.drives.items }
         requires points { length network.now.drives.items ≡ length self.old.leads.items }
         requires given { length given.now ≡ length self.old.leads.items }
@@ -264,9 +273,9 @@ impl Search {
         ensures resting { IsResting self.new }
         ensures more { AsksMore (asked_of self.old) (asked_of self.new) }
     {
-        let mut rows = Rows::new(*self.stack.allocator());
+        rows.end();
         'waiting: while let Some(top) = self.waiting() {
-            self.go_by(network, clock, given, &mut rows, top);
+            self.go_by(network, clock, given, rows, top);
         }
     }
 
@@ -276,6 +285,7 @@ impl Search {
         network: &Network,
         clock: Clock,
         given: &[Tern],
+        rows: &mut Rows,
         source: Source,
     )
         requires fit { AreFit network.now.trees.items network.now.drives.items }
@@ -290,8 +300,8 @@ impl Search {
         ensures asked { IsSourceAsked network.now.trees.items (asked_of self.new) source }
     {
         'needs: while let Some(point) = self.need(network, source) {
-            self.ask(network, clock, given, point);
-            self.ask_rest(network, clock, given, source, point);
+            self.ask(network, clock, given, rows, point);
+            self.ask_rest(network, clock, given, rows, source, point);
         }
     }
 
@@ -301,6 +311,7 @@ impl Search {
         network: &Network,
         clock: Clock,
         given: &[Tern],
+        rows: &mut Rows,
         source: Source,
         point: u32,
     )
@@ -314,12 +325,19 @@ impl Search {
         ensures more { AsksMore (asked_of self.old) (asked_of self.new) }
     {
         for next in point.saturating_add(1)..end_of_rest(network, source, point) {
-            self.ask_number(network, clock, given, next);
+            self.ask_number(network, clock, given, rows, next);
         }
     }
 
     // Asks for the point of a number, if there is one.
-    fn ask_number(&mut self, network: &Network, clock: Clock, given: &[Tern], point: u32)
+    fn ask_number(
+        &mut self,
+        network: &Network,
+        clock: Clock,
+        given: &[Tern],
+        rows: &mut Rows,
+        point: u32,
+    )
         requires fit { AreFit network.now.trees.items network.now.drives.items }
         requires points { length network.now.drives.items ≡ length self.old.leads.items }
         requires given { length given.now ≡ length self.old.leads.items }
@@ -330,7 +348,7 @@ impl Search {
         ensures more { AsksMore (asked_of self.old) (asked_of self.new) }
     {
         if (point as usize) < self.leads.len() {
-            self.ask(network, clock, given, point);
+            self.ask(network, clock, given, rows, point);
         }
     }
 

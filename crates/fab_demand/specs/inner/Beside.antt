@@ -9,12 +9,10 @@ use Rattle.fab_network.specs.declared.network.Drive.{Drive}
 use Rattle.fab_network.specs.declared.network.Drive.TheVariants.{Value, Hold}
 use Rattle.fab_network.specs.declared.network.Network.{Network}
 use Rattle.fab_network.specs.declared.network.Source.{Source}
-use Rattle.fab_network.specs.Network.{source_tern, IsFitSource}
+use Rattle.fab_network.specs.Network.{source_tern, AreBeside, IsFitSource}
 use Rattle.fab_demand.specs.declared.others.Bits.{Bits}
 use Rattle.fab_demand.specs.declared.others.Together.{Together}
 use Rattle.fab_demand.specs.declared.registers.Span.{Span}
-use Rattle.fab_demand.specs.declared.rows.Next.{Next}
-use Rattle.fab_demand.specs.declared.rows.Next.TheVariants.{Ask, Look, LookInRow}
 use Rattle.fab_compiled.specs.declared.parts.Part.{Part}
 use Rattle.fab_demand.specs.declared.search.Search.{Search}
 use Rattle.fab_demand.specs.Asked.{Asked, IsSourceAsked}
@@ -43,8 +41,7 @@ IsDriveOf drive bits = drive ≡ drive_of bits.gate bits.source
 
 -- bits of one expression, behind the same gate
 pub record AreAlike (found bits : Bits) : Type 0 where
-  pub tree : found.source.tree ≡ bits.source.tree
-  pub first : found.source.first ≡ bits.source.first
+  pub beside : AreBeside found.source bits.source
   pub gate : found.gate ≡ bits.gate
 
 -- a drive tells this bit of the expression of another, behind the same gate
@@ -109,10 +106,3 @@ pub record IsSpanOf (source : Source) (part : Part) (span : Span) : Type 0 where
 -- all that these bits need has been asked for
 abbrev pub IsSpanAsked : List Tree → Asked → Span → Type 0
 IsSpanAsked trees asked span = (source : Source) → IsInSpan span source → IsSourceAsked trees asked source
-
--- ---- rows
-
-abbrev pub AsksUnmarked : List Bool → Next → Type 0
-AsksUnmarked marks (Ask point) = slice_get marks point ≡ Some false
-AsksUnmarked marks Look = Unit {0}
-AsksUnmarked marks LookInRow = Unit {0}

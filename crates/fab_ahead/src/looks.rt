@@ -1,0 +1,103 @@
+//! How many looks there were at bits of an expression, or at a point.
+
+use fab_compiled::Tree;
+use fab_network::Source;
+
+/// Of how many expressions or points looks are counted at a time.
+const PLACES: u32 = 64;
+
+/// At how many looks at bits of an expression all of them are found together for the first time. Fewer looks take not much longer than that.
+const FEWEST: u32 = 32;
+
+/// What is looked at.
+#[derive(Clone, Copy, Debug, PartialEq, Eq)]
+pub(crate) enum Subject {
+    /// Bits of the expression of this number, over the points of an instance, of which the first is given.
+    Expression(u32, u32),
+    /// This point.
+    Point(u32),
+}
+
+impl Subject {
+    // The place of its count.
+    fn place(self) -> u32 {
+        match self {
+            Subject::Expression(tree, first) => tree.wrapping_add(first) % PLACES,
+            Subject::Point(point) => point % PLACES,
+        }
+    }
+}
+
+/// How many looks there were.
+#[derive(Clone, Copy, Debug)]
+struct Count {
+    subject: Subject,
+    looks: u32,
+}
+
+/// Looks at some expressions and points, by places that each has for itself as long as no other needs it.
+#[derive(Drop)]
+pub(crate) struct Looks {
+    counts: [Count; PLACES as usize],
+}
+
+impl Looks {
+    /// Nothing has been looked at.
+    pub(crate) fn new() -> Looks {
+        let none = Count {
+            subject: Subject::Point(0),
+            looks: 0,
+        };
+        Looks {
+            counts: [none; PLACES as usize],
+        }
+    }
+
+    /// How many looks there were with this one.
+    pub(crate) fn count(&mut self, subject: Subject) -> u32 {
+        let Some(count) = self.counts.get_mut(subject.place() as usize) else {
+            return 0;
+        };
+        let before = if count.subject == subject {
+            count.looks
+        } else {
+            0
+        };
+        let looks = before.saturating_add(1);
+        *count = Count { subject, looks };
+        looks
+    }
+
+    /// One more look at the bit of a source. Told is whether all bits of its expression are to be found now: at the look of this number, at twice as many and
+    /// so on, if they rest on the same work.
+    pub(crate) fn is_due(&mut self, trees: &[Tree], source: Source) -> bool {
+        let looks = self.count(Subject::Expression(source.tree, source.first));
+        looks >= FEWEST && looks.is_power_of_two() && is_shared(trees, source)
+    }
+}
+
+// Whether a bit of the expression of a source may take as long as all of them.
+fn is_shared(trees: &[Tree], source: Source) -> bool {
+    match trees.get(source.tree as usize) {
+        Some(tree) => shares(tree),
+        None => false,
+    }
+}
+
+// Whether bits of an expression rest on the same work: on what lower bits of a difference borrow, or on a test that is more than a name.
+fn shares(tree: &Tree) -> bool {
+    match tree {
+        Tree::Const(_) | Tree::Bits(_, _) | Tree::Pick(_, _, _) => false,
+        Tree::Equal(_, _, _) | Tree::Minus(_, _, _) => true,
+        Tree::Not(inner) => shares(inner),
+        Tree::Cat(left, _, right)
+        | Tree::And(left, right)
+        | Tree::Or(left, right)
+        | Tree::Xor(left, right) => shares(left) || shares(right),
+        Tree::Cond(test, yes, no) => !is_name(test) || shares(yes) || shares(no),
+    }
+}
+
+fn is_name(tree: &Tree) -> bool {
+    matches!(tree, Tree::Bits(_, _))
+}

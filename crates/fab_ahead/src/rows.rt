@@ -1,0 +1,276 @@
+//! Many points that a waiting point needs: they are asked for without a look between.
+
+ghost use Rattle.std.specs.Prelude.{◌≡◌, true, false, slice_get, IfSome, Some};
+ghost use Rattle.fab_ahead.specs.Rows.{AsksUnmarked};
+
+use crate::lists::list_by_drive;
+use crate::looks::{Looks, Subject};
+use crate::names::{MANY, end_by_drive, is_ring, may_begin_row};
+use fab_network::{Drive, Network};
+use std::alloc::Global;
+
+/// How often the number of points is doubled at most that a point is taken to need.
+const MOST_DOUBLINGS: u32 = 20;
+
+/// Points that are asked for one after the other.
+#[derive(Clone, Copy, Debug)]
+enum Points {
+    /// They follow one another: the next of them, and behind the last.
+    Between(u32, u32),
+    /// The last ones in the list: where they begin there, and the place of the next.
+    Listed(usize, usize),
+}
+
+/// A point that has not been asked for, and those behind it.
+#[derive(Clone, Copy, Debug)]
+struct Found {
+    point: u32,
+    rest: Points,
+}
+
+/// Points that a waiting point needs.
+#[derive(Clone, Copy, Debug)]
+struct Row {
+    points: Points,
+    /// How many points wait, up to the one that needs them.
+    depth: usize,
+    /// Whether each of them needs the others, through that point.
+    ring: bool,
+    /// How many looks there were at points of the row.
+    looks: u32,
+}
+
+impl Row {
+    // Whether the last of so many waiting points needs this row: it has found it, or it is itself a point of the row, in a ring.
+    fn serves(self, depth: usize) -> bool {
+        self.depth == depth || self.ring && self.depth.saturating_add(1) == depth
+    }
+}
+
+/// What is done next for the last point that waits.
+#[derive(Clone, Copy, Debug)]
+pub enum Next {
+    /// This point is asked for, which it needs by its row.
+    Ask(u32),
+    /// It is looked at.
+    Look,
+    /// The same, where it is one of the points of a row. That is told at the first look, the second, the fourth and so on: what others are known to have may
+    /// be found anew each time, and that takes long.
+    LookInRow,
+}
+
+/// The rows of points that wait. They are a help for speed: any point may be asked for, so what a search finds does not depend on them. Without
+/// them an expression over a name of many bits would be looked at anew for each bit that is asked for. Looks at bits of expressions are counted too, where
+/// others ask for them one by one.
+#[derive(Drop)]
+pub struct Rows {
+    rows: Vec<Row>,
+    /// The points of rows that do not follow one another.
+    list: Vec<u32>,
+    /// Looks that have closed a bit of an expression.
+    looks: Looks,
+    /// Looks at a point that have found one more that it needs.
+    finds: Looks,
+}
+
+impl Rows {
+    /// No point waits.
+    pub fn new(alloc: Global) -> Rows {
+        Rows {
+            rows: Vec::new(alloc),
+            list: Vec::new(alloc),
+            looks: Looks::new(),
+            finds: Looks::new(),
+        }
+    }
+
+    /// No point waits any more. What has been counted stays.
+    pub fn end(&mut self) {
+        self.rows.clear();
+        self.list.clear();
+    }
+
+    /// Nothing has been counted, and no point waits.
+    pub fn clear(&mut self) {
+        self.end();
+        self.looks = Looks::new();
+        self.finds = Looks::new();
+    }
+
+    /// What a look has found that the last of so many waiting points needs, with the rest of the name that it stands in. Told is whether the point before it
+    /// waits.
+    pub fn add(
+        &mut self,
+        network: &Network,
+        point: u32,
+        needed: u32,
+        depth: usize,
+        waits: bool,
+        marks: &[bool],
+    ) {
+        match row_of(network, point, needed, depth, waits) {
+            Some(row) => self.push(row),
+            None => self.add_list(network, point, depth, marks),
+        }
+    }
+
+    // The same where that name is narrow, or the rest of it is not needed. A point that has needed many, one by one, is taken to need as many more: each look
+    // goes over all that it needs, up to the first one that has not been asked for.
+    fn add_list(&mut self, network: &Network, point: u32, depth: usize, marks: &[bool]) {
+        let finds = self.finds.count(Subject::Point(point));
+        let Some(doublings) = finds.checked_sub(MANY) else {
+            return;
+        };
+        let start = self.list.len();
+        let more = (MANY as usize) << doublings.min(MOST_DOUBLINGS);
+        list_by_drive(
+            network,
+            point,
+            marks,
+            start.saturating_add(more),
+            &mut self.list,
+        );
+        self.push(Row {
+            points: Points::Listed(start, start),
+            depth,
+            ring: false,
+            looks: 0,
+        });
+    }
+
+    /// What is done next for the last of so many waiting points: its row tells which points it needs that have not been asked for.
+    pub fn next(&mut self, depth: usize, marks: &[bool]) -> Next
+        ensures { AsksUnmarked marks.now result }
+    {
+        match self.rows.pop() {
+            Some(row) => self.next_by(row, depth, marks),
+            None => Next::Look,
+        }
+    }
+
+    // The same by the last row. It is passed over where the point that needs it does not wait any more.
+    fn next_by(&mut self, row: Row, depth: usize, marks: &[bool]) -> Next
+        ensures { AsksUnmarked marks.now result }
+    {
+        if row.serves(depth) {
+            return self.next_of(row, depth, marks);
+        }
+        if depth < row.depth {
+            self.end_list(row.points);
+            return Next::Look;
+        }
+        let in_row = row.depth.saturating_add(1) == depth;
+        let looks = row.looks.saturating_add(u32::from(in_row));
+        self.push(Row { looks, ..row });
+        if in_row && looks.is_power_of_two() {
+            Next::LookInRow
+        } else {
+            Next::Look
+        }
+    }
+
+    // The next point of a row, for the last of so many waiting points, or a look where there is none.
+    fn next_of(&mut self, row: Row, depth: usize, marks: &[bool]) -> Next
+        ensures { AsksUnmarked marks.now result }
+    {
+        let Some(found) = self.first_of(row.points, marks) else {
+            self.end_list(row.points);
+            return Next::Look;
+        };
+        self.push(Row {
+            points: found.rest,
+            depth,
+            ring: row.ring,
+            looks: row.looks,
+        });
+        Next::Ask(found.point)
+    }
+
+    // The first of some points that has not been asked for.
+    fn first_of(&self, points: Points, marks: &[bool]) -> Option<Found>
+        ensures { IfSome result (λ found. slice_get marks.now found.point ≡ Some false) }
+    {
+        match points {
+            Points::Between(next, end) => first_between(next, end, marks),
+            Points::Listed(start, next) => self.first_listed(start, next, marks),
+        }
+    }
+
+    // The same from a place of the list on.
+    fn first_listed(&self, start: usize, next: usize, marks: &[bool]) -> Option<Found>
+        ensures { IfSome result (λ found. slice_get marks.now found.point ≡ Some false) }
+    {
+        for place in next..self.list.len() {
+            let point = self.list[place];
+            if is_unmarked(point, marks) {
+                let rest = Points::Listed(start, place.saturating_add(1));
+                return Some(Found { point, rest });
+            }
+        }
+        None
+    }
+
+    // Points of a row that is left are listed no more.
+    fn end_list(&mut self, points: Points) {
+        if let Points::Listed(start, _) = points {
+            self.list.truncate(start);
+        }
+    }
+
+    /// A look has found what this point has or to which one it is led. Told is whether bits beside it are to be found with it, so that not each of them is
+    /// looked at.
+    pub fn are_others_due(&mut self, network: &Network, point: u32) -> bool {
+        match network.drives.get(point as usize) {
+            Some(Drive::Value(source) | Drive::Hold(_, source)) => {
+                self.looks.is_due(&network.trees, *source)
+            }
+            Some(Drive::Given | Drive::Flop(_, _) | Drive::Same(_)) | None => false,
+        }
+    }
+
+    // One more row, where there is memory.
+    fn push(&mut self, row: Row) {
+        let _ = self.rows.push(row);
+    }
+}
+
+// The name of many bits in which the point stands that another needs, if all that follows it in that name is needed too.
+fn row_of(network: &Network, point: u32, needed: u32, depth: usize, waits: bool) -> Option<Row> {
+    if !may_begin_row(network, needed) {
+        return None;
+    }
+    let end = end_by_drive(network, point, needed);
+    let next = needed.saturating_add(1);
+    if end.saturating_sub(next) < MANY {
+        return None;
+    }
+    Some(Row {
+        points: Points::Between(next, end),
+        depth,
+        ring: is_ring(network, point, needed, waits),
+        looks: 0,
+    })
+}
+
+// The first of some points that follow one another that has not been asked for.
+fn first_between(next: u32, end: u32, marks: &[bool]) -> Option<Found>
+    ensures { IfSome result (λ found. slice_get marks.now found.point ≡ Some false) }
+{
+    for point in next..end {
+        if is_unmarked(point, marks) {
+            let rest = Points::Between(point.saturating_add(1), end);
+            return Some(Found { point, rest });
+        }
+    }
+    None
+}
+
+/// Whether there is a point of this number and it has not been asked for.
+pub fn is_unmarked(point: u32, marks: &[bool]) -> bool
+    ensures { result ≡ true → slice_get marks.now point ≡ Some false }
+{
+    match marks.get(point as usize) {
+        Some(mark) => !*mark,
+        None => false,
+    }
+}
