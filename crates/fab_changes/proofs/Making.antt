@@ -13,11 +13,12 @@ use Rattle.fab_demand.specs.Asked.{Asked}
 use Rattle.fab_demand.proofs.Lists.{get_other, get_same, get_within}
 use Rattle.fab_changes.specs.declared.changes.Changes.{Changes}
 use Rattle.fab_changes.specs.declared.groups.Group.{Group}
-use Rattle.fab_changes.specs.Changes.{AreChangesOf}
+use Rattle.fab_changes.specs.Changes.{AreChangesOf, AreWaiting}
 use Rattle.fab_changes.specs.Fanout.{IsOnce, Lists, ReadsMore, WatchesTree}
-use Rattle.fab_changes.specs.inner.Grouping.{AreBitGroups, AreTaken, AreWatched, BeginBehind, IsFanoutOf, IsOrderedAt}
+use Rattle.fab_changes.specs.inner.Grouping.{AreBitGroups, ArePlacedBy, AreTaken, AreWatched, BeginBehind, IsFanoutOf, IsOrderedAt}
 use Rattle.fab_changes.specs.inner.Looking.{HasRoom}
 use Rattle.fab_changes.proofs.Right.{groups_by}
+use Rattle.fab_changes.proofs.Noted.{waiting_made}
 use Rattle.fab_changes.proofs.Noting.{tree_more}
 
 -- ---- places
@@ -93,10 +94,11 @@ group_fits network own count groups fit are number group there tree is =
 
 pub changes_made : (network : Network) (own leads : List ℕ) (changes : Changes) → AreOwn own leads → IsOnce own →
     AreTaken network own (length own) changes.taken.items → AreBitGroups network own (length own) changes.groups.items →
+    ArePlacedBy own changes.taken.items (length changes.taken.items) changes.places.items → length changes.waiting.items ≡ 0 →
     IsFanoutOf network own leads changes.groups.items changes.fanout → HasRoom changes.groups.items changes.found.items →
     ((place : ℕ) → place < length own → IsOrderedAt network own changes.fanout.readers.items changes.groups.items place) →
     (asked : Asked) → asked.own ≡ own → asked.leads ≡ leads → AreChangesOf network asked changes
-changes_made network own leads changes are_own once taken bits fanout room ordered asked same_own same_leads = record {
+changes_made network own leads changes are_own once taken bits placed none fanout room ordered asked same_own same_leads = record {
   groups = groups_by network own asked.own leads asked.leads changes.fanout.readers.items changes.fanout.readers.items changes.taken.items changes.taken.items
       changes.groups.items changes.groups.items same_own same_leads refl refl refl
       (record {
@@ -112,6 +114,7 @@ changes_made network own leads changes are_own once taken bits fanout room order
         rises = bits.rises;
         ordered = λ number group there place l reads. ordered place l number group there reads;
       });
+  waiting = subst (λ (xs : List ℕ). AreWaiting xs changes) (sym same_own) (waiting_made own changes placed none);
   long = fanout.long;
   room = room;
   right = λ number group there fresh. absurd (fanout.stale number fresh);

@@ -361,7 +361,7 @@ module _ (network : Network) (old mid new : Asked) (given : List Tern) (lists : 
       (subst (λ (own : List ℕ). (place : ℕ) → place < length own → slice_index own place ≡ point → TakesGiven (drive_at network own place))
       (sym have.points.own) each)
 
-  has_given : (place : ℕ) → place < length old.own → TakesGiven (drive_at network old.own place) →
+  pub has_given : (place : ℕ) → place < length old.own → TakesGiven (drive_at network old.own place) →
       kept_tern new.terns (slice_index old.own place) ≡ kept_tern given (slice_index old.own place)
   has_given place l is =
       let point = slice_index old.own place in

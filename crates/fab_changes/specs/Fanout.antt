@@ -1,5 +1,5 @@
 -- Who reads which points.
-use Rattle.std.specs.Prelude.{◌≡◌, ◌≢◌, ℕ, ◌+◌, ◌<◌, ◌≤◌, Bool, true, false, List, Some, Vec, length, slice_get, slice_index}
+use Rattle.std.specs.Prelude.{◌≡◌, ◌≢◌, ℕ, ◌+◌, ◌<◌, ◌≤◌, Bool, false, List, Some, Vec, length, slice_get, slice_index}
 use Rattle.std.specs.Global.{Global}
 use Rattle.fab_ternary.specs.declared.Tern.{Tern}
 use Rattle.fab_compiled.specs.declared.tree.Tree.{Tree}
@@ -7,6 +7,7 @@ use Rattle.fab_compiled.specs.Trees.{EachPlace}
 use Rattle.fab_network.specs.Passes.{kept_tern, AreOwn, IsListed}
 use Rattle.fab_changes.specs.declared.fanout.Fanout.{Fanout}
 use Rattle.fab_changes.specs.declared.places.Places.{Places}
+use Rattle.fab_changes.specs.Flags.{IsNextSet}
 
 -- no point stands twice among those that stand for themselves
 abbrev pub IsOnce : (own : List ℕ) → Type 0
@@ -58,11 +59,8 @@ abbrev pub AreFresh : (stale : List Bool) → (from end : ℕ) → Type 0
 AreFresh stale from end = (reader : ℕ) → from ≤ reader → reader < end → IsFresh stale reader
 
 -- the first stale reader from a number on
-pub record IsNextStale (flags : List Bool) (from reader : ℕ) : Type 0 where
-  pub low : from ≤ reader
-  pub within : reader < length flags
-  pub stale : slice_get flags reader ≡ Some true
-  pub passed : AreFresh flags from reader
+abbrev pub IsNextStale : (stale : List Bool) → (from reader : ℕ) → Type 0
+IsNextStale = IsNextSet
 
 -- Values of points have changed from old to new, and readers of those that differ are stale.
 pub record HasTouched (own : List ℕ) (old new : List Tern) (before after : Fanout) : Type 0 where

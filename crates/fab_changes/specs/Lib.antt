@@ -1,3 +1,4 @@
+pub mod Flags
 pub mod Fanout
 pub mod Changes
 pub mod inner

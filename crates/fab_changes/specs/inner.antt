@@ -1,4 +1,3 @@
 -- What only contracts inside the crate cite: how its code keeps and counts. No call that it hands on rests on these files.
-pub mod Flags
 pub mod Grouping
 pub mod Looking

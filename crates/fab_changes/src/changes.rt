@@ -1,13 +1,13 @@
 //! Values of points that stand for themselves, looked at again where something has changed that they read.
 
-ghost use Rattle.std.specs.Prelude.{◌≡◌, ◌+◌, ◌<◌, ◌^◌, ℕ, length, IfSome};
+ghost use Rattle.std.specs.Prelude.{◌≡◌, ◌⊎◌, ◌+◌, ◌<◌, ◌^◌, ℕ, true, length, IfSome};
 ghost use Rattle.fab_network.specs.Network.{AreFit};
 ghost use Rattle.fab_network.specs.Passes.{AreOwn, IsListed};
 ghost use Rattle.fab_demand.specs.Asked.{Asked, DiffersInOwn};
 ghost use Rattle.fab_demand.specs.Demand.{ShowsLeast};
 ghost use Rattle.fab_changes.specs.Changes.{AreChangesOf, AreGroups, AreWaiting, HasGiven, HasKept, WaitsAt};
 ghost use Rattle.fab_changes.specs.Fanout.{ArePlaces, HasTouched, IsFresh, IsOnce};
-ghost use Rattle.fab_changes.specs.inner.Looking.{AreRightFrom, AreSameGroups, HasRoom, HasWritten, HaveTaken, IsTaken};
+ghost use Rattle.fab_changes.specs.inner.Looking.{AreRightFrom, AreSameGroups, HasRoom, HasWritten, HaveTaken, IsSameWaiting};
 
 use crate::fanout::Fanout;
 use crate::groups::{Group, are_ordered, fanout_of, groups_of, longest, places_of, taken_of};
@@ -92,11 +92,9 @@ impl Changes {
         ensures kept { (reader : ℕ) → IsFresh watches.new.stale reader → HasKept demand.old demand.new watches.old reader }
     {
         self.take_waiting(given, demand, watches);
-        let mut from = 0;
-        while let Some(number) = self.fanout.next_stale(from) {
-            self.settle_group(network, number, demand, watches);
-            from = number + 1;
-        }
+        self.waiting.clear();
+        self.all_wait = false;
+        self.settle_groups(network, demand, watches);
     }
 
     // The inputs and flip-flops that wait take what is given to them.
@@ -107,7 +105,7 @@ impl Changes {
         requires waiting { AreWaiting demand.old.own self.old }
         requires has { HasGiven demand.old.terns given.now self.old }
         ensures taken { HaveTaken self.old.taken.items (length self.old.taken.items) given.now demand.old demand.new }
-        ensures same { IsTaken self.old self.new }
+        ensures same { self.new ≡ record (self.old) { fanout = self.new.fanout } }
         ensures fanout { HasTouched demand.old.own demand.old.terns demand.new.terns self.old.fanout self.new.fanout }
         ensures watches { HasTouched demand.old.own demand.old.terns demand.new.terns watches.old watches.new }
     {
@@ -116,8 +114,6 @@ impl Changes {
         } else {
             take_given(&self.waiting, given, demand, &mut self.fanout, watches);
         }
-        self.waiting.clear();
-        self.all_wait = false;
     }
 
     /// Another value is given to a point. If it takes what is given to it, it does so at the next `settle`.
@@ -126,10 +122,26 @@ impl Changes {
         ensures waits { WaitsAt self.new point }
         ensures more { (other : ℕ) → WaitsAt self.old other → WaitsAt self.new other }
     {
-        if let Some(behind) = self.places.get(point).copied() {
-            if behind > 0 && self.waiting.push(behind - 1).is_err() {
-                self.all_wait = true;
-            }
+        if point >= self.places.len() {
+            return;
+        }
+        let behind = self.places[point];
+        if behind > 0 {
+            self.wait(behind - 1);
+        }
+    }
+
+    // The input or flip-flop at a place waits.
+    fn wait(&mut self, place: u32)
+        ensures same { self.new ≡ record (self.old) { waiting = self.new.waiting; all_wait = self.new.all_wait } }
+        ensures all { self.old.all_wait ≡ true → self.new.all_wait ≡ true }
+        ensures waits { (self.new.all_wait ≡ true) ⊎ IsListed self.new.waiting.items place }
+        ensures more { (other : ℕ) → IsListed self.old.waiting.items other → IsListed self.new.waiting.items other }
+        ensures among { (other : ℕ) → IsListed self.new.waiting.items other → IsListed self.old.waiting.items other ⊎ (other ≡ place) }
+    {
+        match self.waiting.push(place) {
+            Ok(()) => {}
+            Err(_) => self.all_wait = true,
         }
     }
 
@@ -145,7 +157,28 @@ impl Changes {
         }
     }
 
-    // A group is looked at if it is stale.
+    // Stale groups are looked at, each behind those that it reads.
+    fn settle_groups(&mut self, network: &Network, demand: &mut Demand, watches: &mut Fanout)
+        requires fit { AreFit network.now.trees.items network.now.drives.items }
+        requires points { length network.now.drives.items ≡ length demand.old.leads }
+        requires groups { AreGroups network.now demand.old.own demand.old.leads self.old.fanout.readers.items self.old.taken.items self.old.groups.items }
+        requires long { length self.old.fanout.stale ≡ length self.old.groups.items }
+        requires room { HasRoom self.old.groups.items self.old.found.items }
+        requires right { AreRightFrom network.now demand.old self.old 0 }
+        ensures same { AreSameGroups self.old self.new }
+        ensures waits { IsSameWaiting self.old self.new }
+        ensures right { AreRightFrom network.now demand.new self.new (length self.old.groups.items) }
+        ensures written { HasWritten network.now demand.old demand.new }
+        ensures watches { HasTouched demand.old.own demand.old.terns demand.new.terns watches.old watches.new }
+    {
+        let mut from = 0;
+        while let Some(number) = self.fanout.next_stale(from) {
+            self.settle_group(network, number, demand, watches);
+            from = number + 1;
+        }
+    }
+
+    // A group is looked at.
     fn settle_group(
         &mut self,
         network: &Network,
@@ -161,13 +194,11 @@ impl Changes {
         requires room { HasRoom self.old.groups.items self.old.found.items }
         requires right { AreRightFrom network.now demand.old self.old number }
         ensures same { AreSameGroups self.old self.new }
+        ensures waits { IsSameWaiting self.old self.new }
         ensures right { AreRightFrom network.now demand.new self.new (number + 1) }
         ensures written { HasWritten network.now demand.old demand.new }
         ensures watches { HasTouched demand.old.own demand.old.terns demand.new.terns watches.old watches.new }
     {
-        if !self.fanout.is_stale(number) {
-            return;
-        }
         self.fanout.set_fresh(number);
         let group = self.groups[number];
         find_values(network, group, demand, &mut self.found);

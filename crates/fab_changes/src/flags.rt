@@ -1,7 +1,7 @@
 //! Flags of which few are set.
 
 ghost use Rattle.std.specs.Prelude.{◌≡◌, ◌+◌, ◌*◌, ◌/◌, ◌^◌, ◌<◌, ◌≤◌, ℕ, true, false, length, replicate, slice_get, slice_set, IfSome, MatchOption, Some};
-ghost use Rattle.fab_changes.specs.Fanout.{AreFresh, IsFresh, IsNextStale};
+ghost use Rattle.fab_changes.specs.Flags.{AreUnset, IsNextSet, IsUnset};
 
 use std::alloc::Global;
 use std::marker::Model;
@@ -20,8 +20,7 @@ pub struct Flags {
 
 impl Model for Flags {
     ghost use Rattle.std.specs.Prelude.{Bool, List};
-
-    ghost use Rattle.fab_changes.specs.inner.Flags.{AreBlocks};
+    ghost use Rattle.fab_changes.specs.Flags.{AreBlocks};
 
     ghost Value = { List Bool };
 
@@ -76,7 +75,7 @@ impl Flags {
 
     /// The first flag from a number on that is set.
     pub fn next_set(&self, from: usize) -> Option<usize>
-        ensures { MatchOption result (AreFresh self.now from (length self.now)) (IsNextStale self.now from) }
+        ensures { MatchOption result (AreUnset self.now from (length self.now)) (IsNextSet self.now from) }
     {
         let mut number = from;
         while number < self.flags.len() {
@@ -94,7 +93,7 @@ fn behind(number: usize, blocks: &[bool]) -> usize
     requires within { number / 32 < length blocks.now }
     requires small { number + 32 < 2 ^ 64 }
     ensures later { number < result }
-    ensures passed { (other : ℕ) → number < other → other < result → IsFresh blocks.now (other / 32) }
+    ensures passed { (other : ℕ) → number < other → other < result → IsUnset blocks.now (other / 32) }
 {
     let block = number / BLOCK;
     if blocks[block] {
@@ -107,7 +106,7 @@ fn behind(number: usize, blocks: &[bool]) -> usize
 // Whether a block has a flag that is set.
 fn has_set(flags: &[bool], block: usize) -> bool
     requires within { 32 * block < length flags.now }
-    ensures { result ≡ false → (number : ℕ) → number / 32 ≡ block → number < length flags.now → IsFresh flags.now number }
+    ensures { result ≡ false → (number : ℕ) → number / 32 ≡ block → number < length flags.now → IsUnset flags.now number }
 {
     let begin = block * BLOCK;
     let end = flags.len().min(begin + BLOCK);

@@ -54,7 +54,8 @@ pub(crate) fn places_of(alloc: Global, places: &Places, taken: &[u32]) -> Option
     let mut by_point = vec![in alloc; 0; places.leads.len()].ok()?;
     for place in taken {
         let point = places.own[*place as usize] as usize;
-        by_point[point] = place.checked_add(1)?;
+        let behind = place.checked_add(1)?;
+        by_point[point] = behind;
     }
     Some(by_point)
 }

@@ -1,5 +1,5 @@
 -- What looks at groups do.
-use Rattle.std.specs.Prelude.{◌≡◌, ◌≢◌, ℕ, ◌+◌, ◌-◌, ◌<◌, ◌≤◌, false, List, [], Option, None, Some, length, slice_get, slice_index}
+use Rattle.std.specs.Prelude.{◌≡◌, ◌≢◌, ℕ, ◌+◌, ◌-◌, ◌<◌, ◌≤◌, List, Option, None, Some, length, slice_get, slice_index}
 use Rattle.fab_systems_laws.specs.Ternary.{unknown}
 use Rattle.fab_systems_laws.specs.Ternary.{Tern as PlainTern}
 use Rattle.fab_ternary.specs.declared.Tern.{Tern}
@@ -71,13 +71,15 @@ pub record HasWritten (network : Network) (old new : Asked) : Type 0 where
 -- Nothing differs but which groups are stale, and what was found last.
 pub record AreSameGroups (old new : Changes) : Type 0 where
   pub taken : new.taken.items ≡ old.taken.items
-  pub places : new.places.items ≡ old.places.items
-  pub waiting : new.waiting.items ≡ old.waiting.items
-  pub some : new.all_wait ≡ old.all_wait
   pub groups : new.groups.items ≡ old.groups.items
   pub lists : new.fanout.readers.items ≡ old.fanout.readers.items
   pub long : length new.fanout.stale ≡ length old.fanout.stale
   pub room : length new.found.items ≡ length old.found.items
+
+-- What waits stays so.
+pub record IsSameWaiting (old new : Changes) : Type 0 where
+  pub places : new.places.items ≡ old.places.items
+  pub waiting : new.waiting.items ≡ old.waiting.items
 
 -- there is room for each group
 abbrev pub HasRoom : List Group → (found : List Tern) → Type 0
@@ -88,12 +90,3 @@ pub record AreRightFrom (network : Network) (asked : Asked) (changes : Changes) 
   pub done : (number : ℕ) (group : Group) → number < count → slice_get changes.groups.items number ≡ Some group → IsRightGroup network asked group
   pub rest : (number : ℕ) (group : Group) → slice_get changes.groups.items number ≡ Some group → IsFresh changes.fanout.stale number →
       IsRightGroup network asked group
-
--- All inputs and flip-flops have been taken, and none waits. The rest is as it was but which groups are stale.
-pub record IsTaken (old new : Changes) : Type 0 where
-  pub taken : new.taken.items ≡ old.taken.items
-  pub places : new.places.items ≡ old.places.items
-  pub none : new.waiting.items ≡ []
-  pub some : new.all_wait ≡ false
-  pub groups : new.groups.items ≡ old.groups.items
-  pub found : new.found.items ≡ old.found.items
