@@ -14,7 +14,7 @@ use crate::groups::{Group, are_ordered, fanout_of, groups_of, longest, places_of
 use crate::looking::{find_values, take_given, take_values};
 use crate::places::Places;
 use fab_demand::Demand;
-use fab_network::Network;
+use fab_network::{Network, Shared};
 use fab_ternary::Tern;
 use std::alloc::Global;
 
@@ -35,6 +35,8 @@ pub struct Changes {
     pub fanout: Fanout,
     /// Room for the values of a group.
     pub found: Vec<Tern>,
+    /// Room for the value of the expression of a group.
+    pub shared: Shared,
 }
 
 impl Changes {
@@ -65,6 +67,7 @@ impl Changes {
             groups,
             fanout,
             found,
+            shared: Shared::new(alloc),
         })
     }
 
@@ -201,7 +204,7 @@ impl Changes {
     {
         self.fanout.set_fresh(number);
         let group = self.groups[number];
-        find_values(network, group, demand, &mut self.found);
+        find_values(network, group, demand, &mut self.shared, &mut self.found);
         take_values(group, &self.found, demand, &mut self.fanout, watches);
     }
 }

@@ -38,8 +38,14 @@ pub(crate) fn take_given(
     }
 }
 
-// Finds the values of a group.
-pub(crate) fn find_values(network: &Network, group: Group, demand: &Demand, found: &mut [Tern])
+// Finds the values of a group. What was kept of another expression, or before points have changed, is forgotten.
+pub(crate) fn find_values(
+    network: &Network,
+    group: Group,
+    demand: &Demand,
+    shared: &mut Shared,
+    found: &mut [Tern],
+)
     requires fit { AreFit network.now.trees.items network.now.drives.items }
     requires points { length network.now.drives.items ≡ length demand.now.leads }
     requires ends { group.end ≤ length demand.now.own }
@@ -49,10 +55,10 @@ pub(crate) fn find_values(network: &Network, group: Group, demand: &Demand, foun
 {
     let view = demand.view();
     let own = demand.own();
-    let mut shared = Shared::new(*network.trees.allocator());
+    shared.forget();
     for place in group.begin..group.end {
         let point = own[place as usize] as usize;
-        found[(place - group.begin) as usize] = value_at(network, point, &mut shared, &view);
+        found[(place - group.begin) as usize] = value_at(network, point, shared, &view);
     }
 }
 

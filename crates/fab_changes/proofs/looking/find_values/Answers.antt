@@ -8,7 +8,7 @@ use Rattle.fab_changes.proofs.looking.find_values.Goals as goal
 pub loop-place-init : goal.loop-place-init
 loop-place-init c = record {
   found = found_none c.args.network.now c.args.demand.now c.args.group c.args.found.now;
-  shared = c.new-shared.ensures c.args.network.now.trees.items (length c.view-view.result.leads.now)
+  shared = c.forget.ensures c.args.network.now.trees.items (length c.view-view.result.leads.now)
       (seen c.view-view.result.terns.now c.view-view.result.leads.now);
 }
 

@@ -18,7 +18,7 @@ returns-clause-changes c =
     let fanout = c.in_ok-fanout.fanout in
     let found = c.in_ok-found.found in
     let made : Changes =
-    record { taken = c.in_ok-taken.taken; places = c.in_ok-by_point.by_point; waiting = c.new.result; all_wait = true; groups = c.in_ok-groups.groups; fanout = fanout; found = found } in
+    record { taken = c.in_ok-taken.taken; places = c.in_ok-by_point.by_point; waiting = c.new.result; all_wait = true; groups = c.in_ok-groups.groups; fanout = fanout; found = found; shared = c.new-2.result } in
     let long : length found.items ≡ c.longest.result = search rules in
     let is : c.are_ordered.result ≡ true = search rules in
     changes_made network own leads made c.requires.places.own c.requires.once c.in_ok-taken.ensures c.in_ok-groups.ensures
