@@ -104,8 +104,8 @@ module _ (own leads : List ℕ) (lists : Lists) (number : ℕ) (t u : PointTerns
 -- ---- enables of which points have changed
 
 pub enables_settled : (network : Network) (old new : Asked) (enables : List Enable) (before after : Fanout) → DiffersInOwn old new →
-    after.readers.items ≡ before.readers.items → length after.stale.items ≡ length before.stale.items →
-    ((reader : ℕ) → IsFresh after.stale.items reader → HasKept old new before reader) → AreEnables network old enables before → AreEnables network new enables after
+    after.readers.items ≡ before.readers.items → length after.stale ≡ length before.stale →
+    ((reader : ℕ) → IsFresh after.stale reader → HasKept old new before reader) → AreEnables network old enables before → AreEnables network new enables after
 enables_settled network old new enables before after differs same long kept are = record {
   fit = are.fit;
   long = long ∙ are.long;
@@ -135,11 +135,11 @@ set_long (y ∷ xs) (suc place) x = ap suc (set_long xs place x)
 
 pub enables_fresh : (network : Network) (demand : Asked) (enables : List Enable) (before after : Fanout) (number : ℕ) (enable : Enable) →
     slice_get enables number ≡ Some enable → enable_tern network.trees.items (seen demand.terns demand.leads) enable ≡ no →
-    after.readers.items ≡ before.readers.items → after.stale.items ≡ slice_set before.stale.items number false →
+    after.readers.items ≡ before.readers.items → after.stale ≡ slice_set before.stale number false →
     AreEnables network demand enables before → AreEnables network demand enables after
 enables_fresh network demand enables before after number enable at zero_now same stale are = record {
   fit = are.fit;
-  long = ap length stale ∙ set_long before.stale.items number false ∙ are.long;
+  long = ap length stale ∙ set_long before.stale number false ∙ are.long;
   watched = subst (AreWatched network demand.own demand.leads enables) (sym same) are.watched;
   closed = λ k other there fresh.
       elim (cases_eq k number) [
@@ -149,7 +149,7 @@ enables_fresh network demand enables before after number enable at zero_now same
             subst (λ (found : Enable). enable_tern network.trees.items (seen demand.terns demand.leads) found ≡ no) is zero_now
         | inr apart ↦
             are.closed k other there
-            (sym (other_get before.stale.items number false k apart) ∙ ap (λ (stales : List Bool). slice_get stales k) (sym stale) ∙ fresh)
+            (sym (other_get before.stale number false k apart) ∙ ap (λ (stales : List Bool). slice_get stales k) (sym stale) ∙ fresh)
       ];
 }
 
@@ -160,7 +160,7 @@ all_stale zero k e = cc
 all_stale (suc count) zero e = cc
 all_stale (suc count) (suc k) e = all_stale count k e
 
-pub newly_stale : (watches : Fanout) (count : ℕ) → watches.stale.items ≡ replicate count true → (number : ℕ) → IsFresh watches.stale.items number → ⊥
+pub newly_stale : (watches : Fanout) (count : ℕ) → watches.stale ≡ replicate count true → (number : ℕ) → IsFresh watches.stale number → ⊥
 newly_stale watches count stale number fresh = all_stale count number (ap (λ (stales : List Bool). slice_get stales number) (sym stale) ∙ fresh)
 
 pub enables_new : (network : Network) (demand : Asked) (enables : List Enable) (watches : Fanout) (own leads : List ℕ) → own ≡ demand.own → leads ≡ demand.leads →

@@ -15,18 +15,18 @@ use Rattle.fab_compiled.proofs.Bits.{first_at}
 use Rattle.fab_network.specs.declared.network.Clock.TheVariants.{Loader}
 use Rattle.fab_network.specs.declared.network.Network.{Network}
 use Rattle.fab_network.specs.declared.network.Source.{Source}
-use Rattle.fab_network.specs.Network.{source_tern, tern_in}
+use Rattle.fab_network.specs.Network.{source_tern, tern_in, AreBeside}
 use Rattle.fab_network.specs.Passes.{kept_tern}
 use Rattle.fab_demand.specs.Asked.{Asked, DiffersInOwn}
 use Rattle.fab_demand.specs.Demand.{Shows}
 use Rattle.fab_phases.specs.Lists.{Each, HasOne}
 use Rattle.fab_phases.specs.Loading.{AreFlops, IsLoadedFlop}
 use Rattle.fab_phases.specs.Words.{IsLeft}
-use Rattle.fab_phases.specs.inner.Enables.{enable_tern, test_tern, AreAmong, AreGroups, AreHolding, AreInGroups, HasBack, Holds, IsAlike, IsGroupOf, IsHolding, IsInGroups, IsLedBack, LeavesFlopsOf, LeavesGroup, LeavesGroups}
+use Rattle.fab_phases.specs.inner.Enables.{enable_tern, test_tern, AreAmong, AreFlopGroups, AreHolding, AreInFlopGroups, HasBack, Holds, IsFlopGroupOf, IsHolding, IsInFlopGroups, IsLedBack, LeavesFlopsOf, LeavesGroup, LeavesGroups}
 use Rattle.fab_phases.specs.inner.Ticks.{AreFitFlops, AreOnWay, IsFitFlop, IsSet, LeavesFlops, LeavesPoints, Tick}
 use Rattle.fab_phases.specs.declared.enables.Enable.{Enable}
 use Rattle.fab_phases.specs.declared.enables.Enable.TheVariants.{Always, Test}
-use Rattle.fab_phases.specs.declared.groups.Group.{Group}
+use Rattle.fab_phases.specs.declared.flop_groups.FlopGroup.{FlopGroup}
 use Rattle.fab_phases.specs.declared.loading.LoadedFlop.{LoadedFlop}
 use Rattle.fab_phases.proofs.Enabling.{yes≢no}
 use Rattle.fab_phases.proofs.Gathered.{below}
@@ -78,21 +78,21 @@ choice_holds network asked flop p q r test yes_branch no_branch at has t closed 
     }
 
 -- bits of one expression have one test
-pub alike_holds : (network : Network) (asked : Asked) (next : Source) (flop : LoadedFlop) → IsAlike flop.next next → Holds network asked (Test flop.next) flop →
+pub beside_holds : (network : Network) (asked : Asked) (next : Source) (flop : LoadedFlop) → AreBeside flop.next next → Holds network asked (Test flop.next) flop →
     Holds network asked (Test next) flop
-alike_holds network asked next flop alike holds t closed =
+beside_holds network asked next flop beside holds t closed =
     holds t
-    (ap (λ (tree : ℕ). test_tern (slice_get network.trees.items tree) t flop.next.first) alike.0
-    ∙ ap (λ (first : ℕ). test_tern (slice_get network.trees.items next.tree) t first) alike.1 ∙ closed)
+    (ap (λ (tree : ℕ). test_tern (slice_get network.trees.items tree) t flop.next.first) beside.tree
+    ∙ ap (λ (first : ℕ). test_tern (slice_get network.trees.items next.tree) t first) beside.first ∙ closed)
 
 pub always_holds : (network : Network) (asked : Asked) (flop : LoadedFlop) → Holds network asked Always flop
 always_holds network asked flop t closed = absurd (yes≢no closed)
 
 -- one flip-flop more
-pub alike_more : (next : Source) (flops : List LoadedFlop) (count : ℕ) (here : LoadedFlop) → slice_get flops count ≡ Some here → IsAlike here.next next →
-    ((place : ℕ) (flop : LoadedFlop) → place < count → slice_get flops place ≡ Some flop → IsAlike flop.next next) →
-    (place : ℕ) (flop : LoadedFlop) → place < count + 1 → slice_get flops place ≡ Some flop → IsAlike flop.next next
-alike_more next flops count here at alike before = each_below_more flops count here (λ (flop : LoadedFlop). IsAlike flop.next next) at alike before
+pub beside_more : (next : Source) (flops : List LoadedFlop) (count : ℕ) (here : LoadedFlop) → slice_get flops count ≡ Some here → AreBeside here.next next →
+    ((place : ℕ) (flop : LoadedFlop) → place < count → slice_get flops place ≡ Some flop → AreBeside flop.next next) →
+    (place : ℕ) (flop : LoadedFlop) → place < count + 1 → slice_get flops place ≡ Some flop → AreBeside flop.next next
+beside_more next flops count here at beside before = each_below_more flops count here (λ (flop : LoadedFlop). AreBeside flop.next next) at beside before
 
 pub held_more : (network : Network) (asked : Asked) (next : Source) (flops : List LoadedFlop) (count : ℕ) (here : LoadedFlop) → slice_get flops count ≡ Some here →
     Holds network asked (Test next) here →
@@ -120,7 +120,7 @@ led_same old new back point differs led = record {
   led = ap (λ (leads : List ℕ). slice_get leads back) differs.leads ∙ led.led;
 }
 
-pub holding_same : (network : Network) (old new : Asked) (groups : List Group) → DiffersInOwn old new → AreHolding network old groups → AreHolding network new groups
+pub holding_same : (network : Network) (old new : Asked) (groups : List FlopGroup) → DiffersInOwn old new → AreHolding network old groups → AreHolding network new groups
 holding_same network old new groups differs are place group at =
     let is = are place group at in
     record {
@@ -133,13 +133,13 @@ holding_same network old new groups differs are place group at =
 
 -- ---- flip-flops in groups
 
-pub record AreGroupsSoFar (network : Network) (asked : Asked) (all rest : List LoadedFlop) (groups : List Group) : Type 0 where
+pub record AreFlopGroupsSoFar (network : Network) (asked : Asked) (all rest : List LoadedFlop) (groups : List FlopGroup) : Type 0 where
   pub front : List LoadedFlop
   pub parts : all ≡ front ++ rest
-  pub in_groups : AreInGroups groups front
-  pub are : AreGroups network asked all groups
+  pub in_groups : AreInFlopGroups groups front
+  pub are : AreFlopGroups network asked all groups
 
-pub groups_none : (network : Network) (asked : Asked) (all : List LoadedFlop) → AreGroupsSoFar network asked all all []
+pub groups_none : (network : Network) (asked : Asked) (all : List LoadedFlop) → AreFlopGroupsSoFar network asked all all []
 groups_none network asked all = record {
   front = [];
   parts = refl;
@@ -152,23 +152,23 @@ middle_among : (before front after : List LoadedFlop) → AreAmong front (before
 middle_among before front after place flop e =
     (length before + place, flop, get_left (before ++ front) after (length before + place) flop (get_right before front place flop e), refl)
 
-pub groups_more : (network : Network) (asked : Asked) (all rest front after : List LoadedFlop) (groups : List Group) (group : Group) → AreFitFlops network all →
-    AreGroupsSoFar network asked all rest groups → rest ≡ front ++ after → IsGroupOf network asked front group → AreGroupsSoFar network asked all after (groups ++ group ∷ [])
+pub groups_more : (network : Network) (asked : Asked) (all rest front after : List LoadedFlop) (groups : List FlopGroup) (group : FlopGroup) → AreFitFlops network all →
+    AreFlopGroupsSoFar network asked all rest groups → rest ≡ front ++ after → IsFlopGroupOf network asked front group → AreFlopGroupsSoFar network asked all after (groups ++ group ∷ [])
 groups_more network asked all rest front after groups group fits so_far parts is =
     let whole : all ≡ so_far.front ++ front ++ after =
     so_far.parts ∙ ap (λ (xs : List LoadedFlop). so_far.front ++ xs) parts ∙ sym (append_assoc so_far.front front after) in
     let among : AreAmong front all = subst (λ (xs : List LoadedFlop). AreAmong front xs) (sym whole) (middle_among so_far.front front after) in
     let fit : AreFitFlops network front =
     λ k flop e. let one = among k flop e in subst (IsFitFlop network) one.3 (fits one.0 one.1 one.2) in
-    let here : AreInGroups (groups ++ group ∷ []) front =
-    λ k flop e. one_last (λ (g : Group). HasOne g.flops.items (λ (f : LoadedFlop). f.point ≡ flop.point)) groups group
+    let here : AreInFlopGroups (groups ++ group ∷ []) front =
+    λ k flop e. one_last (λ (g : FlopGroup). HasOne g.flops.items (λ (f : LoadedFlop). f.point ≡ flop.point)) groups group
     (k, flop, ap (λ (xs : List LoadedFlop). slice_get xs k) is.is ∙ e, refl) in
-    let before : AreInGroups (groups ++ group ∷ []) so_far.front =
-    λ k flop e. one_left (λ (g : Group). HasOne g.flops.items (λ (f : LoadedFlop). f.point ≡ flop.point)) groups (group ∷ []) (so_far.in_groups k flop e) in
+    let before : AreInFlopGroups (groups ++ group ∷ []) so_far.front =
+    λ k flop e. one_left (λ (g : FlopGroup). HasOne g.flops.items (λ (f : LoadedFlop). f.point ≡ flop.point)) groups (group ∷ []) (so_far.in_groups k flop e) in
     record {
       front = so_far.front ++ front;
       parts = whole;
-      in_groups = each_both (λ (flop : LoadedFlop). IsInGroups (groups ++ group ∷ []) flop.point) so_far.front front before here;
+      in_groups = each_both (λ (flop : LoadedFlop). IsInFlopGroups (groups ++ group ∷ []) flop.point) so_far.front front before here;
       are = record {
         holding = each_more (IsHolding network asked) groups group so_far.are.holding
             (record {
@@ -176,16 +176,16 @@ groups_more network asked all rest front after groups group fits so_far parts is
               flops = subst (AreFitFlops network) (sym is.is) fit;
               holds = subst (λ (xs : List LoadedFlop). Each xs (Holds network asked group.enable)) (sym is.is) is.holds;
             });
-        among = each_more (λ (g : Group). AreAmong g.flops.items all) groups group so_far.are.among
+        among = each_more (λ (g : FlopGroup). AreAmong g.flops.items all) groups group so_far.are.among
             (subst (λ (xs : List LoadedFlop). AreAmong xs all) (sym is.is) among);
       };
     }
 
-pub groups_all : (network : Network) (asked : Asked) (all : List LoadedFlop) (groups : List Group) → AreGroupsSoFar network asked all [] groups → AreInGroups groups all
-groups_all network asked all groups so_far = subst (AreInGroups groups) (sym (so_far.parts ∙ append-nil so_far.front)) so_far.in_groups
+pub groups_all : (network : Network) (asked : Asked) (all : List LoadedFlop) (groups : List FlopGroup) → AreFlopGroupsSoFar network asked all [] groups → AreInFlopGroups groups all
+groups_all network asked all groups so_far = subst (AreInFlopGroups groups) (sym (so_far.parts ∙ append-nil so_far.front)) so_far.in_groups
 
 -- what is left is fit
-pub rest_fit : (network : Network) (asked : Asked) (all rest : List LoadedFlop) (groups : List Group) → AreGroupsSoFar network asked all rest groups →
+pub rest_fit : (network : Network) (asked : Asked) (all rest : List LoadedFlop) (groups : List FlopGroup) → AreFlopGroupsSoFar network asked all rest groups →
     AreFitFlops network all → AreFitFlops network rest
 rest_fit network asked all rest groups so_far fits =
     each_right (IsFitFlop network) so_far.front rest (subst (AreFitFlops network) so_far.parts fits)
@@ -210,7 +210,7 @@ flop_held network tick demand enable flop held shows differs is holds closed way
       | inr set ↦ set.left
     ]
 
-pub group_closed : (network : Network) (demand : Asked) (group : Group) (old : List Tern) → IsHolding network demand group →
+pub group_closed : (network : Network) (demand : Asked) (group : FlopGroup) (old : List Tern) → IsHolding network demand group →
     enable_tern network.trees.items (seen demand.terns demand.leads) group.enable ≡ no → LeavesGroup network group demand old old
 group_closed network demand group old holding closed tick shows differs are way = record {
   on_way = way;
@@ -221,47 +221,47 @@ group_closed network demand group old holding closed tick shows differs are way 
       subst (λ (q : ℕ). IsLeft network Loader tick.t q (kept_tern old q)) one.3 left;
 }
 
-pub group_opened : (network : Network) (demand : Asked) (group : Group) (flops : List LoadedFlop) (old new : List Tern) → flops ≡ group.flops.items →
+pub group_opened : (network : Network) (demand : Asked) (group : FlopGroup) (flops : List LoadedFlop) (old new : List Tern) → flops ≡ group.flops.items →
     LeavesFlops network flops demand old new → LeavesGroup network group demand old new
 group_opened network demand group flops old new same leaves tick shows differs are way =
     subst (λ (fs : List LoadedFlop). LeavesPoints network tick (λ point. HasOne fs (λ flop. flop.point ≡ point)) old new) same
     (leaves tick shows (subst (AreFlops network tick.asked tick.loads) (sym same) are) way)
 
-abbrev pub GroupsSoFar : (network : Network) → List Group → (demand : Asked) → (count : ℕ) → (old now : List Tern) → Type 0
+abbrev pub GroupsSoFar : (network : Network) → List FlopGroup → (demand : Asked) → (count : ℕ) → (old now : List Tern) → Type 0
 GroupsSoFar network groups demand count old now =
     (tick : Tick network) → Shows network tick.asked demand tick.t → DiffersInOwn tick.asked demand →
-    Each groups (λ (group : Group). AreFlops network tick.asked tick.loads group.flops.items) → AreOnWay network tick old →
-    LeavesPoints network tick (λ point. HasBelow count groups (λ (group : Group). HasOne group.flops.items (λ (flop : LoadedFlop). flop.point ≡ point))) old now
+    Each groups (λ (group : FlopGroup). AreFlops network tick.asked tick.loads group.flops.items) → AreOnWay network tick old →
+    LeavesPoints network tick (λ point. HasBelow count groups (λ (group : FlopGroup). HasOne group.flops.items (λ (flop : LoadedFlop). flop.point ≡ point))) old now
 
-pub groups_start : (network : Network) (groups : List Group) (demand : Asked) (old : List Tern) → GroupsSoFar network groups demand 0 old old
+pub groups_start : (network : Network) (groups : List FlopGroup) (demand : Asked) (old : List Tern) → GroupsSoFar network groups demand 0 old old
 groups_start network groups demand old tick shows differs are way =
     record { on_way = way; stay = λ point is. is; left = λ point has. absurd (omega (arith, has.2)) }
 
-pub group_step : (network : Network) (groups : List Group) (demand : Asked) (k : ℕ) (old now new : List Tern) (group : Group) → slice_get groups k ≡ Some group →
+pub group_step : (network : Network) (groups : List FlopGroup) (demand : Asked) (k : ℕ) (old now new : List Tern) (group : FlopGroup) → slice_get groups k ≡ Some group →
     LeavesGroup network group demand now new → GroupsSoFar network groups demand k old now → GroupsSoFar network groups demand (k + 1) old new
 group_step network groups demand k old now new group at leaves so_far tick shows differs are way =
     let before = so_far tick shows differs are way in
-    leaves_both network tick (λ point. HasBelow k groups (λ (g : Group). HasOne g.flops.items (λ (flop : LoadedFlop). flop.point ≡ point)))
+    leaves_both network tick (λ point. HasBelow k groups (λ (g : FlopGroup). HasOne g.flops.items (λ (flop : LoadedFlop). flop.point ≡ point)))
     (λ point. HasOne group.flops.items (λ flop. flop.point ≡ point))
-    (λ point. HasBelow (k + 1) groups (λ (g : Group). HasOne g.flops.items (λ (flop : LoadedFlop). flop.point ≡ point))) old now new before
+    (λ point. HasBelow (k + 1) groups (λ (g : FlopGroup). HasOne g.flops.items (λ (flop : LoadedFlop). flop.point ≡ point))) old now new before
     (leaves tick shows differs (are k group at) before.on_way)
-    (λ q has. below_more groups k group (λ (g : Group). HasOne g.flops.items (λ (flop : LoadedFlop). flop.point ≡ q)) at has)
+    (λ q has. below_more groups k group (λ (g : FlopGroup). HasOne g.flops.items (λ (flop : LoadedFlop). flop.point ≡ q)) at has)
 
-pub groups_done : (network : Network) (groups : List Group) (demand : Asked) (k : ℕ) (old now : List Tern) → length groups ≤ k → GroupsSoFar network groups demand k old now →
+pub groups_done : (network : Network) (groups : List FlopGroup) (demand : Asked) (k : ℕ) (old now : List Tern) → length groups ≤ k → GroupsSoFar network groups demand k old now →
     LeavesGroups network groups demand old now
 groups_done network groups demand k old now past so_far tick shows differs are way =
     let leaves = so_far tick shows differs are way in
     record {
       on_way = leaves.on_way;
       stay = leaves.stay;
-      left = λ q one. leaves.left q (below_all groups k (λ (g : Group). HasOne g.flops.items (λ (flop : LoadedFlop). flop.point ≡ q)) past one);
+      left = λ q one. leaves.left q (below_all groups k (λ (g : FlopGroup). HasOne g.flops.items (λ (flop : LoadedFlop). flop.point ≡ q)) past one);
     }
 
 -- all flip-flops stand in groups
-pub groups_leave : (network : Network) (asked demand : Asked) (flops : List LoadedFlop) (groups : List Group) (old new : List Tern) → AreGroups network asked flops groups →
-    AreInGroups groups flops → LeavesGroups network groups demand old new → LeavesFlopsOf network flops demand old new
+pub groups_leave : (network : Network) (asked demand : Asked) (flops : List LoadedFlop) (groups : List FlopGroup) (old new : List Tern) → AreFlopGroups network asked flops groups →
+    AreInFlopGroups groups flops → LeavesGroups network groups demand old new → LeavesFlopsOf network flops demand old new
 groups_leave network asked demand flops groups old new are all leaves tick shows differs loaded way =
-    let each : Each groups (λ (group : Group). AreFlops network tick.asked tick.loads group.flops.items) =
+    let each : Each groups (λ (group : FlopGroup). AreFlops network tick.asked tick.loads group.flops.items) =
     λ place group at k flop there.
     let one = are.among place group at k flop there in
     subst (IsLoadedFlop network tick.asked tick.loads) one.3 (loaded one.0 one.1 one.2) in
@@ -269,7 +269,7 @@ groups_leave network asked demand flops groups old new are all leaves tick shows
     record {
       on_way = left.on_way;
       stay = left.stay;
-      left = λ q one. left.left q (subst (IsInGroups groups) one.3 (all one.0 one.1 one.2));
+      left = λ q one. left.left q (subst (IsInFlopGroups groups) one.3 (all one.0 one.1 one.2));
     }
 
 -- ---- what is kept from word to word
@@ -279,6 +279,6 @@ pub flops_leave : (network : Network) (flops : List LoadedFlop) (demand : Asked)
     LeavesFlopsOf network flops demand old new
 flops_leave network flops demand old new leaves tick shows differs are way = leaves tick shows are way
 
-pub groups_same : (network : Network) (old new : Asked) (flops : List LoadedFlop) (groups : List Group) → DiffersInOwn old new → AreGroups network old flops groups →
-    AreGroups network new flops groups
+pub groups_same : (network : Network) (old new : Asked) (flops : List LoadedFlop) (groups : List FlopGroup) → DiffersInOwn old new → AreFlopGroups network old flops groups →
+    AreFlopGroups network new flops groups
 groups_same network old new flops groups differs are = record { holding = holding_same network old new groups differs are.holding; among = are.among }

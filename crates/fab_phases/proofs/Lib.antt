@@ -7,8 +7,9 @@ pub mod Offering
 pub mod Telling
 pub mod Enabling
 pub mod Grouping
-pub mod Watching
+pub mod Passing
 pub mod Stepping
+pub mod Watching
 pub mod Shifting
 pub mod Chained
 pub mod Running

@@ -1,7 +1,7 @@
 -- What stands in lists, by places.
-use Rattle.std.proofs.Common.{◌≡◌, ◌⊎◌, ℕ, zero, suc, ◌+◌, List, [], ◌∷◌, ◌++◌, length, map, Some, refl, ap, inl, inr, subst, sym, arith}
+use Rattle.std.proofs.Common.{◌≡◌, ◌⊎◌, ℕ, zero, suc, ◌+◌, List, [], ◌∷◌, ◌++◌, length, map, Option, None, Some, refl, ap, inl, inr, subst, sym, arith}
 use Rattle.std.specs.List.{slice_get}
-use Rattle.std.specs.Prelude.{IsPermutation}
+use Rattle.std.specs.Prelude.{IfSome, IsPermutation}
 use Rattle.std.proofs.lemmas.List.Sorted.{Contains-permutation, IsPermutation-sym}
 use Rattle.std.proofs.lemmas.Option.{get_or_from_slice_get, slice_get_read, slice_get_within}
 use Rattle.fab_phases.specs.Lists.{Each, HasOne}
@@ -66,6 +66,12 @@ one_right P xs ys one = (length xs + one.0, one.1, get_right xs ys one.0 one.1 o
 
 pub one_last : {X : Type 0} (P : X → Type 0) (xs : List X) (x : X) → P x → HasOne (xs ++ x ∷ []) P
 one_last P xs x here = one_right P xs (x ∷ []) (0, x, refl, here)
+
+-- ---- an option
+
+pub some_grows : {X : Type 0} (P Q : X → Type 0) → ((x : X) → P x → Q x) → (option : Option X) → IfSome option P → IfSome option Q
+some_grows P Q grows None holds = tt
+some_grows P Q grows (Some x) holds = grows x holds
 
 -- ---- items that are seen by a view
 

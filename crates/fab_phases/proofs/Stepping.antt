@@ -30,7 +30,7 @@ use Rattle.fab_phases.specs.declared.loading.Loading.{Loading}
 -- ---- what is given while a piece is offered
 
 -- a point is among those of the piece, or it is not
-among : (first width point : ℕ) → ((bit : ℕ) × (bit < width) × (point ≡ first + bit)) ⊎ ((point < first) ⊎ (first + width ≤ point))
+pub among : (first width point : ℕ) → ((bit : ℕ) × (bit < width) × (point ≡ first + bit)) ⊎ ((point < first) ⊎ (first + width ≤ point))
 among first width point =
     elim (cases_lt point first) [
       | inl l ↦ inr (inl l)

@@ -15,7 +15,7 @@ use Rattle.fab_network.specs.Passes.{kept_tern}
 use Rattle.fab_network.proofs.Kept.{kept_same, kept_other}
 use Rattle.fab_phases.specs.Loading.{IsLatch, IsLoadedFlop}
 use Rattle.fab_phases.specs.Words.{IsLeft}
-use Rattle.fab_phases.specs.inner.Ticks.{AreOnWay, IsSet, LeavesPoints, Tick}
+use Rattle.fab_phases.specs.inner.Ticks.{AreOnWay, IsSet, LeavesPoints, Tick, WritesOnly}
 use Rattle.fab_phases.specs.declared.loading.LoadedFlop.{LoadedFlop}
 use Rattle.fab_phases.specs.declared.loading.Latch.{Latch}
 
@@ -26,6 +26,25 @@ set_keeps terns point t P less here there other =
     elim (cases_eq other point) [
       | inl e ↦ subst (λ (p : ℕ). P p (kept_tern (slice_set terns point t) p)) (sym e) (subst (P point) (sym (kept_same terns point t less)) here)
       | inr apart ↦ subst (P other) (sym (kept_other terns point t other apart)) (there other apart)
+    ]
+
+-- ---- which points are written
+
+pub writes_more : (Written : ℕ → Type 0) (old now : List Tern) (point : ℕ) (t : Tern) → WritesOnly Written old now → Written point →
+    WritesOnly Written old (slice_set now point t)
+writes_more Written old now point t so_far here other =
+    elim (cases_eq other point) [
+      | inl e ↦ inl (subst Written (sym e) here)
+      | inr apart ↦ elim (so_far other) [ inl written ↦ inl written | inr same ↦ inr (kept_other now point t other apart ∙ same) ]
+    ]
+
+-- two writers one after the other
+pub writes_both : (Written More : ℕ → Type 0) (old now new : List Tern) → WritesOnly Written old now → WritesOnly More now new →
+    ((point : ℕ) → More point → Written point) → WritesOnly Written old new
+writes_both Written More old now new first second all point =
+    elim (second point) [
+      | inl more ↦ inl (all point more)
+      | inr same ↦ elim (first point) [ inl written ↦ inl written | inr before ↦ inr (same ∙ before) ]
     ]
 
 -- ---- one point more

@@ -1,11 +1,11 @@
 //! What lets flip-flops and latches take new values, and when it is looked at again.
 
-ghost use Rattle.std.specs.Prelude.{◌≡◌, ◌<◌, ◌≤◌, ◌^◌, length, slice_get, Some, OnSome};
+ghost use Rattle.std.specs.Prelude.{◌≡◌, ◌<◌, ◌≤◌, ◌^◌, length, slice_get, MatchOption, OnSome, Some};
 ghost use Rattle.fab_ternary.specs.Terns.{plain_tern};
 ghost use Rattle.fab_compiled.specs.Terns.{seen, IsView};
 ghost use Rattle.fab_network.specs.Network.{IsFitSource};
 ghost use Rattle.fab_changes.specs.Fanout.{ArePlaces, ReadsMore};
-ghost use Rattle.fab_phases.specs.inner.Enables.{enable_tern, test_tern, AreEnables, IsEnabled, IsFitEnable, Watches, WatchesTest};
+ghost use Rattle.fab_phases.specs.inner.Enables.{enable_tern, test_tern, AreClosed, AreEnables, IsEnabled, IsFitEnable, IsNextEnabled, Watches, WatchesTest};
 
 use fab_changes::{Fanout, Places};
 use fab_compiled::{Tree, View, eval};
@@ -24,8 +24,38 @@ pub enum Enable {
     Gate(Source),
 }
 
-/// The value of an enable, by its number. It is not looked at where nothing that it reads has changed since it was 0.
-pub fn enabled(
+/// The first enable that is not 0, from a number up to an end, with its value. One is looked at only where something has changed that it reads
+/// since it was 0.
+pub fn next_enabled(
+    network: &Network,
+    enables: &[Enable],
+    from: usize,
+    end: usize,
+    demand: &Demand,
+    watches: &mut Fanout,
+) -> Option<(usize, Tern)>
+    requires points { length network.now.drives.items ≡ length demand.now.leads }
+    requires end { end ≤ length enables.now }
+    requires enables { AreEnables network.now demand.now enables.now watches.old }
+    ensures next { MatchOption result (AreClosed network.now demand.now enables.now from end)
+        (λ found. IsNextEnabled network.now demand.now enables.now from end found.0 found.1) }
+    ensures enables { AreEnables network.now demand.now enables.now watches.new }
+{
+    let mut begin = from;
+    'enables: while let Some(number) = watches.next_stale(begin) {
+        if number >= end {
+            return None;
+        }
+        match look(network, enables, number, demand, watches) {
+            Tern::No => begin = number + 1,
+            value => return Some((number, value)),
+        }
+    }
+    None
+}
+
+// The value of an enable, by its number. Where it is 0, it is passed over until something changes that it reads.
+fn look(
     network: &Network,
     enables: &[Enable],
     number: usize,
@@ -38,9 +68,6 @@ pub fn enabled(
     ensures value { IsEnabled network.now demand.now enables.now number result }
     ensures enables { AreEnables network.now demand.now enables.now watches.new }
 {
-    if !watches.is_stale(number) {
-        return Tern::No;
-    }
     match value_of(network, enables[number], &demand.view()) {
         Tern::No => {
             watches.set_fresh(number);
@@ -91,7 +118,7 @@ pub fn watch(
     requires fit { IsFitEnable network.now enable }
     ensures watched { OnSome result (Watches network.now places.now.own.now places.now.leads.now watches.new.readers.items number enable) }
     ensures more { OnSome result (ReadsMore watches.old.readers.items watches.new.readers.items) }
-    ensures stale { watches.new.stale.items ≡ watches.old.stale.items }
+    ensures stale { watches.new.stale ≡ watches.old.stale }
 {
     match enable {
         Enable::Always => Some(()),
@@ -116,7 +143,7 @@ fn watch_test(
     ensures watched { OnSome result
         (WatchesTest places.now.own.now places.now.leads.now watches.new.readers.items number source.first (slice_get trees.now source.tree)) }
     ensures more { OnSome result (ReadsMore watches.old.readers.items watches.new.readers.items) }
-    ensures stale { watches.new.stale.items ≡ watches.old.stale.items }
+    ensures stale { watches.new.stale ≡ watches.old.stale }
 {
     match trees.get(source.tree as usize) {
         Some(Tree::Cond(test, _, _)) => {

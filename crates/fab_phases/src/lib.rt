@@ -4,8 +4,8 @@
 mod chain;
 mod cycles;
 mod enables;
+mod flop_groups;
 mod gathering;
-mod groups;
 mod loading;
 mod ticks;
 mod watched;

@@ -7,7 +7,7 @@ ghost use Rattle.fab_network.specs.Network.{source_tern, AreFit};
 ghost use Rattle.fab_network.specs.Passes.{kept_tern};
 ghost use Rattle.fab_phases.specs.Loading.{IsSolvable};
 ghost use Rattle.fab_phases.specs.Words.{IsLoadingAt};
-ghost use Rattle.fab_phases.specs.inner.Ticks.{AreFitFlops, AreFitLatches, AreFitRuns, IsFitRun, IsLoadTick, LeavesFlops, LeavesLatches, LeavesRun, LeavesRuns};
+ghost use Rattle.fab_phases.specs.inner.Ticks.{AreFitFlops, AreFitLatches, AreFitRuns, IsFitRun, IsLoadTick, LeavesFlops, LeavesLatches, LeavesRun, LeavesRuns, WritesFlops, WritesLatches};
 
 use crate::loading::{Latch, LoadedFlop, Loading, Run};
 use fab_compiled::through;
@@ -15,8 +15,14 @@ use fab_demand::Demand;
 use fab_network::{Network, Shared, evaluate};
 use fab_ternary::Tern;
 
-/// A tick of the loader's clock, while a piece is offered.
-pub fn tick(network: &Network, loading: &Loading, demand: &mut Demand, given: &mut [Tern])
+/// A tick of the loader's clock, while a piece is offered. Of `shared` only its room is used.
+pub fn tick(
+    network: &Network,
+    loading: &Loading,
+    shared: &mut Shared,
+    demand: &mut Demand,
+    given: &mut [Tern],
+)
     requires fit { AreFit network.now.trees.items network.now.drives.items }
     requires solvable { IsSolvable network.now }
     requires points { length network.now.drives.items ≡ length demand.old.leads }
@@ -29,26 +35,39 @@ pub fn tick(network: &Network, loading: &Loading, demand: &mut Demand, given: &m
         IsLoadTick network.now loads (kept_tern given.old) (kept_tern given.new) }
 {
     demand.settle(network, given);
-    take_flops(network, &loading.flops, demand, given);
-    take_runs(network, &loading.runs, demand, given);
+    take_flops(network, &loading.flops, demand, shared, given);
+    take_runs(network, &loading.runs, demand, shared, given);
 }
 
 /// Flip-flops take their next values.
-pub fn take_flops(network: &Network, flops: &[LoadedFlop], demand: &Demand, given: &mut [Tern])
+pub fn take_flops(
+    network: &Network,
+    flops: &[LoadedFlop],
+    demand: &Demand,
+    shared: &mut Shared,
+    given: &mut [Tern],
+)
     requires points { length network.now.drives.items ≡ length demand.now.leads }
     requires given { length given.old ≡ length demand.now.leads }
     requires flops { AreFitFlops network.now flops.now }
-    ensures { LeavesFlops network.now flops.now demand.now given.old given.new }
+    ensures leaves { LeavesFlops network.now flops.now demand.now given.old given.new }
+    ensures writes { WritesFlops flops.now given.old given.new }
 {
     let view = demand.view();
-    let mut shared = Shared::new(*network.trees.allocator());
+    shared.forget();
     for flop in flops {
         given[flop.point as usize] = shared.value(&network.trees, flop.next, &view);
     }
 }
 
 // Latches take what their points have. Where a gate is 0, they hold what they held.
-fn take_runs(network: &Network, runs: &[Run], demand: &Demand, given: &mut [Tern])
+fn take_runs(
+    network: &Network,
+    runs: &[Run],
+    demand: &Demand,
+    shared: &mut Shared,
+    given: &mut [Tern],
+)
     requires points { length network.now.drives.items ≡ length demand.now.leads }
     requires given { length given.old ≡ length demand.now.leads }
     requires runs { AreFitRuns network.now runs.now }
@@ -56,21 +75,29 @@ fn take_runs(network: &Network, runs: &[Run], demand: &Demand, given: &mut [Tern
 {
     for run in runs {
         let gate = evaluate(&network.trees, run.gate, &demand.view());
-        take_run(network, gate, run, demand, given);
+        take_run(network, gate, run, demand, shared, given);
     }
 }
 
 /// The latches of a run whose gate has this value.
-pub fn take_run(network: &Network, gate: Tern, run: &Run, demand: &Demand, given: &mut [Tern])
+pub fn take_run(
+    network: &Network,
+    gate: Tern,
+    run: &Run,
+    demand: &Demand,
+    shared: &mut Shared,
+    given: &mut [Tern],
+)
     requires points { length network.now.drives.items ≡ length demand.now.leads }
     requires given { length given.old ≡ length demand.now.leads }
     requires run { IsFitRun network.now run.now }
     requires gate { plain_tern gate ≡ source_tern network.now.trees.items (seen demand.now.terns demand.now.leads) run.now.gate }
-    ensures { LeavesRun network.now run.now demand.now given.old given.new }
+    ensures leaves { LeavesRun network.now run.now demand.now given.old given.new }
+    ensures writes { WritesLatches run.now.latches.items given.old given.new }
 {
     match gate {
         Tern::No => {}
-        Tern::Yes | Tern::Open => take_latches(network, gate, &run.latches, demand, given),
+        Tern::Yes | Tern::Open => take_latches(network, gate, &run.latches, demand, shared, given),
     }
 }
 
@@ -80,15 +107,17 @@ fn take_latches(
     gate: Tern,
     latches: &[Latch],
     demand: &Demand,
+    shared: &mut Shared,
     given: &mut [Tern],
 )
     requires points { length network.now.drives.items ≡ length demand.now.leads }
     requires given { length given.old ≡ length demand.now.leads }
     requires latches { AreFitLatches network.now latches.now }
-    ensures { LeavesLatches network.now (plain_tern gate) latches.now demand.now given.old given.new }
+    ensures leaves { LeavesLatches network.now (plain_tern gate) latches.now demand.now given.old given.new }
+    ensures writes { WritesLatches latches.now given.old given.new }
 {
     let view = demand.view();
-    let mut shared = Shared::new(*network.trees.allocator());
+    shared.forget();
     for latch in latches {
         let point = latch.point as usize;
         let latched = shared.value(&network.trees, latch.latched, &view);

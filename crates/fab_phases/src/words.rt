@@ -14,7 +14,7 @@ use crate::loading::Loading;
 use crate::ticks::tick;
 use crate::watched::{Watching, tick_watched, watching_of};
 use fab_demand::Demand;
-use fab_network::Network;
+use fab_network::{Network, Shared};
 use fab_ternary::Tern;
 
 /// Loads words one by one, and looks after each only at what reads something that has changed. Inputs take the bits of a word, from the
@@ -36,9 +36,20 @@ pub fn load_words(
     ensures steps { (loads : List Bool) → IsLoadingAt network.now loading.now loads first 32 demand.old given.old →
         AreLoadSteps network.now loads first (map word_bits words.now) (kept_tern given.old) (kept_tern given.new) }
 {
-    let mut watching = watching_of(*network.trees.allocator(), network, loading, demand);
+    let alloc = *network.trees.allocator();
+    let mut watching = watching_of(alloc, network, loading, demand);
+    let mut shared = Shared::new(alloc);
     for word in words {
-        load_word(network, loading, first, *word, &mut watching, demand, given);
+        load_word(
+            network,
+            loading,
+            first,
+            *word,
+            &mut watching,
+            &mut shared,
+            demand,
+            given,
+        );
     }
 }
 
@@ -49,6 +60,7 @@ fn load_word(
     first: u32,
     word: u32,
     watching: &mut Option<Watching>,
+    shared: &mut Shared,
     demand: &mut Demand,
     given: &mut [Tern],
 )
@@ -57,18 +69,21 @@ fn load_word(
     requires points { length network.now.drives.items ≡ length demand.old.leads }
     requires given { length given.old ≡ length demand.old.leads }
     requires loading { (loads : List Bool) × IsLoadingAt network.now loading.now loads first 32 demand.old given.old }
-    requires watching { IfSome watching.old (IsWatching network.now loading.now demand.old) }
+    requires watching { IfSome watching.old (IsWatching network.now loading.now demand.old given.old) }
     ensures points { length demand.new.leads ≡ length demand.old.leads }
     ensures loading { (loads : List Bool) → IsLoadingAt network.now loading.now loads first 32 demand.old given.old →
         IsLoadingAt network.now loading.now loads first 32 demand.new given.new }
     ensures step { (loads : List Bool) → IsLoadingAt network.now loading.now loads first 32 demand.old given.old →
         IsLoadStep network.now loads first (word_bits word) (kept_tern given.old) (kept_tern given.new) }
-    ensures watching { IfSome watching.new (IsWatching network.now loading.now demand.new) }
+    ensures watching { IfSome watching.new (IsWatching network.now loading.now demand.new given.new) }
 {
     offer(first, word, given);
     match watching {
-        Some(watching) => tick_watched(network, loading, watching, demand, given),
-        None => tick(network, loading, demand, given),
+        Some(watching) => {
+            watching.changes.note_points(first as usize, 32);
+            tick_watched(network, loading, watching, shared, demand, given);
+        }
+        None => tick(network, loading, shared, demand, given),
     }
 }
 
@@ -95,8 +110,9 @@ pub fn load_bits(
         move_chain(&loading.flops, point, words, given);
         return;
     }
+    let mut shared = Shared::new(*network.trees.allocator());
     for word in words {
-        load_word_bits(network, loading, point, *word, demand, given);
+        load_word_bits(network, loading, point, *word, &mut shared, demand, given);
     }
 }
 
@@ -116,6 +132,7 @@ fn load_word_bits(
     loading: &Loading,
     point: u32,
     word: u32,
+    shared: &mut Shared,
     demand: &mut Demand,
     given: &mut [Tern],
 )
@@ -132,7 +149,7 @@ fn load_word_bits(
 {
     for place in 0..32_u32 {
         let bit = word >> (31 - place) & 1 == 1;
-        load_bit(network, loading, point, bit, demand, given);
+        load_bit(network, loading, point, bit, shared, demand, given);
     }
 }
 
@@ -142,6 +159,7 @@ fn load_bit(
     loading: &Loading,
     point: u32,
     bit: bool,
+    shared: &mut Shared,
     demand: &mut Demand,
     given: &mut [Tern],
 )
@@ -157,7 +175,7 @@ fn load_bit(
         IsLoadStep network.now loads point (bit ∷ []) (kept_tern given.old) (kept_tern given.new) }
 {
     offer_bit(point, bit, given);
-    tick(network, loading, demand, given);
+    tick(network, loading, shared, demand, given);
 }
 
 // ---- what is offered

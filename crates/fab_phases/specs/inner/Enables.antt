@@ -3,24 +3,25 @@ use Rattle.std.specs.Prelude.{◌≡◌, ℕ, ◌+◌, ◌-◌, ◌<◌, ◌≤�
 use Rattle.fab_systems_laws.specs.Ternary.{no, yes, unknown}
 use Rattle.fab_systems_laws.specs.Ternary.{Tern as PlainTern}
 use Rattle.fab_ternary.specs.declared.Tern.{Tern}
+use Rattle.fab_ternary.specs.declared.Tern.TheVariants.{No}
 use Rattle.fab_ternary.specs.Terns.{plain_tern}
 use Rattle.fab_compiled.specs.declared.tree.Tree.{Tree, Cond'}
 use Rattle.fab_compiled.specs.Leading.{PointTerns, bit_under, IsMarked}
 use Rattle.fab_compiled.specs.Terns.{seen}
 use Rattle.fab_network.specs.declared.network.Network.{Network}
 use Rattle.fab_network.specs.declared.network.Source.{Source}
-use Rattle.fab_network.specs.Network.{source_tern}
+use Rattle.fab_network.specs.Network.{source_tern, AreBeside}
 use Rattle.fab_demand.specs.Asked.{Asked, DiffersInOwn}
 use Rattle.fab_demand.specs.Demand.{Shows}
 use Rattle.fab_changes.specs.declared.fanout.Fanout.{Fanout}
-use Rattle.fab_changes.specs.Changes.{AreChangesOf}
+use Rattle.fab_changes.specs.Changes.{AreChangesOf, HasGiven}
 use Rattle.fab_changes.specs.Fanout.{IsFresh, Lists, WatchesTree}
 use Rattle.fab_phases.specs.Lists.{Each, HasOne}
 use Rattle.fab_phases.specs.Loading.{AreFlops}
 use Rattle.fab_phases.specs.inner.Ticks.{AreFitFlops, AreOnWay, IsFit, LeavesPoints, Tick}
 use Rattle.fab_phases.specs.declared.enables.Enable.{Enable}
 use Rattle.fab_phases.specs.declared.enables.Enable.TheVariants.{Always, Gate, Test}
-use Rattle.fab_phases.specs.declared.groups.Group.{Group}
+use Rattle.fab_phases.specs.declared.flop_groups.FlopGroup.{FlopGroup}
 use Rattle.fab_phases.specs.declared.loading.LoadedFlop.{LoadedFlop}
 use Rattle.fab_phases.specs.declared.loading.Loading.{Loading}
 use Rattle.fab_phases.specs.declared.loading.Run.{Run}
@@ -49,6 +50,17 @@ abbrev pub IsEnabled : Network → (demand : Asked) → List Enable → (number 
 IsEnabled network demand enables number value =
     (enable : Enable) → slice_get enables number ≡ Some enable → plain_tern value ≡ enable_tern network.trees.items (seen demand.terns demand.leads) enable
 
+-- the enables from one number up to another are 0
+abbrev pub AreClosed : Network → (demand : Asked) → List Enable → (from end : ℕ) → Type 0
+AreClosed network demand enables from end = (number : ℕ) → from ≤ number → number < end → IsEnabled network demand enables number No
+
+-- the first enable from one number up to another that may be something else
+pub record IsNextEnabled (network : Network) (demand : Asked) (enables : List Enable) (from end number : ℕ) (found : Tern) : Type 0 where
+  pub low : from ≤ number
+  pub within : number < end
+  pub passed : AreClosed network demand enables from number
+  pub value : IsEnabled network demand enables number found
+
 -- ---- what is watched of them
 
 -- all points of the test of a choice
@@ -75,28 +87,24 @@ AreWatched network own leads enables lists =
 
 -- All are stale at first.
 pub record AreNewlyWatched (network : Network) (own leads : List ℕ) (enables : List Enable) (watches : Fanout) : Type 0 where
-  pub long : length watches.stale.items ≡ length enables
+  pub long : length watches.stale ≡ length enables
   pub watched : AreWatched network own leads enables watches.readers.items
-  pub stale : (number : ℕ) → IsFresh watches.stale.items number → ⊥
+  pub stale : (number : ℕ) → IsFresh watches.stale number → ⊥
 
 -- Each enable is watched, and is 0 unless it is stale.
 pub record AreEnables (network : Network) (demand : Asked) (enables : List Enable) (watches : Fanout) : Type 0 where
   pub fit : Each enables (IsFitEnable network)
-  pub long : length watches.stale.items ≡ length enables
+  pub long : length watches.stale ≡ length enables
   pub watched : AreWatched network demand.own demand.leads enables watches.readers.items
-  pub closed : (number : ℕ) (enable : Enable) → slice_get enables number ≡ Some enable → IsFresh watches.stale.items number →
+  pub closed : (number : ℕ) (enable : Enable) → slice_get enables number ≡ Some enable → IsFresh watches.stale number →
       enable_tern network.trees.items (seen demand.terns demand.leads) enable ≡ no
 
 -- ---- groups
 
--- bits of one expression
-abbrev pub IsAlike : (one other : Source) → Type 0
-IsAlike one other = (one.tree ≡ other.tree) × (one.first ≡ other.first)
-
 -- so many at the front are bits of the same expression as this one, and the first one is if it is this one
-pub record IsAlikeUpTo (next : Source) (flops : List LoadedFlop) (count : ℕ) : Type 0 where
+pub record AreBesideUpTo (next : Source) (flops : List LoadedFlop) (count : ℕ) : Type 0 where
   pub within : count ≤ length flops
-  pub front : (place : ℕ) (flop : LoadedFlop) → place < count → slice_get flops place ≡ Some flop → IsAlike flop.next next
+  pub front : (place : ℕ) (flop : LoadedFlop) → place < count → slice_get flops place ≡ Some flop → AreBeside flop.next next
   pub first : (flop : LoadedFlop) → slice_get flops 0 ≡ Some flop → flop.next ≡ next → 0 < count
 
 -- a point that has been asked for is led to this one
@@ -120,16 +128,16 @@ pub record TakesOwn (network : Network) (asked : Asked) (flop : LoadedFlop) (t :
 abbrev pub Holds : Network → Asked → Enable → LoadedFlop → Type 0
 Holds network asked enable flop = (t : PointTerns) → enable_tern network.trees.items t enable ≡ no → TakesOwn network asked flop t
 
-pub record IsHolding (network : Network) (asked : Asked) (group : Group) : Type 0 where
+pub record IsHolding (network : Network) (asked : Asked) (group : FlopGroup) : Type 0 where
   pub enable : IsFitEnable network group.enable
   pub flops : AreFitFlops network group.flops.items
   pub holds : Each group.flops.items (Holds network asked group.enable)
 
-abbrev pub AreHolding : Network → Asked → List Group → Type 0
+abbrev pub AreHolding : Network → Asked → List FlopGroup → Type 0
 AreHolding network asked groups = Each groups (IsHolding network asked)
 
 -- a group of these flip-flops
-pub record IsGroupOf (network : Network) (asked : Asked) (flops : List LoadedFlop) (group : Group) : Type 0 where
+pub record IsFlopGroupOf (network : Network) (asked : Asked) (flops : List LoadedFlop) (group : FlopGroup) : Type 0 where
   pub enable : IsFitEnable network group.enable
   pub is : group.flops.items ≡ flops
   pub holds : Each flops (Holds network asked group.enable)
@@ -139,22 +147,23 @@ abbrev pub AreAmong : (these those : List LoadedFlop) → Type 0
 AreAmong these those = Each these (λ flop. HasOne those (λ other. other ≡ flop))
 
 -- groups of some of these flip-flops
-pub record AreGroups (network : Network) (asked : Asked) (flops : List LoadedFlop) (groups : List Group) : Type 0 where
+pub record AreFlopGroups (network : Network) (asked : Asked) (flops : List LoadedFlop) (groups : List FlopGroup) : Type 0 where
   pub holding : AreHolding network asked groups
-  pub among : Each groups (λ (group : Group). AreAmong group.flops.items flops)
+  pub among : Each groups (λ (group : FlopGroup). AreAmong group.flops.items flops)
 
 -- a flip-flop stands in one of the groups
-abbrev pub IsInGroups : List Group → (point : ℕ) → Type 0
-IsInGroups groups point = HasOne groups (λ (group : Group). HasOne group.flops.items (λ (flop : LoadedFlop). flop.point ≡ point))
+abbrev pub IsInFlopGroups : List FlopGroup → (point : ℕ) → Type 0
+IsInFlopGroups groups point = HasOne groups (λ (group : FlopGroup). HasOne group.flops.items (λ (flop : LoadedFlop). flop.point ≡ point))
 
-abbrev pub AreInGroups : List Group → List LoadedFlop → Type 0
-AreInGroups groups flops = Each flops (λ flop. IsInGroups groups flop.point)
+abbrev pub AreInFlopGroups : List FlopGroup → List LoadedFlop → Type 0
+AreInFlopGroups groups flops = Each flops (λ flop. IsInFlopGroups groups flop.point)
 
 -- ---- the enables of both
 
 -- the first enables are those of groups
-abbrev pub EnableGroups : List Group → List Enable → Type 0
-EnableGroups groups enables = (place : ℕ) (group : Group) → slice_get groups place ≡ Some group → slice_get enables place ≡ Some group.enable
+pub record EnableGroups (groups : List FlopGroup) (enables : List Enable) : Type 0 where
+  pub room : length groups ≤ length enables
+  pub each : (place : ℕ) (group : FlopGroup) → slice_get groups place ≡ Some group → slice_get enables place ≡ Some group.enable
 
 -- the last enables are those of runs
 pub record EnableRuns (runs : List Run) (enables : List Enable) : Type 0 where
@@ -162,31 +171,32 @@ pub record EnableRuns (runs : List Run) (enables : List Enable) : Type 0 where
   pub gates : (place : ℕ) (run : Run) → slice_get runs place ≡ Some run → slice_get enables (length enables - length runs + place) ≡ Some (Gate run.gate)
 
 -- the enables of groups, and behind them those of runs
-abbrev pub AreEnablesOf : List Group → List Run → List Enable → Type 0
-AreEnablesOf groups runs enables = enables ≡ map (λ (group : Group). group.enable) groups ++ map (λ (run : Run). Gate run.gate) runs
+abbrev pub AreEnablesOf : List FlopGroup → List Run → List Enable → Type 0
+AreEnablesOf groups runs enables = enables ≡ map (λ (group : FlopGroup). group.enable) groups ++ map (λ (run : Run). Gate run.gate) runs
 
 -- ---- what is kept from word to word
 
-pub record IsWatching (network : Network) (loading : Loading) (demand : Asked) (watching : Watching) : Type 0 where
-  pub groups : AreGroups network demand loading.flops.items watching.groups.items
-  pub all : AreInGroups watching.groups.items loading.flops.items
+pub record IsWatching (network : Network) (loading : Loading) (demand : Asked) (given : List Tern) (watching : Watching) : Type 0 where
+  pub groups : AreFlopGroups network demand loading.flops.items watching.groups.items
+  pub all : AreInFlopGroups watching.groups.items loading.flops.items
   pub of : AreEnablesOf watching.groups.items loading.runs.items watching.enables.items
   pub changes : AreChangesOf network demand watching.changes
+  pub noted : HasGiven demand.terns given watching.changes
   pub enables : AreEnables network demand watching.enables.items watching.watches
 
 -- ---- what is written
 
 -- What each step does: for each tick whose values the demand shows.
-abbrev pub LeavesGroup : (network : Network) → Group → (demand : Asked) → (old new : List Tern) → Type 0
+abbrev pub LeavesGroup : (network : Network) → FlopGroup → (demand : Asked) → (old new : List Tern) → Type 0
 LeavesGroup network group demand old new =
     (tick : Tick network) → Shows network tick.asked demand tick.t → DiffersInOwn tick.asked demand → AreFlops network tick.asked tick.loads group.flops.items →
     AreOnWay network tick old → LeavesPoints network tick (λ point. HasOne group.flops.items (λ flop. flop.point ≡ point)) old new
 
-abbrev pub LeavesGroups : (network : Network) → List Group → (demand : Asked) → (old new : List Tern) → Type 0
+abbrev pub LeavesGroups : (network : Network) → List FlopGroup → (demand : Asked) → (old new : List Tern) → Type 0
 LeavesGroups network groups demand old new =
     (tick : Tick network) → Shows network tick.asked demand tick.t → DiffersInOwn tick.asked demand →
-    Each groups (λ (group : Group). AreFlops network tick.asked tick.loads group.flops.items) → AreOnWay network tick old →
-    LeavesPoints network tick (IsInGroups groups) old new
+    Each groups (λ (group : FlopGroup). AreFlops network tick.asked tick.loads group.flops.items) → AreOnWay network tick old →
+    LeavesPoints network tick (IsInFlopGroups groups) old new
 
 -- the same of all flip-flops
 abbrev pub LeavesFlopsOf : (network : Network) → List LoadedFlop → (demand : Asked) → (old new : List Tern) → Type 0

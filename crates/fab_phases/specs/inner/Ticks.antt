@@ -83,6 +83,16 @@ pub record LeavesPoints (network : Network) (tick : Tick network) (Has : ℕ →
   pub stay : (point : ℕ) → IsLeft network Loader tick.t point (kept_tern old point) → IsLeft network Loader tick.t point (kept_tern new point)
   pub left : (point : ℕ) → Has point → IsLeft network Loader tick.t point (kept_tern new point)
 
+-- all points but these have what they had
+abbrev pub WritesOnly : (Written : ℕ → Type 0) → (old new : List Tern) → Type 0
+WritesOnly Written old new = (point : ℕ) → Written point ⊎ (kept_tern new point ≡ kept_tern old point)
+
+abbrev pub WritesFlops : List LoadedFlop → (old new : List Tern) → Type 0
+WritesFlops flops old new = WritesOnly (λ point. HasOne flops (λ flop. flop.point ≡ point)) old new
+
+abbrev pub WritesLatches : List Latch → (old new : List Tern) → Type 0
+WritesLatches latches old new = WritesOnly (λ point. HasOne latches (λ latch. latch.point ≡ point)) old new
+
 -- What each step does: for each tick whose values the demand shows.
 abbrev pub LeavesFlops : (network : Network) → List LoadedFlop → (demand : Asked) → (old new : List Tern) → Type 0
 LeavesFlops network flops demand old new =

@@ -1,4 +1,4 @@
-use Rattle.std.proofs.Common.{length, List, ap, sym, ◌∙◌, subst, arith, get_or, ◌<◌}
+use Rattle.std.proofs.Common.{◌≡◌, length, List, refl, ap, sym, ◌∙◌, subst, inr, arith, get_or, ◌<◌}
 use Rattle.std.proofs.lemmas.Option.{slice_get-get_or}
 use Rattle.fab_systems_laws.specs.Ternary.{Tern as PlainTern}
 use Rattle.fab_ternary_laws.specs.Shown.{through}
@@ -7,7 +7,10 @@ use Rattle.fab_ternary.specs.Terns.{plain_tern}
 use Rattle.fab_compiled.specs.Terns.{seen}
 use Rattle.fab_compiled.specs.declared.tree.Tree.{Tree}
 use Rattle.fab_network.specs.Sharing.{IsShared}
+use Rattle.fab_phases.specs.Lists.{HasOne}
+use Rattle.fab_phases.specs.declared.loading.Latch.{Latch}
 use Rattle.fab_phases.proofs.Ticking.{eval_at, fit_at, kept_get, latch_step, latches_done, no_latch}
+use Rattle.fab_phases.proofs.Writing.{writes_more}
 use Rattle.fab_phases.proofs.ticks.take_latches.Goals as goal
 
 pub value-latched-requires-clause-fit : goal.value-latched-requires-clause-fit
@@ -37,7 +40,8 @@ bounds-given-point c =
 pub loop-latch-init : goal.loop-latch-init
 loop-latch-init c = record {
   left = λ tick shows opens opened are way. record { on_way = way; stay = λ point is. is; left = λ point has. absurd (omega (arith, has.2)) };
-  shared = c.new-shared.ensures c.args.network.now.trees.items (length c.view-view.result.leads.now) (seen c.view-view.result.terns.now c.view-view.result.leads.now);
+  writes = λ point. inr refl;
+  shared = c.forget.ensures c.args.network.now.trees.items (length c.view-view.result.leads.now) (seen c.view-view.result.terns.now c.view-view.result.leads.now);
 }
 
 pub loop-latch-preserved : goal.loop-latch-preserved
@@ -54,13 +58,15 @@ loop-latch-preserved c =
           c.view-view.result.leads.now latch.latched given c.deref.ensures.value c.view-view.ensures.terns c.view-view.ensures.leads c.value-latched.ensures.value)
           (c.through.ensures ∙ ap (λ (held : PlainTern). through (plain_tern c.args.gate) given held) (kept_get c.loop-latch.given latch.point No less))
           c.loop-latch.invariant.left;
+      writes = writes_more (λ point. HasOne c.args.latches.now (λ (other : Latch). other.point ≡ point)) c.args.given.now c.loop-latch.given latch.point
+          c.through.result c.loop-latch.invariant.writes (c.loop-latch.latch-index, latch, at, refl);
       shared = subst
           (λ (trees : List Tree). IsShared trees (length c.view-view.result.leads.now) (seen c.view-view.result.terns.now c.view-view.result.leads.now)
           c.value-latched.new.self)
           c.deref.ensures.value c.value-latched.ensures.shared;
     }
 
-pub returns : goal.returns
-returns c =
+pub returns-clause-leaves : goal.returns-clause-leaves
+returns-clause-leaves c =
     latches_done c.args.network.now (plain_tern c.args.gate) c.args.latches.now c.args.demand.now c.loop-latch.latch-index c.args.given.now c.loop-latch.given (omega arith)
     c.loop-latch.invariant.left

@@ -18,7 +18,7 @@ pub loop-run-preserved : goal.loop-run-preserved
 loop-run-preserved c =
     run_step c.args.network.now c.args.runs.now c.args.demand.now c.loop-run.run-index c.args.given.now c.loop-run.given c.take_run.new.given c.run-item.result
     (slice_get_read c.args.runs.now (length c.args.runs.now) c.loop-run.run-index c.run-item.result refl c.loop-run-test.true c.run-item.is)
-    c.take_run.ensures c.loop-run.invariant
+    c.take_run.ensures.leaves c.loop-run.invariant
 
 pub returns : goal.returns
 returns c =

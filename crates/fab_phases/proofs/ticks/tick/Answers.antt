@@ -42,7 +42,7 @@ returns-clause-loading c loads first width at =
     (has_ticked c.args.network.now c.args.loading.now loads first width c.args.demand.now c.settle.new.self c.args.given.now c.take_flops.new.given c.take_runs.new.given
     c.requires.solvable at c.settle.ensures.stays c.settle.ensures.shows
     (flops_leave c.args.network.now c.args.loading.now.flops.items c.settle.new.self c.args.given.now c.take_flops.new.given
-    (subst (λ (flops : List LoadedFlop). LeavesFlops c.args.network.now flops c.settle.new.self c.args.given.now c.take_flops.new.given) c.deref.ensures.value c.take_flops.ensures))
+    (subst (λ (flops : List LoadedFlop). LeavesFlops c.args.network.now flops c.settle.new.self c.args.given.now c.take_flops.new.given) c.deref.ensures.value c.take_flops.ensures.leaves))
     (subst (λ (runs : List Run). LeavesRuns c.args.network.now runs c.settle.new.self c.take_flops.new.given c.take_runs.new.given) c.deref-2.ensures.value c.take_runs.ensures)).loading_at
 
 pub returns-clause-ticks : goal.returns-clause-ticks
@@ -50,5 +50,5 @@ returns-clause-ticks c loads first width at =
     (has_ticked c.args.network.now c.args.loading.now loads first width c.args.demand.now c.settle.new.self c.args.given.now c.take_flops.new.given c.take_runs.new.given
     c.requires.solvable at c.settle.ensures.stays c.settle.ensures.shows
     (flops_leave c.args.network.now c.args.loading.now.flops.items c.settle.new.self c.args.given.now c.take_flops.new.given
-    (subst (λ (flops : List LoadedFlop). LeavesFlops c.args.network.now flops c.settle.new.self c.args.given.now c.take_flops.new.given) c.deref.ensures.value c.take_flops.ensures))
+    (subst (λ (flops : List LoadedFlop). LeavesFlops c.args.network.now flops c.settle.new.self c.args.given.now c.take_flops.new.given) c.deref.ensures.value c.take_flops.ensures.leaves))
     (subst (λ (runs : List Run). LeavesRuns c.args.network.now runs c.settle.new.self c.take_flops.new.given c.take_runs.new.given) c.deref-2.ensures.value c.take_runs.ensures)).tick

@@ -1,15 +1,16 @@
 use Rattle.std.proofs.Common.{◌≡◌, length, List, refl, sym, ap, ◌∙◌, subst, arith}
 use Rattle.fab_phases.specs.inner.Enables.{AreEnables, AreHolding, EnableGroups, EnableRuns, LeavesGroups}
-use Rattle.fab_phases.specs.inner.Ticks.{AreFitRuns, LeavesRuns}
+use Rattle.fab_phases.specs.inner.Ticks.{AreFitRuns, LeavesRuns, WritesOnly}
+use Rattle.fab_phases.specs.Loading.{IsInRuns}
 use Rattle.fab_phases.specs.declared.enables.Enable.{Enable}
-use Rattle.fab_phases.specs.declared.groups.Group.{Group}
+use Rattle.fab_phases.specs.declared.flop_groups.FlopGroup.{FlopGroup}
 use Rattle.fab_phases.specs.declared.loading.Run.{Run}
 use Rattle.fab_phases.proofs.Enabling.{enables_settled}
 use Rattle.fab_phases.proofs.Grouping.{groups_leave, holding_same}
 use Rattle.fab_phases.proofs.Running.{differs_none}
 use Rattle.fab_phases.proofs.Stepping.{has_ticked}
 use Rattle.fab_phases.proofs.Ticking.{runs_fit}
-use Rattle.fab_phases.proofs.Watching.{enable_groups, enable_runs, watching_ticked}
+use Rattle.fab_phases.proofs.Watching.{enable_groups, enable_runs, runs_noted, watching_ticked}
 use Rattle.fab_phases.proofs.watched.tick_watched.Goals as goal
 
 pub take_groups-requires-clause-points : goal.take_groups-requires-clause-points
@@ -29,7 +30,7 @@ take_groups-requires-clause-groups c =
 pub take_groups-requires-clause-of : goal.take_groups-requires-clause-of
 take_groups-requires-clause-of c =
     let watching = c.args.watching.now in
-    subst (λ (groups : List Group). EnableGroups groups c.deref-2.result.now) (sym c.deref.ensures.value)
+    subst (λ (groups : List FlopGroup). EnableGroups groups c.deref-2.result.now) (sym c.deref.ensures.value)
     (subst (EnableGroups watching.groups.items) (sym c.deref-2.ensures.value)
     (enable_groups watching.groups.items c.args.loading.now.runs.items watching.enables.items c.requires.watching.of))
 
@@ -75,7 +76,7 @@ returns-clause-loading c loads first width at =
     c.requires.solvable at c.settle.ensures.stays c.settle.ensures.shows
     (groups_leave c.args.network.now c.args.demand.now c.settle.new.demand c.args.loading.now.flops.items watching.groups.items c.args.given.now c.take_groups.new.given
     c.requires.watching.groups c.requires.watching.all
-    (subst (λ (groups : List Group). LeavesGroups c.args.network.now groups c.settle.new.demand c.args.given.now c.take_groups.new.given) c.deref.ensures.value
+    (subst (λ (groups : List FlopGroup). LeavesGroups c.args.network.now groups c.settle.new.demand c.args.given.now c.take_groups.new.given) c.deref.ensures.value
     c.take_groups.ensures.leaves))
     (subst (λ (runs : List Run). LeavesRuns c.args.network.now runs c.settle.new.demand c.take_groups.new.given c.take_enabled.new.given) c.deref-3.ensures.value
     c.take_enabled.ensures.leaves)).loading_at
@@ -87,15 +88,21 @@ returns-clause-ticks c loads first width at =
     c.requires.solvable at c.settle.ensures.stays c.settle.ensures.shows
     (groups_leave c.args.network.now c.args.demand.now c.settle.new.demand c.args.loading.now.flops.items watching.groups.items c.args.given.now c.take_groups.new.given
     c.requires.watching.groups c.requires.watching.all
-    (subst (λ (groups : List Group). LeavesGroups c.args.network.now groups c.settle.new.demand c.args.given.now c.take_groups.new.given) c.deref.ensures.value
+    (subst (λ (groups : List FlopGroup). LeavesGroups c.args.network.now groups c.settle.new.demand c.args.given.now c.take_groups.new.given) c.deref.ensures.value
     c.take_groups.ensures.leaves))
     (subst (λ (runs : List Run). LeavesRuns c.args.network.now runs c.settle.new.demand c.take_groups.new.given c.take_enabled.new.given) c.deref-3.ensures.value
     c.take_enabled.ensures.leaves)).tick
 
 pub returns-clause-watching : goal.returns-clause-watching
 returns-clause-watching c =
-    watching_ticked c.args.network.now c.args.loading.now c.args.demand.now c.settle.new.demand c.args.watching.now
-    (record c.args.watching.now { changes = c.settle.new.self; watches = c.take_enabled.new.watches })
-    (c.settle.ensures.stays c.args.demand.now (differs_none c.args.demand.now)) c.requires.watching refl refl c.settle.ensures.changes
-    (subst (λ (enables : List Enable). AreEnables c.args.network.now c.settle.new.demand enables c.take_enabled.new.watches) c.deref-4.ensures.value
-    c.take_enabled.ensures.enables)
+    let at = c.requires.loading.3 in
+    let after = c.settle.new.demand in
+    let runs = c.args.loading.now.runs.items in
+    let changes = c.take_groups.ensures.changes c.settle.ensures.changes in
+    let writes = subst (λ (rs : List Run). WritesOnly (IsInRuns rs) c.take_groups.new.given c.take_enabled.new.given) c.deref-3.ensures.value c.take_enabled.ensures.writes in
+    watching_ticked c.args.network.now c.args.loading.now c.args.demand.now after c.args.given.now c.take_enabled.new.given c.args.watching.now
+    (record c.args.watching.now { changes = c.take_groups.new.changes; watches = c.take_enabled.new.watches })
+    (c.settle.ensures.stays c.args.demand.now (differs_none c.args.demand.now)) c.requires.watching refl refl changes
+    (runs_noted c.args.network.now at.asked after c.requires.loading.0 runs c.take_groups.new.given c.take_enabled.new.given c.take_groups.new.changes at.gathered.runs
+    changes c.take_groups.ensures.noted writes)
+    (subst (λ (enables : List Enable). AreEnables c.args.network.now after enables c.take_enabled.new.watches) c.deref-4.ensures.value c.take_enabled.ensures.enables)

@@ -5,6 +5,7 @@ use Rattle.fab_network.specs.Passes.{kept_tern}
 use Rattle.fab_phases.specs.Words.{word_bits}
 use Rattle.fab_phases.proofs.Offering.{word_long}
 use Rattle.fab_phases.proofs.Stepping.{step_of, still_loading}
+use Rattle.fab_phases.proofs.Watching.{watching_offered}
 use Rattle.fab_phases.proofs.words.load_word.Goals as goal
 
 pub offer-requires : goal.offer-requires
@@ -58,3 +59,9 @@ returns-in-None-clause-step c loads at =
     (c.tick.ensures.ticks loads c.args.first 32
     (still_loading c.args.network.now c.args.loading.now loads c.args.first 32 (word_bits c.args.word) c.args.demand.now c.args.given.now c.offer.new.given
     (word_long c.args.word) c.offer.ensures at))
+
+pub tick_watched-requires-clause-watching : goal.tick_watched-requires-clause-watching
+tick_watched-requires-clause-watching c =
+    watching_offered c.args.network.now c.args.loading.now c.args.demand.now c.args.first c.args.word c.args.given.now c.offer.new.given c.in-Some.watching
+    c.note_points.new.self (rw c.in-Some.is at c.requires.watching) c.offer.ensures (c.note_points.ensures.changes c.args.network.now c.args.demand.now)
+    c.note_points.ensures.waits c.note_points.ensures.more

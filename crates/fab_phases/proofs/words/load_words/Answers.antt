@@ -1,7 +1,11 @@
-use Rattle.std.proofs.Common.{◌∙◌, ℕ, Bool, List, arith, ap, map, sym, subst, take, get_or}
+use Rattle.std.proofs.Common.{◌∙◌, ℕ, Bool, List, refl, arith, ap, map, sym, subst, take, get_or}
 use Rattle.std.proofs.lemmas.List.{take_all, take_more}
 use Rattle.fab_network.specs.Passes.{kept_tern}
 use Rattle.fab_phases.specs.Words.{AreLoadSteps, word_bits}
+use Rattle.fab_ternary.specs.declared.Tern.{Tern}
+use Rattle.fab_phases.specs.inner.Enables.{IsWatching}
+use Rattle.fab_phases.specs.declared.watched.Watching.{Watching}
+use Rattle.fab_phases.proofs.Lists.{some_grows}
 use Rattle.fab_phases.proofs.Stepping.{steps_more, words_more}
 use Rattle.fab_phases.proofs.words.load_words.Goals as goal
 
@@ -18,6 +22,16 @@ loop-word-preserved c = record {
       (sym (ap (map word_bits) (take_more words c.loop-word.word-index 0 c.loop-word-test.true) ∙ words_more before word))
       (steps_more c.args.network.now loads c.args.first (map word_bits before) (word_bits word) (kept_tern c.args.given.now) (kept_tern c.loop-word.given)
       (kept_tern c.load_word.new.given) (c.loop-word.invariant.steps loads at) (c.load_word.ensures.step loads (c.loop-word.invariant.loading loads at)));
+}
+
+pub loop-word-init : goal.loop-word-init
+loop-word-init c = record {
+  points = refl;
+  loading = λ loads at. at;
+  steps = λ loads at point. refl;
+  watching = some_grows (λ (watching : Watching). (given : List Tern) → IsWatching c.args.network.now c.args.loading.now c.args.demand.now given watching)
+      (IsWatching c.args.network.now c.args.loading.now c.args.demand.now c.args.given.now) (λ watching is. is c.args.given.now) c.watching_of-watching.result
+      c.watching_of-watching.ensures;
 }
 
 pub watching_of-watching-requires-clause-loading : goal.watching_of-watching-requires-clause-loading

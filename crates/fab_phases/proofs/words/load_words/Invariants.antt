@@ -11,5 +11,5 @@ invariant-loop-word l = record {
   loading : (loads : List Bool) → IsLoadingAt l.network l.loading loads l.first 32 l.fn.demand l.fn.given → IsLoadingAt l.network l.loading loads l.first 32 l.demand l.given;
   steps : (loads : List Bool) → IsLoadingAt l.network l.loading loads l.first 32 l.fn.demand l.fn.given →
       AreLoadSteps l.network loads l.first (map word_bits (take l.word-index l.words)) (kept_tern l.fn.given) (kept_tern l.given);
-  watching : IfSome l.watching (IsWatching l.network l.loading l.demand);
+  watching : IfSome l.watching (IsWatching l.network l.loading l.demand l.given);
 }

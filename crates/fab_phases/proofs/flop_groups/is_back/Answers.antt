@@ -2,7 +2,7 @@ use Rattle.std.proofs.Common.{◌+◌, refl, sym, subst}
 use Rattle.fab_compiled.specs.declared.tree.Tree.{Tree}
 use Rattle.fab_phases.specs.inner.Enables.{HasBack}
 use Rattle.fab_phases.proofs.Grouping.{back_of}
-use Rattle.fab_phases.proofs.groups.is_back.Goals as goal
+use Rattle.fab_phases.proofs.flop_groups.is_back.Goals as goal
 
 pub returns-then-flop-count : goal.returns-then-flop-count
 returns-then-flop-count c holds =

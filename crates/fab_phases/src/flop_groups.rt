@@ -1,9 +1,10 @@
 //! Flip-flops in groups that take new values together.
 
 ghost use Rattle.std.specs.Prelude.{◌≡◌, ◌<◌, ◌≤◌, length, slice_get, IfOk, IsTrue, Some};
+ghost use Rattle.fab_network.specs.Network.{AreBeside};
 ghost use Rattle.fab_phases.specs.Lists.{Each};
 ghost use Rattle.fab_phases.specs.declared.enables.Enable.TheVariants.{Test};
-ghost use Rattle.fab_phases.specs.inner.Enables.{AreGroups, AreInGroups, HasBack, Holds, IsAlike, IsAlikeUpTo, IsFitEnable, IsGroupOf, IsLedBack};
+ghost use Rattle.fab_phases.specs.inner.Enables.{AreBesideUpTo, AreFlopGroups, AreInFlopGroups, HasBack, Holds, IsFitEnable, IsFlopGroupOf, IsLedBack};
 ghost use Rattle.fab_phases.specs.inner.Ticks.{AreFitFlops, IsFit};
 
 use crate::enables::Enable;
@@ -17,7 +18,7 @@ use std::alloc::Global;
 /// Neighbours among the flip-flops that loading sets whose next values are bits of one expression. They hold what they have where their
 /// enable is 0.
 #[derive(Drop)]
-pub struct Group {
+pub struct FlopGroup {
     pub enable: Enable,
     pub flops: Vec<LoadedFlop>,
 }
@@ -28,10 +29,10 @@ pub fn groups_of(
     network: &Network,
     demand: &Demand,
     flops: &[LoadedFlop],
-) -> Result<Vec<Group>, Memory>
+) -> Result<Vec<FlopGroup>, Memory>
     requires flops { AreFitFlops network.now flops.now }
-    ensures groups { IfOk result (λ groups. AreGroups network.now demand.now flops.now groups.items) }
-    ensures all { IfOk result (λ groups. AreInGroups groups.items flops.now) }
+    ensures groups { IfOk result (λ groups. AreFlopGroups network.now demand.now flops.now groups.items) }
+    ensures all { IfOk result (λ groups. AreInFlopGroups groups.items flops.now) }
 {
     let mut groups = Vec::new(alloc);
     let mut rest = flops;
@@ -46,22 +47,14 @@ pub fn groups_of(
 
 // How many flip-flops at the front take bits of the same expression as this one.
 fn together(next: Source, flops: &[LoadedFlop]) -> usize
-    ensures { IsAlikeUpTo next flops.now result }
+    ensures { AreBesideUpTo next flops.now result }
 {
     for (place, flop) in flops.iter().enumerate() {
-        if !is_alike(flop.next, next) {
+        if !flop.next.is_beside(next) {
             return place;
         }
     }
     flops.len()
-}
-
-// Whether two bits are those of one expression.
-fn is_alike(one: Source, other: Source) -> bool
-    ensures alike { IsTrue result → IsAlike one other }
-    ensures same { one ≡ other → IsTrue result }
-{
-    one.tree == other.tree && one.first == other.first
 }
 
 // The group of flip-flops that take bits of the same expression as this one.
@@ -71,20 +64,20 @@ fn group_of(
     demand: &Demand,
     next: Source,
     flops: &[LoadedFlop],
-) -> Result<Group, Memory>
+) -> Result<FlopGroup, Memory>
     requires next { IsFit network.now next }
-    requires alike { Each flops.now (λ flop. IsAlike flop.next next) }
-    ensures { IfOk result (λ group. IsGroupOf network.now demand.now flops.now group) }
+    requires beside { Each flops.now (λ flop. AreBeside flop.next next) }
+    ensures { IfOk result (λ group. IsFlopGroupOf network.now demand.now flops.now group) }
 {
     let enable = enable_of(network, demand, next, flops);
     let flops = flops.iter().map(|flop| *flop).collect(alloc)?;
-    Ok(Group { enable, flops })
+    Ok(FlopGroup { enable, flops })
 }
 
 // What lets flip-flops take bits of the same expression as this one: its test, if each of them takes what it has where the test is 0.
 fn enable_of(network: &Network, demand: &Demand, next: Source, flops: &[LoadedFlop]) -> Enable
     requires next { IsFit network.now next }
-    requires alike { Each flops.now (λ flop. IsAlike flop.next next) }
+    requires beside { Each flops.now (λ flop. AreBeside flop.next next) }
     ensures fit { IsFitEnable network.now result }
     ensures holds { Each flops.now (Holds network.now demand.now result) }
 {

@@ -1,8 +1,8 @@
 use Rattle.std.proofs.Common.{arith, get_or}
 use Rattle.std.proofs.lemmas.Option.{slice_get-get_or, slice_get_within}
-use Rattle.fab_phases.proofs.Grouping.{alike_holds, always_holds, held_more}
+use Rattle.fab_phases.proofs.Grouping.{beside_holds, always_holds, held_more}
 use Rattle.fab_phases.proofs.Ticking.{no_flop}
-use Rattle.fab_phases.proofs.groups.enable_of.Goals as goal
+use Rattle.fab_phases.proofs.flop_groups.enable_of.Goals as goal
 
 pub returns-then-not-is_held-clause-holds : goal.returns-then-not-is_held-clause-holds
 returns-then-not-is_held-clause-holds c place flop at = always_holds c.args.network.now c.args.demand.now flop
@@ -12,7 +12,7 @@ loop-flop-preserved c =
     let flop = get_or c.args.flops.now c.loop-flop.flop-index no_flop in
     let at = slice_get-get_or c.args.flops.now c.loop-flop.flop-index no_flop c.loop-flop-test.true in
     held_more c.args.network.now c.args.demand.now c.args.next c.args.flops.now c.loop-flop.flop-index flop at
-    (alike_holds c.args.network.now c.args.demand.now c.args.next flop (c.requires.alike c.loop-flop.flop-index flop at) (c.is_held.ensures c.if-not-is_held.false))
+    (beside_holds c.args.network.now c.args.demand.now c.args.next flop (c.requires.beside c.loop-flop.flop-index flop at) (c.is_held.ensures c.if-not-is_held.false))
     c.loop-flop.invariant
 
 pub returns-clause-holds : goal.returns-clause-holds
