@@ -74,7 +74,7 @@ groups_same network own count groups takes before = record {
 module _ (network : Network) (own : List ℕ) (count : ℕ) (source : Source) (groups : List Group) (drive : drive_at network own count ≡ Some (Value source))
     (before : AreBitGroups network own count groups) where
   -- the new bit
-  bit_here : (group : Group) → group.tree ≡ source.tree → group.first ≡ source.first → (place : ℕ) → place ≡ count → IsBitOf network own group place
+  bit_here : (group : Group) → group.source.tree ≡ source.tree → group.source.first ≡ source.first → (place : ℕ) → place ≡ count → IsBitOf network own group place
   bit_here group tree first place e = record {
     source = source;
     drive = ap (drive_at network own) e ∙ drive;
@@ -197,7 +197,7 @@ module _ (network : Network) (own : List ℕ) (count : ℕ) (source : Source) (g
     bits_wide : (place : ℕ) → IsInGroup wide place → IsBitOf network own wide place
     bits_wide place inside =
         elim (cases_eq place count) [
-          | inl e ↦ bit_here wide longer.next.tree longer.next.first place e
+          | inl e ↦ bit_here wide longer.next.beside.tree longer.next.beside.first place e
           | inr n ↦ (let bit = before.bits longer.last longer.group longer.there place
               (record { low = inside.low; below = omega (arith, inside.below, n, longer.next.ends) }) in
               record { source = bit.source; drive = bit.drive; tree = bit.tree; first = bit.first })

@@ -54,29 +54,29 @@ ordered_by network own lists groups place readers there behind number group is_t
 
 pub watched_one : (network : Network) (own leads : List ℕ) (old new : Lists) (count : ℕ) (groups : List Group) (group : Group) (tree : Tree) →
     slice_get groups count ≡ Some group →
-    slice_get network.trees.items group.tree ≡ Some tree → ReadsMore old new → WatchesTree own leads new count group.first tree →
+    slice_get network.trees.items group.source.tree ≡ Some tree → ReadsMore old new → WatchesTree own leads new count group.source.first tree →
     AreWatched network own leads old count groups → AreWatched network own leads new (count + 1) groups
 watched_one network own leads old new count groups group tree there is more watched before number other its l also tree_is =
     elim (cases_eq number count) [
       | inl e ↦ (let both : Some other ≡ Some group = sym also ∙ ap (slice_get groups) e ∙ there in
           let same : other ≡ group = cc in
-          let trees : Some its ≡ Some tree = sym tree_is ∙ ap (λ (g : Group). slice_get network.trees.items g.tree) same ∙ is in
+          let trees : Some its ≡ Some tree = sym tree_is ∙ ap (λ (g : Group). slice_get network.trees.items g.source.tree) same ∙ is in
           let one : its ≡ tree = cc in
-          subst (λ (n : ℕ). WatchesTree own leads new n other.first its) (sym e)
-          (subst (λ (g : Group). WatchesTree own leads new count g.first its) (sym same)
-          (subst (WatchesTree own leads new count group.first) (sym one) watched)))
-      | inr n ↦ tree_more own leads old new number other.first its more (before number other its (omega (arith, l, n)) also tree_is)
+          subst (λ (n : ℕ). WatchesTree own leads new n other.source.first its) (sym e)
+          (subst (λ (g : Group). WatchesTree own leads new count g.source.first its) (sym same)
+          (subst (WatchesTree own leads new count group.source.first) (sym one) watched)))
+      | inr n ↦ tree_more own leads old new number other.source.first its more (before number other its (omega (arith, l, n)) also tree_is)
     ]
 
 -- the tree of a group and its first point are those of its first bit
 pub record FitsGroup (network : Network) (group : Group) (tree : Tree) : Type 0 where
   pub made : IsMade tree
-  pub begins : group.first ≤ length network.drives.items
-  pub inside : IsWithin tree group.first (length network.drives.items)
+  pub begins : group.source.first ≤ length network.drives.items
+  pub inside : IsWithin tree group.source.first (length network.drives.items)
 
 pub group_fits : (network : Network) (own : List ℕ) (count : ℕ) (groups : List Group) → AreFit network.trees.items network.drives.items →
     AreBitGroups network own count groups → (number : ℕ) (group : Group) → slice_get groups number ≡ Some group →
-    (tree : Tree) → slice_get network.trees.items group.tree ≡ Some tree → FitsGroup network group tree
+    (tree : Tree) → slice_get network.trees.items group.source.tree ≡ Some tree → FitsGroup network group tree
 group_fits network own count groups fit are number group there tree is =
     let filled : group.begin < group.end = are.filled number group there in
     let bit = are.bits number group there group.begin (record { low = omega arith; below = filled }) in
@@ -86,7 +86,7 @@ group_fits network own count groups fit are number group there tree is =
     record {
       made = subst IsMade same fits.made;
       begins = omega (arith, fits.begins, bit.first);
-      inside = subst (λ (t : Tree). IsWithin t group.first (length network.drives.items)) same
+      inside = subst (λ (t : Tree). IsWithin t group.source.first (length network.drives.items)) same
           (subst (λ (n : ℕ). IsWithin fits.tree n (length network.drives.items)) bit.first fits.inside);
     }
 

@@ -49,9 +49,9 @@ module _ (network : Network) (old new : Asked) (lists : Lists) (number : ℕ) (g
       let bit = is.bits place inside in
       let same : source ≡ bit.source = same_source (drive_at network old.own place) source bit.source drive bit.drive in
       let fits : IsFitSource network.trees.items (length network.drives.items) source = fit (slice_index old.own place) (Value source) drive in
-      let tree : source.tree ≡ group.tree = ap (λ (s : Source). s.tree) same ∙ bit.tree in
-      let first : group.first ≡ source.first = sym (ap (λ (s : Source). s.first) same ∙ bit.first) in
-      let there : slice_get network.trees.items group.tree ≡ Some fits.tree = ap (slice_get network.trees.items) (sym tree) ∙ fits.is in
+      let tree : source.tree ≡ group.source.tree = ap (λ (s : Source). s.tree) same ∙ bit.tree in
+      let first : group.source.first ≡ source.first = sym (ap (λ (s : Source). s.first) same ∙ bit.first) in
+      let there : slice_get network.trees.items group.source.tree ≡ Some fits.tree = ap (slice_get network.trees.items) (sym tree) ∙ fits.is in
       source_kept network.trees.items (λ k. IsWatched old.own old.leads lists number (source.first + k)) (seen old.terns old.leads)
       (seen new.terns old.leads) source fits.tree fits.is
       (subst (λ (n : ℕ). EachPlace (λ k. IsWatched old.own old.leads lists number (n + k)) fits.tree) first (is.watched fits.tree there))

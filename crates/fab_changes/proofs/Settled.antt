@@ -299,9 +299,9 @@ module _ (network : Network) (asked : Asked) (given old : List Tern) (lists : Li
           let bit = is.bits place value.grouped.inside in
           let same : value.source ≡ bit.source = same_source (drive_at network asked.own place) value.source bit.source value.drive bit.drive in
           let fits : IsFitSource network.trees.items (length network.drives.items) value.source = fit (own_at place) (Value value.source) value.drive in
-          let tree : value.source.tree ≡ group.tree = ap (λ (s : Source). s.tree) same ∙ bit.tree in
-          let first : group.first ≡ value.source.first = sym (ap (λ (s : Source). s.first) same ∙ bit.first) in
-          let there : slice_get network.trees.items group.tree ≡ Some fits.tree = ap (slice_get network.trees.items) (sym tree) ∙ fits.is in
+          let tree : value.source.tree ≡ group.source.tree = ap (λ (s : Source). s.tree) same ∙ bit.tree in
+          let first : group.source.first ≡ value.source.first = sym (ap (λ (s : Source). s.first) same ∙ bit.first) in
+          let there : slice_get network.trees.items group.source.tree ≡ Some fits.tree = ap (slice_get network.trees.items) (sym tree) ∙ fits.is in
           let below : IsBelow (source_tern network.trees.items (seen asked.terns asked.leads) value.source) (source_tern network.trees.items t value.source) =
           source_below network.trees.items (length network.drives.items)
           (λ k. IsWatched asked.own asked.leads lists value.grouped.number (value.source.first + k))

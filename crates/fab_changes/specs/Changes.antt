@@ -41,14 +41,14 @@ pub record IsInGroup (group : Group) (place : ℕ) : Type 0 where
 pub record IsBitOf (network : Network) (own : List ℕ) (group : Group) (place : ℕ) : Type 0 where
   pub source : Source
   pub drive : drive_at network own place ≡ Some (Value source)
-  pub tree : source.tree ≡ group.tree
-  pub first : source.first ≡ group.first
+  pub tree : source.tree ≡ group.source.tree
+  pub first : source.first ≡ group.source.first
 
 -- Neighbours that are bits of one expression. The group watches all points of the expression.
 pub record IsGroup (network : Network) (own leads : List ℕ) (lists : Lists) (number : ℕ) (group : Group) : Type 0 where
   pub ends : group.end ≤ length own
   pub bits : (place : ℕ) → IsInGroup group place → IsBitOf network own group place
-  pub watched : (tree : Tree) → slice_get network.trees.items group.tree ≡ Some tree → WatchesTree own leads lists number group.first tree
+  pub watched : (tree : Tree) → slice_get network.trees.items group.source.tree ≡ Some tree → WatchesTree own leads lists number group.source.first tree
 
 -- a place stands in one of the groups
 pub record IsGrouped (groups : List Group) (place : ℕ) : Type 0 where

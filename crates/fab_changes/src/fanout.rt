@@ -1,6 +1,6 @@
 //! Who reads which points.
 
-ghost use Rattle.std.specs.Prelude.{◌≡◌, ◌+◌, ◌<◌, ◌≤◌, ℕ, true, false, length, replicate, slice_get, slice_set, IfSome, MatchOption, OnSome, Some};
+ghost use Rattle.std.specs.Prelude.{◌≡◌, ◌+◌, ◌<◌, ◌≤◌, ℕ, true, false, length, replicate, slice_set, IfSome, MatchOption, OnSome};
 ghost use Rattle.fab_compiled.specs.Evaluation.{IsWithin};
 ghost use Rattle.fab_compiled.specs.Trees.{IsMade};
 ghost use Rattle.fab_network.specs.Passes.{IsListed};
@@ -121,14 +121,6 @@ impl Fanout {
             Some(place) => put(&mut self.readers, place as usize, reader),
             None => Some(()),
         }
-    }
-
-    /// Whether a reader is stale.
-    pub fn is_stale(&self, reader: usize) -> bool
-        requires within { reader < length self.now.stale }
-        ensures { slice_get self.now.stale reader ≡ Some result }
-    {
-        self.stale.is_set(reader)
     }
 
     /// The first stale reader from a number on. Where few readers are stale, it takes a small part of the time of a look at each.

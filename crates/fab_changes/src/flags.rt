@@ -1,6 +1,6 @@
 //! Flags of which few are set.
 
-ghost use Rattle.std.specs.Prelude.{◌≡◌, ◌+◌, ◌*◌, ◌/◌, ◌^◌, ◌<◌, ◌≤◌, ℕ, true, false, length, replicate, slice_get, slice_set, IfSome, MatchOption, Some};
+ghost use Rattle.std.specs.Prelude.{◌≡◌, ◌+◌, ◌*◌, ◌/◌, ◌^◌, ◌<◌, ◌≤◌, ℕ, true, false, length, replicate, slice_set, IfSome, MatchOption};
 ghost use Rattle.fab_changes.specs.Flags.{AreUnset, IsNextSet, IsUnset};
 
 use std::alloc::Global;
@@ -44,14 +44,6 @@ impl Flags {
         ensures { result ≡ length self.now }
     {
         self.flags.len()
-    }
-
-    /// Whether a flag is set.
-    pub fn is_set(&self, number: usize) -> bool
-        requires within { number < length self.now }
-        ensures { slice_get self.now number ≡ Some result }
-    {
-        self.flags[number]
     }
 
     /// Sets a flag.

@@ -23,10 +23,8 @@ pub struct Group {
     pub begin: u32,
     /// The place behind the last.
     pub end: u32,
-    /// The number of the tree of the expression.
-    pub tree: u32,
-    /// The first point of its instance.
-    pub first: u32,
+    /// The first bit.
+    pub source: Source,
 }
 
 // ---- the points
@@ -110,8 +108,7 @@ fn add_bit(place: u32, source: Source, groups: &mut Vec<Group>) -> Option<()>
     let group = Group {
         begin: place,
         end,
-        tree: source.tree,
-        first: source.first,
+        source,
     };
     groups.push(group).ok()
 }
@@ -120,7 +117,7 @@ fn add_bit(place: u32, source: Source, groups: &mut Vec<Group>) -> Option<()>
 fn is_next(group: Group, place: u32, source: Source) -> bool
     ensures { result ≡ true → IsNext group place source }
 {
-    group.end == place && group.tree == source.tree && group.first == source.first
+    group.end == place && group.source.is_beside(source)
 }
 
 // How many points the longest group has.
@@ -171,9 +168,9 @@ fn note_groups(
 {
     for number in 0..groups.len() {
         let group = groups[number];
-        let tree = network.trees.get(group.tree as usize)?;
+        let tree = network.trees.get(group.source.tree as usize)?;
         let reader = u32::try_from(number).ok()?;
-        fanout.note_tree(places, tree, group.first as usize, reader)?;
+        fanout.note_tree(places, tree, group.source.first as usize, reader)?;
     }
     Some(())
 }

@@ -3,6 +3,7 @@ use Rattle.std.specs.Prelude.{◌≡◌, ◌⊎◌, ℕ, ◌+◌, ◌<◌, ◌�
 use Rattle.fab_compiled.specs.declared.tree.Tree.{Tree}
 use Rattle.fab_network.specs.declared.network.Network.{Network}
 use Rattle.fab_network.specs.declared.network.Source.{Source}
+use Rattle.fab_network.specs.Network.{AreBeside}
 use Rattle.fab_network.specs.Passes.{IsListed}
 use Rattle.fab_changes.specs.declared.fanout.Fanout.{Fanout}
 use Rattle.fab_changes.specs.declared.groups.Group.{Group}
@@ -30,13 +31,12 @@ pub record AreBitGroups (network : Network) (own : List ℕ) (count : ℕ) (grou
 
 -- the group of one bit
 abbrev pub group_of : (place : ℕ) → Source → Group
-group_of place source = record { begin = place; end = place + 1; tree = source.tree; first = source.first }
+group_of place source = record { begin = place; end = place + 1; source = source }
 
 -- a group ends where this bit of its expression stands
 pub record IsNext (group : Group) (place : ℕ) (source : Source) : Type 0 where
   pub ends : group.end ≡ place
-  pub tree : group.tree ≡ source.tree
-  pub first : group.first ≡ source.first
+  pub beside : AreBeside group.source source
 
 -- the last group has one more bit
 pub record IsLonger (place : ℕ) (source : Source) (old new : List Group) : Type 0 where
@@ -56,7 +56,7 @@ HasBit place source old new = IsLonger place source old new ⊎ (new ≡ old ++ 
 abbrev pub AreWatched : Network → (own leads : List ℕ) → Lists → (count : ℕ) → List Group → Type 0
 AreWatched network own leads lists count groups =
     (number : ℕ) (group : Group) (tree : Tree) → number < count → slice_get groups number ≡ Some group →
-    slice_get network.trees.items group.tree ≡ Some tree → WatchesTree own leads lists number group.first tree
+    slice_get network.trees.items group.source.tree ≡ Some tree → WatchesTree own leads lists number group.source.first tree
 
 -- groups that read the point at a place begin behind it, unless it takes what is given to it
 abbrev pub IsOrderedAt : Network → (own : List ℕ) → Lists → List Group → (place : ℕ) → Type 0
