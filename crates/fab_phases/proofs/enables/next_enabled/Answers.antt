@@ -1,6 +1,5 @@
-use Rattle.std.proofs.Common.{◌≤◌, length, subst, arith}
+use Rattle.std.proofs.Common.{subst, arith}
 use Rattle.fab_ternary.specs.declared.Tern.{Tern}
-use Rattle.fab_changes.specs.Fanout.{IsNextStale}
 use Rattle.fab_phases.specs.inner.Enables.{IsEnabled}
 use Rattle.fab_phases.proofs.Passing.{closed_more, fresh_closed, none_closed}
 use Rattle.fab_phases.proofs.enables.next_enabled.Goals as goal
