@@ -29,8 +29,8 @@ pub enum Pairing {
     Agreed,
 }
 
-/// A bit of an equality or a difference by its value as a whole. `None` where both operands are names, parts of names or constants, or the first bit is
-/// open at once, so that it takes no longer bit by bit; and where there is no memory.
+/// A bit of an equality or a difference by its value as a whole. `None` where both operands are names, parts of names or constants, or a difference ends
+/// at its first bit, so that it takes no longer bit by bit; and where there is no memory.
 pub(crate) fn deep_bit(
     tree: &Tree,
     operands: (&Box<Tree>, &Box<Tree>),
@@ -49,7 +49,7 @@ pub(crate) fn deep_bit(
     if is_flat(left) && is_flat(right) {
         return None;
     }
-    if starts_open(left, first, view) {
+    if ends_at_once(tree, first, view) {
         return None;
     }
     match whole(*Box::allocator(left), tree, first, view) {
@@ -68,7 +68,18 @@ fn is_flat(tree: &Tree) -> bool {
     }
 }
 
-// Whether the first bit of an expression is open because a point is. Then a look at that bit ends a difference, bit by bit too.
+// Whether an expression is a difference that a look at the first bit of its minuend ends, bit by bit too. An equality goes on behind an open bit, since two
+// bits that differ may follow: with equalities in its operands, each bit of each would go through all of them again.
+fn ends_at_once(tree: &Tree, first: usize, view: &View) -> bool {
+    match tree {
+        Tree::Minus(_, left, _) => starts_open(left, first, view),
+        Tree::Const(_) | Tree::Bits(_, _) | Tree::Pick(_, _, _) | Tree::Cat(_, _, _) => false,
+        Tree::Not(_) | Tree::And(_, _) | Tree::Or(_, _) | Tree::Xor(_, _) => false,
+        Tree::Equal(_, _, _) | Tree::Cond(_, _, _) => false,
+    }
+}
+
+// Whether the first bit of an expression is open because a point is.
 fn starts_open(tree: &Tree, first: usize, view: &View) -> bool {
     match tree {
         Tree::Bits(place, _) => is_open_point(first.saturating_add(*place as usize), view),

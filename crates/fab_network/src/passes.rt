@@ -226,7 +226,8 @@ fn shown_at(
     }
 }
 
-// Looks again at the readers of points that are known, where the pass came to the reader first, and at those of points that come to be known.
+// Looks again at the readers of points that are known, where the pass came to the reader first, and at those of points that come to be known. Readers of
+// a point are bits of one expression mostly, and so are those of the next point: what is kept of it serves for all of these looks.
 fn look_again(
     network: &Network,
     order: &[u32],
@@ -250,8 +251,27 @@ fn look_again(
 {
     readers.note(network, order, leads);
     readers.start();
-    look_back(network, order, held, leads, forms, readers, terns);
-    look_on(network, order, held, leads, forms, readers, terns);
+    let mut shared = KeptValues::new(*network.trees.allocator());
+    look_back(
+        network,
+        order,
+        held,
+        leads,
+        forms,
+        readers,
+        &mut shared,
+        terns,
+    );
+    look_on(
+        network,
+        order,
+        held,
+        leads,
+        forms,
+        readers,
+        &mut shared,
+        terns,
+    );
 }
 
 // Looks at the readers that stand before a point that is known.
@@ -262,6 +282,7 @@ fn look_back(
     leads: &[u32],
     forms: &[Form],
     readers: &mut Readers,
+    shared: &mut KeptValues,
     terns: &mut [Tern],
 )
     requires fit { AreFit network.now.trees.items network.now.drives.items }
@@ -273,12 +294,16 @@ fn look_back(
     requires own { AreOwn order.now leads.now }
     requires backed { AreBacked network.now.trees.items network.now.drives.items held.now order.now (seen terns.old leads.now) }
     requires forms { HasForms network.now.trees.items network.now.drives.items order.now leads.now terns.old forms.now }
-    ensures { IsFurther (record { trees = network.now.trees.items; drives = network.now.drives.items; held = held.now; order = order.now; leads = leads.now })
+    requires shared { AreShared network.now.trees.items (length leads.now) (seen terns.old leads.now) shared.old }
+    ensures shared { AreShared network.now.trees.items (length leads.now) (seen terns.new leads.now) shared.new }
+    ensures further { IsFurther (record { trees = network.now.trees.items; drives = network.now.drives.items; held = held.now; order = order.now; leads = leads.now })
         terns.old terns.new }
 {
     for place in 0..order.len() {
         let note = readers.note_before(order, terns, place);
-        look_at_readers(network, order, held, leads, forms, readers, note, terns);
+        look_at_readers(
+            network, order, held, leads, forms, readers, note, shared, terns,
+        );
     }
 }
 
@@ -290,6 +315,7 @@ fn look_on(
     leads: &[u32],
     forms: &[Form],
     readers: &mut Readers,
+    shared: &mut KeptValues,
     terns: &mut [Tern],
 )
     requires fit { AreFit network.now.trees.items network.now.drives.items }
@@ -301,14 +327,18 @@ fn look_on(
     requires own { AreOwn order.now leads.now }
     requires backed { AreBacked network.now.trees.items network.now.drives.items held.now order.now (seen terns.old leads.now) }
     requires forms { HasForms network.now.trees.items network.now.drives.items order.now leads.now terns.old forms.now }
-    ensures { IsFurther (record { trees = network.now.trees.items; drives = network.now.drives.items; held = held.now; order = order.now; leads = leads.now })
+    requires shared { AreShared network.now.trees.items (length leads.now) (seen terns.old leads.now) shared.old }
+    ensures shared { AreShared network.now.trees.items (length leads.now) (seen terns.new leads.now) shared.new }
+    ensures further { IsFurther (record { trees = network.now.trees.items; drives = network.now.drives.items; held = held.now; order = order.now; leads = leads.now })
         terns.old terns.new }
 {
     for place in 0..order.len() {
         let Some(note) = readers.next_found(place) else {
             return;
         };
-        look_at_readers(network, order, held, leads, forms, readers, note, terns);
+        look_at_readers(
+            network, order, held, leads, forms, readers, note, shared, terns,
+        );
     }
 }
 
@@ -321,6 +351,7 @@ fn look_at_readers(
     forms: &[Form],
     readers: &mut Readers,
     last: u32,
+    shared: &mut KeptValues,
     terns: &mut [Tern],
 )
     requires fit { AreFit network.now.trees.items network.now.drives.items }
@@ -332,7 +363,9 @@ fn look_at_readers(
     requires own { AreOwn order.now leads.now }
     requires backed { AreBacked network.now.trees.items network.now.drives.items held.now order.now (seen terns.old leads.now) }
     requires forms { HasForms network.now.trees.items network.now.drives.items order.now leads.now terns.old forms.now }
-    ensures { IsFurther (record { trees = network.now.trees.items; drives = network.now.drives.items; held = held.now; order = order.now; leads = leads.now })
+    requires shared { AreShared network.now.trees.items (length leads.now) (seen terns.old leads.now) shared.old }
+    ensures shared { AreShared network.now.trees.items (length leads.now) (seen terns.new leads.now) shared.new }
+    ensures further { IsFurther (record { trees = network.now.trees.items; drives = network.now.drives.items; held = held.now; order = order.now; leads = leads.now })
         terns.old terns.new }
 {
     let mut next = last;
@@ -348,6 +381,7 @@ fn look_at_readers(
             forms,
             readers,
             note.reader,
+            shared,
             terns,
         );
         next = note.before;
@@ -363,6 +397,7 @@ fn look_at_reader(
     forms: &[Form],
     readers: &mut Readers,
     place: u32,
+    shared: &mut KeptValues,
     terns: &mut [Tern],
 )
     requires fit { AreFit network.now.trees.items network.now.drives.items }
@@ -374,24 +409,16 @@ fn look_at_reader(
     requires own { AreOwn order.now leads.now }
     requires backed { AreBacked network.now.trees.items network.now.drives.items held.now order.now (seen terns.old leads.now) }
     requires forms { HasForms network.now.trees.items network.now.drives.items order.now leads.now terns.old forms.now }
-    ensures { IsFurther (record { trees = network.now.trees.items; drives = network.now.drives.items; held = held.now; order = order.now; leads = leads.now })
+    requires shared { AreShared network.now.trees.items (length leads.now) (seen terns.old leads.now) shared.old }
+    ensures shared { AreShared network.now.trees.items (length leads.now) (seen terns.new leads.now) shared.new }
+    ensures further { IsFurther (record { trees = network.now.trees.items; drives = network.now.drives.items; held = held.now; order = order.now; leads = leads.now })
         terns.old terns.new }
 {
     let place = place as usize;
     if place >= order.len() {
         return;
     }
-    let mut shared = KeptValues::new(*network.trees.allocator());
-    let found = look_at(
-        network,
-        order,
-        held,
-        leads,
-        forms,
-        place,
-        &mut shared,
-        terns,
-    );
+    let found = look_at(network, order, held, leads, forms, place, shared, terns);
     note_found(readers, order[place], found);
 }
 

@@ -17,8 +17,8 @@ pub enum Plan {
 const MANY_STEPS: u32 = 8;
 
 // One of so many bits is evaluated alone, before all are found. Where no more than these are asked for, that takes some three times as long as they alone;
-// where all are, a quarter of it.
-const BITS_FOR_A_LOOK: u64 = 16;
+// where all are, a tenth of it.
+const BITS_FOR_A_LOOK: u64 = 32;
 
 // How many bits may stand in a list at once, a byte each. A long chain of operators over a wide name would take gigabytes, and bits alone take nothing.
 const MOST_BITS: u64 = 1 << 26;
@@ -34,7 +34,7 @@ impl Plan {
     }
 }
 
-// The plan for an expression. For each operator a bit alone takes some 25 nanoseconds, and one among all bits some 4.
+// The plan for an expression. For each operator a bit alone takes some 25 nanoseconds, and one among all bits less than 2.
 fn plan_of(tree: &Tree) -> Plan {
     if shares(tree) {
         return Plan::After(1);

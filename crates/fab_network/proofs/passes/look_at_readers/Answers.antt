@@ -6,14 +6,20 @@ use Rattle.fab_network.proofs.passes.look_at_readers.Goals as goal
 pub loop-note-init : goal.loop-note-init
 loop-note-init c =
     let scene : Scene = record { trees = c.args.network.now.trees.items; drives = c.args.network.now.drives.items; held = c.args.held.now; order = c.args.order.now; leads = c.args.leads.now } in
-    none_further scene c.args.terns.now c.requires.backed
+    record {
+      further = none_further scene c.args.terns.now c.requires.backed;
+      shared = c.requires.shared;
+    }
 
 pub loop-note-preserved : goal.loop-note-preserved
 loop-note-preserved c =
     let scene : Scene = record { trees = c.args.network.now.trees.items; drives = c.args.network.now.drives.items; held = c.args.held.now; order = c.args.order.now; leads = c.args.leads.now } in
-    both_further scene c.args.terns.now c.loop-note.terns c.look_at_reader.new.terns c.loop-note.invariant c.look_at_reader.ensures
+    record {
+      further = both_further scene c.args.terns.now c.loop-note.terns c.look_at_reader.new.terns c.loop-note.invariant.further c.look_at_reader.ensures.further;
+      shared = c.look_at_reader.ensures.shared;
+    }
 
 pub look_at_reader-requires-clause-forms : goal.look_at_reader-requires-clause-forms
 look_at_reader-requires-clause-forms c =
     forms_stay c.args.network.now.trees.items c.args.network.now.drives.items c.args.order.now c.args.leads.now c.args.terns.now c.loop-note.terns c.args.forms.now
-    c.loop-note.invariant.others c.requires.forms
+    c.loop-note.invariant.further.others c.requires.forms
