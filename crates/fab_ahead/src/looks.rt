@@ -1,7 +1,7 @@
 //! How many looks there were at bits of an expression, or at a point.
 
 use fab_compiled::Tree;
-use fab_network::Source;
+use fab_network::{Source, looks_before_all};
 
 /// Of how many expressions or points looks are counted at a time.
 const PLACES: u32 = 64;
@@ -69,35 +69,17 @@ impl Looks {
     }
 
     /// One more look at the bit of a source. Told is whether all bits of its expression are to be found now: at the look of this number, at twice as many and
-    /// so on, if they rest on the same work.
+    /// so on, if so many bits alone take longer.
     pub(crate) fn is_due(&mut self, trees: &[Tree], source: Source) -> bool {
         let looks = self.count(Subject::Expression(source.tree, source.first));
-        looks >= FEWEST && looks.is_power_of_two() && is_shared(trees, source)
+        looks >= FEWEST && looks.is_power_of_two() && takes_longer(trees, source, looks)
     }
 }
 
-// Whether a bit of the expression of a source may take as long as all of them.
-fn is_shared(trees: &[Tree], source: Source) -> bool {
+// Whether so many bits of the expression of a source, each alone, take longer than all of them together.
+fn takes_longer(trees: &[Tree], source: Source, looks: u32) -> bool {
     match trees.get(source.tree as usize) {
-        Some(tree) => shares(tree),
+        Some(tree) => looks_before_all(tree).is_some_and(|least| looks >= least),
         None => false,
     }
-}
-
-// Whether bits of an expression rest on the same work: on what lower bits of a difference borrow, or on a test that is more than a name.
-fn shares(tree: &Tree) -> bool {
-    match tree {
-        Tree::Const(_) | Tree::Bits(_, _) | Tree::Pick(_, _, _) => false,
-        Tree::Equal(_, _, _) | Tree::Minus(_, _, _) => true,
-        Tree::Not(inner) => shares(inner),
-        Tree::Cat(left, _, right)
-        | Tree::And(left, right)
-        | Tree::Or(left, right)
-        | Tree::Xor(left, right) => shares(left) || shares(right),
-        Tree::Cond(test, yes, no) => !is_name(test) || shares(yes) || shares(no),
-    }
-}
-
-fn is_name(tree: &Tree) -> bool {
-    matches!(tree, Tree::Bits(_, _))
 }

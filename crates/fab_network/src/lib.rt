@@ -15,6 +15,7 @@ pub use forms::{Form, forms_of};
 pub use leading::{lead_of_source, part_of_source};
 pub use network::{Clock, Drive, Network, Source, evaluate};
 pub use passes::{settle, settle_by};
+pub use plans::looks_before_all;
 pub use readers::Readers;
 pub use sharing::Shared;
 pub use tables::{Inputs, Table};

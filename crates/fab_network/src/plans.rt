@@ -23,6 +23,14 @@ const BITS_FOR_A_LOOK: u64 = 32;
 // How many bits may stand in a list at once, a byte each. A long chain of operators over a wide name would take gigabytes, and bits alone take nothing.
 const MOST_BITS: u64 = 1 << 26;
 
+/// After how many looks at bits of an expression all of them are to be found together. `None` where each bit alone takes no longer.
+pub fn looks_before_all(tree: &Tree) -> Option<u32> {
+    match plan_of(tree) {
+        Plan::After(looks) => Some(looks),
+        Plan::Undecided | Plan::Never => None,
+    }
+}
+
 impl Plan {
     // The plan for an expression, if there is none yet.
     pub(crate) fn decided(self, tree: Option<&Tree>) -> Plan {
