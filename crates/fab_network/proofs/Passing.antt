@@ -116,10 +116,10 @@ module _ (scene : Scene) (fit : AreFit scene.trees scene.drives) (points : lengt
         others = λ q n. kept_other now point t q (λ e. n (place, room, sym e));
       }
 
-    pub visit_further : (new : List Tern) (visit : Visit) → IsVisit scene point now new visit → IsFurther scene now new
-    visit_further new Known (stays, is) = subst (IsFurther scene now) (sym stays) (none_further scene now backed)
-    visit_further new Still (stays, none, shows_none) = subst (IsFurther scene now) (sym stays) (none_further scene now backed)
-    visit_further new Found (none, t, stays, is, given) = subst (IsFurther scene now) (sym stays) (found_further none t is given)
+    pub visit_further : (waits : Bool) (new : List Tern) (visit : Visit) → IsVisit scene waits point now new visit → IsFurther scene now new
+    visit_further waits new Known (stays, is) = subst (IsFurther scene now) (sym stays) (none_further scene now backed)
+    visit_further waits new Still (stays, none, shows_none) = subst (IsFurther scene now) (sym stays) (none_further scene now backed)
+    visit_further waits new Found (none, t, stays, is, given) = subst (IsFurther scene now) (sym stays) (found_further none t is given)
 
   -- ---- nothing of a pass so far
 
@@ -146,7 +146,7 @@ module _ (scene : Scene) (fit : AreFit scene.trees scene.drives) (points : lengt
           | inr after ↦ (let e : count ≡ place = omega arith in subst (λ n. P (slice_index scene.order n)) e at)
         ]
 
-    pub known_passed : (new : List Tern) → IsVisit scene here now new Known → IsPassed scene (count + 1) old new changed unsettled
+    pub known_passed : (new : List Tern) → IsVisit scene changed here now new Known → IsPassed scene (count + 1) old new changed unsettled
     known_passed new (stays, is) =
         let made : IsPassed scene (count + 1) old now changed unsettled = record {
           further = passed.further;
@@ -160,14 +160,14 @@ module _ (scene : Scene) (fit : AreFit scene.trees scene.drives) (points : lengt
         } in
         subst (λ (terns : List Tern). IsPassed scene (count + 1) old terns changed unsettled) (sym stays) made
 
-    pub still_passed : (new : List Tern) → IsVisit scene here now new Still → IsPassed scene (count + 1) old new changed true
+    pub still_passed : (new : List Tern) → IsVisit scene changed here now new Still → IsPassed scene (count + 1) old new changed true
     still_passed new (stays, none, shows_none) =
         let made : IsPassed scene (count + 1) old now changed true = record {
           further = passed.further;
           same = λ e. let before = passed.same e in (
             before.0,
             one_more (λ q. kept_tern old q ≡ unknown → shows_now scene old q ≡ unknown) before.1
-                (λ is. ap (λ terns. shows_now scene terns here) (sym before.0) ∙ shows_none),
+                (λ is. ap (λ terns. shows_now scene terns here) (sym before.0) ∙ shows_none e),
           );
           fewer = passed.fewer;
           all = λ e. absurd (false≢true (sym e));
@@ -192,11 +192,11 @@ module _ (scene : Scene) (fit : AreFit scene.trees scene.drives) (points : lengt
             (ap is_known (point_kept count now passed.further.backed room long none t is given) ∙ is);
       }
 
-    pub found_passed : (new : List Tern) → IsVisit scene here now new Found → IsPassed scene (count + 1) old new true unsettled
+    pub found_passed : (new : List Tern) → IsVisit scene changed here now new Found → IsPassed scene (count + 1) old new true unsettled
     found_passed new (none, t, stays, is, given) =
         subst (λ (terns : List Tern). IsPassed scene (count + 1) old terns true unsettled) (sym stays) (found_passed_at none t is given)
 
-    pub visit_passed : (new : List Tern) (visit : Visit) → IsVisit scene here now new visit →
+    pub visit_passed : (new : List Tern) (visit : Visit) → IsVisit scene changed here now new visit →
         IsPassed scene (count + 1) old new (changed_after changed visit) (unsettled_after unsettled visit)
     visit_passed new Known is = known_passed new is
     visit_passed new Still is = still_passed new is

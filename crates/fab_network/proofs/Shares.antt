@@ -76,6 +76,12 @@ open_kept (Yes ∷ terns) zero l b is test = absurd (false≢true (sym is ∙ te
 open_kept (Open ∷ terns) zero l b is test = refl
 open_kept (t ∷ terns) (suc point) l b is test = open_kept terns point (omega arith) b is test
 
+-- a value that is told to be open
+pub open_value : (t : Tern) (b : Bool) → b ≡ not (is_known (plain_tern t)) → b ≡ true → plain_tern t ≡ unknown
+open_value No b is test = absurd (false≢true (sym is ∙ test))
+open_value Yes b is test = absurd (false≢true (sym is ∙ test))
+open_value Open b is test = refl
+
 -- where a point comes to be known, no less is known of all points
 pub seen_grows : (terns : List Tern) (leads : List ℕ) (point : ℕ) (t : Tern) → point < length terns → kept_tern terns point ≡ unknown →
     (other : ℕ) → IsBelow (seen terns leads other) (seen (slice_set terns point t) leads other)

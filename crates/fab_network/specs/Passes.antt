@@ -71,11 +71,11 @@ pub record Scene : Type 0 where
 abbrev pub shows_now : Scene → (terns : List Tern) → (point : ℕ) → PlainTern
 shows_now scene terns point = shows scene.trees scene.drives scene.held (seen terns scene.leads) point
 
--- what a look at one point does
-abbrev pub IsVisit : Scene → (point : ℕ) → (old new : List Tern) → Visit → Type 0
-IsVisit scene point old new Known = (new ≡ old) × (is_known (kept_tern old point) ≡ true)
-IsVisit scene point old new Still = (new ≡ old) × (kept_tern old point ≡ unknown) × (shows_now scene old point ≡ unknown)
-IsVisit scene point old new Found =
+-- What a look at one point does. Where it may wait, an open point need not have been looked at.
+abbrev pub IsVisit : Scene → (waits : Bool) → (point : ℕ) → (old new : List Tern) → Visit → Type 0
+IsVisit scene waits point old new Known = (new ≡ old) × (is_known (kept_tern old point) ≡ true)
+IsVisit scene waits point old new Still = (new ≡ old) × (kept_tern old point ≡ unknown) × (waits ≡ false → shows_now scene old point ≡ unknown)
+IsVisit scene waits point old new Found =
     (kept_tern old point ≡ unknown) × (t : Tern) × (new ≡ slice_set old point t) × (is_known (plain_tern t) ≡ true) × (plain_tern t ≡ shows_now scene old point)
 
 abbrev pub changed_after : Bool → Visit → Bool

@@ -2,6 +2,8 @@
 
 ghost use Rattle.std.specs.Prelude.{◌≡◌, ◌<◌, ◌≤◌, ◌^◌, ℕ, List, length, slice_index};
 ghost use Rattle.fab_ternary.specs.Terns.{plain_tern};
+ghost use Rattle.fab_compiled.specs.declared.tree.Tree.{Tree};
+ghost use Rattle.fab_compiled.specs.Leading.{PointTerns};
 ghost use Rattle.fab_compiled.specs.Terns.{seen, IsView};
 ghost use Rattle.fab_network.specs.Forms.{HasForms};
 ghost use Rattle.fab_network.specs.Network.{shown_tern, AreFit};
@@ -20,7 +22,7 @@ use fab_ternary::Tern;
 enum Visit {
     /// It was known before.
     Known,
-    /// What it shows is not known yet.
+    /// It is open, and what it shows is not known yet, or has not been looked at.
     Still,
     /// It has come to be known.
     Found,
@@ -115,7 +117,7 @@ pub fn settle_by(
     }
 }
 
-// One look at each point.
+// One look at each point. Behind the first that has come to be known looks may wait, for the next pass.
 fn pass_over(
     network: &Network,
     order: &[u32],
@@ -149,6 +151,7 @@ fn pass_over(
             leads,
             forms,
             place,
+            pass.changed,
             &mut shared,
             terns,
         );
@@ -157,7 +160,7 @@ fn pass_over(
     pass
 }
 
-// One look at the point at a place of the order.
+// One look at the point at a place of the order, or none where it is open and the look may wait.
 fn look_at(
     network: &Network,
     order: &[u32],
@@ -165,6 +168,7 @@ fn look_at(
     leads: &[u32],
     forms: &[Form],
     place: usize,
+    waits: bool,
     shared: &mut KeptValues,
     terns: &mut [Tern],
 ) -> Visit
@@ -180,11 +184,14 @@ fn look_at(
     requires shared { AreShared network.now.trees.items (length leads.now) (seen terns.old leads.now) shared.old }
     ensures shared { AreShared network.now.trees.items (length leads.now) (seen terns.new leads.now) shared.new }
     ensures visit { IsVisit (record { trees = network.now.trees.items; drives = network.now.drives.items; held = held.now; order = order.now; leads = leads.now })
-        (slice_index order.now place) terns.old terns.new result }
+        waits (slice_index order.now place) terns.old terns.new result }
 {
     let point = order[place] as usize;
     if !terns[point].is_open() {
         return Visit::Known;
+    }
+    if waits && may_wait(network, point, forms.get(place), shared) {
+        return Visit::Still;
     }
     let view = View { terns, leads };
     let found = shown_at(network, order, held[point], forms, place, shared, &view);
@@ -194,6 +201,16 @@ fn look_at(
     terns[point] = found;
     shared.note_change();
     Visit::Found
+}
+
+// Whether a look at a point of this form may be left out where another one follows. A table takes no time.
+fn may_wait(network: &Network, point: usize, form: Option<&Form>, shared: &mut KeptValues) -> bool
+    ensures { (trees : List Tree) (count : ℕ) (t : PointTerns) → AreShared trees count t shared.old → AreShared trees count t shared.new }
+{
+    match (form, network.drives.get(point)) {
+        (Some(Form::Shows(_)), _) | (_, None) => false,
+        (Some(Form::Takes(_) | Form::Driven) | None, Some(drive)) => shared.may_wait(*drive),
+    }
 }
 
 // What the point at a place of the order shows, where a latch holds this value.
@@ -388,7 +405,7 @@ fn look_at_readers(
     }
 }
 
-// Looks at the point at a place of the order.
+// Looks at the point at a place of the order. The look may wait, since another pass follows.
 fn look_at_reader(
     network: &Network,
     order: &[u32],
@@ -418,7 +435,9 @@ fn look_at_reader(
     if place >= order.len() {
         return;
     }
-    let found = look_at(network, order, held, leads, forms, place, shared, terns);
+    let found = look_at(
+        network, order, held, leads, forms, place, true, shared, terns,
+    );
     note_found(readers, order[place], found);
 }
 

@@ -9,6 +9,8 @@ pub enum Plan {
     Undecided,
     /// After so many looks at bits that are not kept.
     After(u32),
+    /// The same, and each bit alone may take as long as all of them, because they rest on the same work.
+    Together(u32),
     /// Not at all, because each bit alone takes no longer or because there is no memory.
     Never,
 }
@@ -25,10 +27,7 @@ const MOST_BITS: u64 = 1 << 26;
 
 /// After how many looks at bits of an expression all of them are to be found together. `None` where each bit alone takes no longer.
 pub fn looks_before_all(tree: &Tree) -> Option<u32> {
-    match plan_of(tree) {
-        Plan::After(looks) => Some(looks),
-        Plan::Undecided | Plan::Never => None,
-    }
+    plan_of(tree).looks()
 }
 
 impl Plan {
@@ -37,7 +36,24 @@ impl Plan {
         match (self, tree) {
             (Plan::Undecided, Some(tree)) => plan_of(tree),
             (Plan::Undecided, None) => Plan::Never,
-            (Plan::After(_) | Plan::Never, _) => self,
+            (Plan::After(_) | Plan::Together(_) | Plan::Never, _) => self,
+        }
+    }
+
+    // How many looks there are before all bits are found, if they ever are.
+    pub(crate) fn looks(self) -> Option<u32> {
+        match self {
+            Plan::After(looks) | Plan::Together(looks) => Some(looks),
+            Plan::Undecided | Plan::Never => None,
+        }
+    }
+
+    // The plan when all bits have been found: the next time that is after twice as many looks.
+    pub(crate) fn doubled(self) -> Plan {
+        match self {
+            Plan::After(looks) => Plan::After(looks.saturating_mul(2)),
+            Plan::Together(looks) => Plan::Together(looks.saturating_mul(2)),
+            Plan::Undecided | Plan::Never => self,
         }
     }
 }
@@ -45,7 +61,7 @@ impl Plan {
 // The plan for an expression. For each operator a bit alone takes some 25 nanoseconds, and one among all bits less than 2.
 fn plan_of(tree: &Tree) -> Plan {
     if shares(tree) {
-        return Plan::After(1);
+        return Plan::Together(1);
     }
     if steps(tree) < MANY_STEPS {
         return Plan::Never;

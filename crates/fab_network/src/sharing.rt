@@ -9,7 +9,7 @@ ghost use Rattle.fab_compiled.specs.Terns.{seen, IsView};
 ghost use Rattle.fab_network.specs.Network.{source_tern, IsFitSource};
 ghost use Rattle.fab_network.specs.Sharing.{AreShared, IsShared};
 
-use crate::network::{Source, evaluate};
+use crate::network::{Drive, Source, evaluate};
 use crate::plans::Plan;
 use fab_base::Memory;
 use fab_compiled::{Tree, View, whole_into};
@@ -110,14 +110,31 @@ impl Shared {
         ensures shared { (trees : List Tree) (count : ℕ) (t : PointTerns) → IsShared trees count t self.old → IsShared trees count t self.new }
     {
         self.plan = self.plan.decided(trees.get(self.tree as usize));
-        let Plan::After(looks) = self.plan else {
+        let Some(looks) = self.plan.looks() else {
             return false;
         };
         self.open_looks = self.open_looks.saturating_add(1);
         if self.open_looks < looks {
             return false;
         }
-        self.plan = Plan::After(looks.saturating_mul(2));
+        self.plan = self.plan.doubled();
+        true
+    }
+
+    // Whether a look at a bit may be left out where another one follows: alone it takes as long as all bits, and they are not due. It counts as a look, so
+    // that they come to be due.
+    fn may_wait(&mut self, source: Source) -> bool
+        ensures { (trees : List Tree) (count : ℕ) (t : PointTerns) → IsShared trees count t self.old → IsShared trees count t self.new }
+    {
+        let Plan::Together(looks) = self.plan else {
+            return false;
+        };
+        let is_other = self.tree != source.tree || self.first != source.first;
+        let open_looks = self.open_looks.saturating_add(1);
+        if is_other || open_looks >= looks || self.kept(source.bit).is_some() {
+            return false;
+        }
+        self.open_looks = open_looks;
         true
     }
 
@@ -179,6 +196,19 @@ impl KeptValues {
         KeptValues {
             points: Shared::new(alloc),
             gates: Shared::new(alloc),
+        }
+    }
+
+    /// Whether a look at a point with this drive may be left out where another one follows, since that one will take less.
+    pub(crate) fn may_wait(&mut self, drive: Drive) -> bool
+        ensures { (trees : List Tree) (count : ℕ) (t : PointTerns) → AreShared trees count t self.old → AreShared trees count t self.new }
+    {
+        match drive {
+            Drive::Given | Drive::Flop(_, _) | Drive::Same(_) => false,
+            Drive::Value(source) => self.points.may_wait(source),
+            Drive::Hold(gate, latched) => {
+                self.gates.may_wait(gate) || self.points.may_wait(latched)
+            }
         }
     }
 
