@@ -1,4 +1,5 @@
-use Rattle.std.proofs.Common.{◌≡◌, ℕ, List, length, refl, ap, sym, ◌∙◌, subst, arith, slice_index, slice_set}
+use Rattle.std.proofs.Common.{◌≡◌, ℕ, ◌<◌, List, length, refl, ap, sym, ◌∙◌, subst, arith, slice_index, slice_set}
+use Rattle.std.proofs.lemmas.Bool.{false≢true}
 use Rattle.std.proofs.lemmas.Option.{slice_get-get_or}
 use Rattle.fab_systems_laws.specs.Ternary.{unknown, Tern as PlainTern}
 use Rattle.fab_ternary.specs.declared.Tern.TheVariants.{No}
@@ -10,7 +11,6 @@ use Rattle.fab_compiled.proofs.Written.{tells_known}
 use Rattle.fab_network.specs.Network.{shown_tern}
 use Rattle.fab_network.specs.Passes.{kept_tern}
 use Rattle.fab_network.specs.Sharing.{AreShared}
-use Rattle.fab_network.specs.declared.sharing.KeptValues.{KeptValues}
 use Rattle.fab_network.proofs.Shares.{open_kept, open_value, seen_grows}
 use Rattle.fab_network.proofs.passes.look_at.Goals as goal
 use Rattle.fab_network.proofs.passes.look_at.Goals.{else-waits-via-then-waits+else-may_wait, else-waits-via-else-waits}
@@ -25,8 +25,8 @@ shown_at-found-requires-clause-shared c =
     let count : ℕ = length c.args.leads.now in
     let t : PointTerns = seen c.args.terns.now c.args.leads.now in
     elim c.else-waits.branch [
-      | else-waits-via-then-waits+else-may_wait w ↦ subst (λ (values : KeptValues). AreShared trees count t values) (sym w.shared-is) (w.may_wait.ensures trees count t c.requires.shared)
-      | else-waits-via-else-waits w ↦ subst (λ (values : KeptValues). AreShared trees count t values) (sym w.shared-is) c.requires.shared
+      | else-waits-via-then-waits+else-may_wait w ↦ subst (AreShared trees count t) (sym w.shared-is) (w.may_wait.ensures trees count t c.requires.shared)
+      | else-waits-via-else-waits w ↦ subst (AreShared trees count t) (sym w.shared-is) c.requires.shared
     ]
 
 pub returns-clause-shared : goal.returns-clause-shared
@@ -37,16 +37,26 @@ returns-clause-shared c =
     (λ point l. seen_grows terns leads (slice_index c.args.order.now c.args.place) c.shown_at-found.result (omega (arith, (c.requires.own c.args.place c.requires.within).0, c.requires.terns)) (none_kept c) point)
     c.shown_at-found.ensures.shared
 
+pub returns-then-may_wait-clause-visit : goal.returns-then-may_wait-clause-visit
+returns-then-may_wait-clause-visit c =
+    let point = slice_index c.args.order.now c.args.place in
+    let inside : point < length c.args.terns.now = omega (arith, (c.requires.own c.args.place c.requires.within).0, c.requires.terns) in (
+      refl,
+      open_kept c.args.terns.now point inside c.is_open.result c.is_open.ensures c.if-not-is_open.false,
+      λ asked. absurd (false≢true (sym asked ∙ c.if-waits.true)),
+    )
+
 pub returns-then-is_open-clause-visit : goal.returns-then-is_open-clause-visit
 returns-then-is_open-clause-visit c =
     let point = slice_index c.args.order.now c.args.place in
-    let held = sym (ap tern_or_unknown (slice_get-get_or c.args.held.now point No (omega (arith, (c.requires.own c.args.place c.requires.within).0, c.requires.held)))) in (
+    let within = (c.requires.own c.args.place c.requires.within).0 in
+    let inside : point < length c.args.terns.now = omega (arith, within, c.requires.terns) in
+    let held = sym (ap tern_or_unknown (slice_get-get_or c.args.held.now point No (omega (arith, within, c.requires.held)))) in
+    let shows = λ (h : PlainTern). shown_tern c.args.network.now.trees.items c.args.network.now.drives.items h (seen c.args.terns.now c.args.leads.now) point in (
       refl,
-      open_kept c.args.terns.now point (omega (arith, (c.requires.own c.args.place c.requires.within).0, c.requires.terns)) c.is_open.result c.is_open.ensures c.if-not-is_open.false,
+      open_kept c.args.terns.now point inside c.is_open.result c.is_open.ensures c.if-not-is_open.false,
       λ asked.
-          sym
-          (c.shown_at-found.ensures.value
-          ∙ ap (λ (h : PlainTern). shown_tern c.args.network.now.trees.items c.args.network.now.drives.items h (seen c.args.terns.now c.args.leads.now) point) held)
+          sym (c.shown_at-found.ensures.value ∙ ap shows held)
           ∙ open_value c.shown_at-found.result c.is_open-2.result c.is_open-2.ensures c.if-is_open.true,
     )
 
