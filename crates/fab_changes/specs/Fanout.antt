@@ -1,5 +1,5 @@
 -- Who reads which points.
-use Rattle.std.specs.Prelude.{◌≡◌, ◌≢◌, ℕ, ◌+◌, ◌<◌, ◌≤◌, Bool, false, List, Some, Vec, length, slice_get, slice_index}
+use Rattle.std.specs.Prelude.{◌≡◌, ◌≢◌, ℕ, ◌+◌, ◌<◌, ◌≤◌, Bool, List, Some, Vec, length, slice_get, slice_index}
 use Rattle.std.specs.Global.{Global}
 use Rattle.fab_ternary.specs.declared.Tern.{Tern}
 use Rattle.fab_compiled.specs.declared.tree.Tree.{Tree}
@@ -7,7 +7,7 @@ use Rattle.fab_compiled.specs.Trees.{EachPlace}
 use Rattle.fab_network.specs.Passes.{kept_tern, AreOwn, IsListed}
 use Rattle.fab_changes.specs.declared.fanout.Fanout.{Fanout}
 use Rattle.fab_changes.specs.declared.places.Places.{Places}
-use Rattle.fab_changes.specs.Flags.{IsNextSet}
+use Rattle.fab_changes.specs.Flags.{AreUnset, IsNextSet, IsUnset}
 
 -- no point stands twice among those that stand for themselves
 abbrev pub IsOnce : (own : List ℕ) → Type 0
@@ -52,11 +52,11 @@ ReadsMore old new = (place reader : ℕ) → IsReader old place reader → IsRea
 
 -- nothing has changed that this reader reads since it was looked at
 abbrev pub IsFresh : (stale : List Bool) → (reader : ℕ) → Type 0
-IsFresh stale reader = slice_get stale reader ≡ Some false
+IsFresh = IsUnset
 
 -- the same of all readers from one number up to another
 abbrev pub AreFresh : (stale : List Bool) → (from end : ℕ) → Type 0
-AreFresh stale from end = (reader : ℕ) → from ≤ reader → reader < end → IsFresh stale reader
+AreFresh = AreUnset
 
 -- the first stale reader from a number on
 abbrev pub IsNextStale : (stale : List Bool) → (from reader : ℕ) → Type 0
