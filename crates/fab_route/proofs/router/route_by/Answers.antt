@@ -1,4 +1,4 @@
-use Rattle.std.proofs.Common.{List, length, Option, IfSome, sym, ◌∙◌, subst, arith}
+use Rattle.std.proofs.Common.{List, length, Option, IfSome, sym, ◌∙◌, subst}
 use Rattle.std.specs.List.{All}
 use Rattle.std.proofs.lemmas.Option.{IfSome_then}
 use Rattle.std.proofs.lemmas.Result.{IfOk-weaker}
