@@ -1,11 +1,21 @@
 //! Whether a run still gets better.
 ghost use Rattle.std.specs.Prelude.{◌≡◌, ◌+◌, ◌≤◌, true, false};
+ghost use Rattle.fab_pathfinder.specs.declared.hope.Patience.TheVariants.{Endless};
 
 /// Within how many rounds the count of shared nodes has to halve.
 const PATIENCE: u32 = 8;
 
 /// So few shared nodes are worth each round that is left.
 const FEW: usize = 32;
+
+/// How long a run goes on that leaves nodes shared.
+#[derive(Clone, Copy)]
+pub(crate) enum Patience {
+    /// Up to the limit of its rounds.
+    Endless,
+    /// Up to that limit too, but only while its hope is not lost.
+    WhileHopeful,
+}
 
 /// What is hoped of a run: that the count of shared nodes halves again within some rounds.
 #[derive(Clone, Copy)]
@@ -45,11 +55,14 @@ impl Hope {
         }
     }
 
-    /// Whether it is given up, which those who are patient never do.
-    pub fn is_lost(self, patient: bool) -> bool
+    /// Whether a run of such patience ends here, since its hope is lost.
+    pub fn is_lost(self, patience: Patience) -> bool
         ensures late { result ≡ true → self.left ≡ 0 }
-        ensures patient { patient ≡ true → result ≡ false }
+        ensures endless { patience ≡ Endless → result ≡ false }
     {
-        !patient && self.left == 0
+        match patience {
+            Patience::Endless => false,
+            Patience::WhileHopeful => self.left == 0,
+        }
     }
 }

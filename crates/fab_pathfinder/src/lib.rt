@@ -10,5 +10,5 @@ mod rounds;
 mod tree;
 
 pub use net::{CutOff, Net, Sink};
-pub use rounds::{Routed, run_rounds};
+pub use rounds::{Routed, run_rounds, try_rounds};
 pub use tree::{Round, Tree};

@@ -1,12 +1,13 @@
 //! Rounds until no node is shared, or up to a limit.
-ghost use Rattle.std.specs.Prelude.{◌≡◌, ℕ, ◌+◌, ◌-◌, ◌<◌, ◌≤◌, ◌^◌, true, [], length, map, slice_index, IfOk, IfErr, IfSome, IfNone};
+ghost use Rattle.std.specs.Prelude.{◌≡◌, ℕ, ◌+◌, ◌-◌, ◌<◌, ◌≤◌, ◌^◌, [], length, map, slice_index, IfOk, IfErr, IfSome, IfNone};
 ghost use Rattle.std.specs.List.{All};
 ghost use Rattle.fab_astar.specs.Scene.{IsGraph, IsBound};
 ghost use Rattle.fab_astar.specs.Tables.{AreTables, count_of, users_of};
+ghost use Rattle.fab_pathfinder.specs.declared.hope.Patience.TheVariants.{Endless};
 ghost use Rattle.fab_pathfinder.specs.Rounds.{Run, IsCutOff, users, no_trees, last_trees};
 ghost use Rattle.fab_pathfinder.specs.Plain.{nets_of, trees_of, rounds_of, IsInside, most_routed_nets};
 
-use crate::hope::Hope;
+use crate::hope::{Hope, Patience};
 use crate::net::{CutOff, Net};
 use crate::round::run_round;
 use crate::tree::{Round, Tree};
@@ -90,8 +91,6 @@ fn latest<'a>(rounds: &'a [Round], bare: &'a [Tree]) -> &'a [Tree]
 
 /// Rounds over nets in a graph of so many nodes, until no node stands in two trees, or up to a limit. An `Err` tells of the first net with a
 /// sink that no walk from its roots comes to, and of its first such sink. The bounds on nets and rounds keep each price below 2^42.
-///
-/// Where it is not patient, it ends as soon as the count of shared nodes does not get to its half within 8 rounds, while it is above 32.
 pub fn run_rounds<F: Field, P: Progress>(
     alloc: Global,
     progress: &mut P,
@@ -99,7 +98,6 @@ pub fn run_rounds<F: Field, P: Progress>(
     nodes: u32,
     nets: &[Net],
     limit: u32,
-    patient: bool,
 ) -> Result<Result<Routed, CutOff>, Memory>
     requires graph { IsGraph (F.graph field.now) }
     requires bound { IsBound (F.graph field.now) (F.rest field.now) }
@@ -117,7 +115,87 @@ pub fn run_rounds<F: Field, P: Progress>(
         users (last_trees (no_trees (nets_of nets.now)) (rounds_of routed.rounds.items)) v ≤ 1))) }
     ensures begun { IfOk result (λ done. IfOk done (λ routed. 1 ≤ limit → 1 ≤ length routed.rounds.items)) }
     ensures limit { IfOk result (λ done. IfOk done (λ routed. length routed.rounds.items ≤ limit)) }
-    ensures all { patient ≡ true → IfOk result (λ done. IfOk done (λ routed. IfSome routed.shared (λ _. length routed.rounds.items ≡ limit))) }
+    ensures all { IfOk result (λ done. IfOk done (λ routed. IfSome routed.shared (λ _. length routed.rounds.items ≡ limit))) }
+    ensures cut_off { IfOk result (λ done. IfErr done (λ cut. IsCutOff (F.graph field.now) (nets_of nets.now) cut.net cut.sink)) }
+{
+    negotiate(
+        alloc,
+        progress,
+        field,
+        nodes,
+        nets,
+        limit,
+        Patience::Endless,
+    )
+}
+
+/// Rounds as those of `run_rounds`, but only while they get better: they end as soon as the count of shared nodes does not get to its half
+/// within 8 rounds, while it is above 32.
+pub fn try_rounds<F: Field, P: Progress>(
+    alloc: Global,
+    progress: &mut P,
+    field: &F,
+    nodes: u32,
+    nets: &[Net],
+    limit: u32,
+) -> Result<Result<Routed, CutOff>, Memory>
+    requires graph { IsGraph (F.graph field.now) }
+    requires bound { IsBound (F.graph field.now) (F.rest field.now) }
+    requires nodes { (F.graph field.now).nodes ≡ nodes }
+    requires nets { All (IsInside (F.graph field.now).nodes) nets.now }
+    requires few { length nets.now ≤ most_routed_nets }
+    requires limit { limit ≤ 64 }
+    ensures run { IfOk result (λ done. IfOk done (λ routed. Run (F.graph field.now) (nets_of nets.now) (rounds_of routed.rounds.items)
+        (last_trees (no_trees (nets_of nets.now)) (rounds_of routed.rounds.items)))) }
+    ensures apart { IfOk result (λ done. IfOk done (λ routed. IfNone routed.shared ((w : ℕ) →
+        users (last_trees (no_trees (nets_of nets.now)) (rounds_of routed.rounds.items)) w ≤ 1))) }
+    ensures shared { IfOk result (λ done. IfOk done (λ routed. IfSome routed.shared (λ w.
+        2 ≤ users (last_trees (no_trees (nets_of nets.now)) (rounds_of routed.rounds.items)) w))) }
+    ensures least { IfOk result (λ done. IfOk done (λ routed. IfSome routed.shared (λ w. (v : ℕ) → v < w →
+        users (last_trees (no_trees (nets_of nets.now)) (rounds_of routed.rounds.items)) v ≤ 1))) }
+    ensures begun { IfOk result (λ done. IfOk done (λ routed. 1 ≤ limit → 1 ≤ length routed.rounds.items)) }
+    ensures limit { IfOk result (λ done. IfOk done (λ routed. length routed.rounds.items ≤ limit)) }
+    ensures late { IfOk result (λ done. IfOk done (λ routed. IfSome routed.shared (λ _. length routed.rounds.items < limit → 8 ≤ length routed.rounds.items))) }
+    ensures cut_off { IfOk result (λ done. IfErr done (λ cut. IsCutOff (F.graph field.now) (nets_of nets.now) cut.net cut.sink)) }
+{
+    negotiate(
+        alloc,
+        progress,
+        field,
+        nodes,
+        nets,
+        limit,
+        Patience::WhileHopeful,
+    )
+}
+
+/// Rounds of `run_rounds` or of `try_rounds`, by how patient they are.
+fn negotiate<F: Field, P: Progress>(
+    alloc: Global,
+    progress: &mut P,
+    field: &F,
+    nodes: u32,
+    nets: &[Net],
+    limit: u32,
+    patience: Patience,
+) -> Result<Result<Routed, CutOff>, Memory>
+    requires graph { IsGraph (F.graph field.now) }
+    requires bound { IsBound (F.graph field.now) (F.rest field.now) }
+    requires nodes { (F.graph field.now).nodes ≡ nodes }
+    requires nets { All (IsInside (F.graph field.now).nodes) nets.now }
+    requires few { length nets.now ≤ most_routed_nets }
+    requires limit { limit ≤ 64 }
+    ensures run { IfOk result (λ done. IfOk done (λ routed. Run (F.graph field.now) (nets_of nets.now) (rounds_of routed.rounds.items)
+        (last_trees (no_trees (nets_of nets.now)) (rounds_of routed.rounds.items)))) }
+    ensures apart { IfOk result (λ done. IfOk done (λ routed. IfNone routed.shared ((w : ℕ) →
+        users (last_trees (no_trees (nets_of nets.now)) (rounds_of routed.rounds.items)) w ≤ 1))) }
+    ensures shared { IfOk result (λ done. IfOk done (λ routed. IfSome routed.shared (λ w.
+        2 ≤ users (last_trees (no_trees (nets_of nets.now)) (rounds_of routed.rounds.items)) w))) }
+    ensures least { IfOk result (λ done. IfOk done (λ routed. IfSome routed.shared (λ w. (v : ℕ) → v < w →
+        users (last_trees (no_trees (nets_of nets.now)) (rounds_of routed.rounds.items)) v ≤ 1))) }
+    ensures begun { IfOk result (λ done. IfOk done (λ routed. 1 ≤ limit → 1 ≤ length routed.rounds.items)) }
+    ensures limit { IfOk result (λ done. IfOk done (λ routed. length routed.rounds.items ≤ limit)) }
+    ensures all { patience ≡ Endless → IfOk result (λ done. IfOk done (λ routed. IfSome routed.shared (λ _. length routed.rounds.items ≡ limit))) }
     ensures late { IfOk result (λ done. IfOk done (λ routed. IfSome routed.shared (λ _. length routed.rounds.items < limit → 8 ≤ length routed.rounds.items))) }
     ensures cut_off { IfOk result (λ done. IfErr done (λ cut. IsCutOff (F.graph field.now) (nets_of nets.now) cut.net cut.sink)) }
 {
@@ -148,7 +226,7 @@ pub fn run_rounds<F: Field, P: Progress>(
         }
         shared = left.least;
         hope = hope.after(left.count);
-        if hope.is_lost(patient) {
+        if hope.is_lost(patience) {
             return Ok(Ok(Routed { rounds, shared }));
         }
     }

@@ -6,7 +6,7 @@ use Rattle.std.proofs.lemmas.Bool.Decides.{eqb_tells}
 use Rattle.std.proofs.Math.ListN.{set}
 use Rattle.std.proofs.lemmas.List.{get_or-set_same, get_or-set_other, get_or_default}
 use Rattle.fab_netlist.specs.Plain.{IsAt}
-use Rattle.fab_netlist.proofs.Members.{in_none, number_any, any_number}
+use Rattle.fab_netlist.proofs.Members.{number_any, any_number}
 use Rattle.fab_legal.proofs.Lists.{cases_below}
 use Rattle.fab_legal.proofs.Members.{in_taken, stays_taken, last_taken}
 use Rattle.fab_pathfinder.specs.Rounds.{Paths, nodes_of, tree_at}

@@ -1,11 +1,11 @@
 -- Tables that pass a test, hop by hop.
-use Rattle.std.proofs.Common.{◌≡◌, ℕ, ◌+◌, ◌-◌, ◌*◌, ◌<◌, ◌≤◌, List, [], Vec, get_or, Contains, refl, sym, ap, ◌∙◌, subst, inl, inr, arith}
+use Rattle.std.proofs.Common.{◌≡◌, ℕ, ◌+◌, ◌-◌, ◌*◌, ◌<◌, ◌≤◌, List, Vec, get_or, Contains, sym, ap, ◌∙◌, subst, inl, inr, arith}
 use Rattle.std.specs.List.{All}
 use Rattle.std.proofs.lemmas.List.Elements.{All-contains}
 use Rattle.fab_legal.proofs.Lists.{cases_below}
 use Rattle.fab_route.specs.declared.hops.Hop.{Hop}
 use Rattle.fab_route.specs.declared.window.Window.{Window}
-use Rattle.fab_route.specs.inner.Guided.{IsWindow, IsAcross, IsDown, entry_of, IsLineTested, IsHopTested, hops_to, AreTested}
+use Rattle.fab_route.specs.inner.Guided.{IsAcross, IsLineTested, IsHopTested, hops_to, AreTested}
 
 -- ---- one line
 

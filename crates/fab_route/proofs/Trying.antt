@@ -1,18 +1,10 @@
 -- Runs that may have ended before their last round.
-use Rattle.std.proofs.Common.{◌≡◌, ℕ, ◌≤◌, Bool, true, false, List, length, Option, Some, None, IfSome, refl, sym, subst, inl, inr}
+use Rattle.std.proofs.Common.{◌≡◌, ℕ, ◌≤◌, Bool, true, false, List, length, Option, None, IfSome, sym, subst, inl, inr}
 use Rattle.std.proofs.lemmas.Bool.{cases_Bool}
 use Rattle.fab_pathfinder.specs.declared.rounds.Routed.{Routed}
 use Rattle.fab_pathfinder.specs.Rounds.{Net}
 use Rattle.fab_astar.specs.Walks.{Graph}
 use Rattle.fab_route.specs.inner.Told.{IsNodeRun}
-
-of_some : (o : Option ℕ) (P : Type 0) → P → IfSome o (λ _. P)
-of_some None P p = tt
-of_some (Some node) P p = p
-
--- a run has all the rounds that it has
-pub all_of_them : (run : Routed) → IfSome run.shared (λ _. length run.rounds.items ≡ length run.rounds.items)
-all_of_them run = of_some run.shared (length run.rounds.items ≡ length run.rounds.items) refl
 
 none_left : (o : Option ℕ) (P : Type 0) → o ≡ None → IfSome o (λ _. P)
 none_left o P none = subst (λ (p : Option ℕ). IfSome p (λ _. P)) (sym none) tt

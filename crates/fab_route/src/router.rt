@@ -1,11 +1,13 @@
 //! The router.
 
 ghost use Rattle.std.specs.Prelude.{◌≡◌, ◌≤◌, ℕ, true, false, length, List, None, is_some, IfOk, IfErr, IfSome, IfNone};
+ghost use Rattle.std.specs.List.{All};
+ghost use Rattle.fab_astar.specs.Scene.{IsGraph, IsBound};
 ghost use Rattle.fab_implementation.specs.Plain.{Pad};
 ghost use Rattle.fab_legal.specs.Legal.{ArePlaced, IsLegal};
 ghost use Rattle.fab_legal.specs.Lines.{ConstraintsHold};
 ghost use Rattle.fab_legal.specs.WellMade.{IsWellMadePacked};
-ghost use Rattle.fab_pathfinder.specs.Plain.{nets_of};
+ghost use Rattle.fab_pathfinder.specs.Plain.{nets_of, IsInside, most_routed_nets};
 ghost use Rattle.fab_pathfinder.specs.Rounds.{IsCutOff};
 ghost use Rattle.fab_ways_laws.specs.Mapping.{AreRouted};
 ghost use Rattle.fab_ways_laws.specs.Trees.{with_trees};
@@ -13,6 +15,7 @@ ghost use Rattle.fab_nodes_laws.specs.Nets.{AreNets, net_sinks};
 ghost use Rattle.fab_route.specs.Answers.{IsLeftShared, IsTrueFault};
 ghost use Rattle.fab_route.specs.Over.{IsOver};
 ghost use Rattle.fab_route.specs.Plain.{graph_of, numbering_of};
+ghost use Rattle.fab_route.specs.inner.Guided.{left_from};
 ghost use Rattle.fab_route.specs.inner.Told.{IsNodeRun};
 ghost use Rattle.fab_route.specs.inner.Wanted.{wire_groups};
 
@@ -30,7 +33,7 @@ use fab_base::Memory;
 use fab_fabric::{Fabric, Wire};
 use fab_implementation::{Implementation, Tree};
 use fab_netlist::{NetId, Packed};
-use fab_pathfinder::{CutOff, Net, Routed as Run, run_rounds};
+use fab_pathfinder::{CutOff, Net, Routed as Run, run_rounds, try_rounds};
 use fab_progress::{Progress, Silent};
 use std::alloc::Global;
 
@@ -155,8 +158,7 @@ fn route_by<P: Progress>(
         bounds,
         delays,
     };
-    let count = guide.nodes.count();
-    match run_rounds(alloc, progress, &guide, count, &nets, rounds, patient)? {
+    match run_by(alloc, progress, &guide, &nets, rounds, patient)? {
         Err(cut) => Err(no_path(fabric, packed, placed, &guide.nodes, &nets, &sinks, cut)),
         Ok(run) => tell_found(
             alloc,
@@ -171,6 +173,33 @@ fn route_by<P: Progress>(
             patient,
         ),
     }
+}
+
+// Rounds over nets, up to the limit where they are patient, and else only while they get better.
+fn run_by<P: Progress>(
+    alloc: Global,
+    progress: &mut P,
+    guide: &Guide,
+    nets: &[Net],
+    allowed: u32,
+    patient: bool,
+) -> Result<Result<Run, CutOff>, Memory>
+    requires graph { IsGraph (graph_of guide.now.nodes) }
+    requires bound { IsBound (graph_of guide.now.nodes) (left_from guide.now.bounds) }
+    requires nets { All (IsInside (graph_of guide.now.nodes).nodes) nets.now }
+    requires few { length nets.now ≤ most_routed_nets }
+    requires some { 1 ≤ allowed }
+    requires limit { allowed ≤ 64 }
+    ensures run { IfOk result (λ done. IfOk done (λ run. IsNodeRun (graph_of guide.now.nodes) (nets_of nets.now) (length run.rounds.items) run)) }
+    ensures few { IfOk result (λ done. IfOk done (λ run. length run.rounds.items ≤ allowed)) }
+    ensures all { patient ≡ true → IfOk result (λ done. IfOk done (λ run. IfSome run.shared (λ _. length run.rounds.items ≡ allowed))) }
+    ensures cut_off { IfOk result (λ done. IfErr done (λ cut. IsCutOff (graph_of guide.now.nodes) (nets_of nets.now) cut.net cut.sink)) }
+{
+    let count = guide.nodes.count();
+    if patient {
+        return run_rounds(alloc, progress, guide, count, nets, allowed);
+    }
+    try_rounds(alloc, progress, guide, count, nets, allowed)
 }
 
 // The net and the sink of this net that are cut off.

@@ -1,6 +1,5 @@
 -- A table that bounds what is left to pay from a node on, by the class of the node and by how far away the tile of the sink is.
 use Rattle.std.specs.Prelude.{◌≡◌, ℕ, ◌+◌, ◌-◌, ◌*◌, ◌<◌, ◌≤◌, List, Vec, [], map, length, slice_index, slice_index_or, Contains}
-use Rattle.std.specs.List.{All}
 use Rattle.fab_model.specs.Grid.{PlainFabric}
 use Rattle.fab_astar.specs.Walks.{Graph}
 pub use Rattle.fab_nodes_laws.specs.Tables.{away}

@@ -1,4 +1,4 @@
-use Rattle.std.proofs.Common.{List, length, Option, IfSome, sym, ◌∙◌, subst, arith}
+use Rattle.std.proofs.Common.{List, length, Option, IfSome, sym, ◌∙◌, subst}
 use Rattle.std.specs.List.{All}
 use Rattle.std.proofs.lemmas.Option.{IfSome_then}
 use Rattle.std.proofs.lemmas.Result.{IfOk-weaker}
@@ -13,11 +13,10 @@ use Rattle.fab_ways_laws.proofs.Legal.{unshared_is_legal}
 use Rattle.fab_route.specs.Plain.{graph_of}
 use Rattle.fab_route.specs.inner.Told.{IsNodeRun}
 use Rattle.fab_route.specs.declared.router.Routed.{Routed}
-use Rattle.fab_route.proofs.Trying.{all_of_them}
 use Rattle.fab_route.proofs.router.route_by.Goals as goal
 
-pub run_rounds-requires-clause-nets : goal.run_rounds-requires-clause-nets
-run_rounds-requires-clause-nets g c =
+pub run_by-requires-clause-nets : goal.run_by-requires-clause-nets
+run_by-requires-clause-nets g c =
     subst (λ (ns : List Net). All (IsInside (graph_of c.in_ok-nodes.nodes).nodes) ns) (sym c.deref-2.ensures.value) c.in_ok-nets.ensures.inside
 
 pub returns-in-Err-clause-fault : goal.returns-in-Err-clause-fault
@@ -25,17 +24,10 @@ returns-in-Err-clause-fault g c = c.no_path.ensures c.args.rounds
 
 pub tell_found-requires-clause-run : goal.tell_found-requires-clause-run
 tell_found-requires-clause-run g c =
-    subst (λ (ns : List Net). IsNodeRun (graph_of c.in_ok-nodes.nodes) (nets_of ns) (length c.in-Ok.run'.rounds.items) c.in-Ok.run') (c.deref-2.ensures.value ∙ sym c.deref-in-Ok.ensures.value) (record {
-      run = rw c.in-Ok.is at c.in_ok-cut.ensures.run;
-      some_rounds = (rw c.in-Ok.is at c.in_ok-cut.ensures.begun) c.requires.some;
-      few_rounds = omega arith;
-      unshared = rw c.in-Ok.is at c.in_ok-cut.ensures.apart;
-      shared = rw c.in-Ok.is at c.in_ok-cut.ensures.shared;
-      all_rounds = all_of_them c.in-Ok.run';
-    })
+    subst (λ (ns : List Net). IsNodeRun (graph_of c.in_ok-nodes.nodes) (nets_of ns) (length c.in-Ok.run'.rounds.items) c.in-Ok.run') (c.deref-2.ensures.value ∙ sym c.deref-in-Ok.ensures.value) (rw c.in-Ok.is at c.in_ok-cut.ensures.run)
 
 pub tell_found-requires-clause-few : goal.tell_found-requires-clause-few
-tell_found-requires-clause-few g c = rw c.in-Ok.is at c.in_ok-cut.ensures.limit
+tell_found-requires-clause-few g c = rw c.in-Ok.is at c.in_ok-cut.ensures.few
 
 pub tell_found-requires-clause-all : goal.tell_found-requires-clause-all
 tell_found-requires-clause-all g c = λ patient. rw c.in-Ok.is at (c.in_ok-cut.ensures.all patient)

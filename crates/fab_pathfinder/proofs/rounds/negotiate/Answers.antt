@@ -6,7 +6,7 @@ use Rattle.fab_pathfinder.specs.Rounds.{Paths, last_trees, no_trees, users}
 use Rattle.fab_pathfinder.specs.Plain.{net_of, nets_of, trees_of, rounds_of}
 use Rattle.fab_pathfinder.proofs.Passes.{users-le, trees_long}
 use Rattle.fab_pathfinder.proofs.Running.{AreInside, trees_inside, inside_trees, running_first, latest_is, round_at, run_last, run_on, run_next, rounds_push, some_shared, none_shared, IfNone-weaker}
-use Rattle.fab_pathfinder.proofs.rounds.run_rounds.Goals as goal
+use Rattle.fab_pathfinder.proofs.rounds.negotiate.Goals as goal
 
 pub loop-number-init : goal.loop-number-init
 loop-number-init g c = record {

@@ -2,7 +2,7 @@ use Rattle.std.proofs.Common.{◌≡◌, ℕ, ◌+◌, ◌<◌, ◌≤◌, lengt
 use Rattle.fab_astar.specs.Tables.{AreTables, count_of, users_of}
 use Rattle.fab_pathfinder.specs.Plain.{nets_of, rounds_of}
 use Rattle.fab_pathfinder.proofs.Running.{IsRunning}
-use Rattle.fab_pathfinder.proofs.rounds.run_rounds.Given as goal
+use Rattle.fab_pathfinder.proofs.rounds.negotiate.Given as goal
 
 abbrev pub invariant-loop-number : goal.invariant-loop-number
 invariant-loop-number g l = record {
