@@ -8,6 +8,7 @@ mod network;
 mod passes;
 mod plans;
 mod readers;
+mod runs;
 mod sharing;
 mod tables;
 

@@ -2,8 +2,6 @@
 
 ghost use Rattle.std.specs.Prelude.{◌≡◌, ◌<◌, ◌≤◌, ◌^◌, ℕ, List, length, slice_index};
 ghost use Rattle.fab_ternary.specs.Terns.{plain_tern};
-ghost use Rattle.fab_compiled.specs.declared.tree.Tree.{Tree};
-ghost use Rattle.fab_compiled.specs.Leading.{PointTerns};
 ghost use Rattle.fab_compiled.specs.Terns.{seen, IsView};
 ghost use Rattle.fab_network.specs.Forms.{HasForms};
 ghost use Rattle.fab_network.specs.Network.{shown_tern, AreFit};
@@ -13,6 +11,7 @@ ghost use Rattle.fab_network.specs.Sharing.{AreShared};
 use crate::forms::{Form, shown_by_form};
 use crate::network::{Network, shown};
 use crate::readers::Readers;
+use crate::runs::{drive_of_run, end_of_run};
 use crate::sharing::KeptValues;
 use fab_compiled::View;
 use fab_ternary::Tern;
@@ -204,9 +203,7 @@ fn look_at(
 }
 
 // Whether a look at a point of this form may be left out where another one follows. A table takes no time.
-fn may_wait(network: &Network, point: usize, form: Option<&Form>, shared: &mut KeptValues) -> bool
-    ensures { (trees : List Tree) (count : ℕ) (t : PointTerns) → AreShared trees count t shared.old → AreShared trees count t shared.new }
-{
+fn may_wait(network: &Network, point: usize, form: Option<&Form>, shared: &KeptValues) -> bool {
     match (form, network.drives.get(point)) {
         (Some(Form::Shows(_)), _) | (_, None) => false,
         (Some(Form::Takes(_) | Form::Driven) | None, Some(drive)) => shared.may_wait(*drive),
@@ -243,8 +240,8 @@ fn shown_at(
     }
 }
 
-// Looks again at the readers of points that are known, where the pass came to the reader first, and at those of points that come to be known. Readers of
-// a point are bits of one expression mostly, and so are those of the next point: what is kept of it serves for all of these looks.
+// Looks again at the readers of points that are known, where the pass came to the reader first, and at those of points that come to be known. What is kept
+// of an expression serves for all bits of a run.
 fn look_again(
     network: &Network,
     order: &[u32],
@@ -267,19 +264,9 @@ fn look_again(
         terns.old terns.new }
 {
     readers.note(network, order, leads);
-    readers.start();
+    readers.begin(order, terns);
     let mut shared = KeptValues::new(*network.trees.allocator());
-    look_back(
-        network,
-        order,
-        held,
-        leads,
-        forms,
-        readers,
-        &mut shared,
-        terns,
-    );
-    look_on(
+    look_at_waiting(
         network,
         order,
         held,
@@ -291,8 +278,8 @@ fn look_again(
     );
 }
 
-// Looks at the readers that stand before a point that is known.
-fn look_back(
+// Looks at readers that wait, until none does. No more than there are points come to be noted as waiting.
+fn look_at_waiting(
     network: &Network,
     order: &[u32],
     held: &[Tern],
@@ -316,92 +303,58 @@ fn look_back(
     ensures further { IsFurther (record { trees = network.now.trees.items; drives = network.now.drives.items; held = held.now; order = order.now; leads = leads.now })
         terns.old terns.new }
 {
-    for place in 0..order.len() {
-        let note = readers.note_before(order, terns, place);
-        look_at_readers(
-            network, order, held, leads, forms, readers, note, shared, terns,
-        );
-    }
-}
-
-// Looks at the readers of points that come to be known, until no more do. They are no more than the points of the order.
-fn look_on(
-    network: &Network,
-    order: &[u32],
-    held: &[Tern],
-    leads: &[u32],
-    forms: &[Form],
-    readers: &mut Readers,
-    shared: &mut KeptValues,
-    terns: &mut [Tern],
-)
-    requires fit { AreFit network.now.trees.items network.now.drives.items }
-    requires points { length network.now.drives.items ≡ length leads.now }
-    requires terns { length terns.old ≡ length leads.now }
-    requires held { length held.now ≡ length leads.now }
-    requires view { IsView terns.old leads.now }
-    requires small { length leads.now ≤ 2 ^ 32 }
-    requires own { AreOwn order.now leads.now }
-    requires backed { AreBacked network.now.trees.items network.now.drives.items held.now order.now (seen terns.old leads.now) }
-    requires forms { HasForms network.now.trees.items network.now.drives.items order.now leads.now terns.old forms.now }
-    requires shared { AreShared network.now.trees.items (length leads.now) (seen terns.old leads.now) shared.old }
-    ensures shared { AreShared network.now.trees.items (length leads.now) (seen terns.new leads.now) shared.new }
-    ensures further { IsFurther (record { trees = network.now.trees.items; drives = network.now.drives.items; held = held.now; order = order.now; leads = leads.now })
-        terns.old terns.new }
-{
-    for place in 0..order.len() {
-        let Some(note) = readers.next_found(place) else {
+    for number in 0..leads.len() {
+        let Some(place) = readers.next_waiting(number) else {
             return;
         };
-        look_at_readers(
-            network, order, held, leads, forms, readers, note, shared, terns,
-        );
-    }
-}
-
-// Looks at the reader of a note, and at those of the notes before it of the same point.
-fn look_at_readers(
-    network: &Network,
-    order: &[u32],
-    held: &[Tern],
-    leads: &[u32],
-    forms: &[Form],
-    readers: &mut Readers,
-    last: u32,
-    shared: &mut KeptValues,
-    terns: &mut [Tern],
-)
-    requires fit { AreFit network.now.trees.items network.now.drives.items }
-    requires points { length network.now.drives.items ≡ length leads.now }
-    requires terns { length terns.old ≡ length leads.now }
-    requires held { length held.now ≡ length leads.now }
-    requires view { IsView terns.old leads.now }
-    requires small { length leads.now ≤ 2 ^ 32 }
-    requires own { AreOwn order.now leads.now }
-    requires backed { AreBacked network.now.trees.items network.now.drives.items held.now order.now (seen terns.old leads.now) }
-    requires forms { HasForms network.now.trees.items network.now.drives.items order.now leads.now terns.old forms.now }
-    requires shared { AreShared network.now.trees.items (length leads.now) (seen terns.old leads.now) shared.old }
-    ensures shared { AreShared network.now.trees.items (length leads.now) (seen terns.new leads.now) shared.new }
-    ensures further { IsFurther (record { trees = network.now.trees.items; drives = network.now.drives.items; held = held.now; order = order.now; leads = leads.now })
-        terns.old terns.new }
-{
-    let mut next = last;
-    for _note in 0..readers.notes() {
-        let Some(note) = readers.note_at(next) else {
-            return;
-        };
-        look_at_reader(
+        look_at_run(
             network,
             order,
             held,
             leads,
             forms,
             readers,
-            note.reader,
+            place as usize,
             shared,
             terns,
         );
-        next = note.before;
+    }
+}
+
+// Looks at the points of the run that begins at a place of the order.
+fn look_at_run(
+    network: &Network,
+    order: &[u32],
+    held: &[Tern],
+    leads: &[u32],
+    forms: &[Form],
+    readers: &mut Readers,
+    place: usize,
+    shared: &mut KeptValues,
+    terns: &mut [Tern],
+)
+    requires fit { AreFit network.now.trees.items network.now.drives.items }
+    requires points { length network.now.drives.items ≡ length leads.now }
+    requires terns { length terns.old ≡ length leads.now }
+    requires held { length held.now ≡ length leads.now }
+    requires view { IsView terns.old leads.now }
+    requires small { length leads.now ≤ 2 ^ 32 }
+    requires own { AreOwn order.now leads.now }
+    requires backed { AreBacked network.now.trees.items network.now.drives.items held.now order.now (seen terns.old leads.now) }
+    requires forms { HasForms network.now.trees.items network.now.drives.items order.now leads.now terns.old forms.now }
+    requires shared { AreShared network.now.trees.items (length leads.now) (seen terns.old leads.now) shared.old }
+    ensures shared { AreShared network.now.trees.items (length leads.now) (seen terns.new leads.now) shared.new }
+    ensures further { IsFurther (record { trees = network.now.trees.items; drives = network.now.drives.items; held = held.now; order = order.now; leads = leads.now })
+        terns.old terns.new }
+{
+    if let Some(drive) = drive_of_run(network, order, place) {
+        shared.begin_run(&network.trees, drive);
+    }
+    let end = end_of_run(network, order, place);
+    for point in place..end {
+        look_at_reader(
+            network, order, held, leads, forms, readers, point, shared, terns,
+        );
     }
 }
 
@@ -413,7 +366,7 @@ fn look_at_reader(
     leads: &[u32],
     forms: &[Form],
     readers: &mut Readers,
-    place: u32,
+    place: usize,
     shared: &mut KeptValues,
     terns: &mut [Tern],
 )
@@ -431,7 +384,6 @@ fn look_at_reader(
     ensures further { IsFurther (record { trees = network.now.trees.items; drives = network.now.drives.items; held = held.now; order = order.now; leads = leads.now })
         terns.old terns.new }
 {
-    let place = place as usize;
     if place >= order.len() {
         return;
     }

@@ -30,6 +30,11 @@ pub fn looks_before_all(tree: &Tree) -> Option<u32> {
     plan_of(tree).looks()
 }
 
+/// Whether all bits of an expression are found together, as soon as a second one is looked at.
+pub(crate) fn are_found_together(tree: &Tree) -> bool {
+    shares(tree)
+}
+
 impl Plan {
     // The plan for an expression, if there is none yet.
     pub(crate) fn decided(self, tree: Option<&Tree>) -> Plan {

@@ -1,6 +1,7 @@
 //! Which points read a point, for another look at them where it has come to be known.
 
 use crate::network::{Drive, Network, Source};
+use crate::runs::{drive_at, drive_of_run, end_of_run};
 use fab_base::Memory;
 use fab_compiled::Tree;
 use fab_ternary::Tern;
@@ -15,9 +16,8 @@ const UNLISTED: u32 = u32::MAX - 1;
 /// How many notes there is room for, for each point: most operators have fewer operands.
 const NOTES_OF_A_POINT: usize = 4;
 
-/// The readers of points, so that `settle` looks again at those alone that read what has come to be known.
-///
-/// They are a help for speed: what `settle` finds does not depend on them. All is sized by the number of points at first, and takes no
+/// The readers of points, so that `settle` looks again at those alone that read what has come to be known. A reader is the place in the order of a point, or
+/// of the first of a run. They are a help for speed: what `settle` finds does not depend on them. All is sized by the number of points at first, and takes no
 /// memory afterwards.
 #[derive(Drop)]
 pub struct Readers {
@@ -26,17 +26,18 @@ pub struct Readers {
     notes: Vec<Note>,
     /// Whether the notes are those of the order as it is.
     fresh: bool,
-    /// Points that have come to be known, each before those that came to be known later.
-    found: Vec<u32>,
+    /// Readers that are to be looked at again, each behind those that began to wait before it.
+    waiting: Vec<u32>,
+    /// By the reader: whether it waits.
+    waits: Vec<bool>,
 }
 
 /// That a point is read.
 #[derive(Clone, Copy, Debug)]
-pub(crate) struct Note {
-    /// The place of the reader in the order.
-    pub(crate) reader: u32,
+struct Note {
+    reader: u32,
     /// The place of the note before this one of the same point, of a reader that stands before this one.
-    pub(crate) before: u32,
+    before: u32,
 }
 
 impl Readers {
@@ -46,7 +47,8 @@ impl Readers {
             last: vec![in alloc; UNLISTED; points]?,
             notes: Vec::with_capacity(alloc, points.saturating_mul(NOTES_OF_A_POINT))?,
             fresh: false,
-            found: Vec::with_capacity(alloc, points)?,
+            waiting: Vec::with_capacity(alloc, points)?,
+            waits: vec![in alloc; false; points]?,
         })
     }
 
@@ -63,15 +65,47 @@ impl Readers {
             return;
         }
         self.list(order);
-        for (place, point) in order.iter().enumerate() {
+        let mut end = 0;
+        for place in 0..order.len() {
             if self.is_full() {
                 break;
             }
-            if let Ok(reader) = u32::try_from(place) {
-                self.note_drive(network, *point as usize, leads, reader);
+            if place >= end {
+                end = end_of_run(network, order, place);
+                self.note_run(network, order, place, leads);
             }
         }
         self.fresh = true;
+    }
+
+    // Notes what the points of the run that begins at a place read.
+    fn note_run(&mut self, network: &Network, order: &[u32], place: usize, leads: &[u32]) {
+        let Ok(reader) = u32::try_from(place) else {
+            return;
+        };
+        if let Some(drive) = drive_of_run(network, order, place) {
+            self.note_expressions(network, drive, leads, reader);
+        } else if let Some(drive) = drive_at(network, order, place) {
+            self.note_drive(network, drive, leads, reader);
+        }
+    }
+
+    // Notes all points of the expressions of a drive.
+    fn note_expressions(&mut self, network: &Network, drive: Drive, leads: &[u32], reader: u32) {
+        match drive {
+            Drive::Given | Drive::Flop(_, _) | Drive::Same(_) => {}
+            Drive::Value(source) => self.note_expression(network, source, leads, reader),
+            Drive::Hold(gate, latched) => {
+                self.note_expression(network, gate, leads, reader);
+                self.note_expression(network, latched, leads, reader);
+            }
+        }
+    }
+
+    fn note_expression(&mut self, network: &Network, source: Source, leads: &[u32], reader: u32) {
+        if let Some(tree) = network.trees.get(source.tree as usize) {
+            self.note_all(tree, source.first as usize, leads, reader);
+        }
     }
 
     // Whether there is no room for one more note.
@@ -89,17 +123,15 @@ impl Readers {
     }
 
     // Notes what a point reads by its drive.
-    fn note_drive(&mut self, network: &Network, point: usize, leads: &[u32], reader: u32) {
-        match network.drives.get(point) {
-            Some(Drive::Same(other)) => self.note_point(*other as usize, leads, reader),
-            Some(Drive::Value(source)) => {
-                self.note_source(&network.trees, *source, leads, reader);
+    fn note_drive(&mut self, network: &Network, drive: Drive, leads: &[u32], reader: u32) {
+        match drive {
+            Drive::Given | Drive::Flop(_, _) => {}
+            Drive::Same(other) => self.note_point(other as usize, leads, reader),
+            Drive::Value(source) => self.note_source(&network.trees, source, leads, reader),
+            Drive::Hold(gate, latched) => {
+                self.note_source(&network.trees, gate, leads, reader);
+                self.note_source(&network.trees, latched, leads, reader);
             }
-            Some(Drive::Hold(gate, latched)) => {
-                self.note_source(&network.trees, *gate, leads, reader);
-                self.note_source(&network.trees, *latched, leads, reader);
-            }
-            Some(Drive::Given | Drive::Flop(_, _)) | None => {}
         }
     }
 
@@ -224,20 +256,20 @@ impl Readers {
         }
     }
 
-    /// The place of the last note of a reader of a point.
-    pub(crate) fn last_note(&self, point: u32) -> u32 {
+    // The place of the last note of a reader of a point.
+    fn last_note(&self, point: u32) -> u32 {
         self.last.get(point as usize).copied().unwrap_or(UNLISTED)
     }
 
-    /// The place of the last note of a reader that stands before the point at this place, if that point is known: a pass came to such a
-    /// reader first.
-    pub(crate) fn note_before(&self, order: &[u32], terns: &[Tern], place: usize) -> u32 {
-        let Some(point) = order.get(place) else {
-            return NO_NOTE;
-        };
-        match terns.get(*point as usize) {
-            Some(Tern::No | Tern::Yes) => self.before(place, self.last_note(*point)),
-            Some(Tern::Open) | None => NO_NOTE,
+    /// The readers that stand before a point that is known wait, since a pass came to such a reader first.
+    pub(crate) fn begin(&mut self, order: &[u32], terns: &[Tern]) {
+        self.waiting.clear();
+        self.waits.fill(false);
+        for (place, point) in order.iter().enumerate() {
+            if let Some(Tern::No | Tern::Yes) = terns.get(*point as usize) {
+                let note = self.before(place, self.last_note(*point));
+                self.wait_from(note);
+            }
         }
     }
 
@@ -253,31 +285,45 @@ impl Readers {
         NO_NOTE
     }
 
-    /// The note at this place.
-    pub(crate) fn note_at(&self, place: u32) -> Option<Note> {
+    // The note at this place.
+    fn note_at(&self, place: u32) -> Option<Note> {
         self.notes.get(place as usize).copied()
     }
 
-    /// How many notes there are.
-    pub(crate) fn notes(&self) -> usize {
-        self.notes.len()
-    }
-
-    /// No point has come to be known.
-    pub(crate) fn start(&mut self) {
-        self.found.clear();
-    }
-
-    /// A point has come to be known. There is room, since that happens once to each point of the order.
+    /// A point has come to be known: its readers wait.
     pub(crate) fn find(&mut self, point: u32) {
-        if self.found.len() < self.found.capacity() {
-            let _ = self.found.push(point);
+        let last = self.last_note(point);
+        self.wait_from(last);
+    }
+
+    // The readers of a note and of those before it wait.
+    fn wait_from(&mut self, last: u32) {
+        let mut next = last;
+        for _note in 0..self.notes.len() {
+            let Some(note) = self.note_at(next) else {
+                return;
+            };
+            self.wait(note.reader);
+            next = note.before;
         }
     }
 
-    /// The place of the last note of a reader of the point that came to be known behind so many others, if there is one.
-    pub(crate) fn next_found(&self, place: usize) -> Option<u32> {
-        let point = self.found.get(place)?;
-        Some(self.last_note(*point))
+    // A reader waits, where there is room.
+    fn wait(&mut self, reader: u32) {
+        let has_room = self.waiting.len() < self.waiting.capacity();
+        match self.waits.get_mut(reader as usize) {
+            Some(waits) if has_room && !*waits => *waits = true,
+            _ => return,
+        }
+        let _ = self.waiting.push(reader);
+    }
+
+    /// The reader that began to wait behind so many others, if there is one. It waits no more.
+    pub(crate) fn next_waiting(&mut self, number: usize) -> Option<u32> {
+        let reader = *self.waiting.get(number)?;
+        if let Some(waits) = self.waits.get_mut(reader as usize) {
+            *waits = false;
+        }
+        Some(reader)
     }
 }

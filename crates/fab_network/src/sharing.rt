@@ -121,21 +121,23 @@ impl Shared {
         true
     }
 
-    // Whether a look at a bit may be left out where another one follows: alone it takes as long as all bits, and they are not due. It counts as a look, so
-    // that they come to be due.
-    fn may_wait(&mut self, source: Source) -> bool
+    // Whether a look at a bit may be left out where another one follows: it was open when all bits were found, and alone it takes as long as all of them.
+    fn may_wait(&self, source: Source) -> bool {
+        let is_same = self.tree == source.tree && self.first == source.first;
+        is_same && self.are_together() && self.bits.len() > 0 && self.kept(source.bit).is_none()
+    }
+
+    // Whether each bit alone may take as long as all of them.
+    fn are_together(&self) -> bool {
+        matches!(self.plan, Plan::Together(_))
+    }
+
+    // Bits of an expression are looked at from now on, which are all found with the first that is open: so those that were open before are found anew.
+    fn begin_run(&mut self, trees: &[Tree], source: Source)
         ensures { (trees : List Tree) (count : ℕ) (t : PointTerns) → IsShared trees count t self.old → IsShared trees count t self.new }
     {
-        let Plan::Together(looks) = self.plan else {
-            return false;
-        };
-        let is_other = self.tree != source.tree || self.first != source.first;
-        let open_looks = self.open_looks.saturating_add(1);
-        if is_other || open_looks >= looks || self.kept(source.bit).is_some() {
-            return false;
-        }
-        self.open_looks = open_looks;
-        true
+        self.turn_to(source.tree, source.first);
+        self.plan = self.plan.decided(trees.get(source.tree as usize));
     }
 
     // Finds all bits of the expression.
@@ -200,14 +202,26 @@ impl KeptValues {
     }
 
     /// Whether a look at a point with this drive may be left out where another one follows, since that one will take less.
-    pub(crate) fn may_wait(&mut self, drive: Drive) -> bool
-        ensures { (trees : List Tree) (count : ℕ) (t : PointTerns) → AreShared trees count t self.old → AreShared trees count t self.new }
-    {
+    pub(crate) fn may_wait(&self, drive: Drive) -> bool {
         match drive {
             Drive::Given | Drive::Flop(_, _) | Drive::Same(_) => false,
             Drive::Value(source) => self.points.may_wait(source),
             Drive::Hold(gate, latched) => {
                 self.gates.may_wait(gate) || self.points.may_wait(latched)
+            }
+        }
+    }
+
+    /// Points of this drive, and of others that are bits beside it, are looked at from now on: bits that were open are found anew.
+    pub(crate) fn begin_run(&mut self, trees: &[Tree], drive: Drive)
+        ensures { (trees : List Tree) (count : ℕ) (t : PointTerns) → AreShared trees count t self.old → AreShared trees count t self.new }
+    {
+        match drive {
+            Drive::Given | Drive::Flop(_, _) | Drive::Same(_) => {}
+            Drive::Value(source) => self.points.begin_run(trees, source),
+            Drive::Hold(gate, latched) => {
+                self.gates.begin_run(trees, gate);
+                self.points.begin_run(trees, latched);
             }
         }
     }

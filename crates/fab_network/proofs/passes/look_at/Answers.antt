@@ -1,33 +1,19 @@
-use Rattle.std.proofs.Common.{◌≡◌, ℕ, ◌<◌, List, length, refl, ap, sym, ◌∙◌, subst, arith, slice_index, slice_set}
+use Rattle.std.proofs.Common.{◌≡◌, ◌<◌, length, refl, ap, sym, ◌∙◌, arith, slice_index, slice_set}
 use Rattle.std.proofs.lemmas.Bool.{false≢true}
 use Rattle.std.proofs.lemmas.Option.{slice_get-get_or}
 use Rattle.fab_systems_laws.specs.Ternary.{unknown, Tern as PlainTern}
 use Rattle.fab_ternary.specs.declared.Tern.TheVariants.{No}
 use Rattle.fab_ternary.specs.Terns.{plain_tern}
-use Rattle.fab_compiled.specs.declared.tree.Tree.{Tree}
-use Rattle.fab_compiled.specs.Leading.{PointTerns}
 use Rattle.fab_compiled.specs.Terns.{seen, tern_or_unknown}
 use Rattle.fab_compiled.proofs.Written.{tells_known}
 use Rattle.fab_network.specs.Network.{shown_tern}
 use Rattle.fab_network.specs.Passes.{kept_tern}
-use Rattle.fab_network.specs.Sharing.{AreShared}
 use Rattle.fab_network.proofs.Shares.{open_kept, open_value, seen_grows}
 use Rattle.fab_network.proofs.passes.look_at.Goals as goal
-use Rattle.fab_network.proofs.passes.look_at.Goals.{else-waits-via-then-waits+else-may_wait, else-waits-via-else-waits}
 
 none_kept : (c : goal.After-note_change) → kept_tern c.args.terns.now (slice_index c.args.order.now c.args.place) ≡ unknown
 none_kept c =
     open_kept c.args.terns.now (slice_index c.args.order.now c.args.place) (omega (arith, (c.requires.own c.args.place c.requires.within).0, c.requires.terns)) c.is_open.result c.is_open.ensures c.if-not-is_open.false
-
-pub shown_at-found-requires-clause-shared : goal.shown_at-found-requires-clause-shared
-shown_at-found-requires-clause-shared c =
-    let trees : List Tree = c.args.network.now.trees.items in
-    let count : ℕ = length c.args.leads.now in
-    let t : PointTerns = seen c.args.terns.now c.args.leads.now in
-    elim c.else-waits.branch [
-      | else-waits-via-then-waits+else-may_wait w ↦ subst (AreShared trees count t) (sym w.shared-is) (w.may_wait.ensures trees count t c.requires.shared)
-      | else-waits-via-else-waits w ↦ subst (AreShared trees count t) (sym w.shared-is) c.requires.shared
-    ]
 
 pub returns-clause-shared : goal.returns-clause-shared
 returns-clause-shared c =

@@ -1,0 +1,37 @@
+use Rattle.std.proofs.Common.{ℕ, List, length, sym, subst}
+use Rattle.fab_compiled.specs.declared.tree.Tree.{Tree}
+use Rattle.fab_compiled.specs.Leading.{PointTerns}
+use Rattle.fab_compiled.specs.Terns.{seen}
+use Rattle.fab_network.specs.Passes.{Scene}
+use Rattle.fab_network.specs.Sharing.{AreShared}
+use Rattle.fab_network.proofs.Forming.{forms_stay}
+use Rattle.fab_network.proofs.Passing.{both_further, none_further}
+use Rattle.fab_network.proofs.passes.look_at_run.Goals as goal
+use Rattle.fab_network.proofs.passes.look_at_run.Goals.{in-Some, in_default}
+
+pub loop-point-init : goal.loop-point-init
+loop-point-init c =
+    let scene : Scene = record { trees = c.args.network.now.trees.items; drives = c.args.network.now.drives.items; held = c.args.held.now; order = c.args.order.now; leads = c.args.leads.now } in
+    let trees : List Tree = c.args.network.now.trees.items in
+    let count : ℕ = length c.args.leads.now in
+    let t : PointTerns = seen c.args.terns.now c.args.leads.now in
+    record {
+      further = none_further scene c.args.terns.now c.requires.backed;
+      shared = elim c.match-drive_of_run.branch [
+        | in-Some w ↦ subst (AreShared trees count t) (sym w.shared-is) (w.begin_run.ensures trees count t c.requires.shared)
+        | in_default w ↦ subst (AreShared trees count t) (sym w.shared-is) c.requires.shared
+      ];
+    }
+
+pub loop-point-preserved : goal.loop-point-preserved
+loop-point-preserved c =
+    let scene : Scene = record { trees = c.args.network.now.trees.items; drives = c.args.network.now.drives.items; held = c.args.held.now; order = c.args.order.now; leads = c.args.leads.now } in
+    record {
+      further = both_further scene c.args.terns.now c.loop-point.terns c.look_at_reader.new.terns c.loop-point.invariant.further c.look_at_reader.ensures.further;
+      shared = c.look_at_reader.ensures.shared;
+    }
+
+pub look_at_reader-requires-clause-forms : goal.look_at_reader-requires-clause-forms
+look_at_reader-requires-clause-forms c =
+    forms_stay c.args.network.now.trees.items c.args.network.now.drives.items c.args.order.now c.args.leads.now c.args.terns.now c.loop-point.terns c.args.forms.now
+    c.loop-point.invariant.further.others c.requires.forms

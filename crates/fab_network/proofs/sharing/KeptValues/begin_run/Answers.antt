@@ -1,0 +1,7 @@
+use Rattle.fab_network.proofs.sharing.KeptValues.begin_run.Goals as goal
+
+pub returns-in-Value : goal.returns-in-Value
+returns-in-Value c trees count t shared = record { points = c.begin_run.ensures trees count t shared.points; gates = shared.gates }
+
+pub returns-in-Hold : goal.returns-in-Hold
+returns-in-Hold c trees count t shared = record { points = c.begin_run-in-Hold-2.ensures trees count t shared.points; gates = c.begin_run-in-Hold.ensures trees count t shared.gates }

@@ -1,0 +1,63 @@
+//! Points that are looked at together.
+
+use crate::network::{Drive, Network, Source};
+use crate::plans::are_found_together;
+
+/// The place behind the run that begins at a place of the order: the bits of one expression that follow one another, where all bits are found together. Any
+/// other point is a run of its own.
+pub(crate) fn end_of_run(network: &Network, order: &[u32], place: usize) -> usize {
+    let alone = place.saturating_add(1);
+    let Some(drive) = drive_of_run(network, order, place) else {
+        return alone;
+    };
+    for end in alone..order.len() {
+        match drive_at(network, order, end) {
+            Some(next) if is_beside(drive, next) => {}
+            _ => return end,
+        }
+    }
+    order.len().max(alone)
+}
+
+/// The drive of the first point of a run of bits that are found together, if there is one at this place.
+pub(crate) fn drive_of_run(network: &Network, order: &[u32], place: usize) -> Option<Drive> {
+    let drive = drive_at(network, order, place)?;
+    if are_together(network, drive) {
+        Some(drive)
+    } else {
+        None
+    }
+}
+
+/// The drive of the point at a place of the order.
+pub(crate) fn drive_at(network: &Network, order: &[u32], place: usize) -> Option<Drive> {
+    let point = *order.get(place)?;
+    network.drives.get(point as usize).copied()
+}
+
+// Whether all bits of an expression of a drive are found together.
+fn are_together(network: &Network, drive: Drive) -> bool {
+    match drive {
+        Drive::Given | Drive::Flop(_, _) | Drive::Same(_) => false,
+        Drive::Value(source) => is_together(network, source),
+        Drive::Hold(gate, latched) => is_together(network, gate) || is_together(network, latched),
+    }
+}
+
+fn is_together(network: &Network, source: Source) -> bool {
+    match network.trees.get(source.tree as usize) {
+        Some(tree) => are_found_together(tree),
+        None => false,
+    }
+}
+
+// Whether two drives are bits of one expression, or latches of one gate that take such bits.
+fn is_beside(drive: Drive, next: Drive) -> bool {
+    match (drive, next) {
+        (Drive::Value(source), Drive::Value(other)) => source.is_beside(other),
+        (Drive::Hold(gate, latched), Drive::Hold(next_gate, other)) => {
+            gate.is_beside(next_gate) && latched.is_beside(other)
+        }
+        _ => false,
+    }
+}
