@@ -1,6 +1,6 @@
-//! When a run finds the forms of its points.
+//! When a run finds forms.
 
-ghost use Rattle.std.specs.Prelude.{◌≡◌, ℕ, length};
+ghost use Rattle.std.specs.Prelude.{◌≡◌, ℕ, [], length};
 ghost use Rattle.fab_compiled.specs.Leading.{IsMarked};
 ghost use Rattle.fab_network.specs.Network.{AreFit};
 ghost use Rattle.fab_network.specs.Passes.{IsListed};
@@ -11,12 +11,20 @@ use fab_demand::Demand;
 use fab_network::{Form, Network};
 use fab_ternary::Tern;
 
-/// How many cycles of a run go without forms. To find the forms takes as long as they save in some thirty cycles, so a run never takes more than twice
-/// as long as if it had known from the first cycle on whether they pay.
-pub const PLAIN_CYCLES: u32 = 30;
+/// How many cycles of a run go without forms. To find forms takes as long as they save in 70 to 130 cycles (designs of 113 to 2,444 cells). A shorter
+/// run does not pay for them, and a longer one loses by the wait about as much as they cost.
+pub const PLAIN_CYCLES: u32 = 100;
 
-/// One more cycle is to run. Where no more are left that go without forms, forms are found.
-pub fn near_forms(
+/// A run begins, without forms.
+pub fn begin_run(plain_left: &mut Option<u32>, forms: &mut Vec<Form>)
+    ensures { forms.new.items ≡ [] }
+{
+    forms.clear();
+    *plain_left = Some(PLAIN_CYCLES);
+}
+
+/// A cycle begins. Where none is left that goes without forms, they are found.
+pub fn begin_cycle(
     network: &Network,
     plain_left: &mut Option<u32>,
     demand: &mut Demand,

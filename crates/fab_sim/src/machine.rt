@@ -11,7 +11,7 @@ ghost use Rattle.fab_state_points.specs.Standing.{IsRefusedState};
 ghost use Rattle.fab_ordering_laws.specs.fab_simulation_laws_Simulation.{IsCycle, IsLoaded, with_registers};
 ghost use Rattle.fab_sim.specs.Once.{StandsOnce};
 
-use crate::forming::{PLAIN_CYCLES, near_forms};
+use crate::forming::{begin_cycle, begin_run};
 use crate::making::{clock_of, machine_of, registers_of, values_of};
 use crate::starting::{load_stream, set_out};
 use fab_base::{Fault, Name};
@@ -43,9 +43,9 @@ pub struct Machine {
     pub(crate) loading: Loading,
     /// What has to be looked at: first for loading, then for the outputs.
     pub(crate) demand: Demand,
-    /// How cycles find the points that stand for themselves. Where memory is refused for a form, its point is found by its drive.
+    /// How cycles find the points that stand for themselves, behind the first ones. Where memory is refused for a form, its point is found by its drive.
     pub(crate) forms: Vec<Form>,
-    /// How many cycles are to run without forms yet. `None` where forms have been found.
+    /// How many cycles are yet to go without forms. `None` where forms have been found.
     pub(crate) plain_left: Option<u32>,
     /// By the number of the point: what is given to an input, and what a flip-flop or a latch holds.
     pub(crate) given: Vec<Tern>,
@@ -116,8 +116,7 @@ impl Machine {
             &self.given,
             &mut self.demand,
         );
-        self.forms.clear();
-        self.plain_left = Some(PLAIN_CYCLES);
+        begin_run(&mut self.plain_left, &mut self.forms);
     }
 
     /// A cycle: what output ports show while input ports have these values, each in the order of the state. Then `UserCLK` ticks.
@@ -129,7 +128,7 @@ impl Machine {
         numbered_exists();
         numbered_solutions();
         numbered_kept();
-        near_forms(
+        begin_cycle(
             &self.network,
             &mut self.plain_left,
             &mut self.demand,

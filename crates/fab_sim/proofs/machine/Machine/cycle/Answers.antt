@@ -12,8 +12,8 @@ use Rattle.fab_sim.proofs.Cycling.{ShowsAs, TicksAs, moved, runs_as}
 use Rattle.fab_sim.proofs.Forming.{own_marked, runs_on}
 use Rattle.fab_sim.proofs.machine.Machine.cycle.Goals as goal
 
-pub near_forms-requires-clause-marked : goal.near_forms-requires-clause-marked
-near_forms-requires-clause-marked c =
+pub begin_cycle-requires-clause-marked : goal.begin_cycle-requires-clause-marked
+begin_cycle-requires-clause-marked c =
     let m = c.args.self.now in
     own_marked m.network m.points.ins.items m.points.outs.items m.demand m.given.items c.requires.3.holds c.requires.3.running
 
@@ -40,7 +40,7 @@ cycle_by-requires-clause-outs c place number e =
 pub cycle_by-requires-clause-forms : goal.cycle_by-requires-clause-forms
 cycle_by-requires-clause-forms c =
     let m = c.args.self.now in
-    subst (λ (forms : List Form). AreFormsOf m.network c.near_forms.new.demand forms) (sym c.deref-3.ensures.value) c.near_forms.ensures.forms
+    subst (λ (forms : List Form). AreFormsOf m.network c.begin_cycle.new.demand forms) (sym c.deref-3.ensures.value) c.begin_cycle.ensures.forms
 
 pub returns : goal.returns
 returns c text state held next shown at cycle =
@@ -51,8 +51,8 @@ returns c text state held next shown at cycle =
     m.points.ins.items at.of.stands.ins in
     let run = runs_as text state m held next at values many shown cycle c.numbered_exists.ensures.numbers c.numbered_solutions.ensures.least
     c.numbered_kept.ensures in
-    let formed = c.near_forms.new.demand in
-    let running = runs_on m.network m.points.ins.items m.points.outs.items m.demand formed m.given.items at.holds c.near_forms.ensures.stays at.running in
+    let formed = c.begin_cycle.new.demand in
+    let running = runs_on m.network m.points.ins.items m.points.outs.items m.demand formed m.given.items at.holds c.begin_cycle.ensures.stays at.running in
     let shows = moved (ShowsAs m.network formed values c.cycle_by.new.outputs) c.deref.result.now m.points.ins.items c.deref-2.result.now m.points.outs.items
     c.deref_mut.result.now m.given.items c.deref.ensures.value c.deref-2.ensures.value c.deref_mut.ensures.value c.cycle_by.ensures.shows in
     let ticks = moved (TicksAs m.network formed c.cycle_by.new.demand values c.cycle_by.new.given) c.deref.result.now m.points.ins.items c.deref-2.result.now
@@ -68,7 +68,7 @@ returns c text state held next shown at cycle =
           stands = at.of.stands;
           values = at.of.values;
           given = ap length filled ∙ c.cycle_by.auto.given ∙ ap length c.deref_mut.ensures.value ∙ at.of.given;
-          demand = c.cycle_by.ensures.points ∙ c.near_forms.ensures.points ∙ at.of.demand;
+          demand = c.cycle_by.ensures.points ∙ c.begin_cycle.ensures.points ∙ at.of.demand;
           loads = at.of.loads;
           clock = at.of.clock;
         };

@@ -115,7 +115,7 @@ returns-clause-runs c text state new loaded is_loaded =
           (kept_tern c.deref-3.result.now))
           c.deref-2.ensures.value running));
       forms = no_forms m.network.trees.items m.network.drives.items c.ask_for_run.new.demand.own c.ask_for_run.new.demand.leads c.ask_for_run.new.demand.terns
-          c.clear.new.self.items c.clear.ensures.items;
+          c.begin_run.new.forms.items c.begin_run.ensures;
       agree = starts.agree;
       low = starts.low;
     }
