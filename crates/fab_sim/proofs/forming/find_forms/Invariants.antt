@@ -1,4 +1,4 @@
-use Rattle.fab_sim.proofs.Forming.{OpenedSoFar}
+use Rattle.fab_sim.proofs.Opening.{OpenedSoFar}
 use Rattle.fab_sim.proofs.forming.find_forms.Given as goal
 
 abbrev pub invariant-loop-place : goal.invariant-loop-place

@@ -9,7 +9,7 @@ use Rattle.fab_demand.specs.Demand.{AreFormsOf}
 use Rattle.fab_phases.specs.Cycles.{IsRunningAt}
 use Rattle.fab_sim.proofs.Numbers.{as_many_ins, ins_once, numbers_within}
 use Rattle.fab_sim.proofs.Cycling.{ShowsAs, TicksAs, moved, runs_as}
-use Rattle.fab_sim.proofs.Forming.{own_marked, runs_on}
+use Rattle.fab_sim.proofs.Opening.{own_marked, runs_on}
 use Rattle.fab_sim.proofs.machine.Machine.cycle.Goals as goal
 
 pub begin_cycle-requires-clause-marked : goal.begin_cycle-requires-clause-marked
