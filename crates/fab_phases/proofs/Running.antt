@@ -18,7 +18,7 @@ use Rattle.fab_network.specs.Network.{source_tern}
 use Rattle.fab_network.specs.Passes.{kept_tern, IsListed}
 use Rattle.fab_network.specs.Solved.{IsLeast}
 use Rattle.fab_demand.specs.Asked.{AsksMore, Asked, DiffersInOwn}
-use Rattle.fab_demand.specs.Demand.{AreOpen, AreRegistersAsked, GivesOwn, IsAsked, IsKept, IsKeptBy, Shows, ShowsLeast}
+use Rattle.fab_demand.specs.Demand.{AreRegistersAsked, GivesOwn, IsAsked, IsKept, IsKeptBy, Shows, ShowsLeast}
 use Rattle.fab_demand.specs.Laws.{KeptAgain}
 use Rattle.fab_phases.specs.Lists.{Each, HasOne}
 use Rattle.fab_phases.specs.Cycles.{IsAskedFor, IsFed, IsIn, IsRunningAt, IsTicked}
@@ -212,25 +212,4 @@ run_asked network ins outs before asked given is_asked registers more marked inp
   };
   kept = λ point. given_kept_by network asked.terns asked.leads (kept_tern given point) (slice_get network.drives.items point);
   own = λ point listed absent. refl;
-}
-
--- points that stand for themselves have been asked for, and nothing is known of them yet
-pub asked_open : (network : Network) (given : PointTerns) (asked : Asked) → IsAsked network User given asked → AreOpen asked
-asked_open network given asked is q listed = ((is.own q listed).0, (is.own q listed).1.not_kept)
-
--- what runs goes on where what is kept for these points alone has changed
-pub runs_on : (network : Network) (ins outs : List ℕ) (old new : Asked) (given : List Tern) (held : PointTerns) →
-    ((asked : Asked) → DiffersInOwn asked old → DiffersInOwn asked new) → IsRunningAt network ins outs old given held → IsRunningAt network ins outs new given held
-runs_on network ins outs old new given held stays at = record {
-  asked_for = record {
-    base = at.asked_for.base;
-    asked = at.asked_for.asked;
-    is_asked = at.asked_for.is_asked;
-    registers = at.asked_for.registers;
-    differs = stays at.asked_for.asked at.asked_for.differs;
-    outputs = at.asked_for.outputs;
-    inputs = at.asked_for.inputs;
-  };
-  kept = at.kept;
-  own = at.own;
 }

@@ -22,15 +22,8 @@ use fab_demand::laws::kept_again;
 use fab_network::{Clock, Drive, Form, Network, Shared, Source};
 use fab_ternary::Tern;
 
-/// Asks for all that these outputs need in a run, where this is given: inputs that vary are open. What was asked for before is forgotten. The
-/// points that stand for themselves get forms, by which cycles find them.
-pub fn ask_for_run(
-    network: &Network,
-    outs: &[u32],
-    given: &[Tern],
-    demand: &mut Demand,
-    forms: &mut Vec<Form>,
-)
+/// Asks for all that these outputs need in a run, where this is given: inputs that vary are open. What was asked for before is forgotten.
+pub fn ask_for_run(network: &Network, outs: &[u32], given: &[Tern], demand: &mut Demand)
     requires fit { AreFit network.now.trees.items network.now.drives.items }
     requires points { length network.now.drives.items ≡ length demand.old.leads }
     requires given { length given.now ≡ length demand.old.leads }
@@ -38,19 +31,44 @@ pub fn ask_for_run(
     ensures points { length demand.new.leads ≡ length demand.old.leads }
     ensures running { (ins : List ℕ) → Each ins (λ point. (slice_get network.now.drives.items point ≡ Some Given) × (kept_tern given.now point ≡ unknown)) →
         IsRunningAt network.now ins outs.now demand.new given.now (kept_tern given.now) }
-    ensures forms { AreFormsOf network.now demand.new forms.new.items }
 {
     demand.clear();
     for out in outs {
         demand.ask(network, Clock::User, given, *out);
     }
     demand.ask_registers(network, Clock::User, given);
-    demand.find_forms(network, forms);
 }
 
-/// A cycle: inputs are fed, outputs are shown, and flip-flops and latches take what the tick leaves them. Points that stand for themselves are found
-/// by these forms.
+/// A cycle: inputs are fed, outputs are shown, and flip-flops and latches take what the tick leaves them.
 pub fn cycle(
+    network: &Network,
+    ins: &[u32],
+    outs: &[u32],
+    inputs: &[bool],
+    demand: &mut Demand,
+    given: &mut [Tern],
+    outputs: &mut [Tern],
+)
+    requires fit { AreFit network.now.trees.items network.now.drives.items }
+    requires points { length network.now.drives.items ≡ length demand.old.leads }
+    requires given { length given.old ≡ length demand.old.leads }
+    requires ins { AreNumbers (length network.now.drives.items) ins.now }
+    requires once { AreOnce ins.now }
+    requires outs { AreNumbers (length network.now.drives.items) outs.now }
+    requires inputs { length inputs.now ≡ length ins.now }
+    requires outputs { length outputs.old ≡ length outs.now }
+    ensures points { length demand.new.leads ≡ length demand.old.leads }
+    ensures shows { (held later t : PointTerns) → IsRunningAt network.now ins.now outs.now demand.old given.old held → IsFed ins.now inputs.now held later →
+        IsLeast network.now.trees.items network.now.drives.items later t → map plain_tern outputs.new ≡ map t outs.now }
+    ensures ticks { (held later t next : PointTerns) → IsRunningAt network.now ins.now outs.now demand.old given.old held → IsFed ins.now inputs.now held later →
+        IsLeast network.now.trees.items network.now.drives.items later t → IsTicked network.now ins.now later t next →
+        IsRunningAt network.now ins.now outs.now demand.new given.new next }
+{
+    cycle_by(network, ins, outs, inputs, &[], demand, given, outputs);
+}
+
+/// The same, where points that stand for themselves have these forms.
+pub fn cycle_by(
     network: &Network,
     ins: &[u32],
     outs: &[u32],

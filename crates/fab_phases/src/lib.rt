@@ -11,7 +11,7 @@ mod ticks;
 mod watched;
 mod words;
 
-pub use cycles::{ask_for_run, cycle, feed, open};
+pub use cycles::{ask_for_run, cycle, cycle_by, feed, open};
 pub use gathering::{GatedLatch, loading_of};
 pub use loading::{Latch, LoadedFlop, Loading, Run};
 pub use words::{load_bits, load_words, offer, offer_bit};

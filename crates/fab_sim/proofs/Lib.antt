@@ -7,6 +7,7 @@ pub mod Loaded
 pub mod Setting
 pub mod Started
 pub mod Cycling
+pub mod Opening
 pub mod Orders
 pub mod Blocks
 pub mod Ended

@@ -1,6 +1,7 @@
 //! The simulator: a text with the pads and flip-flops of a state, to which words are loaded and which then runs cycle by cycle.
 #![tactic(auto)]
 
+mod forming;
 mod machine;
 mod making;
 mod starting;

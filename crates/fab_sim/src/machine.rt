@@ -11,6 +11,7 @@ ghost use Rattle.fab_state_points.specs.Standing.{IsRefusedState};
 ghost use Rattle.fab_ordering_laws.specs.fab_simulation_laws_Simulation.{IsCycle, IsLoaded, with_registers};
 ghost use Rattle.fab_sim.specs.Once.{StandsOnce};
 
+use crate::forming::{begin_cycle, begin_run};
 use crate::making::{clock_of, machine_of, registers_of, values_of};
 use crate::starting::{load_stream, set_out};
 use fab_base::{Fault, Name};
@@ -20,7 +21,7 @@ use fab_load_points::loading_points;
 use fab_meaning::laws::points_of_sound_texts_have_one_driver;
 use fab_network::{Form, Network};
 use fab_ordering_laws::loading_is_known;
-use fab_phases::{Loading, ask_for_run, cycle};
+use fab_phases::{Loading, ask_for_run, cycle_by};
 use fab_solutions_laws::least_solutions;
 use fab_state::State;
 use fab_state_points::{StatePoints, state_points};
@@ -42,8 +43,10 @@ pub struct Machine {
     pub(crate) loading: Loading,
     /// What has to be looked at: first for loading, then for the outputs.
     pub(crate) demand: Demand,
-    /// How cycles find the points that stand for themselves. Where memory is refused for a form, its point is found by its drive.
+    /// How cycles find the points that stand for themselves, behind the first ones. Where memory is refused for a form, its point is found by its drive.
     pub(crate) forms: Vec<Form>,
+    /// How many cycles are yet to go without forms. `None` where forms have been found.
+    pub(crate) plain_left: Option<u32>,
     /// By the number of the point: what is given to an input, and what a flip-flop or a latch holds.
     pub(crate) given: Vec<Tern>,
     /// By the number of the point: whether it is a loading point.
@@ -112,8 +115,8 @@ impl Machine {
             &self.points.outs,
             &self.given,
             &mut self.demand,
-            &mut self.forms,
         );
+        begin_run(&mut self.plain_left, &mut self.forms);
     }
 
     /// A cycle: what output ports show while input ports have these values, each in the order of the state. Then `UserCLK` ticks.
@@ -125,7 +128,13 @@ impl Machine {
         numbered_exists();
         numbered_solutions();
         numbered_kept();
-        cycle(
+        begin_cycle(
+            &self.network,
+            &mut self.plain_left,
+            &mut self.demand,
+            &mut self.forms,
+        );
+        cycle_by(
             &self.network,
             &self.points.ins,
             &self.points.outs,

@@ -13,6 +13,7 @@ ghost use Rattle.fab_state_points.specs.Standing.{data_width, first_data};
 ghost use Rattle.fab_sim.specs.Making.{IsGivenFirst};
 ghost use Rattle.fab_sim.specs.inner.Made.{stored_by, IsMadeOf};
 
+use crate::forming::PLAIN_CYCLES;
 use crate::machine::Machine;
 use crate::starting::fill;
 use fab_base::Memory;
@@ -109,6 +110,7 @@ pub fn machine_of(
         loading,
         demand,
         forms: Vec::new(alloc),
+        plain_left: Some(PLAIN_CYCLES),
         given,
         loads,
         clock,

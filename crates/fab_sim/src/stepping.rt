@@ -141,6 +141,7 @@ pub fn unset_of(machine: Machine, room: Room, seed: u64) -> Unset
         loading,
         demand,
         forms,
+        plain_left: _,
         given,
         loads,
         clock: _,

@@ -1,8 +1,8 @@
-use Rattle.std.proofs.Common.{length, sym, ap, ◌∙◌, arith, get_or}
+use Rattle.std.proofs.Common.{sym, ◌∙◌, arith, get_or}
 use Rattle.std.proofs.lemmas.Option.{slice_get-get_or, slice_get_within}
 use Rattle.fab_network.specs.declared.network.Clock.TheVariants.{User}
 use Rattle.fab_network.specs.Passes.{kept_tern}
-use Rattle.fab_phases.proofs.Running.{asked_open, differs_none, marked_more, run_asked, runs_on}
+use Rattle.fab_phases.proofs.Running.{marked_more, run_asked}
 use Rattle.fab_phases.proofs.cycles.ask_for_run.Goals as goal
 
 pub loop-out-init : goal.loop-out-init
@@ -40,21 +40,11 @@ ask_registers-requires-clause-given c = c.requires.given ∙ sym c.loop-out.inva
 pub ask_registers-requires-clause-asked : goal.ask_registers-requires-clause-asked
 ask_registers-requires-clause-asked c = c.loop-out.invariant.asked
 
-pub find_forms-requires-clause-points : goal.find_forms-requires-clause-points
-find_forms-requires-clause-points c = c.requires.points ∙ sym (c.ask_registers.ensures.more.long ∙ c.loop-out.invariant.points)
-
-pub find_forms-requires-clause-fresh : goal.find_forms-requires-clause-fresh
-find_forms-requires-clause-fresh c = asked_open c.args.network.now (kept_tern c.args.given.now) c.ask_registers.new.self c.ask_registers.ensures.asked
-
 pub returns-clause-points : goal.returns-clause-points
-returns-clause-points c =
-    ap length (c.find_forms.ensures.stays c.ask_registers.new.self (differs_none c.ask_registers.new.self)).leads
-    ∙ c.ask_registers.ensures.more.long ∙ c.loop-out.invariant.points
+returns-clause-points c = c.ask_registers.ensures.more.long ∙ c.loop-out.invariant.points
 
 pub returns-clause-running : goal.returns-clause-running
 returns-clause-running c ins are =
-    runs_on c.args.network.now ins c.args.outs.now c.ask_registers.new.self c.find_forms.new.self c.args.given.now (kept_tern c.args.given.now)
-    c.find_forms.ensures.stays
-    (run_asked c.args.network.now ins c.args.outs.now c.loop-out.demand c.ask_registers.new.self c.args.given.now c.ask_registers.ensures.asked
-    c.ask_registers.ensures.registers c.ask_registers.ensures.more
-    (λ place point e. let within = slice_get_within c.args.outs.now place point e in c.loop-out.invariant.marked place point (omega arith) e) are)
+    run_asked c.args.network.now ins c.args.outs.now c.loop-out.demand c.ask_registers.new.self c.args.given.now c.ask_registers.ensures.asked c.ask_registers.ensures.registers
+    c.ask_registers.ensures.more
+    (λ place point e. let within = slice_get_within c.args.outs.now place point e in c.loop-out.invariant.marked place point (omega arith) e) are

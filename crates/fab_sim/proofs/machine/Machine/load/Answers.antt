@@ -5,6 +5,7 @@ use Rattle.std.proofs.lemmas.List.{with_items_is}
 use Rattle.fab_meaning.specs.Loading.{OfferWords, offered_at}
 use Rattle.fab_ternary.specs.declared.Tern.{Tern}
 use Rattle.fab_network.specs.Passes.{kept_tern}
+use Rattle.fab_network.proofs.Forming.{no_forms}
 use Rattle.fab_ordering_laws.specs.fab_simulation_laws_Simulation.{zeros}
 use Rattle.fab_phases.specs.Words.{AreLoadSteps, IsLoadingAt, word_bits}
 use Rattle.fab_phases.specs.Cycles.{IsRunningAt}
@@ -113,7 +114,8 @@ returns-clause-runs c text state new loaded is_loaded =
           (subst (λ (outs : List ℕ). IsRunningAt m.network m.points.ins.items outs c.ask_for_run.new.demand c.deref-3.result.now
           (kept_tern c.deref-3.result.now))
           c.deref-2.ensures.value running));
-      forms = c.ask_for_run.ensures.forms;
+      forms = no_forms m.network.trees.items m.network.drives.items c.ask_for_run.new.demand.own c.ask_for_run.new.demand.leads c.ask_for_run.new.demand.terns
+          c.begin_run.new.forms.items c.begin_run.ensures;
       agree = starts.agree;
       low = starts.low;
     }
