@@ -11,7 +11,7 @@ ghost use Rattle.fab_state_points.specs.Standing.{IsRefusedState};
 ghost use Rattle.fab_ordering_laws.specs.fab_simulation_laws_Simulation.{IsCycle, IsLoaded, with_registers};
 ghost use Rattle.fab_sim.specs.Once.{StandsOnce};
 
-use crate::forming::{begin_cycle, begin_run};
+use crate::forming::{begin_cycle, begin_run, cycle_in_run};
 use crate::making::{clock_of, machine_of, registers_of, values_of};
 use crate::starting::{load_stream, set_out};
 use fab_base::{Fault, Name};
@@ -21,7 +21,7 @@ use fab_load_points::loading_points;
 use fab_meaning::laws::points_of_sound_texts_have_one_driver;
 use fab_network::{Form, Network};
 use fab_ordering_laws::loading_is_known;
-use fab_phases::{Loading, ask_for_run, cycle_by};
+use fab_phases::{Loading, ask_for_run};
 use fab_solutions_laws::least_solutions;
 use fab_state::State;
 use fab_state_points::{StatePoints, state_points};
@@ -134,7 +134,7 @@ impl Machine {
             &mut self.demand,
             &mut self.forms,
         );
-        cycle_by(
+        cycle_in_run(
             &self.network,
             &self.points.ins,
             &self.points.outs,
