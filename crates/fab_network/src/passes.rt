@@ -278,7 +278,7 @@ fn look_again(
     );
 }
 
-// Looks at readers that wait, until none does. No more than there are points come to be noted as waiting.
+// Looks at readers that wait, until none does. Each waits for something that has come to be known, so this ends long before the count does.
 fn look_at_waiting(
     network: &Network,
     order: &[u32],
@@ -303,8 +303,8 @@ fn look_at_waiting(
     ensures further { IsFurther (record { trees = network.now.trees.items; drives = network.now.drives.items; held = held.now; order = order.now; leads = leads.now })
         terns.old terns.new }
 {
-    for number in 0..leads.len() {
-        let Some(place) = readers.next_waiting(number) else {
+    for _reader in 0..usize::MAX {
+        let Some(place) = readers.next_waiting() else {
             return;
         };
         look_at_run(

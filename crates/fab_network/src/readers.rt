@@ -13,6 +13,12 @@ const NO_NOTE: u32 = u32::MAX;
 /// The same for a point that is not in the order: its readers are not noted.
 const UNLISTED: u32 = u32::MAX - 1;
 
+/// Stands for a reader where none waits.
+const NOBODY: u32 = u32::MAX;
+
+/// Stands for the next one behind a reader that does not wait.
+const IDLE: u32 = u32::MAX - 1;
+
 /// How many notes there is room for, for each point: most operators have fewer operands.
 const NOTES_OF_A_POINT: usize = 4;
 
@@ -26,10 +32,12 @@ pub struct Readers {
     notes: Vec<Note>,
     /// Whether the notes are those of the order as it is.
     fresh: bool,
-    /// Readers that are to be looked at again, each behind those that began to wait before it.
-    waiting: Vec<u32>,
-    /// By the reader: whether it waits.
-    waits: Vec<bool>,
+    /// By the reader: the one that waits behind it to be looked at again, `NOBODY` behind the last one, and `IDLE` where it does not wait.
+    behind: Vec<u32>,
+    /// The reader that has waited longest, or `NOBODY`.
+    first: u32,
+    /// The one that began to wait last, if any waits.
+    last_waiting: u32,
 }
 
 /// That a point is read.
@@ -47,8 +55,9 @@ impl Readers {
             last: vec![in alloc; UNLISTED; points]?,
             notes: Vec::with_capacity(alloc, points.saturating_mul(NOTES_OF_A_POINT))?,
             fresh: false,
-            waiting: Vec::with_capacity(alloc, points)?,
-            waits: vec![in alloc; false; points]?,
+            behind: vec![in alloc; IDLE; points]?,
+            first: NOBODY,
+            last_waiting: NOBODY,
         })
     }
 
@@ -263,8 +272,6 @@ impl Readers {
 
     /// The readers that stand before a point that is known wait, since a pass came to such a reader first.
     pub(crate) fn begin(&mut self, order: &[u32], terns: &[Tern]) {
-        self.waiting.clear();
-        self.waits.fill(false);
         for (place, point) in order.iter().enumerate() {
             if let Some(Tern::No | Tern::Yes) = terns.get(*point as usize) {
                 let note = self.before(place, self.last_note(*point));
@@ -308,22 +315,25 @@ impl Readers {
         }
     }
 
-    // A reader waits, where there is room.
+    // A reader waits behind all others, unless it does already.
     fn wait(&mut self, reader: u32) {
-        let has_room = self.waiting.len() < self.waiting.capacity();
-        match self.waits.get_mut(reader as usize) {
-            Some(waits) if has_room && !*waits => *waits = true,
+        match self.behind.get_mut(reader as usize) {
+            Some(behind) if *behind == IDLE => *behind = NOBODY,
             _ => return,
         }
-        let _ = self.waiting.push(reader);
+        match self.behind.get_mut(self.last_waiting as usize) {
+            Some(behind) if self.first != NOBODY => *behind = reader,
+            _ => self.first = reader,
+        }
+        self.last_waiting = reader;
     }
 
-    /// The reader that began to wait behind so many others, if there is one. It waits no more.
-    pub(crate) fn next_waiting(&mut self, number: usize) -> Option<u32> {
-        let reader = *self.waiting.get(number)?;
-        if let Some(waits) = self.waits.get_mut(reader as usize) {
-            *waits = false;
-        }
+    /// The reader that has waited longest, if one does. It waits no more.
+    pub(crate) fn next_waiting(&mut self) -> Option<u32> {
+        let reader = self.first;
+        let behind = self.behind.get_mut(reader as usize)?;
+        self.first = *behind;
+        *behind = IDLE;
         Some(reader)
     }
 }
