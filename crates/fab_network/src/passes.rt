@@ -2,6 +2,8 @@
 
 ghost use Rattle.std.specs.Prelude.{◌≡◌, ◌<◌, ◌≤◌, ◌^◌, ℕ, List, length, slice_index};
 ghost use Rattle.fab_ternary.specs.Terns.{plain_tern};
+ghost use Rattle.fab_compiled.specs.declared.tree.Tree.{Tree};
+ghost use Rattle.fab_compiled.specs.Leading.{PointTerns};
 ghost use Rattle.fab_compiled.specs.Terns.{seen, IsView};
 ghost use Rattle.fab_network.specs.Forms.{HasForms};
 ghost use Rattle.fab_network.specs.Network.{shown_tern, AreFit};
@@ -11,7 +13,7 @@ ghost use Rattle.fab_network.specs.Sharing.{AreShared};
 use crate::forms::{Form, shown_by_form};
 use crate::network::{Network, shown};
 use crate::readers::Readers;
-use crate::runs::{drive_of_run, end_of_run};
+use crate::runs::drive_at;
 use crate::sharing::KeptValues;
 use fab_compiled::View;
 use fab_ternary::Tern;
@@ -347,15 +349,29 @@ fn look_at_run(
     ensures further { IsFurther (record { trees = network.now.trees.items; drives = network.now.drives.items; held = held.now; order = order.now; leads = leads.now })
         terns.old terns.new }
 {
-    if let Some(drive) = drive_of_run(network, order, place) {
-        shared.begin_run(&network.trees, drive);
-    }
-    let end = end_of_run(network, order, place);
+    let end = begin_run(network, order, readers, place, shared);
     for point in place..end {
         look_at_reader(
             network, order, held, leads, forms, readers, point, shared, terns,
         );
     }
+}
+
+// The point at a place of the order is looked at next, or the run that begins there. Told is the place behind.
+fn begin_run(
+    network: &Network,
+    order: &[u32],
+    readers: &Readers,
+    place: usize,
+    shared: &mut KeptValues,
+) -> usize
+    ensures { (trees : List Tree) (count : ℕ) (t : PointTerns) → AreShared trees count t shared.old → AreShared trees count t shared.new }
+{
+    let (Some(end), Some(drive)) = (readers.end_at(place), drive_at(network, order, place)) else {
+        return place.saturating_add(1);
+    };
+    shared.begin_run(&network.trees, drive);
+    end
 }
 
 // Looks at the point at a place of the order. The look may wait, since another pass follows.

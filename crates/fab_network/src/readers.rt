@@ -1,7 +1,7 @@
 //! Which points read a point, for another look at them where it has come to be known.
 
 use crate::network::{Drive, Network, Source};
-use crate::runs::{drive_at, drive_of_run, end_of_run};
+use crate::runs::{drive_at, end_of_run};
 use fab_base::Memory;
 use fab_compiled::Tree;
 use fab_ternary::Tern;
@@ -30,6 +30,8 @@ pub struct Readers {
     /// By the number of a point: the place of the last note of a reader of it.
     last: Vec<u32>,
     notes: Vec<Note>,
+    /// By the place in the order: the place behind the run that begins there, or 0 where none does.
+    ends: Vec<u32>,
     /// Whether the notes are those of the order as it is.
     fresh: bool,
     /// By the reader: the one that waits behind it to be looked at again, `NOBODY` behind the last one, and `IDLE` where it does not wait.
@@ -54,6 +56,7 @@ impl Readers {
         Ok(Readers {
             last: vec![in alloc; UNLISTED; points]?,
             notes: Vec::with_capacity(alloc, points.saturating_mul(NOTES_OF_A_POINT))?,
+            ends: vec![in alloc; 0; points]?,
             fresh: false,
             behind: vec![in alloc; IDLE; points]?,
             first: NOBODY,
@@ -80,22 +83,43 @@ impl Readers {
                 break;
             }
             if place >= end {
-                end = end_of_run(network, order, place);
-                self.note_run(network, order, place, leads);
+                end = self.note_run(network, order, place, leads);
             }
         }
         self.fresh = true;
     }
 
-    // Notes what the points of the run that begins at a place read.
-    fn note_run(&mut self, network: &Network, order: &[u32], place: usize, leads: &[u32]) {
-        let Ok(reader) = u32::try_from(place) else {
-            return;
+    // Notes what the point at a place reads, or the run that begins there. Told is the place behind.
+    fn note_run(&mut self, network: &Network, order: &[u32], place: usize, leads: &[u32]) -> usize {
+        let alone = place.saturating_add(1);
+        let (Ok(reader), Some(drive)) = (u32::try_from(place), drive_at(network, order, place))
+        else {
+            return alone;
         };
-        if let Some(drive) = drive_of_run(network, order, place) {
-            self.note_expressions(network, drive, leads, reader);
-        } else if let Some(drive) = drive_at(network, order, place) {
-            self.note_drive(network, drive, leads, reader);
+        match end_of_run(network, order, place, drive) {
+            Some(end) => {
+                self.note_expressions(network, drive, leads, reader);
+                self.set_end(place, end);
+                end
+            }
+            None => {
+                self.note_drive(network, drive, leads, reader);
+                alone
+            }
+        }
+    }
+
+    fn set_end(&mut self, place: usize, end: usize) {
+        if let (Some(kept), Ok(end)) = (self.ends.get_mut(place), u32::try_from(end)) {
+            *kept = end;
+        }
+    }
+
+    /// The place behind the run that begins at a place of the order, if one does.
+    pub(crate) fn end_at(&self, place: usize) -> Option<usize> {
+        match self.ends.get(place) {
+            Some(end) if *end > 0 => Some(*end as usize),
+            _ => None,
         }
     }
 
@@ -125,6 +149,7 @@ impl Readers {
     // These points are in the order, and nothing is noted of them.
     fn list(&mut self, order: &[u32]) {
         self.last.fill(UNLISTED);
+        self.ends.fill(0);
         self.notes.clear();
         for point in order {
             self.set_last(*point, NO_NOTE);

@@ -3,36 +3,43 @@
 use crate::network::{Drive, Network, Source};
 use crate::plans::are_found_together;
 
-/// The place behind the run that begins at a place of the order: the bits of one expression that follow one another, where all bits are found together. Any
-/// other point is a run of its own.
-pub(crate) fn end_of_run(network: &Network, order: &[u32], place: usize) -> usize {
-    let alone = place.saturating_add(1);
-    let Some(drive) = drive_of_run(network, order, place) else {
-        return alone;
-    };
-    for end in alone..order.len() {
+/// The place behind the run that begins at a place of the order: the bits of one expression that follow one another, where all bits are found together.
+/// `None` where the point there, of this drive, is looked at alone.
+pub(crate) fn end_of_run(
+    network: &Network,
+    order: &[u32],
+    place: usize,
+    drive: Drive,
+) -> Option<usize> {
+    if is_behind_another(network, order, place, drive) || !are_together(network, drive) {
+        return None;
+    }
+    let begin = place.saturating_add(1);
+    for end in begin..order.len() {
         match drive_at(network, order, end) {
             Some(next) if is_beside(drive, next) => {}
-            _ => return end,
+            _ => return Some(end),
         }
     }
-    order.len().max(alone)
-}
-
-/// The drive of the first point of a run of bits that are found together, if there is one at this place.
-pub(crate) fn drive_of_run(network: &Network, order: &[u32], place: usize) -> Option<Drive> {
-    let drive = drive_at(network, order, place)?;
-    if are_together(network, drive) {
-        Some(drive)
-    } else {
-        None
-    }
+    Some(order.len().max(begin))
 }
 
 /// The drive of the point at a place of the order.
 pub(crate) fn drive_at(network: &Network, order: &[u32], place: usize) -> Option<Drive> {
     let point = *order.get(place)?;
     network.drives.get(point as usize).copied()
+}
+
+// Whether the point before is a bit of the same expression. It would be in the same run, so it is known without a walk through the expression that both are
+// looked at alone.
+fn is_behind_another(network: &Network, order: &[u32], place: usize, drive: Drive) -> bool {
+    if place == 0 {
+        return false;
+    }
+    match drive_at(network, order, place - 1) {
+        Some(before) => is_beside(before, drive),
+        None => false,
+    }
 }
 
 // Whether all bits of an expression of a drive are found together.

@@ -1,26 +1,16 @@
-use Rattle.std.proofs.Common.{ℕ, List, length, sym, subst}
-use Rattle.fab_compiled.specs.declared.tree.Tree.{Tree}
-use Rattle.fab_compiled.specs.Leading.{PointTerns}
+use Rattle.std.proofs.Common.{length}
 use Rattle.fab_compiled.specs.Terns.{seen}
 use Rattle.fab_network.specs.Passes.{Scene}
-use Rattle.fab_network.specs.Sharing.{AreShared}
 use Rattle.fab_network.proofs.Forming.{forms_stay}
 use Rattle.fab_network.proofs.Passing.{both_further, none_further}
 use Rattle.fab_network.proofs.passes.look_at_run.Goals as goal
-use Rattle.fab_network.proofs.passes.look_at_run.Goals.{in-Some, in_default}
 
 pub loop-point-init : goal.loop-point-init
 loop-point-init c =
     let scene : Scene = record { trees = c.args.network.now.trees.items; drives = c.args.network.now.drives.items; held = c.args.held.now; order = c.args.order.now; leads = c.args.leads.now } in
-    let trees : List Tree = c.args.network.now.trees.items in
-    let count : ℕ = length c.args.leads.now in
-    let t : PointTerns = seen c.args.terns.now c.args.leads.now in
     record {
       further = none_further scene c.args.terns.now c.requires.backed;
-      shared = elim c.match-drive_of_run.branch [
-        | in-Some w ↦ subst (AreShared trees count t) (sym w.shared-is) (w.begin_run.ensures trees count t c.requires.shared)
-        | in_default w ↦ subst (AreShared trees count t) (sym w.shared-is) c.requires.shared
-      ];
+      shared = c.begin_run-end.ensures c.args.network.now.trees.items (length c.args.leads.now) (seen c.args.terns.now c.args.leads.now) c.requires.shared;
     }
 
 pub loop-point-preserved : goal.loop-point-preserved
