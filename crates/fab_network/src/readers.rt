@@ -97,10 +97,15 @@ impl Readers {
             return alone;
         };
         match end_of_run(network, order, place, drive) {
-            Some(end) => {
+            Some(end) if end > alone => {
                 self.note_expressions(network, drive, leads, reader);
                 self.set_end(place, end);
                 end
+            }
+            Some(_) => {
+                self.note_drive(network, drive, leads, reader);
+                self.set_end(place, alone);
+                alone
             }
             None => {
                 self.note_drive(network, drive, leads, reader);

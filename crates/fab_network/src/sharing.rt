@@ -123,8 +123,13 @@ impl Shared {
 
     // Whether a look at a bit may be left out where another one follows: it was open when all bits were found, and alone it takes as long as all of them.
     fn may_wait(&self, source: Source) -> bool {
-        let is_same = self.tree == source.tree && self.first == source.first;
-        is_same && self.are_together() && self.bits.len() > 0 && self.kept(source.bit).is_none()
+        let has_bits = self.is_of(source) && self.bits.len() > 0;
+        has_bits && self.are_together() && self.kept(source.bit).is_none()
+    }
+
+    // Whether the expression is that of a source.
+    fn is_of(&self, source: Source) -> bool {
+        self.tree == source.tree && self.first == source.first
     }
 
     // Whether each bit alone may take as long as all of them.
@@ -138,6 +143,15 @@ impl Shared {
     {
         self.turn_to(source.tree, source.first);
         self.plan = self.plan.decided(trees.get(source.tree as usize));
+    }
+
+    // The same of a single bit. Where it is known there is nothing to find.
+    fn begin_bit(&mut self, trees: &[Tree], source: Source)
+        ensures { (trees : List Tree) (count : ℕ) (t : PointTerns) → IsShared trees count t self.old → IsShared trees count t self.new }
+    {
+        if !self.is_of(source) || self.kept(source.bit).is_none() {
+            self.begin_run(trees, source);
+        }
     }
 
     // Finds all bits of the expression.
@@ -220,7 +234,7 @@ impl KeptValues {
             Drive::Given | Drive::Flop(_, _) | Drive::Same(_) => {}
             Drive::Value(source) => self.points.begin_run(trees, source),
             Drive::Hold(gate, latched) => {
-                self.gates.begin_run(trees, gate);
+                self.gates.begin_bit(trees, gate);
                 self.points.begin_run(trees, latched);
             }
         }
