@@ -47,6 +47,31 @@ impl Row {
     }
 }
 
+/// Points of numbers from one up to another that have all been asked for.
+#[derive(Clone, Copy, Debug)]
+struct Asked {
+    begin: u32,
+    end: u32,
+}
+
+impl Asked {
+    const NONE: Asked = Asked { begin: 0, end: 0 };
+
+    // The same with more points, where they follow one another with these or overlap, and else those alone.
+    fn with(self, begin: u32, end: u32) -> Asked {
+        if begin >= end {
+            self
+        } else if begin <= self.end && self.begin <= end {
+            Asked {
+                begin: begin.min(self.begin),
+                end: end.max(self.end),
+            }
+        } else {
+            Asked { begin, end }
+        }
+    }
+}
+
 /// What is done next for the last point that waits.
 #[derive(Clone, Copy, Debug)]
 pub enum Next {
@@ -67,6 +92,8 @@ pub struct Rows {
     rows: Vec<Row>,
     /// The points of rows that do not follow one another.
     list: Vec<u32>,
+    /// Points that rows have passed. In a name each bit of which needs the one beside it every bit has a row, which would go through all behind it.
+    asked: Asked,
     /// Looks that have closed a bit of an expression.
     looks: Looks,
     /// Looks at a point that have found one more that it needs.
@@ -79,6 +106,7 @@ impl Rows {
         Rows {
             rows: Vec::new(alloc),
             list: Vec::new(alloc),
+            asked: Asked::NONE,
             looks: Looks::new(),
             finds: Looks::new(),
         }
@@ -93,6 +121,7 @@ impl Rows {
     /// Nothing has been counted, and no point waits.
     pub fn clear(&mut self) {
         self.end();
+        self.asked = Asked::NONE;
         self.looks = Looks::new();
         self.finds = Looks::new();
     }
@@ -187,13 +216,32 @@ impl Rows {
     }
 
     // The first of some points that has not been asked for.
-    fn first_of(&self, points: Points, marks: &[bool]) -> Option<Found>
+    fn first_of(&mut self, points: Points, marks: &[bool]) -> Option<Found>
         ensures { IfSome result (λ found. slice_get marks.now found.point ≡ Some false) }
     {
         match points {
-            Points::Between(next, end) => first_between(next, end, marks),
+            Points::Between(next, end) => self.first_between(next, end, marks),
             Points::Listed(start, next) => self.first_listed(start, next, marks),
         }
+    }
+
+    // The first of some points that follow one another that has not been asked for.
+    fn first_between(&mut self, next: u32, end: u32, marks: &[bool]) -> Option<Found>
+        ensures { IfSome result (λ found. slice_get marks.now found.point ≡ Some false) }
+    {
+        let before = end.min(self.asked.begin);
+        let found = match first_unmarked(next, before, marks) {
+            Some(found) => Some(found),
+            None => first_unmarked(next.max(self.asked.end), end, marks),
+        };
+        let Some(point) = found else {
+            self.asked = self.asked.with(next, end);
+            return None;
+        };
+        let behind = point.saturating_add(1);
+        self.asked = self.asked.with(next, behind);
+        let rest = Points::Between(behind, end);
+        Some(Found { point, rest })
     }
 
     // The same from a place of the list on.
@@ -252,14 +300,13 @@ fn row_of(network: &Network, point: u32, needed: u32, depth: usize, waits: bool)
     })
 }
 
-// The first of some points that follow one another that has not been asked for.
-fn first_between(next: u32, end: u32, marks: &[bool]) -> Option<Found>
-    ensures { IfSome result (λ found. slice_get marks.now found.point ≡ Some false) }
+// The first point from one up to another that has not been asked for.
+fn first_unmarked(begin: u32, end: u32, marks: &[bool]) -> Option<u32>
+    ensures { IfSome result (λ found. slice_get marks.now found ≡ Some false) }
 {
-    for point in next..end {
+    for point in begin..end {
         if is_unmarked(point, marks) {
-            let rest = Points::Between(point.saturating_add(1), end);
-            return Some(Found { point, rest });
+            return Some(point);
         }
     }
     None
