@@ -5,7 +5,7 @@ ghost use Rattle.fab_ahead.specs.Rows.{AsksUnmarked};
 
 use crate::lists::list_by_drive;
 use crate::looks::{Looks, Subject};
-use crate::names::{MANY, end_by_drive, is_ring, may_begin_row};
+use crate::names::{MANY, end_by_drive, is_ring, may_begin_row, needs_back};
 use fab_network::{Drive, Network};
 use std::alloc::Global;
 
@@ -98,6 +98,8 @@ pub struct Rows {
     looks: Looks,
     /// Looks at a point that have found one more that it needs.
     finds: Looks,
+    /// Looks at a bit of an expression that have found one that needs the name of that bit.
+    loops: Looks,
 }
 
 impl Rows {
@@ -109,6 +111,7 @@ impl Rows {
             asked: Asked::NONE,
             looks: Looks::new(),
             finds: Looks::new(),
+            loops: Looks::new(),
         }
     }
 
@@ -124,6 +127,7 @@ impl Rows {
         self.asked = Asked::NONE;
         self.looks = Looks::new();
         self.finds = Looks::new();
+        self.loops = Looks::new();
     }
 
     /// What a look has found that the last of so many waiting points needs, with the rest of the name that it stands in. Told is whether the point before it
@@ -138,8 +142,24 @@ impl Rows {
         marks: &[bool],
     ) {
         match row_of(network, point, needed, depth, waits) {
-            Some(row) => self.push(row),
+            Some(row) => {
+                let ring = row.ring || self.is_in_loop(network, point, needed);
+                self.push(Row { ring, ..row });
+            }
             None => self.add_list(network, point, depth, marks),
+        }
+    }
+
+    // Whether many bits of an expression have been found to need a name that needs them. Its bits may be led to others, by a test that is not known yet; but
+    // with so many looks in vain each of them is taken to need all others.
+    fn is_in_loop(&mut self, network: &Network, point: u32, needed: u32) -> bool {
+        match network.drives.get(point as usize) {
+            Some(Drive::Value(source) | Drive::Hold(_, source))
+                if needs_back(network, point, needed) => {
+                let subject = Subject::Expression(source.tree, source.first);
+                self.loops.count(subject) >= MANY
+            }
+            _ => false,
         }
     }
 
