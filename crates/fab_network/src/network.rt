@@ -1,6 +1,7 @@
 //! What points show, by numbers.
 
 ghost use Rattle.std.specs.Prelude.{◌≡◌, ◌<◌, ◌≤◌, ◌^◌, true, Some, length};
+ghost use Rattle.fab_systems_laws.specs.Ternary.{IsBelow};
 ghost use Rattle.fab_ternary.specs.Terns.{plain_tern};
 ghost use Rattle.fab_compiled.specs.Terns.{seen, IsView};
 ghost use Rattle.fab_network.specs.Network.{drive_tern, source_tern, shown_tern, AreBeside, AreFit, IsFitDrive, IsFitSource};
@@ -120,6 +121,59 @@ fn shown_by(
         Drive::Hold(gate, latched) => {
             let gate = shared.gates.value(trees, gate, view);
             through(gate, shared.points.value(trees, latched, view), held)
+        }
+    }
+}
+
+/// The same where another look follows: less may be told where that takes long.
+pub(crate) fn shown_meanwhile(
+    network: &Network,
+    point: usize,
+    held: Tern,
+    shared: &mut KeptValues,
+    view: &View,
+) -> Tern
+    requires fit { AreFit network.now.trees.items network.now.drives.items }
+    requires points { length network.now.drives.items ≡ length view.now.leads.now }
+    requires view { IsView view.now.terns.now view.now.leads.now }
+    requires small { length view.now.leads.now ≤ 2 ^ 32 }
+    requires within { point < length view.now.leads.now }
+    requires shared { AreShared network.now.trees.items (length view.now.leads.now) (seen view.now.terns.now view.now.leads.now) shared.old }
+    ensures shared { AreShared network.now.trees.items (length view.now.leads.now) (seen view.now.terns.now view.now.leads.now) shared.new }
+    ensures below { IsBelow (plain_tern result)
+        (shown_tern network.now.trees.items network.now.drives.items (plain_tern held) (seen view.now.terns.now view.now.leads.now) point) }
+{
+    match network.drives.get(point) {
+        Some(drive) => meanwhile_by(&network.trees, *drive, point, held, shared, view),
+        None => Tern::Open,
+    }
+}
+
+// What a point shows by its drive, or less.
+fn meanwhile_by(
+    trees: &[Tree],
+    drive: Drive,
+    point: usize,
+    held: Tern,
+    shared: &mut KeptValues,
+    view: &View,
+) -> Tern
+    requires fit { IsFitDrive trees.now (length view.now.leads.now) drive }
+    requires view { IsView view.now.terns.now view.now.leads.now }
+    requires small { length view.now.leads.now ≤ 2 ^ 32 }
+    requires within { point < length view.now.leads.now }
+    requires shared { AreShared trees.now (length view.now.leads.now) (seen view.now.terns.now view.now.leads.now) shared.old }
+    ensures shared { AreShared trees.now (length view.now.leads.now) (seen view.now.terns.now view.now.leads.now) shared.new }
+    ensures below { IsBelow (plain_tern result) (drive_tern trees.now (plain_tern held) (seen view.now.terns.now view.now.leads.now) point (Some drive)) }
+{
+    match drive {
+        Drive::Given | Drive::Flop(_, _) => view.at(point),
+        Drive::Same(other) => view.at(other as usize),
+        Drive::Value(source) => shared.points.value_meanwhile(trees, source, view),
+        Drive::Hold(gate, latched) => {
+            let gate = shared.gates.value_meanwhile(trees, gate, view);
+            let data = shared.points.value_meanwhile(trees, latched, view);
+            through(gate, data, held)
         }
     }
 }

@@ -1,6 +1,7 @@
 //! Passes over points that are not known yet, until nothing more comes to be known.
 
-ghost use Rattle.std.specs.Prelude.{◌≡◌, ◌<◌, ◌≤◌, ◌^◌, ℕ, List, length, slice_index};
+ghost use Rattle.std.specs.Prelude.{◌≡◌, ◌<◌, ◌≤◌, ◌^◌, ℕ, List, false, length, slice_index};
+ghost use Rattle.fab_systems_laws.specs.Ternary.{IsBelow};
 ghost use Rattle.fab_ternary.specs.Terns.{plain_tern};
 ghost use Rattle.fab_compiled.specs.declared.tree.Tree.{Tree};
 ghost use Rattle.fab_compiled.specs.Leading.{PointTerns};
@@ -11,7 +12,7 @@ ghost use Rattle.fab_network.specs.Passes.{changed_after, kept_tern, unsettled_a
 ghost use Rattle.fab_network.specs.Sharing.{AreShared};
 
 use crate::forms::{Form, shown_by_form};
-use crate::network::{Network, shown};
+use crate::network::{Network, shown, shown_meanwhile};
 use crate::readers::Readers;
 use crate::runs::drive_at;
 use crate::sharing::KeptValues;
@@ -161,7 +162,7 @@ fn pass_over(
     pass
 }
 
-// One look at the point at a place of the order, or none where it is open and the look may wait.
+// One look at the point at a place of the order. Where another one follows, less may be found.
 fn look_at(
     network: &Network,
     order: &[u32],
@@ -191,11 +192,17 @@ fn look_at(
     if !terns[point].is_open() {
         return Visit::Known;
     }
-    if waits && may_wait(network, point, forms.get(place), shared) {
-        return Visit::Still;
-    }
     let view = View { terns, leads };
-    let found = shown_at(network, order, held[point], forms, place, shared, &view);
+    let found = look_for(
+        network,
+        order,
+        held[point],
+        forms,
+        place,
+        waits,
+        shared,
+        &view,
+    );
     if found.is_open() {
         return Visit::Still;
     }
@@ -204,12 +211,41 @@ fn look_at(
     Visit::Found
 }
 
-// Whether a look at a point of this form may be left out where another one follows. A table takes no time.
-fn may_wait(network: &Network, point: usize, form: Option<&Form>, shared: &KeptValues) -> bool {
-    match (form, network.drives.get(point)) {
-        (Some(Form::Shows(_)), _) | (_, None) => false,
-        (Some(Form::Takes(_) | Form::Driven) | None, Some(drive)) => shared.may_wait(*drive),
+// What the point at a place of the order shows, where a latch holds this value. Where another look follows, those that take long wait, and less may be told.
+fn look_for(
+    network: &Network,
+    order: &[u32],
+    held: Tern,
+    forms: &[Form],
+    place: usize,
+    waits: bool,
+    shared: &mut KeptValues,
+    view: &View,
+) -> Tern
+    requires fit { AreFit network.now.trees.items network.now.drives.items }
+    requires points { length network.now.drives.items ≡ length view.now.leads.now }
+    requires view { IsView view.now.terns.now view.now.leads.now }
+    requires terns { length view.now.terns.now ≡ length view.now.leads.now }
+    requires small { length view.now.leads.now ≤ 2 ^ 32 }
+    requires own { AreOwn order.now view.now.leads.now }
+    requires within { place < length order.now }
+    requires forms { HasForms network.now.trees.items network.now.drives.items order.now view.now.leads.now view.now.terns.now forms.now }
+    requires shared { AreShared network.now.trees.items (length view.now.leads.now) (seen view.now.terns.now view.now.leads.now) shared.old }
+    ensures shared { AreShared network.now.trees.items (length view.now.leads.now) (seen view.now.terns.now view.now.leads.now) shared.new }
+    ensures below { IsBelow (plain_tern result) (shown_tern network.now.trees.items network.now.drives.items (plain_tern held)
+        (seen view.now.terns.now view.now.leads.now) (slice_index order.now place)) }
+    ensures value { waits ≡ false → plain_tern result ≡ shown_tern network.now.trees.items network.now.drives.items (plain_tern held)
+        (seen view.now.terns.now view.now.leads.now) (slice_index order.now place) }
+{
+    if !waits || has_table(forms, place) {
+        return shown_at(network, order, held, forms, place, shared, view);
     }
+    shown_meanwhile(network, order[place] as usize, held, shared, view)
+}
+
+// Whether a table tells what the point at a place of the order shows, which takes no time.
+fn has_table(forms: &[Form], place: usize) -> bool {
+    matches!(forms.get(place), Some(Form::Shows(_)))
 }
 
 // What the point at a place of the order shows, where a latch holds this value.

@@ -121,7 +121,23 @@ impl Shared {
         true
     }
 
-    // Whether a look at a bit may be left out where another one follows: it was open when all bits were found, and alone it takes as long as all of them.
+    /// What a source has, where another look follows. A bit that was open when all bits were found counts as open: alone it takes as long as all of them.
+    pub(crate) fn value_meanwhile(&mut self, trees: &[Tree], source: Source, view: &View) -> Tern
+        requires fit { IsFitSource trees.now (length view.now.leads.now) source }
+        requires view { IsView view.now.terns.now view.now.leads.now }
+        requires small { length view.now.leads.now ≤ 2 ^ 32 }
+        requires shared { IsShared trees.now (length view.now.leads.now) (seen view.now.terns.now view.now.leads.now) self.old }
+        ensures below { IsBelow (plain_tern result) (source_tern trees.now (seen view.now.terns.now view.now.leads.now) source) }
+        ensures shared { IsShared trees.now (length view.now.leads.now) (seen view.now.terns.now view.now.leads.now) self.new }
+    {
+        if self.may_wait(source) {
+            Tern::Open
+        } else {
+            self.value(trees, source, view)
+        }
+    }
+
+    // Whether a bit was open when all bits of its expression were found, which takes as long as each alone.
     fn may_wait(&self, source: Source) -> bool {
         let has_bits = self.is_of(source) && self.bits.len() > 0;
         has_bits && self.are_together() && self.kept(source.bit).is_none()
@@ -212,17 +228,6 @@ impl KeptValues {
         KeptValues {
             points: Shared::new(alloc),
             gates: Shared::new(alloc),
-        }
-    }
-
-    /// Whether a look at a point with this drive may be left out where another one follows, since that one will take less.
-    pub(crate) fn may_wait(&self, drive: Drive) -> bool {
-        match drive {
-            Drive::Given | Drive::Flop(_, _) | Drive::Same(_) => false,
-            Drive::Value(source) => self.points.may_wait(source),
-            Drive::Hold(gate, latched) => {
-                self.gates.may_wait(gate) || self.points.may_wait(latched)
-            }
         }
     }
 
