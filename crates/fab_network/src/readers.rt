@@ -1,11 +1,12 @@
 //! Which points read a point, for another look at them where it has come to be known.
 
 use crate::network::{Drive, Network, Source};
-use crate::runs::{drive_at, end_of_run};
+use crate::runs::{drive_at, end_of_run, is_together};
 use fab_base::Memory;
 use fab_compiled::Tree;
 use fab_ternary::Tern;
 use std::alloc::Global;
+use std::ops::Range;
 
 /// Stands for the place of a note where there is none.
 const NO_NOTE: u32 = u32::MAX;
@@ -99,6 +100,7 @@ impl Readers {
         match end_of_run(network, order, place, drive) {
             Some(end) if end > alone => {
                 self.note_expressions(network, drive, leads, reader);
+                self.note_data(network, order, place..end, leads);
                 self.set_end(place, end);
                 end
             }
@@ -128,14 +130,28 @@ impl Readers {
         }
     }
 
-    // Notes all points of the expressions of a drive.
+    // Notes all points of the expressions of a drive whose bits are found together.
     fn note_expressions(&mut self, network: &Network, drive: Drive, leads: &[u32], reader: u32) {
         match drive {
             Drive::Given | Drive::Flop(_, _) | Drive::Same(_) => {}
             Drive::Value(source) => self.note_expression(network, source, leads, reader),
             Drive::Hold(gate, latched) => {
                 self.note_expression(network, gate, leads, reader);
-                self.note_expression(network, latched, leads, reader);
+                if is_together(network, latched) {
+                    self.note_expression(network, latched, leads, reader);
+                }
+            }
+        }
+    }
+
+    // Notes what each latch of a run takes, where these bits are not found together: then each of the latches is a reader of its own.
+    fn note_data(&mut self, network: &Network, order: &[u32], run: Range<usize>, leads: &[u32]) {
+        for place in run {
+            if let Some(Drive::Hold(_, latched)) = drive_at(network, order, place)
+                && let Ok(reader) = u32::try_from(place)
+                && !is_together(network, latched)
+            {
+                self.note_source(&network.trees, latched, leads, reader);
             }
         }
     }

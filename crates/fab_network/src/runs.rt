@@ -51,7 +51,8 @@ fn are_together(network: &Network, drive: Drive) -> bool {
     }
 }
 
-fn is_together(network: &Network, source: Source) -> bool {
+/// Whether all bits of the expression of a source are found together.
+pub(crate) fn is_together(network: &Network, source: Source) -> bool {
     match network.trees.get(source.tree as usize) {
         Some(tree) => are_found_together(tree),
         None => false,
