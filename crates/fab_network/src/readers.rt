@@ -147,10 +147,13 @@ impl Readers {
     // Notes what each latch of a run takes, where these bits are not found together: then each of the latches is a reader of its own.
     fn note_data(&mut self, network: &Network, order: &[u32], run: Range<usize>, leads: &[u32]) {
         for place in run {
-            if let Some(Drive::Hold(_, latched)) = drive_at(network, order, place)
-                && let Ok(reader) = u32::try_from(place)
-                && !is_together(network, latched)
-            {
+            let (Some(Drive::Hold(_, latched)), Ok(reader)) = (
+                drive_at(network, order, place),
+                u32::try_from(place),
+            ) else {
+                return;
+            };
+            if !is_together(network, latched) {
                 self.note_source(&network.trees, latched, leads, reader);
             }
         }
