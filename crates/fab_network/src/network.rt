@@ -167,8 +167,9 @@ fn meanwhile_by(
     ensures below { IsBelow (plain_tern result) (drive_tern trees.now (plain_tern held) (seen view.now.terns.now view.now.leads.now) point (Some drive)) }
 {
     match drive {
-        Drive::Given | Drive::Flop(_, _) => view.at(point),
-        Drive::Same(other) => view.at(other as usize),
+        Drive::Given | Drive::Flop(_, _) | Drive::Same(_) => {
+            shown_by(trees, drive, point, held, shared, view)
+        }
         Drive::Value(source) => shared.points.value_meanwhile(trees, source, view),
         Drive::Hold(gate, latched) => {
             let gate = shared.gates.value_meanwhile(trees, gate, view);

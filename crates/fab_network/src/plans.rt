@@ -79,19 +79,56 @@ fn plan_of(tree: &Tree) -> Plan {
     Plan::After(u32::try_from(looks).unwrap_or(u32::MAX).max(1))
 }
 
-// Whether bits of an expression rest on the same work: on what lower bits of a difference borrow, or on a test that is more than a point; and a bit
-// that takes long and may be asked for many times, as a gate.
+// From how many bits of an index on a pick takes long: it goes over all entries where the index is not known.
+const WIDE_INDEX: u32 = 6;
+
+// Whether bits of an expression rest on the same work: on the operands of a difference, or on a test that is more than a point; and a bit that takes long
+// and may be asked for many times, as a gate.
 fn shares(tree: &Tree) -> bool {
-    match tree {
-        Tree::Const(_) | Tree::Bits(_, _) | Tree::Pick(_, _, _) => false,
-        Tree::Equal(_, _, _) | Tree::Minus(_, _, _) => true,
-        Tree::Not(inner) => shares(inner),
-        Tree::Cat(left, _, right)
-        | Tree::And(left, right)
-        | Tree::Or(left, right)
-        | Tree::Xor(left, right) => shares(left) || shares(right),
-        Tree::Cond(test, yes, no) => takes_long(test) || shares(yes) || shares(no),
+    sharing_of(tree).shares
+}
+
+// How wide an expression is, and whether it shares work.
+#[derive(Clone, Copy)]
+struct Sharing {
+    bits: u64,
+    shares: bool,
+}
+
+impl Sharing {
+    fn new(bits: u64, shares: bool) -> Sharing {
+        Sharing { bits, shares }
     }
+}
+
+fn sharing_of(tree: &Tree) -> Sharing {
+    match tree {
+        Tree::Const(bits) => Sharing::new(bits.len() as u64, false),
+        Tree::Bits(_, count) => Sharing::new(u64::from(*count), false),
+        Tree::Pick(_, width, _) => Sharing::new(1, *width >= WIDE_INDEX),
+        Tree::Equal(_, _, _) => Sharing::new(1, true),
+        Tree::Minus(width, _, _) => Sharing::new(*width, true),
+        Tree::Not(inner) => sharing_of(inner),
+        Tree::Cat(low, _, high) => beside(sharing_of(low), sharing_of(high)),
+        Tree::And(left, right) | Tree::Or(left, right) | Tree::Xor(left, right) => {
+            either(sharing_of(left), sharing_of(right))
+        }
+        Tree::Cond(test, yes, no) => {
+            let branches = either(sharing_of(yes), sharing_of(no));
+            Sharing::new(branches.bits, takes_long(test) || branches.shares)
+        }
+    }
+}
+
+// Where two values make one, bit by bit.
+fn either(left: Sharing, right: Sharing) -> Sharing {
+    Sharing::new(left.bits, left.shares || right.shares)
+}
+
+// Where one stands behind the other. A part of one bit shares nothing with others.
+fn beside(low: Sharing, high: Sharing) -> Sharing {
+    let shares = low.bits > 1 && low.shares || high.bits > 1 && high.shares;
+    Sharing::new(low.bits.saturating_add(high.bits), shares)
 }
 
 // Whether a bit of an expression takes longer than a few points.
