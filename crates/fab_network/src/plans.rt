@@ -105,7 +105,9 @@ fn sharing_of(tree: &Tree) -> Sharing {
     match tree {
         Tree::Const(bits) => Sharing::new(bits.len() as u64, false),
         Tree::Bits(_, count) => Sharing::new(u64::from(*count), false),
-        Tree::Pick(_, width, _) => Sharing::new(1, *width >= WIDE_INDEX),
+        Tree::Pick(_, width, index) => {
+            Sharing::new(1, *width >= WIDE_INDEX || sharing_of(index).shares)
+        }
         Tree::Equal(_, _, _) => Sharing::new(1, true),
         Tree::Minus(width, _, _) => Sharing::new(*width, true),
         Tree::Not(inner) => sharing_of(inner),

@@ -1,5 +1,7 @@
 //! Points that are looked at together.
 
+ghost use Rattle.std.specs.Prelude.{◌≡◌, ℕ, slice_get, IfSome, Some};
+
 use crate::network::{Drive, Network, Source};
 use crate::plans::are_found_together;
 
@@ -25,7 +27,9 @@ pub(crate) fn end_of_run(
 }
 
 /// The drive of the point at a place of the order.
-pub(crate) fn drive_at(network: &Network, order: &[u32], place: usize) -> Option<Drive> {
+pub(crate) fn drive_at(network: &Network, order: &[u32], place: usize) -> Option<Drive>
+    ensures { IfSome result (λ drive. (point : ℕ) × (slice_get network.now.drives.items point ≡ Some drive)) }
+{
     let point = *order.get(place)?;
     network.drives.get(point as usize).copied()
 }
