@@ -3,7 +3,7 @@
 ghost use Rattle.std.specs.Prelude.{◌≡◌, ℕ, slice_get, IfSome, Some};
 
 use crate::network::{Drive, Network, Source};
-use crate::plans::are_found_together;
+use fab_plans::are_found_together;
 
 /// The place behind the run that begins at a place of the order: the bits of one expression that follow one another, where all bits are found together.
 /// `None` where the point there, of this drive, is looked at alone.

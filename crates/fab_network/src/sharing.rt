@@ -10,9 +10,9 @@ ghost use Rattle.fab_network.specs.Network.{source_tern, IsFitDrive, IsFitSource
 ghost use Rattle.fab_network.specs.Sharing.{AreShared, IsKeptWithin, IsShared};
 
 use crate::network::{Drive, Source, evaluate};
-use crate::plans::Plan;
 use fab_base::Memory;
 use fab_compiled::{Kept, Tree, View, bit_by, kept_of, whole_into};
+use fab_plans::Plan;
 use fab_ternary::Tern;
 use std::alloc::Global;
 
