@@ -1,6 +1,5 @@
 -- What is kept of an expression stays right where more is known of its places, and bits by what is kept are below those of its value.
-use Rattle.std.proofs.Common.{◌≡◌, ℕ, ◌+◌, ◌-◌, ◌^◌, ◌<◌, ◌≤◌, true, List, length, map, sym, ap, ◌∙◌, subst, arith}
-use Rattle.std.proofs.lemmas.Bool.{false≢true}
+use Rattle.std.proofs.Common.{◌≡◌, ℕ, ◌+◌, ◌-◌, ◌^◌, ◌<◌, ◌≤◌, List, length, map, sym, ap, ◌∙◌, subst, arith}
 use Rattle.fab_systems_laws.specs.Ternary.{no, yes, unknown, IsBelow}
 use Rattle.fab_systems_laws.specs.Ternary.{Tern as PlainTern}
 use Rattle.fab_systems_laws.proofs.Order.{below_equal, below_trans}
@@ -14,7 +13,7 @@ use Rattle.fab_compiled.specs.Terns.{seen, IsView}
 use Rattle.fab_compiled.specs.Trees.{tree_value, tree_width, IsMade, IsBelowPlace}
 use Rattle.fab_compiled.specs.Evaluation.{value_seen, IsWithin}
 use Rattle.fab_compiled.specs.Keeping.{AreBelowBits, IsKept}
-use Rattle.fab_compiled.specs.inner.Keeping.{is_nothing, IsOfOne, IsOfTwo, IsOfThree}
+use Rattle.fab_compiled.specs.inner.Keeping.{IsOfOne, IsOfTwo, IsOfThree}
 use Rattle.fab_compiled.proofs.Bits.{each_at}
 use Rattle.fab_compiled.proofs.Evaluated.{not_at, each_of}
 use Rattle.fab_compiled.proofs.Telling.{plain_at}
@@ -40,27 +39,6 @@ module _ (bound : ℕ) (at later : ℕ → PlainTern) (grow : (k : ℕ) → k < 
   kept_grows tree (Three' x k y l z m) made below h = tt
 
 -- ---- what is kept of the operands, in one
-
-pub one_nothing : (k m : Kept) → is_nothing m ≡ true → IsOfOne k m
-one_nothing k Bare e = tt
-one_nothing k (Found bits) e = absurd (false≢true e)
-one_nothing k (One' x a) e = absurd (false≢true e)
-one_nothing k (Two' x a y b) e = absurd (false≢true e)
-one_nothing k (Three' x a y b z c) e = absurd (false≢true e)
-
-pub two_nothing : (k l m : Kept) → is_nothing m ≡ true → IsOfTwo k l m
-two_nothing k l Bare e = tt
-two_nothing k l (Found bits) e = absurd (false≢true e)
-two_nothing k l (One' x a) e = absurd (false≢true e)
-two_nothing k l (Two' x a y b) e = absurd (false≢true e)
-two_nothing k l (Three' x a y b z c) e = absurd (false≢true e)
-
-pub three_nothing : (j k l m : Kept) → is_nothing m ≡ true → IsOfThree j k l m
-three_nothing j k l Bare e = tt
-three_nothing j k l (Found bits) e = absurd (false≢true e)
-three_nothing j k l (One' x a) e = absurd (false≢true e)
-three_nothing j k l (Two' x a y b) e = absurd (false≢true e)
-three_nothing j k l (Three' x a y b z c) e = absurd (false≢true e)
 
 module _ (at : ℕ → PlainTern) where
   -- where the expression is of this form
