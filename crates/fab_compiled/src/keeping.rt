@@ -1,5 +1,5 @@
-//! Bits of an expression by what is kept of it. To find one bit alone of a difference, `eval` finds all of it anew each time, though its value changes once
-//! at most: it is known where all bits of both operands are. So the bits of differences, equalities and picks are kept as they were found once. What is known
+//! Bits of an expression by what is kept of it. To find one bit alone of a difference, `eval` finds all of it anew each time, though nothing is known of it
+//! until all bits of both operands are, and then all of it is. So the bits of differences, equalities and picks are kept as they were found once. What is known
 //! of them stays right as more points come to be known, and what was open counts as open.
 
 ghost use Rattle.std.specs.Prelude.{◌≡◌, ◌+◌, ◌^◌, ◌<◌, ◌≤◌, List, length, IfOk};
@@ -38,7 +38,7 @@ pub enum Kept {
 }
 
 /// What is to be kept of an expression over the points of an instance, of which the first is given. Its differences, equalities and picks are found as a whole,
-/// each once.
+/// each once. The error is want of memory.
 pub fn kept_of(alloc: Global, tree: &Tree, first: usize, view: &View) -> Result<Box<Kept>, Memory>
     requires made { IsMade tree.now }
     requires view { IsView view.now.terns.now view.now.leads.now }

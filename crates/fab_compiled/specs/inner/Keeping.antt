@@ -1,6 +1,6 @@
 -- What is kept of the operands of an operator, in one.
 use Rattle.std.specs.Prelude.{◌≡◌, Bool, true, false}
-use Rattle.fab_compiled.specs.declared.keeping.Kept.{Kept, Bare, Found, One', Two', Three'}
+use Rattle.fab_compiled.specs.declared.keeping.Kept.{Kept, Bare, One', Two', Three'}
 
 abbrev pub is_nothing : Kept → Bool
 is_nothing Bare = true
