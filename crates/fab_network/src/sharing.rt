@@ -250,7 +250,7 @@ impl Within {
         requires kept { IsKeptWithin trees.now (length view.now.leads.now) (seen view.now.terns.now view.now.leads.now) self.now }
         ensures { IsBelow (plain_tern result) (source_tern trees.now (seen view.now.terns.now view.now.leads.now) source) }
     {
-        if self.tree != source.tree || self.first != source.first {
+        if self.first != source.first || self.tree != source.tree {
             return Tern::Open;
         }
         let tree = &trees[self.tree as usize];

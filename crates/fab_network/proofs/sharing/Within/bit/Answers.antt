@@ -34,6 +34,6 @@ returns c =
     let t : PointTerns = seen c.args.view.now.terns.now c.args.view.now.leads.now in
     let found = plain_tern c.bit_by.result in
     let this : Source = record { tree = number; first = first; bit = c.from.result } in
-    let same : this ≡ c.args.source = (λ j. record { tree = c.if-self-source.false j; first = c.if-self-source-2.false j; bit = c.from.ensures j }) in
+    let same : this ≡ c.args.source = (λ j. record { tree = c.if-self-source-2.false j; first = c.if-self-source.false j; bit = c.from.ensures j }) in
     subst (λ (s : Source). IsBelow found (source_tern trees t s)) same
     (subst (λ (o : Option Tree). IsBelow found (tern_in o t first c.from.result)) (sym there) c.bit_by.ensures)
