@@ -1,7 +1,8 @@
 //! How many looks there were at bits of an expression, or at a point.
 
 use fab_compiled::Tree;
-use fab_network::{Source, looks_before_all};
+use fab_network::Source;
+use fab_plans::looks_before_all;
 
 /// Of how many expressions or points looks are counted at a time.
 const PLACES: u32 = 64;

@@ -18,7 +18,7 @@ use Rattle.fab_compiled.proofs.Evaluated.{low_of, high_of}
 use Rattle.fab_compiled.proofs.Leading.{bit_stays, own_leads, yes_leads, no_leads}
 use Rattle.fab_compiled.proofs.Lengths.{value_length}
 
-plain_at : (bits : List Tern) (k : ℕ) (bit : Tern) → slice_get bits k ≡ Some bit → plain_tern bit ≡ tern_at (map plain_tern bits) k
+pub plain_at : (bits : List Tern) (k : ℕ) (bit : Tern) → slice_get bits k ≡ Some bit → plain_tern bit ≡ tern_at (map plain_tern bits) k
 plain_at [] k bit e = cc
 plain_at (b ∷ bits) zero bit e = let same : b ≡ bit = cc in ap plain_tern (sym same)
 plain_at (b ∷ bits) (suc k) bit e = plain_at bits k bit e

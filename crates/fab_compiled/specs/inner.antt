@@ -3,3 +3,4 @@ pub mod Picks
 pub mod Indices
 pub mod Pairs
 pub mod Joining
+pub mod Keeping

@@ -4,6 +4,7 @@
 mod compiler;
 mod evaluation;
 mod indices;
+mod keeping;
 pub mod laws;
 mod leads;
 mod marking;
@@ -16,6 +17,7 @@ mod whole_values;
 
 pub use compiler::{Compiled, compile};
 pub use evaluation::eval;
+pub use keeping::{Kept, bit_by, kept_of};
 pub use leads::{Lead, follow};
 pub use operators::through;
 pub use parts::{Part, part_of};

@@ -1,13 +1,17 @@
 -- The value of an expression that is kept for its bits.
-use Rattle.std.specs.Prelude.{◌≡◌, ℕ, Bool, true, List, Some, slice_get}
+use Rattle.std.specs.Prelude.{◌≡◌, ℕ, ◌+◌, ◌≤◌, Bool, true, List, Some, slice_get, IfSome}
 use Rattle.fab_systems_laws.specs.Ternary.{IsBelow}
 use Rattle.fab_ternary.specs.declared.Tern.{Tern}
 use Rattle.fab_ternary.specs.Terns.{plain_tern}
 use Rattle.fab_compiled.specs.declared.tree.Tree.{Tree}
+use Rattle.fab_compiled.specs.Evaluation.{IsWithin}
+use Rattle.fab_compiled.specs.Keeping.{IsKept}
 use Rattle.fab_compiled.specs.Leading.{PointTerns}
+use Rattle.fab_compiled.specs.Trees.{IsMade}
 use Rattle.fab_network.specs.declared.network.Source.{Source}
 use Rattle.fab_network.specs.declared.sharing.Shared.{Shared}
 use Rattle.fab_network.specs.declared.sharing.KeptValues.{KeptValues}
+use Rattle.fab_network.specs.declared.sharing.Within.{Within}
 use Rattle.fab_network.specs.Network.{source_tern, IsFitSource}
 
 -- A bit that is kept is below what its source has, and is that as long as nothing has come to be known since.
@@ -22,7 +26,17 @@ IsShared trees count t shared =
     (bit : ℕ) (kept : Tern) → slice_get shared.bits.items bit ≡ Some kept →
     IsKeptBit trees count t shared.exact (record { tree = shared.tree; first = shared.first; bit = bit }) kept
 
+-- What is kept within an expression is right of it.
+pub record IsKeptWithin (trees : List Tree) (count : ℕ) (t : PointTerns) (within : Within) : Type 0 where
+  pub tree : Tree
+  pub is : slice_get trees within.tree ≡ Some tree
+  pub made : IsMade tree
+  pub begins : within.first ≤ count
+  pub inside : IsWithin tree within.first count
+  pub kept : IsKept (λ place. t (within.first + place)) tree within.kept.value
+
 -- the same of what a pass keeps
 pub record AreShared (trees : List Tree) (count : ℕ) (t : PointTerns) (values : KeptValues) : Type 0 where
   pub points : IsShared trees count t values.points
   pub gates : IsShared trees count t values.gates
+  pub within : IfSome values.within (IsKeptWithin trees count t)

@@ -19,6 +19,9 @@ use crate::sharing::KeptValues;
 use fab_compiled::View;
 use fab_ternary::Tern;
 
+/// From how many looks at a run on its bits are taken to come to be known one by one.
+const MANY_TURNS: u8 = 3;
+
 /// What a look at a point finds.
 #[derive(Clone, Copy, Debug)]
 enum Visit {
@@ -385,28 +388,51 @@ fn look_at_run(
     ensures further { IsFurther (record { trees = network.now.trees.items; drives = network.now.drives.items; held = held.now; order = order.now; leads = leads.now })
         terns.old terns.new }
 {
-    let end = begin_run(network, order, readers, place, shared);
-    for point in place..end {
+    let turns = readers.take_turn(place);
+    let view = View { terns, leads };
+    let end = begin_run(network, order, readers, place, turns, shared, &view);
+    for number in place..end {
+        let next = nth_of_run(place, end, number, turns);
         look_at_reader(
-            network, order, held, leads, forms, readers, point, shared, terns,
+            network, order, held, leads, forms, readers, next, shared, terns,
         );
     }
 }
 
-// The point at a place of the order is looked at next, or the run that begins there. Told is the place behind.
+// The place that is looked at next in a run, of which so many have been looked at: from the first to the last and the other way by turns, since each bit may
+// need the one beside it.
+fn nth_of_run(place: usize, end: usize, number: usize, turns: u8) -> usize {
+    if turns % 2 == 0 {
+        number
+    } else {
+        place.saturating_add(end.saturating_sub(number).saturating_sub(1))
+    }
+}
+
+// The point at a place of the order is looked at next, or the run that begins there, of which so many have been looked at. Told is the place behind.
 fn begin_run(
     network: &Network,
     order: &[u32],
     readers: &Readers,
     place: usize,
+    turns: u8,
     shared: &mut KeptValues,
+    view: &View,
 ) -> usize
-    ensures { (trees : List Tree) (count : ℕ) (t : PointTerns) → AreShared trees count t shared.old → AreShared trees count t shared.new }
+    requires fit { AreFit network.now.trees.items network.now.drives.items }
+    requires points { length network.now.drives.items ≡ length view.now.leads.now }
+    requires view { IsView view.now.terns.now view.now.leads.now }
+    requires small { length view.now.leads.now ≤ 2 ^ 32 }
+    requires shared { AreShared network.now.trees.items (length view.now.leads.now) (seen view.now.terns.now view.now.leads.now) shared.old }
+    ensures shared { AreShared network.now.trees.items (length view.now.leads.now) (seen view.now.terns.now view.now.leads.now) shared.new }
 {
     let (Some(end), Some(drive)) = (readers.end_at(place), drive_at(network, order, place)) else {
         return place.saturating_add(1);
     };
     shared.begin_run(&network.trees, drive);
+    if turns >= MANY_TURNS {
+        shared.keep_within(&network.trees, drive, view);
+    }
     end
 }
 

@@ -37,10 +37,45 @@ pub struct Readers {
     fresh: bool,
     /// By the reader: the one that waits behind it to be looked at again, `NOBODY` behind the last one, and `IDLE` where it does not wait.
     behind: Vec<u32>,
-    /// The reader that has waited longest, or `NOBODY`.
+    /// Points that wait each for itself.
+    points: Queue,
+    /// Runs that wait: each takes long, so they are looked at when no point waits.
+    runs: Queue,
+    /// By the reader: how often a run has been looked at.
+    turns: Vec<u8>,
+}
+
+/// Readers that wait, one behind the other.
+#[derive(Clone, Copy, Debug)]
+struct Queue {
+    /// The one that has waited longest, or `NOBODY`.
     first: u32,
     /// The one that began to wait last, if any waits.
-    last_waiting: u32,
+    last: u32,
+}
+
+impl Queue {
+    const NONE: Queue = Queue {
+        first: NOBODY,
+        last: NOBODY,
+    };
+
+    // The same with one more behind the others.
+    fn with(self, reader: u32, behind: &mut [u32]) -> Queue {
+        match behind.get_mut(self.last as usize) {
+            Some(last) if self.first != NOBODY => {
+                *last = reader;
+                Queue {
+                    first: self.first,
+                    last: reader,
+                }
+            }
+            _ => Queue {
+                first: reader,
+                last: reader,
+            },
+        }
+    }
 }
 
 /// That a point is read.
@@ -60,8 +95,9 @@ impl Readers {
             ends: vec![in alloc; 0; points]?,
             fresh: false,
             behind: vec![in alloc; IDLE; points]?,
-            first: NOBODY,
-            last_waiting: NOBODY,
+            points: Queue::NONE,
+            runs: Queue::NONE,
+            turns: vec![in alloc; 0; points]?,
         })
     }
 
@@ -321,6 +357,7 @@ impl Readers {
 
     /// The readers that stand before a point that is known wait, since a pass came to such a reader first.
     pub(crate) fn begin(&mut self, order: &[u32], terns: &[Tern]) {
+        self.turns.fill(0);
         for (place, point) in order.iter().enumerate() {
             if let Some(Tern::No | Tern::Yes) = terns.get(*point as usize) {
                 let note = self.before(place, self.last_note(*point));
@@ -364,25 +401,48 @@ impl Readers {
         }
     }
 
-    // A reader waits behind all others, unless it does already.
+    // A reader waits behind all others of its kind, unless it does already.
     fn wait(&mut self, reader: u32) {
         match self.behind.get_mut(reader as usize) {
             Some(behind) if *behind == IDLE => *behind = NOBODY,
             _ => return,
         }
-        match self.behind.get_mut(self.last_waiting as usize) {
-            Some(behind) if self.first != NOBODY => *behind = reader,
-            _ => self.first = reader,
+        if self.end_at(reader as usize).is_some() {
+            self.runs = self.runs.with(reader, &mut self.behind);
+        } else {
+            self.points = self.points.with(reader, &mut self.behind);
         }
-        self.last_waiting = reader;
     }
 
-    /// The reader that has waited longest, if one does. It waits no more.
+    /// The reader that is looked at next, if one waits. It waits no more.
     pub(crate) fn next_waiting(&mut self) -> Option<u32> {
-        let reader = self.first;
+        let points = self.points.first;
+        if points != NOBODY {
+            self.points.first = self.leave(points)?;
+            return Some(points);
+        }
+        let runs = self.runs.first;
+        self.runs.first = self.leave(runs)?;
+        Some(runs)
+    }
+
+    // A reader waits no more. Told is the one behind it.
+    fn leave(&mut self, reader: u32) -> Option<u32> {
         let behind = self.behind.get_mut(reader as usize)?;
-        self.first = *behind;
+        let next = *behind;
         *behind = IDLE;
-        Some(reader)
+        Some(next)
+    }
+
+    /// A run is looked at once more. Told is how often it was before.
+    pub(crate) fn take_turn(&mut self, place: usize) -> u8 {
+        match self.turns.get_mut(place) {
+            Some(turns) => {
+                let before = *turns;
+                *turns = before.saturating_add(1);
+                before
+            }
+            None => 0,
+        }
     }
 }

@@ -1,7 +1,9 @@
 //! Points that are looked at together.
 
+ghost use Rattle.std.specs.Prelude.{◌≡◌, ℕ, slice_get, IfSome, Some};
+
 use crate::network::{Drive, Network, Source};
-use crate::plans::are_found_together;
+use fab_plans::are_found_together;
 
 /// The place behind the run that begins at a place of the order: the bits of one expression that follow one another, where all bits are found together.
 /// `None` where the point there, of this drive, is looked at alone.
@@ -25,7 +27,9 @@ pub(crate) fn end_of_run(
 }
 
 /// The drive of the point at a place of the order.
-pub(crate) fn drive_at(network: &Network, order: &[u32], place: usize) -> Option<Drive> {
+pub(crate) fn drive_at(network: &Network, order: &[u32], place: usize) -> Option<Drive>
+    ensures { IfSome result (λ drive. (point : ℕ) × (slice_get network.now.drives.items point ≡ Some drive)) }
+{
     let point = *order.get(place)?;
     network.drives.get(point as usize).copied()
 }

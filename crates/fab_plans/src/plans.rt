@@ -31,13 +31,13 @@ pub fn looks_before_all(tree: &Tree) -> Option<u32> {
 }
 
 /// Whether all bits of an expression are found together, as soon as a second one is looked at.
-pub(crate) fn are_found_together(tree: &Tree) -> bool {
+pub fn are_found_together(tree: &Tree) -> bool {
     shares(tree)
 }
 
 impl Plan {
-    // The plan for an expression, if there is none yet.
-    pub(crate) fn decided(self, tree: Option<&Tree>) -> Plan {
+    /// The plan for an expression, if there is none yet.
+    pub fn decided(self, tree: Option<&Tree>) -> Plan {
         match (self, tree) {
             (Plan::Undecided, Some(tree)) => plan_of(tree),
             (Plan::Undecided, None) => Plan::Never,
@@ -45,16 +45,16 @@ impl Plan {
         }
     }
 
-    // How many looks there are before all bits are found, if they ever are.
-    pub(crate) fn looks(self) -> Option<u32> {
+    /// How many looks there are before all bits are found, if they ever are.
+    pub fn looks(self) -> Option<u32> {
         match self {
             Plan::After(looks) | Plan::Together(looks) => Some(looks),
             Plan::Undecided | Plan::Never => None,
         }
     }
 
-    // The plan when all bits have been found: the next time that is after twice as many looks.
-    pub(crate) fn doubled(self) -> Plan {
+    /// The plan when all bits have been found: the next time that is after twice as many looks.
+    pub fn doubled(self) -> Plan {
         match self {
             Plan::After(looks) => Plan::After(looks.saturating_mul(2)),
             Plan::Together(looks) => Plan::Together(looks.saturating_mul(2)),
@@ -105,7 +105,9 @@ fn sharing_of(tree: &Tree) -> Sharing {
     match tree {
         Tree::Const(bits) => Sharing::new(bits.len() as u64, false),
         Tree::Bits(_, count) => Sharing::new(u64::from(*count), false),
-        Tree::Pick(_, width, _) => Sharing::new(1, *width >= WIDE_INDEX),
+        Tree::Pick(_, width, index) => {
+            Sharing::new(1, *width >= WIDE_INDEX || sharing_of(index).shares)
+        }
         Tree::Equal(_, _, _) => Sharing::new(1, true),
         Tree::Minus(width, _, _) => Sharing::new(*width, true),
         Tree::Not(inner) => sharing_of(inner),
