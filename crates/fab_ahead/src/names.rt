@@ -34,14 +34,14 @@ fn are_alike(first: &Drive, last: &Drive) -> bool {
 /// Whether a point needs one that in turn needs the name in which the point stands, maybe through other names, and neither is led to the other: then each bit of
 /// the one name needs all bits of both. They may be bits of one name. Where a bit of the name that is needed waits already, it waits for this point.
 pub(crate) fn is_ring(network: &Network, point: u32, needed: u32, waits: bool) -> bool {
-    (needs_back(network, point, needed) || waits && follows_bit(network, needed))
+    needs_back(network, point, needed, waits)
         && !may_lead_to(network, point, needed)
         && !may_lead_to(network, needed, point)
 }
 
-/// Whether a point that another needs in turn needs the name in which that one stands, as far as its drive tells.
-pub(crate) fn needs_back(network: &Network, point: u32, needed: u32) -> bool {
-    end_by_drive(network, needed, point) > point
+/// Whether a point that another needs in turn needs the name in which that one stands, as its drive tells, or as a bit of its name waits already.
+pub(crate) fn needs_back(network: &Network, point: u32, needed: u32, waits: bool) -> bool {
+    end_by_drive(network, needed, point) > point || waits && follows_bit(network, needed)
 }
 
 // Whether a point and the one before it are bits of one expression.

@@ -143,7 +143,7 @@ impl Rows {
     ) {
         match row_of(network, point, needed, depth, waits) {
             Some(row) => {
-                let ring = row.ring || self.is_in_loop(network, point, needed);
+                let ring = row.ring || self.is_in_loop(network, point, needed, waits);
                 self.push(Row { ring, ..row });
             }
             None => self.add_list(network, point, depth, marks),
@@ -152,10 +152,10 @@ impl Rows {
 
     // Whether many bits of an expression have been found to need a name that needs them. Its bits may be led to others, by a test that is not known yet; but
     // with so many looks in vain each of them is taken to need all others.
-    fn is_in_loop(&mut self, network: &Network, point: u32, needed: u32) -> bool {
+    fn is_in_loop(&mut self, network: &Network, point: u32, needed: u32, waits: bool) -> bool {
         match network.drives.get(point as usize) {
             Some(Drive::Value(source) | Drive::Hold(_, source))
-                if needs_back(network, point, needed) => {
+                if needs_back(network, point, needed, waits) => {
                 let subject = Subject::Expression(source.tree, source.first);
                 self.loops.count(subject) >= MANY
             }
