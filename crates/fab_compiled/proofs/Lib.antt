@@ -5,7 +5,6 @@ pub mod Numbered
 pub mod TreesGrow
 pub mod Leading
 pub mod Telling
-pub mod KeptBits
 pub mod Picking
 pub mod Compiling
 pub mod Joining

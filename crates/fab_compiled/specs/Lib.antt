@@ -3,7 +3,7 @@ pub mod Trees
 pub mod Evaluation
 pub mod Leading
 pub mod Parts
-pub mod Keeping
+pub mod Pairs
 pub mod Compiling
 pub mod Values
 pub mod inner

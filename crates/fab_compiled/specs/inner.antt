@@ -3,4 +3,3 @@ pub mod Picks
 pub mod Indices
 pub mod Pairs
 pub mod Joining
-pub mod Keeping

@@ -124,9 +124,9 @@ fn index_bits(index: &Tree, width: u32, first: usize, view: &View) -> [Tern; MOS
     bits
 }
 
-// The entry at an index of a table whose entries are points, of which the first is given, and how far each is behind the one before it. Where nothing is
-// known of one entry that an open bit may pick, the others do not matter.
-pub(crate) fn entry(index: &[Tern], first: usize, stride: usize, view: &View) -> Tern
+/// The entry at an index of a table whose entries are points, of which the first is given, and how far each is behind the one before it. Where nothing is
+/// known of one entry that an open bit may pick, the others do not matter.
+pub fn entry(index: &[Tern], first: usize, stride: usize, view: &View) -> Tern
     requires leads { IsView view.now.terns.now view.now.leads.now }
     requires small { length view.now.leads.now ≤ 2 ^ 32 }
     requires within { first + stride * 2 ^ length index.now < length view.now.leads.now + stride }

@@ -4,7 +4,6 @@
 mod compiler;
 mod evaluation;
 mod indices;
-mod keeping;
 pub mod laws;
 mod leads;
 mod marking;
@@ -16,11 +15,12 @@ mod view;
 mod whole_values;
 
 pub use compiler::{Compiled, compile};
-pub use evaluation::eval;
-pub use keeping::{Kept, bit_by, kept_of};
+pub use evaluation::{entry, eval};
 pub use leads::{Lead, follow};
-pub use operators::through;
+pub use operators::{agreed, both, differs, either, inverse, through};
 pub use parts::{Part, part_of};
 pub use tree::Tree;
 pub use view::View;
-pub use whole_values::whole_into;
+pub use whole_values::{
+    Pairing, invert, pair_up, read_points, same_bits, subtract, whole_into, write_constant,
+};

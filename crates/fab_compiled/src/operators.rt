@@ -9,7 +9,7 @@ ghost use Rattle.fab_ternary.specs.Terns.{is_one, plain_tern};
 use fab_ternary::Tern;
 
 /// 1 for 0 and 0 for 1.
-pub(crate) fn inverse(bit: Tern) -> Tern
+pub fn inverse(bit: Tern) -> Tern
     ensures { plain_tern result ≡ inverse_of (plain_tern bit) }
 {
     if bit.is_open() {
@@ -20,7 +20,7 @@ pub(crate) fn inverse(bit: Tern) -> Tern
 }
 
 /// 0 where one is 0, and 1 where both are 1.
-pub(crate) fn both(left: Tern, right: Tern) -> Tern
+pub fn both(left: Tern, right: Tern) -> Tern
     ensures { plain_tern result ≡ both_of (plain_tern left) (plain_tern right) }
 {
     if is_no(left) || is_no(right) {
@@ -34,7 +34,7 @@ pub(crate) fn both(left: Tern, right: Tern) -> Tern
 }
 
 /// 1 where one is 1, and 0 where both are 0.
-pub(crate) fn either(left: Tern, right: Tern) -> Tern
+pub fn either(left: Tern, right: Tern) -> Tern
     ensures { plain_tern result ≡ either_of (plain_tern left) (plain_tern right) }
 {
     if left.is_yes() || right.is_yes() {
@@ -48,7 +48,7 @@ pub(crate) fn either(left: Tern, right: Tern) -> Tern
 }
 
 /// 1 where one is 1 and the other 0, and 0 where they are the same.
-pub(crate) fn differs(left: Tern, right: Tern) -> Tern
+pub fn differs(left: Tern, right: Tern) -> Tern
     ensures { plain_tern result ≡ differs_of (plain_tern left) (plain_tern right) }
 {
     if left.is_open() || right.is_open() {
@@ -58,7 +58,7 @@ pub(crate) fn differs(left: Tern, right: Tern) -> Tern
 }
 
 /// What both are, where they are known and agree.
-pub(crate) fn agreed(left: Tern, right: Tern) -> Tern
+pub fn agreed(left: Tern, right: Tern) -> Tern
     ensures { plain_tern result ≡ agreed_of (plain_tern left) (plain_tern right) }
 {
     if is_no(left) && is_no(right) {

@@ -10,7 +10,8 @@ ghost use Rattle.fab_ternary.specs.Terns.{plain_tern};
 ghost use Rattle.fab_compiled.specs.Terns.{seen, IsView};
 ghost use Rattle.fab_compiled.specs.Trees.{tree_width, IsMade};
 ghost use Rattle.fab_compiled.specs.Evaluation.{all_known, value_seen, IsWithin};
-ghost use Rattle.fab_compiled.specs.inner.Pairs.{by, AreLast};
+ghost use Rattle.fab_compiled.specs.Pairs.{by};
+ghost use Rattle.fab_compiled.specs.inner.Pairs.{AreLast};
 
 use crate::evaluation::entry;
 use crate::operators::{agreed, both, differs, either, inverse};
@@ -304,8 +305,8 @@ fn add_constant(constant: &[bool], bits: &mut Vec<Tern>) -> Result<(), Memory>
     Ok(())
 }
 
-// Writes the bits of a constant in the place of those of a list.
-fn write_constant(constant: &[bool], bits: &mut [Tern])
+/// Writes the bits of a constant in the place of those of a list.
+pub fn write_constant(constant: &[bool], bits: &mut [Tern])
     requires { length bits.old ≡ length constant.now }
     ensures { map plain_tern bits.new ≡ map known_tern constant.now }
 {
@@ -334,9 +335,12 @@ fn add_points(
     Ok(())
 }
 
-// Writes what points have that follow one another, one in each place of a list. The view is copied first: what is lent would be read anew for each bit,
+/// Writes what points of an instance have that follow one another, one in each place of a list: the first point of the instance is given, and the place of
+/// the first of them.
+//
+// The view is copied first: what is lent would be read anew for each bit,
 // since a write might have changed it, as far as the compiler knows.
-fn read_points(first: usize, place: usize, view: &View, bits: &mut [Tern])
+pub fn read_points(first: usize, place: usize, view: &View, bits: &mut [Tern])
     requires view { IsView view.now.terns.now view.now.leads.now }
     requires few { length view.now.leads.now ≤ 2 ^ 32 }
     requires inside { first + (place + length bits.old) ≤ length view.now.leads.now }
@@ -358,8 +362,8 @@ fn bit_of(bits: &[Tern], place: usize) -> Tern
     }
 }
 
-// 1 for 0 and 0 for 1, in each place.
-fn invert(bits: &mut [Tern])
+/// 1 for 0 and 0 for 1, in each place.
+pub fn invert(bits: &mut [Tern])
     ensures { map plain_tern bits.new ≡ map inverse_of (map plain_tern bits.old) }
 {
     for place in 0..bits.len() {
@@ -379,8 +383,10 @@ fn pair(pairing: Pairing, left: Tern, right: Tern) -> Tern
     }
 }
 
-// Two lists in one, place by place. Each pairing is named here, so that there is a loop for each, which asks for none.
-fn pair_up(pairing: Pairing, left: &mut [Tern], right: &[Tern])
+/// Two lists in one, place by place, where the first was.
+//
+// Each pairing is named here, so that there is a loop for each, which asks for none.
+pub fn pair_up(pairing: Pairing, left: &mut [Tern], right: &[Tern])
     requires { length left.old ≡ length right.now }
     ensures { map plain_tern left.new ≡ each_tern (by pairing) (map plain_tern left.old) (map plain_tern right.now) }
 {
@@ -403,8 +409,8 @@ fn pair_each(pairing: Pairing, left: &mut [Tern], right: &[Tern])
     }
 }
 
-// Whether two lists are the same: 0 where two known bits differ, and 1 where all are known and agree.
-fn same_bits(left: &[Tern], right: &[Tern]) -> Tern
+/// Whether two lists are the same: 0 where two known bits differ, and 1 where all are known and agree.
+pub fn same_bits(left: &[Tern], right: &[Tern]) -> Tern
     requires { length left.now ≡ length right.now }
     ensures { plain_tern result ≡ same_terns (map plain_tern left.now) (map plain_tern right.now) }
 {
@@ -418,8 +424,8 @@ fn same_bits(left: &[Tern], right: &[Tern]) -> Tern
     all
 }
 
-// A difference, in the place of the minuend. Nothing is known of it where a bit of either side is not known.
-fn subtract(left: &mut [Tern], right: &[Tern])
+/// A difference, in the place of the minuend. Nothing is known of it where a bit of either side is not known.
+pub fn subtract(left: &mut [Tern], right: &[Tern])
     requires { length left.old ≡ length right.now }
     ensures { map plain_tern left.new ≡ tern_operated ops.Minus (map plain_tern left.old) (map plain_tern right.now) }
 {

@@ -2,7 +2,7 @@ use Rattle.std.proofs.Common.{◌≡◌, ◌<◌, length, sym, ap₂, ◌∙◌,
 use Rattle.std.proofs.lemmas.List.{length-map}
 use Rattle.fab_solutions_laws.specs.fab_ternary_laws_Operators.{each_tern}
 use Rattle.fab_ternary.specs.Terns.{plain_tern}
-use Rattle.fab_compiled.specs.inner.Pairs.{by}
+use Rattle.fab_compiled.specs.Pairs.{by}
 use Rattle.fab_compiled.proofs.Bits.{each_at}
 use Rattle.fab_compiled.proofs.Lengths.{length_each}
 use Rattle.fab_compiled.proofs.Written.{plain, none_done, one_done, all_done, read}

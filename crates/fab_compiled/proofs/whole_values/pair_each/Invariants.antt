@@ -1,5 +1,5 @@
 use Rattle.fab_solutions_laws.specs.fab_ternary_laws_Operators.{each_tern}
-use Rattle.fab_compiled.specs.inner.Pairs.{by}
+use Rattle.fab_compiled.specs.Pairs.{by}
 use Rattle.fab_compiled.proofs.Written.{plain, IsPartly}
 use Rattle.fab_compiled.proofs.whole_values.pair_each.Given as goal
 

@@ -1,6 +1,7 @@
 use Rattle.std.proofs.Common.{sym, subst, arith}
 use Rattle.fab_solutions_laws.specs.fab_ternary_laws_Operators.{each_tern}
-use Rattle.fab_compiled.specs.inner.Pairs.{by, AreLast}
+use Rattle.fab_compiled.specs.Pairs.{by}
+use Rattle.fab_compiled.specs.inner.Pairs.{AreLast}
 use Rattle.fab_compiled.proofs.Adding.{halves_done}
 use Rattle.fab_compiled.proofs.Written.{plain}
 use Rattle.fab_compiled.proofs.whole_values.pair_last.Goals as goal
