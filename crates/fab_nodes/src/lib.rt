@@ -1,0 +1,10 @@
+//! Values of all nodes of an expression, kept while points come to be known one by one.
+#![tactic(auto)]
+
+mod filling;
+mod layout;
+mod operands;
+mod renewing;
+mod values;
+
+pub use values::NodeValues;

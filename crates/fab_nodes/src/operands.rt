@@ -1,0 +1,69 @@
+//! Bits of operands, by what is kept of them.
+
+ghost use Rattle.std.specs.Prelude.{◌≡◌, ◌+◌, ◌^◌, ◌<◌, ◌≤◌, length, map, OnOk};
+ghost use Rattle.fab_systems_laws.specs.Ternary.{IsBelow};
+ghost use Rattle.fab_solutions_laws.specs.Laws.{AreUnder};
+ghost use Rattle.fab_solutions_laws.specs.fab_ternary_laws_Operators.{tern_at};
+ghost use Rattle.fab_ternary.specs.Terns.{plain_tern};
+ghost use Rattle.fab_compiled.specs.Terns.{seen, IsView};
+ghost use Rattle.fab_compiled.specs.Trees.{tree_width, IsMade};
+ghost use Rattle.fab_compiled.specs.Evaluation.{value_seen, IsWithin};
+ghost use Rattle.fab_nodes.specs.Nodes.{room, AreNodes};
+
+use fab_base::Memory;
+use fab_compiled::{Tree, View, eval, whole_into};
+use fab_ternary::Tern;
+
+/// A bit of an expression by what is kept of its nodes, in a list that begins with its own values. A bit of a name or a constant is found at once.
+pub(crate) fn operand_bit(tree: &Tree, bits: &[Tern], bit: u64, first: usize, view: &View) -> Tern
+    requires made { IsMade tree.now }
+    requires view { IsView view.now.terns.now view.now.leads.now }
+    requires few { length view.now.leads.now ≤ 2 ^ 32 }
+    requires begins { first ≤ length view.now.leads.now }
+    requires inside { IsWithin tree.now first (length view.now.leads.now) }
+    requires within { bit < tree_width tree.now }
+    requires long { length bits.now ≡ room tree.now }
+    requires nodes { AreNodes (λ place. seen view.now.terns.now view.now.leads.now (first + place)) tree.now (map plain_tern bits.now) }
+    ensures { IsBelow (plain_tern result) (tern_at (value_seen view.now.terns.now view.now.leads.now first tree.now) bit) }
+{
+    if is_leaf(tree) {
+        return eval(tree, bit, first, view);
+    }
+    match bits.get(bit as usize) {
+        Some(found) => *found,
+        None => Tern::Open,
+    }
+}
+
+/// All bits of an expression by what is kept of its nodes, in the place of what a list has. `width` is how many it has. Where memory is refused, nothing is said
+/// of the list.
+pub(crate) fn operand_into(
+    tree: &Tree,
+    width: usize,
+    bits: &[Tern],
+    first: usize,
+    view: &View,
+    list: &mut Vec<Tern>,
+) -> Result<(), Memory>
+    requires made { IsMade tree.now }
+    requires view { IsView view.now.terns.now view.now.leads.now }
+    requires few { length view.now.leads.now ≤ 2 ^ 32 }
+    requires begins { first ≤ length view.now.leads.now }
+    requires inside { IsWithin tree.now first (length view.now.leads.now) }
+    requires width { width ≡ tree_width tree.now }
+    requires long { length bits.now ≡ room tree.now }
+    requires nodes { AreNodes (λ place. seen view.now.terns.now view.now.leads.now (first + place)) tree.now (map plain_tern bits.now) }
+    ensures { OnOk result (AreUnder (map plain_tern list.new.items) (value_seen view.now.terns.now view.now.leads.now first tree.now)) }
+{
+    if is_leaf(tree) {
+        return whole_into(tree, first, view, list);
+    }
+    list.clear();
+    list.extend_from_slice(&bits[..width])?;
+    Ok(())
+}
+
+/// Whether nothing is kept of an expression itself.
+pub(crate) fn is_leaf(tree: &Tree) -> bool {
+    matches!(tree, Tree::Const(_) | Tree::Bits(_, _))
+}
