@@ -30,8 +30,15 @@ pub struct NodeValues {
 }
 
 impl NodeValues {
-    /// The values of the nodes of an expression over the points of an instance, of which the first is given. The error is want of memory.
-    pub fn of(alloc: Global, tree: &Tree, first: usize, view: &View) -> Result<NodeValues, Memory>
+    /// The values of the nodes of an expression over the points of an instance, of which the first is given. The error is want of memory, also where there would
+    /// be more values than these, a byte each.
+    pub fn of(
+        alloc: Global,
+        tree: &Tree,
+        first: usize,
+        view: &View,
+        most: usize,
+    ) -> Result<NodeValues, Memory>
         requires made { IsMade tree.now }
         requires view { IsView view.now.terns.now view.now.leads.now }
         requires few { length view.now.leads.now ≤ 2 ^ 32 }
@@ -40,16 +47,25 @@ impl NodeValues {
         ensures { IfOk result (AreKept (λ place. seen view.now.terns.now view.now.leads.now (first + place)) tree.now) }
     {
         let layout = layout_of(alloc, tree)?;
-        let mut bits = vec![in alloc; Tern::Open; layout.node().room]?;
+        let node = layout.node();
+        if node.room > most {
+            return Err(Memory);
+        }
+        let mut bits = vec![in alloc; Tern::Open; node.room]?;
         let mut spare = Spare::new(alloc);
         fill(tree, &layout, first, view, &mut spare, &mut bits)?;
-        let news = News::new(alloc, layout.node().nodes)?;
+        let news = News::new(alloc, node.nodes)?;
         Ok(NodeValues {
             layout,
             bits,
             news,
             spare,
         })
+    }
+
+    /// How many values are kept.
+    pub fn count(&self) -> usize {
+        self.bits.len()
     }
 
     /// A point has come to be known: what is known by that is found.
