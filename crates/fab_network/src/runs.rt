@@ -95,14 +95,20 @@ impl Runs {
     // The runs that have points of the order, and the places of these.
     fn list_runs(&mut self, network: &Network, order: &[u32]) -> Result<(), Memory> {
         for (place, point) in order.iter().enumerate() {
-            if !self.has(*point)
-                && let Some(run) = wide_run(network, *point)
-            {
-                self.add(run)?;
+            if !self.has(*point) {
+                self.add_run_of(network, *point)?;
             }
             self.set_place(*point, place);
         }
         Ok(())
+    }
+
+    // The run of a point, if it is one of a wide expression.
+    fn add_run_of(&mut self, network: &Network, point: u32) -> Result<(), Memory> {
+        match wide_run(network, point) {
+            Some(run) => self.add(run),
+            None => Ok(()),
+        }
     }
 
     /// Whether a point is one of a run.
@@ -123,12 +129,11 @@ impl Runs {
         Ok(())
     }
 
-    // A point of a run stands at this place of the order.
+    // A point stands at this place of the order, which is kept of points of runs.
     fn set_place(&mut self, point: u32, place: usize) {
-        if let (Some(kept), Ok(place)) = (self.places.get_mut(point as usize), u32::try_from(place))
-            && *kept == UNPLACED
-        {
-            *kept = place;
+        match (self.places.get_mut(point as usize), u32::try_from(place)) {
+            (Some(kept), Ok(place)) if *kept == UNPLACED => *kept = place,
+            _ => {}
         }
     }
 
