@@ -10,6 +10,7 @@ mod marking;
 mod operators;
 mod parts;
 mod picks;
+mod reading;
 mod tree;
 mod view;
 mod whole_values;
@@ -21,6 +22,4 @@ pub use operators::{agreed, both, differs, either, inverse, through};
 pub use parts::{Part, part_of};
 pub use tree::Tree;
 pub use view::View;
-pub use whole_values::{
-    Pairing, invert, pair_up, read_points, same_bits, subtract, whole_into, write_constant,
-};
+pub use whole_values::{Pairing, invert, pair_up, same_bits, subtract, whole_into};

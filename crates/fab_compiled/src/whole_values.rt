@@ -15,6 +15,7 @@ ghost use Rattle.fab_compiled.specs.inner.Pairs.{AreLast};
 
 use crate::evaluation::entry;
 use crate::operators::{agreed, both, differs, either, inverse};
+use crate::reading::{add_constant, add_points};
 use crate::tree::Tree;
 use crate::view::View;
 use fab_base::Memory;
@@ -293,63 +294,6 @@ fn end_in(low: usize, bit: Tern, bits: &mut Vec<Tern>) -> Result<(), Memory>
     bits.truncate(low);
     bits.push(bit)?;
     Ok(())
-}
-
-// Adds the bits of a constant.
-fn add_constant(constant: &[bool], bits: &mut Vec<Tern>) -> Result<(), Memory>
-    ensures { OnOk result (map plain_tern bits.new.items ≡ map plain_tern bits.old.items ++ map known_tern constant.now) }
-{
-    let low = bits.len();
-    bits.resize(low + constant.len(), Tern::No)?;
-    write_constant(constant, &mut bits[low..]);
-    Ok(())
-}
-
-/// Writes the bits of a constant in the place of those of a list.
-pub fn write_constant(constant: &[bool], bits: &mut [Tern])
-    requires { length bits.old ≡ length constant.now }
-    ensures { map plain_tern bits.new ≡ map known_tern constant.now }
-{
-    for place in 0..bits.len() {
-        bits[place] = Tern::known(constant[place]);
-    }
-}
-
-// Adds what points have that follow one another.
-fn add_points(
-    first: usize,
-    place: usize,
-    count: usize,
-    view: &View,
-    bits: &mut Vec<Tern>,
-) -> Result<(), Memory>
-    requires view { IsView view.now.terns.now view.now.leads.now }
-    requires few { length view.now.leads.now ≤ 2 ^ 32 }
-    requires inside { first + (place + count) ≤ length view.now.leads.now }
-    ensures { OnOk result (map plain_tern bits.new.items ≡ map plain_tern bits.old.items ++
-        first_terns count (λ k. seen view.now.terns.now view.now.leads.now (first + (place + k)))) }
-{
-    let low = bits.len();
-    bits.resize(low + count, Tern::No)?;
-    read_points(first, place, view, &mut bits[low..]);
-    Ok(())
-}
-
-/// Writes what points of an instance have that follow one another, one in each place of a list: the first point of the instance is given, and the place of
-/// the first of them.
-//
-// The view is copied first: what is lent would be read anew for each bit,
-// since a write might have changed it, as far as the compiler knows.
-pub fn read_points(first: usize, place: usize, view: &View, bits: &mut [Tern])
-    requires view { IsView view.now.terns.now view.now.leads.now }
-    requires few { length view.now.leads.now ≤ 2 ^ 32 }
-    requires inside { first + (place + length bits.old) ≤ length view.now.leads.now }
-    ensures { map plain_tern bits.new ≡ first_terns (length bits.old) (λ k. seen view.now.terns.now view.now.leads.now (first + (place + k))) }
-{
-    let copy = *view;
-    for next in 0..bits.len() {
-        bits[next] = copy.at(first + (place + next));
-    }
 }
 
 // A bit of a list; there are none past the end.

@@ -1,7 +1,7 @@
 use Rattle.std.proofs.Common.{◌++◌, length, ap, ◌∙◌, arith}
 use Rattle.fab_compiled.proofs.Adding.{room_laid}
 use Rattle.fab_compiled.proofs.Written.{plain}
-use Rattle.fab_compiled.proofs.whole_values.add_constant.Goals as goal
+use Rattle.fab_compiled.proofs.reading.add_constant.Goals as goal
 
 pub returns : goal.returns
 returns c =

@@ -4,7 +4,7 @@ use Rattle.fab_systems_laws.specs.Ternary.{known}
 use Rattle.fab_solutions_laws.proofs.fab_ternary_laws_Known.{known_at}
 use Rattle.fab_ternary.specs.Terns.{plain_tern}
 use Rattle.fab_compiled.proofs.Written.{plain, none_done, one_done, all_done}
-use Rattle.fab_compiled.proofs.whole_values.write_constant.Goals as goal
+use Rattle.fab_compiled.proofs.reading.write_constant.Goals as goal
 
 pub loop-place-init : goal.loop-place-init
 loop-place-init c = none_done (map known c.args.constant.now) (plain c.args.bits.now)

@@ -7,7 +7,7 @@ use Rattle.fab_compiled.specs.Terns.{seen}
 use Rattle.fab_compiled.proofs.Bits.{first_at}
 use Rattle.fab_compiled.proofs.Lengths.{length_first}
 use Rattle.fab_compiled.proofs.Written.{plain, none_done, one_done, all_done}
-use Rattle.fab_compiled.proofs.whole_values.read_points.Goals as goal
+use Rattle.fab_compiled.proofs.reading.read_each.Goals as goal
 
 pub loop-next-init : goal.loop-next-init
 loop-next-init c =

@@ -4,7 +4,7 @@ use Rattle.fab_solutions_laws.specs.fab_ternary_laws_Shown.{first_terns}
 use Rattle.fab_compiled.specs.Terns.{seen}
 use Rattle.fab_compiled.proofs.Adding.{room_laid, room_long}
 use Rattle.fab_compiled.proofs.Written.{plain}
-use Rattle.fab_compiled.proofs.whole_values.add_points.Goals as goal
+use Rattle.fab_compiled.proofs.reading.add_points.Goals as goal
 
 pub returns : goal.returns
 returns c =

@@ -1,7 +1,7 @@
 use Rattle.std.proofs.Common.{map}
 use Rattle.fab_systems_laws.specs.Ternary.{known}
 use Rattle.fab_compiled.proofs.Written.{plain, IsPartly}
-use Rattle.fab_compiled.proofs.whole_values.write_constant.Given as goal
+use Rattle.fab_compiled.proofs.reading.write_constant.Given as goal
 
 -- the bits so far
 abbrev pub invariant-loop-place : goal.invariant-loop-place

@@ -2,7 +2,7 @@ use Rattle.std.proofs.Common.{◌+◌, length}
 use Rattle.fab_solutions_laws.specs.fab_ternary_laws_Shown.{first_terns}
 use Rattle.fab_compiled.specs.Terns.{seen}
 use Rattle.fab_compiled.proofs.Written.{plain, IsPartly}
-use Rattle.fab_compiled.proofs.whole_values.read_points.Given as goal
+use Rattle.fab_compiled.proofs.reading.read_each.Given as goal
 
 -- the points so far
 abbrev pub invariant-loop-next : goal.invariant-loop-next
