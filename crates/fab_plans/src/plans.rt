@@ -15,8 +15,11 @@ pub enum Plan {
     Never,
 }
 
-// How many steps a bit alone takes at least, where an expression without shared work is found as a whole. A bit of fewer takes less than 200 nanoseconds.
+// How many steps a bit alone takes at least, where a narrow expression without shared work is found as a whole. A bit of fewer takes less than 200 nanoseconds.
 const MANY_STEPS: u32 = 8;
+
+// From how many bits on an expression of fewer steps is found as a whole too.
+const MANY_BITS: u64 = 1 << 10;
 
 // One of so many bits is evaluated alone, before all are found. Where no more than these are asked for, that takes some three times as long as they alone;
 // where all are, a tenth of it.
@@ -68,15 +71,17 @@ fn plan_of(tree: &Tree) -> Plan {
     if shares(tree) {
         return Plan::Together(1);
     }
-    if steps(tree) < MANY_STEPS {
-        return Plan::Never;
-    }
     let room = room_of(tree);
-    if room.most > MOST_BITS {
+    if room.most > MOST_BITS || !takes_many(room.bits, steps(tree)) {
         return Plan::Never;
     }
     let looks = room.bits / BITS_FOR_A_LOOK;
     Plan::After(u32::try_from(looks).unwrap_or(u32::MAX).max(1))
+}
+
+// Whether so many bits of so many steps each take longer alone than as a whole. A bit of none is one of a name, and is looked up.
+fn takes_many(bits: u64, steps: u32) -> bool {
+    steps >= MANY_STEPS || steps > 0 && bits >= MANY_BITS
 }
 
 // From how many bits of an index on a pick takes long: it goes over all entries where the index is not known.
