@@ -18,12 +18,14 @@ use Rattle.fab_network.specs.Leading.{LeadsTo}
 use Rattle.fab_network.specs.Network.{source_tern, IsFitDrive}
 use Rattle.fab_network.proofs.Kept.{known_below}
 use Rattle.std.specs.Prelude.{IfSome}
+use Rattle.fab_demand.specs.declared.gates.Gate.TheVariants.{Known as GateKnown, Depends}
 use Rattle.fab_demand.specs.declared.others.Bits.{Bits}
 use Rattle.fab_demand.specs.declared.others.Together.{Together}
 use Rattle.fab_demand.specs.declared.registers.Span.{Span}
 use Rattle.fab_compiled.specs.declared.parts.Part.{Part}
 use Rattle.fab_demand.specs.declared.search.Search.{Search}
 use Rattle.fab_demand.specs.Asked.{Asked, AsksMore, IsPossible}
+use Rattle.fab_demand.specs.Gates.{IsGate}
 use Rattle.fab_demand.specs.inner.Beside.{drive_of, AreAlike, AreFitBits, IsBeside, IsBitDrive, IsBitOfPart, IsClosedAs, IsDriveOf, IsSpanAsked, IsSpanOf, KnowsMore, TellsGate, TellsTogether}
 use Rattle.fab_demand.specs.inner.Looking.{Finds}
 use Rattle.fab_compiled.specs.Parts.{TellsBits}
@@ -164,9 +166,10 @@ module _ (network : Network) (clock : Clock) (given : PointTerns) (old mid new :
     (points : length network.drives.items ≡ length old.leads.items) (together : Together) (tells : TellsTogether network.trees.items (asked_of old) together)
     (other : ℕ) (found : Tern) (beside : IsBeside network together old.marks.items other found)
     (asked : asked_of mid ≡ record (asked_of old) { marks = slice_set old.marks.items other true }) (done : mid.done.items ≡ old.done.items)
-    (stack : mid.stack.items ≡ old.stack.items ++ other ∷ []) (room : HasRoom mid) (closes : IsClosedAs mid new other found) where
+    (stack : mid.stack.items ≡ old.stack.items ++ other ∷ []) (gates : mid.gates.kept.items ≡ old.gates.kept.items) (room : HasRoom mid)
+    (closes : IsClosedAs mid new other found) where
   waits : GoesOn network clock given old mid
-  waits = wait_goes_on network clock given old mid searching other beside.unmarked asked done stack room
+  waits = wait_goes_on network clock given old mid searching other beside.unmarked asked done stack gates room
 
   last : slice_get mid.stack.items (length mid.stack.items - 1) ≡ Some other
   last =
@@ -199,23 +202,13 @@ pub some_map : {A : Type 0} (r : Option A) (P R : A → Type 0) → IfSome r P �
 some_map None P R p f = tt
 some_map (Some v) P R p f = f v p
 
--- what is told of a gate, by where it leads
+-- what is told of a gate, by what it is
 module _ (trees : List Tree) (terns : List Tern) (leads : List ℕ) (marks : List Bool) (gate : Source) where
-  abbrev gate_of : PointTerns → PlainTern
-  gate_of t = source_tern trees t gate
-
-  pub gate_known : (passes : Bool) → LeadsTo terns leads marks gate_of (Known true) → TellsGate trees terns leads marks (Some gate) passes
+  pub gate_known : (passes : Bool) → IsGate trees terns leads marks gate (GateKnown true) → TellsGate trees terns leads marks (Some gate) passes
   gate_known passes h = (λ is t above. h t above, λ t u at_t follow_t at_u follow_u agree. h t at_t ∙ sym (h u at_u))
 
-  pub gate_point : (lead : ℕ) → LeadsTo terns leads marks gate_of (Point lead) → TellsGate trees terns leads marks (Some gate) false
-  gate_point lead h = (
-    λ is. absurd (false≢true is),
-    λ t u at_t follow_t at_u follow_u agree.
-        h.0 t at_t follow_t ∙ ap t (sym h.1.2) ∙ sym (follow_t h.1.0 h.1.1) ∙ agree h.1.0 h.1.1 ∙ follow_u h.1.0 h.1.1 ∙ ap u h.1.2 ∙ sym (h.0 u at_u follow_u),
-  )
-
-  pub gate_own : LeadsTo terns leads marks gate_of Own → TellsGate trees terns leads marks (Some gate) false
-  gate_own h = (λ is. absurd (false≢true is), λ t u at_t follow_t at_u follow_u agree. h t u at_t at_u agree)
+  pub gate_depends : IsGate trees terns leads marks gate Depends → TellsGate trees terns leads marks (Some gate) false
+  gate_depends h = (λ is. absurd (false≢true is), h)
 
 -- the same of equal lists
 pub gate_same : (gate : Option Source) (passes : Bool) (terns other_terns : List Tern) (leads other_leads : List ℕ) (marks other_marks : List Bool)

@@ -14,6 +14,8 @@ use Rattle.fab_network.specs.declared.network.Source.{Source}
 use Rattle.fab_network.specs.Leading.{LeadsTo}
 use Rattle.fab_network.specs.Network.{source_tern}
 use Rattle.fab_demand.specs.Demand.{IsClosed}
+use Rattle.fab_demand.specs.declared.gates.Gate.TheVariants.{Known as GateKnown, Depends}
+use Rattle.fab_demand.specs.Gates.{IsGate}
 use Rattle.fab_demand.specs.inner.Looking.{lead_given, own_or_unmarked, Finds}
 use Rattle.fab_demand.proofs.Lists.{index_is}
 
@@ -95,7 +97,7 @@ module _ (trees : List Tree) (clock : Clock) (given : PlainTern) (terns : List T
     abbrev data_of : PointTerns → PlainTern
     data_of t = source_tern trees t latched
 
-    pub open_finds : LeadsTo terns leads marks gate_of (Known true) → (lead : Lead) → LeadsTo terns leads marks data_of lead →
+    pub open_finds : IsGate trees terns leads marks gate (GateKnown true) → (lead : Lead) → LeadsTo terns leads marks data_of lead →
         Finds trees clock given terns leads marks (Some (Hold gate latched)) lead
     open_finds open_gate (Known b) h = λ later t kept above. ap (λ (x : PlainTern). through x (data_of t) later) (open_gate t above) ∙ h t above
     open_finds open_gate (Point lead) h =
@@ -111,13 +113,12 @@ module _ (trees : List Tree) (clock : Clock) (given : PlainTern) (terns : List T
     closed_by closed unknown = λ later t u kept at_t follow_t at_u follow_u agree.
         ap (λ (x : PlainTern). through x (data_of t) later) (closed t at_t) ∙ sym (ap (λ (x : PlainTern). through x (data_of u) later) (closed u at_u))
 
-    pub closed_finds : LeadsTo terns leads marks gate_of (Known false) → (lead : Lead) → lead ≡ lead_given given →
+    pub closed_finds : IsGate trees terns leads marks gate (GateKnown false) → (lead : Lead) → lead ≡ lead_given given →
         Finds trees clock given terns leads marks (Some (Hold gate latched)) lead
     closed_finds closed lead is = subst (λ (l : Lead). Finds trees clock given terns leads marks (Some (Hold gate latched)) l) (sym is) (closed_by closed given)
 
     abbrev SameGate : Type 0
-    SameGate = (t u : PointTerns) → AreAbove terns leads t → FollowLeads leads marks t → AreAbove terns leads u → FollowLeads leads marks u →
-        AgreeOnMarked marks t u → gate_of t ≡ gate_of u
+    SameGate = IsGate trees terns leads marks gate Depends
 
     abbrev SameData : Type 0
     SameData = (t u : PointTerns) → AreAbove terns leads t → FollowLeads leads marks t → AreAbove terns leads u → FollowLeads leads marks u →
@@ -135,7 +136,7 @@ module _ (trees : List Tree) (clock : Clock) (given : PlainTern) (terns : List T
     half_by same Own h = λ later t u kept at_t follow_t at_u follow_u agree. both_same same h later t u at_t follow_t at_u follow_u agree
     half_by same (Unmarked point) h = h
 
-    pub half_finds : SameGate → (data_lead : Lead) → LeadsTo terns leads marks data_of data_lead → (lead : Lead) → lead ≡ own_or_unmarked data_lead →
+    pub half_finds : IsGate trees terns leads marks gate Depends → (data_lead : Lead) → LeadsTo terns leads marks data_of data_lead → (lead : Lead) → lead ≡ own_or_unmarked data_lead →
         Finds trees clock given terns leads marks (Some (Hold gate latched)) lead
     half_finds same data_lead h lead is =
         subst (λ (l : Lead). Finds trees clock given terns leads marks (Some (Hold gate latched)) l) (sym is)

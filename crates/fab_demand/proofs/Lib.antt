@@ -1,5 +1,6 @@
 pub mod Lists
 mod Growing
+mod Gates
 mod Closing
 mod Steps
 mod Waiting

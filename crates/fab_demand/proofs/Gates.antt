@@ -1,0 +1,77 @@
+-- What gates are found to be.
+use Rattle.std.proofs.Common.{◌≡◌, ◌⊎◌, ℕ, Bool, true, false, List, [], Some, sym, ap, ◌∙◌, subst, inl, inr, slice_get}
+use Rattle.fab_ternary.specs.declared.Tern.{Tern}
+use Rattle.fab_compiled.specs.declared.tree.Tree.{Tree}
+use Rattle.fab_compiled.specs.Leading.{PointTerns}
+use Rattle.fab_network.specs.declared.network.Clock.{Clock}
+use Rattle.fab_network.specs.declared.network.Network.{Network}
+use Rattle.fab_network.specs.declared.network.Source.{Source}
+use Rattle.fab_demand.specs.declared.gates.Gate.{Gate}
+use Rattle.fab_demand.specs.declared.gates.Gate.TheVariants.{Known, Depends}
+use Rattle.fab_demand.specs.declared.gates.Gates.{Gates}
+use Rattle.fab_demand.specs.declared.gates.KeptGate.{KeptGate}
+use Rattle.fab_demand.specs.declared.search.Search.{Search}
+use Rattle.fab_demand.specs.Asked.{Asked, AsksMore, IsPossible}
+use Rattle.fab_demand.specs.Gates.{AreGates, IsGate}
+use Rattle.fab_demand.specs.Search.{IsSearching}
+use Rattle.fab_demand.specs.inner.Beside.{KnowsMore}
+
+-- ---- more and more
+
+module _ (trees : List Tree) (old new : Asked) (more : AsksMore old new) (above : KnowsMore old new) where
+  -- what is told of a gate stays true where more is known
+  gate_stays : (source : Source) (gate : Gate) → IsGate trees old.terns old.leads old.marks source gate → IsGate trees new.terns new.leads new.marks source gate
+  gate_stays source (Known b) is = λ t h. is t (above t h)
+  gate_stays source Depends is = λ t u at_t follow_t at_u follow_u agree.
+      let before : IsPossible old t = more.possible t (record { above = at_t; follows = follow_t }) in
+      let after : IsPossible old u = more.possible u (record { above = at_u; follows = follow_u }) in
+      is t u before.above before.follows after.above after.follows (λ q n. agree q (more.marks q n))
+
+  pub gates_stay : (gates : List KeptGate) → AreGates trees old.terns old.leads old.marks gates → AreGates trees new.terns new.leads new.marks gates
+  gates_stay gates are place kept at = gate_stays kept.source kept.gate (are place kept at)
+
+-- ---- what is kept
+
+-- the same of equal lists
+pub gates_same : (gates : List KeptGate) (trees other_trees : List Tree) (terns other_terns : List Tern) (leads other_leads : List ℕ)
+    (marks other_marks : List Bool) → trees ≡ other_trees → terns ≡ other_terns → leads ≡ other_leads → marks ≡ other_marks →
+    AreGates trees terns leads marks gates → AreGates other_trees other_terns other_leads other_marks gates
+gates_same gates trees other_trees terns other_terns leads other_leads marks other_marks d e f g are =
+    subst (λ (xs : List Bool). AreGates other_trees other_terns other_leads xs gates) g
+    (subst (λ (xs : List ℕ). AreGates other_trees other_terns xs marks gates) f
+    (subst (λ (xs : List Tern). AreGates other_trees xs leads marks gates) e
+    (subst (λ (xs : List Tree). AreGates xs terns leads marks gates) d are)))
+
+module _ (trees : List Tree) (terns : List Tern) (leads : List ℕ) (marks : List Bool) where
+  pub no_gates : (gates : List KeptGate) → gates ≡ [] → AreGates trees terns leads marks gates
+  no_gates gates none place kept at = let e : slice_get {A = KeptGate} [] place ≡ Some kept = ap (λ (xs : List KeptGate). slice_get xs place) (sym none) ∙ at in cc
+
+  -- one more, in place of another
+  pub gates_more : (old new : List KeptGate) (gate : KeptGate) →
+      ((place : ℕ) (kept : KeptGate) → slice_get new place ≡ Some kept → (kept ≡ gate) ⊎ ((before : ℕ) × (slice_get old before ≡ Some kept))) →
+      IsGate trees terns leads marks gate.source gate.gate → AreGates trees terns leads marks old → AreGates trees terns leads marks new
+  gates_more old new gate either is are place kept at =
+      elim (either place kept at) [
+        | inl e ↦ subst (λ (k : KeptGate). IsGate trees terns leads marks k.source k.gate) (sym e) is
+        | inr before ↦ are before.0 kept before.1
+      ]
+
+-- ---- a search
+
+-- a search goes on with what it has found of gates
+pub gates_searching : (network : Network) (clock : Clock) (given : PointTerns) (search : Search) (gates : Gates) → IsSearching network clock given search →
+    AreGates network.trees.items search.terns.items search.leads.items search.marks.items gates.kept.items →
+    IsSearching network clock given (record search { gates = gates })
+gates_searching network clock given search gates searching are = record {
+  looked = searching.looked;
+  room = record {
+    done = searching.room.done;
+    own = searching.room.own;
+    own_room = searching.room.own_room;
+    stack = searching.room.stack;
+    stack_room = searching.room.stack_room;
+  };
+  marked = searching.marked;
+  waiting = searching.waiting;
+  gates = are;
+}
