@@ -6,7 +6,7 @@ use Rattle.fab_ternary.specs.declared.Tern.{Tern}
 use Rattle.fab_ternary.specs.Terns.{plain_tern, is_known}
 use Rattle.std.proofs.lemmas.Bool.{false≢true}
 use Rattle.fab_ternary_laws.specs.Shown.{through}
-use Rattle.fab_compiled.specs.declared.leads.Lead.TheVariants.{Known, Point, Own}
+use Rattle.fab_compiled.specs.declared.leads.Lead.TheVariants.{Known, Own}
 use Rattle.fab_compiled.specs.declared.tree.Tree.{Tree}
 use Rattle.fab_compiled.specs.Leading.{PointTerns, AreAbove, AgreeOnMarked}
 use Rattle.fab_network.specs.declared.network.Clock.{Clock}
@@ -14,7 +14,6 @@ use Rattle.fab_network.specs.declared.network.Drive.{Drive}
 use Rattle.fab_network.specs.declared.network.Drive.TheVariants.{Flop}
 use Rattle.fab_network.specs.declared.network.Network.{Network}
 use Rattle.fab_network.specs.declared.network.Source.{Source}
-use Rattle.fab_network.specs.Leading.{LeadsTo}
 use Rattle.fab_network.specs.Network.{source_tern, IsFitDrive}
 use Rattle.fab_network.proofs.Kept.{known_below}
 use Rattle.std.specs.Prelude.{IfSome}

@@ -1,5 +1,5 @@
 -- What gates are found to be.
-use Rattle.std.proofs.Common.{◌≡◌, ◌⊎◌, ℕ, Bool, true, false, List, [], Some, sym, ap, ◌∙◌, subst, inl, inr, slice_get}
+use Rattle.std.proofs.Common.{◌≡◌, ◌⊎◌, ℕ, Bool, true, false, List, [], Some, refl, sym, ap, ◌∙◌, subst, inl, inr, slice_get}
 use Rattle.fab_ternary.specs.declared.Tern.{Tern}
 use Rattle.fab_compiled.specs.declared.tree.Tree.{Tree}
 use Rattle.fab_compiled.specs.Leading.{PointTerns}
@@ -13,7 +13,7 @@ use Rattle.fab_demand.specs.declared.gates.KeptGate.{KeptGate}
 use Rattle.fab_demand.specs.declared.search.Search.{Search}
 use Rattle.fab_demand.specs.Asked.{Asked, AsksMore, IsPossible}
 use Rattle.fab_demand.specs.Gates.{AreGates, IsGate}
-use Rattle.fab_demand.specs.Search.{IsSearching}
+use Rattle.fab_demand.specs.Search.{HasRoom, IsSearching}
 use Rattle.fab_demand.specs.inner.Beside.{KnowsMore}
 
 -- ---- more and more
@@ -58,20 +58,21 @@ module _ (trees : List Tree) (terns : List Tern) (leads : List ℕ) (marks : Lis
 
 -- ---- a search
 
--- a search goes on with what it has found of gates
-pub gates_searching : (network : Network) (clock : Clock) (given : PointTerns) (search : Search) (gates : Gates) → IsSearching network clock given search →
-    AreGates network.trees.items search.terns.items search.leads.items search.marks.items gates.kept.items →
-    IsSearching network clock given (record search { gates = gates })
-gates_searching network clock given search gates searching are = record {
-  looked = searching.looked;
-  room = record {
-    done = searching.room.done;
-    own = searching.room.own;
-    own_room = searching.room.own_room;
-    stack = searching.room.stack;
-    stack_room = searching.room.stack_room;
-  };
-  marked = searching.marked;
-  waiting = searching.waiting;
-  gates = are;
-}
+-- a search that has found more of gates
+module _ (search : Search) (gates : Gates) where
+  abbrev pub finding : Search
+  finding = record search { gates = gates }
+
+  pub finding_room : HasRoom search → HasRoom finding
+  finding_room room = record { done = room.done; own = room.own; own_room = room.own_room; stack = room.stack; stack_room = room.stack_room }
+
+  pub finding_searching : (network : Network) (clock : Clock) (given : PointTerns) (terns : List Tern) (leads : List ℕ) (marks : List Bool) →
+      terns ≡ search.terns.items → leads ≡ search.leads.items → marks ≡ search.marks.items → IsSearching network clock given search →
+      AreGates network.trees.items terns leads marks gates.kept.items → IsSearching network clock given finding
+  finding_searching network clock given terns leads marks e f g searching are = record {
+    looked = searching.looked;
+    room = finding_room searching.room;
+    marked = searching.marked;
+    waiting = searching.waiting;
+    gates = gates_same gates.kept.items network.trees.items network.trees.items terns search.terns.items leads search.leads.items marks search.marks.items refl e f g are;
+  }

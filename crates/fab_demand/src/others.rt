@@ -98,10 +98,9 @@ impl Search {
     // Whether points have what their bits have, as `Together` says. None where the gate of this bit is known to be 0 or has to be looked at.
     fn passes_at(&mut self, network: &Network, bits: Bits) -> Option<bool>
         requires fit { AreFitBits network.now.trees.items (length self.old.leads.items) bits }
-        requires whole { IsWhole (asked_of self.old) }
-        requires gates { AreGates network.now.trees.items self.old.terns.items self.old.leads.items self.old.marks.items self.old.gates.kept.items }
+        requires searching { (clock : Clock) × (given : PointTerns) × IsSearching network.now clock given self.old }
         ensures passes { IfSome result (TellsGate network.now.trees.items self.new.terns.items self.new.leads.items self.new.marks.items bits.gate) }
-        ensures gates { AreGates network.now.trees.items self.new.terns.items self.new.leads.items self.new.marks.items self.new.gates.kept.items }
+        ensures searching { (clock : Clock) (given : PointTerns) → IsSearching network.now clock given self.old → IsSearching network.now clock given self.new }
         ensures same { self.new ≡ record (self.old) { gates = self.new.gates } }
     {
         let view = View {

@@ -211,7 +211,15 @@ impl Search {
             terns: &self.terns,
             leads: &self.leads,
         };
-        match look(network, clock, given, point as usize, &view, &self.marks, &mut self.gates) {
+        match look(
+            network,
+            clock,
+            given,
+            point as usize,
+            &view,
+            &self.marks,
+            &mut self.gates,
+        ) {
             Lead::Unmarked(needed) => {
                 let waits = self.is_waiting(needed.saturating_sub(1));
                 let depth = self.stack.len();
