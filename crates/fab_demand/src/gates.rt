@@ -137,6 +137,7 @@ impl Gates {
         if place < self.kept.len() {
             self.kept[place] = gate;
         } else {
+            // The first one: it stands at all places.
             let _ = self.kept.resize(PLACES, gate);
         }
     }
