@@ -21,7 +21,7 @@ use Rattle.fab_demand.specs.Gates.{AreGates}
 use Rattle.fab_demand.specs.inner.Beside.{KnowsMore}
 use Rattle.fab_demand.specs.inner.Looking.{Finds}
 use Rattle.fab_demand.specs.Search.{asked_of, left_of, unset_count, AreWaiting, Closes, HasRoom, IsKeeping, IsResting, IsSearching}
-use Rattle.fab_demand.proofs.Gates.{gates_stay, no_gates}
+use Rattle.fab_demand.proofs.KeptGates.{gates_stay, no_gates}
 use Rattle.fab_demand.proofs.Lists.{bool_there, get_other, get_within, mark_stays, not_both, unset_fewer}
 use Rattle.fab_demand.proofs.Steps.{keep_looked, keep_more, known_above, known_looked, known_more, led_above, led_looked, led_more, ring_enough}
 use Rattle.fab_demand.proofs.Waiting.{last_waits, wait_asks, wait_looked, waits_fewer, waits_more}

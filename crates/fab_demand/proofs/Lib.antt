@@ -1,6 +1,6 @@
 pub mod Lists
 mod Growing
-mod Gates
+mod KeptGates
 mod Closing
 mod Steps
 mod Waiting

@@ -1,4 +1,4 @@
-use Rattle.fab_demand.proofs.Gates.{gates_more}
+use Rattle.fab_demand.proofs.KeptGates.{gates_more}
 use Rattle.fab_demand.proofs.gates.Gates.keep.Goals as goal
 
 pub returns-clause-gates : goal.returns-clause-gates

@@ -4,7 +4,7 @@ use Rattle.fab_network.specs.Passes.{kept_tern}
 use Rattle.fab_demand.specs.Search.{IsSearching}
 use Rattle.fab_demand.proofs.Asking.{GoesOn, keep_goes_on, know_goes_on, lead_goes_on, led_inside, top, top_inside, wait_goes_on}
 use Rattle.fab_demand.proofs.Finding.{finds_of}
-use Rattle.fab_demand.proofs.Gates.{finding, finding_room, finding_searching, gates_same}
+use Rattle.fab_demand.proofs.KeptGates.{finding, finding_room, finding_searching, gates_same}
 use Rattle.fab_demand.proofs.search.Search.step.Goals as goal
 
 pub look-requires-clause-gates : goal.look-requires-clause-gates
@@ -42,8 +42,8 @@ keep-requires-clause-done c = (top c.args.network.now c.args.clock (kept_tern c.
 
 found_needed : (c : goal.After-wait) → IsSearching c.args.network.now c.args.clock (kept_tern c.args.given.now) (finding c.args.self.now c.look.new.gates)
 found_needed c =
-    finding_searching c.args.self.now c.look.new.gates c.args.network.now c.args.clock (kept_tern c.args.given.now) c.deref.result.now c.deref-2.result.now
-    c.deref-3.result.now c.deref.ensures.value c.deref-2.ensures.value c.deref-3.ensures.value c.requires.searching c.in-Unmarked.ensures.gates
+    finding_searching c.args.self.now c.look.new.gates c.args.network.now c.args.clock (kept_tern c.args.given.now) c.args.network.now.trees.items
+    c.deref.result.now c.deref-2.result.now c.deref-3.result.now refl c.deref.ensures.value c.deref-2.ensures.value c.deref-3.ensures.value c.requires.searching c.in-Unmarked.ensures.gates
 
 needs : (c : goal.After-wait) → GoesOn c.args.network.now c.args.clock (kept_tern c.args.given.now) (finding c.args.self.now c.look.new.gates) c.wait.new.self
 needs c =
@@ -64,8 +64,8 @@ returns-in-Unmarked-clause-falls c = (needs c).falls
 
 found_known : (c : goal.After-know) → IsSearching c.args.network.now c.args.clock (kept_tern c.args.given.now) (finding c.args.self.now c.look.new.gates)
 found_known c =
-    finding_searching c.args.self.now c.look.new.gates c.args.network.now c.args.clock (kept_tern c.args.given.now) c.deref.result.now c.deref-2.result.now
-    c.deref-3.result.now c.deref.ensures.value c.deref-2.ensures.value c.deref-3.ensures.value c.requires.searching c.in-Known.ensures.gates
+    finding_searching c.args.self.now c.look.new.gates c.args.network.now c.args.clock (kept_tern c.args.given.now) c.args.network.now.trees.items
+    c.deref.result.now c.deref-2.result.now c.deref-3.result.now refl c.deref.ensures.value c.deref-2.ensures.value c.deref-3.ensures.value c.requires.searching c.in-Known.ensures.gates
 
 knows : (c : goal.After-know) → GoesOn c.args.network.now c.args.clock (kept_tern c.args.given.now) (finding c.args.self.now c.look.new.gates) c.know.new.self
 knows c =
@@ -91,8 +91,8 @@ returns-in-Known-clause-falls c = (knows c).falls
 
 found_led : (c : goal.After-follow) → IsSearching c.args.network.now c.args.clock (kept_tern c.args.given.now) (finding c.args.self.now c.look.new.gates)
 found_led c =
-    finding_searching c.args.self.now c.look.new.gates c.args.network.now c.args.clock (kept_tern c.args.given.now) c.deref.result.now c.deref-2.result.now
-    c.deref-3.result.now c.deref.ensures.value c.deref-2.ensures.value c.deref-3.ensures.value c.requires.searching c.in-Point.ensures.gates
+    finding_searching c.args.self.now c.look.new.gates c.args.network.now c.args.clock (kept_tern c.args.given.now) c.args.network.now.trees.items
+    c.deref.result.now c.deref-2.result.now c.deref-3.result.now refl c.deref.ensures.value c.deref-2.ensures.value c.deref-3.ensures.value c.requires.searching c.in-Point.ensures.gates
 
 follows : (c : goal.After-follow) → GoesOn c.args.network.now c.args.clock (kept_tern c.args.given.now) (finding c.args.self.now c.look.new.gates) c.follow.new.self
 follows c =
@@ -119,8 +119,8 @@ returns-in-Point-clause-falls c = (follows c).falls
 
 found_own : (c : goal.After-keep) → IsSearching c.args.network.now c.args.clock (kept_tern c.args.given.now) (finding c.args.self.now c.look.new.gates)
 found_own c =
-    finding_searching c.args.self.now c.look.new.gates c.args.network.now c.args.clock (kept_tern c.args.given.now) c.deref.result.now c.deref-2.result.now
-    c.deref-3.result.now c.deref.ensures.value c.deref-2.ensures.value c.deref-3.ensures.value c.requires.searching c.in-Own.ensures.gates
+    finding_searching c.args.self.now c.look.new.gates c.args.network.now c.args.clock (kept_tern c.args.given.now) c.args.network.now.trees.items
+    c.deref.result.now c.deref-2.result.now c.deref-3.result.now refl c.deref.ensures.value c.deref-2.ensures.value c.deref-3.ensures.value c.requires.searching c.in-Own.ensures.gates
 
 keeps : (c : goal.After-keep) → GoesOn c.args.network.now c.args.clock (kept_tern c.args.given.now) (finding c.args.self.now c.look.new.gates) c.keep.new.self
 keeps c =

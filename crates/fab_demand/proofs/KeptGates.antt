@@ -3,11 +3,15 @@ use Rattle.std.proofs.Common.{◌≡◌, ◌⊎◌, ℕ, zero, suc, ◌<◌, ◌
 use Rattle.std.proofs.Common.{slice_get, slice_set}
 use Rattle.std.proofs.lemmas.Bool.{cases_eq}
 use Rattle.fab_ternary.specs.declared.Tern.{Tern}
+use Rattle.fab_compiled.specs.declared.leads.Lead.{Lead}
+use Rattle.fab_compiled.specs.declared.leads.Lead.TheVariants.{Known as LeadKnown, Point, Own, Unmarked}
 use Rattle.fab_compiled.specs.declared.tree.Tree.{Tree}
 use Rattle.fab_compiled.specs.Leading.{PointTerns}
 use Rattle.fab_network.specs.declared.network.Clock.{Clock}
 use Rattle.fab_network.specs.declared.network.Network.{Network}
 use Rattle.fab_network.specs.declared.network.Source.{Source}
+use Rattle.fab_network.specs.Leading.{LeadsTo}
+use Rattle.fab_network.specs.Network.{source_tern}
 use Rattle.fab_demand.specs.declared.gates.Gate.{Gate}
 use Rattle.fab_demand.specs.declared.gates.Gate.TheVariants.{Known, Depends}
 use Rattle.fab_demand.specs.declared.gates.Gates.{Gates}
@@ -80,7 +84,8 @@ gates_same gates trees other_trees terns other_terns leads other_leads marks oth
 
 module _ (trees : List Tree) (terns : List Tern) (leads : List ℕ) (marks : List Bool) where
   pub no_gates : (gates : List KeptGate) → gates ≡ [] → AreGates trees terns leads marks gates
-  no_gates gates none place kept at = let e : slice_get {A = KeptGate} [] place ≡ Some kept = ap (λ (xs : List KeptGate). slice_get xs place) (sym none) ∙ at in cc
+  no_gates [] none place kept at = cc
+  no_gates (one ∷ gates) none place kept at = cc
 
   -- one more, in place of another
   pub gates_more : (old new : List KeptGate) (gate : KeptGate) →
@@ -92,6 +97,20 @@ module _ (trees : List Tree) (terns : List Tern) (leads : List ℕ) (marks : Lis
         | inr before ↦ are before.0 kept before.1
       ]
 
+-- ---- where a gate leads
+
+module _ (trees : List Tree) (terns : List Tern) (leads : List ℕ) (marks : List Bool) (source : Source) where
+  -- a gate that leads to a point or to itself
+  pub gate_depends_by : (lead : Lead) → LeadsTo terns leads marks (λ t. source_tern trees t source) lead → ((point : ℕ) × (lead ≡ Point point)) ⊎ (lead ≡ Own) →
+      IsGate trees terns leads marks source Depends
+  gate_depends_by (LeadKnown b) h (inl e) = let is : LeadKnown b ≡ Point e.0 = e.1 in cc
+  gate_depends_by (LeadKnown b) h (inr e) = cc
+  gate_depends_by (Point lead) h is = λ t u at_t follow_t at_u follow_u agree.
+      h.0 t at_t follow_t ∙ ap t (sym h.1.2) ∙ sym (follow_t h.1.0 h.1.1) ∙ agree h.1.0 h.1.1 ∙ follow_u h.1.0 h.1.1 ∙ ap u h.1.2 ∙ sym (h.0 u at_u follow_u)
+  gate_depends_by Own h is = λ t u at_t follow_t at_u follow_u agree. h t u at_t at_u agree
+  gate_depends_by (Unmarked point) h (inl e) = let is : Unmarked point ≡ Point e.0 = e.1 in cc
+  gate_depends_by (Unmarked point) h (inr e) = cc
+
 -- ---- a search
 
 -- a search that has found more of gates
@@ -102,13 +121,13 @@ module _ (search : Search) (gates : Gates) where
   pub finding_room : HasRoom search → HasRoom finding
   finding_room room = record { done = room.done; own = room.own; own_room = room.own_room; stack = room.stack; stack_room = room.stack_room }
 
-  pub finding_searching : (network : Network) (clock : Clock) (given : PointTerns) (terns : List Tern) (leads : List ℕ) (marks : List Bool) →
-      terns ≡ search.terns.items → leads ≡ search.leads.items → marks ≡ search.marks.items → IsSearching network clock given search →
-      AreGates network.trees.items terns leads marks gates.kept.items → IsSearching network clock given finding
-  finding_searching network clock given terns leads marks e f g searching are = record {
+  pub finding_searching : (network : Network) (clock : Clock) (given : PointTerns) (trees : List Tree) (terns : List Tern) (leads : List ℕ) (marks : List Bool) →
+      trees ≡ network.trees.items → terns ≡ search.terns.items → leads ≡ search.leads.items → marks ≡ search.marks.items →
+      IsSearching network clock given search → AreGates trees terns leads marks gates.kept.items → IsSearching network clock given finding
+  finding_searching network clock given trees terns leads marks d e f g searching are = record {
     looked = searching.looked;
     room = finding_room searching.room;
     marked = searching.marked;
     waiting = searching.waiting;
-    gates = gates_same gates.kept.items network.trees.items network.trees.items terns search.terns.items leads search.leads.items marks search.marks.items refl e f g are;
+    gates = gates_same gates.kept.items trees network.trees.items terns search.terns.items leads search.leads.items marks search.marks.items d e f g are;
   }
