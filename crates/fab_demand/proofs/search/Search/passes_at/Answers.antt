@@ -1,4 +1,4 @@
-use Rattle.std.proofs.Common.{refl, sym}
+use Rattle.std.proofs.Common.{sym}
 use Rattle.fab_demand.proofs.KeptGates.{finding_searching, gates_same}
 use Rattle.fab_demand.proofs.search.Search.passes_at.Goals as goal
 
