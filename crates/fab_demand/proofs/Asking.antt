@@ -256,12 +256,3 @@ rests network clock given search searching none = record {
       (λ q m n. let listed = searching.waiting.all q m n in absurd (omega (arith, listed.1, ap length none)));
   stack = none;
 }
-
-pub ends_keeping : (network : Network) (clock : Clock) (given : PointTerns) (search : Search) → IsSearching network clock given search → IsResting search →
-    IsKeeping search
-ends_keeping network clock given search searching resting = record { whole = searching.looked.whole; room = searching.room; resting = resting }
-
-pub ends_asked : (network : Network) (clock : Clock) (given : PointTerns) (search : Search) → IsSearching network clock given search → IsResting search →
-    IsAsked network clock given (asked_of search)
-ends_asked network clock given search searching resting = subst (λ (d : List Bool). IsLooked network clock given (asked_of search) d) resting.done
-    searching.looked

@@ -4,7 +4,6 @@ use Rattle.fab_systems_laws.specs.Ternary.{no, yes, unknown, known, IsBelow}
 use Rattle.fab_systems_laws.specs.Ternary.{Tern as PlainTern}
 use Rattle.fab_ternary.specs.declared.Tern.{Tern}
 use Rattle.fab_ternary.specs.Terns.{plain_tern, is_known}
-use Rattle.std.proofs.lemmas.Bool.{false≢true}
 use Rattle.fab_ternary_laws.specs.Shown.{through}
 use Rattle.fab_compiled.specs.declared.leads.Lead.TheVariants.{Known, Own}
 use Rattle.fab_compiled.specs.declared.tree.Tree.{Tree}
@@ -17,14 +16,12 @@ use Rattle.fab_network.specs.declared.network.Source.{Source}
 use Rattle.fab_network.specs.Network.{source_tern, IsFitDrive}
 use Rattle.fab_network.proofs.Kept.{known_below}
 use Rattle.std.specs.Prelude.{IfSome}
-use Rattle.fab_demand.specs.declared.gates.Gate.TheVariants.{Known as GateKnown, Depends}
 use Rattle.fab_demand.specs.declared.others.Bits.{Bits}
 use Rattle.fab_demand.specs.declared.others.Together.{Together}
 use Rattle.fab_demand.specs.declared.registers.Span.{Span}
 use Rattle.fab_compiled.specs.declared.parts.Part.{Part}
 use Rattle.fab_demand.specs.declared.search.Search.{Search}
 use Rattle.fab_demand.specs.Asked.{Asked, AsksMore, IsPossible}
-use Rattle.fab_demand.specs.Gates.{IsGate}
 use Rattle.fab_demand.specs.inner.Beside.{drive_of, AreAlike, AreFitBits, IsBeside, IsBitDrive, IsBitOfPart, IsClosedAs, IsDriveOf, IsSpanAsked, IsSpanOf, KnowsMore, TellsGate, TellsTogether}
 use Rattle.fab_demand.specs.inner.Looking.{Finds}
 use Rattle.fab_compiled.specs.Parts.{TellsBits}
@@ -44,16 +41,6 @@ some_same a b e = cc
 known_is : (b : Bool) → is_known (known b) ≡ true
 known_is true = refl
 known_is false = refl
-
--- the same of equal lists
-pub tells_same : (source : Source) (part : Part) (terns other_terns : List Tern) (leads other_leads : List ℕ) (marks other_marks : List Bool)
-    (trees other_trees : List Tree) → terns ≡ other_terns → leads ≡ other_leads → marks ≡ other_marks → trees ≡ other_trees →
-    TellsBits terns leads marks (bits_of_source trees source) part → TellsBits other_terns other_leads other_marks (bits_of_source other_trees source) part
-tells_same source part terns other_terns leads other_leads marks other_marks trees other_trees e f g h tells =
-    subst (λ (xs : List Tree). TellsBits other_terns other_leads other_marks (bits_of_source xs source) part) h
-    (subst (λ (xs : List Bool). TellsBits other_terns other_leads xs (bits_of_source trees source) part) g
-    (subst (λ (xs : List ℕ). TellsBits other_terns xs marks (bits_of_source trees source) part) f
-    (subst (λ (xs : List Tern). TellsBits xs leads marks (bits_of_source trees source) part) e tells)))
 
 -- what is told of a gate and of a part stays true where more is known
 pub gate_later : (trees : List Tree) (old new : Asked) → AsksMore old new → KnowsMore old new → (gate : Option Source) (passes : Bool) →
@@ -200,24 +187,6 @@ bit_is drive found bits is alike =
 pub some_map : {A : Type 0} (r : Option A) (P R : A → Type 0) → IfSome r P → ((v : A) → P v → R v) → IfSome r R
 some_map None P R p f = tt
 some_map (Some v) P R p f = f v p
-
--- what is told of a gate, by what it is
-module _ (trees : List Tree) (terns : List Tern) (leads : List ℕ) (marks : List Bool) (gate : Source) where
-  pub gate_known : (passes : Bool) → IsGate trees terns leads marks gate (GateKnown true) → TellsGate trees terns leads marks (Some gate) passes
-  gate_known passes h = (λ is t above. h t above, λ t u at_t follow_t at_u follow_u agree. h t at_t ∙ sym (h u at_u))
-
-  pub gate_depends : IsGate trees terns leads marks gate Depends → TellsGate trees terns leads marks (Some gate) false
-  gate_depends h = (λ is. absurd (false≢true is), h)
-
--- the same of equal lists
-pub gate_same : (gate : Option Source) (passes : Bool) (terns other_terns : List Tern) (leads other_leads : List ℕ) (marks other_marks : List Bool)
-    (trees other_trees : List Tree) → terns ≡ other_terns → leads ≡ other_leads → marks ≡ other_marks → trees ≡ other_trees →
-    TellsGate trees terns leads marks gate passes → TellsGate other_trees other_terns other_leads other_marks gate passes
-gate_same gate passes terns other_terns leads other_leads marks other_marks trees other_trees e f g h tells =
-    subst (λ (xs : List Tree). TellsGate xs other_terns other_leads other_marks gate passes) h
-    (subst (λ (xs : List Bool). TellsGate trees other_terns other_leads xs gate passes) g
-    (subst (λ (xs : List ℕ). TellsGate trees other_terns xs marks gate passes) f
-    (subst (λ (xs : List Tern). TellsGate trees xs leads marks gate passes) e tells)))
 
 -- all that the bits of a marked part need has been asked for
 pub part_asked : (trees : List Tree) (asked : Asked) (source : Source) (part : Part) (span : Span) →

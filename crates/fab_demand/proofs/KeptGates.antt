@@ -1,7 +1,5 @@
 -- What gates are found to be.
-use Rattle.std.proofs.Common.{◌≡◌, ◌⊎◌, ℕ, zero, suc, ◌<◌, ◌++◌, Bool, List, [], ◌∷◌, Some, length, take, replicate, sym, ap, ◌∙◌, subst, inl, inr}
-use Rattle.std.proofs.Common.{slice_get, slice_set}
-use Rattle.std.proofs.lemmas.Bool.{cases_eq}
+use Rattle.std.proofs.Common.{◌≡◌, ◌⊎◌, ℕ, Bool, List, [], ◌∷◌, Some, sym, ap, ◌∙◌, subst, inl, inr, slice_get}
 use Rattle.fab_ternary.specs.declared.Tern.{Tern}
 use Rattle.fab_compiled.specs.declared.leads.Lead.{Lead}
 use Rattle.fab_compiled.specs.declared.leads.Lead.TheVariants.{Known as LeadKnown, Point, Own, Unmarked}
@@ -21,7 +19,6 @@ use Rattle.fab_demand.specs.Asked.{Asked, AsksMore, IsPossible}
 use Rattle.fab_demand.specs.Gates.{AreGates, IsGate}
 use Rattle.fab_demand.specs.Search.{HasRoom, IsSearching}
 use Rattle.fab_demand.specs.inner.Beside.{KnowsMore}
-use Rattle.fab_demand.proofs.Lists.{get_other, get_same}
 
 -- ---- more and more
 
@@ -36,39 +33,6 @@ module _ (trees : List Tree) (old new : Asked) (more : AsksMore old new) (above 
 
   pub gates_stay : (gates : List KeptGate) → AreGates trees old.terns old.leads old.marks gates → AreGates trees new.terns new.leads new.marks gates
   gates_stay gates are place kept at = gate_stays kept.source kept.gate (are place kept at)
-
--- ---- lists of what is kept
-
--- this one, or one of these
-abbrev pub IsOneOf : KeptGate → List KeptGate → KeptGate → Type 0
-IsOneOf gate old kept = (kept ≡ gate) ⊎ ((before : ℕ) × (slice_get old before ≡ Some kept))
-
-same_gate : (kept gate : KeptGate) → Some gate ≡ Some kept → kept ≡ gate
-same_gate kept gate e = cc
-
-pub set_one : (old : List KeptGate) (k : ℕ) (gate : KeptGate) → k < length old → (place : ℕ) (kept : KeptGate) → slice_get (slice_set old k gate) place ≡ Some kept →
-    IsOneOf gate old kept
-set_one old k gate l place kept at =
-    elim (cases_eq place k) [
-      | inl e ↦ inl (same_gate kept gate (sym (get_same old k gate l) ∙ ap (slice_get (slice_set old k gate)) (sym e) ∙ at))
-      | inr n ↦ inr (place, sym (get_other old k gate place n) ∙ at)
-    ]
-
-filled_one : (count : ℕ) (gate : KeptGate) (place : ℕ) (kept : KeptGate) → slice_get (replicate count gate) place ≡ Some kept → kept ≡ gate
-filled_one zero gate place kept at = cc
-filled_one (suc count) gate zero kept at = same_gate kept gate at
-filled_one (suc count) gate (suc place) kept at = filled_one count gate place kept at
-
-pub longer_one : (n count : ℕ) (old : List KeptGate) (gate : KeptGate) (place : ℕ) (kept : KeptGate) →
-    slice_get (take n old ++ replicate count gate) place ≡ Some kept → IsOneOf gate old kept
-longer_one zero count old gate place kept at = inl (filled_one count gate place kept at)
-longer_one (suc n) count [] gate place kept at = inl (filled_one count gate place kept at)
-longer_one (suc n) count (one ∷ old) gate zero kept at = inr (0, at)
-longer_one (suc n) count (one ∷ old) gate (suc place) kept at =
-    elim (longer_one n count old gate place kept at) [
-      | inl e ↦ inl e
-      | inr before ↦ inr (suc before.0, before.1)
-    ]
 
 -- ---- what is kept
 
@@ -89,7 +53,7 @@ module _ (trees : List Tree) (terns : List Tern) (leads : List ℕ) (marks : Lis
 
   -- one more, in place of another
   pub gates_more : (old new : List KeptGate) (gate : KeptGate) →
-      ((place : ℕ) (kept : KeptGate) → slice_get new place ≡ Some kept → IsOneOf gate old kept) →
+      ((place : ℕ) (kept : KeptGate) → slice_get new place ≡ Some kept → (kept ≡ gate) ⊎ ((before : ℕ) × (slice_get old before ≡ Some kept))) →
       IsGate trees terns leads marks gate.source gate.gate → AreGates trees terns leads marks old → AreGates trees terns leads marks new
   gates_more old new gate either is are place kept at =
       elim (either place kept at) [
