@@ -17,7 +17,7 @@ IsGate trees terns leads marks source Depends =
     (t u : PointTerns) → AreAbove terns leads t → FollowLeads leads marks t → AreAbove terns leads u → FollowLeads leads marks u → AgreeOnMarked marks t u →
     source_tern trees t source ≡ source_tern trees u source
 
--- What is kept of gates is told of them.
+-- What is kept of gates is right.
 abbrev pub AreGates : List Tree → List Tern → List ℕ → (marks : List Bool) → List KeptGate → Type 0
 AreGates trees terns leads marks gates =
     (place : ℕ) (kept : KeptGate) → slice_get gates place ≡ Some kept → IsGate trees terns leads marks kept.source kept.gate

@@ -14,7 +14,7 @@ use fab_network::{Source, lead_of_source};
 use fab_plans::are_found_together;
 use std::alloc::Global;
 
-/// What so many gates are is kept at a time.
+/// Of how many gates it is kept at a time what they are.
 const PLACES: usize = 64;
 
 /// What a gate is, as long as nothing known is denied.
@@ -145,7 +145,11 @@ impl Gates {
 
 // The place of a gate.
 fn place_of(source: Source) -> usize {
-    source.tree.wrapping_add(source.first) as usize % PLACES
+    let sum = source
+        .tree
+        .wrapping_add(source.first)
+        .wrapping_add(source.bit);
+    sum as usize % PLACES
 }
 
 // Whether a gate takes long.
