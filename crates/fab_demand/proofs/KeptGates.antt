@@ -85,8 +85,8 @@ module _ (search : Search) (gates : Gates) where
   pub finding_room : HasRoom search → HasRoom finding
   finding_room room = record { done = room.done; own = room.own; own_room = room.own_room; stack = room.stack; stack_room = room.stack_room }
 
-  pub finding_searching : (network : Network) (clock : Clock) (given : PointTerns) (trees : List Tree) (terns : List Tern) (leads : List ℕ) (marks : List Bool) →
-      trees ≡ network.trees.items → terns ≡ search.terns.items → leads ≡ search.leads.items → marks ≡ search.marks.items →
+  pub finding_searching : (network : Network) (clock : Clock) (given : PointTerns) (trees : List Tree) (terns : List Tern) (leads : List ℕ)
+      (marks : List Bool) → trees ≡ network.trees.items → terns ≡ search.terns.items → leads ≡ search.leads.items → marks ≡ search.marks.items →
       IsSearching network clock given search → AreGates trees terns leads marks gates.kept.items → IsSearching network clock given finding
   finding_searching network clock given trees terns leads marks d e f g searching are = record {
     looked = searching.looked;

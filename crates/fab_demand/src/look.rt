@@ -135,7 +135,8 @@ fn latch_lead(
     requires few { length view.now.leads.now ≤ 2 ^ 32 }
     requires marks { length marks.now ≡ length view.now.leads.now }
     requires gates { AreGates trees.now view.now.terns.now view.now.leads.now marks.now gates.old.kept.items }
-    ensures finds { (clock : Clock) → Finds trees.now clock (plain_tern given) view.now.terns.now view.now.leads.now marks.now (Some (Hold gate latched)) result }
+    ensures finds { (clock : Clock) →
+        Finds trees.now clock (plain_tern given) view.now.terns.now view.now.leads.now marks.now (Some (Hold gate latched)) result }
     ensures gates { AreGates trees.now view.now.terns.now view.now.leads.now marks.now gates.new.kept.items }
 {
     match gates.tell(trees, gate, view, marks) {

@@ -24,7 +24,8 @@ keeps : (c : goal.After-keep) (clock : Clock) (given : PointTerns) → IsSearchi
     GoesOn c.args.network.now clock given c.args.self.now c.keep.new.self
 keeps c clock given searching =
     keep_is_closed c.args.network.now clock given c.args.self.now c.wait.new.self c.keep.new.self searching c.requires.points c.args.copies c.requires.tells
-    c.args.other c.in-Some.from c.in-Some.ensures c.wait.ensures.asked c.wait.ensures.done c.wait.ensures.stack c.wait.ensures.gates c.wait.ensures.room c.keep.ensures
+    c.args.other c.in-Some.from c.in-Some.ensures c.wait.ensures.asked c.wait.ensures.done c.wait.ensures.stack c.wait.ensures.gates c.wait.ensures.room
+    c.keep.ensures
 
 pub returns-then-copies-clause-searching : goal.returns-then-copies-clause-searching
 returns-then-copies-clause-searching c clock given searching = (leads c clock given searching).searching

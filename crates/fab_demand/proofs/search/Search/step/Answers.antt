@@ -43,12 +43,14 @@ keep-requires-clause-done c = (top c.args.network.now c.args.clock (kept_tern c.
 found_needed : (c : goal.After-wait) → IsSearching c.args.network.now c.args.clock (kept_tern c.args.given.now) (finding c.args.self.now c.look.new.gates)
 found_needed c =
     finding_searching c.args.self.now c.look.new.gates c.args.network.now c.args.clock (kept_tern c.args.given.now) c.args.network.now.trees.items
-    c.deref.result.now c.deref-2.result.now c.deref-3.result.now refl c.deref.ensures.value c.deref-2.ensures.value c.deref-3.ensures.value c.requires.searching c.in-Unmarked.ensures.gates
+    c.deref.result.now c.deref-2.result.now c.deref-3.result.now refl c.deref.ensures.value c.deref-2.ensures.value c.deref-3.ensures.value
+    c.requires.searching c.in-Unmarked.ensures.gates
 
 needs : (c : goal.After-wait) → GoesOn c.args.network.now c.args.clock (kept_tern c.args.given.now) (finding c.args.self.now c.look.new.gates) c.wait.new.self
 needs c =
     let unmarked = subst (λ (marks : List Bool). slice_get marks c.in-Unmarked.needed ≡ Some false) c.deref-3.ensures.value c.in-Unmarked.ensures.finds in
-    wait_goes_on c.args.network.now c.args.clock (kept_tern c.args.given.now) (finding c.args.self.now c.look.new.gates) c.wait.new.self (found_needed c) c.in-Unmarked.needed unmarked
+    wait_goes_on c.args.network.now c.args.clock (kept_tern c.args.given.now) (finding c.args.self.now c.look.new.gates) c.wait.new.self (found_needed c)
+    c.in-Unmarked.needed unmarked
     c.wait.ensures.asked c.wait.ensures.done c.wait.ensures.stack c.wait.ensures.gates c.wait.ensures.room
 
 pub returns-in-Unmarked-clause-searching : goal.returns-in-Unmarked-clause-searching
@@ -65,12 +67,13 @@ returns-in-Unmarked-clause-falls c = (needs c).falls
 found_known : (c : goal.After-know) → IsSearching c.args.network.now c.args.clock (kept_tern c.args.given.now) (finding c.args.self.now c.look.new.gates)
 found_known c =
     finding_searching c.args.self.now c.look.new.gates c.args.network.now c.args.clock (kept_tern c.args.given.now) c.args.network.now.trees.items
-    c.deref.result.now c.deref-2.result.now c.deref-3.result.now refl c.deref.ensures.value c.deref-2.ensures.value c.deref-3.ensures.value c.requires.searching c.in-Known.ensures.gates
+    c.deref.result.now c.deref-2.result.now c.deref-3.result.now refl c.deref.ensures.value c.deref-2.ensures.value c.deref-3.ensures.value
+    c.requires.searching c.in-Known.ensures.gates
 
 knows : (c : goal.After-know) → GoesOn c.args.network.now c.args.clock (kept_tern c.args.given.now) (finding c.args.self.now c.look.new.gates) c.know.new.self
 knows c =
-    know_goes_on c.args.network.now c.args.clock (kept_tern c.args.given.now) (finding c.args.self.now c.look.new.gates) (found_known c) c.requires.points c.args.point
-    c.requires.waits c.know.new.self c.in-Known.bit
+    know_goes_on c.args.network.now c.args.clock (kept_tern c.args.given.now) (finding c.args.self.now c.look.new.gates) (found_known c) c.requires.points
+    c.args.point c.requires.waits c.know.new.self c.in-Known.bit
     c.know.ensures.0 c.know.ensures.1
     (finds_of c.args.network.now.trees.items c.args.clock (kept_tern c.args.given.now c.args.point) (slice_get c.args.network.now.drives.items c.args.point)
     (Known c.in-Known.bit)
@@ -92,17 +95,19 @@ returns-in-Known-clause-falls c = (knows c).falls
 found_led : (c : goal.After-follow) → IsSearching c.args.network.now c.args.clock (kept_tern c.args.given.now) (finding c.args.self.now c.look.new.gates)
 found_led c =
     finding_searching c.args.self.now c.look.new.gates c.args.network.now c.args.clock (kept_tern c.args.given.now) c.args.network.now.trees.items
-    c.deref.result.now c.deref-2.result.now c.deref-3.result.now refl c.deref.ensures.value c.deref-2.ensures.value c.deref-3.ensures.value c.requires.searching c.in-Point.ensures.gates
+    c.deref.result.now c.deref-2.result.now c.deref-3.result.now refl c.deref.ensures.value c.deref-2.ensures.value c.deref-3.ensures.value
+    c.requires.searching c.in-Point.ensures.gates
 
-follows : (c : goal.After-follow) → GoesOn c.args.network.now c.args.clock (kept_tern c.args.given.now) (finding c.args.self.now c.look.new.gates) c.follow.new.self
+follows : (c : goal.After-follow) →
+    GoesOn c.args.network.now c.args.clock (kept_tern c.args.given.now) (finding c.args.self.now c.look.new.gates) c.follow.new.self
 follows c =
     let finds =
     (finds_of c.args.network.now.trees.items c.args.clock (kept_tern c.args.given.now c.args.point) (slice_get c.args.network.now.drives.items c.args.point)
     (Point c.in-Point.other)
     c.deref.result.now c.args.self.now.terns.items c.deref-2.result.now c.args.self.now.leads.items c.deref-3.result.now c.args.self.now.marks.items
     c.deref.ensures.value c.deref-2.ensures.value c.deref-3.ensures.value c.in-Point.ensures.finds) in
-    lead_goes_on c.args.network.now c.args.clock (kept_tern c.args.given.now) (finding c.args.self.now c.look.new.gates) (found_led c) c.requires.points c.args.point
-    c.requires.waits c.follow.new.self c.in-Point.other
+    lead_goes_on c.args.network.now c.args.clock (kept_tern c.args.given.now) (finding c.args.self.now c.look.new.gates) (found_led c) c.requires.points
+    c.args.point c.requires.waits c.follow.new.self c.in-Point.other
     (led_inside c.args.network.now c.args.clock (kept_tern c.args.given.now) c.args.self.now c.requires.searching c.in-Point.other finds.1)
     finds c.in-Point.ensures.registers c.follow.ensures.done c.follow.ensures.waits
 
@@ -120,12 +125,13 @@ returns-in-Point-clause-falls c = (follows c).falls
 found_own : (c : goal.After-keep) → IsSearching c.args.network.now c.args.clock (kept_tern c.args.given.now) (finding c.args.self.now c.look.new.gates)
 found_own c =
     finding_searching c.args.self.now c.look.new.gates c.args.network.now c.args.clock (kept_tern c.args.given.now) c.args.network.now.trees.items
-    c.deref.result.now c.deref-2.result.now c.deref-3.result.now refl c.deref.ensures.value c.deref-2.ensures.value c.deref-3.ensures.value c.requires.searching c.in-Own.ensures.gates
+    c.deref.result.now c.deref-2.result.now c.deref-3.result.now refl c.deref.ensures.value c.deref-2.ensures.value c.deref-3.ensures.value
+    c.requires.searching c.in-Own.ensures.gates
 
 keeps : (c : goal.After-keep) → GoesOn c.args.network.now c.args.clock (kept_tern c.args.given.now) (finding c.args.self.now c.look.new.gates) c.keep.new.self
 keeps c =
-    keep_goes_on c.args.network.now c.args.clock (kept_tern c.args.given.now) (finding c.args.self.now c.look.new.gates) (found_own c) c.requires.points c.args.point
-    c.requires.waits c.keep.new.self
+    keep_goes_on c.args.network.now c.args.clock (kept_tern c.args.given.now) (finding c.args.self.now c.look.new.gates) (found_own c) c.requires.points
+    c.args.point c.requires.waits c.keep.new.self
     (finds_of c.args.network.now.trees.items c.args.clock (kept_tern c.args.given.now c.args.point) (slice_get c.args.network.now.drives.items c.args.point) Own
     c.deref.result.now c.args.self.now.terns.items c.deref-2.result.now c.args.self.now.leads.items c.deref-3.result.now c.args.self.now.marks.items
     c.deref.ensures.value c.deref-2.ensures.value c.deref-3.ensures.value c.in-Own.ensures.finds)
