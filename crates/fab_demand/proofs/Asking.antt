@@ -13,12 +13,15 @@ use Rattle.fab_network.specs.declared.network.Clock.{Clock}
 use Rattle.fab_network.specs.declared.network.Drive.TheVariants.{Flop}
 use Rattle.fab_network.specs.declared.network.Network.{Network}
 use Rattle.fab_network.specs.declared.network.Source.{Source}
+use Rattle.fab_demand.specs.declared.gates.Gates.{Gates}
 use Rattle.fab_demand.specs.declared.search.Search.{Search}
 use Rattle.fab_demand.specs.Asked.{Asked, AsksMore, IsPossible}
 use Rattle.fab_demand.specs.Demand.{shown_of, IsAsked, IsKept, IsLooked, IsRegisterAsked}
+use Rattle.fab_demand.specs.Gates.{AreGates}
 use Rattle.fab_demand.specs.inner.Beside.{KnowsMore}
 use Rattle.fab_demand.specs.inner.Looking.{Finds}
 use Rattle.fab_demand.specs.Search.{asked_of, left_of, unset_count, AreWaiting, Closes, HasRoom, IsKeeping, IsResting, IsSearching}
+use Rattle.fab_demand.proofs.KeptGates.{gates_stay, no_gates}
 use Rattle.fab_demand.proofs.Lists.{bool_there, get_other, get_within, mark_stays, not_both, unset_fewer}
 use Rattle.fab_demand.proofs.Steps.{keep_looked, keep_more, known_above, known_looked, known_more, led_above, led_looked, led_more, ring_enough}
 use Rattle.fab_demand.proofs.Waiting.{last_waits, wait_asks, wait_looked, waits_fewer, waits_more}
@@ -66,10 +69,15 @@ module _ (network : Network) (clock : Clock) (given : PointTerns) (old new : Sea
         | inr n ↦ n
       ]
 
+  gates_on : AsksMore (asked_of old) (asked_of new) → KnowsMore (asked_of old) (asked_of new) → new.gates.kept.items ≡ old.gates.kept.items →
+      AreGates network.trees.items new.terns.items new.leads.items new.marks.items new.gates.kept.items
+  gates_on more above same = subst (AreGates network.trees.items new.terns.items new.leads.items new.marks.items) (sym same)
+      (gates_stay network.trees.items (asked_of old) (asked_of new) more above old.gates.kept.items searching.gates)
+
   pub wait_goes_on : (point : ℕ) → slice_get old.marks.items point ≡ Some false →
       asked_of new ≡ record (asked_of old) { marks = slice_set old.marks.items point true } → new.done.items ≡ old.done.items →
-      new.stack.items ≡ old.stack.items ++ point ∷ [] → HasRoom new → GoesOn network clock given old new
-  wait_goes_on point unmarked asked done stack room =
+      new.stack.items ≡ old.stack.items ++ point ∷ [] → new.gates.kept.items ≡ old.gates.kept.items → HasRoom new → GoesOn network clock given old new
+  wait_goes_on point unmarked asked done stack gates room =
       let marks : new.marks.items ≡ slice_set old.marks.items point true = ap (λ (a : Asked). a.marks) asked in
       let waits = not_done point unmarked in
       let next : Asked = record (asked_of old) { marks = slice_set old.marks.items point true } in
@@ -79,6 +87,9 @@ module _ (network : Network) (clock : Clock) (given : PointTerns) (old new : Sea
       (sym asked) looked in
       let waiting : AreWaiting (slice_set old.marks.items point true) old.done.items (old.stack.items ++ point ∷ []) =
       waits_more old.marks.items old.done.items old.stack.items point searching.waiting unmarked waits in
+      let more : AsksMore (asked_of old) (asked_of new) =
+      subst (AsksMore (asked_of old)) (sym asked) (wait_asks network clock given (asked_of old) old.done.items point searching.looked waits) in
+      let above : KnowsMore (asked_of old) (asked_of new) = λ t h. subst (λ (a : Asked). AreAbove a.terns a.leads t) asked h in
       record {
         searching = record {
           looked = subst (λ (d : List Bool). IsLooked network clock given (asked_of new) d) (sym done) asked_looked;
@@ -88,10 +99,11 @@ module _ (network : Network) (clock : Clock) (given : PointTerns) (old new : Sea
           waiting = subst (λ (m : List Bool). AreWaiting m new.done.items new.stack.items) (sym marks)
               (subst (λ (d : List Bool). AreWaiting (slice_set old.marks.items point true) d new.stack.items) (sym done)
               (subst (λ (s : List ℕ). AreWaiting (slice_set old.marks.items point true) old.done.items s) (sym stack) waiting));
+          gates = gates_on more above gates;
         };
-        more = subst (AsksMore (asked_of old)) (sym asked) (wait_asks network clock given (asked_of old) old.done.items point searching.looked waits);
+        more = more;
         falls = omega (arith, unset_fewer old.marks.items point unmarked, ap unset_count marks, ap unset_count done);
-        above = λ t h. subst (λ (a : Asked). AreAbove a.terns a.leads t) asked h;
+        above = above;
       }
 
   done_marked : (point : ℕ) → slice_get old.stack.items (length old.stack.items - 1) ≡ Some point → (q : ℕ) →
@@ -114,6 +126,8 @@ module _ (network : Network) (clock : Clock) (given : PointTerns) (old new : Sea
       let waiting : AreWaiting old.marks.items (slice_set old.done.items point true) (take (length old.stack.items - 1) old.stack.items) =
       waits_fewer old.marks.items old.done.items old.stack.items point searching.waiting last in
       let marked_first : (q : ℕ) → IsMarked (slice_set old.done.items point true) q → IsMarked old.marks.items q = λ q d. done_marked point last q d in
+      let more_now : AsksMore (asked_of old) (asked_of new) = subst (AsksMore (asked_of old)) (sym closes.asked) more in
+      let above_now : KnowsMore (asked_of old) (asked_of new) = λ t h. above t (subst (λ (a : Asked). AreAbove a.terns a.leads t) closes.asked h) in
       record {
         searching = record {
           looked = subst (λ (d : List Bool). IsLooked network clock given (asked_of new) d) (sym closes.done) asked_looked;
@@ -122,10 +136,11 @@ module _ (network : Network) (clock : Clock) (given : PointTerns) (old new : Sea
           waiting = subst (λ (m : List Bool). AreWaiting m new.done.items new.stack.items) (sym marks)
               (subst (λ (d : List Bool). AreWaiting old.marks.items d new.stack.items) (sym closes.done)
               (subst (λ (s : List ℕ). AreWaiting old.marks.items (slice_set old.done.items point true) s) (sym closes.stack) waiting));
+          gates = gates_on more_now above_now closes.gates;
         };
-        more = subst (AsksMore (asked_of old)) (sym closes.asked) more;
+        more = more_now;
         falls = omega (arith, unset_fewer old.done.items point waits, ap unset_count marks, ap unset_count closes.done);
-        above = λ t h. above t (subst (λ (a : Asked). AreAbove a.terns a.leads t) closes.asked h);
+        above = above_now;
       }
 
 -- a point to which a marked point is led
@@ -216,13 +231,21 @@ none_waiting marks done stack same none = record {
   all = λ q m n. absurd (not_both marks q m (ap (λ (xs : List Bool). slice_get xs q) (sym same) ∙ n));
 }
 
-pub begins : (network : Network) (clock : Clock) (given : PointTerns) (search : Search) → IsKeeping search → IsAsked network clock given (asked_of search) →
-    IsSearching network clock given search
-begins network clock given search keeping asked = record {
+-- nothing is known of gates when a question is asked
+pub begins : (network : Network) (clock : Clock) (given : PointTerns) (search : Search) (gates : Gates) → IsKeeping search →
+    IsAsked network clock given (asked_of search) → gates.kept.items ≡ [] → IsSearching network clock given (record search { gates = gates })
+begins network clock given search gates keeping asked none = record {
   looked = subst (λ (d : List Bool). IsLooked network clock given (asked_of search) d) (sym keeping.resting.done) asked;
-  room = keeping.room;
+  room = record {
+    done = keeping.room.done;
+    own = keeping.room.own;
+    own_room = keeping.room.own_room;
+    stack = keeping.room.stack;
+    stack_room = keeping.room.stack_room;
+  };
   marked = λ q d. subst (λ (m : List Bool). IsMarked m q) keeping.resting.done d;
   waiting = none_waiting search.marks.items search.done.items search.stack.items keeping.resting.done keeping.resting.stack;
+  gates = no_gates network.trees.items search.terns.items search.leads.items search.marks.items gates.kept.items none;
 }
 
 -- a search for which no point waits rests
@@ -233,12 +256,3 @@ rests network clock given search searching none = record {
       (λ q m n. let listed = searching.waiting.all q m n in absurd (omega (arith, listed.1, ap length none)));
   stack = none;
 }
-
-pub ends_keeping : (network : Network) (clock : Clock) (given : PointTerns) (search : Search) → IsSearching network clock given search → IsResting search →
-    IsKeeping search
-ends_keeping network clock given search searching resting = record { whole = searching.looked.whole; room = searching.room; resting = resting }
-
-pub ends_asked : (network : Network) (clock : Clock) (given : PointTerns) (search : Search) → IsSearching network clock given search → IsResting search →
-    IsAsked network clock given (asked_of search)
-ends_asked network clock given search searching resting = subst (λ (d : List Bool). IsLooked network clock given (asked_of search) d) resting.done
-    searching.looked

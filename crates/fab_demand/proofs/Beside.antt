@@ -4,9 +4,8 @@ use Rattle.fab_systems_laws.specs.Ternary.{no, yes, unknown, known, IsBelow}
 use Rattle.fab_systems_laws.specs.Ternary.{Tern as PlainTern}
 use Rattle.fab_ternary.specs.declared.Tern.{Tern}
 use Rattle.fab_ternary.specs.Terns.{plain_tern, is_known}
-use Rattle.std.proofs.lemmas.Bool.{false≢true}
 use Rattle.fab_ternary_laws.specs.Shown.{through}
-use Rattle.fab_compiled.specs.declared.leads.Lead.TheVariants.{Known, Point, Own}
+use Rattle.fab_compiled.specs.declared.leads.Lead.TheVariants.{Known, Own}
 use Rattle.fab_compiled.specs.declared.tree.Tree.{Tree}
 use Rattle.fab_compiled.specs.Leading.{PointTerns, AreAbove, AgreeOnMarked}
 use Rattle.fab_network.specs.declared.network.Clock.{Clock}
@@ -14,7 +13,6 @@ use Rattle.fab_network.specs.declared.network.Drive.{Drive}
 use Rattle.fab_network.specs.declared.network.Drive.TheVariants.{Flop}
 use Rattle.fab_network.specs.declared.network.Network.{Network}
 use Rattle.fab_network.specs.declared.network.Source.{Source}
-use Rattle.fab_network.specs.Leading.{LeadsTo}
 use Rattle.fab_network.specs.Network.{source_tern, IsFitDrive}
 use Rattle.fab_network.proofs.Kept.{known_below}
 use Rattle.std.specs.Prelude.{IfSome}
@@ -43,16 +41,6 @@ some_same a b e = cc
 known_is : (b : Bool) → is_known (known b) ≡ true
 known_is true = refl
 known_is false = refl
-
--- the same of equal lists
-pub tells_same : (source : Source) (part : Part) (terns other_terns : List Tern) (leads other_leads : List ℕ) (marks other_marks : List Bool)
-    (trees other_trees : List Tree) → terns ≡ other_terns → leads ≡ other_leads → marks ≡ other_marks → trees ≡ other_trees →
-    TellsBits terns leads marks (bits_of_source trees source) part → TellsBits other_terns other_leads other_marks (bits_of_source other_trees source) part
-tells_same source part terns other_terns leads other_leads marks other_marks trees other_trees e f g h tells =
-    subst (λ (xs : List Tree). TellsBits other_terns other_leads other_marks (bits_of_source xs source) part) h
-    (subst (λ (xs : List Bool). TellsBits other_terns other_leads xs (bits_of_source trees source) part) g
-    (subst (λ (xs : List ℕ). TellsBits other_terns xs marks (bits_of_source trees source) part) f
-    (subst (λ (xs : List Tern). TellsBits xs leads marks (bits_of_source trees source) part) e tells)))
 
 -- what is told of a gate and of a part stays true where more is known
 pub gate_later : (trees : List Tree) (old new : Asked) → AsksMore old new → KnowsMore old new → (gate : Option Source) (passes : Bool) →
@@ -164,9 +152,10 @@ module _ (network : Network) (clock : Clock) (given : PointTerns) (old mid new :
     (points : length network.drives.items ≡ length old.leads.items) (together : Together) (tells : TellsTogether network.trees.items (asked_of old) together)
     (other : ℕ) (found : Tern) (beside : IsBeside network together old.marks.items other found)
     (asked : asked_of mid ≡ record (asked_of old) { marks = slice_set old.marks.items other true }) (done : mid.done.items ≡ old.done.items)
-    (stack : mid.stack.items ≡ old.stack.items ++ other ∷ []) (room : HasRoom mid) (closes : IsClosedAs mid new other found) where
+    (stack : mid.stack.items ≡ old.stack.items ++ other ∷ []) (gates : mid.gates.kept.items ≡ old.gates.kept.items) (room : HasRoom mid)
+    (closes : IsClosedAs mid new other found) where
   waits : GoesOn network clock given old mid
-  waits = wait_goes_on network clock given old mid searching other beside.unmarked asked done stack room
+  waits = wait_goes_on network clock given old mid searching other beside.unmarked asked done stack gates room
 
   last : slice_get mid.stack.items (length mid.stack.items - 1) ≡ Some other
   last =
@@ -198,34 +187,6 @@ bit_is drive found bits is alike =
 pub some_map : {A : Type 0} (r : Option A) (P R : A → Type 0) → IfSome r P → ((v : A) → P v → R v) → IfSome r R
 some_map None P R p f = tt
 some_map (Some v) P R p f = f v p
-
--- what is told of a gate, by where it leads
-module _ (trees : List Tree) (terns : List Tern) (leads : List ℕ) (marks : List Bool) (gate : Source) where
-  abbrev gate_of : PointTerns → PlainTern
-  gate_of t = source_tern trees t gate
-
-  pub gate_known : (passes : Bool) → LeadsTo terns leads marks gate_of (Known true) → TellsGate trees terns leads marks (Some gate) passes
-  gate_known passes h = (λ is t above. h t above, λ t u at_t follow_t at_u follow_u agree. h t at_t ∙ sym (h u at_u))
-
-  pub gate_point : (lead : ℕ) → LeadsTo terns leads marks gate_of (Point lead) → TellsGate trees terns leads marks (Some gate) false
-  gate_point lead h = (
-    λ is. absurd (false≢true is),
-    λ t u at_t follow_t at_u follow_u agree.
-        h.0 t at_t follow_t ∙ ap t (sym h.1.2) ∙ sym (follow_t h.1.0 h.1.1) ∙ agree h.1.0 h.1.1 ∙ follow_u h.1.0 h.1.1 ∙ ap u h.1.2 ∙ sym (h.0 u at_u follow_u),
-  )
-
-  pub gate_own : LeadsTo terns leads marks gate_of Own → TellsGate trees terns leads marks (Some gate) false
-  gate_own h = (λ is. absurd (false≢true is), λ t u at_t follow_t at_u follow_u agree. h t u at_t at_u agree)
-
--- the same of equal lists
-pub gate_same : (gate : Option Source) (passes : Bool) (terns other_terns : List Tern) (leads other_leads : List ℕ) (marks other_marks : List Bool)
-    (trees other_trees : List Tree) → terns ≡ other_terns → leads ≡ other_leads → marks ≡ other_marks → trees ≡ other_trees →
-    TellsGate trees terns leads marks gate passes → TellsGate other_trees other_terns other_leads other_marks gate passes
-gate_same gate passes terns other_terns leads other_leads marks other_marks trees other_trees e f g h tells =
-    subst (λ (xs : List Tree). TellsGate xs other_terns other_leads other_marks gate passes) h
-    (subst (λ (xs : List Bool). TellsGate trees other_terns other_leads xs gate passes) g
-    (subst (λ (xs : List ℕ). TellsGate trees other_terns xs marks gate passes) f
-    (subst (λ (xs : List Tern). TellsGate trees xs leads marks gate passes) e tells)))
 
 -- all that the bits of a marked part need has been asked for
 pub part_asked : (trees : List Tree) (asked : Asked) (source : Source) (part : Part) (span : Span) →

@@ -49,7 +49,7 @@ module _ (network : Network) (clock : Clock) (given : PointTerns) (old mid new :
     (points : length network.drives.items ≡ length old.leads.items) (copies : Copies) (tells : TellsCopies network.trees.items (asked_of old) copies)
     (other from : ℕ) (is : IsCopy network copies old.marks.items other from)
     (asked : asked_of mid ≡ record (asked_of old) { marks = slice_set old.marks.items other true }) (done : mid.done.items ≡ old.done.items)
-    (stack : mid.stack.items ≡ old.stack.items ++ other ∷ []) (room : HasRoom mid) where
+    (stack : mid.stack.items ≡ old.stack.items ++ other ∷ []) (gates : mid.gates.kept.items ≡ old.gates.kept.items) (room : HasRoom mid) where
   abbrev trees : List Tree
   trees = network.trees.items
 
@@ -57,7 +57,7 @@ module _ (network : Network) (clock : Clock) (given : PointTerns) (old mid new :
   next = record { tree = copies.bits.source.tree; first = copies.bits.source.first; bit = is.bit }
 
   pub waits : GoesOn network clock given old mid
-  waits = wait_goes_on network clock given old mid searching other is.unmarked asked done stack room
+  waits = wait_goes_on network clock given old mid searching other is.unmarked asked done stack gates room
 
   last : slice_get mid.stack.items (length mid.stack.items - 1) ≡ Some other
   last =

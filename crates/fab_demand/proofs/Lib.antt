@@ -1,5 +1,6 @@
 pub mod Lists
 mod Growing
+mod KeptGates
 mod Closing
 mod Steps
 mod Waiting

@@ -9,6 +9,7 @@ use Rattle.fab_network.specs.declared.network.Network.{Network}
 use Rattle.fab_network.specs.Passes.{EachListed, IsListed}
 use Rattle.fab_demand.specs.Asked.{Asked, IsWhole}
 use Rattle.fab_demand.specs.Demand.{IsLooked}
+use Rattle.fab_demand.specs.Gates.{AreGates}
 use Rattle.fab_demand.specs.declared.search.Search.{Search}
 
 abbrev pub asked_of : Search → Asked
@@ -43,6 +44,7 @@ pub record Closes (old new : Search) (point : ℕ) (known : Asked) : Type 0 wher
   pub asked : asked_of new ≡ known
   pub done : new.done.items ≡ slice_set old.done.items point true
   pub stack : new.stack.items ≡ take (length old.stack.items - 1) old.stack.items
+  pub gates : new.gates.kept.items ≡ old.gates.kept.items
   pub room : HasRoom new
 
 -- these are the points that wait, each once
@@ -57,6 +59,7 @@ pub record IsSearching (network : Network) (clock : Clock) (given : PointTerns) 
   pub room : HasRoom search
   pub marked : (point : ℕ) → IsMarked search.done.items point → IsMarked search.marks.items point
   pub waiting : AreWaiting search.marks.items search.done.items search.stack.items
+  pub gates : AreGates network.trees.items search.terns.items search.leads.items search.marks.items search.gates.kept.items
 
 -- no point waits
 pub record IsResting (search : Search) : Type 0 where

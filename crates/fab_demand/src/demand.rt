@@ -75,6 +75,7 @@ impl Demand {
         ensures more { AsksMore self.old self.new }
         ensures marked { IsMarked self.new.marks point }
     {
+        self.search.gates.forget();
         self.search
             .ask(network, clock, given, &mut self.rows, point);
     }
@@ -90,6 +91,7 @@ impl Demand {
         ensures more { AsksMore self.old self.new }
         ensures source { IsSourceAsked network.now.trees.items self.new source }
     {
+        self.search.gates.forget();
         self.search
             .ask_source(network, clock, given, &mut self.rows, source);
     }
@@ -104,6 +106,7 @@ impl Demand {
         ensures more { AsksMore self.old self.new }
         ensures registers { AreRegistersAsked network.now clock self.new }
     {
+        self.search.gates.forget();
         self.search
             .ask_registers(network, clock, given, &mut self.rows);
     }

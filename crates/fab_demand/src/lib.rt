@@ -4,6 +4,7 @@
 mod copies;
 mod cycles;
 mod demand;
+mod gates;
 pub mod laws;
 mod look;
 mod others;

@@ -8,8 +8,10 @@ ghost use Rattle.fab_compiled.specs.declared.leads.Lead.TheVariants.{Own};
 ghost use Rattle.fab_network.specs.declared.network.Drive.TheVariants.{Flop, Hold};
 ghost use Rattle.fab_network.specs.Network.{AreFit, IsFitDrive, IsFitSource};
 ghost use Rattle.fab_network.specs.Passes.{kept_tern};
+ghost use Rattle.fab_demand.specs.Gates.{AreGates};
 ghost use Rattle.fab_demand.specs.inner.Looking.{lead_given, own_or_unmarked, Finds};
 
+use crate::gates::{Gate, Gates};
 use fab_compiled::{Lead, Tree, View};
 use fab_network::{Clock, Drive, Network, Source, lead_of_source};
 use fab_ternary::Tern;
@@ -22,6 +24,7 @@ pub(crate) fn look(
     point: usize,
     view: &View,
     marks: &[bool],
+    gates: &mut Gates,
 ) -> Lead
     requires fit { AreFit network.now.trees.items network.now.drives.items }
     requires points { length network.now.drives.items ≡ length view.now.leads.now }
@@ -30,12 +33,22 @@ pub(crate) fn look(
     requires few { length view.now.leads.now ≤ 2 ^ 32 }
     requires marks { length marks.now ≡ length view.now.leads.now }
     requires within { point < length view.now.leads.now }
+    requires gates { AreGates network.now.trees.items view.now.terns.now view.now.leads.now marks.now gates.old.kept.items }
     ensures finds { Finds network.now.trees.items clock (kept_tern given.now point) view.now.terns.now view.now.leads.now marks.now
         (slice_get network.now.drives.items point) result }
     ensures registers { (next : Source) → slice_get network.now.drives.items point ≡ Some (Flop clock next) → result ≡ Own }
+    ensures gates { AreGates network.now.trees.items view.now.terns.now view.now.leads.now marks.now gates.new.kept.items }
 {
     match network.drives.get(point) {
-        Some(drive) => look_by(&network.trees, *drive, clock, given[point], view, marks),
+        Some(drive) => look_by(
+            &network.trees,
+            *drive,
+            clock,
+            given[point],
+            view,
+            marks,
+            gates,
+        ),
         None => Lead::Own,
     }
 }
@@ -48,20 +61,25 @@ fn look_by(
     given: Tern,
     view: &View,
     marks: &[bool],
+    gates: &mut Gates,
 ) -> Lead
     requires fit { IsFitDrive trees.now (length view.now.leads.now) drive }
     requires view { IsView view.now.terns.now view.now.leads.now }
     requires few { length view.now.leads.now ≤ 2 ^ 32 }
     requires marks { length marks.now ≡ length view.now.leads.now }
+    requires gates { AreGates trees.now view.now.terns.now view.now.leads.now marks.now gates.old.kept.items }
     ensures finds { Finds trees.now clock (plain_tern given) view.now.terns.now view.now.leads.now marks.now (Some drive) result }
     ensures registers { (next : Source) → drive ≡ Flop clock next → result ≡ Own }
+    ensures gates { AreGates trees.now view.now.terns.now view.now.leads.now marks.now gates.new.kept.items }
 {
     match drive {
         Drive::Given => given_lead(given),
         Drive::Flop(own, _) => flop_lead(own, clock, given),
         Drive::Same(other) => same_lead(other, view, marks),
         Drive::Value(source) => lead_of_source(trees, source, view, marks),
-        Drive::Hold(gate, latched) => latch_lead(trees, gate, latched, given, view, marks),
+        Drive::Hold(gate, latched) => {
+            latch_lead(trees, gate, latched, given, view, marks, gates)
+        }
     }
 }
 
@@ -109,21 +127,23 @@ fn latch_lead(
     given: Tern,
     view: &View,
     marks: &[bool],
+    gates: &mut Gates,
 ) -> Lead
     requires gate { IsFitSource trees.now (length view.now.leads.now) gate }
     requires latched { IsFitSource trees.now (length view.now.leads.now) latched }
     requires view { IsView view.now.terns.now view.now.leads.now }
     requires few { length view.now.leads.now ≤ 2 ^ 32 }
     requires marks { length marks.now ≡ length view.now.leads.now }
-    ensures { (clock : Clock) → Finds trees.now clock (plain_tern given) view.now.terns.now view.now.leads.now marks.now (Some (Hold gate latched)) result }
+    requires gates { AreGates trees.now view.now.terns.now view.now.leads.now marks.now gates.old.kept.items }
+    ensures finds { (clock : Clock) →
+        Finds trees.now clock (plain_tern given) view.now.terns.now view.now.leads.now marks.now (Some (Hold gate latched)) result }
+    ensures gates { AreGates trees.now view.now.terns.now view.now.leads.now marks.now gates.new.kept.items }
 {
-    match lead_of_source(trees, gate, view, marks) {
-        Lead::Known(true) => lead_of_source(trees, latched, view, marks),
-        Lead::Known(false) => given_lead(given),
-        Lead::Unmarked(point) => Lead::Unmarked(point),
-        Lead::Point(_) | Lead::Own => {
-            own_unless_unmarked(lead_of_source(trees, latched, view, marks))
-        }
+    match gates.tell(trees, gate, view, marks) {
+        Ok(Gate::Known(true)) => lead_of_source(trees, latched, view, marks),
+        Ok(Gate::Known(false)) => given_lead(given),
+        Ok(Gate::Depends) => own_unless_unmarked(lead_of_source(trees, latched, view, marks)),
+        Err(needed) => Lead::Unmarked(needed),
     }
 }
 

@@ -8,17 +8,19 @@ ghost use Rattle.fab_compiled.specs.Terns.{IsView};
 ghost use Rattle.fab_network.specs.declared.network.Clock.{Clock};
 ghost use Rattle.fab_network.specs.Network.{AreFit, IsFitSource};
 ghost use Rattle.fab_demand.specs.Asked.{AsksMore, IsWhole};
+ghost use Rattle.fab_demand.specs.Gates.{AreGates};
 ghost use Rattle.fab_demand.specs.Search.{asked_of, left_of, Closes, HasRoom, IsSearching};
 ghost use Rattle.fab_compiled.specs.Parts.{TellsBits};
 ghost use Rattle.fab_network.specs.Leading.{bits_of_source};
 ghost use Rattle.fab_demand.specs.inner.Beside.{AreAlike, AreFitBits, IsBeside, IsBit, IsBitDrive, IsBitOfPart, IsClosedAs, IsDriveOf, IsInPart, KnowsMore, TellsGate, TellsTogether};
 
 use crate::copies::Copies;
+use crate::gates::{Gate, Gates};
 use crate::search::Search;
 use fab_ahead::is_unmarked;
 use fab_base::Memory;
-use fab_compiled::{Lead, Part, Tree, View};
-use fab_network::{Drive, Network, Source, lead_of_source, part_of_source};
+use fab_compiled::{Part, Tree, View};
+use fab_network::{Drive, Network, Source, part_of_source};
 use fab_ternary::Tern;
 
 /// How many bits stand side by side at least, so that they are found together.
@@ -94,16 +96,24 @@ impl Search {
     }
 
     // Whether points have what their bits have, as `Together` says. None where the gate of this bit is known to be 0 or has to be looked at.
-    fn passes_at(&self, network: &Network, bits: Bits) -> Option<bool>
-        requires fit { AreFitBits network.now.trees.items (length self.now.leads.items) bits }
-        requires whole { IsWhole (asked_of self.now) }
-        ensures { IfSome result (TellsGate network.now.trees.items self.now.terns.items self.now.leads.items self.now.marks.items bits.gate) }
+    fn passes_at(&mut self, network: &Network, bits: Bits) -> Option<bool>
+        requires fit { AreFitBits network.now.trees.items (length self.old.leads.items) bits }
+        requires searching { (clock : Clock) × (given : PointTerns) × IsSearching network.now clock given self.old }
+        ensures passes { IfSome result (TellsGate network.now.trees.items self.new.terns.items self.new.leads.items self.new.marks.items bits.gate) }
+        ensures searching { (clock : Clock) (given : PointTerns) → IsSearching network.now clock given self.old → IsSearching network.now clock given self.new }
+        ensures same { self.new ≡ record (self.old) { gates = self.new.gates } }
     {
         let view = View {
             terns: &self.terns,
             leads: &self.leads,
         };
-        gate_passes(&network.trees, bits.gate, &view, &self.marks)
+        gate_passes(
+            &network.trees,
+            bits.gate,
+            &view,
+            &self.marks,
+            &mut self.gates,
+        )
     }
 
     // Closes bits of the part of an expression in which a bit stands, of which a point is one.
@@ -217,32 +227,47 @@ impl Search {
 }
 
 // Whether a gate is known to be 1, or depends on points that have been asked for. None where it is known to be 0 or needs a point more.
-fn gate_passes(trees: &[Tree], gate: Option<Source>, view: &View, marks: &[bool]) -> Option<bool>
+fn gate_passes(
+    trees: &[Tree],
+    gate: Option<Source>,
+    view: &View,
+    marks: &[bool],
+    gates: &mut Gates,
+) -> Option<bool>
     requires fit { IfSome gate (IsFitSource trees.now (length view.now.leads.now)) }
     requires view { IsView view.now.terns.now view.now.leads.now }
     requires few { length view.now.leads.now ≤ 2 ^ 32 }
     requires marks { length marks.now ≡ length view.now.leads.now }
-    ensures { IfSome result (TellsGate trees.now view.now.terns.now view.now.leads.now marks.now gate) }
+    requires gates { AreGates trees.now view.now.terns.now view.now.leads.now marks.now gates.old.kept.items }
+    ensures passes { IfSome result (TellsGate trees.now view.now.terns.now view.now.leads.now marks.now gate) }
+    ensures gates { AreGates trees.now view.now.terns.now view.now.leads.now marks.now gates.new.kept.items }
 {
     match gate {
-        Some(source) => source_passes(trees, source, view, marks),
+        Some(source) => source_passes(trees, source, view, marks, gates),
         None => Some(true),
     }
 }
 
 // The same of a gate that there is.
-fn source_passes(trees: &[Tree], gate: Source, view: &View, marks: &[bool]) -> Option<bool>
+fn source_passes(
+    trees: &[Tree],
+    gate: Source,
+    view: &View,
+    marks: &[bool],
+    gates: &mut Gates,
+) -> Option<bool>
     requires fit { IsFitSource trees.now (length view.now.leads.now) gate }
     requires view { IsView view.now.terns.now view.now.leads.now }
     requires few { length view.now.leads.now ≤ 2 ^ 32 }
     requires marks { length marks.now ≡ length view.now.leads.now }
-    ensures { IfSome result (TellsGate trees.now view.now.terns.now view.now.leads.now marks.now (Some gate)) }
+    requires gates { AreGates trees.now view.now.terns.now view.now.leads.now marks.now gates.old.kept.items }
+    ensures passes { IfSome result (TellsGate trees.now view.now.terns.now view.now.leads.now marks.now (Some gate)) }
+    ensures gates { AreGates trees.now view.now.terns.now view.now.leads.now marks.now gates.new.kept.items }
 {
-    match lead_of_source(trees, gate, view, marks) {
-        Lead::Known(true) => Some(true),
-        Lead::Point(_) => Some(false),
-        Lead::Own => Some(false),
-        Lead::Known(false) | Lead::Unmarked(_) => None,
+    match gates.tell(trees, gate, view, marks) {
+        Ok(Gate::Known(true)) => Some(true),
+        Ok(Gate::Depends) => Some(false),
+        Ok(Gate::Known(false)) | Err(_) => None,
     }
 }
 

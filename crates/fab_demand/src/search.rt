@@ -11,6 +11,7 @@ ghost use Rattle.fab_network.specs.Passes.{kept_tern};
 ghost use Rattle.fab_demand.specs.Asked.{AsksMore, IsSourceAsked, IsWhole};
 ghost use Rattle.fab_demand.specs.Search.{asked_of, left_of, Closes, HasRoom, IsBlank, IsKeeping, IsResting, IsSearching};
 
+use crate::gates::Gates;
 use crate::look::look;
 use fab_ahead::{Next, Rows, end_of_rest};
 use fab_base::Memory;
@@ -36,6 +37,8 @@ pub struct Search {
     pub stack: Vec<u32>,
     /// The readers of the points that stand for themselves.
     pub readers: Readers,
+    /// What gates are that take long, in the network that is searched.
+    pub gates: Gates,
 }
 
 impl Search {
@@ -55,6 +58,7 @@ impl Search {
             own: Vec::with_capacity(alloc, points)?,
             stack: Vec::with_capacity(alloc, points)?,
             readers: Readers::new(alloc, points)?,
+            gates: Gates::new(alloc)?,
         })
     }
 
@@ -98,6 +102,7 @@ impl Search {
         ensures asked { asked_of self.new ≡ record (asked_of self.old) { marks = slice_set self.old.marks.items point true } }
         ensures done { self.new.done.items ≡ self.old.done.items }
         ensures stack { self.new.stack.items ≡ self.old.stack.items ++ point ∷ [] }
+        ensures gates { self.new.gates.kept.items ≡ self.old.gates.kept.items }
         ensures room { HasRoom self.new }
     {
         self.marks[point as usize] = true;
@@ -110,6 +115,7 @@ impl Search {
         ensures asked { asked_of self.new ≡ asked_of self.old }
         ensures done { self.new.done.items ≡ slice_set self.old.done.items point true }
         ensures stack { self.new.stack.items ≡ take (length self.old.stack.items - 1) self.old.stack.items }
+        ensures gates { self.new.gates.kept.items ≡ self.old.gates.kept.items }
         ensures own_room { vec_capacity self.new.own ≡ vec_capacity self.old.own }
         ensures stack_room { vec_capacity self.new.stack ≡ vec_capacity self.old.stack }
     {
@@ -205,7 +211,15 @@ impl Search {
             terns: &self.terns,
             leads: &self.leads,
         };
-        match look(network, clock, given, point as usize, &view, &self.marks) {
+        match look(
+            network,
+            clock,
+            given,
+            point as usize,
+            &view,
+            &self.marks,
+            &mut self.gates,
+        ) {
             Lead::Unmarked(needed) => {
                 let waits = self.is_waiting(needed.saturating_sub(1));
                 let depth = self.stack.len();

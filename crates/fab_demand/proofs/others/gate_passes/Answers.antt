@@ -9,11 +9,11 @@ pub source_passes-requires-clause-fit : goal.source_passes-requires-clause-fit
 source_passes-requires-clause-fit c =
     subst (λ (g : Option Source). IfSome g (IsFitSource c.args.trees.now (length c.args.view.now.leads.now))) c.in-Some.is c.requires.fit
 
-pub returns-in-Some : goal.returns-in-Some
-returns-in-Some c =
+pub returns-in-Some-clause-passes : goal.returns-in-Some-clause-passes
+returns-in-Some-clause-passes c =
     subst (λ (g : Option Source). IfSome c.source_passes.result (TellsGate c.args.trees.now c.args.view.now.terns.now c.args.view.now.leads.now c.args.marks.now g))
-    (sym c.in-Some.is) c.source_passes.ensures
+    (sym c.in-Some.is) c.source_passes.ensures.passes
 
-pub returns-in-None : goal.returns-in-None
-returns-in-None c =
+pub returns-in-None-clause-passes : goal.returns-in-None-clause-passes
+returns-in-None-clause-passes c =
     subst (λ (g : Option Source). TellsGate c.args.trees.now c.args.view.now.terns.now c.args.view.now.leads.now c.args.marks.now g true) (sym c.in-None.is) tt

@@ -11,7 +11,7 @@ go_on-requires-clause-searching c =
     let unmarked = bool_read c.args.self.now.marks.items c.args.point c.index.result.now false c.index.ensures c.if-index.false
     (omega (arith, c.requires.within, c.requires.searching.looked.whole.marks)) in
     (wait_goes_on c.args.network.now c.args.clock (kept_tern c.args.given.now) c.args.self.now c.wait.new.self c.requires.searching c.args.point unmarked
-    c.wait.ensures.asked c.wait.ensures.done c.wait.ensures.stack c.wait.ensures.room).searching
+    c.wait.ensures.asked c.wait.ensures.done c.wait.ensures.stack c.wait.ensures.gates c.wait.ensures.room).searching
 
 -- the point is asked for, and then what it needs
 pub returns-clause-more : goal.returns-clause-more
@@ -19,7 +19,7 @@ returns-clause-more c =
     let unmarked = bool_read c.args.self.now.marks.items c.args.point c.index.result.now false c.index.ensures c.if-index.false
     (omega (arith, c.requires.within, c.requires.searching.looked.whole.marks)) in
     let first = wait_goes_on c.args.network.now c.args.clock (kept_tern c.args.given.now) c.args.self.now c.wait.new.self c.requires.searching c.args.point
-    unmarked c.wait.ensures.asked c.wait.ensures.done c.wait.ensures.stack c.wait.ensures.room in
+    unmarked c.wait.ensures.asked c.wait.ensures.done c.wait.ensures.stack c.wait.ensures.gates c.wait.ensures.room in
     asks_both (asked_of c.args.self.now) (asked_of c.wait.new.self) (asked_of c.go_on.new.self) first.more c.go_on.ensures.more
 
 pub returns-clause-marked : goal.returns-clause-marked

@@ -17,14 +17,15 @@ leads c clock given searching =
     let here : c.index-lead.result.now ≡ slice_index old.leads.items c.in-Some.from =
     get_or_read old.leads.items c.in-Some.from c.index-lead.result.now room c.index-lead.ensures 0 in
     lead_is_closed c.args.network.now clock given old c.wait.new.self c.follow.new.self searching c.requires.points c.args.copies c.requires.tells
-    c.args.other c.in-Some.from copy c.wait.ensures.asked c.wait.ensures.done c.wait.ensures.stack c.wait.ensures.room c.if-copies.true
+    c.args.other c.in-Some.from copy c.wait.ensures.asked c.wait.ensures.done c.wait.ensures.stack c.wait.ensures.gates c.wait.ensures.room c.if-copies.true
     c.index-lead.result.now here c.follow.ensures.done c.follow.ensures.waits
 
 keeps : (c : goal.After-keep) (clock : Clock) (given : PointTerns) → IsSearching c.args.network.now clock given c.args.self.now →
     GoesOn c.args.network.now clock given c.args.self.now c.keep.new.self
 keeps c clock given searching =
     keep_is_closed c.args.network.now clock given c.args.self.now c.wait.new.self c.keep.new.self searching c.requires.points c.args.copies c.requires.tells
-    c.args.other c.in-Some.from c.in-Some.ensures c.wait.ensures.asked c.wait.ensures.done c.wait.ensures.stack c.wait.ensures.room c.keep.ensures
+    c.args.other c.in-Some.from c.in-Some.ensures c.wait.ensures.asked c.wait.ensures.done c.wait.ensures.stack c.wait.ensures.gates c.wait.ensures.room
+    c.keep.ensures
 
 pub returns-then-copies-clause-searching : goal.returns-then-copies-clause-searching
 returns-then-copies-clause-searching c clock given searching = (leads c clock given searching).searching

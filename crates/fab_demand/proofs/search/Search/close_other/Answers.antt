@@ -12,7 +12,8 @@ goes_on : (c : goal.After-close_as) (clock : Clock) (given : PointTerns) → IsS
 goes_on c clock given searching =
     let beside = subst (λ (marks : List Bool). IsBeside c.args.network.now c.args.together.now marks c.args.other c.in-Some.found) c.deref.ensures.value c.in-Some.ensures in
     other_goes_on c.args.network.now clock given c.args.self.now c.wait.new.self c.close_as.new.self searching c.requires.points c.args.together.now c.requires.tells
-    c.args.other c.in-Some.found beside c.wait.ensures.asked c.wait.ensures.done c.wait.ensures.stack c.wait.ensures.room c.close_as.ensures
+    c.args.other c.in-Some.found beside c.wait.ensures.asked c.wait.ensures.done c.wait.ensures.stack c.wait.ensures.gates c.wait.ensures.room
+    c.close_as.ensures
 
 pub returns-in-Some-clause-searching : goal.returns-in-Some-clause-searching
 returns-in-Some-clause-searching c clock given searching = (goes_on c clock given searching).searching

@@ -10,7 +10,7 @@ needs : (c : goal.After-wait) → GoesOn c.args.network.now c.args.clock (kept_t
 needs c =
     let unmarked = subst (λ (marks : List Bool). slice_get marks c.in-Ask.needed ≡ Some false) c.deref.ensures.value c.in-Ask.ensures in
     wait_goes_on c.args.network.now c.args.clock (kept_tern c.args.given.now) c.args.self.now c.wait.new.self c.requires.searching c.in-Ask.needed unmarked
-    c.wait.ensures.asked c.wait.ensures.done c.wait.ensures.stack c.wait.ensures.room
+    c.wait.ensures.asked c.wait.ensures.done c.wait.ensures.stack c.wait.ensures.gates c.wait.ensures.room
 
 pub returns-in-Ask-clause-searching : goal.returns-in-Ask-clause-searching
 returns-in-Ask-clause-searching c = (needs c).searching

@@ -13,6 +13,7 @@ returns c =
       asked = asked;
       done = c.close.ensures.done;
       stack = c.close.ensures.stack;
+      gates = c.close.ensures.gates;
       room = closed_room c.args.self.now c.close.new.self c.args.point _ c.requires.room c.requires.done asked refl refl
           (omega (arith, length-append c.args.self.now.own.items (c.args.point ∷ [])))
           c.close.ensures.done c.close.ensures.stack (omega (arith, c.close.ensures.own_room, c.add.ensures.room)) (omega (arith, c.close.ensures.stack_room));

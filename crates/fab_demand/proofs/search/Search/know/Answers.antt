@@ -10,6 +10,7 @@ returns c = (
     asked = c.close.ensures.asked;
     done = c.close.ensures.done;
     stack = c.close.ensures.stack;
+    gates = c.close.ensures.gates;
     room = closed_room c.args.self.now c.close.new.self c.args.point _ c.requires.room c.requires.done c.close.ensures.asked refl refl (omega arith)
         c.close.ensures.done c.close.ensures.stack
         (omega (arith, c.close.ensures.own_room)) (omega (arith, c.close.ensures.stack_room));
