@@ -13,7 +13,8 @@ ghost use Rattle.fab_demand.specs.Search.{asked_of, left_of, Closes, HasRoom, Is
 
 use crate::gates::Gates;
 use crate::look::look;
-use fab_ahead::{Next, Rows, end_of_rest};
+use crate::others::MANY;
+use fab_ahead::{Next, Rows, end_of_rest, is_unmarked};
 use fab_base::Memory;
 use fab_compiled::{Lead, View};
 use fab_network::{Clock, Network, Readers, Source, lead_of_source};
@@ -319,7 +320,8 @@ impl Search {
         }
     }
 
-    // Asks for the rest of the name that a point stands in which the bit of an expression needs.
+    // Asks for the rest of the name that a point stands in which the bit of an expression needs, up to many points that have been asked for. Else each bit of a
+    // shift register that is shown in its middle would go over all behind it.
     fn ask_rest(
         &mut self,
         network: &Network,
@@ -338,7 +340,16 @@ impl Search {
         ensures resting { IsResting self.new }
         ensures more { AsksMore (asked_of self.old) (asked_of self.new) }
     {
+        let mut passed: u32 = 0;
         for next in point.saturating_add(1)..end_of_rest(network, source, point) {
+            passed = if is_unmarked(next, &self.marks) {
+                0
+            } else {
+                passed.saturating_add(1)
+            };
+            if passed == MANY {
+                return;
+            }
             self.ask_number(network, clock, given, rows, next);
         }
     }
